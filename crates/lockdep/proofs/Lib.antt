@@ -1,0 +1,6 @@
+pub mod OutputLemmas
+pub mod OrderLemmas
+pub mod GroupLemmas
+pub mod StepLemmas
+pub mod PageLemmas
+pub mod ChainLemmas

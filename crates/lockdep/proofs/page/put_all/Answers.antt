@@ -1,0 +1,12 @@
+use Rattle.std.proofs.Common.{◌++◌}
+use Rattle.std.specs.List.{flat_map}
+use Rattle.lockdep.proofs.OutputLemmas.{OnErr-anyway}
+use Rattle.lockdep.proofs.PageLemmas.{PutsBehind-next, AppendsBeginning-next}
+use Rattle.lockdep.proofs.page.put_all.Goals as goal
+
+pub returns-in_err-put-clause-err : goal.returns-in_err-put-clause-err
+returns-in_err-put-clause-err g c = OnErr-anyway c.from_residual.result
+    (AppendsBeginning-next (λ text. text.now) c.args.texts.now c.loop-text.text-index _ (g.W.Write.contents c.args.w.now) (g.W.Write.contents c.loop-text.w) (g.W.Write.contents c.put.new.w) c.args.page.now.bytes c.loop-text.page.bytes c.loop-text-test.true c.loop-text.invariant c.in_err-put.ensures.err)
+
+pub loop-text-preserved : goal.loop-text-preserved
+loop-text-preserved g c = PutsBehind-next (λ text. text.now) c.args.texts.now c.loop-text.text-index _ (g.W.Write.contents c.args.w.now) (g.W.Write.contents c.loop-text.w) (g.W.Write.contents c.put.new.w) c.args.page.now.bytes c.loop-text.page.bytes c.put.new.page.bytes c.loop-text-test.true c.loop-text.invariant c.in_ok-put.ensures.ok

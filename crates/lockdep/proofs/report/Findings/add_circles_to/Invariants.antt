@@ -1,0 +1,10 @@
+use Rattle.std.proofs.Common.{take, map, string_bytes, ◌∷◌, []}
+use Rattle.std.specs.List.{flat_map}
+use Rattle.ld_graph.specs.Numbers.{HasDep, HasMark}
+use Rattle.lockdep.specs.Groups.{GrowsBy, InTurn}
+use Rattle.lockdep.specs.Report.{IsUsageLine, ShowsCircle, ShowsDouble, ShowsInversion, dependencies_from, kinds, pairs_with}
+use Rattle.lockdep.proofs.report.Findings.add_circles_to.Given as goal
+
+-- the lines for the kinds so far
+abbrev pub invariant-loop-kind : goal.invariant-loop-kind
+invariant-loop-kind l = GrowsBy (InTurn (ShowsCircle (HasDep l.self.graph.now.facts) l.self.names.now) (flat_map (λ kind. (l.from, l.to, kind) ∷ []) (take l.kind-index l.kind-items))) (string_bytes l.initial.text) (string_bytes l.text)

@@ -1,0 +1,10 @@
+use Rattle.std.proofs.Common.{take, map, string_bytes, ◌∷◌, []}
+use Rattle.std.specs.List.{flat_map}
+use Rattle.ld_graph.specs.Numbers.{HasDep, HasMark}
+use Rattle.lockdep.specs.Groups.{GrowsBy, InTurn}
+use Rattle.lockdep.specs.Report.{IsUsageLine, ShowsCircle, ShowsDouble, ShowsInversion, dependencies_from, kinds, pairs_with}
+use Rattle.lockdep.proofs.report.Findings.add_inversions.Given as goal
+
+-- the lines of the states so far
+abbrev pub invariant-loop-irq : goal.invariant-loop-irq
+invariant-loop-irq l = GrowsBy (InTurn (ShowsInversion (HasDep l.self.graph.now.facts) (HasMark l.self.graph.now.facts) l.self.names.now) (flat_map (pairs_with l.self.keys.now) (take l.irq-index l.irq-items))) (string_bytes l.initial.text) (string_bytes l.text)

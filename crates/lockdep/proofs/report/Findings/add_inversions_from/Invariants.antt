@@ -1,0 +1,10 @@
+use Rattle.std.proofs.Common.{take, map, string_bytes, ◌∷◌, []}
+use Rattle.std.specs.List.{flat_map}
+use Rattle.ld_graph.specs.Numbers.{HasDep, HasMark}
+use Rattle.lockdep.specs.Groups.{GrowsBy, InTurn}
+use Rattle.lockdep.specs.Report.{IsUsageLine, ShowsCircle, ShowsDouble, ShowsInversion, dependencies_from, kinds, pairs_with}
+use Rattle.lockdep.proofs.report.Findings.add_inversions_from.Given as goal
+
+-- the lines to the keys so far
+abbrev pub invariant-loop-b : goal.invariant-loop-b
+invariant-loop-b l = GrowsBy (InTurn (ShowsInversion (HasDep l.self.graph.now.facts) (HasMark l.self.graph.now.facts) l.self.names.now) (flat_map (λ b. (l.irq, l.a, b) ∷ []) (take l.b-index l.b-items))) (string_bytes l.initial.text) (string_bytes l.text)

@@ -1,0 +1,6 @@
+pub mod Output
+pub mod Words
+pub mod Order
+pub mod Groups
+pub mod Report
+pub mod ChainLines

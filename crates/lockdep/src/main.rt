@@ -1,0 +1,11 @@
+//! `lockdep`: checks recorded traces of tasks for lock orders that can deadlock.
+#![tactic(auto)]
+
+mod chains;
+mod order;
+mod output;
+mod page;
+mod report;
+mod text;
+
+fn main() {}

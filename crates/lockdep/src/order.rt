@@ -1,0 +1,45 @@
+//! The order of keys in a report.
+
+ghost use Rattle.std.specs.Prelude.{◌≡◌, IfOk, OnOk, length};
+ghost use Rattle.lockdep.specs.Order.{IsKeyOrder, name_cmp, numbers_below};
+ghost use Rattle.lockdep.specs.Words.{name_at};
+
+use ld_trace::{KeyId, KeyTable};
+use std::alloc::{AllocError, Global};
+use std::cmp::Ordering;
+
+/// The class's name and the subclass of a key; an empty name where there is no such key.
+pub(crate) fn name_of(keys: &KeyTable, key: KeyId) -> (&str, u8)
+    ensures { (result.0.now, result.1) ≡ name_at keys.now key }
+{
+    keys.name_of(key).unwrap_or(("", 0))
+}
+
+// By the bytes of the names, and then by subclass.
+fn compare(keys: &KeyTable, a: KeyId, b: KeyId) -> Ordering
+    ensures { result ≡ name_cmp (name_at keys.now a) (name_at keys.now b) }
+{
+    name_of(keys, a).cmp(&name_of(keys, b))
+}
+
+// All keys of the table, in order of their numbers.
+fn numbered_keys(alloc: Global, keys: &KeyTable) -> Result<Vec<KeyId>, AllocError>
+    ensures { IfOk result (λ all. all.items ≡ numbers_below (length keys.now)) }
+{
+    let mut all = Vec::with_capacity(alloc, keys.len())?;
+    for number in 0..keys.len() {
+        if let Some(key) = KeyId::new(number as u16) {
+            all.push(key)?;
+        }
+    }
+    Ok(all)
+}
+
+/// All keys of the table, in the order of their names.
+pub(crate) fn sorted_keys(alloc: Global, keys: &KeyTable) -> Result<Vec<KeyId>, AllocError>
+    ensures { IfOk result (λ sorted. IsKeyOrder keys.now sorted.items) }
+{
+    let mut sorted = numbered_keys(alloc, keys)?;
+    sorted.sort_unstable_by(|a, b| compare(keys, *a, *b));
+    Ok(sorted)
+}
