@@ -1,6 +1,6 @@
 -- What a chain is, and what it tells by itself ["Performance" speaks of chains; their parts are this project's own].
 use Rattle.std.specs.Prelude.{◌≡◌, ℕ, ◌<◌, Bool, List, [], map, All, Contains, IsTrue, IfSome, Option, Some, None, ◌⊎◌}
-use Rattle.ld_trace.specs.declared.Mode.{Mode}
+use Rattle.ld_trace.specs.declared.event.Mode.{Mode}
 use Rattle.ld_task.specs.declared.frame.Frame.{Frame}
 use Rattle.ld_task.specs.declared.kind.Kind.{Kind}
 use Rattle.ld_task.specs.declared.mark.Mark.{Mark}

@@ -11,8 +11,8 @@ use Rattle.ld_task.specs.Positions.{positions_below, all_between}
 use Rattle.ld_task.specs.declared.frame.OpenFrame.{OpenFrame}
 use Rattle.ld_task.specs.declared.fault.StepFault.{StepFault}
 use Rattle.ld_task.specs.declared.lock.KeptLock.{KeptLock}
-use Rattle.ld_trace.specs.declared.Event.{Event}
-use Rattle.ld_trace.specs.declared.Irq.TheVariants.{Hard, Soft}
+use Rattle.ld_trace.specs.declared.event.Event.{Event}
+use Rattle.ld_trace.specs.declared.event.Irq.TheVariants.{Hard, Soft}
 
 -- the state at a position: the outer frames from outside in, the frame there, and the kept locks in order
 pub record EndState : Type 0 where

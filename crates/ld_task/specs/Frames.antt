@@ -4,9 +4,9 @@ use Rattle.ld_task.specs.Events.{event, is_enter, is_leave}
 use Rattle.ld_task.specs.Positions.{count_below, last_below, all_between}
 use Rattle.ld_task.specs.declared.frame.Frame.{Frame}
 use Rattle.ld_task.specs.declared.frame.Frame.TheVariants.{Task, Softirq, Hardirq}
-use Rattle.ld_trace.specs.declared.Event.{Event}
-use Rattle.ld_trace.specs.declared.Event.TheVariants.{Enter}
-use Rattle.ld_trace.specs.declared.Irq.TheVariants.{Hard, Soft}
+use Rattle.ld_trace.specs.declared.event.Event.{Event}
+use Rattle.ld_trace.specs.declared.event.Event.TheVariants.{Enter}
+use Rattle.ld_trace.specs.declared.event.Irq.TheVariants.{Hard, Soft}
 
 -- the entries before a position less the leaves before it
 unfoldable pub depth : List Event → ℕ → ℕ

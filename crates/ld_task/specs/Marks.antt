@@ -8,11 +8,11 @@ use Rattle.ld_task.specs.declared.frame.Frame.{Frame}
 use Rattle.ld_task.specs.declared.mark.Mark.{Mark}
 use Rattle.ld_task.specs.declared.frame.Frame.TheVariants.{Task, Softirq, Hardirq}
 use Rattle.ld_task.specs.declared.mark.Mark.TheVariants.{Used, UsedIn, Enabled}
-use Rattle.ld_trace.specs.declared.Event.{Event}
-use Rattle.ld_trace.specs.declared.Mode.{Mode}
-use Rattle.ld_trace.specs.declared.Mode.TheVariants.{Write, Read, RecRead}
-use Rattle.ld_trace.specs.declared.Irq.{Irq}
-use Rattle.ld_trace.specs.declared.Irq.TheVariants.{Hard, Soft}
+use Rattle.ld_trace.specs.declared.event.Event.{Event}
+use Rattle.ld_trace.specs.declared.event.Mode.{Mode}
+use Rattle.ld_trace.specs.declared.event.Mode.TheVariants.{Write, Read, RecRead}
+use Rattle.ld_trace.specs.declared.event.Irq.{Irq}
+use Rattle.ld_trace.specs.declared.event.Irq.TheVariants.{Hard, Soft}
 
 abbrev pub is_read : Mode → Bool
 is_read Write = false

@@ -7,9 +7,9 @@ use Rattle.ld_task.specs.Held.{kept, held}
 use Rattle.ld_task.specs.Positions.{count_below, any_below}
 use Rattle.ld_task.specs.declared.fault.StepFault.{StepFault}
 use Rattle.ld_task.specs.declared.fault.StepFault.TheVariants.{NotHeld, TooDeep, BadEnter, LeaveTask, LeaveHeld, BadFlag}
-use Rattle.ld_trace.specs.declared.Event.{Event}
-use Rattle.ld_trace.specs.declared.Event.TheVariants.{Acquire, Release, Enter, Leave, TurnOn, TurnOff}
-use Rattle.ld_trace.specs.declared.Irq.TheVariants.{Hard, Soft}
+use Rattle.ld_trace.specs.declared.event.Event.{Event}
+use Rattle.ld_trace.specs.declared.event.Event.TheVariants.{Acquire, Release, Enter, Leave, TurnOn, TurnOff}
+use Rattle.ld_trace.specs.declared.event.Irq.TheVariants.{Hard, Soft}
 
 -- why the event e isn't allowed at j
 unfoldable pub fault_of : List Event → ℕ → Event → Option StepFault
