@@ -1,4 +1,4 @@
--- The state at a position of a trace, and one step on traces [this project's own].
+-- The state of a task at a position of its trace [this project's own].
 use Rattle.std.specs.Prelude.{ℕ, suc, Bool, ◌&&◌, List, [], ◌∷◌, ◌++◌, Option, Some, ◌≡◌, nat_lt, map, length, Result, Ok, Err}
 use Rattle.ld_task.specs.Events.{event, is_enter}
 use Rattle.ld_task.specs.Frames.{depth, kind}
@@ -40,9 +40,3 @@ state_at t n = record {
 
 abbrev pub end_state : List Event → EndState
 end_state t = state_at t (length t)
-
--- From the well-formed trace h the event e goes on to this answer and state: the longer trace is well formed, the state
--- is its end state and the answer its last chain; or e is refused with its fault, and the state stays.
-abbrev pub StepsTo : List Event → Event → EndState → EndState → Result (Option ChainParts) StepFault → Type 0
-StepsTo h e old new (Ok answer) = let t = h ++ e ∷ [] in IsWellFormed t × (new ≡ end_state t) × (answer ≡ chain t (length h))
-StepsTo h e old new (Err refused) = (fault (h ++ e ∷ []) (length h) ≡ Some refused) × (new ≡ old)
