@@ -1,5 +1,5 @@
 -- The chains of a trace: where each one comes from, and what one event more adds.
-use Rattle.std.proofs.Common.{◌≡◌, ℕ, zero, suc, ◌+◌, ◌<◌, ◌≤◌, true, List, [], ◌∷◌, ◌++◌, length, length-append, map, All, Contains, slice_index_or, ◌⊎◌, Option, Some, None, refl, sym, ap, ◌∙◌, subst, inl, inr, arith, option_and_then}
+use Rattle.std.proofs.Common.{◌≡◌, ℕ, zero, suc, ◌<◌, ◌≤◌, true, List, [], ◌∷◌, ◌++◌, length, length-append, map, All, Contains, slice_index_or, ◌⊎◌, Option, Some, None, refl, sym, ap, ◌∙◌, subst, inl, inr, arith, option_and_then}
 use Rattle.std.specs.List.{filter_map, cons_option, Any}
 use Rattle.std.specs.Option.{option_to_list}
 use Rattle.std.proofs.lemmas.Bool.{cases_eq}
@@ -53,12 +53,12 @@ module _ (t : List Event) where
   Contains-chains_below zero c h = absurd (let l = h.below in omega arith)
   Contains-chains_below (suc n) c h =
       subst (λ xs. Contains xs c) (sym (chains_below-suc n)) (
-        elim (cases_eq h.at n) [
-          | inl e ↦ Contains-append_right (chains_below t n) (option_to_list (chain t n)) c (one-contains (chain t n) c (subst (λ k. chain t k ≡ Some c) e h.is_chain))
-          | inr ne ↦
-              Contains-append_left (chains_below t n) (option_to_list (chain t n)) c
-              (Contains-chains_below n c (record { at = h.at; below = (let l = h.below in omega arith); is_chain = h.is_chain }))
-        ]
+      elim (cases_eq h.at n) [
+        | inl e ↦ Contains-append_right (chains_below t n) (option_to_list (chain t n)) c (one-contains (chain t n) c (subst (λ k. chain t k ≡ Some c) e h.is_chain))
+        | inr ne ↦
+            Contains-append_left (chains_below t n) (option_to_list (chain t n)) c
+            (Contains-chains_below n c (record { at = h.at; below = (let l = h.below in omega arith); is_chain = h.is_chain }))
+      ]
       )
 
   chains_below-contains : (n : ℕ) (c : ChainParts) → Contains (chains_below t n) c → IsChainBelow t n c

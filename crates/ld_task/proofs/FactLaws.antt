@@ -1,5 +1,5 @@
 -- The dependencies and the marks of a trace are those of its chains.
-use Rattle.std.proofs.Common.{◌≡◌, ℕ, suc, ◌<◌, true, List, Contains, ◌⊎◌, Option, Some, None, refl, sym, ap, ◌∙◌, subst, inl, inr, arith, IsTrue}
+use Rattle.std.proofs.Common.{◌≡◌, ℕ, suc, true, List, Contains, ◌⊎◌, Option, Some, None, refl, sym, ap, ◌∙◌, subst, inl, inr, IsTrue}
 use Rattle.std.specs.List.{Any}
 use Rattle.std.proofs.lemmas.Bool.{true≢false}
 use Rattle.ld_trace.specs.declared.event.Event.{Event}
@@ -14,11 +14,11 @@ use Rattle.ld_task.specs.declared.mark.Mark.{Mark}
 use Rattle.ld_task.specs.Events.{event, is_acquire, is_turn_on, key_taken, mode_taken}
 use Rattle.ld_task.specs.Frames.{kind}
 use Rattle.ld_task.specs.Flags.{flag}
-use Rattle.ld_task.specs.Held.{held, key_at}
+use Rattle.ld_task.specs.Held.{held}
 use Rattle.ld_task.specs.Dependencies.{IsDependency, kind_between}
 use Rattle.ld_task.specs.Marks.{IsMarked, IsMarkedTaking, IsMarkedOpening, marks_taken, marks_opened}
 use Rattle.ld_task.specs.Chains.{ChainParts, ChainHasDependency, ChainHasMark, ChainMarksNew, ChainMarksHeld}
-use Rattle.ld_task.specs.TraceChains.{lock_at, held_locks_at, chain, chains}
+use Rattle.ld_task.specs.TraceChains.{lock_at, held_locks_at, chains}
 use Rattle.ld_task.specs.Laws.{DependenciesAreTheChains, MarksAreTheChains}
 use Rattle.ld_task.proofs.TraceLemmas.{kept-true, held-parts}
 use Rattle.ld_task.proofs.Mapped.{Comes, Contains-mapped, mapped-comes}

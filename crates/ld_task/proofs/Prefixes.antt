@@ -1,17 +1,16 @@
 -- The first events of a trace, and how one more goes on from them.
-use Rattle.std.proofs.Common.{◌≡◌, ℕ, zero, suc, ◌+◌, ◌<◌, ◌≤◌, List, [], ◌∷◌, ◌++◌, length, take, slice_get, Option, Some, None, Result, Ok, Err, refl, sym, ap, ◌∙◌, subst, arith}
+use Rattle.std.proofs.Common.{◌≡◌, ℕ, zero, suc, ◌+◌, ◌<◌, ◌≤◌, List, [], ◌∷◌, ◌++◌, length, take, slice_get, Option, Some, Result, Ok, Err, refl, sym, ap, ◌∙◌, subst, arith}
 use Rattle.std.specs.Option.{option_to_list}
-use Rattle.std.proofs.lemmas.List.{length-take-le, take_all}
+use Rattle.std.proofs.lemmas.List.{length-take-le}
 use Rattle.std.proofs.lemmas.Option.{slice_get_within}
 use Rattle.ld_trace.specs.declared.event.Event.{Event}
 use Rattle.ld_task.specs.declared.fault.StepFault.{StepFault}
-use Rattle.ld_task.specs.declared.fault.StepAt.{StepAt}
 use Rattle.ld_task.specs.EndState.{EndState, end_state}
 use Rattle.ld_task.specs.WellFormed.{IsWellFormed, IsFirstFault, fault}
 use Rattle.ld_task.specs.Events.{event}
 use Rattle.ld_task.specs.Chains.{ChainParts}
-use Rattle.ld_task.specs.TraceChains.{chain, chains}
-use Rattle.ld_task.specs.Steps.{StepsTo, GoesOn, IsStateAfter}
+use Rattle.ld_task.specs.TraceChains.{chains}
+use Rattle.ld_task.specs.Steps.{StepsTo, GoesOn}
 use Rattle.ld_task.proofs.TraceLemmas.{Agree, fault-agree}
 use Rattle.ld_task.proofs.ChainLists.{chains-snoc}
 use Rattle.ld_task.proofs.Places.{slice_get-append_left, slice_get-append_seam}

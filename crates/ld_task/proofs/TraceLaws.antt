@@ -1,6 +1,5 @@
 -- The keys of the chains are keys of the trace, and what turning on a state does to the flags.
-use Rattle.std.proofs.Common.{◌≡◌, ◌≢◌, ℕ, suc, ◌<◌, ◌≤◌, true, false, List, length, All, ◌⊎◌, Contains, slice_index_or, Option, Some, None, refl, sym, ap, ◌∙◌, subst, inl, inr, arith, IsTrue}
-use Rattle.std.specs.Prelude.{IfSome, slice_get}
+use Rattle.std.proofs.Common.{◌≡◌, ◌≢◌, ℕ, ◌<◌, true, false, List, All, ◌⊎◌, slice_index_or, Option, Some, None, refl, sym, ap, ◌∙◌, subst, inl, inr}
 use Rattle.std.proofs.lemmas.Bool.{true≢false}
 use Rattle.std.proofs.lemmas.List.Elements.{Contains-get_or}
 use Rattle.std.proofs.lemmas.Option.{slice_get_within, get_or_from_slice_get}
@@ -10,12 +9,10 @@ use Rattle.ld_trace.specs.declared.event.Event.TheVariants.{Acquire, Release, En
 use Rattle.ld_trace.specs.declared.event.Irq.{Irq}
 use Rattle.ld_trace.specs.declared.event.Irq.TheVariants.{Hard, Soft}
 use Rattle.ld_task.specs.declared.lock.Lock.{Lock}
-use Rattle.ld_task.specs.declared.frame.Frame.{Frame}
 use Rattle.ld_task.specs.Events.{event, is_acquire, is_enter, is_leave, changes_flag, is_turn_on, same_irq}
-use Rattle.ld_task.specs.Flags.{flag}
-use Rattle.ld_task.specs.Held.{held, key_at}
+use Rattle.ld_task.specs.Held.{key_at}
 use Rattle.ld_task.specs.Chains.{ChainParts, ChainKeysBelow}
-use Rattle.ld_task.specs.TraceChains.{lock_at, held_locks_at, chains}
+use Rattle.ld_task.specs.TraceChains.{held_locks_at}
 use Rattle.ld_task.specs.Laws.{ChainKeysAreTheTraces, TurningOnTurnsOn}
 use Rattle.ld_task.proofs.NextPosition.{depth-quiet}
 use Rattle.ld_task.proofs.Frames.{flag-changed, flag-quiet}

@@ -1,15 +1,12 @@
 -- The state of a task at a position of its trace [this project's own].
-use Rattle.std.specs.Prelude.{ℕ, suc, Bool, ◌&&◌, List, [], ◌∷◌, ◌++◌, Option, Some, ◌≡◌, nat_lt, map, length, Result, Ok, Err}
+use Rattle.std.specs.Prelude.{ℕ, suc, Bool, ◌&&◌, List, nat_lt, map, length}
 use Rattle.ld_task.specs.Events.{event, is_enter}
 use Rattle.ld_task.specs.Frames.{depth, kind}
 use Rattle.ld_task.specs.Flags.{flag}
 use Rattle.ld_task.specs.Held.{kept}
-use Rattle.ld_task.specs.WellFormed.{fault, IsWellFormed}
-use Rattle.ld_task.specs.Chains.{ChainParts}
-use Rattle.ld_task.specs.TraceChains.{lock_at, chain}
+use Rattle.ld_task.specs.TraceChains.{lock_at}
 use Rattle.ld_task.specs.Positions.{positions_below, all_between}
 use Rattle.ld_task.specs.declared.frame.OpenFrame.{OpenFrame}
-use Rattle.ld_task.specs.declared.fault.StepFault.{StepFault}
 use Rattle.ld_task.specs.declared.lock.KeptLock.{KeptLock}
 use Rattle.ld_trace.specs.declared.event.Event.{Event}
 use Rattle.ld_trace.specs.declared.event.Irq.TheVariants.{Hard, Soft}
