@@ -17,9 +17,11 @@ pub record EndState : Type 0 where
   pub current : OpenFrame
   pub locks : List KeptLock
 
+-- the frame at j, with its flags just before j
 abbrev pub frame_at : List Event → ℕ → OpenFrame
 frame_at t j = record { kind = kind t j; hard_on = flag t Hard j; soft_on = flag t Soft j }
 
+-- the lock that the acquisition at i takes, with the number of frames outside its own
 abbrev pub kept_lock_at : List Event → ℕ → KeptLock
 kept_lock_at t i = record { level = depth t i; lock = lock_at t i }
 
@@ -35,5 +37,6 @@ state_at t n = record {
   locks = map (kept_lock_at t) (positions_below n (λ i. kept t i n));
 }
 
+-- the state after the last event
 abbrev pub end_state : List Event → EndState
 end_state t = state_at t (length t)

@@ -35,6 +35,7 @@ kind_from t (Some k) = frame_opened (event t k)
 unfoldable pub kind : List Event → ℕ → Frame
 kind t j = kind_from t (opening t j)
 
+-- it is the task frame
 abbrev pub is_task : Frame → Bool
 is_task Task = true
 is_task Softirq = false

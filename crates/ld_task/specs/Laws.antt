@@ -30,5 +30,6 @@ pub record IsOnAfter (t : List Event) (irq : Irq) (j : ℕ) : Type 0 where
   pub on : flag t irq (suc j) ≡ true
   pub other : (o : Irq) → o ≢ irq → flag t o (suc j) ≡ flag t o j
 
+-- what holds just after each event that turns a state on
 abbrev pub TurningOnTurnsOn : Type 0
 TurningOnTurnsOn = (t : List Event) (irq : Irq) (j : ℕ) → event t j ≡ Some (TurnOn irq) → IsOnAfter t irq j

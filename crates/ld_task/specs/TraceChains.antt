@@ -11,6 +11,7 @@ use Rattle.ld_trace.specs.declared.event.Event.TheVariants.{Acquire, Release, En
 use Rattle.ld_trace.specs.declared.event.Irq.TheVariants.{Hard, Soft}
 use Rattle.ld_task.specs.Chains.{ChainParts}
 
+-- the lock that the acquisition at i takes
 abbrev pub lock_at : List Event → ℕ → Lock
 lock_at t i = record { key = key_at t i; mode = mode_taken (event t i) }
 
