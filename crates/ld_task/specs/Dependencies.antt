@@ -8,7 +8,8 @@ use Rattle.ld_trace.specs.declared.event.Event.{Event}
 use Rattle.ld_trace.specs.declared.event.Mode.{Mode}
 use Rattle.ld_trace.specs.declared.event.Mode.TheVariants.{Write, Read, RecRead}
 
--- the kind of a dependency from a lock held in the first mode to one taken in the second
+-- the kind of a dependency from a lock held in the first mode to one taken in the second: the first letter is E for a writer and
+-- S for either reader, the second R for a recursive reader and N else
 abbrev pub kind_between : Mode → Mode → Kind
 kind_between Write RecRead = Er
 kind_between Write Write = En

@@ -20,7 +20,7 @@ one_frame t i j = nat_eq (depth t i) (depth t j) && all_between i j (λ k. nat_l
 unfoldable pub opening : List Event → ℕ → Option ℕ
 opening t j = last_below j (λ k. is_enter (event t k) && nat_eq (depth t k + 1) (depth t j))
 
--- the kind of the frame that it opens
+-- the kind of the frame that an entry opens
 abbrev pub frame_opened : Option Event → Frame
 frame_opened (Some (Enter Hard)) = Hardirq
 frame_opened (Some (Enter Soft)) = Softirq
