@@ -29,7 +29,12 @@ impl Model for Chain {
 
     ghost Value = { ChainParts };
 
-    ghost view = { λ c. record { held_locks = c.held.items; new_lock = c.taken; hard_on = c.hard_on; soft_on = c.soft_on } };
+    ghost view = { λ c. record {
+      held_locks = c.held.items;
+      new_lock = c.taken;
+      hard_on = c.hard_on;
+      soft_on = c.soft_on;
+    } };
 
     ghost invariant = { λ c. length c.held.items ≤ 48 };
 }
@@ -43,7 +48,12 @@ impl Chain {
         hard_on: bool,
         soft_on: bool,
     ) -> Chain
-        ensures { result ≡ record { held_locks = held.items; new_lock = Some (taken, frame); hard_on = hard_on; soft_on = soft_on } }
+        ensures { result ≡ record {
+          held_locks = held.items;
+          new_lock = Some (taken, frame);
+          hard_on = hard_on;
+          soft_on = soft_on;
+        } }
     {
         Chain {
             held,
@@ -55,7 +65,12 @@ impl Chain {
 
     // The chain of an opening.
     pub(crate) fn opening(held: ArrayVec<Lock, 48>, hard_on: bool, soft_on: bool) -> Chain
-        ensures { result ≡ record { held_locks = held.items; new_lock = None; hard_on = hard_on; soft_on = soft_on } }
+        ensures { result ≡ record {
+          held_locks = held.items;
+          new_lock = None;
+          hard_on = hard_on;
+          soft_on = soft_on;
+        } }
     {
         Chain {
             held,
@@ -144,7 +159,9 @@ impl Hash for Chain {
     ghost use Rattle.std.specs.Hash.{same_Alike};
     ghost use Rattle.ld_task.specs.ChainEqualityLaws.{chain_eq-decides};
 
-    ghost hash_input = { λ c. fed.slice ⟦<Lock as Hash>⟧.hash_input c.held_locks ++ ⟦<Option<(Lock, Frame)> as Hash>⟧.hash_input c.new_lock ++ fed.bool c.hard_on ++ fed.bool c.soft_on };
+    ghost hash_input = { λ c. fed.slice ⟦<Lock as Hash>⟧.hash_input c.held_locks
+        ++ ⟦<Option<(Lock, Frame)> as Hash>⟧.hash_input c.new_lock
+        ++ fed.bool c.hard_on ++ fed.bool c.soft_on };
 
     ghost respects_eq = { (same_Alike _ chain_eq-decides).fed };
 

@@ -34,5 +34,6 @@ pub fn equal_chains_have_equal_parts()
 
 /// Equal chains hash alike: they feed a hasher the same bytes.
 pub fn equal_chains_hash_alike()
-    ensures { (a b : ChainParts) → IsTrue (⟦<Chain as PartialEq>⟧.eq a b) → ⟦<Chain as Hash>⟧.hash_input a ≡ ⟦<Chain as Hash>⟧.hash_input b }
+    ensures { (a b : ChainParts) → IsTrue (⟦<Chain as PartialEq>⟧.eq a b)
+        → ⟦<Chain as Hash>⟧.hash_input a ≡ ⟦<Chain as Hash>⟧.hash_input b }
 {}
