@@ -1,0 +1,15 @@
+//! The usage marks of keys.
+
+use ld_trace::Irq;
+
+/// A usage mark of a key (`Documentation/locking/lockdep-design.rst`, "State"). A mark is in its read form where a
+/// reader of either kind set it (this project's own).
+#[derive(Clone, Copy, PartialEq, Eq, Debug, Hash)]
+pub enum Mark {
+    /// Taken at all.
+    Used,
+    /// Taken in the context of this state.
+    UsedIn { irq: Irq, read: bool },
+    /// Held with this state on.
+    Enabled { irq: Irq, read: bool },
+}
