@@ -2,7 +2,7 @@
 use Rattle.std.specs.Prelude.{◌≡◌, ℕ, ◌<◌, ◌⊎◌, ◌↔◌, ◌||◌, ◌&&◌, Bool, IsTrue, List, [], length, slice_index_or}
 use Rattle.ld_graph.specs.Arrows.{Arrow}
 use Rattle.ld_graph.specs.Bits.{has_bit}
-use Rattle.ld_graph.specs.Places.{place, LeavesFrom}
+use Rattle.ld_graph.specs.Places.{place, arrival, Leaves, LeavesFrom}
 
 -- the place q is in the row of the place p
 abbrev pub reaches : List (List ℕ) → ℕ → ℕ → Bool
@@ -23,6 +23,10 @@ IsTarget table key is_r q = Comes table (place key is_r) q
 -- what is reached from what is reached is reached
 abbrev pub IsTransitive : List (List ℕ) → Type 0
 IsTransitive table = (p q r : ℕ) → IsTrue (reaches table p q) → IsTrue (reaches table q r) → IsTrue (reaches table p r)
+
+-- where the arrow arrives is reached from each place that it leaves
+abbrev pub Implies : List (List ℕ) → Arrow → Type 0
+Implies table d = (l : ℕ) → Leaves d l → IsTrue (reaches table l (arrival d))
 
 -- the arrow's sources come to reach its targets
 pub record TakesArrow (old new : List (List ℕ)) (d : Arrow) : Type 0 where
