@@ -3,6 +3,7 @@ use Rattle.std.proofs.Common.{◌≡◌, ◌≢◌, ℕ, ◌+◌, ◌*◌, ◌<�
 use Rattle.ld_trace.specs.declared.Irq.{Irq}
 use Rattle.ld_trace.specs.declared.Irq.TheVariants.{Hard, Soft}
 use Rattle.ld_task.specs.declared.mark.Mark.{Mark}
+use Rattle.ld_task.specs.declared.mark.Mark.TheVariants.{UsedIn, Enabled}
 use Rattle.ld_graph.specs.Arrows.{Arrow}
 use Rattle.ld_graph.specs.Bits.{has_bit}
 use Rattle.ld_graph.specs.Walks.{OnCircle}
@@ -37,8 +38,8 @@ AreEnds-empty : (facts : FactWords) (irq : Irq) (ends : Ends) → ((k : ℕ) (m 
     ((p : ℕ) → has_bit ends.arrivals p ≡ false) → ((q : ℕ) → has_bit ends.departures q ≡ false) → AreEnds (HasMark facts) irq ends
 AreEnds-empty facts irq ends free is arrivals departures = record {
   irq_is = is;
-  arrives = λ p. ((λ h. absurd (let e = arrivals p in let t : has_bit ends.arrivals p ≡ true = h in cc)), (λ (a, r, used, at). absurd (free a _ used)));
-  leaves = λ q. ((λ h. absurd (let e = departures q in let t : has_bit ends.departures q ≡ true = h in cc)), (λ (b, s, enabled, leaves). absurd (free b _ enabled)))
+  arrives = λ p. ((λ h. absurd (let e = arrivals p in let t : has_bit ends.arrivals p ≡ true = h in cc)), (λ (a, r, used, at). absurd (free a (UsedIn irq r) used)));
+  leaves = λ q. ((λ h. absurd (let e = departures q in let t : has_bit ends.departures q ≡ true = h in cc)), (λ (b, s, enabled, leaves). absurd (free b (Enabled irq s) enabled)))
 }
 
 pub IsGraph-empty : (facts : FactWords) (table : List (List ℕ)) (hard soft : Ends) → facts.keys ≤ 256 →
@@ -54,8 +55,8 @@ IsGraph-empty facts table hard soft few no_deps no_marks empty hard_ends soft_en
   flag =
     ( (λ h. record {
         circles = λ d on. no_deps d (OnCircle-member (HasDep facts) d on);
-        doubles = λ irq a (l, marks, rest). no_marks _ _ marks.0;
-        inversions = λ irq a b (d, rest, l, w, marks, others). no_marks _ _ marks.0
+        doubles = λ irq a double. no_marks double.0.start (Enabled irq double.0.first_is_s) double.1.0;
+        inversions = λ irq a b inversion. no_marks inversion.2.start (Enabled irq inversion.2.first_is_s) inversion.4.0
       })
     , (λ h. refl) );
   bound = omega arith
@@ -91,11 +92,11 @@ module _ (old new : FactWords) (d : Arrow) (adds : AddsDep old new d) (table tab
   ends_kept irq ends are = record {
     irq_is = are.irq_is;
     arrives = λ p.
-      ( (λ h. let (a, r, used, at) = (are.arrives p).0 h in (a, r, (adds.marks a _).1 used, at))
-      , (λ (a, r, used, at). (are.arrives p).1 (a, r, (adds.marks a _).0 used, at)) );
+      ( (λ h. let (a, r, used, at) = (are.arrives p).0 h in (a, r, (adds.marks a (UsedIn irq r)).1 used, at))
+      , (λ (a, r, used, at). (are.arrives p).1 (a, r, (adds.marks a (UsedIn irq r)).0 used, at)) );
     leaves = λ q.
-      ( (λ h. let (b, s, enabled, leaves) = (are.leaves q).0 h in (b, s, (adds.marks b _).1 enabled, leaves))
-      , (λ (b, s, enabled, leaves). (are.leaves q).1 (b, s, (adds.marks b _).0 enabled, leaves)) )
+      ( (λ h. let (b, s, enabled, leaves) = (are.leaves q).0 h in (b, s, (adds.marks b (Enabled irq s)).1 enabled, leaves))
+      , (λ (b, s, enabled, leaves). (are.leaves q).1 (b, s, (adds.marks b (Enabled irq s)).0 enabled, leaves)) )
   }
 
   comes : (p q : ℕ) → Comes table p q ↔ Path (Leads (HasDep old)) p q
