@@ -6,10 +6,13 @@ use Rattle.std.proofs.lemmas.Option.{same_Some, none-some}
 use Rattle.ld_task.specs.declared.kind.Kind.{Kind}
 use Rattle.ld_task.specs.declared.mark.Mark.{Mark}
 use Rattle.ld_task.specs.Chains.{ChainParts}
-use Rattle.ld_graph.specs.Facts.{FactWords, AddsChain, HoldsChain}
+use Rattle.ld_graph.specs.Facts.{FactWords, HasDep, HasMark, AddsChain, HoldsChain}
+use Rattle.ld_graph.specs.Graphs.{AreClean}
 use Rattle.ld_graph.specs.ChainFacts.{HasFact, ChainHas, AddsFact, chain_fact, fact_places}
 use Rattle.ld_graph.specs.declared.fact.Fact.{Fact}
 use Rattle.ld_graph.specs.declared.fact.Fact.TheVariants.{Dependency, Marked}
+use Rattle.ld_graph.proofs.Clean.{IsClean-fewer}
+use Rattle.ld_graph.proofs.SingleFacts.{arrow-kind_of, kind_of}
 use Rattle.ld_graph.proofs.ChainFacts.{StandsIn, chain_fact-sound, chain_fact-complete}
 
 -- the facts at the chain's first n places have been added, and `fresh` says whether one was new
@@ -93,6 +96,14 @@ module _ (first now : FactWords) (c : ChainParts) (n : ℕ) (fresh : Bool) (was 
     known = λ h. absurd (let e : true ≡ false = h in cc);
     news = λ h. (x, (n, omega arith, at), λ o. fresh_fact ((was.facts x).1 (inl o)))
   }
+
+-- ---- more facts, and clean ones only if the first were
+pub AreClean-grown : (first now : FactWords) (c : ChainParts) (n : ℕ) (fresh : Bool) → Grown first now c n fresh → AreClean now → AreClean first
+AreClean-grown first now c n fresh was clean =
+    IsClean-fewer (HasDep first) (HasDep now) (HasMark first) (HasMark now)
+    (λ d h. subst (HasDep now) (arrow-kind_of d)
+      ((was.facts (Dependency d.start d.end (kind_of d.first_is_s d.second_is_r))).1 (inl (subst (HasDep first) (sym (arrow-kind_of d)) h))))
+    (λ key mark h. (was.facts (Marked key mark)).1 (inl h)) clean
 
 -- ---- all places
 module _ (first now : FactWords) (c : ChainParts) (n : ℕ) (fresh : Bool) (n_is : n ≡ fact_places c) (was : Grown first now c n fresh) where
