@@ -4,9 +4,9 @@ use Rattle.std.specs.Prelude.{Contains, All, IfSome, slice_get}
 use Rattle.std.proofs.lemmas.Bool.{cases_lt, cases_eq, cases_Bool, lt-ltb, le-ltb, and_parts}
 use Rattle.std.proofs.lemmas.List.Elements.{All-contains}
 use Rattle.std.proofs.lemmas.Option.{slice_get-get_or, slice_get_past, same_Some, none-some}
-use Rattle.ld_trace.specs.declared.Irq.{Irq}
-use Rattle.ld_trace.specs.declared.Irq.TheVariants.{Hard, Soft}
-use Rattle.ld_trace.specs.declared.Mode.{Mode}
+use Rattle.ld_trace.specs.declared.event.Irq.{Irq}
+use Rattle.ld_trace.specs.declared.event.Irq.TheVariants.{Hard, Soft}
+use Rattle.ld_trace.specs.declared.event.Mode.{Mode}
 use Rattle.ld_task.specs.declared.frame.Frame.{Frame}
 use Rattle.ld_task.specs.declared.lock.Lock.{Lock}
 use Rattle.ld_task.specs.declared.kind.Kind.{Kind}

@@ -1,6 +1,6 @@
 -- Clean facts, told by places: no way leads from where a link arrives to where one of the same state leaves.
 use Rattle.std.proofs.Common.{◌≡◌, ◌≢◌, ℕ, ◌<◌, ◌⊎◌, ◌↔◌, List, refl, ap, sym, ◌∙◌, subst, inl, inr, arith, Bool, true, false}
-use Rattle.ld_trace.specs.declared.Irq.{Irq}
+use Rattle.ld_trace.specs.declared.event.Irq.{Irq}
 use Rattle.ld_task.specs.declared.mark.Mark.{Mark}
 use Rattle.ld_task.specs.declared.mark.Mark.TheVariants.{Used, UsedIn, Enabled}
 use Rattle.ld_graph.specs.Arrows.{Arrow, MayFollow}

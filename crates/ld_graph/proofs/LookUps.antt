@@ -1,7 +1,7 @@
 -- Doubles and inversions, looked up.
 use Rattle.std.proofs.Common.{◌≡◌, ℕ, ◌<◌, ◌≤◌, ◌⊎◌, ◌↔◌, List, refl, ap, sym, ◌∙◌, subst, inl, inr, arith, Bool, true, false, ◌||◌, ◌&&◌}
 use Rattle.std.proofs.lemmas.Bool.{or_cases, or_left, or_right, and_parts, and_from}
-use Rattle.ld_trace.specs.declared.Irq.{Irq}
+use Rattle.ld_trace.specs.declared.event.Irq.{Irq}
 use Rattle.ld_task.specs.declared.mark.Mark.{Mark}
 use Rattle.ld_task.specs.declared.mark.Mark.TheVariants.{UsedIn, Enabled}
 use Rattle.ld_graph.specs.Arrows.{Arrow}

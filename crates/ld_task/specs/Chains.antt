@@ -1,6 +1,6 @@
 -- What a chain is, and what it tells by itself ["Performance" speaks of chains; their parts are this project's own].
-use Rattle.std.specs.Prelude.{◌≡◌, ℕ, ◌<◌, Bool, List, [], map, All, Contains, IsTrue, IfSome, Option, Some, None, ◌⊎◌}
-use Rattle.ld_trace.specs.declared.Mode.{Mode}
+use Rattle.std.specs.Prelude.{◌≡◌, ℕ, ◌<◌, Bool, List, All, Contains, IsTrue, IfSome, Option, Some, None, ◌⊎◌}
+use Rattle.ld_trace.specs.declared.event.Mode.{Mode}
 use Rattle.ld_task.specs.declared.frame.Frame.{Frame}
 use Rattle.ld_task.specs.declared.kind.Kind.{Kind}
 use Rattle.ld_task.specs.declared.mark.Mark.{Mark}
@@ -59,11 +59,3 @@ ChainHasMark c key mark = ChainMarksNew c key mark ⊎ ChainMarksHeld c key mark
 pub record ChainKeysBelow (n : ℕ) (c : ChainParts) : Type 0 where
   pub held_below : All (λ (lock : Lock). lock.key < n) c.held_locks
   pub new_below : IfSome c.new_lock (λ (new : Lock × Frame). new.0.key < n)
-
--- the dependencies of a chain: from each held lock to the new one
-abbrev pub chain_dependencies : ChainParts → List (ℕ × ℕ × Kind)
-chain_dependencies c = to_new c.held_locks c.new_lock
-  where
-    to_new : List Lock → Option (Lock × Frame) → List (ℕ × ℕ × Kind)
-    to_new locks None = []
-    to_new locks (Some new) = map (λ h. (h.key, new.0.key, kind_between h.mode new.0.mode)) locks

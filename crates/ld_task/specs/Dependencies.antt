@@ -4,11 +4,12 @@ use Rattle.ld_task.specs.Events.{event, is_acquire, mode_taken}
 use Rattle.ld_task.specs.Held.{key_at, held}
 use Rattle.ld_task.specs.declared.kind.Kind.{Kind}
 use Rattle.ld_task.specs.declared.kind.Kind.TheVariants.{Er, En, Sr, Sn}
-use Rattle.ld_trace.specs.declared.Event.{Event}
-use Rattle.ld_trace.specs.declared.Mode.{Mode}
-use Rattle.ld_trace.specs.declared.Mode.TheVariants.{Write, Read, RecRead}
+use Rattle.ld_trace.specs.declared.event.Event.{Event}
+use Rattle.ld_trace.specs.declared.event.Mode.{Mode}
+use Rattle.ld_trace.specs.declared.event.Mode.TheVariants.{Write, Read, RecRead}
 
--- the kind of a dependency from a lock held in the first mode to one taken in the second
+-- the kind of a dependency from a lock held in the first mode to one taken in the second: the first letter is E for a writer and
+-- S for either reader, the second R for a recursive reader and N else
 abbrev pub kind_between : Mode → Mode → Kind
 kind_between Write RecRead = Er
 kind_between Write Write = En

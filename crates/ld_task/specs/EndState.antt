@@ -1,18 +1,15 @@
--- The state at a position of a trace, and one step on traces [this project's own].
-use Rattle.std.specs.Prelude.{ℕ, suc, Bool, ◌&&◌, List, [], ◌∷◌, ◌++◌, Option, Some, ◌≡◌, nat_lt, map, length, Result, Ok, Err}
+-- The state of a task at a position of its trace [this project's own].
+use Rattle.std.specs.Prelude.{ℕ, suc, Bool, ◌&&◌, List, nat_lt, map, length}
 use Rattle.ld_task.specs.Events.{event, is_enter}
 use Rattle.ld_task.specs.Frames.{depth, kind}
 use Rattle.ld_task.specs.Flags.{flag}
 use Rattle.ld_task.specs.Held.{kept}
-use Rattle.ld_task.specs.WellFormed.{fault, IsWellFormed}
-use Rattle.ld_task.specs.Chains.{ChainParts}
-use Rattle.ld_task.specs.TraceChains.{lock_at, chain}
+use Rattle.ld_task.specs.TraceChains.{lock_at}
 use Rattle.ld_task.specs.Positions.{positions_below, all_between}
 use Rattle.ld_task.specs.declared.frame.OpenFrame.{OpenFrame}
-use Rattle.ld_task.specs.declared.fault.StepFault.{StepFault}
 use Rattle.ld_task.specs.declared.lock.KeptLock.{KeptLock}
-use Rattle.ld_trace.specs.declared.Event.{Event}
-use Rattle.ld_trace.specs.declared.Irq.TheVariants.{Hard, Soft}
+use Rattle.ld_trace.specs.declared.event.Event.{Event}
+use Rattle.ld_trace.specs.declared.event.Irq.TheVariants.{Hard, Soft}
 
 -- the state at a position: the outer frames from outside in, the frame there, and the kept locks in order
 pub record EndState : Type 0 where
@@ -20,9 +17,11 @@ pub record EndState : Type 0 where
   pub current : OpenFrame
   pub locks : List KeptLock
 
+-- the frame at j, with its flags just before j
 abbrev pub frame_at : List Event → ℕ → OpenFrame
 frame_at t j = record { kind = kind t j; hard_on = flag t Hard j; soft_on = flag t Soft j }
 
+-- the lock that the acquisition at i takes, with the number of frames outside its own
 abbrev pub kept_lock_at : List Event → ℕ → KeptLock
 kept_lock_at t i = record { level = depth t i; lock = lock_at t i }
 
@@ -38,11 +37,6 @@ state_at t n = record {
   locks = map (kept_lock_at t) (positions_below n (λ i. kept t i n));
 }
 
+-- the state after the last event
 abbrev pub end_state : List Event → EndState
 end_state t = state_at t (length t)
-
--- From the well-formed trace h the event e goes on to this answer and state: the longer trace is well formed, the state
--- is its end state and the answer its last chain; or e is refused with its fault, and the state stays.
-abbrev pub StepsTo : List Event → Event → EndState → EndState → Result (Option ChainParts) StepFault → Type 0
-StepsTo h e old new (Ok answer) = let t = h ++ e ∷ [] in IsWellFormed t × (new ≡ end_state t) × (answer ≡ chain t (length h))
-StepsTo h e old new (Err refused) = (fault (h ++ e ∷ []) (length h) ≡ Some refused) × (new ≡ old)

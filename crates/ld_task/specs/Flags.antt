@@ -5,9 +5,9 @@ use Rattle.ld_task.specs.Frames.{one_frame, kind}
 use Rattle.ld_task.specs.Positions.{last_below}
 use Rattle.ld_task.specs.declared.frame.Frame.{Frame}
 use Rattle.ld_task.specs.declared.frame.Frame.TheVariants.{Task, Softirq, Hardirq}
-use Rattle.ld_trace.specs.declared.Event.{Event}
-use Rattle.ld_trace.specs.declared.Irq.{Irq}
-use Rattle.ld_trace.specs.declared.Irq.TheVariants.{Hard, Soft}
+use Rattle.ld_trace.specs.declared.event.Event.{Event}
+use Rattle.ld_trace.specs.declared.event.Irq.{Irq}
+use Rattle.ld_trace.specs.declared.event.Irq.TheVariants.{Hard, Soft}
 
 -- the flag of a state at the start of a frame
 abbrev pub starts_on : Irq → Frame → Bool

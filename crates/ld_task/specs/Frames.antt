@@ -4,9 +4,9 @@ use Rattle.ld_task.specs.Events.{event, is_enter, is_leave}
 use Rattle.ld_task.specs.Positions.{count_below, last_below, all_between}
 use Rattle.ld_task.specs.declared.frame.Frame.{Frame}
 use Rattle.ld_task.specs.declared.frame.Frame.TheVariants.{Task, Softirq, Hardirq}
-use Rattle.ld_trace.specs.declared.Event.{Event}
-use Rattle.ld_trace.specs.declared.Event.TheVariants.{Enter}
-use Rattle.ld_trace.specs.declared.Irq.TheVariants.{Hard, Soft}
+use Rattle.ld_trace.specs.declared.event.Event.{Event}
+use Rattle.ld_trace.specs.declared.event.Event.TheVariants.{Enter}
+use Rattle.ld_trace.specs.declared.event.Irq.TheVariants.{Hard, Soft}
 
 -- the entries before a position less the leaves before it
 unfoldable pub depth : List Event → ℕ → ℕ
@@ -20,7 +20,7 @@ one_frame t i j = nat_eq (depth t i) (depth t j) && all_between i j (λ k. nat_l
 unfoldable pub opening : List Event → ℕ → Option ℕ
 opening t j = last_below j (λ k. is_enter (event t k) && nat_eq (depth t k + 1) (depth t j))
 
--- the kind of the frame that it opens
+-- the kind of the frame that an entry opens
 abbrev pub frame_opened : Option Event → Frame
 frame_opened (Some (Enter Hard)) = Hardirq
 frame_opened (Some (Enter Soft)) = Softirq
@@ -35,6 +35,7 @@ kind_from t (Some k) = frame_opened (event t k)
 unfoldable pub kind : List Event → ℕ → Frame
 kind t j = kind_from t (opening t j)
 
+-- it is the task frame
 abbrev pub is_task : Frame → Bool
 is_task Task = true
 is_task Softirq = false

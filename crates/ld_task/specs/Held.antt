@@ -3,7 +3,7 @@ use Rattle.std.specs.Prelude.{ℕ, suc, Bool, ◌&&◌, nat_le, List, nat_lt}
 use Rattle.ld_task.specs.Events.{event, is_acquire, takes, gives_back, key_taken}
 use Rattle.ld_task.specs.Frames.{depth, one_frame}
 use Rattle.ld_task.specs.Positions.{count_below, all_between}
-use Rattle.ld_trace.specs.declared.Event.{Event}
+use Rattle.ld_trace.specs.declared.event.Event.{Event}
 
 -- i's key
 abbrev pub key_at : List Event → ℕ → ℕ

@@ -8,12 +8,13 @@ use Rattle.ld_task.specs.declared.frame.Frame.{Frame}
 use Rattle.ld_task.specs.declared.mark.Mark.{Mark}
 use Rattle.ld_task.specs.declared.frame.Frame.TheVariants.{Task, Softirq, Hardirq}
 use Rattle.ld_task.specs.declared.mark.Mark.TheVariants.{Used, UsedIn, Enabled}
-use Rattle.ld_trace.specs.declared.Event.{Event}
-use Rattle.ld_trace.specs.declared.Mode.{Mode}
-use Rattle.ld_trace.specs.declared.Mode.TheVariants.{Write, Read, RecRead}
-use Rattle.ld_trace.specs.declared.Irq.{Irq}
-use Rattle.ld_trace.specs.declared.Irq.TheVariants.{Hard, Soft}
+use Rattle.ld_trace.specs.declared.event.Event.{Event}
+use Rattle.ld_trace.specs.declared.event.Mode.{Mode}
+use Rattle.ld_trace.specs.declared.event.Mode.TheVariants.{Write, Read, RecRead}
+use Rattle.ld_trace.specs.declared.event.Irq.{Irq}
+use Rattle.ld_trace.specs.declared.event.Irq.TheVariants.{Hard, Soft}
 
+-- a mark that a lock taken in this mode gets is in its read form
 abbrev pub is_read : Mode → Bool
 is_read Write = false
 is_read Read = true
@@ -28,6 +29,7 @@ is_in Soft Hardirq = false
 is_in Soft Softirq = true
 is_in Soft Task = false
 
+-- both are in the read form, or neither is
 abbrev pub same_form : Bool → Bool → Bool
 same_form true read = read
 same_form false read = not read

@@ -6,11 +6,12 @@ use Rattle.ld_task.specs.Flags.{flag}
 use Rattle.ld_task.specs.Held.{key_at, held}
 use Rattle.ld_task.specs.Positions.{positions_below}
 use Rattle.ld_task.specs.declared.lock.Lock.{Lock}
-use Rattle.ld_trace.specs.declared.Event.{Event}
-use Rattle.ld_trace.specs.declared.Event.TheVariants.{Acquire, Release, Enter, Leave, TurnOn, TurnOff}
-use Rattle.ld_trace.specs.declared.Irq.TheVariants.{Hard, Soft}
+use Rattle.ld_trace.specs.declared.event.Event.{Event}
+use Rattle.ld_trace.specs.declared.event.Event.TheVariants.{Acquire, Release, Enter, Leave, TurnOn, TurnOff}
+use Rattle.ld_trace.specs.declared.event.Irq.TheVariants.{Hard, Soft}
 use Rattle.ld_task.specs.Chains.{ChainParts}
 
+-- the lock that the acquisition at i takes
 abbrev pub lock_at : List Event → ℕ → Lock
 lock_at t i = record { key = key_at t i; mode = mode_taken (event t i) }
 

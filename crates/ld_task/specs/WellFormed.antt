@@ -6,10 +6,11 @@ use Rattle.ld_task.specs.Flags.{may_change, flag}
 use Rattle.ld_task.specs.Held.{kept, held}
 use Rattle.ld_task.specs.Positions.{count_below, any_below}
 use Rattle.ld_task.specs.declared.fault.StepFault.{StepFault}
+use Rattle.ld_task.specs.declared.fault.StepAt.{StepAt}
 use Rattle.ld_task.specs.declared.fault.StepFault.TheVariants.{NotHeld, TooDeep, BadEnter, LeaveTask, LeaveHeld, BadFlag}
-use Rattle.ld_trace.specs.declared.Event.{Event}
-use Rattle.ld_trace.specs.declared.Event.TheVariants.{Acquire, Release, Enter, Leave, TurnOn, TurnOff}
-use Rattle.ld_trace.specs.declared.Irq.TheVariants.{Hard, Soft}
+use Rattle.ld_trace.specs.declared.event.Event.{Event}
+use Rattle.ld_trace.specs.declared.event.Event.TheVariants.{Acquire, Release, Enter, Leave, TurnOn, TurnOff}
+use Rattle.ld_trace.specs.declared.event.Irq.TheVariants.{Hard, Soft}
 
 -- why the event e isn't allowed at j
 unfoldable pub fault_of : List Event → ℕ → Event → Option StepFault
@@ -29,7 +30,8 @@ fault t j = option_and_then (fault_of t j) (event t j)
 pub record IsWellFormed (t : List Event) : Type 0 where
   pub allowed : (j : ℕ) → j < length t → fault t j ≡ None
 
--- the first event that isn't allowed, with its fault; or there is none
-abbrev pub IsFirstFault : List Event → Option (ℕ × StepFault) → Type 0
-IsFirstFault t None = IsWellFormed t
-IsFirstFault t (Some found) = (found.0 < length t) × (fault t found.0 ≡ Some found.1) × ((j : ℕ) → j < found.0 → fault t j ≡ None)
+-- the event at this place is the first that isn't allowed, with this fault
+pub record IsFirstFault (t : List Event) (found : StepAt) : Type 0 where
+  pub in_range : found.place < length t
+  pub refused : fault t found.place ≡ Some found.fault
+  pub first : (j : ℕ) → j < found.place → fault t j ≡ None

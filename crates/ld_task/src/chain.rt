@@ -1,18 +1,21 @@
 //! Chains: what one acquisition or opening tells.
 
 ghost use Rattle.std.specs.Prelude.{◌≡◌, ◌≤◌, ◌↔◌, IsTrue, length, option_map, slice_get};
+ghost use Rattle.std.specs.Cmp.Lexicographic.{pointwise};
+ghost use Rattle.ld_task.specs.ChainEquality.{lock_eq, new_lock_eq};
 ghost use Rattle.ld_task.specs.Chains.{ChainKeysBelow, key_and_mode, key_mode_and_frame};
 
 use crate::frame::Frame;
 use crate::lock::Lock;
 use arrayvec::ArrayVec;
 use ld_trace::{KeyId, Mode};
+use std::hash::{Hash, Hasher};
 use std::marker::Model;
 
 /// What an acquisition or an opening tells: the locks that are held in its frame, oldest first; for an acquisition the
 /// new lock and the frame; and the two flags, just before an acquisition or just after an opening. At most 48 locks
 /// are held.
-#[derive(Drop)]
+#[derive(Drop, Debug)]
 pub struct Chain {
     held: ArrayVec<Lock, 48>,
     taken: Option<(Lock, Frame)>,
@@ -26,7 +29,12 @@ impl Model for Chain {
 
     ghost Value = { ChainParts };
 
-    ghost view = { λ c. record { held_locks = c.held.items; new_lock = c.taken; hard_on = c.hard_on; soft_on = c.soft_on } };
+    ghost view = { λ c. record {
+      held_locks = c.held.items;
+      new_lock = c.taken;
+      hard_on = c.hard_on;
+      soft_on = c.soft_on;
+    } };
 
     ghost invariant = { λ c. length c.held.items ≤ 48 };
 }
@@ -40,7 +48,12 @@ impl Chain {
         hard_on: bool,
         soft_on: bool,
     ) -> Chain
-        ensures { result ≡ record { held_locks = held.items; new_lock = Some (taken, frame); hard_on = hard_on; soft_on = soft_on } }
+        ensures { result ≡ record {
+          held_locks = held.items;
+          new_lock = Some (taken, frame);
+          hard_on = hard_on;
+          soft_on = soft_on;
+        } }
     {
         Chain {
             held,
@@ -52,7 +65,12 @@ impl Chain {
 
     // The chain of an opening.
     pub(crate) fn opening(held: ArrayVec<Lock, 48>, hard_on: bool, soft_on: bool) -> Chain
-        ensures { result ≡ record { held_locks = held.items; new_lock = None; hard_on = hard_on; soft_on = soft_on } }
+        ensures { result ≡ record {
+          held_locks = held.items;
+          new_lock = None;
+          hard_on = hard_on;
+          soft_on = soft_on;
+        } }
     {
         Chain {
             held,
@@ -110,4 +128,61 @@ impl Chain {
         };
         new_below && self.held.as_slice().iter().all(|lock| lock.key.get() < n)
     }
+}
+
+impl PartialEq for Chain {
+    ghost use Rattle.std.specs.Cmp.{partial_equiv_from_equiv};
+    ghost use Rattle.ld_task.specs.ChainEquality.{chain_eq};
+    ghost use Rattle.ld_task.specs.ChainEqualityLaws.{chain_eq-equivalence};
+
+    ghost eq = { chain_eq };
+
+    ghost laws = { partial_equiv_from_equiv chain_eq-equivalence };
+
+    fn eq(&self, other: &Chain) -> bool {
+        is_same_held(self.held.as_slice(), other.held.as_slice())
+            && is_same_taken(self.taken, other.taken)
+            && self.hard_on == other.hard_on
+            && self.soft_on == other.soft_on
+    }
+}
+
+impl Eq for Chain {
+    ghost use Rattle.ld_task.specs.ChainEqualityLaws.{chain_eq-equivalence};
+
+    ghost laws = { chain_eq-equivalence };
+}
+
+impl Hash for Chain {
+    ghost use Rattle.std.specs.Prelude.{◌++◌};
+    ghost use Rattle.std.specs.Hash as fed;
+    ghost use Rattle.std.specs.Hash.{same_Alike};
+    ghost use Rattle.ld_task.specs.ChainEqualityLaws.{chain_eq-decides};
+
+    ghost hash_input = { λ c. fed.slice ⟦<Lock as Hash>⟧.hash_input c.held_locks
+        ++ ⟦<Option<(Lock, Frame)> as Hash>⟧.hash_input c.new_lock
+        ++ fed.bool c.hard_on ++ fed.bool c.soft_on };
+
+    ghost respects_eq = { (same_Alike _ chain_eq-decides).fed };
+
+    fn hash<H: Hasher>(&self, state: &mut H) {
+        self.held.hash(state);
+        self.taken.hash(state);
+        self.hard_on.hash(state);
+        self.soft_on.hash(state);
+    }
+}
+
+// Whether the held locks are the same.
+fn is_same_held(a: &[Lock], b: &[Lock]) -> bool
+    ensures { result ≡ pointwise lock_eq a.now b.now }
+{
+    a == b
+}
+
+// Whether the new locks and their frames are the same.
+fn is_same_taken(a: Option<(Lock, Frame)>, b: Option<(Lock, Frame)>) -> bool
+    ensures { result ≡ new_lock_eq a b }
+{
+    a == b
 }

@@ -1,0 +1,177 @@
+-- The chains of a trace: where each one comes from, and what one event more adds.
+use Rattle.std.proofs.Common.{◌≡◌, ℕ, zero, suc, ◌<◌, ◌≤◌, true, List, [], ◌∷◌, ◌++◌, length, length-append, map, All, Contains, slice_index_or, ◌⊎◌, Option, Some, None, refl, sym, ap, ◌∙◌, subst, inl, inr, arith, option_and_then}
+use Rattle.std.specs.List.{filter_map, cons_option, Any}
+use Rattle.std.specs.Option.{option_to_list}
+use Rattle.std.proofs.lemmas.Bool.{cases_eq}
+use Rattle.std.proofs.lemmas.Option.{slice_get_within}
+use Rattle.std.proofs.lemmas.List.Elements.{filter_map-append, Contains-append_left, Contains-append_right, Contains-append_cases, Contains-get_or}
+use Rattle.ld_trace.specs.declared.event.Event.{Event}
+use Rattle.ld_trace.specs.declared.event.Event.TheVariants.{Acquire, Release, Enter, Leave, TurnOn, TurnOff}
+use Rattle.ld_trace.specs.declared.event.Mode.{Mode}
+use Rattle.ld_trace.specs.declared.event.Irq.{Irq}
+use Rattle.ld_trace.specs.declared.event.Irq.TheVariants.{Hard, Soft}
+use Rattle.ld_task.specs.Positions.{positions_below}
+use Rattle.ld_task.specs.Events.{event}
+use Rattle.ld_task.specs.Frames.{kind}
+use Rattle.ld_task.specs.Flags.{flag}
+use Rattle.ld_task.specs.Held.{held}
+use Rattle.ld_task.specs.Chains.{ChainParts}
+use Rattle.ld_task.specs.TraceChains.{lock_at, held_locks_at, chain_of, chain, chains}
+use Rattle.ld_task.proofs.PositionLemmas.{map_below-cong, positions_below-cong}
+use Rattle.ld_task.proofs.TraceLemmas.{Agree, held-agree, kind-agree, flag-agree}
+use Rattle.ld_task.proofs.Places.{slice_get-append_left}
+
+-- the chains of the positions below n
+unfoldable pub chains_below : List Event → ℕ → List ChainParts
+chains_below t n = filter_map (chain t) (positions_below n (λ j. true))
+
+-- the chain at a position below n
+pub record IsChainBelow (t : List Event) (n : ℕ) (c : ChainParts) : Type 0 where
+  pub at : ℕ
+  pub below : at < n
+  pub is_chain : chain t at ≡ Some c
+
+one_option : (o : Option ChainParts) → cons_option o [] ≡ option_to_list o
+one_option None = refl
+one_option (Some c) = refl
+
+one-contains : (o : Option ChainParts) (c : ChainParts) → o ≡ Some c → Contains (option_to_list o) c
+one-contains None c e = cc
+one-contains (Some d) c e = let same : d ≡ c = cc in (0, omega arith, same)
+
+contains-one : (o : Option ChainParts) (c : ChainParts) → Contains (option_to_list o) c → o ≡ Some c
+contains-one None c h = absurd (let l = h.1 in omega arith)
+contains-one (Some d) c (zero, l, e) = ap Some e
+contains-one (Some d) c (suc k, l, e) = absurd (omega arith)
+
+module _ (t : List Event) where
+  chains_below-suc : (n : ℕ) → chains_below t (suc n) ≡ chains_below t n ++ option_to_list (chain t n)
+  unfolding chains_below positions_below
+  chains_below-suc n = filter_map-append (chain t) (positions_below n (λ j. true)) (n ∷ []) ∙ ap (λ z. filter_map (chain t) (positions_below n (λ j. true)) ++ z) (one_option (chain t n))
+
+  Contains-chains_below : (n : ℕ) (c : ChainParts) → IsChainBelow t n c → Contains (chains_below t n) c
+  Contains-chains_below zero c h = absurd (let l = h.below in omega arith)
+  Contains-chains_below (suc n) c h =
+      subst (λ xs. Contains xs c) (sym (chains_below-suc n)) (
+      elim (cases_eq h.at n) [
+        | inl e ↦ Contains-append_right (chains_below t n) (option_to_list (chain t n)) c (one-contains (chain t n) c (subst (λ k. chain t k ≡ Some c) e h.is_chain))
+        | inr ne ↦
+            Contains-append_left (chains_below t n) (option_to_list (chain t n)) c
+            (Contains-chains_below n c (record { at = h.at; below = (let l = h.below in omega arith); is_chain = h.is_chain }))
+      ]
+      )
+
+  chains_below-contains : (n : ℕ) (c : ChainParts) → Contains (chains_below t n) c → IsChainBelow t n c
+  unfolding chains_below positions_below
+  chains_below-contains zero c h = absurd (let l = h.1 in omega arith)
+  chains_below-contains (suc n) c h =
+      elim (Contains-append_cases (chains_below t n) (option_to_list (chain t n)) c (subst (λ xs. Contains xs c) (chains_below-suc n) h)) [
+        | inl x ↦ let r = chains_below-contains n c x in record { at = r.at; below = (let l = r.below in omega arith); is_chain = r.is_chain }
+        | inr x ↦ record { at = n; below = omega arith; is_chain = contains-one (chain t n) c x }
+      ]
+
+  within : (j : ℕ) (o : Option Event) (c : ChainParts) → event t j ≡ o → option_and_then (chain_of t j) o ≡ Some c → j < length t
+  within j None c e h = cc
+  within j (Some x) c e h = slice_get_within t j x e
+
+  -- a chain at a position tells what one of the chains tells
+  pub Any-chains : (P : ChainParts → Type 0) (j : ℕ) (c : ChainParts) → chain t j ≡ Some c → P c → Any P (chains t)
+  unfolding chains chains_below
+  Any-chains P j c e p =
+      let m = Contains-chains_below (length t) c (record { at = j; below = within j (event t j) c refl e; is_chain = e }) in
+      (m.0, c, m.1, m.2, p)
+
+  -- what one of the chains tells is told by the chain at some position
+  pub chains-Any : (P : ChainParts → Type 0) → Any P (chains t) → (c : ChainParts) × IsChainBelow t (length t) c × P c
+  unfolding chains chains_below
+  chains-Any P a = (a.1, chains_below-contains (length t) a.1 (a.0, a.2, a.3), a.4)
+
+  -- what each position's chain tells, each of the chains tells
+  pub chains-All : (P : ChainParts → Type 0) → ((j : ℕ) (c : ChainParts) → chain t j ≡ Some c → P c) → All P (chains t)
+  unfolding chains chains_below
+  chains-All P each k d l =
+      let x = chains_below-contains (length t) (slice_index_or (chains t) k d) (Contains-get_or (chains t) k d l) in
+      each x.at (slice_index_or (chains t) k d) x.is_chain
+
+module _ (s t : List Event) (n : ℕ) (a : Agree s t n) where
+  held_locks_at-agree : (j : ℕ) → j ≤ n → held_locks_at s j ≡ held_locks_at t j
+  unfolding held_locks_at
+  held_locks_at-agree j l =
+      let p = positions_below-cong (λ i. held s i j) (λ i. held t i j) j (λ i h. held-agree s t n a i j h l) in
+      let m = map_below-cong (lock_at s) (lock_at t) (λ i. held t i j) j (λ i h. rw (a.same i (omega arith)) refl) in
+      ap (map (lock_at s)) p ∙ m
+
+  chain_of-agree : (j : ℕ) → j < n → (e : Event) → chain_of s j e ≡ chain_of t j e
+  unfolding chain_of
+  chain_of-agree j l (Acquire key mode) = rw (held_locks_at-agree j (omega arith), kind-agree s t n a j (omega arith), flag-agree s t n a Hard j (omega arith), flag-agree s t n a Soft j (omega arith)) refl
+  chain_of-agree j l (TurnOn irq) = rw (held_locks_at-agree j (omega arith), flag-agree s t n a Hard (suc j) (omega arith), flag-agree s t n a Soft (suc j) (omega arith)) refl
+  chain_of-agree j l (Release key) = refl
+  chain_of-agree j l (Enter irq) = refl
+  chain_of-agree j l Leave = refl
+  chain_of-agree j l (TurnOff irq) = refl
+
+  -- the chain at a position depends on the events up to there alone
+  pub chain-agree : (j : ℕ) → j < n → chain s j ≡ chain t j
+  chain-agree j l = ap (option_and_then (chain_of s j)) (a.same j l) ∙ each (event t j)
+    where
+      each : (o : Option Event) → option_and_then (chain_of s j) o ≡ option_and_then (chain_of t j) o
+      each None = refl
+      each (Some e) = chain_of-agree j l e
+
+  chains_below-agree : (j : ℕ) → j ≤ n → chains_below s j ≡ chains_below t j
+  unfolding chains_below positions_below
+  chains_below-agree zero l = refl
+  chains_below-agree (suc j) l = chains_below-suc s j ∙ ap (λ z. z ++ option_to_list (chain s j)) (chains_below-agree j (omega arith)) ∙ ap (λ o. chains_below t j ++ option_to_list o) (chain-agree j (omega arith)) ∙ sym (chains_below-suc t j)
+
+-- one event more adds its own chain, if it makes one
+pub chains-snoc : (h : List Event) (e : Event) → chains (h ++ e ∷ []) ≡ chains h ++ option_to_list (chain (h ++ e ∷ []) (length h))
+unfolding chains chains_below
+chains-snoc h e =
+    let longer = h ++ e ∷ [] in
+    let n : length longer ≡ suc (length h) = omega (arith, length-append h (e ∷ [])) in
+    ap (chains_below longer) n ∙ chains_below-suc longer (length h) ∙ ap (λ z. z ++ option_to_list (chain longer (length h)))
+    (chains_below-agree longer h (length h) (record { same = λ k l. slice_get-append_left h (e ∷ []) k l }) (length h) (omega arith))
+
+-- The two forms of a chain.
+
+abbrev pub acquisition_at : List Event → ℕ → ℕ → Mode → ChainParts
+acquisition_at t j key mode = record { held_locks = held_locks_at t j; new_lock = Some (record { key = key; mode = mode }, kind t j); hard_on = flag t Hard j; soft_on = flag t Soft j }
+
+abbrev pub opening_at : List Event → ℕ → ChainParts
+opening_at t j = record { held_locks = held_locks_at t j; new_lock = None; hard_on = flag t Hard (suc j); soft_on = flag t Soft (suc j) }
+
+-- an acquisition's chain
+pub record IsAcquisition (t : List Event) (j : ℕ) (c : ChainParts) : Type 0 where
+  pub key : ℕ
+  pub mode : Mode
+  pub is_event : event t j ≡ Some (Acquire key mode)
+  pub parts : acquisition_at t j key mode ≡ c
+
+-- an opening's chain
+pub record IsOpening (t : List Event) (j : ℕ) (c : ChainParts) : Type 0 where
+  pub irq : Irq
+  pub is_event : event t j ≡ Some (TurnOn irq)
+  pub parts : opening_at t j ≡ c
+
+module _ (t : List Event) (j : ℕ) where
+  pub chain-acquire : (key : ℕ) (mode : Mode) → event t j ≡ Some (Acquire key mode) → chain t j ≡ Some (acquisition_at t j key mode)
+  unfolding chain_of
+  chain-acquire key mode e = ap (option_and_then (chain_of t j)) e
+
+  pub chain-turn_on : (irq : Irq) → event t j ≡ Some (TurnOn irq) → chain t j ≡ Some (opening_at t j)
+  unfolding chain_of
+  chain-turn_on irq e = ap (option_and_then (chain_of t j)) e
+
+  cases : (c : ChainParts) (o : Option Event) → event t j ≡ o → option_and_then (chain_of t j) o ≡ Some c → IsAcquisition t j c ⊎ IsOpening t j c
+  unfolding chain_of
+  cases c None e h = cc
+  cases c (Some (Acquire key mode)) e h = inl (record { key = key; mode = mode; is_event = e; parts = cc })
+  cases c (Some (TurnOn irq)) e h = inr (record { irq = irq; is_event = e; parts = cc })
+  cases c (Some (Release key)) e h = cc
+  cases c (Some (Enter irq)) e h = cc
+  cases c (Some Leave) e h = cc
+  cases c (Some (TurnOff irq)) e h = cc
+
+  -- each chain is an acquisition's or an opening's
+  pub chain-cases : (c : ChainParts) → chain t j ≡ Some c → IsAcquisition t j c ⊎ IsOpening t j c
+  chain-cases c e = cases c (event t j) refl e

@@ -1,0 +1,104 @@
+-- The first events of a trace, and how one more goes on from them.
+use Rattle.std.proofs.Common.{◌≡◌, ℕ, zero, suc, ◌+◌, ◌<◌, ◌≤◌, List, [], ◌∷◌, ◌++◌, length, take, slice_get, Option, Some, None, Result, Ok, Err, refl, sym, ap, ◌∙◌, subst, inl, inr, arith}
+use Rattle.std.proofs.lemmas.Bool.{cases_lt, cases_eq}
+use Rattle.std.specs.Option.{option_to_list}
+use Rattle.std.proofs.lemmas.List.{length-take-le, take_all}
+use Rattle.std.proofs.lemmas.Option.{slice_get_within}
+use Rattle.ld_trace.specs.declared.event.Event.{Event}
+use Rattle.ld_task.specs.declared.fault.StepFault.{StepFault}
+use Rattle.ld_task.specs.EndState.{EndState, end_state}
+use Rattle.ld_task.specs.WellFormed.{IsWellFormed, IsFirstFault, fault}
+use Rattle.ld_task.specs.Events.{event}
+use Rattle.ld_task.specs.Chains.{ChainParts}
+use Rattle.ld_task.specs.TraceChains.{chains}
+use Rattle.ld_task.specs.declared.fault.StepAt.{StepAt}
+use Rattle.ld_task.specs.Steps.{IsStateAfter, StepsTo, GoesOn}
+use Rattle.ld_task.proofs.TraceLemmas.{Agree, fault-agree}
+use Rattle.ld_task.proofs.ChainLists.{chains-snoc}
+use Rattle.ld_task.proofs.Places.{slice_get-append_left, slice_get-append_seam}
+
+slice_get-take : {A : Type 0} (xs : List A) (i k : ℕ) → k < i → slice_get (take i xs) k ≡ slice_get xs k
+slice_get-take [] zero k l = absurd (omega arith)
+slice_get-take [] (suc i) k l = refl
+slice_get-take (x ∷ xs) zero k l = absurd (omega arith)
+slice_get-take (x ∷ xs) (suc i) zero l = refl
+slice_get-take (x ∷ xs) (suc i) (suc k) l = slice_get-take xs i k (omega arith)
+
+-- one element more
+take-suc_get : {A : Type 0} (xs : List A) (i : ℕ) (x : A) → slice_get xs i ≡ Some x → take (suc i) xs ≡ take i xs ++ x ∷ []
+take-suc_get [] i x e = absurd (cc)
+take-suc_get (y ∷ xs) zero x e = let same : y ≡ x = cc in ap (λ z. z ∷ []) same
+take-suc_get (y ∷ xs) (suc i) x e = ap (λ z. y ∷ z) (take-suc_get xs i x e)
+
+pub well_formed-nil : IsWellFormed []
+well_formed-nil = record { allowed = λ j l. absurd (omega arith) }
+
+-- the first events of a well-formed trace are one
+pub well_formed-take : (t : List Event) (n : ℕ) → n ≤ length t → IsWellFormed t → IsWellFormed (take n t)
+well_formed-take t n l well = record {
+  allowed = λ j h.
+      let m : j < n = omega (arith, length-take-le n t l, h) in
+      fault-agree (take n t) t j (record { same = λ k b. slice_get-take t n k (omega arith) }) (slice_get-take t n j m) ∙ well.allowed j (omega arith);
+}
+
+module _ (t : List Event) (i : ℕ) (e : Event) (here : slice_get t i ≡ Some e) where
+  in_range : i < length t
+  in_range = slice_get_within t i e here
+
+  taken : length (take i t) ≡ i
+  taken = length-take-le i t (omega (arith, in_range))
+
+  abbrev longer : List Event
+  longer = take i t ++ e ∷ []
+
+  longer-is : longer ≡ take (i + 1) t
+  longer-is = sym (take-suc_get t i e here) ∙ (let one : suc i ≡ i + 1 = omega arith in ap (λ n. take n t) one)
+
+  extended : Agree longer t i
+  extended = record { same = λ k l. slice_get-append_left (take i t) (e ∷ []) k (omega (arith, taken)) ∙ slice_get-take t i k l }
+
+  last : event longer i ≡ event t i
+  last = subst (λ n. event longer n ≡ event t i) taken (slice_get-append_seam (take i t) e ∙ sym here)
+
+  -- the fault found at the end of the prefix is the whole trace's there
+  fault-here : fault longer (length (take i t)) ≡ fault t i
+  fault-here = ap (fault longer) taken ∙ fault-agree longer t i extended last
+
+  refused-here : (f : StepFault) → IsWellFormed (take i t) → fault longer (length (take i t)) ≡ Some f → IsFirstFault t (record { fault = f; place = i })
+  refused-here f well refused = record {
+    in_range = in_range;
+    refused = sym fault-here ∙ refused;
+    first = λ j l. sym (fault-agree (take i t) t j (record { same = λ k m. slice_get-take t i k (omega arith) }) (slice_get-take t i j l)) ∙ well.allowed j (omega (arith, taken));
+  }
+
+  -- a step from the first events is a step along the trace
+  pub steps-go_on : (new : EndState) (r : Result (Option ChainParts) StepFault) → IsWellFormed (take i t) → StepsTo (take i t) e new r → GoesOn t i new r
+  steps-go_on new (Err f) well step = refused-here f well step
+  steps-go_on new (Ok answer) well step = (
+    record { well_formed = subst IsWellFormed longer-is step.0; is_end = step.1 ∙ ap end_state longer-is },
+    sym (ap chains longer-is) ∙ chains-snoc (take i t) e ∙ ap (λ o. chains (take i t) ++ option_to_list o) (sym step.2),
+  )
+
+-- a trace whose last event was reached is well formed
+pub well_formed-whole : (t : List Event) (state : EndState) → IsStateAfter t (length t) state → IsWellFormed t
+well_formed-whole t state s = subst IsWellFormed (take_all (length t) t (omega arith)) s.well_formed
+
+-- the first fault is one alone, and there is none in a well-formed trace
+pub first_fault-unique : (t : List Event) (a b : StepAt) → IsFirstFault t a → IsFirstFault t b → a ≡ b
+first_fault-unique t a b f g =
+    elim (cases_lt a.place b.place) [
+      | inl l ↦ absurd (none_some (sym (g.first a.place l) ∙ f.refused))
+      | inr l ↦ elim (cases_eq a.place b.place) [
+        | inl e ↦ let same : a.fault ≡ b.fault = some_same (sym f.refused ∙ ap (fault t) e ∙ g.refused) in λ i. record { fault = same i; place = e i }
+        | inr ne ↦ absurd (none_some (sym (f.first b.place (omega arith)) ∙ g.refused))
+      ]
+    ]
+  where
+    none_some : {x : StepFault} → None ≡ Some x → ⊥
+    none_some e = cc
+
+    some_same : {x y : StepFault} → Some x ≡ Some y → x ≡ y
+    some_same e = cc
+
+pub first_fault-refutes : (t : List Event) (a : StepAt) → IsFirstFault t a → IsWellFormed t → ⊥
+first_fault-refutes t a f well = let e = sym (well.allowed a.place f.in_range) ∙ f.refused in cc

@@ -1,0 +1,6 @@
+use Rattle.std.specs.Hash.{same_Alike}
+use Rattle.ld_task.specs.ChainEqualityLaws.{chain_eq-decides}
+use Rattle.ld_task.proofs.laws.equal_chains_hash_alike.Goals as goal
+
+pub returns : goal.returns
+returns c = (same_Alike _ chain_eq-decides).fed

@@ -1,0 +1,35 @@
+-- What holds of every trace: the laws that this crate proves of its definitions.
+use Rattle.std.specs.Prelude.{◌≡◌, ◌≢◌, ◌↔◌, ℕ, suc, true, List, All, Any, Some}
+use Rattle.ld_trace.specs.declared.event.Event.{Event}
+use Rattle.ld_trace.specs.declared.event.Event.TheVariants.{TurnOn}
+use Rattle.ld_trace.specs.declared.event.Irq.{Irq}
+use Rattle.ld_trace.specs.Events.{KeysBelow}
+use Rattle.ld_task.specs.declared.kind.Kind.{Kind}
+use Rattle.ld_task.specs.declared.mark.Mark.{Mark}
+use Rattle.ld_task.specs.Events.{event}
+use Rattle.ld_task.specs.Flags.{flag}
+use Rattle.ld_task.specs.Dependencies.{IsDependency}
+use Rattle.ld_task.specs.Marks.{IsMarked}
+use Rattle.ld_task.specs.Chains.{ChainHasDependency, ChainHasMark, ChainKeysBelow}
+use Rattle.ld_task.specs.TraceChains.{chains}
+
+-- the dependencies of a trace are those of its chains
+abbrev pub DependenciesAreTheChains : Type 0
+DependenciesAreTheChains = (t : List Event) (from to : ℕ) (kind : Kind) → IsDependency t from to kind ↔ Any (λ c. ChainHasDependency c from to kind) (chains t)
+
+-- the marks of a trace are those of its chains
+abbrev pub MarksAreTheChains : Type 0
+MarksAreTheChains = (t : List Event) (key : ℕ) (mark : Mark) → IsMarked t key mark ↔ Any (λ c. ChainHasMark c key mark) (chains t)
+
+-- the keys of a trace's chains are keys of the trace
+abbrev pub ChainKeysAreTheTraces : Type 0
+ChainKeysAreTheTraces = (t : List Event) (n : ℕ) → KeysBelow n t → All (ChainKeysBelow n) (chains t)
+
+-- just after a state is turned on it is on, and the other one is as before
+pub record IsOnAfter (t : List Event) (irq : Irq) (j : ℕ) : Type 0 where
+  pub on : flag t irq (suc j) ≡ true
+  pub other : (o : Irq) → o ≢ irq → flag t o (suc j) ≡ flag t o j
+
+-- what holds just after each event that turns a state on
+abbrev pub TurningOnTurnsOn : Type 0
+TurningOnTurnsOn = (t : List Event) (irq : Irq) (j : ℕ) → event t j ≡ Some (TurnOn irq) → IsOnAfter t irq j

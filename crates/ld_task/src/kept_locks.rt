@@ -1,0 +1,44 @@
+//! Questions about the locks that a task keeps. A lock's level is the number of frames outside the one that it was
+//! taken in.
+
+ghost use Rattle.std.specs.Prelude.{◌≡◌, ◌<◌, filter, IfSome, length, map};
+ghost use Rattle.std.specs.List.{list_any};
+ghost use Rattle.ld_task.specs.Machine.{is_at, is_of, last_place, lock_of};
+
+use crate::lock::{KeptLock, Lock};
+use arrayvec::ArrayVec;
+use ld_trace::KeyId;
+
+/// The locks that were taken at this level, oldest first.
+pub(crate) fn held_at(locks: &ArrayVec<KeptLock, 48>, level: usize) -> ArrayVec<Lock, 48>
+    ensures { result.items ≡ map lock_of (filter (is_at level) locks.now.items) }
+{
+    let mut held = ArrayVec::new();
+    for kept in locks.as_slice() {
+        if kept.level == level {
+            held.push(kept.lock);
+        }
+    }
+    held
+}
+
+/// Whether a lock was taken at this level.
+pub(crate) fn any_at(locks: &ArrayVec<KeptLock, 48>, level: usize) -> bool
+    ensures { result ≡ list_any (is_at level) locks.now.items }
+{
+    locks.as_slice().iter().any(|kept| kept.level == level)
+}
+
+/// The place of the newest lock of this key that was taken at this level.
+pub(crate) fn newest_of(locks: &ArrayVec<KeptLock, 48>, level: usize, key: KeyId) -> Option<usize>
+    ensures exact { result ≡ last_place (is_of level key) locks.now.items }
+    ensures within { IfSome result (λ place. place < length locks.now.items) }
+{
+    let mut found = None;
+    for (place, kept) in locks.as_slice().iter().enumerate() {
+        if kept.level == level && kept.lock.key == key {
+            found = Some(place);
+        }
+    }
+    found
+}

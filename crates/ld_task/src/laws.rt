@@ -1,0 +1,39 @@
+//! Laws of the definitions, each carried by a function that does nothing.
+
+ghost use Rattle.std.specs.Prelude.{◌≡◌, ◌↔◌, IsTrue};
+ghost use Rattle.ld_task.specs.Chains.{ChainParts};
+ghost use Rattle.ld_task.specs.Laws.{ChainKeysAreTheTraces, DependenciesAreTheChains, MarksAreTheChains, TurningOnTurnsOn};
+
+use crate::chain::Chain;
+use std::hash::Hash;
+
+/// The dependencies of a trace are those of its chains.
+pub fn dependencies_are_the_chains()
+    ensures { DependenciesAreTheChains }
+{}
+
+/// The usage marks of a trace are those of its chains.
+pub fn marks_are_the_chains()
+    ensures { MarksAreTheChains }
+{}
+
+/// The keys of a trace's chains are keys of the trace.
+pub fn chain_keys_are_the_traces()
+    ensures { ChainKeysAreTheTraces }
+{}
+
+/// Just after a state is turned on it is on, and the other one is as before.
+pub fn turning_on_turns_on()
+    ensures { TurningOnTurnsOn }
+{}
+
+/// Two chains are equal exactly where all their parts are.
+pub fn equal_chains_have_equal_parts()
+    ensures { (a b : ChainParts) → IsTrue (⟦<Chain as PartialEq>⟧.eq a b) ↔ (a ≡ b) }
+{}
+
+/// Equal chains hash alike: they feed a hasher the same bytes.
+pub fn equal_chains_hash_alike()
+    ensures { (a b : ChainParts) → IsTrue (⟦<Chain as PartialEq>⟧.eq a b)
+        → ⟦<Chain as Hash>⟧.hash_input a ≡ ⟦<Chain as Hash>⟧.hash_input b }
+{}

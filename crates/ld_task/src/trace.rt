@@ -1,0 +1,59 @@
+//! Well-formed traces.
+
+ghost use Rattle.std.specs.Prelude.{◌≡◌, ◌≤◌, ◌↔◌, IsTrue, length, slice_get};
+ghost use Rattle.ld_trace.specs.Events.{KeysBelow};
+ghost use Rattle.ld_task.specs.WellFormed.{IsWellFormed};
+
+use ld_trace::{Event, RawTrace};
+use std::marker::Model;
+
+/// One task's events in order, each allowed after those before it; at most 1,000,000 of them.
+#[derive(Drop, Debug)]
+pub struct Trace {
+    events: RawTrace,
+}
+
+impl Model for Trace {
+    ghost use Rattle.std.specs.Prelude.{List};
+    ghost use Rattle.ld_trace.specs.declared.event.Event.{Event};
+    ghost use Rattle.ld_task.specs.WellFormed.{IsWellFormed};
+
+    ghost Value = { List Event };
+
+    ghost view = { λ t. t.events };
+
+    ghost invariant = { λ t. IsWellFormed t.events };
+}
+
+impl Trace {
+    // The trace of these events.
+    pub(crate) fn of_allowed(events: RawTrace) -> Trace
+        requires { IsWellFormed events }
+        ensures { result ≡ events }
+    {
+        Trace { events }
+    }
+
+    /// How many events there are, at most 1,000,000.
+    pub fn len(&self) -> usize
+        ensures count { result ≡ length self.now }
+        ensures most { result ≤ 1000000 }
+        ensures well_formed { IsWellFormed self.now }
+    {
+        self.events.len()
+    }
+
+    /// The event at this place, counted from 0. None exactly from the length on.
+    pub fn event(&self, i: usize) -> Option<Event>
+        ensures { result ≡ slice_get self.now i }
+    {
+        self.events.event(i)
+    }
+
+    /// Whether every key of the events is below `n`.
+    pub fn keys_below(&self, n: u16) -> bool
+        ensures { IsTrue result ↔ KeysBelow n self.now }
+    {
+        self.events.keys_below(n)
+    }
+}
