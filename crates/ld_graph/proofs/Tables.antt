@@ -1,0 +1,110 @@
+-- What a dependency does to the tables.
+use Rattle.std.proofs.Common.{◌≡◌, ◌≢◌, ℕ, ◌+◌, ◌<◌, ◌≤◌, ◌⊎◌, ◌↔◌, ◌||◌, ◌&&◌, List, [], ◌∷◌, length, get_or, replicate, refl, ap, sym, ◌∙◌, subst, inl, inr, arith, Bool, true, false}
+use Rattle.std.proofs.lemmas.Bool.{cases_eq, cases_lt, cases_Bool, or_cases, or_left, or_right, and_parts, and_from}
+use Rattle.std.proofs.lemmas.List.{get_or_past, get_or-replicate, length-replicate}
+use Rattle.ld_graph.specs.Arrows.{Arrow}
+use Rattle.ld_graph.specs.Bits.{has_bit}
+use Rattle.ld_graph.specs.Places.{place, LeavesFrom}
+use Rattle.ld_graph.specs.Tables.{reaches, Comes, IsSource, IsTarget, TakesArrow, AreTables}
+use Rattle.ld_graph.proofs.BitLemmas.{has_bit-zeros, zeros_at}
+use Rattle.ld_graph.proofs.Joining.{eight_zeros}
+
+-- ---- a table of zeros
+pub reaches-zeros : (table : List (List ℕ)) (n : ℕ) → table ≡ replicate n eight_zeros → (p q : ℕ) → reaches table p q ≡ false
+reaches-zeros table n zeros p q =
+    ap (λ t. reaches t p q) zeros ∙
+    elim (cases_lt p n) [
+      inl l ↦ ap (λ row. has_bit row q) (get_or-replicate n p eight_zeros [] l) ∙ has_bit-zeros eight_zeros q (zeros_at 8)
+    | inr l ↦ ap (λ row. has_bit row q) (get_or_past (replicate n eight_zeros) p [] (omega (arith, length-replicate n eight_zeros))) ∙ has_bit-zeros [] q (λ i. refl)
+    ]
+
+pub AreTables-zeros : (ahead behind : List (List ℕ)) → ahead ≡ replicate 512 eight_zeros → behind ≡ replicate 512 eight_zeros → AreTables ahead behind
+AreTables-zeros ahead behind a b = record {
+  ahead_rows = ap length a ∙ length-replicate 512 eight_zeros;
+  behind_rows = ap length b ∙ length-replicate 512 eight_zeros;
+  turned = λ p q. reaches-zeros behind 512 b q p ∙ sym (reaches-zeros ahead 512 a p q)
+}
+
+-- ---- the sources of an arrow that begins with E, from its two places
+module _ (table : List (List ℕ)) (at : ℕ) (row with : List ℕ)
+    (of : (p : ℕ) → has_bit row p ≡ reaches table p at)
+    (set : has_bit with at ≡ true)
+    (others : (k : ℕ) → k ≢ at → has_bit with k ≡ has_bit row k) where
+
+  pub Comes-inserted : (p : ℕ) → (has_bit with p ≡ true) ↔ Comes table p at
+  Comes-inserted p =
+      ( (λ h. elim (cases_eq p at) [
+          inl e ↦ inl e
+        | inr ne ↦ inr (sym (of p) ∙ sym (others p ne) ∙ h)
+        ])
+      , (λ h. elim h [
+          inl e ↦ ap (has_bit with) e ∙ set
+        | inr r ↦ elim (cases_eq p at) [
+            inl e ↦ ap (has_bit with) e ∙ set
+          | inr ne ↦ others p ne ∙ of p ∙ r
+          ]
+        ]) )
+
+pub IsSource-both : (table : List (List ℕ)) (key n r : ℕ) (row_n with_n row_r joined with_r : List ℕ) → n ≡ place key false → r ≡ place key true →
+    ((p : ℕ) → has_bit row_n p ≡ reaches table p n) → has_bit with_n n ≡ true → ((k : ℕ) → k ≢ n → has_bit with_n k ≡ has_bit row_n k) →
+    ((p : ℕ) → has_bit row_r p ≡ reaches table p r) → ((k : ℕ) → has_bit joined k ≡ (has_bit with_n k || has_bit row_r k)) →
+    has_bit with_r r ≡ true → ((k : ℕ) → k ≢ r → has_bit with_r k ≡ has_bit joined k) →
+    (p : ℕ) → (has_bit with_r p ≡ true) ↔ IsSource table key false p
+IsSource-both table key n r row_n with_n row_r joined with_r en er of_n set_n others_n of_r unites set_r others_r p =
+    ( (λ h. elim (cases_eq p r) [
+        inl e ↦ (place key true, inr (refl, refl), inl (e ∙ er))
+      | inr ne ↦ elim (or_cases (has_bit with_n p) (has_bit row_r p) (sym (unites p) ∙ sym (others_r p ne) ∙ h)) [
+          inl a ↦ (place key false, inl refl, subst (Comes table p) en ((Comes-inserted table n row_n with_n of_n set_n others_n p).0 a))
+        | inr b ↦ (place key true, inr (refl, refl), subst (Comes table p) er (inr (sym (of_r p) ∙ b)))
+        ]
+      ])
+    , (λ (l, leaves, comes). elim leaves [
+        inl e ↦ elim (cases_eq p r) [
+            inl s ↦ ap (has_bit with_r) s ∙ set_r
+          | inr ne ↦ others_r p ne ∙ unites p ∙ or_left (has_bit with_n p) (has_bit row_r p)
+              ((Comes-inserted table n row_n with_n of_n set_n others_n p).1 (subst (Comes table p) (e ∙ sym en) comes))
+          ]
+      | inr (e, s) ↦ elim (cases_eq p r) [
+            inl s ↦ ap (has_bit with_r) s ∙ set_r
+          | inr ne ↦ elim (subst (Comes table p) (e ∙ sym er) comes) [
+              inl same ↦ absurd (ne same)
+            | inr b ↦ others_r p ne ∙ unites p ∙ or_right (has_bit with_n p) (has_bit row_r p) (of_r p ∙ b)
+            ]
+          ]
+      ]) )
+
+-- ---- a dependency is added
+module _ (ahead behind ahead' behind' : List (List ℕ)) (d : Arrow) (sources targets : List ℕ)
+    (were : AreTables ahead behind)
+    (are_sources : (p : ℕ) → (has_bit sources p ≡ true) ↔ IsSource ahead d.start d.first_is_s p)
+    (are_targets : (q : ℕ) → (has_bit targets q ≡ true) ↔ IsTarget ahead d.end d.second_is_r q)
+    (joined : (p q : ℕ) → reaches ahead' p q ≡ (reaches ahead p q || (has_bit sources p && has_bit targets q))) where
+
+  pub TakesArrow-joined : TakesArrow ahead ahead' d
+  TakesArrow-joined = record {
+    reached = λ p q.
+      ( (λ h. elim (or_cases (reaches ahead p q) (has_bit sources p && has_bit targets q) (sym (joined p q) ∙ h)) [
+          inl o ↦ inl o
+        | inr b ↦ (let both = and_parts (has_bit sources p) (has_bit targets q) b in inr ((are_sources p).0 both.0, (are_targets q).0 both.1))
+        ])
+      , (λ h. joined p q ∙ elim h [
+          inl o ↦ or_left (reaches ahead p q) (has_bit sources p && has_bit targets q) o
+        | inr b ↦ or_right (reaches ahead p q) (has_bit sources p && has_bit targets q) (and_from (has_bit sources p) (has_bit targets q) ((are_sources p).1 b.0) ((are_targets q).1 b.1))
+        ]) )
+  }
+
+  and_turned : (a b : Bool) → (a && b) ≡ (b && a)
+  and_turned true true = refl
+  and_turned true false = refl
+  and_turned false true = refl
+  and_turned false false = refl
+
+  pub AreTables-joined : length ahead' ≡ length ahead → length behind' ≡ length behind →
+      ((q p : ℕ) → reaches behind' q p ≡ (reaches behind q p || (has_bit targets q && has_bit sources p))) → AreTables ahead' behind'
+  AreTables-joined la lb joined_behind = record {
+    ahead_rows = la ∙ were.ahead_rows;
+    behind_rows = lb ∙ were.behind_rows;
+    turned = λ p q.
+      joined_behind q p ∙ ap (λ b. b || (has_bit targets q && has_bit sources p)) (were.turned p q) ∙
+      ap (λ b. reaches ahead p q || b) (and_turned (has_bit targets q) (has_bit sources p)) ∙ sym (joined p q)
+  }

@@ -1,0 +1,43 @@
+use Rattle.std.proofs.Common.{◌≡◌, ℕ, ◌+◌, ◌*◌, ◌/◌, ◌≤◌, ◌<◌, ◌∙◌, sym, ap, subst, refl, arith, get_or, length, eqb, eqb-true}
+use Rattle.std.specs.Int.{bit_at}
+use Rattle.std.proofs.lemmas.List.{get_or_default}
+use Rattle.ld_graph.specs.Numbers.{bit_total}
+use Rattle.ld_graph.specs.Facts.{UnitesWord}
+use Rattle.ld_graph.proofs.Uniting.{UnitesWord-known, UnitesBits-start, UnitesBits-on, UnitesBits-off, UnitesWord-bits}
+use Rattle.ld_graph.proofs.facts.Facts.unite_word.Goals as goal
+use Rattle.ld_graph.proofs.facts.Facts.unite_word.Goals.{After-index, then-is_set, else-is_set}
+
+within : (c : After-index) → c.args.i < length c.self.inside.bits.items
+within c = let l = subst (λ v. c.args.i < (bit_total v.keys + 63) / 64) (sym c.self.view_is) c.requires.below in let w = c.self.invariant.are.words in omega arith
+
+word_is : (c : After-index) → c.index.result.now ≡ get_or c.args.self.now.words c.args.i 0
+word_is c =
+    c.index.ensures ∙ get_or_default c.self.inside.bits.items c.args.i c.index.result.now 0 (within c) ∙ ap (λ v. get_or v.words c.args.i 0) c.self.view_is
+
+pub returns-then-is_within : goal.returns-then-is_within
+returns-then-is_within c =
+    UnitesWord-known c.args.self.now c.args.i c.args.word
+    (λ k l h. subst (λ x. bit_at x k ≡ 1) (word_is (goal.at.returns-then-is_within c).After-index) (c.is_within.ensures c.if-is_within.true k l h))
+
+pub loop-k-init : goal.loop-k-init
+loop-k-init c = UnitesBits-start c.args.self.now c.args.i c.args.word
+
+pub add_bit-requires : goal.add_bit-requires
+add_bit-requires c =
+    subst (λ keys. c.args.i * 64 + c.loop-k.k < bit_total keys) (sym c.loop-k.invariant.keys)
+    (c.requires.within c.loop-k.k c.loop-k-test.true (eqb-true (bit_at c.args.word c.loop-k.k) 1 (sym c.is_set.ensures ∙ c.if-is_set.true)))
+
+pub loop-k-preserved : goal.loop-k-preserved
+loop-k-preserved c = elim c.if-is_set.branch [
+      then-is_set w ↦
+        rw w.self-is
+        (UnitesBits-on c.args.self.now c.loop-k.self c.args.i c.args.word c.loop-k.k c.loop-k-test.true c.loop-k.invariant w.add_bit.new.self
+          (sym c.is_set.ensures ∙ w.if-is_set.true) w.add_bit.ensures.sets)
+    | else-is_set w ↦
+        rw w.self-is
+        (UnitesBits-off c.args.self.now c.loop-k.self c.args.i c.args.word c.loop-k.k c.loop-k-test.true c.loop-k.invariant
+          (sym c.is_set.ensures ∙ w.if-is_set.false))
+    ]
+
+pub returns : goal.returns
+returns c = UnitesWord-bits c.args.self.now c.loop-k.self c.args.i c.args.word c.loop-k.k c.loop-k-test.false c.loop-k.invariant

@@ -1,0 +1,104 @@
+//! The facts of a chain, one after the other.
+
+ghost use Rattle.std.specs.Prelude.{◌≡◌, ◌+◌, ◌-◌, ◌*◌, ◌/◌, ◌%◌, ◌<◌, ◌≤◌, slice_get, if◌then◌else◌, length};
+ghost use Rattle.ld_task.specs.Dependencies.{kind_between};
+ghost use Rattle.ld_task.specs.Marks.{is_read, marks_taken, marks_opened};
+ghost use Rattle.ld_graph.specs.ChainFacts.{chain_fact, dependency_from, fact_places, mark_if, mark_of_held, mark_by_taking, mark_by_opening};
+
+use crate::fact::Fact;
+use ld_task::{Chain, Frame, Kind, Mark};
+use ld_trace::{Irq, KeyId, Mode};
+
+// How many places the chain has for facts, some of them empty.
+pub(crate) fn places(chain: &Chain) -> usize
+    ensures value { result ≡ fact_places chain.now }
+    ensures few { result ≤ 96 }
+{
+    match chain.taken() {
+        Some(_) => chain.held_len() + 5,
+        None => chain.held_len() * 2,
+    }
+}
+
+// The fact at a place, if there is one: of an acquisition the dependencies, oldest first, and then the marks of the new
+// lock; of an opening the marks of the held locks.
+pub(crate) fn fact_at(chain: &Chain, n: usize) -> Option<Fact>
+    ensures { result ≡ chain_fact chain.now n }
+{
+    match chain.taken() {
+        Some((key, mode, frame)) => {
+            let held = chain.held_len();
+            if n < held {
+                dependency_of(chain, n, key, mode)
+            } else {
+                mark_of_new(chain, n - held, key, mode, frame)
+            }
+        }
+        None => mark_of_old(chain, n / 2, n % 2),
+    }
+}
+
+// The dependency from the held lock at place `i`, if there is one, to the new lock.
+fn dependency_of(chain: &Chain, i: usize, key: KeyId, mode: Mode) -> Option<Fact>
+    ensures { result ≡ dependency_from (slice_get chain.now.held_locks i) (record { key = key; mode = mode }) }
+{
+    let (from, old) = chain.held(i)?;
+    Some(Fact::Dependency {
+        from: from.get(),
+        to: key.get(),
+        kind: kind_of(old, mode),
+    })
+}
+
+// The mark of number `n` below 5 on the new lock, if the acquisition gives it.
+fn mark_of_new(chain: &Chain, n: usize, key: KeyId, mode: Mode, frame: Frame) -> Option<Fact>
+    ensures { result ≡ mark_if (marks_taken mode frame chain.now.hard_on chain.now.soft_on) key (mark_by_taking (is_read mode) n) }
+{
+    let read = reads(mode);
+    let (given, mark) = match n {
+        0 => (true, Mark::Used),
+        1 => (frame == Frame::Hardirq, Mark::UsedIn { irq: Irq::Hard, read }),
+        2 => (chain.hard_on(), Mark::Enabled { irq: Irq::Hard, read }),
+        3 => (frame == Frame::Softirq, Mark::UsedIn { irq: Irq::Soft, read }),
+        _ => (chain.hard_on() && chain.soft_on(), Mark::Enabled { irq: Irq::Soft, read }),
+    };
+    mark_where(given, key, mark)
+}
+
+// The mark of number `n` below 2 on the held lock at place `i`, if there is one and the opening gives it.
+fn mark_of_old(chain: &Chain, i: usize, n: usize) -> Option<Fact>
+    ensures { result ≡ mark_of_held (slice_get chain.now.held_locks i) chain.now.hard_on chain.now.soft_on n }
+{
+    let (key, mode) = chain.held(i)?;
+    let read = reads(mode);
+    if n == 0 {
+        mark_where(chain.hard_on(), key, Mark::Enabled { irq: Irq::Hard, read })
+    } else {
+        mark_where(chain.hard_on() && chain.soft_on(), key, Mark::Enabled { irq: Irq::Soft, read })
+    }
+}
+
+fn mark_where(given: bool, key: KeyId, mark: Mark) -> Option<Fact>
+    ensures { result ≡ (if given then Some (Fact.Marked key mark) else None) }
+{
+    if given { Some(Fact::Marked { key: key.get(), mark }) } else { None }
+}
+
+// The kind of a dependency from a lock held in the one mode to one taken in the other.
+fn kind_of(held: Mode, taken: Mode) -> Kind
+    ensures { result ≡ kind_between held taken }
+{
+    match (held, taken) {
+        (Mode::Write, Mode::RecRead) => Kind::Er,
+        (Mode::Write, _) => Kind::En,
+        (_, Mode::RecRead) => Kind::Sr,
+        _ => Kind::Sn,
+    }
+}
+
+// Whether a lock taken in the mode is taken by a reader of either kind.
+fn reads(mode: Mode) -> bool
+    ensures { result ≡ is_read mode }
+{
+    matches!(mode, Mode::Read | Mode::RecRead)
+}
