@@ -1,0 +1,4 @@
+pub mod Events
+pub mod KeyFaults
+pub mod Names
+pub mod Stored

@@ -1,0 +1,63 @@
+//! Traces as they were read.
+
+ghost use Rattle.std.specs.Prelude.{◌≡◌, ◌≤◌, ◌↔◌, IsTrue, IsSome, IfSome, length, slice_get};
+ghost use Rattle.ld_trace.specs.Events.{KeysBelow};
+
+use crate::Event;
+use std::marker::Model;
+
+/// The most events that a trace may have.
+pub(crate) const MAX_EVENTS: usize = 1_000_000;
+
+/// One task's events in order, at most 1,000,000 of them, not yet checked against each other.
+#[derive(Drop, Debug)]
+pub struct RawTrace {
+    events: Vec<Event>,
+}
+
+impl Model for RawTrace {
+    ghost use Rattle.std.specs.Prelude.{List, ◌≤◌, length};
+    ghost use Rattle.ld_trace.specs.declared.event.Event.{Event};
+
+    ghost Value = { List Event };
+
+    ghost view = { λ t. t.events.items };
+
+    ghost invariant = { λ t. length t.events.items ≤ 1000000 };
+}
+
+impl RawTrace {
+    /// The trace of these events. None exactly where there are more than 1,000,000, and then they are given up.
+    pub fn from_events(events: Vec<Event>) -> Option<RawTrace>
+        ensures exact { IsSome result ↔ (length events.items ≤ 1000000) }
+        ensures events { IfSome result (λ trace. trace ≡ events.items) }
+    {
+        if events.len() <= MAX_EVENTS {
+            Some(RawTrace { events })
+        } else {
+            None
+        }
+    }
+
+    /// How many events there are, at most 1,000,000.
+    pub fn len(&self) -> usize
+        ensures count { result ≡ length self.now }
+        ensures most { result ≤ 1000000 }
+    {
+        self.events.len()
+    }
+
+    /// The event at this place, counted from 0. None exactly from the length on.
+    pub fn event(&self, i: usize) -> Option<Event>
+        ensures { result ≡ slice_get self.now i }
+    {
+        self.events.get(i).copied()
+    }
+
+    /// Whether every key of the events is below `n`.
+    pub fn keys_below(&self, n: u16) -> bool
+        ensures { IsTrue result ↔ KeysBelow n self.now }
+    {
+        self.events.iter().all(|event| event.key_is_below(n))
+    }
+}
