@@ -1,5 +1,5 @@
 -- What one record of a trace says (the text format is this project's own).
-use Rattle.std.specs.Prelude.{◌≡◌, ℕ, ◌-◌, ◌&&◌, Bool, true, false, List, [], ◌∷◌, Option, Some, None, Result, Ok, Err, codes, nat_le, if◌then◌else◌}
+use Rattle.std.specs.Prelude.{ℕ, ◌-◌, ◌&&◌, Bool, false, List, [], ◌∷◌, Option, Some, None, Result, Ok, Err, codes, nat_le, if◌then◌else◌}
 use Rattle.std.specs.Str.{bytes_eq}
 use Rattle.ld_trace.specs.declared.event.Event.{Event}
 use Rattle.ld_trace.specs.declared.event.Event.TheVariants.{Acquire, Release, Enter, Leave, TurnOn, TurnOff}
@@ -8,18 +8,21 @@ use Rattle.ld_trace.specs.declared.event.Irq.TheVariants.{Hard, Soft}
 use Rattle.ld_trace.specs.declared.event.Mode.{Mode}
 use Rattle.ld_trace.specs.declared.event.Mode.TheVariants.{Write, Read, RecRead}
 use Rattle.ld_trace.specs.declared.trace_fault.TraceFaultKind.{TraceFaultKind}
-use Rattle.ld_trace.specs.declared.trace_fault.TraceFaultKind.TheVariants.{BadRecord, BadName, BadSub, BadMode, TooManyKeys}
+use Rattle.ld_trace.specs.declared.trace_fault.TraceFaultKind.TheVariants.{BadRecord, BadName, BadSub, BadMode}
 use Rattle.ld_trace.specs.Names.{Name, is_class_name, is_one_too_many, place_of, with_name}
 
 -- a record: the bytes of each of its fields
 abbrev pub Record : Type 0
 Record = List (List ℕ)
 
--- what a record says: a lock of this name is taken or given back, or something happens that names no lock
+-- what a record says
 pub data Line : Type 0 where
   takes : Name → Mode → Line
   gives_back : Name → Line
-  happens : Event → Line
+  enters : Irq → Line
+  leaves : Line
+  turns_on : Irq → Line
+  turns_off : Irq → Line
 
 -- the mode of these words: `w`, `r` or `rr`
 abbrev pub mode_of : List ℕ → Option Mode
@@ -47,14 +50,14 @@ named class (Some sub) = if is_class_name class then Ok (class, sub) else Err Ba
 
 -- what `leave` says
 abbrev pub leave_said : List ℕ → Result Line TraceFaultKind
-leave_said verb = if bytes_eq verb (codes "leave") then Ok (happens Leave) else Err BadRecord
+leave_said verb = if bytes_eq verb (codes "leave") then Ok leaves else Err BadRecord
 
 -- what a verb and a state say
 abbrev pub state_said : List ℕ → Option Irq → Result Line TraceFaultKind
 state_said verb None = Err BadRecord
-state_said verb (Some irq) = if bytes_eq verb (codes "enter") then Ok (happens (Enter irq))
-    else if bytes_eq verb (codes "on") then Ok (happens (TurnOn irq))
-    else if bytes_eq verb (codes "off") then Ok (happens (TurnOff irq))
+state_said verb (Some irq) = if bytes_eq verb (codes "enter") then Ok (enters irq)
+    else if bytes_eq verb (codes "on") then Ok (turns_on irq)
+    else if bytes_eq verb (codes "off") then Ok (turns_off irq)
     else Err BadRecord
 
 -- what `rel` and a name say
@@ -94,16 +97,25 @@ is_header (word ∷ version ∷ more ∷ rest) = false
 abbrev pub with_line : List Name → Line → List Name
 with_line names (takes name mode) = with_name names name
 with_line names (gives_back name) = with_name names name
-with_line names (happens event) = names
+with_line names (enters irq) = names
+with_line names leaves = names
+with_line names (turns_on irq) = names
+with_line names (turns_off irq) = names
 
 -- whether the line's name would be the 257th
 abbrev pub is_over : List Name → Line → Bool
 is_over names (takes name mode) = is_one_too_many names name
 is_over names (gives_back name) = is_one_too_many names name
-is_over names (happens event) = false
+is_over names (enters irq) = false
+is_over names leaves = false
+is_over names (turns_on irq) = false
+is_over names (turns_off irq) = false
 
 -- the event that a line stands for: a key's number is the place of its name
 abbrev pub event_of : List Name → Line → Event
 event_of names (takes name mode) = Acquire (place_of names name) mode
 event_of names (gives_back name) = Release (place_of names name)
-event_of names (happens event) = event
+event_of names (enters irq) = Enter irq
+event_of names leaves = Leave
+event_of names (turns_on irq) = TurnOn irq
+event_of names (turns_off irq) = TurnOff irq

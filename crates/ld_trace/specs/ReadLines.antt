@@ -1,10 +1,10 @@
 -- The lines that the reader hands on, whose names lie in the record's own bytes.
 use Rattle.std.specs.Prelude.{◌≡◌, Result, Ok, Err}
 use Rattle.ld_trace.specs.declared.line.Line.{Line as ReadLine}
-use Rattle.ld_trace.specs.declared.line.Line.TheVariants.{Takes, GivesBack, Happens}
+use Rattle.ld_trace.specs.declared.line.Line.TheVariants.{Takes, GivesBack, Enters, Leaves, TurnsOn, TurnsOff}
 use Rattle.ld_trace.specs.declared.line.LineName.{LineName}
 use Rattle.ld_trace.specs.declared.trace_fault.TraceFaultKind.{TraceFaultKind}
-use Rattle.ld_trace.specs.Lines.{Line, takes, gives_back, happens}
+use Rattle.ld_trace.specs.Lines.{Line, takes, gives_back, enters, leaves, turns_on, turns_off}
 use Rattle.ld_trace.specs.Names.{Name}
 
 -- the name that it is
@@ -15,7 +15,10 @@ name_read name = (name.class.now, name.sub)
 abbrev pub line_read : ReadLine → Line
 line_read (Takes name mode) = takes (name_read name) mode
 line_read (GivesBack name) = gives_back (name_read name)
-line_read (Happens event) = happens event
+line_read (Enters irq) = enters irq
+line_read Leaves = leaves
+line_read (TurnsOn irq) = turns_on irq
+line_read (TurnsOff irq) = turns_off irq
 
 -- an answer says this
 abbrev pub Says : Result Line TraceFaultKind → Result ReadLine TraceFaultKind → Type 0

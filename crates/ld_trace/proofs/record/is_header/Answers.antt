@@ -1,7 +1,7 @@
 use Rattle.std.proofs.Common.{◌∙◌, sym}
 use Rattle.csv.specs.Records.{fields_of}
 use Rattle.ld_trace.proofs.FieldLemmas.{header-two, header-others}
-use Rattle.ld_trace.proofs.line.is_header.Goals as goal
+use Rattle.ld_trace.proofs.record.is_header.Goals as goal
 
 pub returns-then-len-ne2 : goal.returns-then-len-ne2
 returns-then-len-ne2 c = sym (header-others (fields_of c.args.row.now) (rw c.len.ensures at c.if-len-ne2.true))

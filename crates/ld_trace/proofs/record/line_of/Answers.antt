@@ -1,7 +1,7 @@
 use Rattle.std.proofs.Common.{◌∙◌, sym, arith}
 use Rattle.csv.specs.Records.{fields_of}
 use Rattle.ld_trace.proofs.FieldLemmas.{said-one, said-two, said-three, said-four, said-others}
-use Rattle.ld_trace.proofs.line.line_of.Goals as goal
+use Rattle.ld_trace.proofs.record.line_of.Goals as goal
 
 pub returns-in-1 : goal.returns-in-1
 returns-in-1 c = rw (said-one (fields_of c.args.row.now) c.field.result.now (sym c.len.ensures ∙ c.in-1.is) c.field.ensures) c.leave_line.ensures
