@@ -1,1 +1,9 @@
 pub mod Events
+pub mod KeyFaults
+pub mod Lines
+pub mod Names
+pub mod Progress
+pub mod ReadLines
+pub mod Reading
+pub mod Stored
+pub mod TraceFaults

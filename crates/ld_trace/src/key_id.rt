@@ -5,7 +5,7 @@ ghost use Rattle.std.specs.Prelude.{◌≡◌, ◌<◌, ◌↔◌, IsSome, IfSom
 use std::marker::Model;
 
 /// The number of a lock key, 0 to 255.
-#[derive(Clone, Copy, PartialEq, Eq, Debug, Hash)]
+#[derive(Clone, Copy, PartialEq, Eq, Debug)]
 pub struct KeyId {
     number: u16,
 }
@@ -47,5 +47,15 @@ impl KeyId {
         ensures below { result < 256 }
     {
         self.number
+    }
+
+    /// The key of the name at this place of a table.
+    pub(crate) fn from_place(place: usize) -> KeyId
+        requires { place < 256 }
+        ensures { result ≡ place }
+    {
+        KeyId {
+            number: place as u16,
+        }
     }
 }

@@ -33,10 +33,18 @@ impl RawTrace {
         ensures events { IfSome result (λ trace. trace ≡ events.items) }
     {
         if events.len() <= MAX_EVENTS {
-            Some(RawTrace { events })
+            Some(RawTrace::of_few(events))
         } else {
             None
         }
+    }
+
+    /// The trace of these events, of which there are few enough.
+    pub(crate) fn of_few(events: Vec<Event>) -> RawTrace
+        requires { length events.items ≤ 1000000 }
+        ensures { result ≡ events.items }
+    {
+        RawTrace { events }
     }
 
     /// How many events there are, at most 1,000,000.

@@ -1,0 +1,92 @@
+-- The fields of a record by their places, and what the record then says.
+use Rattle.std.proofs.Common.{◌≡◌, ◌≢◌, ℕ, zero, suc, ◌<◌, ◌&&◌, Bool, true, false, List, [], ◌∷◌, length, Some, None, Err, refl, arith, codes, nat_le, All, get_or}
+use Rattle.std.specs.Str.{IsUtf8, bytes_eq}
+use Rattle.std.proofs.lemmas.Str.{IsUtf8-from_ascii}
+use Rattle.std.proofs.lemmas.Str.Ascii.{IsAscii-from_all}
+use Rattle.std.proofs.lemmas.List.Sums.{AllPass-from_list_all}
+use Rattle.std.proofs.lemmas.Bool.Decides.{nat_tests}
+use Rattle.csv.specs.Records.{field_at}
+use Rattle.ld_trace.specs.declared.trace_fault.TraceFaultKind.TheVariants.{BadRecord}
+use Rattle.ld_trace.specs.Lines.{Record, acquire_said, irq_of, is_header, leave_said, mode_of, named, release_said, said, state_said, sub_of}
+use Rattle.ld_trace.specs.Names.{are_visible, is_class_name}
+
+-- a field within the record is there
+pub field-there : (fs : Record) (i : ℕ) → i < length fs → field_at fs i ≢ None
+unfolding field_at
+field-there [] i h e = omega arith
+field-there (f ∷ fs) zero h e = cc
+field-there (f ∷ fs) (suc i) h e = field-there fs i (omega arith) e
+
+pub one-field : (fs : Record) (a : List ℕ) → length fs ≡ 1 → field_at fs 0 ≡ Some a → fs ≡ a ∷ []
+unfolding field_at
+one-field [] a n h = absurd (omega arith)
+one-field (x ∷ []) a n h = cc
+one-field (x ∷ y ∷ r) a n h = absurd (omega arith)
+
+pub two-fields : (fs : Record) (a b : List ℕ) → length fs ≡ 2 → field_at fs 0 ≡ Some a → field_at fs 1 ≡ Some b → fs ≡ a ∷ b ∷ []
+unfolding field_at
+two-fields [] a b n h i = absurd (omega arith)
+two-fields (x ∷ r) a b n h i = let e : r ≡ b ∷ [] = one-field r b (omega arith) i in cc
+
+pub three-fields : (fs : Record) (a b d : List ℕ) → length fs ≡ 3 → field_at fs 0 ≡ Some a → field_at fs 1 ≡ Some b → field_at fs 2 ≡ Some d → fs ≡ a ∷ b ∷ d ∷ []
+unfolding field_at
+three-fields [] a b d n h i j = absurd (omega arith)
+three-fields (x ∷ r) a b d n h i j = let e : r ≡ b ∷ d ∷ [] = two-fields r b d (omega arith) i j in cc
+
+pub four-fields : (fs : Record) (a b d f : List ℕ) → length fs ≡ 4 → field_at fs 0 ≡ Some a → field_at fs 1 ≡ Some b → field_at fs 2 ≡ Some d → field_at fs 3 ≡ Some f → fs ≡ a ∷ b ∷ d ∷ f ∷ []
+unfolding field_at
+four-fields [] a b d f n h i j k = absurd (omega arith)
+four-fields (x ∷ r) a b d f n h i j k = let e : r ≡ b ∷ d ∷ f ∷ [] = three-fields r b d f (omega arith) i j k in cc
+
+-- what a record of so many fields says
+pub said-one : (fs : Record) (a : List ℕ) → length fs ≡ 1 → field_at fs 0 ≡ Some a → said fs ≡ leave_said a
+unfolding said
+said-one fs a n h = rw (one-field fs a n h)
+
+pub said-two : (fs : Record) (a b : List ℕ) → length fs ≡ 2 → field_at fs 0 ≡ Some a → field_at fs 1 ≡ Some b → said fs ≡ state_said a (irq_of b)
+unfolding said
+said-two fs a b n h i = rw (two-fields fs a b n h i)
+
+pub said-three : (fs : Record) (a b d : List ℕ) → length fs ≡ 3 → field_at fs 0 ≡ Some a → field_at fs 1 ≡ Some b → field_at fs 2 ≡ Some d → said fs ≡ release_said a (named b (sub_of d))
+unfolding said
+said-three fs a b d n h i j = rw (three-fields fs a b d n h i j)
+
+pub said-four : (fs : Record) (a b d f : List ℕ) → length fs ≡ 4 → field_at fs 0 ≡ Some a → field_at fs 1 ≡ Some b → field_at fs 2 ≡ Some d → field_at fs 3 ≡ Some f
+    → said fs ≡ acquire_said a (named b (sub_of d)) (mode_of f)
+unfolding said
+said-four fs a b d f n h i j k = rw (four-fields fs a b d f n h i j k)
+
+pub said-others : (fs : Record) → length fs ≢ 1 → length fs ≢ 2 → length fs ≢ 3 → length fs ≢ 4 → said fs ≡ Err BadRecord
+unfolding said
+said-others [] n1 n2 n3 n4 = refl
+said-others (a ∷ []) n1 n2 n3 n4 = absurd (n1 refl)
+said-others (a ∷ b ∷ []) n1 n2 n3 n4 = absurd (n2 refl)
+said-others (a ∷ b ∷ d ∷ []) n1 n2 n3 n4 = absurd (n3 refl)
+said-others (a ∷ b ∷ d ∷ f ∷ []) n1 n2 n3 n4 = absurd (n4 refl)
+said-others (a ∷ b ∷ d ∷ f ∷ g ∷ rest) n1 n2 n3 n4 = refl
+
+-- whether a record is the header
+pub header-two : (fs : Record) (a b : List ℕ) → length fs ≡ 2 → field_at fs 0 ≡ Some a → field_at fs 1 ≡ Some b
+    → is_header fs ≡ (bytes_eq a (codes "lockdep") && bytes_eq b (codes "1"))
+unfolding is_header
+header-two fs a b n h i = rw (two-fields fs a b n h i)
+
+pub header-others : (fs : Record) → length fs ≢ 2 → is_header fs ≡ false
+unfolding is_header
+header-others [] n = refl
+header-others (a ∷ []) n = refl
+header-others (a ∷ b ∷ []) n = absurd (n refl)
+header-others (a ∷ b ∷ d ∷ rest) n = refl
+
+-- visible bytes are text
+visible-below : (b : ℕ) → (nat_le 0x21 b && nat_le b 0x7E) ≡ true → b < 128
+visible-below b h = grind (arith, nat_tests)
+
+each-ascii : (bytes : List ℕ) → are_visible bytes ≡ true → All (λ b. b < 128) bytes
+each-ascii bytes h = λ k d lt. visible-below (get_or bytes k d) (AllPass-from_list_all _ bytes h k d lt)
+
+class-visible : (a b v : Bool) → (a && b && v) ≡ true → v ≡ true
+class-visible a b v h = grind arith
+
+pub utf8-class_name : (bytes : List ℕ) → is_class_name bytes ≡ true → IsUtf8 bytes
+utf8-class_name bytes h = IsUtf8-from_ascii bytes (IsAscii-from_all bytes (each-ascii bytes (class-visible (nat_le 1 (length bytes)) (nat_le (length bytes) 64) (are_visible bytes) h)))

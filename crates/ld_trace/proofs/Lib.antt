@@ -1,0 +1,6 @@
+pub mod CsvLemmas
+pub mod FieldLemmas
+pub mod NameLemmas
+pub mod ReadLemmas
+pub mod StoredLemmas
+pub mod TakenLemmas

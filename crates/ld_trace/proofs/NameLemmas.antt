@@ -1,0 +1,81 @@
+-- The names of a table, and a set of values that stand for them.
+use Rattle.std.proofs.Common.{◌≡◌, ℕ, ◌<◌, ◌≤◌, ◌++◌, ◌∷◌, ◌&&◌, not, Bool, true, false, cond, List, [], map, length, length-append, refl, sym, ◌∙◌, arith, nat_le, nat_lt, Some, None, position, if◌then◌else◌}
+use Rattle.std.specs.List.{AllByRecursion, IsDistinct, list_all, list_any, position_or_len}
+use Rattle.std.proofs.lemmas.Bool.Decides.{nat_tests}
+use Rattle.std.proofs.lemmas.List.{map-append}
+use Rattle.std.proofs.lemmas.List.Folds.{list_all-append}
+use Rattle.indexmap.specs.IndexSet.{insert_key}
+use Rattle.ld_trace.specs.Names.{AreNumbered, Name, is_known, is_name, is_one_too_many, is_same, place_of, with_name}
+
+module _ {X : Type 0} (f : X → Name) (eq : X → X → Bool) (says : (a b : X) → eq a b ≡ is_same (f a) (f b)) where
+  -- a value is in the set where its name is known
+  pub known-map : (ks : List X) (v : X) → list_any (eq v) ks ≡ is_known (map f ks) (f v)
+  known-map [] v = refl
+  known-map (k ∷ ks) v = rw (says v k, known-map ks v)
+
+  -- its place in the set is that of its name
+  pub place-map : (ks : List X) (v : X) → position_or_len (eq v) ks ≡ place_of (map f ks) (f v)
+  place-map [] v = refl
+  place-map (k ∷ ks) v = rw (says v k, place-map ks v)
+
+  -- the names after an insertion
+  pub with_name-map : (ks : List X) (v : X) → map f (insert_key eq ks v) ≡ with_name (map f ks) (f v)
+  with_name-map ks v = by (list_any (eq v) ks) refl
+    where
+      by : (b : Bool) → list_any (eq v) ks ≡ b → map f (insert_key eq ks v) ≡ with_name (map f ks) (f v)
+      by true e = rw (← known-map ks v, e)
+      by false e = rw (← known-map ks v, e, map-append f ks (v ∷ []))
+
+  -- values that differ have names that differ
+  all-differ : (v : X) (ks : List X) → AllByRecursion (λ k. eq v k ≡ false) ks → AllByRecursion (λ n. is_same (f v) n ≡ false) (map f ks)
+  all-differ v [] h = tt
+  all-differ v (k ∷ ks) h = (sym (says v k) ∙ h.0, all-differ v ks h.1)
+
+  pub distinct-map : (ks : List X) → IsDistinct eq ks → IsDistinct is_same (map f ks)
+  unfolding IsDistinct
+  distinct-map [] h = tt
+  distinct-map (k ∷ ks) h = (all-differ k ks h.0, distinct-map ks h.1)
+
+-- one more name, where there was room for it
+pub length-with_name : (names : List Name) (name : Name) → length names < 256 → length (with_name names name) ≤ 256
+length-with_name names name room = by (is_known names name)
+  where
+    by : (b : Bool) → length (if b then names else names ++ name ∷ []) ≤ 256
+    by true = omega arith
+    by false = omega (arith, length-append names (name ∷ []))
+
+pub named-with_name : (names : List Name) (name : Name) → list_all is_name names ≡ true → is_name name ≡ true → list_all is_name (with_name names name) ≡ true
+named-with_name names name all one = by (is_known names name)
+  where
+    by : (b : Bool) → list_all is_name (if b then names else names ++ name ∷ []) ≡ true
+    by true = all
+    by false = rw (list_all-append is_name names (name ∷ []), all, one)
+
+-- the empty table
+pub AreNumbered-none : AreNumbered []
+unfolding IsDistinct
+AreNumbered-none = record { few = omega arith; named = refl; once = tt }
+
+-- a known name is not one too many
+pub fits-known : (names : List Name) (name : Name) → is_known names name ≡ true → is_one_too_many names name ≡ false
+fits-known names name known = rw known refl
+
+-- nor is any where there is room
+pub fits-room : (names : List Name) (name : Name) → length names < 256 → is_one_too_many names name ≡ false
+fits-room names name room = by (not (is_known names name))
+  where
+    by : (b : Bool) → (b && nat_le 256 (length names)) ≡ false
+    by true = grind (arith, nat_tests)
+    by false = refl
+
+-- a new one is, where there is no room
+pub too-many-new : (names : List Name) (name : Name) → is_known names name ≡ false → 256 ≤ length names → is_one_too_many names name ≡ true
+too-many-new names name new full = rw new (grind (arith, nat_tests))
+
+-- the place that a search found
+pub position-found : {X : Type 0} (p : X → Bool) (xs : List X) (i : ℕ) → Some i ≡ position p xs → i ≡ position_or_len p xs
+position-found p xs i e = by (nat_lt (position_or_len p xs) (length xs)) e
+  where
+    by : (b : Bool) → Some i ≡ cond b (Some (position_or_len p xs)) None → i ≡ position_or_len p xs
+    by true h = cc
+    by false h = cc

@@ -1,0 +1,31 @@
+-- The names of a set of stored names.
+use Rattle.std.proofs.Common.{◌≡◌, ℕ, refl, Some, position, ◌∙◌}
+use Rattle.std.specs.List.{IsDistinct, list_any, position_or_len}
+use Rattle.indexmap.specs.IndexSet.{IndexSet, IsUnique, insert_key}
+use Rattle.ld_trace.specs.Names.{is_known, is_same, place_of, with_name}
+use Rattle.ld_trace.specs.Stored.{name_of, names_of}
+use Rattle.ld_trace.specs.contracts.stored_name.StoredNamePartialEq.TheImpl.{eq-value}
+use Rattle.ld_trace.specs.declared.stored_name.StoredName.{StoredName}
+use Rattle.ld_trace.proofs.NameLemmas.{position-found, known-map, place-map, with_name-map, distinct-map}
+
+-- two stored names are equal where their names are
+eq-is_same : (a b : StoredName) → eq-value.it a b ≡ is_same (name_of a) (name_of b)
+eq-is_same a b = refl
+
+module _ {S : Type 0} (set : IndexSet StoredName S) where
+  pub known-stored : (v : StoredName) → list_any (eq-value.it v) set.keys ≡ is_known (names_of set) (name_of v)
+  known-stored v = known-map name_of eq-value.it eq-is_same set.keys v
+
+  pub place-stored : (v : StoredName) → position_or_len (eq-value.it v) set.keys ≡ place_of (names_of set) (name_of v)
+  place-stored v = place-map name_of eq-value.it eq-is_same set.keys v
+
+  -- the place that a search found
+  pub position-stored : (v : StoredName) (i : ℕ) → Some i ≡ position (eq-value.it v) set.keys → i ≡ place_of (names_of set) (name_of v)
+  position-stored v i e = position-found (eq-value.it v) set.keys i e ∙ place-stored v
+
+  pub distinct-stored : IsUnique eq-value.it set → IsDistinct is_same (names_of set)
+  distinct-stored h = distinct-map name_of eq-value.it eq-is_same set.keys h
+
+  -- the names after an insertion
+  pub with_name-stored : (new : IndexSet StoredName S) (v : StoredName) → new.keys ≡ insert_key eq-value.it set.keys v → names_of new ≡ with_name (names_of set) (name_of v)
+  with_name-stored new v e = rw e (with_name-map name_of eq-value.it eq-is_same set.keys v)

@@ -1,0 +1,17 @@
+use Rattle.std.proofs.Common.{◌∙◌, sym}
+use Rattle.csv.specs.Records.{fields_of}
+use Rattle.ld_trace.proofs.FieldLemmas.{header-two, header-others}
+use Rattle.ld_trace.proofs.record.is_header.Goals as goal
+
+pub returns-then-len-ne2 : goal.returns-then-len-ne2
+returns-then-len-ne2 c = sym (header-others (fields_of c.args.row.now) (rw c.len.ensures at c.if-len-ne2.true))
+
+pub returns-then-is_word : goal.returns-then-is_word
+returns-then-is_word c =
+    c.is_word-then-is_word.ensures
+    ∙ sym (rw (header-two (fields_of c.args.row.now) c.field-word.result.now c.field-version.result.now (sym c.len.ensures ∙ c.if-len-ne2.false) c.field-word.ensures c.field-version.ensures, ← c.if-is_word.ensures))
+
+pub returns-else-is_word : goal.returns-else-is_word
+returns-else-is_word c =
+    c.if-is_word.false
+    ∙ sym (rw (header-two (fields_of c.args.row.now) c.field-word.result.now c.field-version.result.now (sym c.len.ensures ∙ c.if-len-ne2.false) c.field-word.ensures c.field-version.ensures, ← c.if-is_word.ensures))

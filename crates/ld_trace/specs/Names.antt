@@ -1,0 +1,47 @@
+-- The names of lock keys and their places in a table.
+use Rattle.std.specs.Prelude.{◌≡◌, ℕ, ◌≤◌, ◌==◌, ◌&&◌, ◌++◌, ◌∷◌, Bool, true, not, List, [], length, nat_le, if◌then◌else◌}
+use Rattle.std.specs.List.{IsDistinct, list_all, list_any, position_or_len}
+use Rattle.std.specs.Str.{bytes_eq}
+
+-- a key's name: the bytes of its lock class's name, and its subclass (sections "Lock-class" and "Exception: Nested data
+-- dependencies leading to nested locking")
+abbrev pub Name : Type 0
+Name = List ℕ × ℕ
+
+-- whether each of these bytes is 0x21 to 0x7E: a visible character of ASCII
+abbrev pub are_visible : List ℕ → Bool
+are_visible bytes = list_all (λ byte. nat_le 0x21 byte && nat_le byte 0x7E) bytes
+
+-- whether these bytes name a lock class: 1 to 64 of them, all visible (this project's own)
+abbrev pub is_class_name : List ℕ → Bool
+is_class_name bytes = nat_le 1 (length bytes) && nat_le (length bytes) 64 && are_visible bytes
+
+-- whether a class's name and a subclass name a key: subclasses are 0 to 7
+abbrev pub is_name : Name → Bool
+is_name name = is_class_name name.0 && nat_le name.1 7
+
+-- whether two names are the same
+abbrev pub is_same : Name → Name → Bool
+is_same a b = bytes_eq a.0 b.0 && (a.1 == b.1)
+
+-- whether the name is among these
+abbrev pub is_known : List Name → Name → Bool
+is_known names name = list_any (is_same name) names
+
+-- the name's place among these, or the place at their end for a new one
+abbrev pub place_of : List Name → Name → ℕ
+place_of names name = position_or_len (is_same name) names
+
+-- the names with this one among them: a new one goes last
+abbrev pub with_name : List Name → Name → List Name
+with_name names name = if is_known names name then names else names ++ name ∷ []
+
+-- whether the name would be the 257th
+abbrev pub is_one_too_many : List Name → Name → Bool
+is_one_too_many names name = not (is_known names name) && nat_le 256 (length names)
+
+-- what a table of names keeps: at most 256 of them, each a name, none of them twice
+pub record AreNumbered (names : List Name) : Type 0 where
+  pub few : length names ≤ 256
+  pub named : list_all is_name names ≡ true
+  pub once : IsDistinct is_same names

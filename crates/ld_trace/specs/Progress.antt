@@ -1,0 +1,52 @@
+-- What holds while a trace is read, of the records that were taken so far.
+use Rattle.std.specs.Prelude.{◌≡◌, ℕ, suc, ◌<◌, ◌++◌, None, false, List, [], ◌∷◌, length, slice_get, Option, Some, IfSome, Ok}
+use Rattle.csv.specs.Reading.{Ready, Reached, default_config, reader_config, reader_state, reader_trim, source_of, strip_bom}
+use Rattle.csv.specs.declared.parser.State.TheVariants as st
+use Rattle.csv.specs.declared.reader.Reader.{Reader}
+use Rattle.csv.specs.declared.reader.Trim.TheVariants as trim
+use Rattle.ld_trace.specs.declared.event.Event.{Event}
+use Rattle.ld_trace.specs.Events.{KeysBelow}
+use Rattle.ld_trace.specs.declared.trace_fault.TraceFaultKind.{TraceFaultKind}
+use Rattle.ld_trace.specs.Lines.{Line, Record, event_of, is_over, said, with_line}
+use Rattle.ld_trace.specs.Names.{Name}
+use Rattle.ld_trace.specs.Reading.{ReadsTo, StopsAt, event_at, fault_at, names_after}
+
+-- a reader of records as the format has them: no field is trimmed, and the next read is of one record
+pub record ReadsPlain {R : Type 0} (source : Reader R) : Type 0 where
+  pub config : reader_config source ≡ default_config
+  pub trim : reader_trim source ≡ trim.None
+  pub ready : Ready source
+
+-- where the bytes are known, these are their first records, and the source has the bytes after them
+abbrev pub HasGiven : {R : Type 0} → (R → Option (List ℕ)) → Option (List ℕ) → Reader R → List Record → Type 0
+HasGiven rem known source rows = IfSome known (λ bytes. (left : List ℕ) × (source_of rem source ≡ Some left)
+    × Reached default_config st.StartRecord (strip_bom bytes) rows (reader_state source) left)
+
+-- the header and these records after it were taken, and stand for these events
+pub record AreTaken (old : List Name) (rows : List Record) (now : List Name) (events : List Event) : Type 0 where
+  pub count : length rows ≡ suc (length events)
+  pub faultless : (i : ℕ) → i < length rows → fault_at old rows i ≡ None
+  pub each : (i : ℕ) → slice_get events i ≡ event_at old rows (suc i)
+  pub names : now ≡ names_after old rows
+  pub below : KeysBelow (length now) events
+  pub added : (more : List Name) × (now ≡ old ++ more)
+
+-- what the loop over the records keeps: some records were taken, the first ones of the bytes
+abbrev pub HasTaken : {R : Type 0} → (R → Option (List ℕ)) → Option (List ℕ) → Reader R → List Name → List Name → List Event → Type 0
+HasTaken rem known source old now events = (rows : List Record) × HasGiven rem known source rows × AreTaken old rows now events
+
+-- a record was taken as what it says
+pub record TakesLine (old new : List Name) (before after : List Event) (r : Record) : Type 0 where
+  pub line : Line
+  pub says : said r ≡ Ok line
+  pub fits : is_over old line ≡ false
+  pub names : new ≡ with_line old line
+  pub events : after ≡ before ++ event_of old line ∷ []
+
+-- the known bytes are a trace that was read
+abbrev pub AreRead : Option (List ℕ) → List Name → List Name → List Event → Type 0
+AreRead known old new events = IfSome known (λ bytes. ReadsTo old bytes new events)
+
+-- reading the known bytes stopped at the record of this number
+abbrev pub AreRefused : Option (List ℕ) → List Name → List Name → TraceFaultKind → ℕ → Type 0
+AreRefused known old new kind number = IfSome known (λ bytes. StopsAt old bytes new (record { kind = kind; at = number }))

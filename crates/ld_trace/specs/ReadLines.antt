@@ -1,0 +1,30 @@
+-- The lines that the reader hands on, whose names lie in the record's own bytes.
+use Rattle.std.specs.Prelude.{◌≡◌, Result, Ok, Err}
+use Rattle.ld_trace.specs.declared.line.Line.{Line as ReadLine}
+use Rattle.ld_trace.specs.declared.line.Line.TheVariants.{Takes, GivesBack, Enters, Leaves, TurnsOn, TurnsOff}
+use Rattle.ld_trace.specs.declared.line.LineName.{LineName}
+use Rattle.ld_trace.specs.declared.trace_fault.TraceFaultKind.{TraceFaultKind}
+use Rattle.ld_trace.specs.Lines.{Line, takes, gives_back, enters, leaves, turns_on, turns_off}
+use Rattle.ld_trace.specs.Names.{Name}
+
+-- the name that it is
+abbrev pub name_read : LineName → Name
+name_read name = (name.class.now, name.sub)
+
+-- the line that it is
+abbrev pub line_read : ReadLine → Line
+line_read (Takes name mode) = takes (name_read name) mode
+line_read (GivesBack name) = gives_back (name_read name)
+line_read (Enters irq) = enters irq
+line_read Leaves = leaves
+line_read (TurnsOn irq) = turns_on irq
+line_read (TurnsOff irq) = turns_off irq
+
+-- an answer says this
+abbrev pub Says : Result Line TraceFaultKind → Result ReadLine TraceFaultKind → Type 0
+Says said (Ok line) = said ≡ Ok (line_read line)
+Says said (Err fault) = said ≡ Err fault
+
+abbrev pub SaysName : Result Name TraceFaultKind → Result LineName TraceFaultKind → Type 0
+SaysName named (Ok name) = named ≡ Ok (name_read name)
+SaysName named (Err fault) = named ≡ Err fault

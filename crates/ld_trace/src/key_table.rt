@@ -1,0 +1,130 @@
+//! The table that numbers lock keys.
+
+ghost use Rattle.std.specs.Prelude.{◌≡◌, ◌≤◌, ◌<◌, ◌↔◌, [], IsTrue, IsSome, IfSome, IsOk, IsOkAnd, IfOk, IfErr, OnErr, IsErrOf, length, slice_get, option_map, true, false, ◌⊎◌};
+ghost use Rattle.ld_trace.specs.Names.{AreNumbered, is_class_name, is_known, is_name, is_one_too_many, is_same, place_of, with_name};
+ghost use Rattle.ld_trace.specs.Stored.{name_of, names_of};
+ghost use Rattle.std.specs.List.{IsDistinct};
+
+use crate::stored_name::{StoredName, is_class_name};
+use crate::{KeyFault, KeyId};
+use indexmap::IndexSet;
+use std::alloc::Global;
+use std::marker::Model;
+
+/// The most keys that a table holds.
+const MAX_KEYS: usize = 256;
+
+/// The greatest subclass.
+const MAX_SUB: u8 = 7;
+
+/// The names of the lock keys, numbered 0, 1, and so on in order of first sight.
+///
+/// A name is that of a lock class, 1 to 64 bytes of 0x21 to 0x7E, together with a subclass, 0 to 7. A table holds at most
+/// 256 of them, none twice.
+#[derive(Drop)]
+pub struct KeyTable {
+    names: IndexSet<StoredName>,
+}
+
+impl Model for KeyTable {
+    ghost use Rattle.std.specs.Prelude.{List};
+    ghost use Rattle.ld_trace.specs.Names.{AreNumbered, Name};
+    ghost use Rattle.ld_trace.specs.Stored.{names_of};
+
+    ghost Value = { List Name };
+
+    ghost view = { λ t. names_of t.names };
+
+    ghost invariant = { λ t. AreNumbered (names_of t.names) };
+}
+
+impl KeyTable {
+    /// A table without names. It takes no memory yet; K4 is the only refusal that its type leaves room for.
+    pub fn new(alloc: Global) -> Result<KeyTable, KeyFault>
+        ensures { IsOkAnd result (λ table. table ≡ []) }
+    {
+        Ok(KeyTable {
+            names: IndexSet::new(alloc),
+        })
+    }
+
+    /// How many keys have numbers, at most 256.
+    pub fn len(&self) -> usize
+        ensures count { result ≡ length self.now }
+        ensures numbered { AreNumbered self.now }
+    {
+        self.names.len()
+    }
+
+    /// The number of the key of this class's name and subclass: the one that it has, or else the next one.
+    ///
+    /// Refusals, in this order: K1 where the name isn't 1 to 64 bytes of 0x21 to 0x7E, K2 where the subclass is above 7,
+    /// K3 where the key would be the 257th, K4 where memory for a new key was refused. After a refusal the table is
+    /// unchanged. A key that is there is answered without memory.
+    pub fn number(&mut self, name: &str, sub: u8) -> Result<KeyId, KeyFault>
+        ensures value { IfOk result (λ key. key ≡ place_of self.old (name.now, sub)) }
+        ensures names { IfOk result (λ _. self.new ≡ with_name self.old (name.now, sub)) }
+
+        ensures bad_name { IsErrOf result KeyFault.BadName ↔ (is_class_name name.now ≡ false) }
+        ensures bad_sub { IsErrOf result KeyFault.BadSub ↔ (is_class_name name.now ≡ true) × (7 < sub) }
+        ensures full { IsErrOf result KeyFault.Full ↔ (is_name (name.now, sub) ≡ true) × (is_one_too_many self.old (name.now, sub) ≡ true) }
+        ensures known { is_name (name.now, sub) ≡ true → is_known self.old (name.now, sub) ≡ true → IsOk result }
+
+        ensures refused { OnErr result (self.new ≡ self.old) }
+    {
+        if !is_class_name(name.as_bytes()) {
+            return Err(KeyFault::BadName);
+        }
+        if sub > MAX_SUB {
+            return Err(KeyFault::BadSub);
+        }
+        self.number_name(name, sub)
+    }
+
+    /// The same for a name and a subclass that were looked at before, so K3 and K4 alone are answered.
+    pub(crate) fn number_name(&mut self, name: &str, sub: u8) -> Result<KeyId, KeyFault>
+        requires { is_name (name.now, sub) ≡ true }
+        ensures value { IfOk result (λ key. key ≡ place_of self.old (name.now, sub)) }
+        ensures names { IfOk result (λ _. self.new ≡ with_name self.old (name.now, sub)) }
+        ensures full { IsErrOf result KeyFault.Full ↔ (is_one_too_many self.old (name.now, sub) ≡ true) }
+        ensures known { is_known self.old (name.now, sub) ≡ true → IsOk result }
+        ensures either { IfErr result (λ fault. (fault ≡ KeyFault.Full) ⊎ (fault ≡ KeyFault.Memory)) }
+        ensures refused { OnErr result (self.new ≡ self.old) }
+    {
+        let place = place_among(&mut self.names, StoredName::new(name, sub))?;
+        Ok(KeyId::from_place(place))
+    }
+
+    /// The class's name and the subclass of the key of this number. None exactly where no key has it.
+    pub fn name_of(&self, id: KeyId) -> Option<(&str, u8)>
+        ensures { option_map (λ name. (name.0.now, name.1)) result ≡ slice_get self.now id }
+    {
+        let name = self.names.get_index(id.get() as usize)?;
+        Some((name.text.as_str(), name.sub))
+    }
+}
+
+/// The place of a name among those of a table, where a new one goes last.
+fn place_among(names: &mut IndexSet<StoredName>, name: StoredName) -> Result<usize, KeyFault>
+    requires { length names.old.keys ≤ 256 }
+    ensures value { IfOk result (λ place. place ≡ place_of (names_of names.old) (name_of name)) }
+    ensures within { IfOk result (λ place. place < 256) }
+    ensures names { IfOk result (λ _. names_of names.new ≡ with_name (names_of names.old) (name_of name)) }
+    ensures few { length names.new.keys ≤ 256 }
+    ensures full { IsErrOf result KeyFault.Full ↔ (is_one_too_many (names_of names.old) (name_of name) ≡ true) }
+    ensures known { is_known (names_of names.old) (name_of name) ≡ true → IsOk result }
+    ensures either { IfErr result (λ fault. (fault ≡ KeyFault.Full) ⊎ (fault ≡ KeyFault.Memory)) }
+    ensures refused { OnErr result (names_of names.new ≡ names_of names.old) }
+    ensures unique { IsDistinct is_same (names_of names.new) }
+{
+    if names.len() >= MAX_KEYS {
+        return match names.get_index_of(&name) {
+            Some(place) => Ok(place),
+            None => Err(KeyFault::Full),
+        };
+    }
+    match names.insert_full(name) {
+        Ok((place, _)) => Ok(place),
+        Err(_) => Err(KeyFault::Memory),
+    }
+}

@@ -1,0 +1,168 @@
+//! Reading a trace.
+
+ghost use Rattle.std.specs.Prelude.{◌≡◌, ◌≤◌, ◌+◌, ◌++◌, ℕ, suc, [], List, Option, length, true, false, IfOk, IfErr, IfSome, OnOk, OnErr, Some};
+ghost use Rattle.csv.specs.Reading.{ReadRecord};
+ghost use Rattle.csv.specs.Records.{fields_of};
+ghost use Rattle.ld_trace.specs.Events.{KeysBelow};
+ghost use Rattle.ld_trace.specs.Lines.{said};
+ghost use Rattle.ld_trace.specs.Names.{Name};
+ghost use Rattle.ld_trace.specs.Progress.{AreRead, AreRefused, HasGiven, HasTaken, ReadsPlain, TakesLine};
+ghost use Rattle.ld_trace.specs.Reading.{ReadsTo, StopsAt, said_fault};
+ghost use Rattle.ld_trace.specs.TraceFaults.{is_of_text};
+
+use crate::raw_trace::MAX_EVENTS;
+use crate::record::{is_header, line_of};
+use crate::{Event, KeyTable, RawTrace, TraceFault, TraceFaultKind};
+use csv::{ByteRecord, ErrorKind, Reader, ReaderBuilder};
+use std::alloc::Global;
+use std::io::Read;
+
+/// Reads a trace in the text format of version 1, and numbers its keys in the table.
+///
+/// The records are those of CSV with the comma and the double quote, without a header row of CSV's own, of any length and
+/// untrimmed. The first is `lockdep,1`. Each of the others is an event: `acq,NAME,SUB,MODE`, `rel,NAME,SUB`,
+/// `enter,STATE`, `leave`, `on,STATE` or `off,STATE`, where a name is 1 to 64 bytes of 0x21 to 0x7E, a subclass is a digit
+/// 0 to 7, a mode is `w`, `r` or `rr`, and a state is `hardirq` or `softirq`.
+///
+/// The least faulty record is refused, by the first of its faults in this order: T8 or T9 in getting it, T1, T7, T2, T3,
+/// T4, T5, T9 for the event's room, T6, T9 for the key. Keys that had numbers keep them. After a refusal the keys of the
+/// events before it have numbers too, and that of the refused record has not.
+pub fn read_trace<R: Read + Drop>(
+    alloc: Global,
+    reader: R,
+    keys: &mut KeyTable,
+) -> Result<RawTrace, TraceFault>
+    ensures ok { IfOk result (λ trace. IfSome (R.remaining reader) (λ bytes. ReadsTo keys.old bytes keys.new trace)) }
+    ensures refused { IfErr result (λ fault. IfSome (R.remaining reader) (λ bytes. StopsAt keys.old bytes keys.new fault)) }
+
+    // These hold of any reader, also of one that doesn't tell its bytes.
+    ensures numbered { IfOk result (λ trace. KeysBelow (length keys.new) trace) }
+    ensures kept { (added : List Name) × (keys.new ≡ keys.old ++ added) }
+{
+    let mut source = ReaderBuilder::new()
+        .has_headers(false)
+        .flexible(true)
+        .from_reader(alloc, reader);
+    read_records(alloc, &mut source, keys)
+}
+
+/// Reads all records of the source.
+fn read_records<R: Read>(
+    alloc: Global,
+    source: &mut Reader<R>,
+    keys: &mut KeyTable,
+) -> Result<RawTrace, TraceFault>
+    requires { ReadsPlain source.old }
+    ensures ok { IfOk result (λ trace. (known : Option (List ℕ)) → HasGiven R.remaining known source.old [] → AreRead known keys.old keys.new trace) }
+    ensures refused { IfErr result (λ fault. (known : Option (List ℕ)) → HasGiven R.remaining known source.old []
+        → AreRefused known keys.old keys.new fault.kind fault.at) }
+    ensures numbered { IfOk result (λ trace. KeysBelow (length keys.new) trace) }
+    ensures kept { (added : List Name) × (keys.new ≡ keys.old ++ added) }
+{
+    let mut row = ByteRecord::new(alloc);
+    if let Err(kind) = take_header(source, &mut row) {
+        return Err(TraceFault { kind, at: 1 });
+    }
+    let mut events = Vec::new(alloc);
+    'records: loop {
+        match take_event(source, &mut row, &mut events, keys) {
+            Ok(true) => {}
+            Ok(false) => return Ok(RawTrace::of_few(events)),
+            Err(kind) => {
+                let at = events.len() + 2;
+                return Err(TraceFault { kind, at });
+            }
+        }
+    }
+}
+
+/// Takes the first record, which has to be the header.
+fn take_header<R: Read>(source: &mut Reader<R>, row: &mut ByteRecord) -> Result<(), TraceFaultKind>
+    requires { ReadsPlain source.old }
+    ensures plain { OnOk result (ReadsPlain source.new) }
+    ensures taken { OnOk result ((known : Option (List ℕ)) (old : List Name) → HasGiven R.remaining known source.old []
+        → HasTaken R.remaining known source.new old old []) }
+    ensures refused { IfErr result (λ kind. (known : Option (List ℕ)) (old : List Name) → HasGiven R.remaining known source.old []
+        → AreRefused known old old kind 1) }
+{
+    if !get_record(source, row)? {
+        return Err(TraceFaultKind::NoHeader);
+    }
+    if !is_header(row) {
+        return Err(TraceFaultKind::NoHeader);
+    }
+    Ok(())
+}
+
+/// Takes the next record as an event, and says whether there was one.
+fn take_event<R: Read>(
+    source: &mut Reader<R>,
+    row: &mut ByteRecord,
+    events: &mut Vec<Event>,
+    keys: &mut KeyTable,
+) -> Result<bool, TraceFaultKind>
+    requires plain { ReadsPlain source.old }
+    requires few { length events.old.items ≤ 1000000 }
+    ensures plain { OnOk result (ReadsPlain source.new) }
+    ensures more { IfOk result (λ found. found ≡ true → (length events.new.items ≡ suc (length events.old.items)) × (length events.new.items ≤ 1000000)) }
+    ensures no_more { IfOk result (λ found. found ≡ false → events.new.items ≡ events.old.items) }
+    ensures kept_events { OnErr result (events.new.items ≡ events.old.items) }
+    ensures kept_names { (added : List Name) × (keys.new ≡ keys.old ++ added) }
+
+    ensures taken { IfOk result (λ found. found ≡ true → (known : Option (List ℕ)) (old : List Name)
+        → HasTaken R.remaining known source.old old keys.old events.old.items
+        → HasTaken R.remaining known source.new old keys.new events.new.items) }
+    ensures ended { IfOk result (λ found. found ≡ false → (known : Option (List ℕ)) (old : List Name)
+        → HasTaken R.remaining known source.old old keys.old events.old.items
+        → AreRead known old keys.new events.new.items × KeysBelow (length keys.new) events.new.items) }
+    ensures refused { IfErr result (λ kind. (known : Option (List ℕ)) (old : List Name)
+        → HasTaken R.remaining known source.old old keys.old events.old.items
+        → AreRefused known old keys.new kind (length events.old.items + 2)) }
+{
+    if !get_record(source, row)? {
+        return Ok(false);
+    }
+    if events.len() == MAX_EVENTS {
+        return Err(TraceFaultKind::TooManyRecords);
+    }
+    take_record(row, events, keys)?;
+    Ok(true)
+}
+
+/// Gets the next record, and says whether there was one.
+fn get_record<R: Read>(source: &mut Reader<R>, row: &mut ByteRecord) -> Result<bool, TraceFaultKind>
+    requires { ReadsPlain source.old }
+    ensures reads { IfOk result (λ found. ReadRecord R.remaining source.old source.new found (fields_of row.new)) }
+    ensures plain { OnOk result (ReadsPlain source.new) }
+    ensures failed { IfErr result (λ kind. is_of_text kind ≡ false) }
+{
+    match source.read_byte_record(row) {
+        Ok(found) => Ok(found),
+        Err(error) => match error.kind() {
+            ErrorKind::OutOfMemory => Err(TraceFaultKind::Memory),
+            _ => Err(TraceFaultKind::Source),
+        },
+    }
+}
+
+/// Takes a record as an event, and numbers its key. After a refusal nothing is changed.
+fn take_record(
+    row: &ByteRecord,
+    events: &mut Vec<Event>,
+    keys: &mut KeyTable,
+) -> Result<(), TraceFaultKind>
+    ensures taken { OnOk result (TakesLine keys.old keys.new events.old.items events.new.items (fields_of row.now)) }
+    ensures fault { IfErr result (λ kind. is_of_text kind ≡ true → said_fault keys.old (said (fields_of row.now)) ≡ Some kind) }
+    ensures refused { OnErr result ((keys.new ≡ keys.old) × (events.new.items ≡ events.old.items)) }
+{
+    let line = match line_of(row) {
+        Ok(line) => line,
+        Err(kind) => return Err(kind),
+    };
+    if events.reserve(1).is_err() {
+        return Err(TraceFaultKind::Memory);
+    }
+    let event = line.numbered(keys)?;
+    events.push_reserved(event);
+    Ok(())
+}

@@ -1,0 +1,173 @@
+//! Reading one record of a trace.
+
+ghost use Rattle.std.specs.Prelude.{◌≡◌, ◌<◌, ◌∷◌, [], ℕ, codes, length, Ok, Err, Some, MatchResult, option_map, if◌then◌else◌};
+ghost use Rattle.std.specs.Str.{bytes_eq};
+ghost use Rattle.csv.specs.Records.{field_at, fields_of};
+ghost use Rattle.ld_trace.specs.Lines.{acquire_said, irq_of, is_header, leave_said, mode_of, named, release_said, said, state_said, sub_of};
+ghost use Rattle.ld_trace.specs.Names.{is_class_name};
+ghost use Rattle.ld_trace.specs.ReadLines.{Says, SaysName};
+
+use crate::line::{Line, LineName};
+use crate::stored_name::is_class_name;
+use crate::{Irq, Mode, TraceFaultKind};
+use csv::ByteRecord;
+use std::str;
+
+/// Whether a record is the header of a trace of version 1.
+pub(crate) fn is_header(row: &ByteRecord) -> bool
+    ensures { result ≡ is_header (fields_of row.now) }
+{
+    if row.len() != 2 {
+        return false;
+    }
+    let word = field(row, 0);
+    let version = field(row, 1);
+    is_word(word, b"lockdep") && is_word(version, b"1")
+}
+
+/// What a record says, or its fault.
+pub(crate) fn line_of(row: &ByteRecord) -> Result<Line<'_>, TraceFaultKind>
+    ensures { Says (said (fields_of row.now)) result }
+{
+    match row.len() {
+        1 => leave_line(field(row, 0)),
+        2 => irq_line(field(row, 0), field(row, 1)),
+        3 => release_line(field(row, 0), field(row, 1), field(row, 2)),
+        4 => acquire_line(field(row, 0), field(row, 1), field(row, 2), field(row, 3)),
+        _ => Err(TraceFaultKind::BadRecord),
+    }
+}
+
+fn leave_line(verb: &[u8]) -> Result<Line<'_>, TraceFaultKind>
+    ensures { Says (leave_said verb.now) result }
+{
+    if is_word(verb, b"leave") {
+        Ok(Line::Leaves)
+    } else {
+        Err(TraceFaultKind::BadRecord)
+    }
+}
+
+fn irq_line<'r>(verb: &[u8], irq: &'r [u8]) -> Result<Line<'r>, TraceFaultKind>
+    ensures { Says (state_said verb.now (irq_of irq.now)) result }
+{
+    let Some(irq) = irq_of(irq) else {
+        return Err(TraceFaultKind::BadRecord);
+    };
+    if is_word(verb, b"enter") {
+        Ok(Line::Enters(irq))
+    } else if is_word(verb, b"on") {
+        Ok(Line::TurnsOn(irq))
+    } else if is_word(verb, b"off") {
+        Ok(Line::TurnsOff(irq))
+    } else {
+        Err(TraceFaultKind::BadRecord)
+    }
+}
+
+fn release_line<'r>(verb: &[u8], class: &'r [u8], sub: &[u8]) -> Result<Line<'r>, TraceFaultKind>
+    ensures { Says (release_said verb.now (named class.now (sub_of sub.now))) result }
+{
+    if !is_word(verb, b"rel") {
+        return Err(TraceFaultKind::BadRecord);
+    }
+    Ok(Line::GivesBack(name_of(class, sub)?))
+}
+
+fn acquire_line<'r>(
+    verb: &[u8],
+    class: &'r [u8],
+    sub: &[u8],
+    mode: &[u8],
+) -> Result<Line<'r>, TraceFaultKind>
+    ensures { Says (acquire_said verb.now (named class.now (sub_of sub.now)) (mode_of mode.now)) result }
+{
+    if !is_word(verb, b"acq") {
+        return Err(TraceFaultKind::BadRecord);
+    }
+    let name = name_of(class, sub)?;
+    match mode_of(mode) {
+        Some(mode) => Ok(Line::Takes(name, mode)),
+        None => Err(TraceFaultKind::BadMode),
+    }
+}
+
+/// The name of these two fields, of which the class's name is judged first.
+fn name_of<'r>(class: &'r [u8], sub: &[u8]) -> Result<LineName<'r>, TraceFaultKind>
+    ensures { SaysName (named class.now (sub_of sub.now)) result }
+{
+    let Some(class) = class_of(class) else {
+        return Err(TraceFaultKind::BadName);
+    };
+    match sub_of(sub) {
+        Some(sub) => Ok(LineName { class, sub }),
+        None => Err(TraceFaultKind::BadSub),
+    }
+}
+
+/// The class's name of this field: 1 to 64 bytes, each 0x21 to 0x7E.
+fn class_of(class: &[u8]) -> Option<&str>
+    ensures { option_map (λ text. text.now) result ≡ (if is_class_name class.now then Some class.now else None) }
+{
+    if is_class_name(class) {
+        Some(unsafe { str::from_utf8_unchecked(class) })
+    } else {
+        None
+    }
+}
+
+/// The subclass of this field: one digit, 0 to 7.
+fn sub_of(sub: &[u8]) -> Option<u8>
+    ensures { result ≡ sub_of sub.now }
+{
+    match sub {
+        [digit @ b'0'..=b'7'] => Some(digit - b'0'),
+        _ => None,
+    }
+}
+
+/// The mode of this field.
+fn mode_of(word: &[u8]) -> Option<Mode>
+    ensures { result ≡ mode_of word.now }
+{
+    if is_word(word, b"w") {
+        Some(Mode::Write)
+    } else if is_word(word, b"r") {
+        Some(Mode::Read)
+    } else if is_word(word, b"rr") {
+        Some(Mode::RecRead)
+    } else {
+        None
+    }
+}
+
+/// The state of this field.
+fn irq_of(word: &[u8]) -> Option<Irq>
+    ensures { result ≡ irq_of word.now }
+{
+    if is_word(word, b"hardirq") {
+        Some(Irq::Hard)
+    } else if is_word(word, b"softirq") {
+        Some(Irq::Soft)
+    } else {
+        None
+    }
+}
+
+/// Whether a field is this word.
+fn is_word(field: &[u8], word: &[u8]) -> bool
+    ensures { result ≡ bytes_eq field.now word.now }
+{
+    field == word
+}
+
+/// The field at this place.
+fn field(row: &ByteRecord, place: usize) -> &[u8]
+    requires { place < length (fields_of row.now) }
+    ensures { field_at (fields_of row.now) place ≡ Some result.now }
+{
+    match row.get(place) {
+        Some(field) => field,
+        None => unreachable!(),
+    }
+}
