@@ -3,7 +3,7 @@
 use crate::KeyId;
 
 /// How a lock is taken.
-#[derive(Clone, Copy, PartialEq, Eq, Debug)]
+#[derive(Clone, Copy, PartialEq, Eq, Debug, Hash)]
 pub enum Mode {
     /// By a writer.
     Write,
@@ -20,7 +20,7 @@ impl Default for Mode {
 }
 
 /// A state that a lock's use is marked for: a kind of interrupt.
-#[derive(Clone, Copy, PartialEq, Eq, Debug)]
+#[derive(Clone, Copy, PartialEq, Eq, Debug, Hash)]
 pub enum Irq {
     /// Hardware interrupts.
     Hard,
@@ -29,7 +29,7 @@ pub enum Irq {
 }
 
 /// One event of a task's trace.
-#[derive(Clone, Copy, PartialEq, Eq, Debug)]
+#[derive(Clone, Copy, PartialEq, Eq, Debug, Hash)]
 pub enum Event {
     /// The task takes a lock of this key.
     Acquire { key: KeyId, mode: Mode },
