@@ -11,7 +11,7 @@ use Rattle.ld_task.specs.declared.mark.Mark.{Mark}
 use Rattle.ld_task.specs.declared.mark.Mark.TheVariants.{UsedIn, Enabled}
 use Rattle.ld_graph.specs.Arrows.{Arrow, arrow}
 use Rattle.ld_graph.specs.Walks.{OnCircle}
-use Rattle.ld_graph.specs.Usage.{IsDouble, IsInversion, IsClean}
+use Rattle.ld_graph.specs.Links.{IsDouble, IsInversion, IsClean}
 use Rattle.lockdep.specs.Words.{name_at, key_text}
 use Rattle.lockdep.specs.Order.{IsKeyOrder}
 use Rattle.lockdep.specs.Groups.{InTurn, ShowsWhere}

@@ -4,13 +4,13 @@ ghost use Rattle.std.specs.Prelude.{◌≡◌, ◌<◌, ◌↔◌, ◌++◌, IsT
 ghost use Rattle.std.specs.List.{flat_map};
 ghost use Rattle.ld_graph.specs.Arrows.{arrow};
 ghost use Rattle.ld_graph.specs.Walks.{OnCircle};
-ghost use Rattle.ld_graph.specs.Usage.{IsClean, IsDouble, IsInversion};
-ghost use Rattle.ld_graph.specs.Numbers.{HasDep, HasMark, dependency_count};
+ghost use Rattle.ld_graph.specs.Links.{IsClean, IsDouble, IsInversion};
+ghost use Rattle.ld_graph.specs.Facts.{HasDep, HasMark, dependency_count};
 ghost use Rattle.lockdep.specs.Groups.{GrowsBy, InTurn};
 ghost use Rattle.lockdep.specs.Words.{name_at};
 ghost use Rattle.lockdep.specs.Report.{IsReport, IsUsageCharacter, IsUsageLine, ShowsCircle, ShowsDouble, ShowsInversion, circle_line, clean_line, dependencies_between, dependencies_from, double_line, inversion_line, kinds, pairs_of, pairs_with, states, total_line, total_lines, usage_character, usage_line, uses_of};
 
-use ld_graph::graph::Graph;
+use ld_graph::Graph;
 use ld_graph::{Kind, Mark};
 use ld_trace::{Irq, KeyId, KeyTable};
 use std::alloc::{AllocError, Global};
