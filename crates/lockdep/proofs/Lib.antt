@@ -4,3 +4,4 @@ pub mod GroupLemmas
 pub mod StepLemmas
 pub mod PageLemmas
 pub mod ChainLemmas
+pub mod GatherLemmas

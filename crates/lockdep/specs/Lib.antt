@@ -4,3 +4,4 @@ pub mod Order
 pub mod Groups
 pub mod Report
 pub mod ChainLines
+pub mod TraceFacts

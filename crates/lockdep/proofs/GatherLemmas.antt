@@ -1,0 +1,57 @@
+-- The facts of a trace, gathered chain by chain.
+use Rattle.std.proofs.Common.{◌≡◌, ℕ, ◌+◌, ◌<◌, ◌≤◌, List, [], ◌∷◌, ◌++◌, Option, Some, None, Result, Ok, Err, take, length, refl, sym, ap, ◌∙◌, subst, All, IfSome}
+use Rattle.std.specs.Option.{option_to_list}
+use Rattle.std.proofs.lemmas.List.{append_assoc, append-nil, take_all}
+use Rattle.std.proofs.lemmas.List.Elements.{All-take, All-pop}
+use Rattle.ld_trace.specs.Events.{KeysBelow, KeyIsBelow}
+use Rattle.ld_trace.specs.declared.event.Event.{Event}
+use Rattle.ld_task.specs.declared.fault.StepFault.{StepFault}
+use Rattle.ld_task.specs.Chains.{ChainParts, ChainKeysBelow}
+use Rattle.ld_task.specs.TraceChains.{chains}
+use Rattle.ld_task.specs.Positions.{positions_below}
+use Rattle.ld_task.specs.EndState.{EndState}
+use Rattle.ld_task.specs.Steps.{GoesOn, IsStateAfter}
+use Rattle.ld_task.specs.WellFormed.{IsWellFormed}
+use Rattle.ld_task.proofs.TraceLaws.{chain_keys_are_the_traces}
+use Rattle.ld_graph.specs.Facts.{FactWords, AddsChain}
+use Rattle.ld_graph.specs.Laws.{AreFactsOf}
+use Rattle.ld_graph.proofs.ChainLists.{adding_one_more_unites}
+
+-- the chain of an event of a trace has the trace's keys
+pub chain_below : (keys : ℕ) (t : List Event) (n : ℕ) (state : EndState) (r : Result (Option ChainParts) StepFault) (c : ChainParts) → r ≡ Ok (Some c) → GoesOn t n state r → KeysBelow keys t → ChainKeysBelow keys c
+chain_below keys t n state r c is on below =
+    let after = subst (λ x. GoesOn t n state x) is on in
+    let all = chain_keys_are_the_traces (take (n + 1) t) keys (All-take (KeyIsBelow keys) (n + 1) t below) in
+    (All-pop (ChainKeysBelow keys) (chains (take (n + 1) t)) (chains (take n t)) (Some c) after.1 all).1
+
+-- the facts with those of the event's chain
+pub facts_with_chain : (old new : FactWords) (others : List ChainParts) (t : List Event) (n : ℕ) (state : EndState) (r : Result (Option ChainParts) StepFault) (c : ChainParts) → r ≡ Ok (Some c) → GoesOn t n state r → AreFactsOf old (others ++ chains (take n t)) → AddsChain old new c → AreFactsOf new (others ++ chains (take (n + 1) t))
+facts_with_chain old new others t n state r c is on facts adds =
+    let after = subst (λ x. GoesOn t n state x) is on in
+    subst (λ cs. AreFactsOf new cs) (append_assoc others (chains (take n t)) (c ∷ []) ∙ ap (λ cs. others ++ cs) (sym after.1))
+        (adding_one_more_unites old new (others ++ chains (take n t)) c facts adds)
+
+-- an event without a chain adds nothing
+pub facts_without_chain : (facts : FactWords) (others : List ChainParts) (t : List Event) (n : ℕ) (state : EndState) (r : Result (Option ChainParts) StepFault) → r ≡ Ok None → GoesOn t n state r → AreFactsOf facts (others ++ chains (take n t)) → AreFactsOf facts (others ++ chains (take (n + 1) t))
+facts_without_chain facts others t n state r is on before =
+    let after = subst (λ x. GoesOn t n state x) is on in
+    subst (λ cs. AreFactsOf facts (others ++ cs)) (sym (after.1 ∙ append-nil (chains (take n t)))) before
+
+-- the first n events of the trace were allowed, this is the state after them, and their facts were added
+pub record IsGathering (old new : FactWords) (t : List Event) (n : ℕ) (state : EndState) : Type 0 where
+  pub after : IsStateAfter t n state
+  pub keys : new.keys ≡ old.keys
+  pub adds : (others : List ChainParts) → AreFactsOf old others → AreFactsOf new (others ++ chains (take n t))
+
+pub IsGathering-none : (facts : FactWords) (t : List Event) (state : EndState) → IsStateAfter t 0 state → IsGathering facts facts t 0 state
+unfolding chains positions_below
+IsGathering-none facts t state after = record {
+  after = after;
+  keys = refl;
+  adds = λ others facts_of. subst (λ cs. AreFactsOf facts cs) (sym (append-nil others)) facts_of
+}
+
+-- one more event
+pub IsGathering-next : (old mid new : FactWords) (t : List Event) (n : ℕ) (state next : EndState) → IsGathering old mid t n state → IsStateAfter t (n + 1) next → new.keys ≡ mid.keys → ((others : List ChainParts) → AreFactsOf mid (others ++ chains (take n t)) → AreFactsOf new (others ++ chains (take (n + 1) t))) → IsGathering old new t (n + 1) next
+IsGathering-next old mid new t n state next before after same adds =
+    record { after = after; keys = same ∙ before.keys; adds = λ others facts_of. adds others (before.adds others facts_of) }
