@@ -1,8 +1,9 @@
 -- The facts of a trace, gathered chain by chain.
-use Rattle.std.proofs.Common.{◌≡◌, ℕ, ◌+◌, ◌<◌, ◌≤◌, List, [], ◌∷◌, ◌++◌, Option, Some, None, Result, Ok, Err, take, length, refl, sym, ap, ◌∙◌, subst, All, IfSome}
+use Rattle.std.proofs.Common.{◌≡◌, ℕ, ◌+◌, ◌<◌, ◌≤◌, List, [], ◌∷◌, ◌++◌, Option, Some, None, Result, Ok, Err, take, length, slice_index_or, refl, sym, ap, ◌∙◌, subst, All, IfSome}
 use Rattle.std.specs.Option.{option_to_list}
-use Rattle.std.proofs.lemmas.List.{append_assoc, append-nil, take_all}
-use Rattle.std.proofs.lemmas.List.Elements.{All-take, All-pop}
+use Rattle.std.specs.List.{flat_map}
+use Rattle.std.proofs.lemmas.List.{append_assoc, append-nil, take_all, take_more}
+use Rattle.std.proofs.lemmas.List.Elements.{All-take, All-pop, All-push, All-same}
 use Rattle.ld_trace.specs.Events.{KeysBelow, KeyIsBelow}
 use Rattle.ld_trace.specs.declared.event.Event.{Event}
 use Rattle.ld_task.specs.declared.fault.StepFault.{StepFault}
@@ -15,6 +16,7 @@ use Rattle.ld_task.specs.WellFormed.{IsWellFormed}
 use Rattle.ld_task.proofs.TraceLaws.{chain_keys_are_the_traces}
 use Rattle.ld_graph.specs.Facts.{FactWords, AddsChain}
 use Rattle.ld_graph.specs.Laws.{AreFactsOf}
+use Rattle.lockdep.proofs.GroupLemmas.{flat_map-next}
 use Rattle.ld_graph.proofs.ChainLists.{adding_one_more_unites}
 
 -- the chain of an event of a trace has the trace's keys
@@ -55,3 +57,16 @@ IsGathering-none facts t state after = record {
 pub IsGathering-next : (old mid new : FactWords) (t : List Event) (n : ℕ) (state next : EndState) → IsGathering old mid t n state → IsStateAfter t (n + 1) next → new.keys ≡ mid.keys → ((others : List ChainParts) → AreFactsOf mid (others ++ chains (take n t)) → AreFactsOf new (others ++ chains (take (n + 1) t))) → IsGathering old new t (n + 1) next
 IsGathering-next old mid new t n state next before after same adds =
     record { after = after; keys = same ∙ before.keys; adds = λ others facts_of. adds others (before.adds others facts_of) }
+
+-- the first n traces were well formed, and their facts were added
+pub record HaveGathered (old new : FactWords) (traces : List (List Event)) (n : ℕ) : Type 0 where
+  pub keys : new.keys ≡ old.keys
+  pub well_formed : All IsWellFormed (take n traces)
+  pub adds : AreFactsOf old [] → AreFactsOf new (flat_map chains (take n traces))
+
+pub HaveGathered-next : (old mid new : FactWords) (traces : List (List Event)) (n : ℕ) (t : List Event) → t ≡ slice_index_or traces n t → n < length traces → HaveGathered old mid traces n → new.keys ≡ mid.keys → IsWellFormed t → ((others : List ChainParts) → AreFactsOf mid others → AreFactsOf new (others ++ chains t)) → HaveGathered old new traces (n + 1)
+HaveGathered-next old mid new traces n t is within before same well_formed adds = record {
+  keys = same ∙ before.keys;
+  well_formed = All-same IsWellFormed _ _ (take_more traces n t within ∙ ap (λ x. take n traces ++ x ∷ []) (sym is)) (All-push IsWellFormed (take n traces) t before.well_formed well_formed);
+  adds = λ none. subst (λ cs. AreFactsOf new cs) (sym (flat_map-next chains traces n t within ∙ ap (λ x. flat_map chains (take n traces) ++ chains x) (sym is))) (adds (flat_map chains (take n traces)) (before.adds none))
+}

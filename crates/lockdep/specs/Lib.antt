@@ -5,3 +5,4 @@ pub mod Groups
 pub mod Report
 pub mod ChainLines
 pub mod TraceFacts
+pub mod Faults

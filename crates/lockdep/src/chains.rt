@@ -15,7 +15,7 @@ use ld_trace::{Event, KeyId, KeyTable, Mode};
 use std::io::Write;
 
 use crate::order::name_of;
-use crate::output::WriteFault;
+use crate::fault::WriteFault;
 use crate::page::{Page, put, put_all, write_out};
 use crate::text::{flag_word, frame_word, mode_word, number_words};
 

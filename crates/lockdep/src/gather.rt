@@ -1,6 +1,6 @@
 //! The facts of traces, gathered event by event.
 
-ghost use Rattle.std.specs.Prelude.{◌≡◌, ◌+◌, ◌++◌, ℕ, List, All, OnOk, IfErr, take, length};
+ghost use Rattle.std.specs.Prelude.{◌≡◌, ◌+◌, ◌++◌, ℕ, List, [], All, OnOk, IfErr, take, length};
 ghost use Rattle.std.specs.List.{flat_map};
 ghost use Rattle.ld_trace.specs.declared.event.Event.{Event};
 ghost use Rattle.ld_trace.specs.Events.{KeysBelow};
@@ -12,7 +12,7 @@ ghost use Rattle.ld_graph.specs.Laws.{AreFactsOf};
 ghost use Rattle.lockdep.specs.TraceFacts.{ComesNext, IsFirstRefused};
 
 use ld_graph::Graph;
-use ld_task::{Chain, StepAt, StepFault, TaskState};
+use ld_task::{StepAt, StepFault, TaskState};
 use ld_trace::{Event, RawTrace};
 
 // Goes on by one event of a trace, and adds the facts of its chain, where it has one.
@@ -53,6 +53,23 @@ fn add_trace(graph: &mut Graph, trace: &RawTrace) -> Result<(), StepAt>
         };
         if let Err(fault) = add_event(graph, &mut state, event) {
             return Err(StepAt { fault, place });
+        }
+    }
+    Ok(())
+}
+
+/// Adds the facts of the traces, or answers the first trace that isn't well formed, with its first event that isn't
+/// allowed.
+pub(crate) fn add_traces(graph: &mut Graph, traces: &[RawTrace]) -> Result<(), (usize, StepAt)>
+    requires { All (KeysBelow graph.old.facts.keys) traces.now }
+    ensures keys { graph.new.facts.keys ≡ graph.old.facts.keys }
+    ensures well_formed { OnOk result (All IsWellFormed traces.now) }
+    ensures adds { OnOk result (AreFactsOf graph.old.facts [] → AreFactsOf graph.new.facts (flat_map chains traces.now)) }
+    ensures refused { IfErr result (λ found. IsFirstRefused traces.now found.0 found.1) }
+{
+    for (place, trace) in traces.iter().enumerate() {
+        if let Err(found) = add_trace(graph, trace) {
+            return Err((place, found));
         }
     }
     Ok(())

@@ -2,6 +2,7 @@
 #![tactic(auto)]
 
 mod chains;
+mod fault;
 mod gather;
 mod order;
 mod output;

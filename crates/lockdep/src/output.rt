@@ -5,21 +5,8 @@ ghost use Rattle.std.specs.Io.KnownBytes.{Appends};
 ghost use Rattle.lockdep.specs.Output.{AppendsBeginning};
 
 use std::io::Write;
-use thiserror::Error;
 
-/// Why a text wasn't written whole.
-#[derive(Clone, Copy, PartialEq, Eq, Debug, Error)]
-pub enum WriteFault {
-    /// The writer answered an error, of whatever kind.
-    #[error("the writer failed")]
-    Failed,
-    /// The writer took nothing of a piece that isn't empty.
-    #[error("the writer took nothing")]
-    Stuck,
-    /// Memory for the text was refused, before its first byte was written.
-    #[error("out of memory")]
-    Memory,
-}
+use crate::fault::WriteFault;
 
 /// Writes the whole text, piece by piece as the writer takes it.
 ///

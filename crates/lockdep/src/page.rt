@@ -8,7 +8,8 @@ ghost use Rattle.lockdep.specs.Output.{AppendsBeginning, PutsBehind};
 use arrayvec::ArrayString;
 use std::io::Write;
 
-use crate::output::{WriteFault, write_text};
+use crate::fault::WriteFault;
+use crate::output::write_text;
 
 /// Text that wasn't written yet. It takes no memory.
 pub(crate) type Page = ArrayString<4096>;

@@ -1,0 +1,72 @@
+//! Why no report was written.
+
+ghost use Rattle.std.specs.Prelude.{◌≡◌};
+ghost use Rattle.lockdep.specs.Faults.{run_code_of, write_code_of};
+
+use ld_task::StepFault;
+use thiserror::Error;
+
+/// Why a text wasn't written whole.
+#[derive(Clone, Copy, PartialEq, Eq, Debug, Error)]
+pub enum WriteFault {
+    /// O1: the writer answered an error, of whatever kind. A beginning of the text was written.
+    #[error("O1 Failed")]
+    Failed,
+    /// O2: the writer took nothing of a piece that isn't empty. A beginning of the text was written.
+    #[error("O2 Stuck")]
+    Stuck,
+    /// O3: memory was refused, before the first byte was written.
+    #[error("O3 Memory")]
+    Memory,
+}
+
+impl WriteFault {
+    /// The fault's number and name, as `O1 Failed`.
+    pub fn code(&self) -> &'static str
+        ensures { result.now ≡ write_code_of self.now }
+    {
+        match self {
+            WriteFault::Failed => "O1 Failed",
+            WriteFault::Stuck => "O2 Stuck",
+            WriteFault::Memory => "O3 Memory",
+        }
+    }
+}
+
+/// Why a run over traces was refused.
+#[derive(Clone, Copy, PartialEq, Eq, Debug, Error)]
+pub enum RunFault {
+    /// N4: memory was refused.
+    #[error("N4 Memory")]
+    Memory,
+}
+
+impl RunFault {
+    /// The fault's number and name, as `N4 Memory`.
+    pub fn code(&self) -> &'static str
+        ensures { result.now ≡ run_code_of self.now }
+    {
+        match self {
+            RunFault::Memory => "N4 Memory",
+        }
+    }
+}
+
+/// Why no report was written whole.
+#[derive(Clone, Copy, PartialEq, Eq, Debug, Error)]
+pub enum ReportFault {
+    /// A trace isn't well formed: its place among the traces, the number of the record of its first event that isn't
+    /// allowed, counted from 1 with the header, and why. Nothing was written.
+    #[error("trace {trace}: record {at}: {fault}")]
+    Step {
+        trace: usize,
+        at: usize,
+        fault: StepFault,
+    },
+    /// The run was refused otherwise. Nothing was written.
+    #[error("{0}")]
+    Run(RunFault),
+    /// Writing failed.
+    #[error("{0}")]
+    Out(WriteFault),
+}
