@@ -2,7 +2,8 @@ pub mod Output
 pub mod Words
 pub mod Order
 pub mod Groups
+pub mod TraceFacts
 pub mod Report
 pub mod ChainLines
-pub mod TraceFacts
 pub mod Faults
+pub mod Sessions

@@ -12,6 +12,8 @@ use Rattle.ld_task.specs.declared.mark.Mark.TheVariants.{UsedIn, Enabled}
 use Rattle.ld_graph.specs.Arrows.{Arrow, arrow}
 use Rattle.ld_graph.specs.Walks.{OnCircle}
 use Rattle.ld_graph.specs.Links.{IsDouble, IsInversion, IsClean}
+use Rattle.ld_graph.specs.Counting.{IsNumberOf}
+use Rattle.lockdep.specs.TraceFacts.{HaveDependency, HaveMark}
 use Rattle.lockdep.specs.Words.{name_at, key_text}
 use Rattle.lockdep.specs.Order.{IsKeyOrder}
 use Rattle.lockdep.specs.Groups.{InTurn, ShowsWhere}
@@ -137,7 +139,9 @@ ShowsInversion In Marked names = ShowsWhere (λ pair. IsInversion In Marked pair
 
 
 -- the text is the report of these facts, of so many traces and events, for the keys with these names
-pub record IsReport (In : Arrow → Type 0) (Marked : ℕ → Mark → Type 0) (traces events dependencies : ℕ) (names : List Name) (text : List ℕ) : Type 0 where
+pub record IsReport (In : Arrow → Type 0) (Marked : ℕ → Mark → Type 0) (traces events : ℕ) (names : List Name) (text : List ℕ) : Type 0 where
+  pub dependencies : ℕ
+  pub dependencies_are : IsNumberOf In dependencies
   pub clean : Bool
   pub clean_is : IsTrue clean ↔ IsClean In Marked
   pub keys : List ℕ
@@ -151,3 +155,7 @@ pub record IsReport (In : Arrow → Type 0) (Marked : ℕ → Mark → Type 0) (
   pub inversions : List ℕ
   pub inversions_are : InTurn (ShowsInversion In Marked names) (pairs_of keys) inversions
   pub text_is : text ≡ total_lines traces events (length names) dependencies clean ++ usage ++ circles ++ doubles ++ inversions
+
+-- the text is the report of all these traces together
+abbrev pub IsReportOf : List (List Event) → List Name → List ℕ → Type 0
+IsReportOf traces names text = IsReport (HaveDependency traces) (HaveMark traces) (length traces) (sum_by length traces) names text

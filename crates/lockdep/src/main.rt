@@ -8,6 +8,7 @@ mod order;
 mod output;
 mod page;
 mod report;
+mod session;
 mod text;
 
 fn main() {}

@@ -1,21 +1,26 @@
 //! The text of a report.
 
-ghost use Rattle.std.specs.Prelude.{◌≡◌, ◌<◌, ◌↔◌, ◌++◌, IsTrue, OnOk, IfOk, length, string_bytes, map};
+ghost use Rattle.std.specs.Prelude.{◌≡◌, ◌<◌, ◌↔◌, ◌++◌, List, ℕ, IsTrue, OnOk, IfOk, IfErr, length, string_bytes, map, sum_by};
 ghost use Rattle.std.specs.List.{flat_map};
+ghost use Rattle.std.specs.Io.KnownBytes.{Appends};
 ghost use Rattle.ld_graph.specs.Arrows.{arrow};
 ghost use Rattle.ld_graph.specs.Walks.{OnCircle};
 ghost use Rattle.ld_graph.specs.Links.{IsClean, IsDouble, IsInversion};
-ghost use Rattle.ld_graph.specs.Facts.{HasDep, HasMark, dependency_count};
+ghost use Rattle.ld_graph.specs.Facts.{HasDep, HasMark};
+ghost use Rattle.lockdep.specs.Faults.{StopsWriting};
 ghost use Rattle.lockdep.specs.Groups.{GrowsBy, InTurn};
 ghost use Rattle.lockdep.specs.Words.{name_at};
 ghost use Rattle.lockdep.specs.Report.{IsReport, IsUsageCharacter, IsUsageLine, ShowsCircle, ShowsDouble, ShowsInversion, circle_line, clean_line, dependencies_between, dependencies_from, double_line, inversion_line, kinds, pairs_of, pairs_with, states, total_line, total_lines, usage_character, usage_line, uses_of};
 
 use ld_graph::Graph;
 use ld_graph::{Kind, Mark};
-use ld_trace::{Irq, KeyId, KeyTable};
+use ld_trace::{Irq, KeyId, KeyTable, RawTrace};
 use std::alloc::{AllocError, Global};
+use std::io::Write;
 
+use crate::fault::WriteFault;
 use crate::order::{name_of, sorted_keys};
+use crate::output::write_text;
 use crate::text::{irq_word, kind_word};
 
 // The four kinds, in the report's order.
@@ -263,7 +268,7 @@ pub(crate) fn report_text(
     clean: bool,
 ) -> Result<String, AllocError>
     ensures { IfOk result (λ text. (IsTrue clean ↔ IsClean (HasDep graph.now.facts) (HasMark graph.now.facts))
-        → IsReport (HasDep graph.now.facts) (HasMark graph.now.facts) traces events (dependency_count graph.now.facts) names.now (string_bytes text)) }
+        → IsReport (HasDep graph.now.facts) (HasMark graph.now.facts) traces events names.now (string_bytes text)) }
 {
     let keys = sorted_keys(alloc, names)?;
     let findings = Findings {
@@ -322,4 +327,40 @@ fn character_of(enabled: bool, used_in: bool) -> &'static str
         (true, false) => "+",
         (false, false) => ".",
     }
+}
+
+/// Writes the report of the graph's facts, which come from these traces. The flag says whether they are clean.
+///
+/// Refusals: O3 where memory for the text is refused, before its first byte; O1 where the writer answers an error and O2
+/// where it takes nothing, after exactly a beginning of the text.
+pub(crate) fn write_report<W: Write>(
+    alloc: Global,
+    w: &mut W,
+    graph: &Graph,
+    traces: &[RawTrace],
+    names: &KeyTable,
+    clean: bool,
+) -> Result<(), WriteFault>
+    requires { IsTrue clean ↔ IsClean (HasDep graph.now.facts) (HasMark graph.now.facts) }
+    ensures ok { OnOk result ((text : List ℕ) × IsReport (HasDep graph.now.facts) (HasMark graph.now.facts) (length traces.now) (sum_by length traces.now) names.now text
+        × Appends (W.contents w.old) (W.contents w.new) text) }
+    ensures err { IfErr result (StopsWriting (IsReport (HasDep graph.now.facts) (HasMark graph.now.facts) (length traces.now) (sum_by length traces.now) names.now)
+        (W.contents w.old) (W.contents w.new)) }
+{
+    let events = event_count(traces);
+    match report_text(alloc, graph, names, traces.len(), events, clean) {
+        Ok(text) => write_text(w, text.as_str().as_bytes()),
+        Err(_) => Err(WriteFault::Memory),
+    }
+}
+
+// How many events the traces have together.
+fn event_count(traces: &[RawTrace]) -> u128
+    ensures { result ≡ sum_by length traces.now }
+{
+    let mut events = 0u128;
+    for trace in traces {
+        events += trace.len() as u128;
+    }
+    events
 }

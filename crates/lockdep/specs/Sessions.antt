@@ -1,0 +1,9 @@
+-- What a session holds. This project's own.
+use Rattle.std.specs.Prelude.{List}
+use Rattle.ld_trace.specs.Names.{Name}
+use Rattle.ld_trace.specs.declared.event.Event.{Event}
+
+-- the names of the keys, and the traces that were read
+pub record SessionParts : Type 0 where
+  pub names : List Name
+  pub traces : List (List Event)
