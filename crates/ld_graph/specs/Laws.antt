@@ -1,5 +1,5 @@
 -- What holds of all facts: the laws that this crate proves of its definitions. A set of arrows or of marks is a test here.
-use Rattle.std.specs.Prelude.{◌≡◌, ℕ, ◌⊎◌, ◌↔◌, Bool, IsTrue, IsFalse, List, [], ◌∷◌, length, Any}
+use Rattle.std.specs.Prelude.{◌≡◌, ℕ, ◌⊎◌, ◌↔◌, Bool, IsTrue, IsFalse, List, [], ◌∷◌, ◌++◌, length, Any}
 use Rattle.ld_trace.specs.declared.event.Irq.{Irq}
 use Rattle.ld_task.specs.declared.kind.Kind.{Kind}
 use Rattle.ld_task.specs.declared.mark.Mark.{Mark}
@@ -26,6 +26,16 @@ pub record AddsChains (old new : FactWords) (chains : List ChainParts) : Type 0 
 -- adding chains one after the other gives the union of their facts
 abbrev pub AddingInTurnUnites : Type 0
 AddingInTurnUnites = (old new : FactWords) (chains : List ChainParts) → AddsInTurn old chains new → AddsChains old new chains
+
+-- the facts are exactly those of the chains
+pub record AreFactsOf (facts : FactWords) (chains : List ChainParts) : Type 0 where
+  pub dependencies : (from to : ℕ) (kind : Kind) → HasDep facts (arrow from to kind) ↔ Any (λ c. ChainHasDependency c from to kind) chains
+  pub marks : (key : ℕ) (mark : Mark) → HasMark facts key mark ↔ Any (λ c. ChainHasMark c key mark) chains
+
+-- one chain more behind the others
+abbrev pub AddingOneMoreUnites : Type 0
+AddingOneMoreUnites = (old new : FactWords) (chains : List ChainParts) (chain : ChainParts) →
+    AreFactsOf old chains → AddsChain old new chain → AreFactsOf new (chains ++ chain ∷ [])
 
 -- ---- what is new suffices
 -- the set of a test

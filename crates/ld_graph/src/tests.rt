@@ -1,0 +1,304 @@
+//! What graphs say of small traces.
+
+use crate::{Facts, Graph, Kind, Mark};
+use ld_task::{Chain, TaskState};
+use ld_trace::{Event, Irq, KeyId, Mode};
+use std::alloc::{AllocError, Global};
+use std::process::Abort;
+use std::test::Fail;
+
+// The first keys, by the letters of the examples.
+const A: u16 = 0;
+const B: u16 = 1;
+const C: u16 = 2;
+
+const KINDS: [Kind; 4] = [Kind::Er, Kind::En, Kind::Sr, Kind::Sn];
+
+const LEAVE: Event = Event::Leave;
+
+fn key(number: u16) -> KeyId {
+    KeyId::new(number).unwrap_or(KeyId::default())
+}
+
+fn take(number: u16, mode: Mode) -> Event {
+    Event::Acquire {
+        key: key(number),
+        mode,
+    }
+}
+
+// Taken by a writer.
+fn write(number: u16) -> Event {
+    take(number, Mode::Write)
+}
+
+// Taken by a non-recursive reader.
+fn read(number: u16) -> Event {
+    take(number, Mode::Read)
+}
+
+// Taken by a recursive reader.
+fn reread(number: u16) -> Event {
+    take(number, Mode::RecRead)
+}
+
+fn give(number: u16) -> Event {
+    Event::Release { key: key(number) }
+}
+
+fn enter(irq: Irq) -> Event {
+    Event::Enter { irq }
+}
+
+fn turn_on(irq: Irq) -> Event {
+    Event::TurnOn { irq }
+}
+
+fn turn_off(irq: Irq) -> Event {
+    Event::TurnOff { irq }
+}
+
+// Whether the queries over all keys find nothing wrong.
+fn finds_nothing(graph: &Graph) -> bool {
+    let keys = graph.facts().keys();
+    for a in 0..keys {
+        if graph.is_double(Irq::Hard, a) || graph.is_double(Irq::Soft, a) {
+            return false;
+        }
+        for b in 0..keys {
+            if graph.is_inversion(Irq::Hard, a, b) || graph.is_inversion(Irq::Soft, a, b) {
+                return false;
+            }
+            for kind in KINDS {
+                if graph.on_circle(a, b, kind) {
+                    return false;
+                }
+            }
+        }
+    }
+    true
+}
+
+// Adds a chain, and compares the flag with the queries.
+fn add(rt: &impl Abort, graph: &mut Graph, chain: &Chain) -> bool {
+    assert!(rt; chain.keys_below(graph.facts().keys()));
+    let fresh = graph.add_chain(chain);
+    assert!(rt; graph.is_clean() == finds_nothing(graph), "the flag and the queries differ");
+    fresh
+}
+
+// Adds the chains of a trace, and answers the last.
+fn replay(rt: &impl Abort, graph: &mut Graph, events: &[Event]) -> Option<Chain> {
+    let mut state = TaskState::new();
+    let mut last = None;
+    for event in events {
+        if let Ok(Some(chain)) = state.step(*event) {
+            add(rt, graph, &chain);
+            last = Some(chain);
+        }
+    }
+    last
+}
+
+#[test]
+fn two_locks_taken_in_both_orders_are_on_a_circle(rt: HostRuntime) -> Result<(), Fail> {
+    let mut graph = Graph::new(rt.alloc(), 2)?;
+    replay(&rt, &mut graph, &[write(A), write(B), give(B), give(A)]);
+    assert!(rt; graph.is_clean());
+    let last = replay(&rt, &mut graph, &[write(B), write(A), give(A), give(B)]).ok_or("chains")?;
+    assert!(rt; !graph.is_clean());
+    assert!(rt; graph.on_circle(A, B, Kind::En) && graph.on_circle(B, A, Kind::En));
+    assert!(rt; !graph.on_circle(A, B, Kind::Er), "not among the facts");
+    assert_eq!(rt; graph.facts().dependencies(), 2);
+    let searched = graph.searched();
+    assert!(rt; !add(&rt, &mut graph, &last), "known");
+    assert_eq!(rt; graph.searched(), searched);
+    Ok(())
+}
+
+#[test]
+fn three_locks_taken_round_are_on_a_circle(rt: HostRuntime) -> Result<(), Fail> {
+    let mut graph = Graph::new(rt.alloc(), 4)?;
+    replay(&rt, &mut graph, &[write(A), write(B)]);
+    replay(&rt, &mut graph, &[write(B), write(C)]);
+    assert!(rt; graph.is_clean());
+    replay(&rt, &mut graph, &[write(C), write(A)]);
+    replay(&rt, &mut graph, &[write(A), write(3)]);
+    assert!(rt; graph.on_circle(A, B, Kind::En) && graph.on_circle(B, C, Kind::En) && graph.on_circle(C, A, Kind::En));
+    assert!(rt; !graph.on_circle(A, 3, Kind::En));
+    Ok(())
+}
+
+#[test]
+fn a_recursive_reader_between_is_passed_over(rt: HostRuntime) -> Result<(), Fail> {
+    let mut graph = Graph::new(rt.alloc(), 3)?;
+    replay(&rt, &mut graph, &[write(A), reread(B), write(C)]);
+    replay(&rt, &mut graph, &[write(C), write(A)]);
+    assert_eq!(rt; graph.facts().dependencies(), 4);
+    assert!(rt; graph.on_circle(A, C, Kind::En) && graph.on_circle(C, A, Kind::En));
+    assert!(rt; !graph.on_circle(A, B, Kind::Er) && !graph.on_circle(B, C, Kind::Sn));
+    Ok(())
+}
+
+#[test]
+fn one_lock_taken_twice_is_a_circle_but_for_two_recursive_readers(
+    rt: HostRuntime,
+) -> Result<(), Fail> {
+    let mut graph = Graph::new(rt.alloc(), 3)?;
+    replay(&rt, &mut graph, &[reread(A), reread(A)]);
+    assert!(rt; graph.is_clean());
+    replay(&rt, &mut graph, &[write(B), reread(B)]);
+    replay(&rt, &mut graph, &[read(C), read(C)]);
+    assert!(rt; graph.on_circle(B, B, Kind::Er) && graph.on_circle(C, C, Kind::Sn));
+    assert!(rt; !graph.on_circle(A, A, Kind::Sr));
+    Ok(())
+}
+
+#[test]
+fn a_closed_walk_is_tested_where_its_last_meets_its_first(rt: HostRuntime) -> Result<(), Fail> {
+    let mut graph = Graph::new(rt.alloc(), 2)?;
+    replay(&rt, &mut graph, &[write(A), reread(B)]);
+    replay(&rt, &mut graph, &[reread(B), write(A)]);
+    assert_eq!(rt; graph.facts().dependencies(), 2);
+    assert!(rt; graph.is_clean());
+    replay(&rt, &mut graph, &[write(B), write(A)]);
+    assert!(rt; graph.on_circle(A, B, Kind::Er) && graph.on_circle(B, A, Kind::En));
+    assert!(rt; !graph.on_circle(B, A, Kind::Sn));
+    Ok(())
+}
+
+#[test]
+fn a_closed_walk_may_visit_a_key_twice(rt: HostRuntime) -> Result<(), Fail> {
+    let mut graph = Graph::new(rt.alloc(), 3)?;
+    replay(&rt, &mut graph, &[write(A), reread(B)]);
+    replay(&rt, &mut graph, &[read(B), write(A)]);
+    assert!(rt; graph.is_clean());
+    replay(&rt, &mut graph, &[write(B), write(C)]);
+    replay(&rt, &mut graph, &[write(C), write(B)]);
+    assert!(rt; graph.on_circle(A, B, Kind::Er) && graph.on_circle(B, A, Kind::Sn));
+    assert!(rt; graph.on_circle(B, C, Kind::En) && graph.on_circle(C, B, Kind::En));
+    Ok(())
+}
+
+#[test]
+fn a_key_used_in_hardirqs_and_with_them_on_is_a_double_but_for_readers(
+    rt: HostRuntime,
+) -> Result<(), Fail> {
+    let mut graph = Graph::new(rt.alloc(), 2)?;
+    replay(&rt, &mut graph, &[enter(Irq::Hard), read(A), give(A), LEAVE]);
+    replay(&rt, &mut graph, &[read(A), give(A)]);
+    assert!(rt; graph.is_clean());
+    replay(&rt, &mut graph, &[enter(Irq::Hard), write(B), give(B), LEAVE]);
+    assert!(rt; graph.is_clean());
+    replay(&rt, &mut graph, &[write(B), give(B)]);
+    assert!(rt; graph.is_double(Irq::Hard, B));
+    assert!(rt; !graph.is_double(Irq::Soft, B) && !graph.is_double(Irq::Hard, A));
+    Ok(())
+}
+
+#[test]
+fn turning_hardirqs_on_marks_the_locks_held(rt: HostRuntime) -> Result<(), Fail> {
+    let mut graph = Graph::new(rt.alloc(), 1)?;
+    let enabled = Mark::Enabled {
+        irq: Irq::Hard,
+        read: false,
+    };
+    replay(&rt, &mut graph, &[turn_off(Irq::Hard), write(A)]);
+    assert!(rt; graph.facts().has_mark(A, Mark::Used) && !graph.facts().has_mark(A, enabled));
+    replay(&rt, &mut graph, &[turn_off(Irq::Hard), write(A), turn_on(Irq::Hard)]);
+    assert!(rt; graph.facts().has_mark(A, enabled));
+    assert_eq!(rt; graph.facts().marks(), 3);
+    Ok(())
+}
+
+// The flag after each chain of the traces, and whether A and B are then an inversion of softirqs.
+fn flags(
+    rt: &impl Abort,
+    alloc: Global,
+    traces: &[&[Event]],
+) -> Result<(Vec<bool>, bool), AllocError> {
+    let mut graph = Graph::new(alloc, 2)?;
+    let mut flags = Vec::new(alloc);
+    for trace in traces {
+        let mut state = TaskState::new();
+        for event in *trace {
+            if let Ok(Some(chain)) = state.step(*event) {
+                add(rt, &mut graph, &chain);
+                flags.push(graph.is_clean())?;
+            }
+        }
+    }
+    Ok((flags, graph.is_inversion(Irq::Soft, A, B)))
+}
+
+#[test]
+fn three_orders(rt: HostRuntime) -> Result<(), Fail> {
+    let used = [enter(Irq::Soft), write(A), give(A), LEAVE];
+    let under = [turn_off(Irq::Soft), write(A), write(B), give(B), give(A), turn_on(Irq::Soft)];
+    let enabled = [write(B), give(B)];
+
+    let by_enabled = flags(&rt, rt.alloc(), &[&used, &under, &enabled])?;
+    assert_eq!(rt; by_enabled.0.as_slice(), [true, true, true, true, false].as_slice());
+    let by_used = flags(&rt, rt.alloc(), &[&enabled, &under, &used])?;
+    assert_eq!(rt; by_used.0.as_slice(), [true, true, true, true, false].as_slice());
+    let by_dependency = flags(&rt, rt.alloc(), &[&used, &enabled, &under])?;
+    assert_eq!(rt; by_dependency.0.as_slice(), [true, true, true, false, false].as_slice());
+    assert!(rt; by_enabled.1 && by_used.1 && by_dependency.1);
+    Ok(())
+}
+
+#[test]
+fn an_inversion_is_tested_where_its_walk_begins(rt: HostRuntime) -> Result<(), Fail> {
+    let mut graph = Graph::new(rt.alloc(), 2)?;
+    replay(&rt, &mut graph, &[enter(Irq::Hard), read(A), give(A), LEAVE]);
+    replay(&rt, &mut graph, &[turn_off(Irq::Hard), read(A), write(B), give(B), give(A)]);
+    replay(&rt, &mut graph, &[write(B), give(B)]);
+    assert!(rt; graph.is_clean());
+    replay(&rt, &mut graph, &[turn_off(Irq::Hard), write(A), write(B), give(B), give(A)]);
+    assert!(rt; graph.is_inversion(Irq::Hard, A, B));
+    Ok(())
+}
+
+#[test]
+fn an_inversion_is_tested_where_its_walk_ends(rt: HostRuntime) -> Result<(), Fail> {
+    let mut graph = Graph::new(rt.alloc(), 2)?;
+    replay(&rt, &mut graph, &[enter(Irq::Hard), write(A), give(A), LEAVE]);
+    replay(&rt, &mut graph, &[turn_off(Irq::Hard), write(A), reread(B), give(B), give(A)]);
+    replay(&rt, &mut graph, &[reread(B), give(B)]);
+    assert!(rt; graph.is_clean());
+    assert!(rt; !graph.is_inversion(Irq::Hard, A, B));
+    Ok(())
+}
+
+#[test]
+fn forty_eight_locks_give_a_dependency_a_pair(rt: HostRuntime) -> Result<(), Fail> {
+    let mut events = Vec::new(rt.alloc());
+    for number in 0..48u16 {
+        events.push(write(number))?;
+    }
+    let mut graph = Graph::new(rt.alloc(), 48)?;
+    replay(&rt, &mut graph, &events);
+    assert!(rt; graph.is_clean());
+    assert_eq!(rt; graph.facts().dependencies(), 1128);
+    assert_eq!(rt; graph.facts().marks(), 144);
+    Ok(())
+}
+
+#[test]
+fn facts_of_a_chain_are_added_and_united(rt: HostRuntime) -> Result<(), Fail> {
+    let mut state = TaskState::new();
+    state.step(write(A))?;
+    let chain = state.step(write(B))?.ok_or("an acquisition has a chain")?;
+    assert!(rt; chain.keys_below(2));
+    let mut facts = Facts::new(rt.alloc(), 2)?;
+    assert!(rt; facts.add_chain(&chain), "new");
+    assert!(rt; facts.has_dep(A, B, Kind::En) && !facts.has_dep(B, A, Kind::En));
+    assert!(rt; facts.has_mark(B, Mark::Used) && !facts.has_mark(A, Mark::Used));
+    assert!(rt; !facts.has_dep(A, C, Kind::En) && !facts.has_mark(C, Mark::Used), "out of range");
+    let mut united = Facts::new(rt.alloc(), 2)?;
+    assert!(rt; !united.same(&facts));
+    assert!(rt; united.keys() == facts.keys());
+    united.unite(&facts);
+    assert!(rt; united.same(&facts));
+    Ok(())
+}
