@@ -1,11 +1,8 @@
 -- Single facts, and the facts of a chain one after the other.
-use Rattle.std.specs.Prelude.{◌≡◌, ℕ, ◌+◌, ◌-◌, ◌*◌, ◌/◌, ◌%◌, ◌<◌, ◌⊎◌, ◌↔◌, ◌==◌, nat_lt, Bool, if◌then◌else◌, IsTrue, List, length, Option, Some, None, slice_get}
-use Rattle.ld_trace.specs.declared.event.Irq.{Irq}
+use Rattle.std.specs.Prelude.{◌≡◌, ℕ, ◌+◌, ◌-◌, ◌*◌, ◌/◌, ◌%◌, ◌<◌, ◌⊎◌, ◌↔◌, ◌==◌, nat_lt, Bool, if◌then◌else◌, length, Option, Some, None, slice_get}
 use Rattle.ld_trace.specs.declared.event.Irq.TheVariants.{Hard, Soft}
-use Rattle.ld_trace.specs.declared.event.Mode.{Mode}
 use Rattle.ld_task.specs.declared.frame.Frame.{Frame}
 use Rattle.ld_task.specs.declared.lock.Lock.{Lock}
-use Rattle.ld_task.specs.declared.kind.Kind.{Kind}
 use Rattle.ld_task.specs.declared.mark.Mark.{Mark}
 use Rattle.ld_task.specs.declared.mark.Mark.TheVariants.{Used, UsedIn, Enabled}
 use Rattle.ld_task.specs.Chains.{ChainParts, ChainHasDependency, ChainHasMark}

@@ -1,5 +1,5 @@
 -- Facts about lock keys: dependencies between them and marks on them. A crate above names `HasDep` and `HasMark` alone.
-use Rattle.std.specs.Prelude.{◌≡◌, ℕ, ◌+◌, ◌*◌, ◌/◌, ◌||◌, ◌==◌, ◌<◌, ◌≤◌, ◌⊎◌, ◌↔◌, Bool, false, IsTrue, List, length}
+use Rattle.std.specs.Prelude.{◌≡◌, ℕ, ◌+◌, ◌*◌, ◌/◌, ◌||◌, ◌==◌, ◌<◌, ◌≤◌, ◌⊎◌, ◌↔◌, false, IsTrue, List, length}
 use Rattle.std.specs.Int.{bit_at}
 use Rattle.ld_task.specs.declared.kind.Kind.{Kind}
 use Rattle.ld_task.specs.declared.mark.Mark.{Mark}
@@ -33,7 +33,7 @@ mark_count facts = count_below (λ n. has_bit facts.words (dependency_total fact
 pub record AddsChain (old new : FactWords) (chain : ChainParts) : Type 0 where
   pub keys : new.keys ≡ old.keys
   pub dependencies : (from to : ℕ) (kind : Kind) →
-    HasDep new (arrow from to kind) ↔ (HasDep old (arrow from to kind) ⊎ ChainHasDependency chain from to kind)
+      HasDep new (arrow from to kind) ↔ (HasDep old (arrow from to kind) ⊎ ChainHasDependency chain from to kind)
   pub marks : (key : ℕ) (mark : Mark) → HasMark new key mark ↔ (HasMark old key mark ⊎ ChainHasMark chain key mark)
 
 -- the chain brings nothing new: its facts are there

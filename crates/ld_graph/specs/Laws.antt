@@ -20,7 +20,7 @@ AddsInTurn old (chain ∷ chains) new = (next : FactWords) × AddsChain old next
 pub record AddsChains (old new : FactWords) (chains : List ChainParts) : Type 0 where
   pub keys : new.keys ≡ old.keys
   pub dependencies : (from to : ℕ) (kind : Kind) →
-    HasDep new (arrow from to kind) ↔ (HasDep old (arrow from to kind) ⊎ Any (λ c. ChainHasDependency c from to kind) chains)
+      HasDep new (arrow from to kind) ↔ (HasDep old (arrow from to kind) ⊎ Any (λ c. ChainHasDependency c from to kind) chains)
   pub marks : (key : ℕ) (mark : Mark) → HasMark new key mark ↔ (HasMark old key mark ⊎ Any (λ c. ChainHasMark c key mark) chains)
 
 -- adding chains one after the other gives the union of their facts

@@ -1,5 +1,5 @@
 -- A table of the places that are reached from each place: a row of bits for each.
-use Rattle.std.specs.Prelude.{◌≡◌, ℕ, ◌<◌, ◌⊎◌, ◌↔◌, ◌||◌, ◌&&◌, Bool, IsTrue, IsFalse, List, [], length, slice_index_or}
+use Rattle.std.specs.Prelude.{◌≡◌, ℕ, ◌⊎◌, ◌↔◌, Bool, IsTrue, IsFalse, List, [], length, slice_index_or}
 use Rattle.ld_graph.specs.Arrows.{Arrow}
 use Rattle.ld_graph.specs.Bits.{has_bit}
 use Rattle.ld_graph.specs.Places.{place, arrival, Leaves, LeavesFrom}
@@ -39,7 +39,7 @@ Implies table d = (l : ℕ) → Leaves d l → IsTrue (reaches table l (arrival 
 -- the arrow's sources come to reach its targets
 pub record TakesArrow (old new : List (List ℕ)) (d : Arrow) : Type 0 where
   pub reached : (p q : ℕ) → IsTrue (reaches new p q) ↔
-    (IsTrue (reaches old p q) ⊎ (IsSource old d.start d.first_is_s p × IsTarget old d.end d.second_is_r q))
+      (IsTrue (reaches old p q) ⊎ (IsSource old d.start d.first_is_s p × IsTarget old d.end d.second_is_r q))
 
 -- the second table is the first, read backwards
 pub record AreTables (ahead behind : List (List ℕ)) : Type 0 where

@@ -57,10 +57,34 @@ fn mark_of_new(chain: &Chain, n: usize, key: KeyId, mode: Mode, frame: Frame) ->
     let read = reads(mode);
     let (given, mark) = match n {
         0 => (true, Mark::Used),
-        1 => (frame == Frame::Hardirq, Mark::UsedIn { irq: Irq::Hard, read }),
-        2 => (chain.hard_on(), Mark::Enabled { irq: Irq::Hard, read }),
-        3 => (frame == Frame::Softirq, Mark::UsedIn { irq: Irq::Soft, read }),
-        _ => (chain.hard_on() && chain.soft_on(), Mark::Enabled { irq: Irq::Soft, read }),
+        1 => (
+            frame == Frame::Hardirq,
+            Mark::UsedIn {
+                irq: Irq::Hard,
+                read,
+            },
+        ),
+        2 => (
+            chain.hard_on(),
+            Mark::Enabled {
+                irq: Irq::Hard,
+                read,
+            },
+        ),
+        3 => (
+            frame == Frame::Softirq,
+            Mark::UsedIn {
+                irq: Irq::Soft,
+                read,
+            },
+        ),
+        _ => (
+            chain.hard_on() && chain.soft_on(),
+            Mark::Enabled {
+                irq: Irq::Soft,
+                read,
+            },
+        ),
     };
     mark_where(given, key, mark)
 }
@@ -72,16 +96,37 @@ fn mark_of_old(chain: &Chain, i: usize, n: usize) -> Option<Fact>
     let (key, mode) = chain.held(i)?;
     let read = reads(mode);
     if n == 0 {
-        mark_where(chain.hard_on(), key, Mark::Enabled { irq: Irq::Hard, read })
+        mark_where(
+            chain.hard_on(),
+            key,
+            Mark::Enabled {
+                irq: Irq::Hard,
+                read,
+            },
+        )
     } else {
-        mark_where(chain.hard_on() && chain.soft_on(), key, Mark::Enabled { irq: Irq::Soft, read })
+        mark_where(
+            chain.hard_on() && chain.soft_on(),
+            key,
+            Mark::Enabled {
+                irq: Irq::Soft,
+                read,
+            },
+        )
     }
 }
 
 fn mark_where(given: bool, key: KeyId, mark: Mark) -> Option<Fact>
     ensures { result ≡ (if given then Some (Fact.Marked key mark) else None) }
 {
-    if given { Some(Fact::Marked { key: key.get(), mark }) } else { None }
+    if given {
+        Some(Fact::Marked {
+            key: key.get(),
+            mark,
+        })
+    } else {
+        None
+    }
 }
 
 // The kind of a dependency from a lock held in the one mode to one taken in the other.

@@ -6,13 +6,12 @@ ghost use Rattle.ld_graph.specs.Bits.{has_bit};
 ghost use Rattle.ld_graph.specs.Places.{place, LeavesFrom};
 ghost use Rattle.ld_graph.specs.Tables.{reaches, Comes, IsSource, IsTarget, IsFreshSource, IsFreshTarget, IsTransitive, TakesArrow, Implies};
 
-use std::alloc::{AllocError, Global};
-use std::marker::Model;
-
 use crate::bits;
 use crate::fact::{begins_with_s, ends_in_r};
 use crate::places::{PLACES, Row, place_of};
 use ld_task::Kind;
+use std::alloc::{AllocError, Global};
+use std::marker::Model;
 
 /// For each place those that are reached from it, by one dependency or more, and those from which it is reached.
 #[derive(Drop)]

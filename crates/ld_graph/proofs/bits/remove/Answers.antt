@@ -1,4 +1,4 @@
-use Rattle.std.proofs.Common.{arith, ◌≡◌, ℕ, ◌<◌, ◌^◌, length, slice_index, bit_and}
+use Rattle.std.proofs.Common.{arith}
 use Rattle.ld_graph.proofs.BitLemmas.{has_bit-difference}
 use Rattle.ld_graph.proofs.bits.remove.Goals as goal
 

@@ -1,4 +1,4 @@
-use Rattle.std.proofs.Common.{◌≡◌, ◌↔◌, ◌||◌, ◌&&◌, ◌∙◌, List, ℕ, length, sym, ap, subst, true}
+use Rattle.std.proofs.Common.{◌≡◌, ◌↔◌, ◌||◌, ◌&&◌, ◌∙◌, ℕ, length, sym, ap, subst, true}
 use Rattle.std.proofs.lemmas.List.{with_items_is}
 use Rattle.std.specs.Vec.{with_items}
 use Rattle.ld_graph.specs.Arrows.{arrow}
@@ -61,5 +61,5 @@ returns-clause-takes c =
     let d = (goal.at.returns-clause-takes c).After-join-2 in
     subst (λ t. TakesArrow t (with_items c.self.inside.ahead c.join.new.rows).items (arrow c.args.from c.args.to c.args.kind)) c.self.view_is
     (TakesArrow-joined c.self.inside.ahead.items c.self.inside.behind.items (with_items c.self.inside.ahead c.join.new.rows).items (with_items c.self.inside.behind c.join-2.new.rows).items
-      (arrow c.args.from c.args.to c.args.kind) c.sources-sources.result c.targets-targets.result c.fresh_sources-fresh_sources.result c.fresh_targets-fresh_targets.result
-      c.self.invariant (transitive d) (sources_are d) (targets_are d) (fresh_sources_are d) (fresh_targets_are d) (joined d) (joined_behind d))
+    (arrow c.args.from c.args.to c.args.kind) c.sources-sources.result c.targets-targets.result c.fresh_sources-fresh_sources.result c.fresh_targets-fresh_targets.result
+    c.self.invariant (transitive d) (sources_are d) (targets_are d) (fresh_sources_are d) (fresh_targets_are d) (joined d) (joined_behind d))
