@@ -1,0 +1,141 @@
+//! The program's words, statuses and lines.
+
+use crate::program::program;
+use crate::tests::writers::Narrow;
+use std::process::Abort;
+use std::str;
+use std::test::Fail;
+
+// Asserts the status of the program and what it wrote on its two outputs.
+fn assert_output(
+    rt: &(impl Abort + AllocGlobal),
+    words: &[&str],
+    input: &str,
+    (status, out, err): (u8, &str, &str),
+) -> Result<(), Fail> {
+    let (mut got_out, mut got_err) = (Vec::new(rt.alloc()), Vec::new(rt.alloc()));
+    let got_status = program(rt.alloc(), words, input.as_bytes(), &mut got_out, &mut got_err);
+    assert_eq!(rt; str::from_utf8(got_err.as_slice())?, err, "{words:?}");
+    assert_eq!(rt; str::from_utf8(got_out.as_slice())?, out, "{words:?}");
+    assert_eq!(rt; got_status, status, "{words:?}");
+    Ok(())
+}
+
+#[test]
+fn check_writes_a_report_and_its_status(rt: HostRuntime) -> Result<(), Fail> {
+    assert_output(
+        &rt,
+        &["lockdep", "check"],
+        "lockdep,1\nacq,A,0,w\nenter,hardirq\nacq,B,0,w\nrel,B,0\nleave\n",
+        (
+            0,
+            "traces 1\nevents 5\nkeys 2\ndependencies 0\nclean yes\nusage A/0 {+.+.}\nusage B/0 {-...}\n",
+            "",
+        ),
+    )?;
+    assert_output(
+        &rt,
+        &["lockdep", "check"],
+        "lockdep,1\nacq,A,0,w\nacq,A,0,rr\n",
+        (
+            1,
+            "traces 1\nevents 2\nkeys 1\ndependencies 1\nclean no\nusage A/0 {++++}\ncircle A/0 ER A/0\n",
+            "",
+        ),
+    )
+}
+
+#[test]
+fn chains_writes_a_line_for_each_chain(rt: HostRuntime) -> Result<(), Fail> {
+    assert_output(
+        &rt,
+        &["lockdep", "chains"],
+        "lockdep,1\nacq,A,0,w\nacq,B,0,w\nrel,A,0\nacq,C,0,w\n",
+        (
+            0,
+            "acq A/0 w task on on held 0\nacq B/0 w task on on held 1 A/0 w\nacq C/0 w task on on held 1 B/0 w\n",
+            "",
+        ),
+    )
+}
+
+#[test]
+fn refused_traces_name_their_record_and_code(rt: HostRuntime) -> Result<(), Fail> {
+    let examples = [
+        ("", "lockdep: stdin: record 1: T1 NoHeader\n"),
+        ("lockdep,1\nacq,A,0\n", "lockdep: stdin: record 2: T2 BadRecord\n"),
+        ("lockdep,1\nrel,A,0\n", "lockdep: stdin: record 2: S1 NotHeld\n"),
+        (
+            "lockdep,1\nenter,hardirq\nacq,A,0,w\nleave\n",
+            "lockdep: stdin: record 4: S5 LeaveHeld\n",
+        ),
+        (
+            "lockdep,1\nacq,A,0,w\nrel,A,0\nacq,A,0,w\nrel,A,0\nacq,A,0,w\nrel,A,0\nacq,A,0,w\nrel,A,0\nleave\n",
+            "lockdep: stdin: record 10: S4 LeaveTask\n",
+        ),
+    ];
+    for (input, line) in examples {
+        for word in ["check", "chains"] {
+            assert_output(&rt, &["lockdep", word], input, (2, "", line))?;
+        }
+    }
+    Ok(())
+}
+
+#[test]
+fn refused_command_lines(rt: HostRuntime) -> Result<(), Fail> {
+    let examples: [&[&str]; 10] = [
+        &[],
+        &["lockdep"],
+        &["lockdep", "test"],
+        &["lockdep", "--version"],
+        &["lockdep", "check", "a.txt"],
+        &["lockdep", "check", "--workers", "2"],
+        &["lockdep", "check", "--"],
+        &["lockdep", "check", "chains"],
+        &["lockdep", "chains", "a.txt"],
+        &["lockdep", "help", "test"],
+    ];
+    for words in examples {
+        assert_output(&rt, words, "lockdep,1\n", (2, "", "lockdep: P1 BadCommandLine\n"))?;
+    }
+    Ok(())
+}
+
+#[test]
+fn help_that_is_asked_for(rt: HostRuntime) -> Result<(), Fail> {
+    let whole = "Checks recorded traces of tasks for lock orders that can deadlock\n\nUsage: lockdep <COMMAND>\n\nCommands:\n  check   Reads a trace from standard input and writes the report of its lock order\n  chains  Reads a trace from standard input and writes its chains\n  help    Print this message or the help of the given subcommand(s)\n\nOptions:\n  -h, --help  Print help\n";
+    let of_check = "Reads a trace from standard input and writes the report of its lock order\n\nUsage: lockdep check\n\nOptions:\n  -h, --help  Print help\n";
+    let examples: [(&[&str], &str); 5] = [
+        (&["lockdep", "-h"], whole),
+        (&["lockdep", "--help"], whole),
+        (&["lockdep", "help"], whole),
+        (&["lockdep", "help", "check"], of_check),
+        (&["lockdep", "check", "--help"], of_check),
+    ];
+    for (words, text) in examples {
+        assert_output(&rt, words, "", (0, text, ""))?;
+    }
+    Ok(())
+}
+
+#[test]
+fn a_failing_output_and_a_failing_error_output(rt: HostRuntime) -> Result<(), Fail> {
+    for word in ["check", "chains", "help"] {
+        for stuck in [false, true] {
+            let mut out = Narrow::new(rt.alloc(), 3, stuck);
+            let mut err = Vec::new(rt.alloc());
+            let input = b"lockdep,1\nacq,A,0,w\n".as_slice();
+            let status = program(rt.alloc(), &["lockdep", word], input, &mut out, &mut err);
+            assert_eq!(rt; status, 2, "{word}");
+            assert_eq!(rt; str::from_utf8(err.as_slice())?, "lockdep: P3 Output\n", "{word}");
+            assert_eq!(rt; out.taken.len(), 2, "{word}");
+        }
+    }
+    let mut out = Vec::new(rt.alloc());
+    let mut err = Narrow::new(rt.alloc(), 9, false);
+    let status = program(rt.alloc(), &["lockdep"], b"".as_slice(), &mut out, &mut err);
+    assert_eq!(rt; status, 2);
+    assert_eq!(rt; str::from_utf8(err.taken.as_slice())?, "lockdep:");
+    Ok(())
+}

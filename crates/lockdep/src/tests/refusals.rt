@@ -1,0 +1,104 @@
+//! Traces that are refused.
+
+use crate::fault::{ReportFault, RunFault, WriteFault};
+use crate::session::Session;
+use crate::tests::examples::session_of;
+use ld_task::StepFault;
+use ld_trace::{TraceFault, TraceFaultKind};
+use std::test::Fail;
+
+#[test]
+fn traces_refused_in_reading(rt: HostRuntime) -> Result<(), Fail> {
+    let examples: [(&[u8], TraceFaultKind, usize); 3] = [
+        (b"", TraceFaultKind::NoHeader, 1),
+        (b"lockdep,1\nacq,A,0\n", TraceFaultKind::BadRecord, 2),
+        (b"lockdep,1\nacq,m,8,w\n", TraceFaultKind::BadSub, 2),
+    ];
+    for (text, kind, at) in examples {
+        let mut session = Session::new(rt.alloc())?;
+        assert_eq!(rt; session.add(text), Err(TraceFault { kind, at }));
+    }
+    Ok(())
+}
+
+#[test]
+fn a_257th_key(rt: HostRuntime) -> Result<(), Fail> {
+    let mut trace = String::from_str(rt.alloc(), "lockdep,1\n")?;
+    for number in 0..257 {
+        writeln!(trace, "acq,n{number},0,w\nrel,n{number},0")?;
+    }
+    let mut session = Session::new(rt.alloc())?;
+    let fault = TraceFault {
+        kind: TraceFaultKind::TooManyKeys,
+        at: 514,
+    };
+    assert_eq!(rt; session.add(trace.as_str().as_bytes()), Err(fault));
+    Ok(())
+}
+
+#[test]
+fn traces_that_are_not_well_formed(rt: HostRuntime) -> Result<(), Fail> {
+    let examples = [
+        ("rel,A,0", 2, StepFault::NotHeld),
+        ("enter,hardirq acq,A,0,w leave", 4, StepFault::LeaveHeld),
+        ("leave", 2, StepFault::LeaveTask),
+        (
+            "enter,softirq off,hardirq acq,A,0,w on,hardirq on,softirq",
+            6,
+            StepFault::BadFlag,
+        ),
+        ("enter,hardirq enter,hardirq", 3, StepFault::BadEnter),
+    ];
+    for (records, at, fault) in examples {
+        let session = session_of(rt.alloc(), &["acq,A,0,w rel,A,0", records])?;
+        let mut text = Vec::new(rt.alloc());
+        let refused = ReportFault::Step {
+            trace: 1,
+            at,
+            fault,
+        };
+        assert_eq!(rt; session.report(rt.alloc(), &mut text), Err(refused), "{records}");
+        assert!(rt; text.is_empty(), "{records}");
+    }
+    Ok(())
+}
+
+#[test]
+fn a_49th_held_lock(rt: HostRuntime) -> Result<(), Fail> {
+    let mut trace = String::from_str(rt.alloc(), "lockdep,1\n")?;
+    for number in 0..49 {
+        writeln!(trace, "acq,n{number},0,w")?;
+    }
+    let mut session = Session::new(rt.alloc())?;
+    session.add(trace.as_str().as_bytes())?;
+    let mut text = Vec::new(rt.alloc());
+    let refused = ReportFault::Step {
+        trace: 0,
+        at: 50,
+        fault: StepFault::TooDeep,
+    };
+    assert_eq!(rt; session.report(rt.alloc(), &mut text), Err(refused));
+    Ok(())
+}
+
+#[test]
+fn the_first_refused_trace_is_named_and_a_refused_one_is_not_kept(rt: HostRuntime) -> Result<(), Fail> {
+    let mut session = session_of(rt.alloc(), &["acq,B,0,w", "leave", "rel,B,0"])?;
+    assert!(rt; session.add(b"lockdep,1\nacq,C,0\n".as_slice()).is_err());
+    let mut text = Vec::new(rt.alloc());
+    let refused = ReportFault::Step {
+        trace: 1,
+        at: 2,
+        fault: StepFault::LeaveTask,
+    };
+    assert_eq!(rt; session.report(rt.alloc(), &mut text), Err(refused));
+    Ok(())
+}
+
+#[test]
+fn codes_of_refused_writes_and_runs(rt: HostRuntime) {
+    assert_eq!(rt; WriteFault::Failed.code(), "O1 Failed");
+    assert_eq!(rt; WriteFault::Stuck.code(), "O2 Stuck");
+    assert_eq!(rt; WriteFault::Memory.code(), "O3 Memory");
+    assert_eq!(rt; RunFault::Memory.code(), "N4 Memory");
+}
