@@ -1,5 +1,5 @@
 -- The lines of chains, lock by lock.
-use Rattle.std.proofs.Common.{◌≡◌, ℕ, zero, suc, ◌+◌, ◌<◌, List, [], ◌∷◌, ◌++◌, Option, Some, None, option_map, slice_get, slice_index_or, length, codes, refl, sym, ap, ◌∙◌, arith}
+use Rattle.std.proofs.Common.{◌≡◌, ℕ, zero, suc, ◌<◌, List, [], ◌∷◌, ◌++◌, Some, None, option_map, slice_get, slice_index_or, length, codes, sym, ap, arith}
 use Rattle.ld_trace.specs.Names.{Name}
 use Rattle.ld_trace.specs.declared.event.Mode.{Mode}
 use Rattle.ld_task.specs.declared.lock.Lock.{Lock}

@@ -1,8 +1,7 @@
 -- The facts of a trace, gathered chain by chain.
-use Rattle.std.proofs.Common.{◌≡◌, ℕ, ◌+◌, ◌<◌, ◌≤◌, List, [], ◌∷◌, ◌++◌, Option, Some, None, Result, Ok, Err, take, length, slice_index_or, refl, sym, ap, ◌∙◌, subst, All, IfSome}
-use Rattle.std.specs.Option.{option_to_list}
+use Rattle.std.proofs.Common.{◌≡◌, ℕ, ◌+◌, ◌<◌, List, [], ◌∷◌, ◌++◌, Option, Some, None, Result, Ok, take, length, slice_index_or, refl, sym, ap, ◌∙◌, subst, All}
 use Rattle.std.specs.List.{flat_map}
-use Rattle.std.proofs.lemmas.List.{append_assoc, append-nil, take_all, take_more}
+use Rattle.std.proofs.lemmas.List.{append_assoc, append-nil, take_more}
 use Rattle.std.proofs.lemmas.List.Elements.{All-take, All-pop, All-push, All-same}
 use Rattle.ld_trace.specs.Events.{KeysBelow, KeyIsBelow}
 use Rattle.ld_trace.specs.declared.event.Event.{Event}
@@ -31,7 +30,7 @@ pub facts_with_chain : (old new : FactWords) (others : List ChainParts) (t : Lis
 facts_with_chain old new others t n state r c is on facts adds =
     let after = subst (λ x. GoesOn t n state x) is on in
     subst (λ cs. AreFactsOf new cs) (append_assoc others (chains (take n t)) (c ∷ []) ∙ ap (λ cs. others ++ cs) (sym after.1))
-        (adding_one_more_unites old new (others ++ chains (take n t)) c facts adds)
+    (adding_one_more_unites old new (others ++ chains (take n t)) c facts adds)
 
 -- an event without a chain adds nothing
 pub facts_without_chain : (facts : FactWords) (others : List ChainParts) (t : List Event) (n : ℕ) (state : EndState) (r : Result (Option ChainParts) StepFault) → r ≡ Ok None → GoesOn t n state r → AreFactsOf facts (others ++ chains (take n t)) → AreFactsOf facts (others ++ chains (take (n + 1) t))
@@ -50,7 +49,7 @@ unfolding chains positions_below
 IsGathering-none facts t state after = record {
   after = after;
   keys = refl;
-  adds = λ others facts_of. subst (λ cs. AreFactsOf facts cs) (sym (append-nil others)) facts_of
+  adds = λ others facts_of. subst (λ cs. AreFactsOf facts cs) (sym (append-nil others)) facts_of;
 }
 
 -- one more event
@@ -68,5 +67,5 @@ pub HaveGathered-next : (old mid new : FactWords) (traces : List (List Event)) (
 HaveGathered-next old mid new traces n t is within before same well_formed adds = record {
   keys = same ∙ before.keys;
   well_formed = All-same IsWellFormed _ _ (take_more traces n t within ∙ ap (λ x. take n traces ++ x ∷ []) (sym is)) (All-push IsWellFormed (take n traces) t before.well_formed well_formed);
-  adds = λ none. subst (λ cs. AreFactsOf new cs) (sym (flat_map-next chains traces n t within ∙ ap (λ x. flat_map chains (take n traces) ++ chains x) (sym is))) (adds (flat_map chains (take n traces)) (before.adds none))
+  adds = λ none. subst (λ cs. AreFactsOf new cs) (sym (flat_map-next chains traces n t within ∙ ap (λ x. flat_map chains (take n traces) ++ chains x) (sym is))) (adds (flat_map chains (take n traces)) (before.adds none));
 }

@@ -1,7 +1,7 @@
 -- Groups of lines that grow.
 use Rattle.std.proofs.Common.{◌≡◌, ℕ, ◌+◌, ◌<◌, ◌≤◌, List, [], ◌∷◌, ◌++◌, map, take, length, slice_index_or, refl, sym, ap, ◌∙◌, subst, inl, inr}
 use Rattle.std.specs.List.{flat_map}
-use Rattle.std.proofs.lemmas.List.{append_assoc, append-nil, map-append, take_more, take_all}
+use Rattle.std.proofs.lemmas.List.{append_assoc, append-nil, take_more, take_all}
 use Rattle.lockdep.specs.Groups.{GrowsBy, InTurn, ShowsWhere}
 
 pub flat_map-append : {X Y : Type 0} (f : Y → List X) (a b : List Y) → flat_map f (a ++ b) ≡ flat_map f a ++ flat_map f b
@@ -37,7 +37,7 @@ module _ {X : Type 0} (R : X → List ℕ → Type 0) where
   GrowsBy-append xs ys old mid new before more = record {
     part = before.part ++ more.part;
     shows = InTurn-append xs ys before.part more.part before.shows more.shows;
-    grew = more.grew ∙ ap (λ t. t ++ more.part) before.grew ∙ append_assoc old before.part more.part
+    grew = more.grew ∙ ap (λ t. t ++ more.part) before.grew ∙ append_assoc old before.part more.part;
   }
 
   pub GrowsBy-one : (x : X) (old new : List ℕ) → GrowsBy (R x) old new → GrowsBy (InTurn R (x ∷ [])) old new

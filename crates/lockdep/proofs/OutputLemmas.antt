@@ -1,5 +1,5 @@
 -- A text that is written piece by piece.
-use Rattle.std.proofs.Common.{◌≡◌, ℕ, List, [], ◌++◌, Option, Some, None, IfSome, take, drop, refl, sym, ap, ◌∙◌, rules, subst, Result, Ok, Err, OnErr}
+use Rattle.std.proofs.Common.{◌≡◌, ℕ, List, [], ◌++◌, Option, Some, None, take, drop, refl, sym, ap, ◌∙◌, subst, Result, Ok, Err, OnErr}
 use Rattle.std.specs.Io.KnownBytes.{Appends, Keeps}
 use Rattle.std.proofs.lemmas.List.{append_assoc, append-nil, take-append-drop}
 use Rattle.lockdep.specs.Output.{AppendsBeginning}
@@ -27,7 +27,7 @@ pub IsWriting-more : (old mid new : Option (List ℕ)) (text rest : List ℕ) (n
 IsWriting-more old mid new text rest n before more = record {
   part = before.part ++ take n rest;
   split = before.split ∙ ap (λ l. before.part ++ l) (sym (take-append-drop n rest)) ∙ sym (append_assoc before.part (take n rest) (drop n rest));
-  wrote = Appends-append old mid new before.part (take n rest) before.wrote more
+  wrote = Appends-append old mid new before.part (take n rest) before.wrote more;
 }
 
 pub Appends-from_writing : (old new : Option (List ℕ)) (text : List ℕ) → IsWriting old new text [] → Appends old new text

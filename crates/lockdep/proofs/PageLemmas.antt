@@ -1,7 +1,7 @@
 -- Texts that are put onto a page, one behind the other.
-use Rattle.std.proofs.Common.{◌≡◌, ℕ, List, [], ◌∷◌, ◌++◌, Option, Some, None, IfSome, take, drop, length, slice_index_or, refl, sym, ap, ◌∙◌, subst, ◌+◌, ◌<◌, arith}
+use Rattle.std.proofs.Common.{◌≡◌, ℕ, List, [], ◌∷◌, ◌++◌, Option, Some, None, take, drop, length, slice_index_or, refl, sym, ap, ◌∙◌, subst, ◌+◌, ◌<◌, arith}
 use Rattle.std.specs.List.{flat_map}
-use Rattle.std.specs.Io.KnownBytes.{Appends, Keeps}
+use Rattle.std.specs.Io.KnownBytes.{Appends}
 use Rattle.std.proofs.lemmas.List.{append_assoc, append-nil, take-append-drop, drop_more}
 use Rattle.ld_trace.specs.Names.{Name}
 use Rattle.ld_trace.specs.declared.event.Event.{Event}
@@ -30,7 +30,7 @@ pub PutsBehind-append : (old mid new : Option (List ℕ)) (p q r a b : List ℕ)
 PutsBehind-append old mid new p q r a b first more = record {
   part = first.part ++ more.part;
   wrote = Appends-append old mid new first.part more.part first.wrote more.wrote;
-  split = sym (append_assoc p a b) ∙ ap (λ t. t ++ b) first.split ∙ append_assoc first.part q b ∙ ap (λ t. first.part ++ t) more.split ∙ sym (append_assoc first.part more.part r)
+  split = sym (append_assoc p a b) ∙ ap (λ t. t ++ b) first.split ∙ append_assoc first.part q b ∙ ap (λ t. first.part ++ t) more.split ∙ sym (append_assoc first.part more.part r);
 }
 
 -- what is a beginning stays one before more text
@@ -55,7 +55,7 @@ AppendsBeginning-after (Some xs) (Some ys) new part rest h (begun, left, split, 
 pub AppendsBeginning-append : (old mid new : Option (List ℕ)) (p q a b : List ℕ) → PutsBehind old mid p q a → AppendsBeginning mid new (q ++ b) → AppendsBeginning old new (p ++ (a ++ b))
 AppendsBeginning-append old mid new p q a b first then_more =
     subst (λ t. AppendsBeginning old new t) (sym (append_assoc first.part q b) ∙ ap (λ t. t ++ b) (sym first.split) ∙ append_assoc p a b)
-        (AppendsBeginning-after old mid new first.part (q ++ b) first.wrote then_more)
+    (AppendsBeginning-after old mid new first.part (q ++ b) first.wrote then_more)
 
 -- the next of several texts
 pub flat_map-split : {X : Type 0} (f : X → List ℕ) (xs : List X) (i : ℕ) (d : X) → i < length xs → flat_map f xs ≡ flat_map f (take i xs) ++ (f (slice_index_or xs i d) ++ flat_map f (drop (i + 1) xs))
@@ -70,7 +70,7 @@ PutsBehind-next f xs i d old mid new p q r within before more =
 pub AppendsBeginning-next : {X : Type 0} (f : X → List ℕ) (xs : List X) (i : ℕ) (d : X) (old mid new : Option (List ℕ)) (p q : List ℕ) → i < length xs → PutsBehind old mid p q (flat_map f (take i xs)) → AppendsBeginning mid new (q ++ f (slice_index_or xs i d)) → AppendsBeginning old new (p ++ flat_map f xs)
 AppendsBeginning-next f xs i d old mid new p q within before more =
     subst (λ t. AppendsBeginning old new (p ++ t)) (sym (flat_map-split f xs i d within))
-        (AppendsBeginning-append old mid new p q (flat_map f (take i xs)) (f (slice_index_or xs i d) ++ flat_map f (drop (i + 1) xs)) before (AppendsBeginning-longer mid new q (f (slice_index_or xs i d)) (flat_map f (drop (i + 1) xs)) more))
+    (AppendsBeginning-append old mid new p q (flat_map f (take i xs)) (f (slice_index_or xs i d) ++ flat_map f (drop (i + 1) xs)) before (AppendsBeginning-longer mid new q (f (slice_index_or xs i d)) (flat_map f (drop (i + 1) xs)) more))
 
 pub AppendsBeginning-more : (old new : Option (List ℕ)) (text more : List ℕ) → AppendsBeginning old new text → AppendsBeginning old new (text ++ more)
 AppendsBeginning-more None new text more h = tt
@@ -86,7 +86,7 @@ module _ (old mid : Option (List ℕ)) where
   pub PutsLines-next : (new : Option (List ℕ)) (p q r : List ℕ) (names : List Name) (t : List Event) (n : ℕ) (state next : EndState) → PutsLines old mid p q names t n state → IsStateAfter t (n + 1) next → (text : List ℕ) × IsLineOf names t n text × PutsBehind mid new q r text → PutsLines old new p r names t (n + 1) next
   PutsLines-next new p q r names t n state next before after (text, line, puts) = record {
     after = after;
-    puts = subst (λ (x : List ℕ). PutsBehind old new p r x) (sym line.adds) (PutsBehind-append old mid new p q r (lines_before names t n) text before.puts puts)
+    puts = subst (λ (x : List ℕ). PutsBehind old new p r x) (sym line.adds) (PutsBehind-append old mid new p q r (lines_before names t n) text before.puts puts);
   }
 
   -- the line of one more event was begun
@@ -95,4 +95,4 @@ module _ (old mid : Option (List ℕ)) where
       let rest = lines_before-begin names t (n + 1) (omega arith) in
       let all : chains_text names t ≡ lines_before names t n ++ (text ++ rest.0) = rest.1 ∙ ap (λ x. x ++ rest.0) line.adds ∙ append_assoc (lines_before names t n) text rest.0 in
       subst (λ x. AppendsBeginning old new (p ++ x)) (sym all)
-          (AppendsBeginning-append old mid new p q (lines_before names t n) (text ++ rest.0) before.puts (AppendsBeginning-longer mid new q text rest.0 begun))
+      (AppendsBeginning-append old mid new p q (lines_before names t n) (text ++ rest.0) before.puts (AppendsBeginning-longer mid new q text rest.0 begun))

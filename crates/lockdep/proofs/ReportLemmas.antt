@@ -1,17 +1,14 @@
 -- Reports of equal facts, and of facts that were gathered from traces.
-use Rattle.std.proofs.Common.{◌≡◌, ℕ, Bool, true, false, List, [], ◌∷◌, ◌++◌, Option, refl, sym, ap, ◌∙◌, subst, IsTrue, ◌↔◌, ◌⊎◌, inl, inr, Any, All, Contains, length, sum_by, arith}
+use Rattle.std.proofs.Common.{◌≡◌, ℕ, Bool, true, false, List, [], ◌∷◌, refl, sym, subst, IsTrue, ◌↔◌, inl, inr, Any, Contains, length, sum_by, arith}
 use Rattle.std.specs.List.{flat_map}
-use Rattle.std.specs.Io.KnownBytes.{Keeps}
 use Rattle.ld_trace.specs.Names.{Name}
 use Rattle.ld_trace.specs.declared.event.Event.{Event}
 use Rattle.ld_trace.specs.declared.event.Irq.{Irq}
-use Rattle.ld_task.specs.declared.kind.Kind.{Kind}
-use Rattle.ld_task.specs.declared.kind.Kind.TheVariants.{Er, En, Sr, Sn}
 use Rattle.ld_task.specs.declared.mark.Mark.{Mark}
 use Rattle.ld_task.specs.declared.mark.Mark.TheVariants.{UsedIn, Enabled}
 use Rattle.ld_task.specs.Chains.{ChainParts, ChainHasDependency, ChainHasMark}
 use Rattle.ld_task.specs.TraceChains.{chains}
-use Rattle.ld_graph.specs.Arrows.{Arrow, arrow, is_s, is_r}
+use Rattle.ld_graph.specs.Arrows.{Arrow, arrow}
 use Rattle.ld_graph.specs.Facts.{FactWords, HasDep, HasMark}
 use Rattle.ld_graph.specs.Laws.{AreFactsOf}
 use Rattle.ld_graph.specs.Links.{IsClean}
@@ -23,7 +20,6 @@ use Rattle.ld_task.specs.Dependencies.{IsDependency}
 use Rattle.ld_task.specs.Marks.{IsMarked}
 use Rattle.ld_task.proofs.FactLaws.{dependencies_are_the_chains, marks_are_the_chains}
 use Rattle.lockdep.specs.Groups.{InTurn, ShowsWhere}
-use Rattle.lockdep.specs.Order.{IsKeyOrder}
 use Rattle.lockdep.specs.Report.{IsReport, IsReportOf, IsUsageCharacter, IsUsageLine, ShowsCircle, ShowsDouble, ShowsInversion, circle_line, double_line, inversion_line, dependencies_between, uses_of, pairs_of}
 use Rattle.lockdep.specs.TraceFacts.{HaveDependency, HaveMark, kind_with}
 
@@ -47,17 +43,20 @@ module _ (In In' : Arrow → Type 0) (Marked Marked' : ℕ → Mark → Type 0) 
     used_in = c.used_in;
     enabled_is = both c.enabled_is (same_marks key (Enabled irq read));
     used_in_is = both c.used_in_is (same_marks key (UsedIn irq read));
-    character_is = c.character_is
+    character_is = c.character_is;
   }
 
   line-same : (names : List Name) (key : ℕ) (line : List ℕ) → IsUsageLine names Marked key line → IsUsageLine names Marked' key line
   line-same names key line l = record {
-    hard = l.hard; hard_read = l.hard_read; soft = l.soft; soft_read = l.soft_read;
+    hard = l.hard;
+    hard_read = l.hard_read;
+    soft = l.soft;
+    soft_read = l.soft_read;
     hard_is = character-same key _ _ _ l.hard_is;
     hard_read_is = character-same key _ _ _ l.hard_read_is;
     soft_is = character-same key _ _ _ l.soft_is;
     soft_read_is = character-same key _ _ _ l.soft_read_is;
-    line_is = l.line_is
+    line_is = l.line_is;
   }
 
   -- the report of equal facts
@@ -80,7 +79,7 @@ module _ (In In' : Arrow → Type 0) (Marked Marked' : ℕ → Mark → Type 0) 
     inversions = r.inversions;
     inversions_are = InTurn-same (ShowsInversion In Marked names) (ShowsInversion In' Marked' names)
         (ShowsWhere-same _ _ (inversion_line names) (λ pair. IsInversion-same In In' Marked Marked' same same_marks pair.0 pair.1 pair.2)) (pairs_of r.keys) r.inversions r.inversions_are;
-    text_is = r.text_is
+    text_is = r.text_is;
   }
 
 -- a chain of the traces is one of some trace
@@ -92,27 +91,28 @@ chain_of_some [] c among = absurd (none_in c among)
 chain_of_some (t ∷ traces) c among = elim (Contains-append_cases (chains t) (flat_map chains traces) c among) [
   | inl here ↦ (t, Contains-append_left (t ∷ []) traces t (Contains-push [] t), here)
   | inr later ↦ let found = chain_of_some traces c later in (found.0, Contains-append_right (t ∷ []) traces found.0 found.1, found.2)
-  ]
+]
 
 some_chain_of : (traces : List (List Event)) (t : List Event) (c : ChainParts) → Contains traces t → Contains (chains t) c → Contains (flat_map chains traces) c
 some_chain_of [] t c among has = absurd (none_in t among)
 some_chain_of (u ∷ traces) t c among has = elim (Contains-append_cases (u ∷ []) traces t among) [
   | inl here ↦ Contains-append_left (chains u) (flat_map chains traces) c (elim (Contains-push_cases [] u t here) [
-      | inl none ↦ absurd (none_in t none)
-      | inr same ↦ subst (λ x. Contains (chains x) c) (sym same) has
-      ])
+    | inl none ↦ absurd (none_in t none)
+    | inr same ↦ subst (λ x. Contains (chains x) c) (sym same) has
+  ])
   | inr later ↦ Contains-append_right (chains u) (flat_map chains traces) c (some_chain_of traces t c later has)
-  ]
+]
 
 -- some trace of the list has some chain of which P holds
 pub Any-chains_of : (P : ChainParts → Type 0) (Q : List Event → Type 0) → ((t : List Event) → Q t ↔ Any P (chains t)) → (traces : List (List Event)) → Any P (flat_map chains traces) ↔ Any Q traces
-Any-chains_of P Q law traces =
-    ( λ any. let one = (Any-member P (flat_map chains traces)).0 any in
-        let found = chain_of_some traces one.0 one.1 in
-        (Any-member Q traces).1 (found.0, found.1, (law found.0).1 ((Any-member P (chains found.0)).1 (one.0, found.2, one.2)))
-    , λ any. let one = (Any-member Q traces).0 any in
-        let chain = (Any-member P (chains one.0)).0 ((law one.0).0 one.2) in
-        (Any-member P (flat_map chains traces)).1 (chain.0, some_chain_of traces one.0 chain.0 one.1 chain.1, chain.2) )
+Any-chains_of P Q law traces = (
+  λ any. let one = (Any-member P (flat_map chains traces)).0 any in
+      let found = chain_of_some traces one.0 one.1 in
+      (Any-member Q traces).1 (found.0, found.1, (law found.0).1 ((Any-member P (chains found.0)).1 (one.0, found.2, one.2))),
+  λ any. let one = (Any-member Q traces).0 any in
+      let chain = (Any-member P (chains one.0)).0 ((law one.0).0 one.2) in
+      (Any-member P (flat_map chains traces)).1 (chain.0, some_chain_of traces one.0 chain.0 one.1 chain.1, chain.2),
+)
 
 -- an arrow is that of its letters' kind
 arrow_of_letters : (d : Arrow) → arrow d.start d.end (kind_with d.first_is_s d.second_is_r) ≡ d

@@ -1,5 +1,5 @@
 -- Going along a well-formed trace.
-use Rattle.std.proofs.Common.{◌≡◌, ℕ, zero, suc, ◌+◌, ◌-◌, ◌<◌, ◌≤◌, ◌⊎◌, inl, inr, slice_index_or, slice_get, add-zero, List, [], ◌∷◌, ◌++◌, Option, Some, None, Result, Ok, Err, take, length, refl, sym, ap, ◌∙◌, subst, arith}
+use Rattle.std.proofs.Common.{◌≡◌, ℕ, zero, suc, ◌+◌, ◌-◌, ◌<◌, ◌≤◌, inl, inr, slice_index_or, slice_get, add-zero, List, [], ◌∷◌, ◌++◌, Option, Some, None, Result, Ok, Err, take, length, refl, sym, ap, ◌∙◌, subst, arith}
 use Rattle.std.specs.List.{flat_map}
 use Rattle.std.specs.Option.{option_to_list}
 use Rattle.std.proofs.lemmas.List.{append-nil, append_assoc, take_all, take_more}
@@ -12,7 +12,7 @@ use Rattle.ld_task.specs.TraceChains.{chain, chains}
 use Rattle.ld_task.specs.Positions.{positions_below}
 use Rattle.ld_task.specs.EndState.{EndState}
 use Rattle.ld_task.specs.Steps.{GoesOn, IsStateAfter}
-use Rattle.ld_task.specs.WellFormed.{IsWellFormed, IsFirstFault}
+use Rattle.ld_task.specs.WellFormed.{IsWellFormed}
 use Rattle.lockdep.specs.ChainLines.{chain_line, chains_text, lines_before, IsLineOf}
 use Rattle.ld_task.proofs.ChainLists.{chains-snoc}
 use Rattle.ld_trace.specs.declared.event.Event.TheVariants.{Leave}
@@ -46,7 +46,7 @@ chains-one_more : (t : List Event) (n : ℕ) → (more : List ChainParts) × (ch
 chains-one_more t n = elim (cases_lt n (length t)) [
   | inl within ↦ let e = record_at t n within in (option_to_list (chain (take n t ++ e.0 ∷ []) (length (take n t))), ap chains e.1 ∙ chains-snoc (take n t) e.0)
   | inr beyond ↦ ([], ap chains (take_all (n + 1) t (omega arith) ∙ sym (take_all n t beyond)) ∙ sym (append-nil (chains (take n t))))
-  ]
+]
   where
     record_at : (t : List Event) (n : ℕ) → n < length t → (e : Event) × (take (n + 1) t ≡ take n t ++ e ∷ [])
     record_at t n within = (slice_index_or t n Leave, take_more t n Leave within)
@@ -65,9 +65,10 @@ unfolding chains_text
 lines_before-begin names t n within =
     let rest = chains-more t n (length t - n) in
     let whole : n + (length t - n) ≡ length t = omega arith in
-    let all = ap (λ i. chains (take i t)) (sym whole) in
-    (flat_map (chain_line names) rest.0,
-      ap (λ u. flat_map (chain_line names) (chains u)) (sym (take_all (length t) t (omega arith))) ∙ ap (flat_map (chain_line names)) (all ∙ rest.1) ∙ flat_map-append (chain_line names) (chains (take n t)) rest.0)
+    let all = ap (λ i. chains (take i t)) (sym whole) in (
+      flat_map (chain_line names) rest.0,
+      ap (λ u. flat_map (chain_line names) (chains u)) (sym (take_all (length t) t (omega arith))) ∙ ap (flat_map (chain_line names)) (all ∙ rest.1) ∙ flat_map-append (chain_line names) (chains (take n t)) rest.0,
+    )
 
 -- no lines before the first event, and all before the end
 pub lines_before-none : (names : List Name) (t : List Event) → lines_before names t 0 ≡ []

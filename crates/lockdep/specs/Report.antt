@@ -1,5 +1,5 @@
 -- The report of facts: its lines and their order. This project's own; the usage characters are those of "State".
-use Rattle.std.specs.Prelude.{◌≡◌, ◌↔◌, ◌⊎◌, ℕ, ◌+◌, Bool, true, false, IsTrue, List, [], ◌∷◌, ◌++◌, length, map, sum_by, codes, decimal, if◌then◌else◌}
+use Rattle.std.specs.Prelude.{◌≡◌, ◌↔◌, ℕ, Bool, true, false, IsTrue, List, [], ◌∷◌, ◌++◌, length, map, sum_by, codes, decimal}
 use Rattle.std.specs.List.{flat_map}
 use Rattle.ld_trace.specs.Names.{Name}
 use Rattle.ld_trace.specs.declared.event.Event.{Event}
@@ -136,7 +136,6 @@ abbrev pub ShowsInversion : (Arrow → Type 0) → (ℕ → Mark → Type 0) →
 ShowsInversion In Marked names = ShowsWhere (λ pair. IsInversion In Marked pair.0 pair.1 pair.2) (inversion_line names)
 
 -- The whole text.
-
 
 -- the text is the report of these facts, of so many traces and events, for the keys with these names
 pub record IsReport (In : Arrow → Type 0) (Marked : ℕ → Mark → Type 0) (traces events : ℕ) (names : List Name) (text : List ℕ) : Type 0 where

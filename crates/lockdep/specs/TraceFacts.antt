@@ -1,5 +1,5 @@
 -- The facts of many traces together: the union of each one's. This project's own.
-use Rattle.std.specs.Prelude.{◌≡◌, ℕ, ◌+◌, ◌<◌, Bool, true, false, List, Any, All, Some, take, slice_get}
+use Rattle.std.specs.Prelude.{◌≡◌, ℕ, Bool, true, false, List, Any, All, Some, take, slice_get}
 use Rattle.ld_trace.specs.declared.event.Event.{Event}
 use Rattle.ld_trace.specs.Events.{KeysBelow}
 use Rattle.ld_task.specs.declared.fault.StepAt.{StepAt}

@@ -10,14 +10,13 @@ ghost use Rattle.lockdep.specs.ChainLines.{IsLineOf, chain_line, chains_text, fl
 ghost use Rattle.lockdep.specs.Output.{AppendsBeginning, PutsBehind};
 ghost use Rattle.lockdep.specs.Words.{key_text, name_at};
 
+use crate::fault::WriteFault;
+use crate::order::name_of;
+use crate::page::{Page, put, put_all, write_out};
+use crate::text::{flag_word, frame_word, mode_word, number_words};
 use ld_task::{Chain, Frame, TaskState, Trace};
 use ld_trace::{Event, KeyId, KeyTable, Mode};
 use std::io::Write;
-
-use crate::order::name_of;
-use crate::fault::WriteFault;
-use crate::page::{Page, put, put_all, write_out};
-use crate::text::{flag_word, frame_word, mode_word, number_words};
 
 // Puts a number onto the page.
 fn put_number<W: Write>(w: &mut W, page: &mut Page, number: usize) -> Result<(), WriteFault>
@@ -47,7 +46,12 @@ fn put_name<W: Write>(w: &mut W, page: &mut Page, name: &str, sub: u8) -> Result
 }
 
 // The name of a key.
-fn put_key<W: Write>(w: &mut W, page: &mut Page, names: &KeyTable, key: KeyId) -> Result<(), WriteFault>
+fn put_key<W: Write>(
+    w: &mut W,
+    page: &mut Page,
+    names: &KeyTable,
+    key: KeyId,
+) -> Result<(), WriteFault>
     ensures ok { OnOk result (PutsBehind (W.contents w.old) (W.contents w.new) page.old.bytes page.new.bytes (key_text (name_at names.now key))) }
     ensures err { OnErr result (AppendsBeginning (W.contents w.old) (W.contents w.new) (page.old.bytes ++ (key_text (name_at names.now key)))) }
 {
@@ -89,7 +93,13 @@ fn put_spaced_mode<W: Write>(w: &mut W, page: &mut Page, mode: Mode) -> Result<(
 }
 
 // A key and how it is taken.
-fn put_taken<W: Write>(w: &mut W, page: &mut Page, names: &KeyTable, key: KeyId, mode: Mode) -> Result<(), WriteFault>
+fn put_taken<W: Write>(
+    w: &mut W,
+    page: &mut Page,
+    names: &KeyTable,
+    key: KeyId,
+    mode: Mode,
+) -> Result<(), WriteFault>
     ensures ok { OnOk result (PutsBehind (W.contents w.old) (W.contents w.new) page.old.bytes page.new.bytes (taken_text names.now key mode)) }
     ensures err { OnErr result (AppendsBeginning (W.contents w.old) (W.contents w.new) (page.old.bytes ++ (taken_text names.now key mode))) }
 {
@@ -107,7 +117,12 @@ fn put_spaced_flag<W: Write>(w: &mut W, page: &mut Page, on: bool) -> Result<(),
 }
 
 // The two flags.
-fn put_flags<W: Write>(w: &mut W, page: &mut Page, hard_on: bool, soft_on: bool) -> Result<(), WriteFault>
+fn put_flags<W: Write>(
+    w: &mut W,
+    page: &mut Page,
+    hard_on: bool,
+    soft_on: bool,
+) -> Result<(), WriteFault>
     ensures ok { OnOk result (PutsBehind (W.contents w.old) (W.contents w.new) page.old.bytes page.new.bytes (flags_text hard_on soft_on)) }
     ensures err { OnErr result (AppendsBeginning (W.contents w.old) (W.contents w.new) (page.old.bytes ++ (flags_text hard_on soft_on))) }
 {
@@ -116,7 +131,12 @@ fn put_flags<W: Write>(w: &mut W, page: &mut Page, hard_on: bool, soft_on: bool)
 }
 
 // A space and the two flags.
-fn put_spaced_flags<W: Write>(w: &mut W, page: &mut Page, hard_on: bool, soft_on: bool) -> Result<(), WriteFault>
+fn put_spaced_flags<W: Write>(
+    w: &mut W,
+    page: &mut Page,
+    hard_on: bool,
+    soft_on: bool,
+) -> Result<(), WriteFault>
     ensures ok { OnOk result (PutsBehind (W.contents w.old) (W.contents w.new) page.old.bytes page.new.bytes (codes " " ++ flags_text hard_on soft_on)) }
     ensures err { OnErr result (AppendsBeginning (W.contents w.old) (W.contents w.new) (page.old.bytes ++ (codes " " ++ flags_text hard_on soft_on))) }
 {
@@ -125,7 +145,13 @@ fn put_spaced_flags<W: Write>(w: &mut W, page: &mut Page, hard_on: bool, soft_on
 }
 
 // The frame and the two flags.
-fn put_circumstances<W: Write>(w: &mut W, page: &mut Page, frame: Frame, hard_on: bool, soft_on: bool) -> Result<(), WriteFault>
+fn put_circumstances<W: Write>(
+    w: &mut W,
+    page: &mut Page,
+    frame: Frame,
+    hard_on: bool,
+    soft_on: bool,
+) -> Result<(), WriteFault>
     ensures ok { OnOk result (PutsBehind (W.contents w.old) (W.contents w.new) page.old.bytes page.new.bytes (frame_text frame ++ (codes " " ++ flags_text hard_on soft_on))) }
     ensures err { OnErr result (AppendsBeginning (W.contents w.old) (W.contents w.new) (page.old.bytes ++ (frame_text frame ++ (codes " " ++ flags_text hard_on soft_on)))) }
 {
@@ -134,7 +160,13 @@ fn put_circumstances<W: Write>(w: &mut W, page: &mut Page, frame: Frame, hard_on
 }
 
 // The same behind a space.
-fn put_spaced_circumstances<W: Write>(w: &mut W, page: &mut Page, frame: Frame, hard_on: bool, soft_on: bool) -> Result<(), WriteFault>
+fn put_spaced_circumstances<W: Write>(
+    w: &mut W,
+    page: &mut Page,
+    frame: Frame,
+    hard_on: bool,
+    soft_on: bool,
+) -> Result<(), WriteFault>
     ensures ok { OnOk result (PutsBehind (W.contents w.old) (W.contents w.new) page.old.bytes page.new.bytes (codes " " ++ (frame_text frame ++ (codes " " ++ flags_text hard_on soft_on)))) }
     ensures err { OnErr result (AppendsBeginning (W.contents w.old) (W.contents w.new) (page.old.bytes ++ (codes " " ++ (frame_text frame ++ (codes " " ++ flags_text hard_on soft_on))))) }
 {
@@ -143,7 +175,12 @@ fn put_spaced_circumstances<W: Write>(w: &mut W, page: &mut Page, frame: Frame, 
 }
 
 // A held lock.
-fn put_lock<W: Write>(w: &mut W, page: &mut Page, names: &KeyTable, lock: (KeyId, Mode)) -> Result<(), WriteFault>
+fn put_lock<W: Write>(
+    w: &mut W,
+    page: &mut Page,
+    names: &KeyTable,
+    lock: (KeyId, Mode),
+) -> Result<(), WriteFault>
     ensures ok { OnOk result (PutsBehind (W.contents w.old) (W.contents w.new) page.old.bytes page.new.bytes (codes " " ++ taken_text names.now lock.0 lock.1)) }
     ensures err { OnErr result (AppendsBeginning (W.contents w.old) (W.contents w.new) (page.old.bytes ++ (codes " " ++ taken_text names.now lock.0 lock.1))) }
 {
@@ -152,7 +189,14 @@ fn put_lock<W: Write>(w: &mut W, page: &mut Page, names: &KeyTable, lock: (KeyId
 }
 
 // A taken lock, with the frame and the flags of its chain.
-fn put_taken_in<W: Write>(w: &mut W, page: &mut Page, names: &KeyTable, taken: (KeyId, Mode, Frame), hard_on: bool, soft_on: bool) -> Result<(), WriteFault>
+fn put_taken_in<W: Write>(
+    w: &mut W,
+    page: &mut Page,
+    names: &KeyTable,
+    taken: (KeyId, Mode, Frame),
+    hard_on: bool,
+    soft_on: bool,
+) -> Result<(), WriteFault>
     ensures ok { OnOk result (PutsBehind (W.contents w.old) (W.contents w.new) page.old.bytes page.new.bytes (taken_text names.now taken.0 taken.1 ++ (codes " " ++ (frame_text taken.2 ++ (codes " " ++ flags_text hard_on soft_on))))) }
     ensures err { OnErr result (AppendsBeginning (W.contents w.old) (W.contents w.new) (page.old.bytes ++ (taken_text names.now taken.0 taken.1 ++ (codes " " ++ (frame_text taken.2 ++ (codes " " ++ flags_text hard_on soft_on)))))) }
 {
@@ -161,7 +205,14 @@ fn put_taken_in<W: Write>(w: &mut W, page: &mut Page, names: &KeyTable, taken: (
 }
 
 // What the line of an acquisition says of the chain itself.
-fn put_acquisition<W: Write>(w: &mut W, page: &mut Page, names: &KeyTable, taken: (KeyId, Mode, Frame), hard_on: bool, soft_on: bool) -> Result<(), WriteFault>
+fn put_acquisition<W: Write>(
+    w: &mut W,
+    page: &mut Page,
+    names: &KeyTable,
+    taken: (KeyId, Mode, Frame),
+    hard_on: bool,
+    soft_on: bool,
+) -> Result<(), WriteFault>
     ensures ok { OnOk result (PutsBehind (W.contents w.old) (W.contents w.new) page.old.bytes page.new.bytes (codes "acq " ++ (taken_text names.now taken.0 taken.1 ++ (codes " " ++ (frame_text taken.2 ++ (codes " " ++ flags_text hard_on soft_on)))))) }
     ensures err { OnErr result (AppendsBeginning (W.contents w.old) (W.contents w.new) (page.old.bytes ++ (codes "acq " ++ (taken_text names.now taken.0 taken.1 ++ (codes " " ++ (frame_text taken.2 ++ (codes " " ++ flags_text hard_on soft_on))))))) }
 {
@@ -170,7 +221,12 @@ fn put_acquisition<W: Write>(w: &mut W, page: &mut Page, names: &KeyTable, taken
 }
 
 // What the line of an opening says of the chain itself.
-fn put_opening<W: Write>(w: &mut W, page: &mut Page, hard_on: bool, soft_on: bool) -> Result<(), WriteFault>
+fn put_opening<W: Write>(
+    w: &mut W,
+    page: &mut Page,
+    hard_on: bool,
+    soft_on: bool,
+) -> Result<(), WriteFault>
     ensures ok { OnOk result (PutsBehind (W.contents w.old) (W.contents w.new) page.old.bytes page.new.bytes (codes "on " ++ flags_text hard_on soft_on)) }
     ensures err { OnErr result (AppendsBeginning (W.contents w.old) (W.contents w.new) (page.old.bytes ++ (codes "on " ++ flags_text hard_on soft_on))) }
 {
@@ -179,7 +235,12 @@ fn put_opening<W: Write>(w: &mut W, page: &mut Page, hard_on: bool, soft_on: boo
 }
 
 // What the line says of the chain itself.
-fn put_head<W: Write>(w: &mut W, page: &mut Page, names: &KeyTable, chain: &Chain) -> Result<(), WriteFault>
+fn put_head<W: Write>(
+    w: &mut W,
+    page: &mut Page,
+    names: &KeyTable,
+    chain: &Chain,
+) -> Result<(), WriteFault>
     ensures ok { OnOk result (PutsBehind (W.contents w.old) (W.contents w.new) page.old.bytes page.new.bytes (head_text names.now chain.now.new_lock chain.now.hard_on chain.now.soft_on)) }
     ensures err { OnErr result (AppendsBeginning (W.contents w.old) (W.contents w.new) (page.old.bytes ++ (head_text names.now chain.now.new_lock chain.now.hard_on chain.now.soft_on))) }
 {
@@ -191,7 +252,12 @@ fn put_head<W: Write>(w: &mut W, page: &mut Page, names: &KeyTable, chain: &Chai
 }
 
 // The locks that are held.
-fn put_locks<W: Write>(w: &mut W, page: &mut Page, names: &KeyTable, chain: &Chain) -> Result<(), WriteFault>
+fn put_locks<W: Write>(
+    w: &mut W,
+    page: &mut Page,
+    names: &KeyTable,
+    chain: &Chain,
+) -> Result<(), WriteFault>
     ensures ok { OnOk result (PutsBehind (W.contents w.old) (W.contents w.new) page.old.bytes page.new.bytes (flat_map (lock_text names.now) chain.now.held_locks)) }
     ensures err { OnErr result (AppendsBeginning (W.contents w.old) (W.contents w.new) (page.old.bytes ++ (flat_map (lock_text names.now) chain.now.held_locks))) }
 {
@@ -212,7 +278,12 @@ fn put_count<W: Write>(w: &mut W, page: &mut Page, chain: &Chain) -> Result<(), 
 }
 
 // How many locks are held, and which.
-fn put_count_and_locks<W: Write>(w: &mut W, page: &mut Page, names: &KeyTable, chain: &Chain) -> Result<(), WriteFault>
+fn put_count_and_locks<W: Write>(
+    w: &mut W,
+    page: &mut Page,
+    names: &KeyTable,
+    chain: &Chain,
+) -> Result<(), WriteFault>
     ensures ok { OnOk result (PutsBehind (W.contents w.old) (W.contents w.new) page.old.bytes page.new.bytes (decimal (length chain.now.held_locks) ++ flat_map (lock_text names.now) chain.now.held_locks)) }
     ensures err { OnErr result (AppendsBeginning (W.contents w.old) (W.contents w.new) (page.old.bytes ++ (decimal (length chain.now.held_locks) ++ flat_map (lock_text names.now) chain.now.held_locks))) }
 {
@@ -221,7 +292,12 @@ fn put_count_and_locks<W: Write>(w: &mut W, page: &mut Page, names: &KeyTable, c
 }
 
 // The same behind its word.
-fn put_held<W: Write>(w: &mut W, page: &mut Page, names: &KeyTable, chain: &Chain) -> Result<(), WriteFault>
+fn put_held<W: Write>(
+    w: &mut W,
+    page: &mut Page,
+    names: &KeyTable,
+    chain: &Chain,
+) -> Result<(), WriteFault>
     ensures ok { OnOk result (PutsBehind (W.contents w.old) (W.contents w.new) page.old.bytes page.new.bytes (held_text names.now chain.now.held_locks)) }
     ensures err { OnErr result (AppendsBeginning (W.contents w.old) (W.contents w.new) (page.old.bytes ++ (held_text names.now chain.now.held_locks))) }
 {
@@ -230,7 +306,12 @@ fn put_held<W: Write>(w: &mut W, page: &mut Page, names: &KeyTable, chain: &Chai
 }
 
 // The same, to the end of the line.
-fn put_rest<W: Write>(w: &mut W, page: &mut Page, names: &KeyTable, chain: &Chain) -> Result<(), WriteFault>
+fn put_rest<W: Write>(
+    w: &mut W,
+    page: &mut Page,
+    names: &KeyTable,
+    chain: &Chain,
+) -> Result<(), WriteFault>
     ensures ok { OnOk result (PutsBehind (W.contents w.old) (W.contents w.new) page.old.bytes page.new.bytes (held_text names.now chain.now.held_locks ++ codes "\n")) }
     ensures err { OnErr result (AppendsBeginning (W.contents w.old) (W.contents w.new) (page.old.bytes ++ (held_text names.now chain.now.held_locks ++ codes "\n"))) }
 {
@@ -239,7 +320,12 @@ fn put_rest<W: Write>(w: &mut W, page: &mut Page, names: &KeyTable, chain: &Chai
 }
 
 // The line of a chain.
-fn put_line<W: Write>(w: &mut W, page: &mut Page, names: &KeyTable, chain: &Chain) -> Result<(), WriteFault>
+fn put_line<W: Write>(
+    w: &mut W,
+    page: &mut Page,
+    names: &KeyTable,
+    chain: &Chain,
+) -> Result<(), WriteFault>
     ensures ok { OnOk result (PutsBehind (W.contents w.old) (W.contents w.new) page.old.bytes page.new.bytes (chain_line names.now chain.now)) }
     ensures err { OnErr result (AppendsBeginning (W.contents w.old) (W.contents w.new) (page.old.bytes ++ (chain_line names.now chain.now))) }
 {
@@ -271,7 +357,12 @@ fn put_event<W: Write>(
 }
 
 // The lines of the trace's chains.
-fn put_lines<W: Write>(w: &mut W, page: &mut Page, names: &KeyTable, trace: &Trace) -> Result<(), WriteFault>
+fn put_lines<W: Write>(
+    w: &mut W,
+    page: &mut Page,
+    names: &KeyTable,
+    trace: &Trace,
+) -> Result<(), WriteFault>
     ensures ok { OnOk result (PutsBehind (W.contents w.old) (W.contents w.new) page.old.bytes page.new.bytes (chains_text names.now trace.now)) }
     ensures err { OnErr result (AppendsBeginning (W.contents w.old) (W.contents w.new) (page.old.bytes ++ (chains_text names.now trace.now))) }
 {

@@ -1,9 +1,8 @@
 //! `lockdep`: checks recorded traces of tasks for lock orders that can deadlock.
 #![tactic(auto)]
 
-use std::env;
-use std::io;
 use std::process::ExitCode;
+use std::{env, io};
 
 mod chains;
 mod fault;
@@ -53,7 +52,13 @@ fn run(rt: &HostRuntime) -> u8 {
             return refuse(&mut err, Refusal::Memory);
         }
     }
-    program(rt.alloc(), texts.as_slice(), rt.stdin(), &mut rt.stdout(), &mut err)
+    program(
+        rt.alloc(),
+        texts.as_slice(),
+        rt.stdin(),
+        &mut rt.stdout(),
+        &mut err,
+    )
 }
 
 fn main(rt: HostRuntime) -> ExitCode {

@@ -4,9 +4,8 @@ ghost use Rattle.std.specs.Prelude.{◌≡◌, Err, OnOk, OnErr};
 ghost use Rattle.std.specs.Io.KnownBytes.{Appends};
 ghost use Rattle.lockdep.specs.Output.{AppendsBeginning};
 
-use std::io::Write;
-
 use crate::fault::WriteFault;
+use std::io::Write;
 
 /// Writes the whole text, piece by piece as the writer takes it.
 ///

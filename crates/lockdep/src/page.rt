@@ -5,11 +5,10 @@ ghost use Rattle.std.specs.List.{flat_map};
 ghost use Rattle.std.specs.Io.KnownBytes.{Appends};
 ghost use Rattle.lockdep.specs.Output.{AppendsBeginning, PutsBehind};
 
-use arrayvec::ArrayString;
-use std::io::Write;
-
 use crate::fault::WriteFault;
 use crate::output::write_text;
+use arrayvec::ArrayString;
+use std::io::Write;
 
 /// Text that wasn't written yet. It takes no memory.
 pub(crate) type Page = ArrayString<4096>;
@@ -46,7 +45,11 @@ fn write_both<W: Write>(w: &mut W, page: &mut Page, text: &str) -> Result<(), Wr
 }
 
 /// Puts several texts onto the page, one after the other.
-pub(crate) fn put_all<W: Write>(w: &mut W, page: &mut Page, texts: &[&str]) -> Result<(), WriteFault>
+pub(crate) fn put_all<W: Write>(
+    w: &mut W,
+    page: &mut Page,
+    texts: &[&str],
+) -> Result<(), WriteFault>
     ensures ok { OnOk result (PutsBehind (W.contents w.old) (W.contents w.new) page.old.bytes page.new.bytes (flat_map (λ text. text.now) texts.now)) }
     ensures err { OnErr result (AppendsBeginning (W.contents w.old) (W.contents w.new) (page.old.bytes ++ flat_map (λ text. text.now) texts.now)) }
 {

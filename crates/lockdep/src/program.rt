@@ -2,16 +2,15 @@
 
 ghost use Rattle.std.specs.Prelude.{◌≤◌, IfOk};
 
-use ld_task::check;
-use ld_trace::{KeyTable, read_trace};
-use std::alloc::Global;
-use std::io::{Read, Write};
-
 use crate::chains::write_chains;
 use crate::output::write_text;
 use crate::refusal::{Refusal, refuse};
 use crate::request::{Request, request_of};
 use crate::session::Session;
+use ld_task::check;
+use ld_trace::{KeyTable, read_trace};
+use std::alloc::Global;
+use std::io::{Read, Write};
 
 /// The status where the facts are clean, the chains were written, or help was.
 const DONE: u8 = 0;

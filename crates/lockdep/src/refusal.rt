@@ -2,13 +2,12 @@
 
 ghost use Rattle.std.specs.Prelude.{◌≡◌};
 
-use ld_task::StepAt;
-use ld_trace::TraceFault;
-use std::io::Write;
-
 use crate::fault::{ReportFault, RunFault, WriteFault};
 use crate::page::{Page, put, put_all, write_out};
 use crate::text::number_words;
+use ld_task::StepAt;
+use ld_trace::TraceFault;
+use std::io::Write;
 
 /// The status of a program that refused.
 const REFUSED: u8 = 2;

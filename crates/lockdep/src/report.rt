@@ -12,16 +12,14 @@ ghost use Rattle.lockdep.specs.Groups.{GrowsBy, InTurn};
 ghost use Rattle.lockdep.specs.Words.{name_at};
 ghost use Rattle.lockdep.specs.Report.{IsReport, IsUsageCharacter, IsUsageLine, ShowsCircle, ShowsDouble, ShowsInversion, circle_line, clean_line, dependencies_between, dependencies_from, double_line, inversion_line, kinds, pairs_of, pairs_with, states, total_line, total_lines, usage_character, usage_line, uses_of};
 
-use ld_graph::Graph;
-use ld_graph::{Kind, Mark};
-use ld_trace::{Irq, KeyId, KeyTable, RawTrace};
-use std::alloc::{AllocError, Global};
-use std::io::Write;
-
 use crate::fault::WriteFault;
 use crate::order::{name_of, sorted_keys};
 use crate::output::write_text;
 use crate::text::{irq_word, kind_word};
+use ld_graph::{Graph, Kind, Mark};
+use ld_trace::{Irq, KeyId, KeyTable, RawTrace};
+use std::alloc::{AllocError, Global};
+use std::io::Write;
 
 // The four kinds, in the report's order.
 const KINDS: [Kind; 4] = [Kind::Er, Kind::En, Kind::Sr, Kind::Sn];
@@ -70,17 +68,32 @@ impl Findings<'_> {
     }
 
     // The line of a dependency on a circle.
-    fn add_circle_line(self, text: &mut String, from: KeyId, to: KeyId, kind: Kind) -> Result<(), AllocError>
+    fn add_circle_line(
+        self,
+        text: &mut String,
+        from: KeyId,
+        to: KeyId,
+        kind: Kind,
+    ) -> Result<(), AllocError>
         ensures { OnOk result (string_bytes text.new ≡ string_bytes text.old ++ circle_line self.entry.names.now (from, to, kind)) }
     {
         let (from_name, from_sub) = name_of(self.names, from);
         let (to_name, to_sub) = name_of(self.names, to);
         let kind = kind_word(kind);
-        writeln!(text, "circle {from_name}/{from_sub} {kind} {to_name}/{to_sub}")
+        writeln!(
+            text,
+            "circle {from_name}/{from_sub} {kind} {to_name}/{to_sub}"
+        )
     }
 
     // The same, where the dependency is on a circle.
-    fn add_circle(self, text: &mut String, from: KeyId, to: KeyId, kind: Kind) -> Result<(), AllocError>
+    fn add_circle(
+        self,
+        text: &mut String,
+        from: KeyId,
+        to: KeyId,
+        kind: Kind,
+    ) -> Result<(), AllocError>
         ensures { OnOk result (GrowsBy (ShowsCircle (HasDep self.entry.graph.now.facts) self.entry.names.now (from, to, kind)) (string_bytes text.old) (string_bytes text.new)) }
     {
         if self.on_circle(from, to, kind) {
@@ -161,7 +174,13 @@ impl Findings<'_> {
     }
 
     // The line of two keys in an inversion.
-    fn add_inversion_line(self, text: &mut String, irq: Irq, a: KeyId, b: KeyId) -> Result<(), AllocError>
+    fn add_inversion_line(
+        self,
+        text: &mut String,
+        irq: Irq,
+        a: KeyId,
+        b: KeyId,
+    ) -> Result<(), AllocError>
         ensures { OnOk result (string_bytes text.new ≡ string_bytes text.old ++ inversion_line self.entry.names.now (irq, a, b)) }
     {
         let (a_name, a_sub) = name_of(self.names, a);
@@ -171,7 +190,13 @@ impl Findings<'_> {
     }
 
     // The same, where they are in one.
-    fn add_inversion(self, text: &mut String, irq: Irq, a: KeyId, b: KeyId) -> Result<(), AllocError>
+    fn add_inversion(
+        self,
+        text: &mut String,
+        irq: Irq,
+        a: KeyId,
+        b: KeyId,
+    ) -> Result<(), AllocError>
         ensures { OnOk result (GrowsBy (ShowsInversion (HasDep self.entry.graph.now.facts) (HasMark self.entry.graph.now.facts) self.entry.names.now (irq, a, b)) (string_bytes text.old) (string_bytes text.new)) }
     {
         if self.is_inversion(irq, a, b) {
@@ -233,7 +258,10 @@ impl Findings<'_> {
         ensures { OnOk result (string_bytes text.new ≡ string_bytes text.old ++ usage_line (name_at self.entry.names.now key) hard.now hard_read.now soft.now soft_read.now) }
     {
         let (name, sub) = name_of(self.names, key);
-        writeln!(text, "usage {name}/{sub} {{{hard}{hard_read}{soft}{soft_read}}}")
+        writeln!(
+            text,
+            "usage {name}/{sub} {{{hard}{hard_read}{soft}{soft_read}}}"
+        )
     }
 
     // The usage line of a key.
@@ -277,7 +305,14 @@ pub(crate) fn report_text(
         keys: keys.as_slice(),
     };
     let mut text = String::new(alloc);
-    add_total_lines(&mut text, traces, events, names.len(), graph.facts().dependencies(), clean)?;
+    add_total_lines(
+        &mut text,
+        traces,
+        events,
+        names.len(),
+        graph.facts().dependencies(),
+        clean,
+    )?;
     findings.add_usage(&mut text)?;
     findings.add_circles(&mut text)?;
     findings.add_doubles(&mut text)?;

@@ -1,10 +1,9 @@
 //! What a command line asks for.
 
+use crate::refusal::Refusal;
 use clap::Command;
 use clap::error::ErrorKind;
 use std::alloc::{AllocError, Global};
-
-use crate::refusal::Refusal;
 
 /// What a command line asks for.
 #[derive(Drop)]
@@ -19,10 +18,12 @@ pub(crate) enum Request {
 
 // The command lines that the program takes.
 fn command<'a>(alloc: Global) -> Result<Command<'a>, AllocError> {
-    let check = Command::new(alloc, "check")
-        .about("Reads a trace from standard input and writes the report of its lock order");
-    let chains = Command::new(alloc, "chains")
-        .about("Reads a trace from standard input and writes its chains");
+    let check = Command::new(alloc, "check").about(
+        "Reads a trace from standard input and writes the report of its lock order",
+    );
+    let chains = Command::new(alloc, "chains").about(
+        "Reads a trace from standard input and writes its chains",
+    );
     Command::new(alloc, "lockdep")
         .about("Checks recorded traces of tasks for lock orders that can deadlock")
         .subcommand_required(true)

@@ -16,16 +16,15 @@ ghost use Rattle.lockdep.specs.declared.fault.WriteFault.{WriteFault};
 ghost use Rattle.lockdep.specs.Report.{IsReportOf};
 ghost use Rattle.lockdep.specs.TraceFacts.{HaveDependency, HaveMark};
 
+use crate::fault::{ReportFault, RunFault};
+use crate::gather::add_traces;
+use crate::report::write_report;
 use ld_graph::Graph;
 use ld_task::StepAt;
 use ld_trace::{KeyFault, KeyTable, RawTrace, TraceFault, TraceFaultKind, read_trace};
 use std::alloc::Global;
 use std::io::{Read, Write};
 use std::marker::Model;
-
-use crate::fault::{ReportFault, RunFault};
-use crate::gather::add_traces;
-use crate::report::write_report;
 
 /// Traces that were read, and the names of their keys.
 #[derive(Drop)]
@@ -122,7 +121,12 @@ fn no_room() -> TraceFault
 }
 
 // Writes the report of the traces, and answers whether their facts are clean.
-fn report_traces<W: Write>(alloc: Global, w: &mut W, traces: &[RawTrace], keys: &KeyTable) -> Result<bool, ReportFault>
+fn report_traces<W: Write>(
+    alloc: Global,
+    w: &mut W,
+    traces: &[RawTrace],
+    keys: &KeyTable,
+) -> Result<bool, ReportFault>
     requires { All (KeysBelow (length keys.now)) traces.now }
     ensures ok { IfOk result (λ clean. All IsWellFormed traces.now
         × (IsTrue clean ↔ IsClean (HaveDependency traces.now) (HaveMark traces.now))

@@ -73,7 +73,11 @@ pub(crate) fn number_words(number: usize) -> [&'static str; 3]
     } else if number < 100 {
         ["", digit(number / 10), digit(number % 10)]
     } else {
-        [digit(number / 100), digit(number / 10 % 10), digit(number % 10)]
+        [
+            digit(number / 100),
+            digit(number / 10 % 10),
+            digit(number % 10),
+        ]
     }
 }
 

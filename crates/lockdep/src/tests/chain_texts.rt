@@ -37,7 +37,10 @@ fn chains_of_small_traces(rt: HostRuntime) -> Result<(), Fail> {
 fn a_quoted_name_and_no_line_end(rt: HostRuntime) -> Result<(), Fail> {
     let mut text = Vec::new(rt.alloc());
     write_chains_of(rt.alloc(), &mut text, b"lockdep,1\n\"acq\",\"a,b\",0,rr")?;
-    assert_eq!(rt; str::from_utf8(text.as_slice())?, "acq a,b/0 rr task on on held 0\n");
+    assert_eq!(rt;
+        str::from_utf8(text.as_slice())?,
+        "acq a,b/0 rr task on on held 0\n"
+    );
     Ok(())
 }
 

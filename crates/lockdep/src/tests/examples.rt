@@ -47,13 +47,21 @@ pub(crate) struct Example<'t> {
 }
 
 /// Asserts that each list of traces has its report.
-pub(crate) fn assert_reports(rt: &(impl Abort + AllocGlobal), examples: &[Example<'_>]) -> Result<(), Fail> {
+pub(crate) fn assert_reports(
+    rt: &(impl Abort + AllocGlobal),
+    examples: &[Example<'_>],
+) -> Result<(), Fail> {
     for example in examples {
         let session = session_of(rt.alloc(), example.traces)?;
         let mut text = Vec::new(rt.alloc());
         let clean = session.report(rt.alloc(), &mut text)?;
         assert_eq!(rt; str::from_utf8(text.as_slice())?, example.report);
-        assert_eq!(rt; clean, example.report.contains("clean yes"), "{}", example.report);
+        assert_eq!(rt;
+            clean,
+            example.report.contains("clean yes"),
+            "{}",
+            example.report
+        );
     }
     Ok(())
 }

@@ -14,7 +14,13 @@ fn assert_output(
     (status, out, err): (u8, &str, &str),
 ) -> Result<(), Fail> {
     let (mut got_out, mut got_err) = (Vec::new(rt.alloc()), Vec::new(rt.alloc()));
-    let got_status = program(rt.alloc(), words, input.as_bytes(), &mut got_out, &mut got_err);
+    let got_status = program(
+        rt.alloc(),
+        words,
+        input.as_bytes(),
+        &mut got_out,
+        &mut got_err,
+    );
     assert_eq!(rt; str::from_utf8(got_err.as_slice())?, err, "{words:?}");
     assert_eq!(rt; str::from_utf8(got_out.as_slice())?, out, "{words:?}");
     assert_eq!(rt; got_status, status, "{words:?}");
@@ -63,8 +69,14 @@ fn chains_writes_a_line_for_each_chain(rt: HostRuntime) -> Result<(), Fail> {
 fn refused_traces_name_their_record_and_code(rt: HostRuntime) -> Result<(), Fail> {
     let examples = [
         ("", "lockdep: stdin: record 1: T1 NoHeader\n"),
-        ("lockdep,1\nacq,A,0\n", "lockdep: stdin: record 2: T2 BadRecord\n"),
-        ("lockdep,1\nrel,A,0\n", "lockdep: stdin: record 2: S1 NotHeld\n"),
+        (
+            "lockdep,1\nacq,A,0\n",
+            "lockdep: stdin: record 2: T2 BadRecord\n",
+        ),
+        (
+            "lockdep,1\nrel,A,0\n",
+            "lockdep: stdin: record 2: S1 NotHeld\n",
+        ),
         (
             "lockdep,1\nenter,hardirq\nacq,A,0,w\nleave\n",
             "lockdep: stdin: record 4: S5 LeaveHeld\n",
@@ -97,15 +109,22 @@ fn refused_command_lines(rt: HostRuntime) -> Result<(), Fail> {
         &["lockdep", "help", "test"],
     ];
     for words in examples {
-        assert_output(&rt, words, "lockdep,1\n", (2, "", "lockdep: P1 BadCommandLine\n"))?;
+        assert_output(
+            &rt,
+            words,
+            "lockdep,1\n",
+            (2, "", "lockdep: P1 BadCommandLine\n"),
+        )?;
     }
     Ok(())
 }
 
 #[test]
 fn help_that_is_asked_for(rt: HostRuntime) -> Result<(), Fail> {
-    let whole = "Checks recorded traces of tasks for lock orders that can deadlock\n\nUsage: lockdep <COMMAND>\n\nCommands:\n  check   Reads a trace from standard input and writes the report of its lock order\n  chains  Reads a trace from standard input and writes its chains\n  help    Print this message or the help of the given subcommand(s)\n\nOptions:\n  -h, --help  Print help\n";
-    let of_check = "Reads a trace from standard input and writes the report of its lock order\n\nUsage: lockdep check\n\nOptions:\n  -h, --help  Print help\n";
+    let whole =
+        "Checks recorded traces of tasks for lock orders that can deadlock\n\nUsage: lockdep <COMMAND>\n\nCommands:\n  check   Reads a trace from standard input and writes the report of its lock order\n  chains  Reads a trace from standard input and writes its chains\n  help    Print this message or the help of the given subcommand(s)\n\nOptions:\n  -h, --help  Print help\n";
+    let of_check =
+        "Reads a trace from standard input and writes the report of its lock order\n\nUsage: lockdep check\n\nOptions:\n  -h, --help  Print help\n";
     let examples: [(&[&str], &str); 5] = [
         (&["lockdep", "-h"], whole),
         (&["lockdep", "--help"], whole),
@@ -128,7 +147,11 @@ fn a_failing_output_and_a_failing_error_output(rt: HostRuntime) -> Result<(), Fa
             let input = b"lockdep,1\nacq,A,0,w\n".as_slice();
             let status = program(rt.alloc(), &["lockdep", word], input, &mut out, &mut err);
             assert_eq!(rt; status, 2, "{word}");
-            assert_eq!(rt; str::from_utf8(err.as_slice())?, "lockdep: P3 Output\n", "{word}");
+            assert_eq!(rt;
+                str::from_utf8(err.as_slice())?,
+                "lockdep: P3 Output\n",
+                "{word}"
+            );
             assert_eq!(rt; out.taken.len(), 2, "{word}");
         }
     }

@@ -57,7 +57,11 @@ fn traces_that_are_not_well_formed(rt: HostRuntime) -> Result<(), Fail> {
             at,
             fault,
         };
-        assert_eq!(rt; session.report(rt.alloc(), &mut text), Err(refused), "{records}");
+        assert_eq!(rt;
+            session.report(rt.alloc(), &mut text),
+            Err(refused),
+            "{records}"
+        );
         assert!(rt; text.is_empty(), "{records}");
     }
     Ok(())
@@ -82,7 +86,9 @@ fn a_49th_held_lock(rt: HostRuntime) -> Result<(), Fail> {
 }
 
 #[test]
-fn the_first_refused_trace_is_named_and_a_refused_one_is_not_kept(rt: HostRuntime) -> Result<(), Fail> {
+fn the_first_refused_trace_is_named_and_a_refused_one_is_not_kept(
+    rt: HostRuntime,
+) -> Result<(), Fail> {
     let mut session = session_of(rt.alloc(), &["acq,B,0,w", "leave", "rel,B,0"])?;
     assert!(rt; session.add(b"lockdep,1\nacq,C,0\n".as_slice()).is_err());
     let mut text = Vec::new(rt.alloc());

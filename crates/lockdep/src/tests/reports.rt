@@ -6,7 +6,8 @@ use std::test::Fail;
 
 #[test]
 fn two_locks_in_both_orders_are_a_circle(rt: HostRuntime) -> Result<(), Fail> {
-    let report = "traces 2\nevents 8\nkeys 2\ndependencies 2\nclean no\nusage A/0 {+.+.}\nusage B/0 {+.+.}\ncircle A/0 EN B/0\ncircle B/0 EN A/0\n";
+    let report =
+        "traces 2\nevents 8\nkeys 2\ndependencies 2\nclean no\nusage A/0 {+.+.}\nusage B/0 {+.+.}\ncircle A/0 EN B/0\ncircle B/0 EN A/0\n";
     let (forth, back) = (
         "acq,A,0,w acq,B,0,w rel,B,0 rel,A,0",
         "acq,B,0,w acq,A,0,w rel,A,0 rel,B,0",
@@ -122,17 +123,11 @@ fn a_lock_used_in_an_interrupt_and_with_it_enabled(rt: HostRuntime) -> Result<()
         &rt,
         &[
             Example {
-                traces: &[
-                    "enter,hardirq acq,L,0,w rel,L,0 leave",
-                    "acq,L,0,w rel,L,0",
-                ],
+                traces: &["enter,hardirq acq,L,0,w rel,L,0 leave", "acq,L,0,w rel,L,0"],
                 report: "traces 2\nevents 6\nkeys 1\ndependencies 0\nclean no\nusage L/0 {?.+.}\ndouble hardirq L/0\n",
             },
             Example {
-                traces: &[
-                    "enter,hardirq acq,L,0,r rel,L,0 leave",
-                    "acq,L,0,r rel,L,0",
-                ],
+                traces: &["enter,hardirq acq,L,0,r rel,L,0 leave", "acq,L,0,r rel,L,0"],
                 report: "traces 2\nevents 6\nkeys 1\ndependencies 0\nclean yes\nusage L/0 {.?.+}\n",
             },
         ],
@@ -252,7 +247,10 @@ fn a_trace_without_events(rt: HostRuntime) -> Result<(), Fail> {
     session.add(b"lockdep,1\n".as_slice())?;
     let mut text = Vec::new(rt.alloc());
     assert!(rt; session.report(rt.alloc(), &mut text)?);
-    assert_eq!(rt; str::from_utf8(text.as_slice())?, "traces 1\nevents 0\nkeys 0\ndependencies 0\nclean yes\n");
+    assert_eq!(rt;
+        str::from_utf8(text.as_slice())?,
+        "traces 1\nevents 0\nkeys 0\ndependencies 0\nclean yes\n"
+    );
     Ok(())
 }
 
@@ -285,7 +283,8 @@ fn two_hundred_and_fifty_six_keys(rt: HostRuntime) -> Result<(), Fail> {
     session.add(trace.as_str().as_bytes())?;
     let mut text = Vec::new(rt.alloc());
     assert!(rt; session.report(rt.alloc(), &mut text)?);
-    let start = "traces 1\nevents 512\nkeys 256\ndependencies 0\nclean yes\nusage n0/0 {+.+.}\nusage n1/0 {+.+.}\nusage n10/0 {+.+.}\n";
+    let start =
+        "traces 1\nevents 512\nkeys 256\ndependencies 0\nclean yes\nusage n0/0 {+.+.}\nusage n1/0 {+.+.}\nusage n10/0 {+.+.}\n";
     assert!(rt; str::from_utf8(text.as_slice())?.starts_with(start));
     Ok(())
 }

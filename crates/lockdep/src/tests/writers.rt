@@ -1,8 +1,8 @@
 //! A writer that takes one byte a call and fails at one.
 
+use crate::chains::write_chains;
 use crate::fault::{ReportFault, WriteFault};
 use crate::tests::examples::{session_of, trace_text};
-use crate::chains::write_chains;
 use ld_task::check;
 use ld_trace::{KeyTable, read_trace};
 use std::alloc::Global;
@@ -34,7 +34,11 @@ impl Write for Narrow {
     fn write(&mut self, buf: &[u8]) -> io::Result<usize> {
         self.calls = self.calls.saturating_add(1);
         if self.calls == self.fails_at {
-            return if self.stuck { Ok(0) } else { Err(io::Error::from(io::ErrorKind::Other)) };
+            return if self.stuck {
+                Ok(0)
+            } else {
+                Err(io::Error::from(io::ErrorKind::Other))
+            };
         }
         match buf.first() {
             Some(byte) if self.taken.push(*byte).is_ok() => Ok(1),
@@ -54,17 +58,24 @@ fn a_report_on_a_writer_that_fails_at_each_call(rt: HostRuntime) -> Result<(), F
         "acq,A,0,w acq,B,0,w rel,B,0 rel,A,0",
         "acq,B,0,w acq,A,0,w rel,A,0 rel,B,0",
     ];
-    let report = b"traces 2\nevents 8\nkeys 2\ndependencies 2\nclean no\nusage A/0 {+.+.}\nusage B/0 {+.+.}\ncircle A/0 EN B/0\ncircle B/0 EN A/0\n".as_slice();
+    let report =
+        b"traces 2\nevents 8\nkeys 2\ndependencies 2\nclean no\nusage A/0 {+.+.}\nusage B/0 {+.+.}\ncircle A/0 EN B/0\ncircle B/0 EN A/0\n".as_slice();
     for done in 0..report.len() {
         for (stuck, fault) in [(false, WriteFault::Failed), (true, WriteFault::Stuck)] {
             let session = session_of(rt.alloc(), &traces)?;
             let mut w = Narrow::new(rt.alloc(), done + 1, stuck);
-            assert_eq!(rt; session.report(rt.alloc(), &mut w), Err(ReportFault::Out(fault)));
+            assert_eq!(rt;
+                session.report(rt.alloc(), &mut w),
+                Err(ReportFault::Out(fault))
+            );
             assert_eq!(rt; w.taken.as_slice(), &report[..done]);
         }
     }
     let mut w = Narrow::new(rt.alloc(), report.len() + 1, true);
-    assert_eq!(rt; session_of(rt.alloc(), &traces)?.report(rt.alloc(), &mut w), Ok(false));
+    assert_eq!(rt;
+        session_of(rt.alloc(), &traces)?.report(rt.alloc(), &mut w),
+        Ok(false)
+    );
     assert_eq!(rt; w.taken.as_slice(), report);
     Ok(())
 }
@@ -74,7 +85,8 @@ fn chains_on_a_writer_that_fails_at_each_call(rt: HostRuntime) -> Result<(), Fai
     let text = trace_text(rt.alloc(), "acq,A,0,w acq,B,0,w rel,A,0 acq,C,0,w")?;
     let mut keys = KeyTable::new(rt.alloc())?;
     let trace = check(read_trace(rt.alloc(), text.as_slice(), &mut keys)?)?;
-    let chains = b"acq A/0 w task on on held 0\nacq B/0 w task on on held 1 A/0 w\nacq C/0 w task on on held 1 B/0 w\n".as_slice();
+    let chains =
+        b"acq A/0 w task on on held 0\nacq B/0 w task on on held 1 A/0 w\nacq C/0 w task on on held 1 B/0 w\n".as_slice();
     for done in 0..chains.len() {
         for (stuck, fault) in [(false, WriteFault::Failed), (true, WriteFault::Stuck)] {
             let mut w = Narrow::new(rt.alloc(), done + 1, stuck);

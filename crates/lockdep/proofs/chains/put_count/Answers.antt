@@ -1,4 +1,3 @@
-use Rattle.std.proofs.Common.{sym}
 use Rattle.lockdep.proofs.chains.put_count.Goals as goal
 
 pub returns-clause-ok : goal.returns-clause-ok

@@ -1,7 +1,7 @@
-use Rattle.std.proofs.Common.{ap, ◌∙◌, Ok, None, [], refl}
+use Rattle.std.proofs.Common.{ap, ◌∙◌, Ok, []}
 use Rattle.std.proofs.lemmas.Result.{on_ok_weaker, on_err_weaker}
 use Rattle.lockdep.specs.ChainLines.{chain_line}
-use Rattle.lockdep.proofs.StepLemmas.{goes_on-state, never_refused, one_line, no_line}
+use Rattle.lockdep.proofs.StepLemmas.{one_line, no_line}
 use Rattle.lockdep.proofs.PageLemmas.{PutsBehind-nothing}
 use Rattle.lockdep.proofs.chains.put_event.Goals as goal
 

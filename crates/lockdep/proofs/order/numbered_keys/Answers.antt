@@ -1,5 +1,4 @@
-use Rattle.std.proofs.Common.{◌≡◌, arith, ◌<◌}
-use Rattle.lockdep.specs.Order.{numbers_below}
+use Rattle.std.proofs.Common.{arith, ◌<◌}
 use Rattle.lockdep.proofs.OrderLemmas.{numbers_below-zero, numbers_below-more}
 use Rattle.lockdep.proofs.order.numbered_keys.Goals.{in-Some+in_ok-push, in_default}
 use Rattle.lockdep.proofs.order.numbered_keys.Goals as goal
@@ -11,4 +10,4 @@ pub loop-number-preserved : goal.loop-number-preserved
 loop-number-preserved c = elim c.match-new.branch [
   | in-Some+in_ok-push w ↦ cc (numbers_below-more c.loop-number.number, w.in_ok-push.ensures.items, w.in-Some.ensures.value)
   | in_default w ↦ let small : c.loop-number.number < 256 = omega (arith, c.len-number-end.ensures.numbered.few) in let absent = w.in_default.ensures.exact.1 small in cc
-  ]
+]

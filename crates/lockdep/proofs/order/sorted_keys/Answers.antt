@@ -1,7 +1,7 @@
-use Rattle.std.proofs.Common.{◌≡◌, ℕ, List, sym, ◌∙◌, ap, subst, refl, rules, length, IsPermutation, is_lt}
+use Rattle.std.proofs.Common.{ℕ, List, subst, rules, IsPermutation, is_lt}
 use Rattle.std.proofs.lemmas.List.MinMax.{ranks_by}
 use Rattle.std.proofs.lemmas.Fn.{always_returns_same}
-use Rattle.lockdep.specs.Order.{numbers_below, name_cmp}
+use Rattle.lockdep.specs.Order.{name_cmp}
 use Rattle.lockdep.specs.Words.{name_at}
 use Rattle.lockdep.proofs.OrderLemmas.{name_cmp_total}
 use Rattle.lockdep.proofs.order.sorted_keys.Goals as goal
@@ -9,5 +9,5 @@ use Rattle.lockdep.proofs.order.sorted_keys.Goals as goal
 pub returns : goal.returns
 returns c = record {
   all = subst (λ (all : List ℕ). IsPermutation all c.sort_unstable_by.new.self.items) c.in_ok-sorted.ensures c.sort_unstable_by.ensures.permutation;
-  sorted = c.sort_unstable_by.ensures.sorted (λ a b. is_lt (name_cmp (name_at c.args.keys.now a) (name_at c.args.keys.now b))) (ranks_by name_cmp_total (name_at c.args.keys.now)) (always_returns_same _ _ _ (λ a r q k. search rules))
+  sorted = c.sort_unstable_by.ensures.sorted (λ a b. is_lt (name_cmp (name_at c.args.keys.now a) (name_at c.args.keys.now b))) (ranks_by name_cmp_total (name_at c.args.keys.now)) (always_returns_same _ _ _ (λ a r q k. search rules));
 }

@@ -1,5 +1,3 @@
-use Rattle.std.proofs.Common.{◌++◌}
-use Rattle.std.specs.List.{flat_map}
 use Rattle.lockdep.proofs.OutputLemmas.{OnErr-anyway}
 use Rattle.lockdep.proofs.PageLemmas.{PutsBehind-next, AppendsBeginning-next}
 use Rattle.lockdep.proofs.page.put_all.Goals as goal

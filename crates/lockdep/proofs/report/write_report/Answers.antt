@@ -1,4 +1,4 @@
-use Rattle.std.proofs.Common.{◌≡◌, ◌∙◌, sum_by, length, string_bytes, subst}
+use Rattle.std.proofs.Common.{sum_by, length, string_bytes, subst}
 use Rattle.ld_graph.specs.Facts.{HasDep, HasMark}
 use Rattle.lockdep.specs.Report.{IsReport}
 use Rattle.lockdep.proofs.FaultLemmas.{StopsWriting-begun}

@@ -1,4 +1,4 @@
-use Rattle.std.proofs.Common.{◌≡◌, refl, ℕ, List, arith}
+use Rattle.std.proofs.Common.{refl, arith}
 use Rattle.ld_trace.specs.Reading.{names_after}
 use Rattle.lockdep.proofs.session.no_room.Goals as goal
 

@@ -1,6 +1,6 @@
-use Rattle.std.proofs.Common.{◌∷◌, [], map}
-use Rattle.lockdep.specs.Report.{kinds, dependencies_from, pairs_with}
-use Rattle.lockdep.proofs.GroupLemmas.{GrowsBy-next, GrowsBy-next_item, GrowsBy-one, GrowsBy-none}
+use Rattle.std.proofs.Common.{map}
+use Rattle.lockdep.specs.Report.{kinds}
+use Rattle.lockdep.proofs.GroupLemmas.{GrowsBy-next_item, GrowsBy-none}
 use Rattle.lockdep.proofs.report.Findings.add_circles_from.Goals as goal
 
 pub loop-to-init : goal.loop-to-init

@@ -1,8 +1,8 @@
-use Rattle.std.proofs.Common.{take, map, string_bytes, ◌∷◌, []}
+use Rattle.std.proofs.Common.{take, map, string_bytes}
 use Rattle.std.specs.List.{flat_map}
-use Rattle.ld_graph.specs.Facts.{HasDep, HasMark}
+use Rattle.ld_graph.specs.Facts.{HasDep}
 use Rattle.lockdep.specs.Groups.{GrowsBy, InTurn}
-use Rattle.lockdep.specs.Report.{IsUsageLine, ShowsCircle, ShowsDouble, ShowsInversion, dependencies_from, kinds, pairs_with}
+use Rattle.lockdep.specs.Report.{ShowsCircle, kinds}
 use Rattle.lockdep.proofs.report.Findings.add_circles_from.Given as goal
 
 -- the lines to the keys so far

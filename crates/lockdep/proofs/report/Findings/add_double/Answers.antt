@@ -1,12 +1,9 @@
 use Rattle.std.proofs.Common.{ℕ, refl}
 use Rattle.std.proofs.lemmas.Result.{on_ok_weaker}
 use Rattle.ld_trace.specs.declared.event.Irq.{Irq}
-use Rattle.ld_task.specs.declared.kind.Kind.{Kind}
-use Rattle.ld_graph.specs.Arrows.{arrow}
-use Rattle.ld_graph.specs.Walks.{OnCircle}
-use Rattle.ld_graph.specs.Links.{IsDouble, IsInversion}
-use Rattle.ld_graph.specs.Facts.{HasDep, HasMark}
-use Rattle.lockdep.specs.Report.{circle_line, double_line, inversion_line}
+use Rattle.ld_graph.specs.Links.{IsDouble}
+use Rattle.ld_graph.specs.Facts.{HasMark}
+use Rattle.lockdep.specs.Report.{double_line}
 use Rattle.lockdep.proofs.GroupLemmas.{GrowsBy-hidden, GrowsBy-shown}
 use Rattle.lockdep.proofs.report.Findings.add_double.Goals as goal
 

@@ -1,6 +1,5 @@
-use Rattle.std.proofs.Common.{◌∷◌, [], map}
-use Rattle.lockdep.specs.Report.{kinds, dependencies_from, pairs_with}
-use Rattle.lockdep.proofs.GroupLemmas.{GrowsBy-next, GrowsBy-next_item, GrowsBy-one, GrowsBy-none}
+use Rattle.lockdep.specs.Report.{pairs_with}
+use Rattle.lockdep.proofs.GroupLemmas.{GrowsBy-next, GrowsBy-none}
 use Rattle.lockdep.proofs.report.Findings.add_inversions.Goals as goal
 
 pub loop-irq-init : goal.loop-irq-init

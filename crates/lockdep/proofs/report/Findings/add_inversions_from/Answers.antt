@@ -1,6 +1,5 @@
-use Rattle.std.proofs.Common.{◌∷◌, [], map}
-use Rattle.lockdep.specs.Report.{kinds, dependencies_from, pairs_with}
-use Rattle.lockdep.proofs.GroupLemmas.{GrowsBy-next, GrowsBy-next_item, GrowsBy-one, GrowsBy-none}
+use Rattle.std.proofs.Common.{◌∷◌, []}
+use Rattle.lockdep.proofs.GroupLemmas.{GrowsBy-next_item, GrowsBy-one, GrowsBy-none}
 use Rattle.lockdep.proofs.report.Findings.add_inversions_from.Goals as goal
 
 pub loop-b-init : goal.loop-b-init

@@ -1,8 +1,8 @@
-use Rattle.std.proofs.Common.{take, map, string_bytes, ◌∷◌, []}
+use Rattle.std.proofs.Common.{take, map, string_bytes}
 use Rattle.std.specs.List.{flat_map}
 use Rattle.ld_graph.specs.Facts.{HasDep, HasMark}
 use Rattle.lockdep.specs.Groups.{GrowsBy, InTurn}
-use Rattle.lockdep.specs.Report.{IsUsageLine, ShowsCircle, ShowsDouble, ShowsInversion, dependencies_from, kinds, pairs_with}
+use Rattle.lockdep.specs.Report.{ShowsInversion}
 use Rattle.lockdep.proofs.report.Findings.add_inversions_of.Given as goal
 
 -- the lines from the keys so far

@@ -1,8 +1,7 @@
-use Rattle.std.proofs.Common.{take, map, string_bytes, ◌∷◌, []}
-use Rattle.std.specs.List.{flat_map}
-use Rattle.ld_graph.specs.Facts.{HasDep, HasMark}
+use Rattle.std.proofs.Common.{take, string_bytes}
+use Rattle.ld_graph.specs.Facts.{HasMark}
 use Rattle.lockdep.specs.Groups.{GrowsBy, InTurn}
-use Rattle.lockdep.specs.Report.{IsUsageLine, ShowsCircle, ShowsDouble, ShowsInversion, dependencies_from, kinds, pairs_with}
+use Rattle.lockdep.specs.Report.{IsUsageLine}
 use Rattle.lockdep.proofs.report.Findings.add_usage.Given as goal
 
 -- the lines of the keys so far

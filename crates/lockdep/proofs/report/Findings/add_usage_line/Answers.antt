@@ -16,7 +16,7 @@ returns c = on_ok_weaker c.add_characters.result (λ wrote. record {
     hard_read_is = c.usage_character-hard_read.ensures;
     soft_is = c.usage_character-soft.ensures;
     soft_read_is = c.usage_character-soft_read.ensures;
-    line_is = refl
+    line_is = refl;
   };
-  grew = wrote
+  grew = wrote;
 }) c.add_characters.ensures
