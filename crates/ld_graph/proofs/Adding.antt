@@ -1,6 +1,6 @@
 -- One bit more: one fact more, and the counts.
-use Rattle.std.proofs.Common.{◌≡◌, ◌≢◌, ℕ, ◌+◌, ◌-◌, ◌*◌, ◌/◌, ◌<◌, ◌≤◌, ◌⊎◌, ◌↔◌, List, length, refl, ap, sym, ◌∙◌, subst, inl, inr, arith, Bool, true, false, cond, not}
-use Rattle.std.proofs.lemmas.Bool.{cases_eq, cases_lt}
+use Rattle.std.proofs.Common.{◌≡◌, ℕ, ◌+◌, ◌-◌, ◌*◌, ◌/◌, ◌<◌, ◌≤◌, ◌⊎◌, length, ap, sym, ◌∙◌, subst, inl, inr, arith, Bool, true, false, cond, not}
+use Rattle.std.proofs.lemmas.Bool.{cases_eq}
 use Rattle.std.proofs.lemmas.Nat.{mul-le}
 use Rattle.ld_task.specs.declared.mark.Mark.{Mark}
 use Rattle.ld_graph.specs.Arrows.{Arrow}
@@ -8,8 +8,8 @@ use Rattle.ld_graph.specs.Bits.{has_bit, count_below}
 use Rattle.ld_graph.specs.Numbers.{dependency_number, mark_number, dependency_total, mark_total, bit_total}
 use Rattle.ld_graph.specs.Facts.{FactWords, HasDep, HasMark, AreFacts, AreCounted, SetsBit, dependency_count, mark_count}
 use Rattle.ld_graph.specs.ChainFacts.{AddsDep, AddsMark}
-use Rattle.ld_graph.proofs.BitLemmas.{count_below-le, count_below-same, count_below-one_more, count_below-set}
-use Rattle.ld_graph.proofs.Numbers.{dependency_number-same, dependency_number-lt, mark_number-same, mark_number-lt}
+use Rattle.ld_graph.proofs.BitLemmas.{count_below-le, count_below-same, count_below-set}
+use Rattle.ld_graph.proofs.Numbers.{dependency_number-same, dependency_number-lt, mark_number-same}
 
 -- ---- how many there can be
 pub dependency_count-le : (facts : FactWords) → facts.keys ≤ 256 → dependency_count facts ≤ 262144
@@ -22,7 +22,6 @@ mark_count-le facts few = omega (arith, count_below-le (λ n. has_bit facts.word
 
 -- ---- the counts when a bit is set
 module _ (old new : FactWords) (n : ℕ) (sets : SetsBit old new n) where
-
   total_same : dependency_total new.keys ≡ dependency_total old.keys
   total_same = ap dependency_total sets.keys
 
@@ -59,8 +58,8 @@ module _ (old new : FactWords) (n : ℕ) (sets : SetsBit old new n) where
     few = subst (λ k. k ≤ 256) (sym sets.keys) are.few;
     words = len ∙ are.words ∙ ap (λ k. (bit_total k + 63) / 64) (sym sets.keys);
     none_past = λ k past.
-      let past' : bit_total old.keys ≤ k = subst (λ x. bit_total x ≤ k) sets.keys past in
-      sets.others k (λ e. absurd (omega arith)) ∙ are.none_past k past'
+        let past' : bit_total old.keys ≤ k = subst (λ x. bit_total x ≤ k) sets.keys past in
+        sets.others k (λ e. absurd (omega arith)) ∙ are.none_past k past';
   }
 
   pub AreCounted-dependency : (of_dependencies of_marks : ℕ) → length new.words ≡ length old.words → AreCounted old of_dependencies of_marks →
@@ -68,7 +67,7 @@ module _ (old new : FactWords) (n : ℕ) (sets : SetsBit old new n) where
   AreCounted-dependency ds ms len was l off = record {
     are = AreFacts-set len (omega arith) was.are;
     dependencies = ap (λ x. x + 1) was.dependencies ∙ sym (dependency_count-set l ∙ ap (λ b. dependency_count old + cond (not b) 1 0) off);
-    marks = was.marks ∙ sym (mark_count-kept l)
+    marks = was.marks ∙ sym (mark_count-kept l);
   }
 
   pub AreCounted-mark : (of_dependencies of_marks : ℕ) → length new.words ≡ length old.words → AreCounted old of_dependencies of_marks →
@@ -76,22 +75,22 @@ module _ (old new : FactWords) (n : ℕ) (sets : SetsBit old new n) where
   AreCounted-mark ds ms len was low high off = record {
     are = AreFacts-set len high was.are;
     dependencies = was.dependencies ∙ sym (dependency_count-kept low);
-    marks = ap (λ x. x + 1) was.marks ∙ sym (mark_count-set low high ∙ ap (λ b. mark_count old + cond (not b) 1 0) off)
+    marks = ap (λ x. x + 1) was.marks ∙ sym (mark_count-set low high ∙ ap (λ b. mark_count old + cond (not b) 1 0) off);
   }
 
   -- ---- the facts
   set_or_same : (k : ℕ) → has_bit new.words k ≡ true → (has_bit old.words k ≡ true) ⊎ (k ≡ n)
   set_or_same k h =
       elim (cases_eq k n) [
-        inl e ↦ inr e
-      | inr ne ↦ inl (sym (sets.others k ne) ∙ h)
+        | inl e ↦ inr e
+        | inr ne ↦ inl (sym (sets.others k ne) ∙ h)
       ]
 
   kept : (k : ℕ) → has_bit old.words k ≡ true → has_bit new.words k ≡ true
   kept k h =
       elim (cases_eq k n) [
-        inl e ↦ ap (has_bit new.words) e ∙ sets.set
-      | inr ne ↦ sets.others k ne ∙ h
+        | inl e ↦ ap (has_bit new.words) e ∙ sets.set
+        | inr ne ↦ sets.others k ne ∙ h
       ]
 
   dependency_old : (x : Arrow) → HasDep new x → (x.start < old.keys) × (x.end < old.keys) × (has_bit new.words (dependency_number old.keys x) ≡ true)
@@ -110,44 +109,48 @@ module _ (old new : FactWords) (n : ℕ) (sets : SetsBit old new n) where
   pub AddsDep-set : (d : Arrow) → d.start < old.keys → d.end < old.keys → n ≡ dependency_number old.keys d → AddsDep old new d
   AddsDep-set d ls le at = record {
     keys = sets.keys;
-    dependencies = λ x.
-      ( (λ h. let o = dependency_old x h in
+    dependencies = λ x. (
+      (λ h. let o = dependency_old x h in
           elim (set_or_same (dependency_number old.keys x) o.2) [
-            inl b ↦ inl (o.0, o.1, b)
-          | inr e ↦ inr (dependency_number-same old.keys x d o.1 le (e ∙ at))
-          ])
-      , (λ h. elim h [
-            inl o ↦ dependency_new x (o.0, o.1, kept (dependency_number old.keys x) o.2)
-          | inr e ↦ subst (HasDep new) (sym e) (dependency_new d (ls, le, ap (has_bit new.words) (sym at) ∙ sets.set))
-          ]) );
-    marks = λ key mark.
-      ( (λ h. let o = mark_old key mark h in
+            | inl b ↦ inl (o.0, o.1, b)
+            | inr e ↦ inr (dependency_number-same old.keys x d o.1 le (e ∙ at))
+          ]),
+      (λ h. elim h [
+        | inl o ↦ dependency_new x (o.0, o.1, kept (dependency_number old.keys x) o.2)
+        | inr e ↦ subst (HasDep new) (sym e) (dependency_new d (ls, le, ap (has_bit new.words) (sym at) ∙ sets.set))
+      ]),
+    );
+    marks = λ key mark. (
+      (λ h. let o = mark_old key mark h in
           elim (set_or_same (mark_number old.keys key mark) o.1) [
-            inl b ↦ (o.0, b)
-          | inr e ↦ absurd (omega (arith, dependency_number-lt old.keys d ls le))
-          ])
-      , (λ h. mark_new key mark (h.0, kept (mark_number old.keys key mark) h.1)) )
+            | inl b ↦ (o.0, b)
+            | inr e ↦ absurd (omega (arith, dependency_number-lt old.keys d ls le))
+          ]),
+      (λ h. mark_new key mark (h.0, kept (mark_number old.keys key mark) h.1)),
+    );
   }
 
   -- to set a mark's bit is to add it
   pub AddsMark-set : (at : ℕ) (added : Mark) → at < old.keys → n ≡ mark_number old.keys at added → AddsMark old new at added
   AddsMark-set at added la is = record {
     keys = sets.keys;
-    dependencies = λ x.
-      ( (λ h. let o = dependency_old x h in
+    dependencies = λ x. (
+      (λ h. let o = dependency_old x h in
           elim (set_or_same (dependency_number old.keys x) o.2) [
-            inl b ↦ (o.0, o.1, b)
-          | inr e ↦ absurd (omega (arith, dependency_number-lt old.keys x o.0 o.1))
-          ])
-      , (λ h. dependency_new x (h.0, h.1, kept (dependency_number old.keys x) h.2)) );
-    marks = λ key mark.
-      ( (λ h. let o = mark_old key mark h in
+            | inl b ↦ (o.0, o.1, b)
+            | inr e ↦ absurd (omega (arith, dependency_number-lt old.keys x o.0 o.1))
+          ]),
+      (λ h. dependency_new x (h.0, h.1, kept (dependency_number old.keys x) h.2)),
+    );
+    marks = λ key mark. (
+      (λ h. let o = mark_old key mark h in
           elim (set_or_same (mark_number old.keys key mark) o.1) [
-            inl b ↦ inl (o.0, b)
-          | inr e ↦ inr (mark_number-same old.keys key at mark added (e ∙ is))
-          ])
-      , (λ h. elim h [
-            inl o ↦ mark_new key mark (o.0, kept (mark_number old.keys key mark) o.1)
-          | inr e ↦ rw (e.0, e.1) (mark_new at added (la, ap (has_bit new.words) (sym is) ∙ sets.set))
-          ]) )
+            | inl b ↦ inl (o.0, b)
+            | inr e ↦ inr (mark_number-same old.keys key at mark added (e ∙ is))
+          ]),
+      (λ h. elim h [
+        | inl o ↦ mark_new key mark (o.0, kept (mark_number old.keys key mark) o.1)
+        | inr e ↦ rw (e.0, e.1) (mark_new at added (la, ap (has_bit new.words) (sym is) ∙ sets.set))
+      ]),
+    );
   }

@@ -1,21 +1,19 @@
 -- The facts at a chain's places are those of the chain.
-use Rattle.std.proofs.Common.{◌≡◌, ℕ, suc, zero, ◌+◌, ◌-◌, ◌*◌, ◌/◌, ◌%◌, ◌<◌, ◌≤◌, ◌⊎◌, List, length, get_or, refl, ap, sym, ◌∙◌, subst, inl, inr, arith, Bool, true, false, ltb, eqb, Option, Some, None, ◌&&◌}
-use Rattle.std.specs.Prelude.{Contains, All, IfSome, slice_get}
-use Rattle.std.proofs.lemmas.Bool.{cases_lt, cases_eq, cases_Bool, lt-ltb, le-ltb, and_parts}
+use Rattle.std.proofs.Common.{◌≡◌, ℕ, ◌+◌, ◌-◌, ◌*◌, ◌/◌, ◌%◌, ◌<◌, List, length, get_or, refl, ap, sym, ◌∙◌, subst, inl, inr, arith, Bool, true, false, Option, Some, None}
+use Rattle.std.specs.Prelude.{Contains, IfSome, slice_get}
+use Rattle.std.proofs.lemmas.Bool.{cases_lt, cases_Bool, lt-ltb, le-ltb, and_parts}
 use Rattle.std.proofs.lemmas.List.Elements.{All-contains}
 use Rattle.std.proofs.lemmas.Option.{slice_get-get_or, slice_get_past, same_Some, none-some}
-use Rattle.ld_trace.specs.declared.event.Irq.{Irq}
 use Rattle.ld_trace.specs.declared.event.Irq.TheVariants.{Hard, Soft}
 use Rattle.ld_trace.specs.declared.event.Mode.{Mode}
 use Rattle.ld_task.specs.declared.frame.Frame.{Frame}
 use Rattle.ld_task.specs.declared.lock.Lock.{Lock}
-use Rattle.ld_task.specs.declared.kind.Kind.{Kind}
 use Rattle.ld_task.specs.declared.mark.Mark.{Mark}
 use Rattle.ld_task.specs.declared.mark.Mark.TheVariants.{Used, UsedIn, Enabled}
-use Rattle.ld_task.specs.Chains.{ChainParts, ChainHasDependency, ChainHasMark, ChainMarksNew, ChainMarksHeld, ChainKeysBelow}
+use Rattle.ld_task.specs.Chains.{ChainParts, ChainKeysBelow}
 use Rattle.ld_task.specs.Dependencies.{kind_between}
 use Rattle.ld_task.specs.Marks.{is_read, is_in, is_enabled, same_form, marks_taken, marks_opened}
-use Rattle.ld_graph.specs.ChainFacts.{ChainHas, FactBelow, chain_fact, fact_by, fact_places, mark_if, mark_of_held, mark_by_taking, mark_by_opening, dependency_from}
+use Rattle.ld_graph.specs.ChainFacts.{ChainHas, FactBelow, chain_fact, fact_by, fact_places, mark_if, mark_of_held, mark_by_taking, mark_by_opening}
 use Rattle.ld_graph.specs.declared.fact.Fact.{Fact}
 use Rattle.ld_graph.specs.declared.fact.Fact.TheVariants.{Dependency, Marked}
 
@@ -23,8 +21,8 @@ use Rattle.ld_graph.specs.declared.fact.Fact.TheVariants.{Dependency, Marked}
 mark_if-some : (gives : Mark → Bool) (key : ℕ) (mark : Mark) (x : Fact) → mark_if gives key mark ≡ Some x → (gives mark ≡ true) × (Marked key mark ≡ x)
 mark_if-some gives key mark x e =
     elim (cases_Bool (gives mark)) [
-      inl t ↦ (t, same_Some (Marked key mark) x (rw t at e))
-    | inr f ↦ absurd (none-some x (rw f at e))
+      | inl t ↦ (t, same_Some (Marked key mark) x (rw t at e))
+      | inr f ↦ absurd (none-some x (rw f at e))
     ]
 
 mark_if-gives : (gives : Mark → Bool) (key : ℕ) (mark : Mark) → gives mark ≡ true → mark_if gives key mark ≡ Some (Marked key mark)
@@ -84,17 +82,17 @@ held_at locks i d l = (i, l, Rattle.std.proofs.lemmas.List.get_or_default locks 
 fact_by-taking : (c : ChainParts) (new : Lock) (frame : Frame) (n : ℕ) (x : Fact) → c.new_lock ≡ Some (new, frame) → fact_by (Some (new, frame)) c n ≡ Some x → ChainHas c x
 fact_by-taking c new frame n x is e =
     elim (cases_lt n (length c.held_locks)) [
-      inl l ↦
-        let old : Lock = get_or c.held_locks n new in
-        let at : fact_by (Some (new, frame)) c n ≡ Some (Dependency old.key new.key (kind_between old.mode new.mode)) =
+      | inl l ↦
+          let old : Lock = get_or c.held_locks n new in
+          let at : fact_by (Some (new, frame)) c n ≡ Some (Dependency old.key new.key (kind_between old.mode new.mode)) =
           rw (lt-ltb n (length c.held_locks) l, slice_get-get_or c.held_locks n new l) refl in
-        subst (ChainHas c) (same_Some (Dependency old.key new.key (kind_between old.mode new.mode)) x (sym at ∙ e))
-        (record { old = old; new = new; frame = frame; is_held = held_at c.held_locks n new l; is_new = is; from_is = refl; to_is = refl; how = refl })
-    | inr g ↦
-        let m : Mark = mark_by_taking (is_read new.mode) (n - length c.held_locks) in
-        let at : fact_by (Some (new, frame)) c n ≡ mark_if (marks_taken new.mode frame c.hard_on c.soft_on) new.key m = rw (le-ltb n (length c.held_locks) g) refl in
-        let got = mark_if-some (marks_taken new.mode frame c.hard_on c.soft_on) new.key m x (sym at ∙ e) in
-        subst (ChainHas c) got.1 (inl (record { new = new; frame = frame; is_new = is; key_is = refl; gives = got.0 }))
+          subst (ChainHas c) (same_Some (Dependency old.key new.key (kind_between old.mode new.mode)) x (sym at ∙ e))
+          (record { old = old; new = new; frame = frame; is_held = held_at c.held_locks n new l; is_new = is; from_is = refl; to_is = refl; how = refl })
+      | inr g ↦
+          let m : Mark = mark_by_taking (is_read new.mode) (n - length c.held_locks) in
+          let at : fact_by (Some (new, frame)) c n ≡ mark_if (marks_taken new.mode frame c.hard_on c.soft_on) new.key m = rw (le-ltb n (length c.held_locks) g) refl in
+          let got = mark_if-some (marks_taken new.mode frame c.hard_on c.soft_on) new.key m x (sym at ∙ e) in
+          subst (ChainHas c) got.1 (inl (record { new = new; frame = frame; is_new = is; key_is = refl; gives = got.0 }))
     ]
 
 fact_by-opening : (c : ChainParts) (n : ℕ) (x : Fact) → c.new_lock ≡ None → fact_by None c n ≡ Some x → ChainHas c x
@@ -126,19 +124,21 @@ chain_fact-complete c (Dependency from to kind) h =
     let (k, l, at) = h.is_held in
     let places : fact_places c ≡ length c.held_locks + 5 = rw h.is_new refl in
     let here : chain_fact c k ≡ Some (Dependency h.old.key h.new.key (kind_between h.old.mode h.new.mode)) =
-      rw (h.is_new, lt-ltb k (length c.held_locks) l, slice_get-get_or c.held_locks k h.old l, at) refl in
+    rw (h.is_new, lt-ltb k (length c.held_locks) l, slice_get-get_or c.held_locks k h.old l, at) refl in
     (k, omega arith, here ∙ rw (h.from_is, h.to_is, h.how) refl)
 chain_fact-complete c (Marked key mark) (inl h) =
     let n : ℕ = length c.held_locks + taking_place mark in
     let places : fact_places c ≡ length c.held_locks + 5 = rw h.is_new refl in
     let after : n - length c.held_locks ≡ taking_place mark = omega arith in
     let m : mark_by_taking (is_read h.new.mode) (n - length c.held_locks) ≡ mark =
-      ap (mark_by_taking (is_read h.new.mode)) after ∙ mark_by_taking-place h.new.mode h.frame c.hard_on c.soft_on mark h.gives in
+    ap (mark_by_taking (is_read h.new.mode)) after ∙ mark_by_taking-place h.new.mode h.frame c.hard_on c.soft_on mark h.gives in
     let here : chain_fact c n ≡ mark_if (marks_taken h.new.mode h.frame c.hard_on c.soft_on) h.new.key (mark_by_taking (is_read h.new.mode) (n - length c.held_locks)) =
-      rw (h.is_new, le-ltb n (length c.held_locks) (omega arith)) refl in
-    ( n, omega (arith, taking_place-lt mark)
-    , here ∙ ap (mark_if (marks_taken h.new.mode h.frame c.hard_on c.soft_on) h.new.key) m ∙
-      mark_if-gives (marks_taken h.new.mode h.frame c.hard_on c.soft_on) h.new.key mark h.gives ∙ ap (λ k. Some (Marked k mark)) (sym h.key_is) )
+    rw (h.is_new, le-ltb n (length c.held_locks) (omega arith)) refl in (
+      n,
+      omega (arith, taking_place-lt mark),
+      here ∙ ap (mark_if (marks_taken h.new.mode h.frame c.hard_on c.soft_on) h.new.key) m ∙
+          mark_if-gives (marks_taken h.new.mode h.frame c.hard_on c.soft_on) h.new.key mark h.gives ∙ ap (λ k. Some (Marked k mark)) (sym h.key_is),
+    )
 chain_fact-complete c (Marked key mark) (inr h) =
     let (k, l, at) = h.is_held in
     let n : ℕ = k * 2 + opening_place mark in
@@ -147,16 +147,19 @@ chain_fact-complete c (Marked key mark) (inr h) =
     let half : n / 2 ≡ k = omega arith in
     let odd : n % 2 ≡ opening_place mark = omega arith in
     let here : chain_fact c n ≡ mark_if (marks_opened h.old.mode c.hard_on c.soft_on) h.old.key (mark_by_opening (is_read h.old.mode) (opening_place mark)) =
-      rw (h.is_opening, half, odd, slice_get-get_or c.held_locks k h.old l, at) refl in
-    ( n, omega arith
-    , here ∙ ap (mark_if (marks_opened h.old.mode c.hard_on c.soft_on) h.old.key) (mark_by_opening-place h.old.mode c.hard_on c.soft_on mark h.gives) ∙
-      mark_if-gives (marks_opened h.old.mode c.hard_on c.soft_on) h.old.key mark h.gives ∙ ap (λ k. Some (Marked k mark)) (sym h.key_is) )
+    rw (h.is_opening, half, odd, slice_get-get_or c.held_locks k h.old l, at) refl in (
+      n,
+      omega arith,
+      here ∙ ap (mark_if (marks_opened h.old.mode c.hard_on c.soft_on) h.old.key) (mark_by_opening-place h.old.mode c.hard_on c.soft_on mark h.gives) ∙
+          mark_if-gives (marks_opened h.old.mode c.hard_on c.soft_on) h.old.key mark h.gives ∙ ap (λ k. Some (Marked k mark)) (sym h.key_is),
+    )
 
 -- ---- a chain's facts name the chain's keys alone
 pub FactBelow-chain : (keys : ℕ) (c : ChainParts) (x : Fact) → ChainKeysBelow keys c → ChainHas c x → FactBelow keys x
-FactBelow-chain keys c (Dependency from to kind) below h =
-    ( subst (λ k. k < keys) (sym h.from_is) (All-contains (λ lock. lock.key < keys) c.held_locks h.old below.held_below h.is_held)
-    , subst (λ k. k < keys) (sym h.to_is) (new_key h.new h.frame h.is_new) )
+FactBelow-chain keys c (Dependency from to kind) below h = (
+  subst (λ k. k < keys) (sym h.from_is) (All-contains (λ lock. lock.key < keys) c.held_locks h.old below.held_below h.is_held),
+  subst (λ k. k < keys) (sym h.to_is) (new_key h.new h.frame h.is_new),
+)
   where
     new_key : (new : Lock) (frame : Frame) → c.new_lock ≡ Some (new, frame) → new.key < keys
     new_key new frame is = subst (λ o. IfSome o (λ t. t.0.key < keys)) is below.new_below

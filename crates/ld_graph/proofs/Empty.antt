@@ -1,13 +1,12 @@
 -- No facts: words of zeros.
-use Rattle.std.proofs.Common.{◌≡◌, ℕ, ◌+◌, ◌*◌, ◌/◌, ◌<◌, ◌≤◌, List, length, get_or, replicate, refl, ap, sym, ◌∙◌, subst, arith, Bool, true, false}
+use Rattle.std.proofs.Common.{◌≡◌, ℕ, ◌+◌, ◌*◌, ◌/◌, ◌≤◌, length, get_or, replicate, ap, sym, ◌∙◌, subst, false}
 use Rattle.std.proofs.lemmas.List.{length-replicate}
-use Rattle.ld_graph.specs.Bits.{has_bit, count_below}
+use Rattle.ld_graph.specs.Bits.{has_bit}
 use Rattle.ld_graph.specs.Numbers.{dependency_total, bit_total}
-use Rattle.ld_graph.specs.Facts.{FactWords, AreFacts, AreCounted, dependency_count, mark_count}
+use Rattle.ld_graph.specs.Facts.{FactWords, AreCounted, dependency_count, mark_count}
 use Rattle.ld_graph.proofs.BitLemmas.{has_bit-zeros, zeros_at, count_below-none}
 
 module _ (facts : FactWords) (n : ℕ) (zeros : facts.words ≡ replicate n 0) where
-
   pub none_set : (k : ℕ) → has_bit facts.words k ≡ false
   none_set k = has_bit-zeros facts.words k (λ i. subst (λ ws. ◌≡◌ {A = ℕ} (get_or ws i 0) 0) (sym zeros) (zeros_at n i))
 
@@ -22,8 +21,8 @@ module _ (facts : FactWords) (n : ℕ) (zeros : facts.words ≡ replicate n 0) w
     are = record {
       few = few;
       words = ap length zeros ∙ length-replicate {A = ℕ} n 0 ∙ size;
-      none_past = λ k past. none_set k
+      none_past = λ k past. none_set k;
     };
     dependencies = sym dependency_count-zeros;
-    marks = sym mark_count-zeros
+    marks = sym mark_count-zeros;
   }

@@ -1,10 +1,7 @@
 -- The facts of a chain are added one after the other.
-use Rattle.std.proofs.Common.{◌≡◌, ℕ, ◌+◌, ◌<◌, ◌≤◌, ◌⊎◌, ◌↔◌, refl, ap, sym, ◌∙◌, subst, inl, inr, arith, Bool, true, false, Option, Some, None}
-use Rattle.std.specs.Prelude.{IsTrue, IsFalse}
-use Rattle.std.proofs.lemmas.Bool.{cases_eq, cases_lt, cases_Bool}
+use Rattle.std.proofs.Common.{◌≡◌, ℕ, ◌+◌, ◌⊎◌, ◌↔◌, refl, ap, sym, ◌∙◌, subst, inl, inr, arith, Bool, true, false, Some, None}
+use Rattle.std.proofs.lemmas.Bool.{cases_eq, cases_Bool}
 use Rattle.std.proofs.lemmas.Option.{same_Some, none-some}
-use Rattle.ld_task.specs.declared.kind.Kind.{Kind}
-use Rattle.ld_task.specs.declared.mark.Mark.{Mark}
 use Rattle.ld_task.specs.Chains.{ChainParts}
 use Rattle.ld_graph.specs.Facts.{FactWords, HasDep, HasMark, AddsChain, HoldsChain}
 use Rattle.ld_graph.specs.Graphs.{AreClean}
@@ -27,7 +24,7 @@ Grown-start first c = record {
   keys = refl;
   facts = λ x. ((λ h. inl h), (λ h. elim h [ inl o ↦ o | inr s ↦ absurd (let l = s.1 in omega arith) ]));
   known = λ h. refl;
-  news = λ h. absurd (let e : false ≡ true = h in cc)
+  news = λ h. absurd (let e : false ≡ true = h in cc);
 }
 
 -- one place more
@@ -37,64 +34,66 @@ StandsIn-later c x n (k, l, e) = (k, omega arith, e)
 StandsIn-cases : (c : ChainParts) (x : Fact) (n : ℕ) → StandsIn c x (n + 1) → StandsIn c x n ⊎ (chain_fact c n ≡ Some x)
 StandsIn-cases c x n (k, l, e) =
     elim (cases_eq k n) [
-      inl same ↦ inr (subst (λ m. chain_fact c m ≡ Some x) same e)
-    | inr ne ↦ inl (k, omega arith, e)
+      | inl same ↦ inr (subst (λ m. chain_fact c m ≡ Some x) same e)
+      | inr ne ↦ inl (k, omega arith, e)
     ]
 
 module _ (first now : FactWords) (c : ChainParts) (n : ℕ) (fresh : Bool) (was : Grown first now c n fresh) where
-
   later : fresh ≡ true → (x : Fact) × StandsIn c x (n + 1) × ¬ HasFact first x
   later h = let (x, s, ne) = was.news h in (x, StandsIn-later c x n s, ne)
 
   pub Grown-none : chain_fact c n ≡ None → Grown first now c (n + 1) fresh
   Grown-none empty = record {
     keys = was.keys;
-    facts = λ x.
-      ( (λ h. elim ((was.facts x).0 h) [ inl o ↦ inl o | inr s ↦ inr (StandsIn-later c x n s) ])
-      , (λ h. elim h [
-          inl o ↦ (was.facts x).1 (inl o)
+    facts = λ x. (
+      (λ h. elim ((was.facts x).0 h) [ inl o ↦ inl o | inr s ↦ inr (StandsIn-later c x n s) ]),
+      (λ h. elim h [
+        | inl o ↦ (was.facts x).1 (inl o)
         | inr s ↦ elim (StandsIn-cases c x n s) [
-            inl t ↦ (was.facts x).1 (inr t)
+          | inl t ↦ (was.facts x).1 (inr t)
           | inr e ↦ absurd (none-some x (sym empty ∙ e))
-          ]
-        ]) );
+        ]
+      ]),
+    );
     known = was.known;
-    news = later
+    news = later;
   }
 
   pub Grown-known : (x : Fact) → chain_fact c n ≡ Some x → HasFact now x → Grown first now c (n + 1) fresh
   Grown-known x at has = record {
     keys = was.keys;
-    facts = λ y.
-      ( (λ h. elim ((was.facts y).0 h) [ inl o ↦ inl o | inr s ↦ inr (StandsIn-later c y n s) ])
-      , (λ h. elim h [
-          inl o ↦ (was.facts y).1 (inl o)
+    facts = λ y. (
+      (λ h. elim ((was.facts y).0 h) [ inl o ↦ inl o | inr s ↦ inr (StandsIn-later c y n s) ]),
+      (λ h. elim h [
+        | inl o ↦ (was.facts y).1 (inl o)
         | inr s ↦ elim (StandsIn-cases c y n s) [
-            inl t ↦ (was.facts y).1 (inr t)
+          | inl t ↦ (was.facts y).1 (inr t)
           | inr e ↦ subst (HasFact now) (same_Some x y (sym at ∙ e)) has
-          ]
-        ]) );
+        ]
+      ]),
+    );
     known = was.known;
-    news = later
+    news = later;
   }
 
   pub Grown-fresh : (new : FactWords) (x : Fact) → chain_fact c n ≡ Some x → ¬ HasFact now x → AddsFact now new x → Grown first new c (n + 1) true
   Grown-fresh new x at fresh_fact adds = record {
     keys = adds.keys ∙ was.keys;
-    facts = λ y.
-      ( (λ h. elim ((adds.facts y).0 h) [
-          inl m ↦ elim ((was.facts y).0 m) [ inl o ↦ inl o | inr s ↦ inr (StandsIn-later c y n s) ]
+    facts = λ y. (
+      (λ h. elim ((adds.facts y).0 h) [
+        | inl m ↦ elim ((was.facts y).0 m) [ inl o ↦ inl o | inr s ↦ inr (StandsIn-later c y n s) ]
         | inr e ↦ inr (n, omega arith, at ∙ ap Some (sym e))
-        ])
-      , (λ h. elim h [
-          inl o ↦ (adds.facts y).1 (inl ((was.facts y).1 (inl o)))
+      ]),
+      (λ h. elim h [
+        | inl o ↦ (adds.facts y).1 (inl ((was.facts y).1 (inl o)))
         | inr s ↦ elim (StandsIn-cases c y n s) [
-            inl t ↦ (adds.facts y).1 (inl ((was.facts y).1 (inr t)))
+          | inl t ↦ (adds.facts y).1 (inl ((was.facts y).1 (inr t)))
           | inr e ↦ (adds.facts y).1 (inr (sym (same_Some x y (sym at ∙ e))))
-          ]
-        ]) );
+        ]
+      ]),
+    );
     known = λ h. absurd (let e : true ≡ false = h in cc);
-    news = λ h. (x, (n, omega arith, at), λ o. fresh_fact ((was.facts x).1 (inl o)))
+    news = λ h. (x, (n, omega arith, at), λ o. fresh_fact ((was.facts x).1 (inl o)));
   }
 
 -- ---- more facts, and clean ones only if the first were
@@ -102,37 +101,38 @@ pub AreClean-grown : (first now : FactWords) (c : ChainParts) (n : ℕ) (fresh :
 AreClean-grown first now c n fresh was clean =
     IsClean-fewer (HasDep first) (HasDep now) (HasMark first) (HasMark now)
     (λ d h. subst (HasDep now) (arrow-kind_of d)
-      ((was.facts (Dependency d.start d.end (kind_of d.first_is_s d.second_is_r))).1 (inl (subst (HasDep first) (sym (arrow-kind_of d)) h))))
+    ((was.facts (Dependency d.start d.end (kind_of d.first_is_s d.second_is_r))).1 (inl (subst (HasDep first) (sym (arrow-kind_of d)) h))))
     (λ key mark h. (was.facts (Marked key mark)).1 (inl h)) clean
 
 -- ---- all places
 module _ (first now : FactWords) (c : ChainParts) (n : ℕ) (fresh : Bool) (n_is : n ≡ fact_places c) (was : Grown first now c n fresh) where
-
   all : Grown first now c (fact_places c) fresh
   all = subst (λ m. Grown first now c m fresh) n_is was
 
   has : (x : Fact) → HasFact now x ↔ (HasFact first x ⊎ ChainHas c x)
-  has x =
-      ( (λ h. elim ((all.facts x).0 h) [ inl o ↦ inl o | inr s ↦ inr (chain_fact-sound c s.0 x s.2) ])
-      , (λ h. elim h [ inl o ↦ (all.facts x).1 (inl o) | inr s ↦ (all.facts x).1 (inr (chain_fact-complete c x s)) ]) )
+  has x = (
+    (λ h. elim ((all.facts x).0 h) [ inl o ↦ inl o | inr s ↦ inr (chain_fact-sound c s.0 x s.2) ]),
+    (λ h. elim h [ inl o ↦ (all.facts x).1 (inl o) | inr s ↦ (all.facts x).1 (inr (chain_fact-complete c x s)) ]),
+  )
 
   pub AddsChain-grown : AddsChain first now c
   AddsChain-grown = record {
     keys = was.keys;
     dependencies = λ from to kind. has (Dependency from to kind);
-    marks = λ key mark. has (Marked key mark)
+    marks = λ key mark. has (Marked key mark);
   }
 
   pub HoldsChain-grown : (fresh ≡ false) ↔ HoldsChain first c
-  HoldsChain-grown =
-      ( (λ h. record {
-          dependencies = λ from to kind d. subst (λ f. HasFact f (Dependency from to kind)) (was.known h) ((has (Dependency from to kind)).1 (inr d));
-          marks = λ key mark m. subst (λ f. HasFact f (Marked key mark)) (was.known h) ((has (Marked key mark)).1 (inr m))
-        })
-      , (λ holds. elim (cases_Bool fresh) [
-          inr off ↦ off
-        | inl on ↦ absurd (let (x, s, ne) = all.news on in ne (held holds x (chain_fact-sound c s.0 x s.2)))
-        ]) )
+  HoldsChain-grown = (
+    (λ h. record {
+      dependencies = λ from to kind d. subst (λ f. HasFact f (Dependency from to kind)) (was.known h) ((has (Dependency from to kind)).1 (inr d));
+      marks = λ key mark m. subst (λ f. HasFact f (Marked key mark)) (was.known h) ((has (Marked key mark)).1 (inr m));
+    }),
+    (λ holds. elim (cases_Bool fresh) [
+      | inr off ↦ off
+      | inl on ↦ absurd (let (x, s, ne) = all.news on in ne (held holds x (chain_fact-sound c s.0 x s.2)))
+    ]),
+  )
     where
       held : HoldsChain first c → (x : Fact) → ChainHas c x → HasFact first x
       held holds (Dependency from to kind) d = holds.dependencies from to kind d

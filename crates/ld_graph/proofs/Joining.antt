@@ -1,9 +1,9 @@
 -- One row more of those that are chosen.
 use Rattle.std.proofs.Common.{◌≡◌, ◌≢◌, ℕ, ◌+◌, ◌-◌, ◌*◌, ◌/◌, ◌<◌, ◌≤◌, ◌⊎◌, ◌↔◌, ◌||◌, ◌&&◌, List, [], ◌∷◌, length, get_or, set, refl, ap, sym, ◌∙◌, subst, inl, inr, arith, Bool, true, false, get_or-set_same, get_or-set_other}
-use Rattle.std.proofs.lemmas.Bool.{cases_eq, cases_lt, cases_Bool, or_cases, or_left, or_right}
-use Rattle.ld_graph.specs.Bits.{has_bit, count_below}
+use Rattle.std.proofs.lemmas.Bool.{cases_eq}
+use Rattle.ld_graph.specs.Bits.{has_bit}
 use Rattle.ld_graph.specs.Tables.{reaches}
-use Rattle.ld_graph.proofs.BitLemmas.{has_bit-zeros, zeros_at, has_bit-within}
+use Rattle.ld_graph.proofs.BitLemmas.{has_bit-zeros, zeros_at}
 
 abbrev pub eight_zeros : List ℕ
 eight_zeros = 0 ∷ 0 ∷ 0 ∷ 0 ∷ 0 ∷ 0 ∷ 0 ∷ 0 ∷ []
@@ -24,7 +24,7 @@ Joins-start first chosen row = record {
   words = refl;
   rows = refl;
   only = λ p h. absurd (let f = off p in cc);
-  joined = λ p q. or_false (reaches first p q) ∙ ap (λ b. reaches first p q || (b && has_bit row q)) (sym (off p))
+  joined = λ p q. or_false (reaches first p q) ∙ ap (λ b. reaches first p q || (b && has_bit row q)) (sym (off p));
 }
   where
     off : (p : ℕ) → has_bit eight_zeros p ≡ false
@@ -39,20 +39,21 @@ Joins-more first now chosen taken taken' row next p within was is_chosen len on 
   words = len ∙ was.words;
   rows = Rattle.std.proofs.Common.length-set now p next ∙ was.rows;
   only = λ x h. elim (cases_eq x p) [
-      inl e ↦ ap (has_bit chosen) e ∙ is_chosen
+    | inl e ↦ ap (has_bit chosen) e ∙ is_chosen
     | inr ne ↦ was.only x (sym (others x ne) ∙ h)
-    ];
+  ];
   joined = λ x q. elim (cases_eq x p) [
-      inl e ↦ at x q e
+    | inl e ↦ at x q e
     | inr ne ↦
         ap (λ r. has_bit r q) (get_or-set_other now p x next [] ne) ∙ was.joined x q ∙
         ap (λ b. reaches first x q || (b && has_bit row q)) (sym (others x ne))
-    ]
+  ];
 }
   where
     -- what the taken row was before
     before : (q : ℕ) → reaches now p q ≡ reaches first p q
     before q = was.joined p q ∙ ap (λ b. reaches first p q || (b && has_bit row q)) off ∙ sym (or_false (reaches first p q))
+
     at : (x q : ℕ) → x ≡ p → has_bit (get_or (set now p next) x []) q ≡ (reaches first x q || (has_bit taken' x && has_bit row q))
     at x q e =
         rw (e, get_or-set_same now p next [] within, on)

@@ -1,11 +1,11 @@
 -- A dependency or a mark, as a single fact.
-use Rattle.std.proofs.Common.{◌≡◌, ℕ, ◌⊎◌, ◌↔◌, refl, ap, sym, ◌∙◌, subst, inl, inr, Bool, true, false, cond}
+use Rattle.std.proofs.Common.{◌≡◌, ℕ, ◌⊎◌, ◌↔◌, refl, ap, sym, ◌∙◌, inl, inr, Bool, true, false}
 use Rattle.ld_task.specs.declared.kind.Kind.{Kind}
 use Rattle.ld_task.specs.declared.kind.Kind.TheVariants.{Er, En, Sr, Sn}
 use Rattle.ld_task.specs.declared.mark.Mark.{Mark}
 use Rattle.ld_task.specs.declared.mark.Mark.TheVariants.{Used}
 use Rattle.ld_graph.specs.Arrows.{Arrow, arrow, is_s, is_r}
-use Rattle.ld_graph.specs.Facts.{FactWords, HasDep, HasMark}
+use Rattle.ld_graph.specs.Facts.{FactWords}
 use Rattle.ld_graph.specs.ChainFacts.{HasFact, AddsFact, AddsDep, AddsMark}
 use Rattle.ld_graph.specs.declared.fact.Fact.{Fact}
 use Rattle.ld_graph.specs.declared.fact.Fact.TheVariants.{Dependency, Marked}
@@ -35,7 +35,7 @@ arrow-kind_of d = λ i. record {
   start = d.start;
   end = d.end;
   first_is_s = (letters-kind_of d.first_is_s d.second_is_r).0 i;
-  second_is_r = (letters-kind_of d.first_is_s d.second_is_r).1 i
+  second_is_r = (letters-kind_of d.first_is_s d.second_is_r).1 i;
 }
 
 abbrev pub fact_of : Arrow → Fact
@@ -67,38 +67,42 @@ pub AddsFact-dependency : (old new : FactWords) (from to : ℕ) (kind : Kind) �
 AddsFact-dependency old new from to kind adds = record { keys = adds.keys; facts = each }
   where
     each : (x : Fact) → HasFact new x ↔ (HasFact old x ⊎ (x ≡ Dependency from to kind))
-    each (Dependency f t k) =
-        ( (λ h. elim ((adds.dependencies (arrow f t k)).0 h) [
-            inl o ↦ inl o
-          | inr e ↦ inr (sym (fact_of-arrow f t k) ∙ ap fact_of e ∙ fact_of-arrow from to kind)
-          ])
-        , (λ h. elim h [
-            inl o ↦ (adds.dependencies (arrow f t k)).1 (inl o)
-          | inr e ↦ (adds.dependencies (arrow f t k)).1 (inr (ap arrow_of e))
-          ]) )
-    each (Marked key mark) =
-        ( (λ h. inl ((adds.marks key mark).0 h))
-        , (λ h. elim h [
-            inl o ↦ (adds.marks key mark).1 o
-          | inr e ↦ apart (Dependency from to kind) (Marked key mark) refl refl (sym e)
-          ]) )
+    each (Dependency f t k) = (
+      (λ h. elim ((adds.dependencies (arrow f t k)).0 h) [
+        | inl o ↦ inl o
+        | inr e ↦ inr (sym (fact_of-arrow f t k) ∙ ap fact_of e ∙ fact_of-arrow from to kind)
+      ]),
+      (λ h. elim h [
+        | inl o ↦ (adds.dependencies (arrow f t k)).1 (inl o)
+        | inr e ↦ (adds.dependencies (arrow f t k)).1 (inr (ap arrow_of e))
+      ]),
+    )
+    each (Marked key mark) = (
+      (λ h. inl ((adds.marks key mark).0 h)),
+      (λ h. elim h [
+        | inl o ↦ (adds.marks key mark).1 o
+        | inr e ↦ apart (Dependency from to kind) (Marked key mark) refl refl (sym e)
+      ]),
+    )
 
 pub AddsFact-mark : (old new : FactWords) (at : ℕ) (added : Mark) → AddsMark old new at added → AddsFact old new (Marked at added)
 AddsFact-mark old new at added adds = record { keys = adds.keys; facts = each }
   where
     each : (x : Fact) → HasFact new x ↔ (HasFact old x ⊎ (x ≡ Marked at added))
-    each (Dependency f t k) =
-        ( (λ h. inl ((adds.dependencies (arrow f t k)).0 h))
-        , (λ h. elim h [
-            inl o ↦ (adds.dependencies (arrow f t k)).1 o
-          | inr e ↦ apart (Dependency f t k) (Marked at added) refl refl e
-          ]) )
-    each (Marked key mark) =
-        ( (λ h. elim ((adds.marks key mark).0 h) [
-            inl o ↦ inl o
-          | inr e ↦ inr (rw (e.0, e.1) refl)
-          ])
-        , (λ h. elim h [
-            inl o ↦ (adds.marks key mark).1 (inl o)
-          | inr e ↦ (adds.marks key mark).1 (inr (ap key_of e, ap mark_of e))
-          ]) )
+    each (Dependency f t k) = (
+      (λ h. inl ((adds.dependencies (arrow f t k)).0 h)),
+      (λ h. elim h [
+        | inl o ↦ (adds.dependencies (arrow f t k)).1 o
+        | inr e ↦ apart (Dependency f t k) (Marked at added) refl refl e
+      ]),
+    )
+    each (Marked key mark) = (
+      (λ h. elim ((adds.marks key mark).0 h) [
+        | inl o ↦ inl o
+        | inr e ↦ inr (rw (e.0, e.1) refl)
+      ]),
+      (λ h. elim h [
+        | inl o ↦ (adds.marks key mark).1 (inl o)
+        | inr e ↦ (adds.marks key mark).1 (inr (ap key_of e, ap mark_of e))
+      ]),
+    )

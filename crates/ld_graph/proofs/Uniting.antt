@@ -1,15 +1,12 @@
 -- Facts word by word.
-use Rattle.std.proofs.Common.{◌≡◌, ◌≢◌, ℕ, ◌+◌, ◌-◌, ◌*◌, ◌/◌, ◌%◌, ◌^◌, ◌<◌, ◌≤◌, ◌⊎◌, ◌↔◌, ◌||◌, List, length, get_or, refl, ap, sym, ◌∙◌, subst, inl, inr, arith, Bool, true, false, not, eqb, eq-eqb, eqb-true}
-use Rattle.std.specs.Prelude.{IsTrue}
+use Rattle.std.proofs.Common.{◌≡◌, ℕ, ◌+◌, ◌*◌, ◌/◌, ◌%◌, ◌<◌, ◌≤◌, ◌||◌, List, length, get_or, refl, ap, sym, ◌∙◌, subst, inl, inr, arith, Bool, true, false, eqb, eq-eqb, eqb-true}
 use Rattle.std.specs.Int.{bit_at}
-use Rattle.std.proofs.lemmas.Bool.{cases_eq, cases_lt, cases_Bool, or_cases, or_left, or_right, ne_eqb}
+use Rattle.std.proofs.lemmas.Bool.{cases_eq, cases_lt, or_cases, or_left, or_right}
 use Rattle.std.proofs.lemmas.List.{get_or_past}
 use Rattle.std.proofs.lemmas.Nat.Bits.{bit_at-zero}
-use Rattle.ld_task.specs.declared.mark.Mark.{Mark}
-use Rattle.ld_graph.specs.Arrows.{Arrow}
 use Rattle.ld_graph.specs.Bits.{has_bit}
 use Rattle.ld_graph.specs.Numbers.{dependency_number, mark_number, dependency_total, bit_total}
-use Rattle.ld_graph.specs.Facts.{FactWords, HasDep, HasMark, AreFacts, IsUnion, HaveSameFacts, SetsBit, UnitesWord}
+use Rattle.ld_graph.specs.Facts.{FactWords, AreFacts, IsUnion, HaveSameFacts, SetsBit, UnitesWord}
 use Rattle.ld_graph.proofs.Numbers.{dependency_of, dependency_number-of, mark_number-of}
 
 -- a bit of a word
@@ -30,8 +27,8 @@ pub UnitesWord-known : (facts : FactWords) (i word : ℕ) →
 UnitesWord-known facts i word held = record {
   keys = refl;
   within = λ k l. or_known (has_bit facts.words (i * 64 + k)) (eqb (bit_at word k) 1)
-    (λ h. has_bit-at facts.words i k l ∙ eq-eqb (bit_at (get_or facts.words i 0) k) 1 (held k l (eqb-true (bit_at word k) 1 h)));
-  others = λ k ne. refl
+      (λ h. has_bit-at facts.words i k l ∙ eq-eqb (bit_at (get_or facts.words i 0) k) 1 (held k l (eqb-true (bit_at word k) 1 h)));
+  others = λ k ne. refl;
 }
 
 -- the first k bits of the word have been added
@@ -48,35 +45,34 @@ or_off : (a b : Bool) → b ≡ false → a ≡ (a || b)
 or_off a b e = or_known a b (λ t. absurd (let f : b ≡ true = t in cc))
 
 module _ (first now : FactWords) (i word k : ℕ) (below : k < 64) (was : UnitesBits first now i word k) where
-
   pub UnitesBits-off : eqb (bit_at word k) 1 ≡ false → UnitesBits first now i word (k + 1)
   UnitesBits-off off = record {
     keys = was.keys;
     done = λ j l. elim (cases_eq j k) [
-        inl e ↦ was.rest j (omega arith) (omega arith) ∙ or_off (has_bit first.words (i * 64 + j)) (eqb (bit_at word j) 1) (ap (λ x. eqb (bit_at word x) 1) e ∙ off)
+      | inl e ↦ was.rest j (omega arith) (omega arith) ∙ or_off (has_bit first.words (i * 64 + j)) (eqb (bit_at word j) 1) (ap (λ x. eqb (bit_at word x) 1) e ∙ off)
       | inr ne ↦ was.done j (omega arith)
-      ];
+    ];
     rest = λ j l m. was.rest j (omega arith) m;
-    others = was.others
+    others = was.others;
   }
 
   pub UnitesBits-on : (new : FactWords) → eqb (bit_at word k) 1 ≡ true → SetsBit now new (i * 64 + k) → UnitesBits first new i word (k + 1)
   UnitesBits-on new on sets = record {
     keys = sets.keys ∙ was.keys;
     done = λ j l. elim (cases_eq j k) [
-        inl e ↦ ap (λ x. has_bit new.words (i * 64 + x)) e ∙ sets.set ∙
+      | inl e ↦ ap (λ x. has_bit new.words (i * 64 + x)) e ∙ sets.set ∙
           sym (or_right (has_bit first.words (i * 64 + j)) (eqb (bit_at word j) 1) (ap (λ x. eqb (bit_at word x) 1) e ∙ on))
       | inr ne ↦ sets.others (i * 64 + j) (λ e. ne (omega arith)) ∙ was.done j (omega arith)
-      ];
+    ];
     rest = λ j l m. sets.others (i * 64 + j) (λ e. absurd (omega arith)) ∙ was.rest j (omega arith) m;
-    others = λ j ne. sets.others j (λ e. ne (omega arith)) ∙ was.others j ne
+    others = λ j ne. sets.others j (λ e. ne (omega arith)) ∙ was.others j ne;
   }
 
 pub UnitesWord-bits : (first now : FactWords) (i word k : ℕ) → 64 ≤ k → UnitesBits first now i word k → UnitesWord first now i word
 UnitesWord-bits first now i word k all was = record {
   keys = was.keys;
   within = λ j l. was.done j (omega arith);
-  others = was.others
+  others = was.others;
 }
 
 -- ---- the first n words of the other facts have been added
@@ -93,10 +89,10 @@ pub UnitesWords-more : (first now new : FactWords) (words : List ℕ) (n : ℕ) 
 UnitesWords-more first now new words n was unites = record {
   keys = unites.keys ∙ was.keys;
   done = λ k l. elim (cases_eq (k / 64) n) [
-      inl e ↦ at k e
+    | inl e ↦ at k e
     | inr ne ↦ unites.others k ne ∙ was.done k (omega arith)
-    ];
-  rest = λ k l. unites.others k (λ e. absurd (omega arith)) ∙ was.rest k (omega arith)
+  ];
+  rest = λ k l. unites.others k (λ e. absurd (omega arith)) ∙ was.rest k (omega arith);
 }
   where
     at : (k : ℕ) → k / 64 ≡ n → has_bit new.words k ≡ (has_bit first.words k || has_bit words k)
@@ -105,52 +101,55 @@ UnitesWords-more first now new words n was unites = record {
         let l : j < 64 = omega arith in
         let is : n * 64 + j ≡ k = omega arith in
         subst (λ x. has_bit new.words x ≡ (has_bit first.words x || has_bit words x)) is
-        ( unites.within j l ∙
-          (λ t. was.rest (n * 64 + j) (omega arith) t || eqb (bit_at (get_or words n 0) j) 1) ∙
-          ap (λ b. has_bit first.words (n * 64 + j) || b) (sym (has_bit-at words n j l)) )
+        (unites.within j l ∙
+        (λ t. was.rest (n * 64 + j) (omega arith) t || eqb (bit_at (get_or words n 0) j) 1) ∙
+        ap (λ b. has_bit first.words (n * 64 + j) || b) (sym (has_bit-at words n j l)))
 
 pub IsUnion-words : (a b now : FactWords) (n : ℕ) → a.keys ≡ b.keys → length b.words ≤ n → UnitesWords a now b.words n → IsUnion a b now
 IsUnion-words a b now n same all was = record {
   keys = was.keys;
-  dependencies = λ d.
-    ( (λ h. let o : (d.start < a.keys) × (d.end < a.keys) × (has_bit now.words (dependency_number a.keys d) ≡ true) =
-          subst (λ k. (d.start < k) × (d.end < k) × (has_bit now.words (dependency_number k d) ≡ true)) was.keys h in
+  dependencies = λ d. (
+    (λ h. let o : (d.start < a.keys) × (d.end < a.keys) × (has_bit now.words (dependency_number a.keys d) ≡ true) =
+        subst (λ k. (d.start < k) × (d.end < k) × (has_bit now.words (dependency_number k d) ≡ true)) was.keys h in
         elim (or_cases (has_bit a.words (dependency_number a.keys d)) (has_bit b.words (dependency_number a.keys d)) (sym (each (dependency_number a.keys d)) ∙ o.2)) [
-          inl x ↦ inl (o.0, o.1, x)
-        | inr x ↦ inr (subst (λ k. (d.start < k) × (d.end < k) × (has_bit b.words (dependency_number k d) ≡ true)) same (o.0, o.1, x))
-        ])
-    , (λ h. subst (λ k. (d.start < k) × (d.end < k) × (has_bit now.words (dependency_number k d) ≡ true)) (sym was.keys) (elim h [
-          inl x ↦ (x.0, x.1, each (dependency_number a.keys d) ∙ or_left (has_bit a.words (dependency_number a.keys d)) (has_bit b.words (dependency_number a.keys d)) x.2)
-        | inr x ↦
-            let y : (d.start < a.keys) × (d.end < a.keys) × (has_bit b.words (dependency_number a.keys d) ≡ true) =
-              subst (λ k. (d.start < k) × (d.end < k) × (has_bit b.words (dependency_number k d) ≡ true)) (sym same) x in
-            (y.0, y.1, each (dependency_number a.keys d) ∙ or_right (has_bit a.words (dependency_number a.keys d)) (has_bit b.words (dependency_number a.keys d)) y.2)
-        ])) );
-  marks = λ key mark.
-    ( (λ h. let o : (key < a.keys) × (has_bit now.words (mark_number a.keys key mark) ≡ true) =
-          subst (λ k. (key < k) × (has_bit now.words (mark_number k key mark) ≡ true)) was.keys h in
+          | inl x ↦ inl (o.0, o.1, x)
+          | inr x ↦ inr (subst (λ k. (d.start < k) × (d.end < k) × (has_bit b.words (dependency_number k d) ≡ true)) same (o.0, o.1, x))
+        ]),
+    (λ h. subst (λ k. (d.start < k) × (d.end < k) × (has_bit now.words (dependency_number k d) ≡ true)) (sym was.keys) (elim h [
+      | inl x ↦ (x.0, x.1, each (dependency_number a.keys d) ∙ or_left (has_bit a.words (dependency_number a.keys d)) (has_bit b.words (dependency_number a.keys d)) x.2)
+      | inr x ↦
+          let y : (d.start < a.keys) × (d.end < a.keys) × (has_bit b.words (dependency_number a.keys d) ≡ true) =
+          subst (λ k. (d.start < k) × (d.end < k) × (has_bit b.words (dependency_number k d) ≡ true)) (sym same) x in
+          (y.0, y.1, each (dependency_number a.keys d) ∙ or_right (has_bit a.words (dependency_number a.keys d)) (has_bit b.words (dependency_number a.keys d)) y.2)
+    ])),
+  );
+  marks = λ key mark. (
+    (λ h. let o : (key < a.keys) × (has_bit now.words (mark_number a.keys key mark) ≡ true) =
+        subst (λ k. (key < k) × (has_bit now.words (mark_number k key mark) ≡ true)) was.keys h in
         elim (or_cases (has_bit a.words (mark_number a.keys key mark)) (has_bit b.words (mark_number a.keys key mark)) (sym (each (mark_number a.keys key mark)) ∙ o.1)) [
-          inl x ↦ inl (o.0, x)
-        | inr x ↦ inr (subst (λ k. (key < k) × (has_bit b.words (mark_number k key mark) ≡ true)) same (o.0, x))
-        ])
-    , (λ h. subst (λ k. (key < k) × (has_bit now.words (mark_number k key mark) ≡ true)) (sym was.keys) (elim h [
-          inl x ↦ (x.0, each (mark_number a.keys key mark) ∙ or_left (has_bit a.words (mark_number a.keys key mark)) (has_bit b.words (mark_number a.keys key mark)) x.1)
-        | inr x ↦
-            let y : (key < a.keys) × (has_bit b.words (mark_number a.keys key mark) ≡ true) =
-              subst (λ k. (key < k) × (has_bit b.words (mark_number k key mark) ≡ true)) (sym same) x in
-            (y.0, each (mark_number a.keys key mark) ∙ or_right (has_bit a.words (mark_number a.keys key mark)) (has_bit b.words (mark_number a.keys key mark)) y.1)
-        ])) )
+          | inl x ↦ inl (o.0, x)
+          | inr x ↦ inr (subst (λ k. (key < k) × (has_bit b.words (mark_number k key mark) ≡ true)) same (o.0, x))
+        ]),
+    (λ h. subst (λ k. (key < k) × (has_bit now.words (mark_number k key mark) ≡ true)) (sym was.keys) (elim h [
+      | inl x ↦ (x.0, each (mark_number a.keys key mark) ∙ or_left (has_bit a.words (mark_number a.keys key mark)) (has_bit b.words (mark_number a.keys key mark)) x.1)
+      | inr x ↦
+          let y : (key < a.keys) × (has_bit b.words (mark_number a.keys key mark) ≡ true) =
+          subst (λ k. (key < k) × (has_bit b.words (mark_number k key mark) ≡ true)) (sym same) x in
+          (y.0, each (mark_number a.keys key mark) ∙ or_right (has_bit a.words (mark_number a.keys key mark)) (has_bit b.words (mark_number a.keys key mark)) y.1)
+    ])),
+  );
 }
   where
     past : (k : ℕ) → n ≤ k / 64 → has_bit b.words k ≡ false
     past k l =
         let zero : get_or b.words (k / 64) 0 ≡ 0 = get_or_past b.words (k / 64) 0 (omega arith) in
         rw (zero, bit_at-zero (k % 64)) refl
+
     each : (k : ℕ) → has_bit now.words k ≡ (has_bit a.words k || has_bit b.words k)
     each k = elim (cases_lt (k / 64) n) [
-        inl l ↦ was.done k l
+      | inl l ↦ was.done k l
       | inr g ↦ was.rest k g ∙ or_off (has_bit a.words k) (has_bit b.words k) (past k g)
-      ]
+    ]
 
 -- ---- the same facts are the same words
 both_ways : (a b : Bool) → (a ≡ true → b ≡ true) → (b ≡ true → a ≡ true) → a ≡ b
@@ -160,15 +159,16 @@ both_ways false false f g = refl
 
 pub HaveSameFacts-bits : (a b : FactWords) → AreFacts a → AreFacts b → HaveSameFacts a b →
     (length a.words ≡ length b.words) × ((n : ℕ) → has_bit a.words n ≡ has_bit b.words n)
-HaveSameFacts-bits a b fa fb same =
-    ( fa.words ∙ ap (λ k. (bit_total k + 63) / 64) same.keys ∙ sym fb.words
-    , λ n. elim (cases_lt n (bit_total a.keys)) [
-        inl l ↦ elim (cases_lt n (dependency_total a.keys)) [
-          inl d ↦ dependency n d
-        | inr m ↦ mark n m l
-        ]
-      | inr past ↦ fa.none_past n past ∙ sym (fb.none_past n (subst (λ k. bit_total k ≤ n) same.keys past))
-      ] )
+HaveSameFacts-bits a b fa fb same = (
+  fa.words ∙ ap (λ k. (bit_total k + 63) / 64) same.keys ∙ sym fb.words,
+  λ n. elim (cases_lt n (bit_total a.keys)) [
+    | inl l ↦ elim (cases_lt n (dependency_total a.keys)) [
+      | inl d ↦ dependency n d
+      | inr m ↦ mark n m l
+    ]
+    | inr past ↦ fa.none_past n past ∙ sym (fb.none_past n (subst (λ k. bit_total k ≤ n) same.keys past))
+  ],
+)
   where
     dependency : (n : ℕ) → n < dependency_total a.keys → has_bit a.words n ≡ has_bit b.words n
     dependency n l =
@@ -176,19 +176,20 @@ HaveSameFacts-bits a b fa fb same =
         let (ls, le, is) = dependency_number-of a.keys n l in
         subst (λ m. has_bit a.words m ≡ has_bit b.words m) is
         (both_ways (has_bit a.words (dependency_number a.keys d)) (has_bit b.words (dependency_number a.keys d))
-          (λ h. let o = (same.dependencies d).0 (ls, le, h) in subst (λ k. has_bit b.words (dependency_number k d) ≡ true) (sym same.keys) o.2)
-          (λ h. let o = (same.dependencies d).1 (subst (λ k. (d.start < k) × (d.end < k) × (has_bit b.words (dependency_number k d) ≡ true)) same.keys (ls, le, h)) in o.2))
+        (λ h. let o = (same.dependencies d).0 (ls, le, h) in subst (λ k. has_bit b.words (dependency_number k d) ≡ true) (sym same.keys) o.2)
+        (λ h. let o = (same.dependencies d).1 (subst (λ k. (d.start < k) × (d.end < k) × (has_bit b.words (dependency_number k d) ≡ true)) same.keys (ls, le, h)) in o.2))
+
     mark : (n : ℕ) → dependency_total a.keys ≤ n → n < bit_total a.keys → has_bit a.words n ≡ has_bit b.words n
     mark n low high =
         let (key, m, lk, is) = mark_number-of a.keys n low high in
         subst (λ x. has_bit a.words x ≡ has_bit b.words x) is
         (both_ways (has_bit a.words (mark_number a.keys key m)) (has_bit b.words (mark_number a.keys key m))
-          (λ h. let o = (same.marks key m).0 (lk, h) in subst (λ k. has_bit b.words (mark_number k key m) ≡ true) (sym same.keys) o.1)
-          (λ h. let o = (same.marks key m).1 (subst (λ k. (key < k) × (has_bit b.words (mark_number k key m) ≡ true)) same.keys (lk, h)) in o.1))
+        (λ h. let o = (same.marks key m).0 (lk, h) in subst (λ k. has_bit b.words (mark_number k key m) ≡ true) (sym same.keys) o.1)
+        (λ h. let o = (same.marks key m).1 (subst (λ k. (key < k) × (has_bit b.words (mark_number k key m) ≡ true)) same.keys (lk, h)) in o.1))
 
 pub HaveSameFacts-refl : (a b : FactWords) → a ≡ b → HaveSameFacts a b
 HaveSameFacts-refl a b e = subst (HaveSameFacts a) e (record {
   keys = refl;
   dependencies = λ d. ((λ h. h), (λ h. h));
-  marks = λ key mark. ((λ h. h), (λ h. h))
+  marks = λ key mark. ((λ h. h), (λ h. h));
 })

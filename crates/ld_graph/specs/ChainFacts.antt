@@ -1,11 +1,8 @@
 -- Single facts, and the facts of a chain one after the other.
-use Rattle.std.specs.Prelude.{◌≡◌, ℕ, ◌+◌, ◌-◌, ◌*◌, ◌/◌, ◌%◌, ◌<◌, ◌⊎◌, ◌↔◌, ◌==◌, nat_lt, Bool, if◌then◌else◌, IsTrue, List, length, Option, Some, None, slice_get}
-use Rattle.ld_trace.specs.declared.event.Irq.{Irq}
+use Rattle.std.specs.Prelude.{◌≡◌, ℕ, ◌+◌, ◌-◌, ◌*◌, ◌/◌, ◌%◌, ◌<◌, ◌⊎◌, ◌↔◌, ◌==◌, nat_lt, Bool, if◌then◌else◌, length, Option, Some, None, slice_get}
 use Rattle.ld_trace.specs.declared.event.Irq.TheVariants.{Hard, Soft}
-use Rattle.ld_trace.specs.declared.event.Mode.{Mode}
 use Rattle.ld_task.specs.declared.frame.Frame.{Frame}
 use Rattle.ld_task.specs.declared.lock.Lock.{Lock}
-use Rattle.ld_task.specs.declared.kind.Kind.{Kind}
 use Rattle.ld_task.specs.declared.mark.Mark.{Mark}
 use Rattle.ld_task.specs.declared.mark.Mark.TheVariants.{Used, UsedIn, Enabled}
 use Rattle.ld_task.specs.Chains.{ChainParts, ChainHasDependency, ChainHasMark}
@@ -70,14 +67,16 @@ dependency_from (Some old) new = Some (Dependency old.key new.key (kind_between 
 -- the mark of that number on a held lock, if there is one
 abbrev pub mark_of_held : Option Lock → Bool → Bool → ℕ → Option Fact
 mark_of_held None hard soft n = None
-mark_of_held (Some old) hard soft n = mark_if (marks_opened old.mode hard soft) old.key (mark_by_opening (is_read old.mode) n)
+mark_of_held (Some old) hard soft n =
+    mark_if (marks_opened old.mode hard soft) old.key (mark_by_opening (is_read old.mode) n)
 
--- the fact of the chain at place n, if there is one: of an acquisition the dependencies, oldest first, and then the marks
--- of the new lock; of an opening the marks of the held locks
+-- the fact of the chain at place n, if there is one: of an acquisition the dependencies, oldest first, and then the
+-- marks of the new lock; of an opening the marks of the held locks
 abbrev pub fact_by : Option (Lock × Frame) → ChainParts → ℕ → Option Fact
 fact_by (Some new) c n =
     if nat_lt n (length c.held_locks) then dependency_from (slice_get c.held_locks n) new.0 else
-    mark_if (marks_taken new.0.mode new.1 c.hard_on c.soft_on) new.0.key (mark_by_taking (is_read new.0.mode) (n - length c.held_locks))
+    mark_if (marks_taken new.0.mode new.1 c.hard_on c.soft_on) new.0.key
+    (mark_by_taking (is_read new.0.mode) (n - length c.held_locks))
 fact_by None c n = mark_of_held (slice_get c.held_locks (n / 2)) c.hard_on c.soft_on (n % 2)
 
 abbrev pub chain_fact : ChainParts → ℕ → Option Fact

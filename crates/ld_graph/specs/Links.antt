@@ -1,9 +1,9 @@
--- Links that interrupts make between keys, and the faults of usage ["Single-lock state rules", "Multi-lock dependency rules";
--- the read forms are this project's own].
-use Rattle.std.specs.Prelude.{◌≡◌, ℕ, Bool, List}
+-- Links that interrupts make between keys, and the faults of usage
+-- ["Single-lock state rules", "Multi-lock dependency rules"; the read forms are this project's own].
+use Rattle.std.specs.Prelude.{◌≡◌, ℕ, List}
 use Rattle.ld_trace.specs.declared.event.Irq.{Irq}
 use Rattle.ld_task.specs.declared.mark.Mark.{Mark}
-use Rattle.ld_task.specs.declared.mark.Mark.TheVariants.{Used, UsedIn, Enabled}
+use Rattle.ld_task.specs.declared.mark.Mark.TheVariants.{UsedIn, Enabled}
 use Rattle.ld_graph.specs.Arrows.{Arrow, MayFollow}
 use Rattle.ld_graph.specs.Walks.{last, WalksTo, HasNoCircle}
 

@@ -54,10 +54,22 @@ fn index_of(mark: Mark) -> usize
 {
     match mark {
         Mark::Used => 0,
-        Mark::UsedIn { irq: Irq::Hard, read } => if read { 2 } else { 1 },
-        Mark::Enabled { irq: Irq::Hard, read } => if read { 4 } else { 3 },
-        Mark::UsedIn { irq: Irq::Soft, read } => if read { 6 } else { 5 },
-        Mark::Enabled { irq: Irq::Soft, read } => if read { 8 } else { 7 },
+        Mark::UsedIn {
+            irq: Irq::Hard,
+            read,
+        } => if read { 2 } else { 1 },
+        Mark::Enabled {
+            irq: Irq::Hard,
+            read,
+        } => if read { 4 } else { 3 },
+        Mark::UsedIn {
+            irq: Irq::Soft,
+            read,
+        } => if read { 6 } else { 5 },
+        Mark::Enabled {
+            irq: Irq::Soft,
+            read,
+        } => if read { 8 } else { 7 },
     }
 }
 

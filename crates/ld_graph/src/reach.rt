@@ -4,15 +4,14 @@ ghost use Rattle.std.specs.Prelude.{◌≡◌, ℕ, ◌+◌, ◌*◌, ◌<◌, �
 ghost use Rattle.ld_graph.specs.Arrows.{arrow, is_s, is_r};
 ghost use Rattle.ld_graph.specs.Bits.{has_bit};
 ghost use Rattle.ld_graph.specs.Places.{place, LeavesFrom};
-ghost use Rattle.ld_graph.specs.Tables.{reaches, Comes, IsSource, IsTarget, IsTransitive, TakesArrow, Implies};
-
-use std::alloc::{AllocError, Global};
-use std::marker::Model;
+ghost use Rattle.ld_graph.specs.Tables.{reaches, Comes, IsSource, IsTarget, IsFreshSource, IsFreshTarget, IsTransitive, TakesArrow, Implies};
 
 use crate::bits;
 use crate::fact::{begins_with_s, ends_in_r};
 use crate::places::{PLACES, Row, place_of};
 use ld_task::Kind;
+use std::alloc::{AllocError, Global};
+use std::marker::Model;
 
 /// For each place those that are reached from it, by one dependency or more, and those from which it is reached.
 #[derive(Drop)]
@@ -96,8 +95,44 @@ impl Reach {
             && (begins_with_s(kind) || bits::has(&self.ahead[place_of(from, true)], arrival))
     }
 
-    /// Adds a dependency, and answers how many rows were taken up or written. The tables stay as they are where the
-    /// dependency leads nowhere new.
+    // The places that are reached from each place that an arrow from the key leaves, by its first letter.
+    fn from_each(&self, key: u16, is_s: bool) -> Row
+        requires { key < 256 }
+        ensures { (q : ℕ) → IsTrue (has_bit result q)
+            ↔ ((l : ℕ) → LeavesFrom key is_s l → IsTrue (reaches self.now l q)) }
+    {
+        let mut row = self.from(place_of(key, false));
+        if !is_s {
+            bits::intersect(&mut row, &self.from(place_of(key, true)));
+        }
+        row
+    }
+
+    // The dependency's sources that do not reach the place where it arrives yet. Those that do reach all its targets.
+    fn fresh_sources(&self, from: u16, to: u16, kind: Kind) -> Row
+        requires from { from < 256 }
+        requires to { to < 256 }
+        ensures { (p : ℕ) → IsTrue (has_bit result p) ↔ IsFreshSource self.now (arrow from to kind) p }
+    {
+        let mut row = self.sources(from, begins_with_s(kind));
+        bits::remove(&mut row, &self.to(place_of(to, ends_in_r(kind))));
+        row
+    }
+
+    // The dependency's targets that are not reached from each place that it leaves yet. Those that are, are reached
+    // from all its sources.
+    fn fresh_targets(&self, from: u16, to: u16, kind: Kind) -> Row
+        requires from { from < 256 }
+        requires to { to < 256 }
+        ensures { (q : ℕ) → IsTrue (has_bit result q) ↔ IsFreshTarget self.now (arrow from to kind) q }
+    {
+        let mut row = self.targets(to, ends_in_r(kind));
+        bits::remove(&mut row, &self.from_each(from, begins_with_s(kind)));
+        row
+    }
+
+    /// Adds a dependency, and answers how many rows were taken up or written. Only rows that change are written, so the
+    /// tables stay as they are where the dependency leads nowhere new.
     pub(crate) fn add(&mut self, from: u16, to: u16, kind: Kind) -> u64
         requires from { from < 256 }
         requires to { to < 256 }
@@ -110,34 +145,36 @@ impl Reach {
         }
         let sources = self.sources(from, begins_with_s(kind));
         let targets = self.targets(to, ends_in_r(kind));
-        join(&mut self.ahead, &sources, &targets);
-        join(&mut self.behind, &targets, &sources);
-        rows_taken(from, to, kind, &sources, &targets)
+        let fresh_sources = self.fresh_sources(from, to, kind);
+        let fresh_targets = self.fresh_targets(from, to, kind);
+        join(&mut self.ahead, &fresh_sources, &targets);
+        join(&mut self.behind, &fresh_targets, &sources);
+        rows_taken(&fresh_sources, from, to, kind) + rows_taken(&fresh_targets, from, to, kind)
     }
 }
 
-// How many rows of the two tables a dependency takes up or writes: ahead those of its sources and of the place where it
-// arrives, behind those of its targets and of the places that it leaves.
-fn rows_taken(from: u16, to: u16, kind: Kind, sources: &Row, targets: &Row) -> u64
+// How many rows of a table a dependency takes up or writes: those written, and those of the place where it arrives and
+// of the places that it leaves.
+fn rows_taken(written: &Row, from: u16, to: u16, kind: Kind) -> u64
     requires from { from < 256 }
     requires to { to < 256 }
-    ensures { result ≤ 1024 }
+    ensures { result ≤ 512 }
 {
-    let mut ahead = *sources;
-    bits::insert(&mut ahead, place_of(to, ends_in_r(kind)));
-    let mut behind = *targets;
-    bits::insert(&mut behind, place_of(from, false));
+    let mut rows = *written;
+    bits::insert(&mut rows, place_of(to, ends_in_r(kind)));
+    bits::insert(&mut rows, place_of(from, false));
     if !begins_with_s(kind) {
-        bits::insert(&mut behind, place_of(from, true));
+        bits::insert(&mut rows, place_of(from, true));
     }
-    bits::count(&ahead) + bits::count(&behind)
+    bits::count(&rows)
 }
 
 // Adds the row to each row that is chosen.
 fn join(rows: &mut [Row], chosen: &Row, row: &Row)
     requires { length rows.old ≡ 512 }
     ensures len { length rows.new ≡ length rows.old }
-    ensures joined { (p q : ℕ) → reaches rows.new p q ≡ (reaches rows.old p q || (has_bit chosen.now p && has_bit row.now q)) }
+    ensures joined { (p q : ℕ) → reaches rows.new p q
+        ≡ (reaches rows.old p q || (has_bit chosen.now p && has_bit row.now q)) }
 {
     let mut taken = [0; 8];
     while let Some(p) = bits::first_beyond(chosen, &taken) {

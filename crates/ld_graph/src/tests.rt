@@ -9,7 +9,9 @@ use std::test::Fail;
 
 // The first keys, by the letters of the examples.
 const A: u16 = 0;
+
 const B: u16 = 1;
+
 const C: u16 = 2;
 
 const KINDS: [Kind; 4] = [Kind::Er, Kind::En, Kind::Sr, Kind::Sn];
@@ -83,7 +85,10 @@ fn finds_nothing(graph: &Graph) -> bool {
 fn add(rt: &impl Abort, graph: &mut Graph, chain: &Chain) -> bool {
     assert!(rt; chain.keys_below(graph.facts().keys()));
     let fresh = graph.add_chain(chain);
-    assert!(rt; graph.is_clean() == finds_nothing(graph), "the flag and the queries differ");
+    assert!(rt;
+        graph.is_clean() == finds_nothing(graph),
+        "the flag and the queries differ"
+    );
     fresh
 }
 
@@ -124,7 +129,11 @@ fn three_locks_taken_round_are_on_a_circle(rt: HostRuntime) -> Result<(), Fail> 
     assert!(rt; graph.is_clean());
     replay(&rt, &mut graph, &[write(C), write(A)]);
     replay(&rt, &mut graph, &[write(A), write(3)]);
-    assert!(rt; graph.on_circle(A, B, Kind::En) && graph.on_circle(B, C, Kind::En) && graph.on_circle(C, A, Kind::En));
+    assert!(rt;
+        graph.on_circle(A, B, Kind::En)
+            && graph.on_circle(B, C, Kind::En)
+            && graph.on_circle(C, A, Kind::En)
+    );
     assert!(rt; !graph.on_circle(A, 3, Kind::En));
     Ok(())
 }
@@ -185,10 +194,18 @@ fn a_key_used_in_hardirqs_and_with_them_on_is_a_double_but_for_readers(
     rt: HostRuntime,
 ) -> Result<(), Fail> {
     let mut graph = Graph::new(rt.alloc(), 2)?;
-    replay(&rt, &mut graph, &[enter(Irq::Hard), read(A), give(A), LEAVE]);
+    replay(
+        &rt,
+        &mut graph,
+        &[enter(Irq::Hard), read(A), give(A), LEAVE],
+    );
     replay(&rt, &mut graph, &[read(A), give(A)]);
     assert!(rt; graph.is_clean());
-    replay(&rt, &mut graph, &[enter(Irq::Hard), write(B), give(B), LEAVE]);
+    replay(
+        &rt,
+        &mut graph,
+        &[enter(Irq::Hard), write(B), give(B), LEAVE],
+    );
     assert!(rt; graph.is_clean());
     replay(&rt, &mut graph, &[write(B), give(B)]);
     assert!(rt; graph.is_double(Irq::Hard, B));
@@ -205,7 +222,11 @@ fn turning_hardirqs_on_marks_the_locks_held(rt: HostRuntime) -> Result<(), Fail>
     };
     replay(&rt, &mut graph, &[turn_off(Irq::Hard), write(A)]);
     assert!(rt; graph.facts().has_mark(A, Mark::Used) && !graph.facts().has_mark(A, enabled));
-    replay(&rt, &mut graph, &[turn_off(Irq::Hard), write(A), turn_on(Irq::Hard)]);
+    replay(
+        &rt,
+        &mut graph,
+        &[turn_off(Irq::Hard), write(A), turn_on(Irq::Hard)],
+    );
     assert!(rt; graph.facts().has_mark(A, enabled));
     assert_eq!(rt; graph.facts().marks(), 3);
     Ok(())
@@ -234,15 +255,31 @@ fn flags(
 #[test]
 fn three_orders(rt: HostRuntime) -> Result<(), Fail> {
     let used = [enter(Irq::Soft), write(A), give(A), LEAVE];
-    let under = [turn_off(Irq::Soft), write(A), write(B), give(B), give(A), turn_on(Irq::Soft)];
+    let under = [
+        turn_off(Irq::Soft),
+        write(A),
+        write(B),
+        give(B),
+        give(A),
+        turn_on(Irq::Soft),
+    ];
     let enabled = [write(B), give(B)];
 
     let by_enabled = flags(&rt, rt.alloc(), &[&used, &under, &enabled])?;
-    assert_eq!(rt; by_enabled.0.as_slice(), [true, true, true, true, false].as_slice());
+    assert_eq!(rt;
+        by_enabled.0.as_slice(),
+        [true, true, true, true, false].as_slice()
+    );
     let by_used = flags(&rt, rt.alloc(), &[&enabled, &under, &used])?;
-    assert_eq!(rt; by_used.0.as_slice(), [true, true, true, true, false].as_slice());
+    assert_eq!(rt;
+        by_used.0.as_slice(),
+        [true, true, true, true, false].as_slice()
+    );
     let by_dependency = flags(&rt, rt.alloc(), &[&used, &enabled, &under])?;
-    assert_eq!(rt; by_dependency.0.as_slice(), [true, true, true, false, false].as_slice());
+    assert_eq!(rt;
+        by_dependency.0.as_slice(),
+        [true, true, true, false, false].as_slice()
+    );
     assert!(rt; by_enabled.1 && by_used.1 && by_dependency.1);
     Ok(())
 }
@@ -250,11 +287,23 @@ fn three_orders(rt: HostRuntime) -> Result<(), Fail> {
 #[test]
 fn an_inversion_is_tested_where_its_walk_begins(rt: HostRuntime) -> Result<(), Fail> {
     let mut graph = Graph::new(rt.alloc(), 2)?;
-    replay(&rt, &mut graph, &[enter(Irq::Hard), read(A), give(A), LEAVE]);
-    replay(&rt, &mut graph, &[turn_off(Irq::Hard), read(A), write(B), give(B), give(A)]);
+    replay(
+        &rt,
+        &mut graph,
+        &[enter(Irq::Hard), read(A), give(A), LEAVE],
+    );
+    replay(
+        &rt,
+        &mut graph,
+        &[turn_off(Irq::Hard), read(A), write(B), give(B), give(A)],
+    );
     replay(&rt, &mut graph, &[write(B), give(B)]);
     assert!(rt; graph.is_clean());
-    replay(&rt, &mut graph, &[turn_off(Irq::Hard), write(A), write(B), give(B), give(A)]);
+    replay(
+        &rt,
+        &mut graph,
+        &[turn_off(Irq::Hard), write(A), write(B), give(B), give(A)],
+    );
     assert!(rt; graph.is_inversion(Irq::Hard, A, B));
     Ok(())
 }
@@ -262,8 +311,16 @@ fn an_inversion_is_tested_where_its_walk_begins(rt: HostRuntime) -> Result<(), F
 #[test]
 fn an_inversion_is_tested_where_its_walk_ends(rt: HostRuntime) -> Result<(), Fail> {
     let mut graph = Graph::new(rt.alloc(), 2)?;
-    replay(&rt, &mut graph, &[enter(Irq::Hard), write(A), give(A), LEAVE]);
-    replay(&rt, &mut graph, &[turn_off(Irq::Hard), write(A), reread(B), give(B), give(A)]);
+    replay(
+        &rt,
+        &mut graph,
+        &[enter(Irq::Hard), write(A), give(A), LEAVE],
+    );
+    replay(
+        &rt,
+        &mut graph,
+        &[turn_off(Irq::Hard), write(A), reread(B), give(B), give(A)],
+    );
     replay(&rt, &mut graph, &[reread(B), give(B)]);
     assert!(rt; graph.is_clean());
     assert!(rt; !graph.is_inversion(Irq::Hard, A, B));
@@ -294,7 +351,10 @@ fn facts_of_a_chain_are_added_and_united(rt: HostRuntime) -> Result<(), Fail> {
     assert!(rt; facts.add_chain(&chain), "new");
     assert!(rt; facts.has_dep(A, B, Kind::En) && !facts.has_dep(B, A, Kind::En));
     assert!(rt; facts.has_mark(B, Mark::Used) && !facts.has_mark(A, Mark::Used));
-    assert!(rt; !facts.has_dep(A, C, Kind::En) && !facts.has_mark(C, Mark::Used), "out of range");
+    assert!(rt;
+        !facts.has_dep(A, C, Kind::En) && !facts.has_mark(C, Mark::Used),
+        "out of range"
+    );
     let mut united = Facts::new(rt.alloc(), 2)?;
     assert!(rt; !united.same(&facts));
     assert!(rt; united.keys() == facts.keys());

@@ -1,4 +1,4 @@
--- What holds while a trace is read, of the records that were taken so far.
+-- What holds while a trace is read, of the records that were taken so far. No public clause speaks of these.
 use Rattle.std.specs.Prelude.{◌≡◌, ℕ, suc, ◌<◌, ◌++◌, None, false, List, [], ◌∷◌, length, slice_get, Option, Some, IfSome, Ok}
 use Rattle.csv.specs.Reading.{Ready, Reached, default_config, reader_config, reader_state, reader_trim, source_of, strip_bom}
 use Rattle.csv.specs.declared.parser.State.TheVariants as st

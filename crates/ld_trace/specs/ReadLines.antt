@@ -1,4 +1,4 @@
--- The lines that the reader hands on, whose names lie in the record's own bytes.
+-- The lines that the reader hands on, whose names lie in the record's own bytes. No public clause speaks of these.
 use Rattle.std.specs.Prelude.{◌≡◌, Result, Ok, Err}
 use Rattle.ld_trace.specs.declared.line.Line.{Line as ReadLine}
 use Rattle.ld_trace.specs.declared.line.Line.TheVariants.{Takes, GivesBack, Enters, Leaves, TurnsOn, TurnsOff}

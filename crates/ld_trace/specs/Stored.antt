@@ -1,4 +1,4 @@
--- The names as a table stores them.
+-- The names as a table stores them. No public clause speaks of these.
 use Rattle.std.specs.Prelude.{List, map}
 use Rattle.indexmap.specs.IndexSet.{IndexSet}
 use Rattle.ld_trace.specs.declared.stored_name.StoredName.{StoredName}

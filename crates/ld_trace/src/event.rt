@@ -14,6 +14,11 @@ pub enum Mode {
 }
 
 impl Default for Mode {
+    ghost use Rattle.std.specs.Prelude.{◌≡◌};
+    ghost use Rattle.ld_trace.specs.declared.event.Mode.TheVariants.{Write};
+
+    ghost is_default = { λ mode. mode ≡ Write };
+
     fn default() -> Self {
         Mode::Write
     }

@@ -23,6 +23,8 @@ impl Model for KeyId {
 }
 
 impl Default for KeyId {
+    ghost is_default = { λ key. key ≡ 0 };
+
     fn default() -> Self {
         KeyId { number: 0 }
     }

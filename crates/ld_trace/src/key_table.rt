@@ -1,6 +1,6 @@
 //! The table that numbers lock keys.
 
-ghost use Rattle.std.specs.Prelude.{◌≡◌, ◌≤◌, ◌<◌, ◌↔◌, [], IsTrue, IsSome, IfSome, IsOk, IsOkAnd, IfOk, IfErr, OnErr, IsErrOf, length, slice_get, option_map, true, false, ◌⊎◌};
+ghost use Rattle.std.specs.Prelude.{◌≡◌, ◌≤◌, ◌<◌, ◌↔◌, [], IsOk, IsOkAnd, IfOk, IfErr, OnErr, IsErrOf, length, slice_get, option_map, true, false, ◌⊎◌};
 ghost use Rattle.ld_trace.specs.Names.{AreNumbered, is_class_name, is_known, is_name, is_one_too_many, is_same, place_of, with_name};
 ghost use Rattle.ld_trace.specs.Stored.{name_of, names_of};
 ghost use Rattle.std.specs.List.{IsDistinct};
@@ -66,8 +66,8 @@ impl KeyTable {
         ensures names { IfOk result (λ _. self.new ≡ with_name self.old (name.now, sub)) }
 
         ensures bad_name { IsErrOf result KeyFault.BadName ↔ (is_class_name name.now ≡ false) }
-        ensures bad_sub { IsErrOf result KeyFault.BadSub ↔ (is_class_name name.now ≡ true) × (7 < sub) }
-        ensures full { IsErrOf result KeyFault.Full ↔ (is_name (name.now, sub) ≡ true) × (is_one_too_many self.old (name.now, sub) ≡ true) }
+        ensures bad_sub { IsErrOf result KeyFault.BadSub ↔ ((is_class_name name.now ≡ true) × (7 < sub)) }
+        ensures full { IsErrOf result KeyFault.Full ↔ ((is_name (name.now, sub) ≡ true) × (is_one_too_many self.old (name.now, sub) ≡ true)) }
         ensures known { is_name (name.now, sub) ≡ true → is_known self.old (name.now, sub) ≡ true → IsOk result }
 
         ensures refused { OnErr result (self.new ≡ self.old) }

@@ -64,6 +64,7 @@ impl LineName<'_> {
     ghost use Rattle.ld_trace.specs.ReadLines.{name_read};
     ghost use Rattle.ld_trace.specs.TraceFaults.{is_of_text};
 
+    /// The number of its key in the table. Refusals as above.
     fn numbered(&self, keys: &mut KeyTable) -> Result<KeyId, TraceFaultKind>
         ensures value { IfOk result (λ key. key ≡ place_of keys.old (name_read self.now)) }
         ensures names { IfOk result (λ _. keys.new ≡ with_name keys.old (name_read self.now)) }

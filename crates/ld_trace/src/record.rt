@@ -1,6 +1,6 @@
 //! Reading one record of a trace.
 
-ghost use Rattle.std.specs.Prelude.{◌≡◌, ◌<◌, ◌∷◌, [], ℕ, codes, length, Ok, Err, Some, MatchResult, option_map, if◌then◌else◌};
+ghost use Rattle.std.specs.Prelude.{◌≡◌, ◌<◌, length, Ok, Err, Some, option_map, if◌then◌else◌};
 ghost use Rattle.std.specs.Str.{bytes_eq};
 ghost use Rattle.csv.specs.Records.{field_at, fields_of};
 ghost use Rattle.ld_trace.specs.Lines.{acquire_said, irq_of, is_header, leave_said, mode_of, named, release_said, said, state_said, sub_of};
@@ -38,6 +38,7 @@ pub(crate) fn line_of(row: &ByteRecord) -> Result<Line<'_>, TraceFaultKind>
     }
 }
 
+/// What `leave` says.
 fn leave_line(verb: &[u8]) -> Result<Line<'_>, TraceFaultKind>
     ensures { Says (leave_said verb.now) result }
 {
@@ -48,6 +49,7 @@ fn leave_line(verb: &[u8]) -> Result<Line<'_>, TraceFaultKind>
     }
 }
 
+/// What `enter`, `on` or `off` and a state say.
 fn irq_line<'r>(verb: &[u8], irq: &'r [u8]) -> Result<Line<'r>, TraceFaultKind>
     ensures { Says (state_said verb.now (irq_of irq.now)) result }
 {
@@ -65,6 +67,7 @@ fn irq_line<'r>(verb: &[u8], irq: &'r [u8]) -> Result<Line<'r>, TraceFaultKind>
     }
 }
 
+/// What `rel` and a name say.
 fn release_line<'r>(verb: &[u8], class: &'r [u8], sub: &[u8]) -> Result<Line<'r>, TraceFaultKind>
     ensures { Says (release_said verb.now (named class.now (sub_of sub.now))) result }
 {
@@ -74,6 +77,7 @@ fn release_line<'r>(verb: &[u8], class: &'r [u8], sub: &[u8]) -> Result<Line<'r>
     Ok(Line::GivesBack(name_of(class, sub)?))
 }
 
+/// What `acq`, a name and a mode say.
 fn acquire_line<'r>(
     verb: &[u8],
     class: &'r [u8],

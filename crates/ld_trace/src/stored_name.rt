@@ -1,6 +1,6 @@
 //! A key's name as the table holds it.
 
-ghost use Rattle.std.specs.Prelude.{◌≡◌, ◌≤◌, length, true};
+ghost use Rattle.std.specs.Prelude.{◌≡◌, ◌≤◌, length};
 ghost use Rattle.ld_trace.specs.Names.{are_visible, is_class_name};
 
 use arrayvec::ArrayString;

@@ -5,3 +5,5 @@ pub mod StepLemmas
 pub mod PageLemmas
 pub mod ChainLemmas
 pub mod GatherLemmas
+pub mod ReportLemmas
+pub mod FaultLemmas

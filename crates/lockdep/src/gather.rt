@@ -1,6 +1,6 @@
 //! The facts of traces, gathered event by event.
 
-ghost use Rattle.std.specs.Prelude.{◌≡◌, ◌+◌, ◌++◌, ℕ, List, [], All, OnOk, IfErr, take, length};
+ghost use Rattle.std.specs.Prelude.{◌≡◌, ◌<◌, ◌+◌, ◌++◌, ℕ, List, [], All, OnOk, IfErr, take, length};
 ghost use Rattle.std.specs.List.{flat_map};
 ghost use Rattle.ld_trace.specs.declared.event.Event.{Event};
 ghost use Rattle.ld_trace.specs.Events.{KeysBelow};
@@ -45,6 +45,7 @@ fn add_trace(graph: &mut Graph, trace: &RawTrace) -> Result<(), StepAt>
     ensures well_formed { OnOk result (IsWellFormed trace.now) }
     ensures adds { OnOk result ((others : List ChainParts) → AreFactsOf graph.old.facts others → AreFactsOf graph.new.facts (others ++ chains trace.now)) }
     ensures refused { IfErr result (IsFirstFault trace.now) }
+    ensures near { IfErr result (λ found. found.place < 1000000) }
 {
     let mut state = TaskState::new();
     for place in 0..trace.len() {
@@ -66,6 +67,7 @@ pub(crate) fn add_traces(graph: &mut Graph, traces: &[RawTrace]) -> Result<(), (
     ensures well_formed { OnOk result (All IsWellFormed traces.now) }
     ensures adds { OnOk result (AreFactsOf graph.old.facts [] → AreFactsOf graph.new.facts (flat_map chains traces.now)) }
     ensures refused { IfErr result (λ found. IsFirstRefused traces.now found.0 found.1) }
+    ensures near { IfErr result (λ found. found.1.place < 1000000) }
 {
     for (place, trace) in traces.iter().enumerate() {
         if let Err(found) = add_trace(graph, trace) {

@@ -1,6 +1,6 @@
 //! Writing whole texts to a writer.
 
-ghost use Rattle.std.specs.Prelude.{◌≡◌, List, length, OnOk, OnErr};
+ghost use Rattle.std.specs.Prelude.{◌≡◌, Err, OnOk, OnErr};
 ghost use Rattle.std.specs.Io.KnownBytes.{Appends};
 ghost use Rattle.lockdep.specs.Output.{AppendsBeginning};
 
@@ -14,6 +14,7 @@ use crate::fault::WriteFault;
 /// text was written then.
 pub(crate) fn write_text<W: Write>(w: &mut W, text: &[u8]) -> Result<(), WriteFault>
     ensures ok { OnOk result (Appends (W.contents w.old) (W.contents w.new) text.now) }
+    ensures not_memory { ¬ (result ≡ Err WriteFault.Memory) }
     ensures err { OnErr result (AppendsBeginning (W.contents w.old) (W.contents w.new) text.now) }
 {
     let mut rest = text;

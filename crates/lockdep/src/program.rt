@@ -1,6 +1,6 @@
 //! The program: a command line, a trace on standard input, and what is written for them.
 
-ghost use Rattle.std.specs.Prelude.{◌≤◌};
+ghost use Rattle.std.specs.Prelude.{◌≤◌, IfOk};
 
 use ld_task::check;
 use ld_trace::{KeyTable, read_trace};
@@ -46,7 +46,9 @@ fn answer<I: Read + Drop, O: Write>(
     words: &[&str],
     input: I,
     out: &mut O,
-) -> Result<u8, Refusal> {
+) -> Result<u8, Refusal>
+    ensures { IfOk result (λ status. status ≤ 1) }
+{
     match request_of(alloc, words)? {
         Request::Check => answer_check(alloc, input, out),
         Request::Chains => answer_chains(alloc, input, out),
@@ -59,7 +61,9 @@ fn answer_check<I: Read + Drop, O: Write>(
     alloc: Global,
     input: I,
     out: &mut O,
-) -> Result<u8, Refusal> {
+) -> Result<u8, Refusal>
+    ensures { IfOk result (λ status. status ≤ 1) }
+{
     let Ok(mut session) = Session::new(alloc) else {
         return Err(Refusal::Memory);
     };
@@ -78,7 +82,9 @@ fn answer_chains<I: Read + Drop, O: Write>(
     alloc: Global,
     input: I,
     out: &mut O,
-) -> Result<u8, Refusal> {
+) -> Result<u8, Refusal>
+    ensures { IfOk result (λ status. status ≤ 1) }
+{
     let Ok(mut keys) = KeyTable::new(alloc) else {
         return Err(Refusal::Memory);
     };
@@ -97,7 +103,9 @@ fn answer_chains<I: Read + Drop, O: Write>(
 }
 
 // Writes the text of the help that was asked for.
-fn answer_help<O: Write>(alloc: Global, help: &clap::Error, out: &mut O) -> Result<u8, Refusal> {
+fn answer_help<O: Write>(alloc: Global, help: &clap::Error, out: &mut O) -> Result<u8, Refusal>
+    ensures { IfOk result (λ status. status ≤ 1) }
+{
     let Ok(text) = help.to_string(alloc) else {
         return Err(Refusal::Memory);
     };

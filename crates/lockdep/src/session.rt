@@ -1,16 +1,23 @@
 //! A session: traces that are read one after the other, and the report of all of them.
 
-ghost use Rattle.std.specs.Prelude.{◌≡◌, ◌∷◌, ◌++◌, [], ℕ, List, All, IsOkAnd, IfOk, IfErr, IfSome, IsTrue, ◌↔◌};
+ghost use Rattle.std.specs.Prelude.{◌≡◌, ◌+◌, ◌<◌, ◌∷◌, ◌++◌, [], ℕ, List, All, length, IsOkAnd, IfOk, IfErr, IfSome, IsTrue, ◌↔◌};
 ghost use Rattle.std.specs.Io.KnownBytes.{Appends};
 ghost use Rattle.ld_trace.specs.declared.event.Event.{Event};
+ghost use Rattle.std.specs.List.{flat_map};
+ghost use Rattle.ld_trace.specs.Names.{Name};
+ghost use Rattle.ld_trace.specs.Events.{KeysBelow};
 ghost use Rattle.ld_trace.specs.Reading.{ReadsTo, StopsAt};
 ghost use Rattle.ld_task.specs.WellFormed.{IsWellFormed};
+ghost use Rattle.ld_task.specs.TraceChains.{chains};
+ghost use Rattle.ld_graph.specs.Laws.{AreFactsOf};
 ghost use Rattle.ld_graph.specs.Links.{IsClean};
-ghost use Rattle.lockdep.specs.Faults.{StopsReport};
+ghost use Rattle.lockdep.specs.Faults.{StopsReport, StopsWriting};
+ghost use Rattle.lockdep.specs.declared.fault.WriteFault.{WriteFault};
 ghost use Rattle.lockdep.specs.Report.{IsReportOf};
 ghost use Rattle.lockdep.specs.TraceFacts.{HaveDependency, HaveMark};
 
 use ld_graph::Graph;
+use ld_task::StepAt;
 use ld_trace::{KeyFault, KeyTable, RawTrace, TraceFault, TraceFaultKind, read_trace};
 use std::alloc::Global;
 use std::io::{Read, Write};
@@ -61,18 +68,7 @@ impl Session {
         ensures refused { IfErr result (λ fault. (self.new.traces ≡ self.old.traces)
             × IfSome (R.remaining reader) (λ bytes. StopsAt self.old.names bytes self.new.names fault)) }
     {
-        if self.traces.reserve(1).is_err() {
-            return Err(TraceFault {
-                kind: TraceFaultKind::Memory,
-                at: 1,
-            });
-        }
-        let trace = match read_trace(self.alloc, reader, &mut self.keys) {
-            Ok(trace) => trace,
-            Err(fault) => return Err(fault),
-        };
-        self.traces.push_reserved(trace);
-        Ok(())
+        add_trace(self.alloc, reader, &mut self.keys, &mut self.traces)
     }
 
     /// Writes the report of all traces together, and answers whether their facts are clean. The session is given up.
@@ -86,20 +82,91 @@ impl Session {
             × ((text : List ℕ) × IsReportOf self.traces self.names text × Appends (W.contents w.old) (W.contents w.new) text)) }
         ensures refused { IfErr result (StopsReport self.traces self.names (W.contents w.old) (W.contents w.new)) }
     {
-        let Ok(mut graph) = Graph::new(alloc, self.keys.len() as u16) else {
-            return Err(ReportFault::Run(RunFault::Memory));
-        };
-        if let Err((trace, found)) = add_traces(&mut graph, self.traces.as_slice()) {
-            return Err(ReportFault::Step {
-                trace,
-                at: found.place + 2,
-                fault: found.fault,
-            });
+        report_traces(alloc, w, self.traces.as_slice(), &self.keys)
+    }
+}
+
+// Reads one trace and puts it behind the others.
+fn add_trace<R: Read + Drop>(
+    alloc: Global,
+    reader: R,
+    keys: &mut KeyTable,
+    traces: &mut Vec<RawTrace>,
+) -> Result<(), TraceFault>
+    ensures ok { IfOk result (λ _. (trace : List Event) × (traces.new.items ≡ traces.old.items ++ trace ∷ []) × KeysBelow (length keys.new) trace
+        × IfSome (R.remaining reader) (λ bytes. ReadsTo keys.old bytes keys.new trace)) }
+    ensures refused { IfErr result (λ fault. (traces.new.items ≡ traces.old.items)
+        × IfSome (R.remaining reader) (λ bytes. StopsAt keys.old bytes keys.new fault)) }
+    ensures kept { (added : List Name) × (keys.new ≡ keys.old ++ added) }
+{
+    if traces.reserve(1).is_err() {
+        return Err(no_room());
+    }
+    match read_trace(alloc, reader, keys) {
+        Ok(trace) => {
+            traces.push_reserved(trace);
+            Ok(())
         }
-        let clean = graph.is_clean();
-        match write_report(alloc, w, &graph, self.traces.as_slice(), &self.keys, clean) {
-            Ok(()) => Ok(clean),
-            Err(fault) => Err(ReportFault::Out(fault)),
-        }
+        Err(fault) => Err(fault),
+    }
+}
+
+// The fault where the room for a trace is refused.
+fn no_room() -> TraceFault
+    ensures { (names : List Name) (bytes : List ℕ) → StopsAt names bytes names result }
+{
+    TraceFault {
+        kind: TraceFaultKind::Memory,
+        at: 1,
+    }
+}
+
+// Writes the report of the traces, and answers whether their facts are clean.
+fn report_traces<W: Write>(alloc: Global, w: &mut W, traces: &[RawTrace], keys: &KeyTable) -> Result<bool, ReportFault>
+    requires { All (KeysBelow (length keys.now)) traces.now }
+    ensures ok { IfOk result (λ clean. All IsWellFormed traces.now
+        × (IsTrue clean ↔ IsClean (HaveDependency traces.now) (HaveMark traces.now))
+        × ((text : List ℕ) × IsReportOf traces.now keys.now text × Appends (W.contents w.old) (W.contents w.new) text)) }
+    ensures refused { IfErr result (StopsReport traces.now keys.now (W.contents w.old) (W.contents w.new)) }
+{
+    let Ok(mut graph) = Graph::new(alloc, keys.len() as u16) else {
+        return Err(ReportFault::Run(RunFault::Memory));
+    };
+    match add_traces(&mut graph, traces) {
+        Ok(()) => write_graph(alloc, w, &graph, traces, keys),
+        Err((trace, found)) => Err(step_fault(trace, found)),
+    }
+}
+
+// The fault of a trace that isn't well formed.
+fn step_fault(trace: usize, found: StepAt) -> ReportFault
+    requires { found.place < 1000000 }
+    ensures { result ≡ ReportFault.Step trace (found.place + 2) found.fault }
+{
+    ReportFault::Step {
+        trace,
+        at: found.place + 2,
+        fault: found.fault,
+    }
+}
+
+// Writes the report of the facts that were gathered from the traces.
+fn write_graph<W: Write>(
+    alloc: Global,
+    w: &mut W,
+    graph: &Graph,
+    traces: &[RawTrace],
+    keys: &KeyTable,
+) -> Result<bool, ReportFault>
+    requires gathered { AreFactsOf graph.now.facts (flat_map chains traces.now) }
+    ensures ok { IfOk result (λ clean. (IsTrue clean ↔ IsClean (HaveDependency traces.now) (HaveMark traces.now))
+        × ((text : List ℕ) × IsReportOf traces.now keys.now text × Appends (W.contents w.old) (W.contents w.new) text)) }
+    ensures refused { IfErr result (λ fault. (out : WriteFault) × (fault ≡ ReportFault.Out out)
+        × StopsWriting (IsReportOf traces.now keys.now) (W.contents w.old) (W.contents w.new) out) }
+{
+    let clean = graph.is_clean();
+    match write_report(alloc, w, graph, traces, keys, clean) {
+        Ok(()) => Ok(clean),
+        Err(fault) => Err(ReportFault::Out(fault)),
     }
 }

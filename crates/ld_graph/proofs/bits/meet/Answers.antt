@@ -1,4 +1,4 @@
-use Rattle.std.proofs.Common.{ℕ, ◌<◌, ◌^◌, ◌≤◌, arith, length}
+use Rattle.std.proofs.Common.{arith}
 use Rattle.ld_graph.proofs.Meeting.{meet_found, meet_none}
 use Rattle.ld_graph.proofs.bits.meet.Goals as goal
 

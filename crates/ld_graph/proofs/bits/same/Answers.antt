@@ -1,4 +1,4 @@
-use Rattle.std.proofs.Common.{◌≡◌, ℕ, ◌^◌, ◌<◌, ◌∙◌, sym, ap, arith, get_or, slice_index}
+use Rattle.std.proofs.Common.{ap, arith, get_or}
 use Rattle.std.proofs.lemmas.List.{ext_get_or}
 use Rattle.ld_graph.proofs.Words.{same_words}
 use Rattle.ld_graph.proofs.bits.same.Goals as goal

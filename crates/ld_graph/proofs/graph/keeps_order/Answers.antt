@@ -1,9 +1,9 @@
-use Rattle.std.proofs.Common.{◌≡◌, ◌↔◌, ℕ, sym, subst, true, false}
+use Rattle.std.proofs.Common.{◌≡◌, ◌↔◌, ℕ, subst, true}
 use Rattle.ld_graph.specs.Arrows.{arrow}
 use Rattle.ld_graph.specs.Bits.{has_bit}
 use Rattle.ld_graph.specs.Tables.{IsSource, IsTarget}
-use Rattle.ld_graph.specs.Graphs.{JoinsEnds, TurnsBack}
-use Rattle.ld_graph.proofs.Joined.{JoinsEnds-by_rows, RowsMeet, not_on, not_off}
+use Rattle.ld_graph.specs.Kept.{JoinsEnds, RowsMeet, TurnsBack}
+use Rattle.ld_graph.proofs.Joined.{JoinsEnds-by_rows, not_on, not_off}
 use Rattle.ld_graph.proofs.graph.keeps_order.Goals as goal
 use Rattle.ld_graph.proofs.graph.keeps_order.Goals.{After-are_joined}
 use Rattle.ld_graph.specs.declared.ends.Ends.{Ends}
@@ -19,15 +19,18 @@ no_turn c t = let on : c.turns_back.result ≡ true = c.turns_back.ensures.1 t i
 
 pub returns-then-not-are_joined : goal.returns-then-not-are_joined
 returns-then-not-are_joined c =
-    let d = (goal.at.returns-then-not-are_joined c).After-are_joined in
-    ( (λ h.
-        ( no_turn d
-        , (λ j. let on : c.are_joined.result ≡ true = c.are_joined.ensures.1 ((joined d c.args.hard.now).1 j) in let off = c.if-not-are_joined.true in cc)
-        , (λ j. not_on c.are_joined-then-not-are_joined.result h (c.are_joined-then-not-are_joined.ensures.1 ((joined d c.args.soft.now).1 j))) ))
-    , (λ s. not_off c.are_joined-then-not-are_joined.result (λ t. s.2 ((joined d c.args.soft.now).0 (c.are_joined-then-not-are_joined.ensures.0 t)))) )
+    let d = (goal.at.returns-then-not-are_joined c).After-are_joined in (
+      (λ h. (
+        no_turn d,
+        (λ j. let on : c.are_joined.result ≡ true = c.are_joined.ensures.1 ((joined d c.args.hard.now).1 j) in let off = c.if-not-are_joined.true in cc),
+        (λ j. not_on c.are_joined-then-not-are_joined.result h (c.are_joined-then-not-are_joined.ensures.1 ((joined d c.args.soft.now).1 j))),
+      )),
+      (λ s. not_off c.are_joined-then-not-are_joined.result (λ t. s.2 ((joined d c.args.soft.now).0 (c.are_joined-then-not-are_joined.ensures.0 t)))),
+    )
 
 pub returns-else-not-are_joined : goal.returns-else-not-are_joined
 returns-else-not-are_joined c =
-    let d = (goal.at.returns-else-not-are_joined c).After-are_joined in
-    ( (λ h. absurd (not_on c.are_joined.result h c.if-not-are_joined.false))
-    , (λ s. absurd (s.1 ((joined d c.args.hard.now).0 (c.are_joined.ensures.0 c.if-not-are_joined.false)))) )
+    let d = (goal.at.returns-else-not-are_joined c).After-are_joined in (
+      (λ h. absurd (not_on c.are_joined.result h c.if-not-are_joined.false)),
+      (λ s. absurd (s.1 ((joined d c.args.hard.now).0 (c.are_joined.ensures.0 c.if-not-are_joined.false)))),
+    )

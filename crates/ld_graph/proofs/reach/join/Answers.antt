@@ -1,4 +1,4 @@
-use Rattle.std.proofs.Common.{◌≡◌, ◌<◌, ◌+◌, ◌∙◌, sym, arith, refl, true}
+use Rattle.std.proofs.Common.{◌≡◌, ◌<◌, ◌+◌, arith, refl}
 use Rattle.ld_graph.specs.Bits.{has_bit, count_below}
 use Rattle.ld_graph.proofs.BitLemmas.{count_below-one_more, count_below-room}
 use Rattle.ld_graph.proofs.Joining.{Joins-start, Joins-more, joined_all}
@@ -12,7 +12,7 @@ loop-p-smaller c =
     let within : c.in-Some.p < 512 = omega (arith, c.in-Some.ensures.some.0) in
     let room : count_below (has_bit c.loop-p.taken) 512 < 512 = count_below-room (has_bit c.loop-p.taken) c.in-Some.p 512 within c.in-Some.ensures.some.2 in
     let more : count_below (has_bit c.insert.new.words) 512 ≡ count_below (has_bit c.loop-p.taken) 512 + 1 =
-      count_below-one_more (has_bit c.loop-p.taken) (has_bit c.insert.new.words) c.in-Some.p 512 within c.in-Some.ensures.some.2 c.insert.ensures.set c.insert.ensures.others in
+    count_below-one_more (has_bit c.loop-p.taken) (has_bit c.insert.new.words) c.in-Some.p 512 within c.in-Some.ensures.some.2 c.insert.ensures.set c.insert.ensures.others in
     omega arith
 
 pub loop-p-preserved : goal.loop-p-preserved

@@ -1,4 +1,4 @@
-use Rattle.std.proofs.Common.{rules, ◌≡◌, ℕ, ◌+◌, ◌*◌, ◌<◌, ◌≤◌, ◌∙◌, sym, ap, subst, refl, arith, List, length, false, not}
+use Rattle.std.proofs.Common.{rules, ◌≡◌, ◌<◌, ◌≤◌, ◌∙◌, sym, ap, subst, refl, length, false}
 use Rattle.std.proofs.lemmas.List.{with_items_is}
 use Rattle.std.specs.Vec.{with_items}
 use Rattle.ld_graph.specs.Bits.{has_bit}
@@ -21,7 +21,7 @@ sets : (c : After-insert) → SetsBit (before c) (after c) c.args.n
 sets c = record {
   keys = refl;
   set = ap (λ ws. has_bit ws c.args.n) (words_are c) ∙ c.insert.ensures.set;
-  others = λ k ne. ap (λ ws. has_bit ws k) (words_are c) ∙ c.insert.ensures.others k ne ∙ ap (λ ws. has_bit ws k) c.deref_mut.ensures.value
+  others = λ k ne. ap (λ ws. has_bit ws k) (words_are c) ∙ c.insert.ensures.others k ne ∙ ap (λ ws. has_bit ws k) c.deref_mut.ensures.value;
 }
 
 len : (c : After-insert) → length (with_items c.self.inside.bits c.insert.new.words).items ≡ length c.self.inside.bits.items

@@ -1,7 +1,7 @@
-use Rattle.std.proofs.Common.{◌≡◌, ℕ, ◌+◌, ◌≤◌, ◌∙◌, sym, ap, subst, refl, arith, Some, None, true, false}
-use Rattle.ld_graph.specs.ChainFacts.{chain_fact, FactBelow, fact_places}
+use Rattle.std.proofs.Common.{◌≡◌, ◌∙◌, sym, subst, arith, false}
+use Rattle.ld_graph.specs.ChainFacts.{FactBelow, fact_places}
 use Rattle.ld_graph.proofs.ChainFacts.{FactBelow-chain, chain_fact-sound}
-use Rattle.ld_graph.proofs.Growing.{Grown, Grown-start, Grown-none, Grown-known, Grown-fresh, AddsChain-grown, HoldsChain-grown}
+use Rattle.ld_graph.proofs.Growing.{Grown-start, Grown-none, Grown-known, Grown-fresh, AddsChain-grown, HoldsChain-grown}
 use Rattle.ld_graph.proofs.facts.Facts.add_chain.Goals as goal
 use Rattle.ld_graph.proofs.facts.Facts.add_chain.Goals.{After-loop-n, in-Some+then-add, in-Some+else-add, in_default}
 
@@ -15,20 +15,20 @@ add-requires c =
 
 pub loop-n-preserved : goal.loop-n-preserved
 loop-n-preserved c = elim c.match-fact_at.branch [
-      in-Some+then-add w ↦
-        rw (w.self-is, w.fresh-is)
-        (Grown-fresh c.args.self.now c.loop-n.self c.args.chain.now c.loop-n.n c.loop-n.fresh c.loop-n.invariant w.add.new.self w.in-Some.fact
-          (sym c.fact_at.ensures ∙ w.in-Some.is)
-          (λ h. let off : w.add.result ≡ false = w.add.ensures.fresh.1 h in let on = w.if-add.true in cc)
-          w.add.ensures.adds)
-    | in-Some+else-add w ↦
-        rw (w.self-is, w.add.ensures.known w.if-add.false, w.fresh-is)
-        (Grown-known c.args.self.now c.loop-n.self c.args.chain.now c.loop-n.n c.loop-n.fresh c.loop-n.invariant w.in-Some.fact
-          (sym c.fact_at.ensures ∙ w.in-Some.is) (w.add.ensures.fresh.0 w.if-add.false))
-    | in_default w ↦
-        rw (w.self-is, w.fresh-is)
-        (Grown-none c.args.self.now c.loop-n.self c.args.chain.now c.loop-n.n c.loop-n.fresh c.loop-n.invariant (sym c.fact_at.ensures ∙ w.in_default.is))
-    ]
+  | in-Some+then-add w ↦
+      rw (w.self-is, w.fresh-is)
+      (Grown-fresh c.args.self.now c.loop-n.self c.args.chain.now c.loop-n.n c.loop-n.fresh c.loop-n.invariant w.add.new.self w.in-Some.fact
+      (sym c.fact_at.ensures ∙ w.in-Some.is)
+      (λ h. let off : w.add.result ≡ false = w.add.ensures.fresh.1 h in let on = w.if-add.true in cc)
+      w.add.ensures.adds)
+  | in-Some+else-add w ↦
+      rw (w.self-is, w.add.ensures.known w.if-add.false, w.fresh-is)
+      (Grown-known c.args.self.now c.loop-n.self c.args.chain.now c.loop-n.n c.loop-n.fresh c.loop-n.invariant w.in-Some.fact
+      (sym c.fact_at.ensures ∙ w.in-Some.is) (w.add.ensures.fresh.0 w.if-add.false))
+  | in_default w ↦
+      rw (w.self-is, w.fresh-is)
+      (Grown-none c.args.self.now c.loop-n.self c.args.chain.now c.loop-n.n c.loop-n.fresh c.loop-n.invariant (sym c.fact_at.ensures ∙ w.in_default.is))
+]
 
 done : (c : After-loop-n) → c.loop-n.n ≡ fact_places c.args.chain.now
 done c = let e = c.places-n-end.ensures.value in let most = c.loop-n.auto.n-end in let least = c.loop-n-test.false in omega arith

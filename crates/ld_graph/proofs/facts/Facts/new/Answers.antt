@@ -1,4 +1,4 @@
-use Rattle.std.proofs.Common.{rules, ◌≡◌, ℕ, ◌+◌, ◌*◌, ◌/◌, ap, arith, replicate}
+use Rattle.std.proofs.Common.{rules, ◌≡◌, ℕ, ◌+◌, ◌*◌, ◌/◌, ap, replicate}
 use Rattle.ld_graph.proofs.Empty.{AreCounted-zeros, dependency_count-zeros, mark_count-zeros}
 use Rattle.ld_graph.proofs.facts.Facts.new.Goals as goal
 use Rattle.ld_graph.proofs.facts.Facts.new.Goals.{In_ok-bits}

@@ -1,10 +1,10 @@
-use Rattle.std.proofs.Common.{◌≡◌, ℕ, ◌+◌, ◌*◌, ◌/◌, ◌≤◌, ◌<◌, ◌∙◌, sym, ap, subst, refl, arith, get_or, length, eqb, eq-eqb, true, false, inl, inr}
+use Rattle.std.proofs.Common.{◌≡◌, ◌+◌, ◌*◌, ◌/◌, ◌<◌, ◌∙◌, sym, ap, subst, arith, get_or, eq-eqb, true, inl, inr}
 use Rattle.std.proofs.lemmas.Bool.{cases_lt}
 use Rattle.std.proofs.lemmas.List.{get_or_default}
 use Rattle.std.specs.Int.{bit_at}
 use Rattle.ld_graph.specs.Bits.{has_bit}
 use Rattle.ld_graph.specs.Numbers.{bit_total}
-use Rattle.ld_graph.specs.Facts.{AreFacts, IsUnion, UnitesWord}
+use Rattle.ld_graph.specs.Facts.{IsUnion, UnitesWord}
 use Rattle.ld_graph.proofs.Uniting.{UnitesWords-start, UnitesWords-more, IsUnion-words, has_bit-at}
 use Rattle.ld_graph.proofs.facts.Facts.unite.Goals as goal
 use Rattle.ld_graph.proofs.facts.Facts.unite.Goals.{After-index}
@@ -24,16 +24,16 @@ unite_word-requires c =
     let d = (goal.at.unite_word-requires c).After-index in
     record {
       below = subst (λ k. c.loop-i.i < (bit_total k + 63) / 64) (keys_are d)
-        (let t = c.loop-i-test.true in let e = c.len-i-end.ensures in let w = c.other.invariant.are.words in omega arith);
+          (let t = c.loop-i-test.true in let e = c.len-i-end.ensures in let w = c.other.invariant.are.words in omega arith);
       within = λ k l h. subst (λ keys. c.loop-i.i * 64 + k < bit_total keys) (keys_are d)
-        (elim (cases_lt (c.loop-i.i * 64 + k) (bit_total c.other.inside.keys)) [
-          inl m ↦ m
-        | inr past ↦ absurd
-            (let off = c.other.invariant.are.none_past (c.loop-i.i * 64 + k) past in
-             let on : has_bit c.other.inside.bits.items (c.loop-i.i * 64 + k) ≡ true =
-               has_bit-at c.other.inside.bits.items c.loop-i.i k l ∙ eq-eqb (bit_at (get_or c.other.inside.bits.items c.loop-i.i 0) k) 1 (subst (λ x. bit_at x k ≡ 1) (word_is d) h) in
-             cc)
-        ])
+          (elim (cases_lt (c.loop-i.i * 64 + k) (bit_total c.other.inside.keys)) [
+            | inl m ↦ m
+            | inr past ↦ absurd
+                (let off = c.other.invariant.are.none_past (c.loop-i.i * 64 + k) past in
+                let on : has_bit c.other.inside.bits.items (c.loop-i.i * 64 + k) ≡ true =
+                has_bit-at c.other.inside.bits.items c.loop-i.i k l ∙ eq-eqb (bit_at (get_or c.other.inside.bits.items c.loop-i.i 0) k) 1 (subst (λ x. bit_at x k ≡ 1) (word_is d) h) in
+                cc)
+          ]);
     }
 
 pub loop-i-preserved : goal.loop-i-preserved
@@ -46,5 +46,5 @@ pub returns : goal.returns
 returns c =
     subst (λ v. IsUnion c.args.self.now v c.loop-i.self) c.other.view_is
     (IsUnion-words c.args.self.now (record { keys = c.other.inside.keys; words = c.other.inside.bits.items }) c.loop-i.self c.loop-i.i
-      (c.requires ∙ ap (λ v. v.keys) (sym c.other.view_is))
-      (let t = c.loop-i-test.false in let e = c.len-i-end.ensures in omega arith) c.loop-i.invariant)
+    (c.requires ∙ ap (λ v. v.keys) (sym c.other.view_is))
+    (let t = c.loop-i-test.false in let e = c.len-i-end.ensures in omega arith) c.loop-i.invariant)

@@ -1,8 +1,7 @@
-use Rattle.std.proofs.Common.{◌≡◌, ℕ, ◌+◌, ◌*◌, ◌/◌, ◌≤◌, ◌<◌, ◌∙◌, sym, ap, subst, refl, arith, get_or, length, eqb, eqb-true}
+use Rattle.std.proofs.Common.{◌≡◌, ◌+◌, ◌*◌, ◌/◌, ◌<◌, ◌∙◌, sym, ap, subst, arith, get_or, length, eqb-true}
 use Rattle.std.specs.Int.{bit_at}
 use Rattle.std.proofs.lemmas.List.{get_or_default}
 use Rattle.ld_graph.specs.Numbers.{bit_total}
-use Rattle.ld_graph.specs.Facts.{UnitesWord}
 use Rattle.ld_graph.proofs.Uniting.{UnitesWord-known, UnitesBits-start, UnitesBits-on, UnitesBits-off, UnitesWord-bits}
 use Rattle.ld_graph.proofs.facts.Facts.unite_word.Goals as goal
 use Rattle.ld_graph.proofs.facts.Facts.unite_word.Goals.{After-index, then-is_set, else-is_set}
@@ -29,15 +28,15 @@ add_bit-requires c =
 
 pub loop-k-preserved : goal.loop-k-preserved
 loop-k-preserved c = elim c.if-is_set.branch [
-      then-is_set w ↦
-        rw w.self-is
-        (UnitesBits-on c.args.self.now c.loop-k.self c.args.i c.args.word c.loop-k.k c.loop-k-test.true c.loop-k.invariant w.add_bit.new.self
-          (sym c.is_set.ensures ∙ w.if-is_set.true) w.add_bit.ensures.sets)
-    | else-is_set w ↦
-        rw w.self-is
-        (UnitesBits-off c.args.self.now c.loop-k.self c.args.i c.args.word c.loop-k.k c.loop-k-test.true c.loop-k.invariant
-          (sym c.is_set.ensures ∙ w.if-is_set.false))
-    ]
+  | then-is_set w ↦
+      rw w.self-is
+      (UnitesBits-on c.args.self.now c.loop-k.self c.args.i c.args.word c.loop-k.k c.loop-k-test.true c.loop-k.invariant w.add_bit.new.self
+      (sym c.is_set.ensures ∙ w.if-is_set.true) w.add_bit.ensures.sets)
+  | else-is_set w ↦
+      rw w.self-is
+      (UnitesBits-off c.args.self.now c.loop-k.self c.args.i c.args.word c.loop-k.k c.loop-k-test.true c.loop-k.invariant
+      (sym c.is_set.ensures ∙ w.if-is_set.false))
+]
 
 pub returns : goal.returns
 returns c = UnitesWord-bits c.args.self.now c.loop-k.self c.args.i c.args.word c.loop-k.k c.loop-k-test.false c.loop-k.invariant

@@ -1,9 +1,8 @@
-use Rattle.std.proofs.Common.{◌≡◌, ℕ, ◌+◌, ◌≤◌, ◌∙◌, sym, ap, subst, refl, arith, Some, None, true, false}
-use Rattle.ld_graph.specs.Facts.{FactWords}
+use Rattle.std.proofs.Common.{◌≡◌, ◌∙◌, sym, ap, subst, refl, arith, false}
 use Rattle.ld_graph.specs.Graphs.{AreClean}
-use Rattle.ld_graph.specs.ChainFacts.{chain_fact, FactBelow, fact_places}
+use Rattle.ld_graph.specs.ChainFacts.{FactBelow, fact_places}
 use Rattle.ld_graph.proofs.ChainFacts.{FactBelow-chain, chain_fact-sound}
-use Rattle.ld_graph.proofs.Growing.{Grown, Grown-start, Grown-none, Grown-known, Grown-fresh, AreClean-grown, AddsChain-grown, HoldsChain-grown}
+use Rattle.ld_graph.proofs.Growing.{Grown-start, Grown-none, Grown-known, Grown-fresh, AreClean-grown, AddsChain-grown, HoldsChain-grown}
 use Rattle.ld_graph.proofs.graph.Graph.add_chain.Goals as goal
 use Rattle.ld_graph.proofs.graph.Graph.add_chain.Goals.{After-loop-n, Joined-fact_at, in-Some+then-add, in-Some+else-add, in_default}
 
@@ -11,7 +10,7 @@ pub loop-n-init : goal.loop-n-init
 loop-n-init c = record {
   grown = Grown-start c.args.self.now.facts c.args.chain.now;
   known = λ h. refl;
-  not_clean = λ h. refl
+  not_clean = λ h. refl;
 }
 
 pub add-requires : goal.add-requires
@@ -25,29 +24,29 @@ dirty c h clean = h (AreClean-grown c.args.self.now.facts c.loop-n.self.facts c.
 
 pub loop-n-preserved : goal.loop-n-preserved
 loop-n-preserved c = elim c.match-fact_at.branch [
-      in-Some+then-add w ↦ record {
-        grown = rw (w.self-is, w.fresh-is)
-          (Grown-fresh c.args.self.now.facts c.loop-n.self.facts c.args.chain.now c.loop-n.n c.loop-n.fresh c.loop-n.invariant.grown w.add.new.self.facts w.in-Some.fact
-            (sym c.fact_at.ensures ∙ w.in-Some.is)
-            (λ h. let off : w.add.result ≡ false = w.add.ensures.fresh.1 h in let on = w.if-add.true in cc)
-            w.add.ensures.adds);
-        known = λ h. absurd (let off : c.match-fact_at.fresh ≡ false = h in let on = w.fresh-is in cc);
-        not_clean = λ h. ap (λ g. g.searched) w.self-is ∙ w.add.ensures.not_clean (dirty (goal.at.loop-n-preserved c).Joined-fact_at h) ∙ c.loop-n.invariant.not_clean h
-      }
-    | in-Some+else-add w ↦ record {
-        grown = rw (w.self-is, w.add.ensures.known w.if-add.false, w.fresh-is)
-          (Grown-known c.args.self.now.facts c.loop-n.self.facts c.args.chain.now c.loop-n.n c.loop-n.fresh c.loop-n.invariant.grown w.in-Some.fact
-            (sym c.fact_at.ensures ∙ w.in-Some.is) (w.add.ensures.fresh.0 w.if-add.false));
-        known = λ h. w.self-is ∙ w.add.ensures.known w.if-add.false ∙ c.loop-n.invariant.known (sym w.fresh-is ∙ h);
-        not_clean = λ h. ap (λ g. g.searched) (w.self-is ∙ w.add.ensures.known w.if-add.false) ∙ c.loop-n.invariant.not_clean h
-      }
-    | in_default w ↦ record {
-        grown = rw (w.self-is, w.fresh-is)
-          (Grown-none c.args.self.now.facts c.loop-n.self.facts c.args.chain.now c.loop-n.n c.loop-n.fresh c.loop-n.invariant.grown (sym c.fact_at.ensures ∙ w.in_default.is));
-        known = λ h. w.self-is ∙ c.loop-n.invariant.known (sym w.fresh-is ∙ h);
-        not_clean = λ h. ap (λ g. g.searched) w.self-is ∙ c.loop-n.invariant.not_clean h
-      }
-    ]
+  | in-Some+then-add w ↦ record {
+    grown = rw (w.self-is, w.fresh-is)
+        (Grown-fresh c.args.self.now.facts c.loop-n.self.facts c.args.chain.now c.loop-n.n c.loop-n.fresh c.loop-n.invariant.grown w.add.new.self.facts w.in-Some.fact
+        (sym c.fact_at.ensures ∙ w.in-Some.is)
+        (λ h. let off : w.add.result ≡ false = w.add.ensures.fresh.1 h in let on = w.if-add.true in cc)
+        w.add.ensures.adds);
+    known = λ h. absurd (let off : c.match-fact_at.fresh ≡ false = h in let on = w.fresh-is in cc);
+    not_clean = λ h. ap (λ g. g.searched) w.self-is ∙ w.add.ensures.not_clean (dirty (goal.at.loop-n-preserved c).Joined-fact_at h) ∙ c.loop-n.invariant.not_clean h;
+  }
+  | in-Some+else-add w ↦ record {
+    grown = rw (w.self-is, w.add.ensures.known w.if-add.false, w.fresh-is)
+        (Grown-known c.args.self.now.facts c.loop-n.self.facts c.args.chain.now c.loop-n.n c.loop-n.fresh c.loop-n.invariant.grown w.in-Some.fact
+        (sym c.fact_at.ensures ∙ w.in-Some.is) (w.add.ensures.fresh.0 w.if-add.false));
+    known = λ h. w.self-is ∙ w.add.ensures.known w.if-add.false ∙ c.loop-n.invariant.known (sym w.fresh-is ∙ h);
+    not_clean = λ h. ap (λ g. g.searched) (w.self-is ∙ w.add.ensures.known w.if-add.false) ∙ c.loop-n.invariant.not_clean h;
+  }
+  | in_default w ↦ record {
+    grown = rw (w.self-is, w.fresh-is)
+        (Grown-none c.args.self.now.facts c.loop-n.self.facts c.args.chain.now c.loop-n.n c.loop-n.fresh c.loop-n.invariant.grown (sym c.fact_at.ensures ∙ w.in_default.is));
+    known = λ h. w.self-is ∙ c.loop-n.invariant.known (sym w.fresh-is ∙ h);
+    not_clean = λ h. ap (λ g. g.searched) w.self-is ∙ c.loop-n.invariant.not_clean h;
+  }
+]
 
 done : (c : After-loop-n) → c.loop-n.n ≡ fact_places c.args.chain.now
 done c = let e = c.places-n-end.ensures.value in let most = c.loop-n.auto.n-end in let least = c.loop-n-test.false in omega arith

@@ -1,4 +1,3 @@
-use Rattle.std.proofs.Common.{◌≡◌, ◌∷◌, [], ℕ, replicate}
 use Rattle.std.proofs.lemmas.List.Elements.{same_from_all_zip}
 use Rattle.ld_graph.proofs.Joining.{eight_zeros}
 use Rattle.ld_graph.proofs.Tables.{AreTables-zeros, reaches-zeros}

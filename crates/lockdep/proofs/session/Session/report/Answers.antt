@@ -1,0 +1,21 @@
+use Rattle.std.proofs.Common.{◌↔◌, List, ℕ, All, IfOk, IfErr, IsTrue, subst}
+use Rattle.std.specs.Io.KnownBytes.{Appends}
+use Rattle.ld_task.specs.WellFormed.{IsWellFormed}
+use Rattle.ld_graph.specs.Links.{IsClean}
+use Rattle.lockdep.specs.Faults.{StopsReport}
+use Rattle.lockdep.specs.Report.{IsReportOf}
+use Rattle.lockdep.specs.Sessions.{SessionParts}
+use Rattle.lockdep.specs.TraceFacts.{HaveDependency, HaveMark}
+use Rattle.lockdep.proofs.session.Session.report.Goals as goal
+
+pub returns-clause-ok : goal.returns-clause-ok
+returns-clause-ok g c =
+    subst (λ (s : SessionParts). IfOk c.report_traces.result (λ clean. All IsWellFormed s.traces
+        × (IsTrue clean ↔ IsClean (HaveDependency s.traces) (HaveMark s.traces))
+        × ((x : List ℕ) × IsReportOf s.traces s.names x × Appends (g.W.Write.contents c.args.w.now) (g.W.Write.contents c.report_traces.new.w) x)))
+        c.self.view_is (rw c.as_slice.ensures.value at c.report_traces.ensures.ok)
+
+pub returns-clause-refused : goal.returns-clause-refused
+returns-clause-refused g c =
+    subst (λ (s : SessionParts). IfErr c.report_traces.result (StopsReport s.traces s.names (g.W.Write.contents c.args.w.now) (g.W.Write.contents c.report_traces.new.w)))
+        c.self.view_is (rw c.as_slice.ensures.value at c.report_traces.ensures.refused)
