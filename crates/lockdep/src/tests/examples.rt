@@ -41,6 +41,7 @@ pub(crate) fn write_chains_of<W: Write>(alloc: Global, w: &mut W, text: &[u8]) -
 }
 
 /// Traces and the report of them all.
+#[derive(Clone, Copy)]
 pub(crate) struct Example<'t> {
     pub traces: &'t [&'t str],
     pub report: &'t str,

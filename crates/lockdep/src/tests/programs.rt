@@ -103,7 +103,7 @@ fn refused_command_lines(rt: HostRuntime) -> Result<(), Fail> {
         &["lockdep", "--version"],
         &["lockdep", "check", "a.txt"],
         &["lockdep", "check", "--workers", "2"],
-        &["lockdep", "check", "--"],
+        &["lockdep", "check", "--", "a.txt"],
         &["lockdep", "check", "chains"],
         &["lockdep", "chains", "a.txt"],
         &["lockdep", "help", "test"],
