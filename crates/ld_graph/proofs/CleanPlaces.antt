@@ -7,7 +7,7 @@ use Rattle.ld_graph.specs.Arrows.{Arrow, MayFollow}
 use Rattle.ld_graph.specs.Walks.{OnCircle, HasNoCircle}
 use Rattle.ld_graph.specs.Links.{IsClean}
 use Rattle.ld_graph.specs.Places.{place, arrival, Leaves, LeavesFrom, Leads, Path, none, Way, IsWithin, LinkArrives, LinkLeaves}
-use Rattle.ld_graph.specs.Graphs.{ArrivesBy, LeavesBy}
+use Rattle.ld_graph.specs.Kept.{ArrivesBy, LeavesBy}
 use Rattle.ld_graph.proofs.Circles.{OnCircle-new}
 use Rattle.ld_graph.proofs.Search.{Leaves-from_MayFollow, MayFollow-from_Leaves, OnCircle-iff}
 use Rattle.ld_graph.proofs.Links.{ClosesWith-iff, link, IsInversion-iff}

@@ -12,7 +12,8 @@ use Rattle.ld_graph.specs.Places.{arrival, Leads, Path, Way, IsWithin}
 use Rattle.ld_graph.specs.Tables.{reaches, Comes, TakesArrow}
 use Rattle.ld_graph.specs.Facts.{FactWords, HasDep, HasMark, dependency_count, mark_count}
 use Rattle.ld_graph.specs.ChainFacts.{AddsDep, AddsMark}
-use Rattle.ld_graph.specs.Graphs.{AreClean, IsGraph, AreEnds, TakesMark, ArrivesBy, LeavesBy, JoinsEnds, TurnsBack, MarkTurnsBack, StaysClean, MarkStaysClean}
+use Rattle.ld_graph.specs.Graphs.{AreClean}
+use Rattle.ld_graph.specs.Kept.{IsGraph, AreEnds, TakesMark, ArrivesBy, LeavesBy, JoinsEnds, TurnsBack, MarkTurnsBack, StaysClean, MarkStaysClean}
 use Rattle.ld_graph.specs.declared.ends.Ends.{Ends}
 use Rattle.ld_graph.proofs.Circles.{ClosedWalk-from_circle, StrongWalk-head}
 use Rattle.ld_graph.proofs.Search.{OnCircle-iff, Path-more}

@@ -3,14 +3,8 @@ use Rattle.std.proofs.Common.{◌≡◌, ℕ, ◌↔◌, List, Bool, true, false
 use Rattle.ld_graph.specs.Arrows.{Arrow}
 use Rattle.ld_graph.specs.Bits.{has_bit}
 use Rattle.ld_graph.specs.Tables.{IsSource, IsTarget}
-use Rattle.ld_graph.specs.Graphs.{JoinsEnds}
+use Rattle.ld_graph.specs.Kept.{JoinsEnds, RowsMeet}
 use Rattle.ld_graph.specs.declared.ends.Ends.{Ends}
-
--- a bit of the sources is one of the arrivals, and a bit of the targets one of the departures
-abbrev pub RowsMeet : List ℕ → List ℕ → Ends → Type 0
-RowsMeet sources targets ends =
-    ((p : ℕ) × (has_bit sources p ≡ true) × (has_bit ends.arrivals p ≡ true)) ×
-    ((q : ℕ) × (has_bit targets q ≡ true) × (has_bit ends.departures q ≡ true))
 
 pub JoinsEnds-by_rows : (table : List (List ℕ)) (ends : Ends) (d : Arrow) (sources targets : List ℕ) →
     ((p : ℕ) → (has_bit sources p ≡ true) ↔ IsSource table d.start d.first_is_s p) →

@@ -8,7 +8,7 @@ use Rattle.ld_graph.specs.Bits.{has_bit}
 use Rattle.ld_graph.specs.Links.{IsDouble}
 use Rattle.ld_graph.specs.Places.{place, Leads, Way}
 use Rattle.ld_graph.specs.Facts.{FactWords, HasDep, HasMark}
-use Rattle.ld_graph.specs.Graphs.{LinksBackBy}
+use Rattle.ld_graph.specs.Kept.{LinksBackBy}
 use Rattle.ld_graph.proofs.Links.{ClosesWith, ClosesWith-iff, link, IsDouble-iff}
 use Rattle.ld_graph.proofs.GraphSteps.{HasDep-within}
 

@@ -67,14 +67,16 @@ dependency_from (Some old) new = Some (Dependency old.key new.key (kind_between 
 -- the mark of that number on a held lock, if there is one
 abbrev pub mark_of_held : Option Lock → Bool → Bool → ℕ → Option Fact
 mark_of_held None hard soft n = None
-mark_of_held (Some old) hard soft n = mark_if (marks_opened old.mode hard soft) old.key (mark_by_opening (is_read old.mode) n)
+mark_of_held (Some old) hard soft n =
+    mark_if (marks_opened old.mode hard soft) old.key (mark_by_opening (is_read old.mode) n)
 
--- the fact of the chain at place n, if there is one: of an acquisition the dependencies, oldest first, and then the marks
--- of the new lock; of an opening the marks of the held locks
+-- the fact of the chain at place n, if there is one: of an acquisition the dependencies, oldest first, and then the
+-- marks of the new lock; of an opening the marks of the held locks
 abbrev pub fact_by : Option (Lock × Frame) → ChainParts → ℕ → Option Fact
 fact_by (Some new) c n =
     if nat_lt n (length c.held_locks) then dependency_from (slice_get c.held_locks n) new.0 else
-    mark_if (marks_taken new.0.mode new.1 c.hard_on c.soft_on) new.0.key (mark_by_taking (is_read new.0.mode) (n - length c.held_locks))
+    mark_if (marks_taken new.0.mode new.1 c.hard_on c.soft_on) new.0.key
+    (mark_by_taking (is_read new.0.mode) (n - length c.held_locks))
 fact_by None c n = mark_of_held (slice_get c.held_locks (n / 2)) c.hard_on c.soft_on (n % 2)
 
 abbrev pub chain_fact : ChainParts → ℕ → Option Fact

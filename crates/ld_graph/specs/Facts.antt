@@ -15,7 +15,9 @@ pub record FactWords : Type 0 where
 
 -- the dependency is among the facts
 abbrev pub HasDep : FactWords → Arrow → Type 0
-HasDep facts d = (d.start < facts.keys) × (d.end < facts.keys) × IsTrue (has_bit facts.words (dependency_number facts.keys d))
+HasDep facts d =
+    (d.start < facts.keys) × (d.end < facts.keys) ×
+    IsTrue (has_bit facts.words (dependency_number facts.keys d))
 
 -- the key has the mark
 abbrev pub HasMark : FactWords → ℕ → Mark → Type 0
@@ -27,18 +29,21 @@ dependency_count facts = count_below (has_bit facts.words) (dependency_total fac
 
 -- how many marks there are, over all keys
 abbrev pub mark_count : FactWords → ℕ
-mark_count facts = count_below (λ n. has_bit facts.words (dependency_total facts.keys + n)) (mark_total facts.keys)
+mark_count facts =
+    count_below (λ n. has_bit facts.words (dependency_total facts.keys + n)) (mark_total facts.keys)
 
 -- the later facts are the earlier ones and those of the chain
 pub record AddsChain (old new : FactWords) (chain : ChainParts) : Type 0 where
   pub keys : new.keys ≡ old.keys
   pub dependencies : (from to : ℕ) (kind : Kind) →
       HasDep new (arrow from to kind) ↔ (HasDep old (arrow from to kind) ⊎ ChainHasDependency chain from to kind)
-  pub marks : (key : ℕ) (mark : Mark) → HasMark new key mark ↔ (HasMark old key mark ⊎ ChainHasMark chain key mark)
+  pub marks : (key : ℕ) (mark : Mark) →
+      HasMark new key mark ↔ (HasMark old key mark ⊎ ChainHasMark chain key mark)
 
 -- the chain brings nothing new: its facts are there
 pub record HoldsChain (facts : FactWords) (chain : ChainParts) : Type 0 where
-  pub dependencies : (from to : ℕ) (kind : Kind) → ChainHasDependency chain from to kind → HasDep facts (arrow from to kind)
+  pub dependencies : (from to : ℕ) (kind : Kind) →
+      ChainHasDependency chain from to kind → HasDep facts (arrow from to kind)
   pub marks : (key : ℕ) (mark : Mark) → ChainHasMark chain key mark → HasMark facts key mark
 
 -- the facts of a and those of b
@@ -74,5 +79,6 @@ pub record SetsBit (old new : FactWords) (n : ℕ) : Type 0 where
 -- the bits of one word are set too
 pub record UnitesWord (old new : FactWords) (i word : ℕ) : Type 0 where
   pub keys : new.keys ≡ old.keys
-  pub within : (k : ℕ) → k < 64 → has_bit new.words (i * 64 + k) ≡ (has_bit old.words (i * 64 + k) || bit_at word k == 1)
+  pub within : (k : ℕ) → k < 64 →
+      has_bit new.words (i * 64 + k) ≡ (has_bit old.words (i * 64 + k) || bit_at word k == 1)
   pub others : (k : ℕ) → ¬ (k / 64 ≡ i) → has_bit new.words k ≡ has_bit old.words k

@@ -1,4 +1,5 @@
--- What holds of all facts: the laws that this crate proves of its definitions. A set of arrows or of marks is a test here.
+-- What holds of all facts: the laws that this crate proves of its definitions. A set of arrows or of marks is a test
+-- here.
 use Rattle.std.specs.Prelude.{◌≡◌, ℕ, ◌⊎◌, ◌↔◌, Bool, IsTrue, IsFalse, List, [], ◌∷◌, ◌++◌, length, Any}
 use Rattle.ld_trace.specs.declared.event.Irq.{Irq}
 use Rattle.ld_task.specs.declared.kind.Kind.{Kind}
@@ -21,15 +22,18 @@ pub record AddsChains (old new : FactWords) (chains : List ChainParts) : Type 0 
   pub keys : new.keys ≡ old.keys
   pub dependencies : (from to : ℕ) (kind : Kind) →
       HasDep new (arrow from to kind) ↔ (HasDep old (arrow from to kind) ⊎ Any (λ c. ChainHasDependency c from to kind) chains)
-  pub marks : (key : ℕ) (mark : Mark) → HasMark new key mark ↔ (HasMark old key mark ⊎ Any (λ c. ChainHasMark c key mark) chains)
+  pub marks : (key : ℕ) (mark : Mark) →
+      HasMark new key mark ↔ (HasMark old key mark ⊎ Any (λ c. ChainHasMark c key mark) chains)
 
 -- adding chains one after the other gives the union of their facts
 abbrev pub AddingInTurnUnites : Type 0
-AddingInTurnUnites = (old new : FactWords) (chains : List ChainParts) → AddsInTurn old chains new → AddsChains old new chains
+AddingInTurnUnites =
+    (old new : FactWords) (chains : List ChainParts) → AddsInTurn old chains new → AddsChains old new chains
 
 -- the facts are exactly those of the chains
 pub record AreFactsOf (facts : FactWords) (chains : List ChainParts) : Type 0 where
-  pub dependencies : (from to : ℕ) (kind : Kind) → HasDep facts (arrow from to kind) ↔ Any (λ c. ChainHasDependency c from to kind) chains
+  pub dependencies : (from to : ℕ) (kind : Kind) →
+      HasDep facts (arrow from to kind) ↔ Any (λ c. ChainHasDependency c from to kind) chains
   pub marks : (key : ℕ) (mark : Mark) → HasMark facts key mark ↔ Any (λ c. ChainHasMark c key mark) chains
 
 -- one chain more behind the others
@@ -57,7 +61,9 @@ HasNewEnd old new irq l =
 
 -- some closed strong walk of the same length begins with a new dependency
 abbrev pub TurnsToNew : (Arrow → Bool) → (Arrow → Bool) → List Arrow → Type 0
-TurnsToNew old new rest = (d : Arrow) × (turned : List Arrow) × IsNew old new d × ClosedWalk (In new) d turned × (length turned ≡ length rest)
+TurnsToNew old new rest =
+    (d : Arrow) × (turned : List Arrow) × IsNew old new d ×
+    ClosedWalk (In new) d turned × (length turned ≡ length rest)
 
 -- a first part that ends with a new dependency, a last part that begins with it, and a link from b to a that joins them
 pub record GoesThroughNew (old new : Arrow → Bool) (marks : ℕ → Mark → Bool) (irq : Irq) (a b : ℕ) : Type 0 where
@@ -78,7 +84,8 @@ pub record GoesThroughNew (old new : Arrow → Bool) (marks : ℕ → Mark → B
 
 -- a link with a new mark from b to a
 abbrev pub LinksByNew : (ℕ → Mark → Bool) → (ℕ → Mark → Bool) → Irq → ℕ → ℕ → Type 0
-LinksByNew old new irq a b = (l : Arrow) × IsLink (Has new) irq l × (l.start ≡ b) × (l.end ≡ a) × HasNewEnd old new irq l
+LinksByNew old new irq a b =
+    (l : Arrow) × IsLink (Has new) irq l × (l.start ≡ b) × (l.end ≡ a) × HasNewEnd old new irq l
 
 -- a closed strong walk is one of the earlier set, or can be turned to begin with a new dependency
 abbrev pub NewCirclesHaveNewMembers : Type 0
@@ -94,4 +101,5 @@ NewDoublesHaveNewMarks = (marks marks' : ℕ → Mark → Bool) (irq : Irq) (a :
 abbrev pub NewInversionsHaveNewParts : Type 0
 NewInversionsHaveNewParts = (old new : Arrow → Bool) (marks marks' : ℕ → Mark → Bool) (irq : Irq) (a b : ℕ) →
     IsInversion (In new) (Has marks') irq a b →
-    IsInversion (In old) (Has marks) irq a b ⊎ LinksByNew marks marks' irq a b ⊎ GoesThroughNew old new marks' irq a b
+    IsInversion (In old) (Has marks) irq a b ⊎
+    LinksByNew marks marks' irq a b ⊎ GoesThroughNew old new marks' irq a b

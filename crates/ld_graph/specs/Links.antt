@@ -1,5 +1,5 @@
--- Links that interrupts make between keys, and the faults of usage ["Single-lock state rules", "Multi-lock dependency rules";
--- the read forms are this project's own].
+-- Links that interrupts make between keys, and the faults of usage
+-- ["Single-lock state rules", "Multi-lock dependency rules"; the read forms are this project's own].
 use Rattle.std.specs.Prelude.{◌≡◌, ℕ, List}
 use Rattle.ld_trace.specs.declared.event.Irq.{Irq}
 use Rattle.ld_task.specs.declared.mark.Mark.{Mark}

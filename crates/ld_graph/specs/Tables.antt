@@ -26,11 +26,13 @@ IsFreshSource table d p = IsSource table d.start d.first_is_s p × IsFalse (reac
 
 -- a target that is not reached from each place that the arrow leaves
 abbrev pub IsFreshTarget : List (List ℕ) → Arrow → ℕ → Type 0
-IsFreshTarget table d q = IsTarget table d.end d.second_is_r q × ¬ ((l : ℕ) → Leaves d l → IsTrue (reaches table l q))
+IsFreshTarget table d q =
+    IsTarget table d.end d.second_is_r q × ¬ ((l : ℕ) → Leaves d l → IsTrue (reaches table l q))
 
 -- what is reached from what is reached is reached
 abbrev pub IsTransitive : List (List ℕ) → Type 0
-IsTransitive table = (p q r : ℕ) → IsTrue (reaches table p q) → IsTrue (reaches table q r) → IsTrue (reaches table p r)
+IsTransitive table =
+    (p q r : ℕ) → IsTrue (reaches table p q) → IsTrue (reaches table q r) → IsTrue (reaches table p r)
 
 -- where the arrow arrives is reached from each place that it leaves
 abbrev pub Implies : List (List ℕ) → Arrow → Type 0

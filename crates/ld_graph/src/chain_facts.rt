@@ -40,7 +40,8 @@ pub(crate) fn fact_at(chain: &Chain, n: usize) -> Option<Fact>
 
 // The dependency from the held lock at place `i`, if there is one, to the new lock.
 fn dependency_of(chain: &Chain, i: usize, key: KeyId, mode: Mode) -> Option<Fact>
-    ensures { result ≡ dependency_from (slice_get chain.now.held_locks i) (record { key = key; mode = mode }) }
+    ensures { result ≡ dependency_from (slice_get chain.now.held_locks i)
+        (record { key = key; mode = mode }) }
 {
     let (from, old) = chain.held(i)?;
     Some(Fact::Dependency {
@@ -52,70 +53,51 @@ fn dependency_of(chain: &Chain, i: usize, key: KeyId, mode: Mode) -> Option<Fact
 
 // The mark of number `n` below 5 on the new lock, if the acquisition gives it.
 fn mark_of_new(chain: &Chain, n: usize, key: KeyId, mode: Mode, frame: Frame) -> Option<Fact>
-    ensures { result ≡ mark_if (marks_taken mode frame chain.now.hard_on chain.now.soft_on) key (mark_by_taking (is_read mode) n) }
+    ensures { result ≡ mark_if (marks_taken mode frame chain.now.hard_on chain.now.soft_on) key
+        (mark_by_taking (is_read mode) n) }
 {
     let read = reads(mode);
     let (given, mark) = match n {
         0 => (true, Mark::Used),
-        1 => (
-            frame == Frame::Hardirq,
-            Mark::UsedIn {
-                irq: Irq::Hard,
-                read,
-            },
-        ),
-        2 => (
-            chain.hard_on(),
-            Mark::Enabled {
-                irq: Irq::Hard,
-                read,
-            },
-        ),
-        3 => (
-            frame == Frame::Softirq,
-            Mark::UsedIn {
-                irq: Irq::Soft,
-                read,
-            },
-        ),
-        _ => (
-            chain.hard_on() && chain.soft_on(),
-            Mark::Enabled {
-                irq: Irq::Soft,
-                read,
-            },
-        ),
+        1 => (frame == Frame::Hardirq, used_in(Irq::Hard, read)),
+        2 => (chain.hard_on(), enabled(Irq::Hard, read)),
+        3 => (frame == Frame::Softirq, used_in(Irq::Soft, read)),
+        _ => (chain.hard_on() && chain.soft_on(), enabled(Irq::Soft, read)),
     };
     mark_where(given, key, mark)
 }
 
 // The mark of number `n` below 2 on the held lock at place `i`, if there is one and the opening gives it.
 fn mark_of_old(chain: &Chain, i: usize, n: usize) -> Option<Fact>
-    ensures { result ≡ mark_of_held (slice_get chain.now.held_locks i) chain.now.hard_on chain.now.soft_on n }
+    ensures { result ≡ mark_of_held (slice_get chain.now.held_locks i)
+        chain.now.hard_on chain.now.soft_on n }
 {
     let (key, mode) = chain.held(i)?;
     let read = reads(mode);
     if n == 0 {
-        mark_where(
-            chain.hard_on(),
-            key,
-            Mark::Enabled {
-                irq: Irq::Hard,
-                read,
-            },
-        )
+        mark_where(chain.hard_on(), key, enabled(Irq::Hard, read))
     } else {
         mark_where(
             chain.hard_on() && chain.soft_on(),
             key,
-            Mark::Enabled {
-                irq: Irq::Soft,
-                read,
-            },
+            enabled(Irq::Soft, read),
         )
     }
 }
 
+fn used_in(irq: Irq, read: bool) -> Mark
+    ensures { result ≡ Mark.UsedIn irq read }
+{
+    Mark::UsedIn { irq, read }
+}
+
+fn enabled(irq: Irq, read: bool) -> Mark
+    ensures { result ≡ Mark.Enabled irq read }
+{
+    Mark::Enabled { irq, read }
+}
+
+// The mark on the key, where it is given.
 fn mark_where(given: bool, key: KeyId, mark: Mark) -> Option<Fact>
     ensures { result ≡ (if given then Some (Fact.Marked key mark) else None) }
 {

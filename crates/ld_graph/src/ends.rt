@@ -6,7 +6,7 @@ ghost use Rattle.ld_graph.specs.Arrows.{arrow};
 ghost use Rattle.ld_graph.specs.Bits.{has_bit};
 ghost use Rattle.ld_graph.specs.Places.{LeavesFrom};
 ghost use Rattle.ld_graph.specs.Tables.{IsSource, IsTarget};
-ghost use Rattle.ld_graph.specs.Graphs.{TakesMark, JoinsEnds, MarkTurnsBack};
+ghost use Rattle.ld_graph.specs.Kept.{TakesMark, RowsMeet, MarkTurnsBack};
 
 use crate::bits;
 use crate::fact::{begins_with_s, ends_in_r};
@@ -58,9 +58,9 @@ impl Ends {
         }
     }
 
-    /// Whether a link arrives at one of the dependency's sources, and one leaves one of its targets.
+    /// Whether a link arrives at one of the sources, and one leaves one of the targets.
     pub(crate) fn are_joined(&self, sources: &Row, targets: &Row) -> bool
-        ensures { IsTrue result ↔ (((p : ℕ) × IsTrue (has_bit sources.now p) × IsTrue (has_bit self.now.arrivals p)) × ((q : ℕ) × IsTrue (has_bit targets.now q) × IsTrue (has_bit self.now.departures q))) }
+        ensures { IsTrue result ↔ RowsMeet sources.now targets.now self.now }
     {
         bits::meet(sources, &self.arrivals) && bits::meet(targets, &self.departures)
     }
@@ -85,7 +85,8 @@ impl Ends {
 // Adds the places that an arrow from the key leaves, by its first letter.
 fn insert_left(row: &mut Row, key: u16, is_s: bool)
     requires { key < 256 }
-    ensures { (q : ℕ) → IsTrue (has_bit row.new q) ↔ (IsTrue (has_bit row.old q) ⊎ LeavesFrom key is_s q) }
+    ensures { (q : ℕ) → IsTrue (has_bit row.new q)
+        ↔ (IsTrue (has_bit row.old q) ⊎ LeavesFrom key is_s q) }
 {
     bits::insert(row, place_of(key, false));
     if !is_s {

@@ -1,4 +1,5 @@
-//! Places, over which the tables go: a key together with whether the last letter is R. A set of places is a row of bits.
+//! Places, over which the tables go: a key together with whether the last letter is R. A set of places is a row of
+//! bits.
 
 ghost use Rattle.std.specs.Prelude.{◌≡◌, ◌<◌};
 ghost use Rattle.ld_graph.specs.Places.{place};

@@ -98,7 +98,8 @@ impl Reach {
     // The places that are reached from each place that an arrow from the key leaves, by its first letter.
     fn from_each(&self, key: u16, is_s: bool) -> Row
         requires { key < 256 }
-        ensures { (q : ℕ) → IsTrue (has_bit result q) ↔ ((l : ℕ) → LeavesFrom key is_s l → IsTrue (reaches self.now l q)) }
+        ensures { (q : ℕ) → IsTrue (has_bit result q)
+            ↔ ((l : ℕ) → LeavesFrom key is_s l → IsTrue (reaches self.now l q)) }
     {
         let mut row = self.from(place_of(key, false));
         if !is_s {
@@ -118,8 +119,8 @@ impl Reach {
         row
     }
 
-    // The dependency's targets that are not reached from each place that it leaves yet. Those that are, are reached from
-    // all its sources.
+    // The dependency's targets that are not reached from each place that it leaves yet. Those that are, are reached
+    // from all its sources.
     fn fresh_targets(&self, from: u16, to: u16, kind: Kind) -> Row
         requires from { from < 256 }
         requires to { to < 256 }
@@ -152,8 +153,8 @@ impl Reach {
     }
 }
 
-// How many rows of a table a dependency takes up or writes: those written, and those of the place where it arrives and of
-// the places that it leaves.
+// How many rows of a table a dependency takes up or writes: those written, and those of the place where it arrives and
+// of the places that it leaves.
 fn rows_taken(written: &Row, from: u16, to: u16, kind: Kind) -> u64
     requires from { from < 256 }
     requires to { to < 256 }
@@ -172,7 +173,8 @@ fn rows_taken(written: &Row, from: u16, to: u16, kind: Kind) -> u64
 fn join(rows: &mut [Row], chosen: &Row, row: &Row)
     requires { length rows.old ≡ 512 }
     ensures len { length rows.new ≡ length rows.old }
-    ensures joined { (p q : ℕ) → reaches rows.new p q ≡ (reaches rows.old p q || (has_bit chosen.now p && has_bit row.now q)) }
+    ensures joined { (p q : ℕ) → reaches rows.new p q
+        ≡ (reaches rows.old p q || (has_bit chosen.now p && has_bit row.now q)) }
 {
     let mut taken = [0; 8];
     while let Some(p) = bits::first_beyond(chosen, &taken) {

@@ -2,8 +2,8 @@ use Rattle.std.proofs.Common.{◌≡◌, ◌↔◌, ℕ, subst, true}
 use Rattle.ld_graph.specs.Arrows.{arrow}
 use Rattle.ld_graph.specs.Bits.{has_bit}
 use Rattle.ld_graph.specs.Tables.{IsSource, IsTarget}
-use Rattle.ld_graph.specs.Graphs.{JoinsEnds, TurnsBack}
-use Rattle.ld_graph.proofs.Joined.{JoinsEnds-by_rows, RowsMeet, not_on, not_off}
+use Rattle.ld_graph.specs.Kept.{JoinsEnds, RowsMeet, TurnsBack}
+use Rattle.ld_graph.proofs.Joined.{JoinsEnds-by_rows, not_on, not_off}
 use Rattle.ld_graph.proofs.graph.keeps_order.Goals as goal
 use Rattle.ld_graph.proofs.graph.keeps_order.Goals.{After-are_joined}
 use Rattle.ld_graph.specs.declared.ends.Ends.{Ends}

@@ -1,5 +1,5 @@
 use Rattle.std.proofs.Common.{rules, sym, subst, arith}
-use Rattle.ld_graph.specs.Graphs.{IsGraph, TakesMark}
+use Rattle.ld_graph.specs.Kept.{IsGraph, TakesMark}
 use Rattle.ld_graph.proofs.Adding.{dependency_count-le, mark_count-le}
 use Rattle.ld_graph.proofs.GraphSteps.{IsGraph-mark, IsGraph-mark_off}
 use Rattle.ld_graph.proofs.graph.Graph.add_mark.Goals as goal
