@@ -52,7 +52,7 @@ Any-chains_of P Q law traces = (
 )
 
 -- an arrow is that of its letters' kind
-arrow_of_letters : (d : Arrow) → arrow d.start d.end (kind_with d.first_is_s d.second_is_r) ≡ d
+pub arrow_of_letters : (d : Arrow) → arrow d.start d.end (kind_with d.first_is_s d.second_is_r) ≡ d
 arrow_of_letters d = same_letters d.start d.end d.first_is_s d.second_is_r
   where
     same_letters : (a b : ℕ) (s r : Bool) → arrow a b (kind_with s r) ≡ record { start = a; end = b; first_is_s = s; second_is_r = r }

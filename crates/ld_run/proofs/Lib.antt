@@ -1,2 +1,6 @@
-pub mod GatherLemmas
 pub mod Gathered
+pub mod Walking
+pub mod Sound
+pub mod Tallies
+pub mod Shares
+pub mod Settlements

@@ -1,12 +1,13 @@
 -- What a completed run says. This project's own.
-use Rattle.std.specs.Prelude.{ℕ, ◌↔◌, ◌≤◌, List, All, length}
+use Rattle.std.specs.Prelude.{ℕ, ◌↔◌, ◌≤◌, List, All, length, Result, Ok, Err}
 use Rattle.ld_trace.specs.declared.event.Event.{Event}
 use Rattle.ld_task.specs.declared.mark.Mark.{Mark}
 use Rattle.ld_task.specs.WellFormed.{IsWellFormed}
 use Rattle.ld_graph.specs.Arrows.{Arrow}
 use Rattle.ld_graph.specs.Facts.{FactWords, HasDep, HasMark}
 use Rattle.ld_run.specs.TraceFacts.{HaveDependency, HaveMark}
-use Rattle.ld_run.specs.Faults.{IsCrew}
+use Rattle.ld_run.specs.Faults.{IsCrew, StopsRun}
+use Rattle.ld_run.specs.declared.fault.RunFault.{RunFault}
 
 -- the facts are exactly those of all the traces together
 pub record AreFactsOfAll (facts : FactWords) (traces : List (List Event)) : Type 0 where
@@ -19,3 +20,8 @@ pub record CompletesRun (traces : List (List Event)) (workers : ℕ) (facts : Fa
   pub few : length traces ≤ 4096
   pub well_formed : All IsWellFormed traces
   pub facts_are : AreFactsOfAll facts traces
+
+-- the run ended so
+abbrev pub EndsRun : List (List Event) → ℕ → Result FactWords RunFault → Type 0
+EndsRun traces workers (Ok facts) = CompletesRun traces workers facts
+EndsRun traces workers (Err fault) = StopsRun traces workers fault

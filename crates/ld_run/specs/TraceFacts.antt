@@ -1,15 +1,12 @@
 -- The facts of many traces together: the union of each one's. This project's own.
 use Rattle.std.specs.Prelude.{◌≡◌, ℕ, Bool, true, false, List, Any, All, Some, take, slice_get}
 use Rattle.ld_trace.specs.declared.event.Event.{Event}
-use Rattle.ld_trace.specs.Events.{KeysBelow}
 use Rattle.ld_task.specs.declared.fault.StepAt.{StepAt}
 use Rattle.ld_task.specs.declared.kind.Kind.{Kind}
 use Rattle.ld_task.specs.declared.kind.Kind.TheVariants.{Er, En, Sr, Sn}
 use Rattle.ld_task.specs.declared.mark.Mark.{Mark}
 use Rattle.ld_task.specs.Dependencies.{IsDependency}
 use Rattle.ld_task.specs.Marks.{IsMarked}
-use Rattle.ld_task.specs.EndState.{EndState}
-use Rattle.ld_task.specs.Steps.{IsStateAfter}
 use Rattle.ld_task.specs.WellFormed.{IsWellFormed, IsFirstFault}
 use Rattle.ld_graph.specs.Arrows.{Arrow}
 
@@ -34,9 +31,3 @@ pub record IsFirstRefused (traces : List (List Event)) (trace : ℕ) (found : St
   pub at : slice_get traces trace ≡ Some refused
   pub fault : IsFirstFault refused found
   pub before : All IsWellFormed (take trace traces)
-
--- the event comes at n in the trace, whose keys are below the bound, and this is the state before it
-pub record ComesNext (keys : ℕ) (state : EndState) (event : Event) (t : List Event) (n : ℕ) : Type 0 where
-  pub after : IsStateAfter t n state
-  pub here : slice_get t n ≡ Some event
-  pub below : KeysBelow keys t

@@ -4,11 +4,12 @@
 mod crew;
 mod fault;
 mod gate;
-mod gather;
-
 mod settled;
+mod settling;
+mod worker;
 
+pub use crew::run;
 pub use fault::RunFault;
 pub use gate::{Gate, OpenGate};
-pub use crew::run;
 pub use settled::Settled;
+pub use settling::settle;

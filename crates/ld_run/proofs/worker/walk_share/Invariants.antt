@@ -1,0 +1,8 @@
+use Rattle.std.proofs.Common.{◌≡◌, ◌<◌}
+use Rattle.ld_run.specs.Tallies.{IsShareOf, IsTally}
+use Rattle.ld_run.proofs.Shares.{HasWalked}
+use Rattle.ld_run.proofs.worker.walk_share.Given as goal
+
+-- the traces so far that are the worker's were walked
+abbrev pub invariant-loop-place : goal.invariant-loop-place
+invariant-loop-place g l = HasWalked l.traces l.keys l.workers l.worker l.place l.facts l.refused
