@@ -1,0 +1,146 @@
+-- A journal that keeps each distinct chain once, and one entry more in it.
+use Rattle.std.proofs.Common.{◌≡◌, ℕ, suc, ◌+◌, ◌<◌, ◌≤◌, ◌⊎◌, ◌↔◌, List, [], ◌∷◌, ◌++◌, length, length-append, map, get_or, slice_get, Bool, true, false, Some, refl, sym, ap, subst, ◌∙◌, true≢false, inl, inr, arith, if◌then◌else◌}
+use Rattle.std.specs.Prelude.{All, Any, Contains}
+use Rattle.std.specs.List.{list_any, IsDistinct}
+use Rattle.std.proofs.lemmas.Bool.{cases_Bool, cases_lt}
+use Rattle.std.proofs.lemmas.List.{length-map, map-append, get_or-map, get_or_append_left, get_or_default, append-nil}
+use Rattle.std.proofs.lemmas.List.Elements.{All-head, All-tail, All-push, All-weaker, Contains-get_or}
+use Rattle.std.proofs.lemmas.Map.Made.{AllPairs-from_IsDistinct}
+use Rattle.std.proofs.lemmas.Map.Views.{Contains-from_any, list_any-from_Contains}
+use Rattle.std.proofs.lemmas.Option.{get_or_from_slice_get}
+use Rattle.indexmap.specs.IndexSet.{insert_key}
+use Rattle.ld_task.specs.Chains.{ChainParts}
+use Rattle.ld_task.specs.ChainEquality.{chain_eq}
+use Rattle.ld_task.specs.ChainEqualityLaws.{chain_eq-decides, chain_eq-equivalence}
+use Rattle.ld_graph.proofs.ChainLists.{Any-push}
+use Rattle.ld_book.specs.Books.{StandsIn, IsNumberOfChains}
+use Rattle.ld_book.specs.Journals.{no_chain, entry_of, journal_of, IsJournal}
+use Rattle.ld_book.specs.declared.journal.Entry.{Entry}
+
+-- the entries mean the same where more chains follow
+journal_of-more : (chains more : List ChainParts) (entries : List Entry) → All (λ (e : Entry). e.number < length chains) entries →
+    journal_of (chains ++ more) entries ≡ journal_of chains entries
+journal_of-more chains more [] below = refl
+journal_of-more chains more (e ∷ entries) below =
+    let head : entry_of (chains ++ more) e ≡ entry_of chains e = ap (λ c. (e.trace, c))
+    (get_or_append_left chains more no_chain e.number (All-head (λ (e : Entry). e.number < length chains) e entries below)) in
+    let tail = journal_of-more chains more entries (All-tail (λ (e : Entry). e.number < length chains) e entries below) in
+    λ i. head i ∷ tail i
+
+-- ---- what stands in the journal is what the chains are
+module _ (chains : List ChainParts) (entries : List Entry) (is_journal : IsJournal chains entries) (chain : ChainParts) where
+  stands : Contains chains chain → StandsIn (journal_of chains entries) chain
+  stands (n, l, is) =
+      let (k, e, lk, at, number) = is_journal.entered n l in (
+        k,
+        entry_of chains e,
+        rw (length-map entries (entry_of chains)) lk,
+        get_or-map (entry_of chains) entries k e (entry_of chains e) lk ∙ ap (entry_of chains) at,
+        ap (λ m. get_or chains m no_chain) number ∙ get_or_default chains n no_chain chain l ∙ is,
+      )
+
+  contains : StandsIn (journal_of chains entries) chain → Contains chains chain
+  contains (k, e, l, at, is) =
+      let first : Entry = record { trace = 0; number = 0 } in
+      let lk : k < length entries = omega (arith, l, length-map entries (entry_of chains)) in
+      let entry : Entry = get_or entries k first in
+      let within : entry.number < length chains = is_journal.numbers k first lk in
+      let same : entry_of chains entry ≡ e = sym (get_or-map (entry_of chains) entries k first e lk) ∙ at in (
+        entry.number,
+        within,
+        get_or_default chains entry.number chain no_chain within ∙ ap (λ (e : ℕ × ChainParts). e.1) same ∙ is,
+      )
+
+  pub Contains-iff : Contains chains chain ↔ StandsIn (journal_of chains entries) chain
+  Contains-iff = (stands, contains)
+
+  -- so the test of the chains finds it
+  pub list_any-iff : (list_any (chain_eq chain) chains ≡ true) ↔ StandsIn (journal_of chains entries) chain
+  list_any-iff = (
+    (λ found. stands (Contains-from_any (λ x y. (chain_eq-decides x y).0) chain chains found)),
+    (λ h. list_any-from_Contains chain_eq-equivalence chain chains (contains h)),
+  )
+
+-- as many distinct chains as are kept
+pub IsNumberOfChains-kept : (chains : List ChainParts) (entries : List Entry) → IsJournal chains entries → IsDistinct chain_eq chains →
+    IsNumberOfChains (journal_of chains entries) (length chains)
+IsNumberOfChains-kept chains entries is_journal distinct = record {
+  listed = chains;
+  once = AllPairs-from_IsDistinct chain_eq-decides chains distinct;
+  exact = λ chain. Contains-iff chains entries is_journal chain;
+  count = refl;
+}
+
+-- ---- one entry more
+-- the later chains are the earlier ones, with this one at that place: there already, or behind them
+pub record PutsChain (old new : List ChainParts) (number : ℕ) (chain : ChainParts) : Type 0 where
+  pub more : List ChainParts
+  pub extends : new ≡ old ++ more
+  pub within : number < length new
+  pub is : get_or new number no_chain ≡ chain
+  pub only : (n : ℕ) → n < length new → (n < length old) ⊎ (n ≡ number)
+
+module _ (old new : List ChainParts) (number : ℕ) (chain kept : ChainParts) (inserted : new ≡ insert_key chain_eq old chain)
+    (within : number < length new) (at : slice_get new number ≡ Some kept) (same : chain_eq chain kept ≡ true) where
+  is_there : get_or new number no_chain ≡ chain
+  is_there = get_or_from_slice_get new number kept no_chain at ∙ sym ((chain_eq-decides chain kept).0 same)
+
+  -- a chain that is new stands behind the others
+  behind : list_any (chain_eq chain) old ≡ false → new ≡ old ++ chain ∷ [] → number ≡ length old
+  behind absent is = elim (cases_lt number (length old)) [
+    | inl l ↦
+        let found : get_or old number no_chain ≡ chain =
+        sym (get_or_append_left old (chain ∷ []) no_chain number l) ∙ ap (λ xs. get_or xs number no_chain) (sym is) ∙ is_there in
+        let has : Contains old chain = (number, l, get_or_default old number chain no_chain l ∙ found) in
+        absurd (true≢false (sym (list_any-from_Contains chain_eq-equivalence chain old has) ∙ absent))
+    | inr past ↦ omega (arith, length-append old (chain ∷ []), ap length is)
+  ]
+
+  pub PutsChain-inserted : PutsChain old new number chain
+  PutsChain-inserted = elim (cases_Bool (list_any (chain_eq chain) old)) [
+    | inl found ↦
+        let stays : new ≡ old = inserted ∙ ap (λ c. if c then old else old ++ chain ∷ []) found in record {
+          more = [];
+          extends = stays ∙ sym (append-nil old);
+          within = within;
+          is = is_there;
+          only = λ n l. inl (omega (arith, ap length stays));
+        }
+    | inr absent ↦
+        let grows : new ≡ old ++ chain ∷ [] = inserted ∙ ap (λ c. if c then old else old ++ chain ∷ []) absent in record {
+          more = chain ∷ [];
+          extends = grows;
+          within = within;
+          is = is_there;
+          only = λ n l. elim (cases_lt n (length old)) [
+            | inl below ↦ inl below
+            | inr past ↦ inr (omega (arith, behind absent grows, length-append old (chain ∷ []), ap length grows))
+          ];
+        }
+  ]
+
+module _ (old new : List ChainParts) (entries : List Entry) (is_journal : IsJournal old entries) (trace number : ℕ) (chain : ChainParts)
+    (puts : PutsChain old new number chain) where
+  abbrev entered : Entry
+  entered = record { trace = trace; number = number }
+
+  longer : length old ≤ length new
+  longer = omega (arith, ap length puts.extends, length-append old puts.more)
+
+  pub IsJournal-push : IsJournal new (entries ++ entered ∷ [])
+  IsJournal-push = record {
+    numbers = All-push (λ (e : Entry). e.number < length new) entries entered
+        (All-weaker (λ (e : Entry). e.number < length old) (λ (e : Entry). e.number < length new) (λ e l. omega (arith, longer)) entries is_journal.numbers)
+        puts.within;
+    entered = λ n l. (Any-push (λ (e : Entry). e.number ≡ n) entries entered).1 (elim (puts.only n l) [
+      | inl below ↦ inl (is_journal.entered n below)
+      | inr e ↦ inr (sym e)
+    ]);
+  }
+
+  pub journal_of-push : journal_of new (entries ++ entered ∷ []) ≡ journal_of old entries ++ (trace, chain) ∷ []
+  journal_of-push =
+      let before : journal_of new entries ≡ journal_of old entries =
+      ap (λ chains. journal_of chains entries) puts.extends ∙ journal_of-more old puts.more entries is_journal.numbers in
+      let last : entry_of new entered ≡ (trace, chain) = ap (λ c. (trace, c)) puts.is in
+      map-append (entry_of new) entries (entered ∷ []) ∙ (λ i. before i ++ last i ∷ [])

@@ -1,0 +1,16 @@
+use Rattle.std.proofs.Common.{◌≡◌, ◌-◌, subst, arith}
+use Rattle.ld_graph.specs.Counting.{IsNumberOf}
+use Rattle.ld_graph.specs.Facts.{HasDep}
+use Rattle.ld_book.specs.Books.{RecordsDependency, opening_count}
+use Rattle.ld_book.proofs.BookLemmas.{IsNumberOf-recorded, counts-length}
+use Rattle.ld_book.proofs.book.Book.totals.Goals as goal
+
+pub returns-clause-openings : goal.returns-clause-openings
+returns-clause-openings c = subst (λ v. c.len-entries.result - c.self.inside.acquisitions ≡ opening_count v.journal) c.self.view_is
+    (omega (arith, c.len-entries.ensures, c.self.invariant.counted, counts-length c.self.inside.journal))
+
+pub returns-clause-dependencies : goal.returns-clause-dependencies
+returns-clause-dependencies c =
+    let number = subst (λ f. IsNumberOf (HasDep f) c.dependencies.result) c.facts.ensures c.dependencies.ensures.number in
+    subst (λ v. IsNumberOf (RecordsDependency v.journal) c.dependencies.result) c.self.view_is
+    (IsNumberOf-recorded c.self.inside.graph.facts c.self.inside.journal c.self.invariant.facts_are c.dependencies.result number)

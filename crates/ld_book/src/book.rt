@@ -1,0 +1,214 @@
+//! A journal of chains, with what belongs to it.
+
+ghost use Rattle.std.specs.Prelude.{◌≡◌, ℕ, ◌≤◌, ◌++◌, ◌↔◌, [], ◌∷◌, length, option_map, slice_get, IfOk, OnOk, OnErr, IfErr, IsErrOf, IsTrue, IsFalse, ◌⊎◌};
+ghost use Rattle.ld_task.specs.declared.mark.Mark.{Mark};
+ghost use Rattle.ld_task.specs.Chains.{ChainKeysBelow};
+ghost use Rattle.ld_graph.specs.Arrows.{Arrow, arrow};
+ghost use Rattle.ld_graph.specs.Counting.{IsNumberOf};
+ghost use Rattle.ld_graph.specs.Facts.{HasDep, HasMark, AddsChain, HoldsChain};
+ghost use Rattle.ld_graph.specs.Links.{IsClean};
+ghost use Rattle.ld_book.specs.Books.{AreRecorded, IsNumberOfChains, RecordsDependency, RecordsMark, acquisition_count, opening_count};
+
+use crate::fault::BookFault;
+use crate::journal::Journal;
+use ld_graph::Graph;
+use ld_task::{Chain, Kind, Mark};
+use std::alloc::Global;
+use std::marker::Model;
+
+/// What an entry brought.
+#[derive(Clone, Copy, PartialEq, Eq, Debug)]
+pub struct News {
+    /// A dependency or a mark of the chain is new to the book.
+    pub fresh: bool,
+    /// The book's facts are clean afterwards.
+    pub clean: bool,
+}
+
+/// What the journal of a book comes to.
+#[derive(Clone, Copy, PartialEq, Eq, Debug)]
+pub struct Totals {
+    /// The number of entries.
+    pub entries: u64,
+    /// How many of them are acquisitions.
+    pub acquisitions: u64,
+    /// How many of them are openings.
+    pub openings: u64,
+    /// The number of distinct dependencies.
+    pub dependencies: u64,
+}
+
+/// A journal of chains, each with the trace that it comes from, and the facts of these chains. The keys are below a bound
+/// of at most 256, and the journal is no longer than a limit.
+#[derive(Drop)]
+pub struct Book {
+    journal: Journal,
+    graph: Graph,
+    acquisitions: u64,
+    limit: u64,
+}
+
+impl Model for Book {
+    ghost use Rattle.ld_book.specs.Books.{BookParts, IsLawful};
+
+    ghost Value = { BookParts };
+
+    ghost view = { λ b. record {
+      journal = b.journal;
+      keys = b.graph.facts.keys;
+      limit = b.limit;
+    } };
+
+    ghost invariant = { λ b. IsLawful b.graph.facts b.journal b.acquisitions b.limit };
+}
+
+impl Book {
+    /// A book without entries, for keys below `keys`, which is at most 256, and for at most `limit` entries. B2 where
+    /// memory was refused; nothing was made then.
+    pub fn new(alloc: Global, keys: u16, limit: u64) -> Result<Book, BookFault>
+        requires { keys ≤ 256 }
+        ensures empty { IfOk result (λ b. b ≡ record {
+          journal = [];
+          keys = keys;
+          limit = limit;
+        }) }
+        ensures err { IfErr result (λ fault. fault ≡ BookFault.Memory) }
+    {
+        let Ok(graph) = Graph::new(alloc, keys) else {
+            return Err(BookFault::Memory);
+        };
+        Ok(Book {
+            journal: Journal::new(alloc),
+            graph,
+            acquisitions: 0,
+            limit,
+        })
+    }
+
+    /// Puts a chain of a trace behind the other entries, and answers what it brought. The chain is given up in any case.
+    ///
+    /// Refusals, in this order: B1 exactly where the journal has as many entries as the limit, B3 exactly where a key of
+    /// the chain isn't below the book's bound, B2 where memory was refused. After each nothing is changed. A chain that
+    /// the book knows is found without any search.
+    pub fn record(&mut self, trace: u32, chain: Chain) -> Result<News, BookFault>
+        ensures recorded { OnOk result (self.new ≡ record {
+          journal = self.old.journal ++ (trace, chain) ∷ [];
+          keys = self.old.keys;
+          limit = self.old.limit;
+        }) }
+        ensures fresh { IfOk result (λ news. IsFalse news.fresh ↔ AreRecorded self.old.journal chain) }
+        ensures clean { IfOk result (λ news. IsTrue news.clean
+            ↔ IsClean (RecordsDependency self.new.journal) (RecordsMark self.new.journal)) }
+
+        ensures full { IsErrOf result BookFault.Full ↔ (length self.old.journal ≡ self.old.limit) }
+        ensures bad_key { IsErrOf result BookFault.BadKey
+            ↔ (¬ (length self.old.journal ≡ self.old.limit) × ¬ ChainKeysBelow self.old.keys chain) }
+        ensures refused { OnErr result (self.new ≡ self.old) }
+    {
+        let place = self.journal.len();
+        if place as u64 == self.limit {
+            return Err(BookFault::Full);
+        }
+        if !chain.keys_below(self.graph.facts().keys()) {
+            return Err(BookFault::BadKey);
+        }
+        let is_acquisition = chain.taken().is_some();
+        let Ok(is_new) = self.journal.push(trace, chain) else {
+            return Err(BookFault::Memory);
+        };
+        self.acquisitions += u64::from(is_acquisition);
+        let fresh = learn(&mut self.graph, self.journal.chain(place), is_new);
+        Ok(News {
+            fresh,
+            clean: self.graph.is_clean(),
+        })
+    }
+
+    /// The bound on the keys, at most 256.
+    pub fn keys(&self) -> u16
+        ensures value { result ≡ self.now.keys }
+        ensures few { result ≤ 256 }
+    {
+        self.graph.facts().keys()
+    }
+
+    /// The number of entries, at most the limit.
+    pub fn len(&self) -> usize
+        ensures value { result ≡ length self.now.journal }
+        ensures within { result ≤ self.now.limit }
+    {
+        self.journal.len()
+    }
+
+    /// The entry at place `i`, counted from 0 in the order of recording: its trace and its chain. None exactly where there
+    /// is none.
+    pub fn entry(&self, i: usize) -> Option<(u32, &Chain)>
+        ensures { option_map (λ e. (e.0, e.1.now)) result ≡ slice_get self.now.journal i }
+    {
+        self.journal.entry(i)
+    }
+
+    /// Whether the dependency is one of a chain of the journal. False where a key isn't below the bound.
+    pub fn has_dep(&self, from: u16, to: u16, kind: Kind) -> bool
+        ensures { IsTrue result ↔ RecordsDependency self.now.journal (arrow from to kind) }
+    {
+        self.graph.facts().has_dep(from, to, kind)
+    }
+
+    /// Whether the key has the mark by a chain of the journal. False where the key isn't below the bound.
+    pub fn has_mark(&self, key: u16, mark: Mark) -> bool
+        ensures { IsTrue result ↔ RecordsMark self.now.journal key mark }
+    {
+        self.graph.facts().has_mark(key, mark)
+    }
+
+    /// Whether the facts of the journal are clean: no dependency is on a circle, and there is no double and no inversion.
+    pub fn is_clean(&self) -> bool
+        ensures { IsTrue result ↔ IsClean (RecordsDependency self.now.journal) (RecordsMark self.now.journal) }
+    {
+        self.graph.is_clean()
+    }
+
+    /// How many entries, acquisitions, openings and distinct dependencies the journal has.
+    pub fn totals(&self) -> Totals
+        ensures entries { result.entries ≡ length self.now.journal }
+        ensures acquisitions { result.acquisitions ≡ acquisition_count self.now.journal }
+        ensures openings { result.openings ≡ opening_count self.now.journal }
+        ensures dependencies { IsNumberOf (RecordsDependency self.now.journal) result.dependencies }
+    {
+        let entries = self.journal.len() as u64;
+        Totals {
+            entries,
+            acquisitions: self.acquisitions,
+            openings: entries - self.acquisitions,
+            dependencies: self.graph.facts().dependencies(),
+        }
+    }
+
+    /// How many distinct chains the journal has.
+    pub fn distinct(&self) -> u64
+        ensures { IsNumberOfChains self.now.journal result }
+    {
+        self.journal.distinct() as u64
+    }
+
+    /// The graph of the book's facts. The journal is given up.
+    pub fn into_graph(self) -> Graph
+        ensures keys { result.facts.keys ≡ self.keys }
+        ensures dependencies { (d : Arrow) → HasDep result.facts d ↔ RecordsDependency self.journal d }
+        ensures marks { (key : ℕ) (mark : Mark) → HasMark result.facts key mark ↔ RecordsMark self.journal key mark }
+    {
+        let Book { graph, .. } = self;
+        graph
+    }
+}
+
+// Adds the facts of a chain, and answers whether one of them is new. A chain that isn't new needs no search.
+fn learn(graph: &mut Graph, chain: &Chain, is_new: bool) -> bool
+    requires below { ChainKeysBelow graph.old.facts.keys chain.now }
+    requires known { IsFalse is_new → HoldsChain graph.old.facts chain.now }
+    ensures adds { AddsChain graph.old.facts graph.new.facts chain.now }
+    ensures fresh { IsFalse result ↔ HoldsChain graph.old.facts chain.now }
+{
+    is_new && graph.add_chain(chain)
+}

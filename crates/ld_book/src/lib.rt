@@ -1,0 +1,17 @@
+//! The book that all workers write into: a journal of chains, together with the facts, the totals and the flag that
+//! belong to it.
+//!
+//! Whatever a `Book` answers is read off its journal. It keeps each distinct chain once, and a chain that it knows costs
+//! it no search. A `LockedBook` is a book that several threads write into, one entry at a time.
+#![tactic(auto)]
+
+mod book;
+mod fault;
+mod journal;
+mod locked;
+#[cfg(test)]
+mod tests;
+
+pub use book::{Book, News, Totals};
+pub use fault::BookFault;
+pub use locked::LockedBook;

@@ -1,0 +1,40 @@
+//! A book that several threads write into.
+
+use crate::book::{Book, News};
+use crate::fault::BookFault;
+use ld_task::Chain;
+use std::sync::{Mutex, Wait};
+
+/// A book under a lock. Whoever gets the lock finds a lawful book: what it answers is read off its journal, also after a
+/// refused entry. Entries stand in the order in which the lock was taken.
+#[derive(Drop)]
+pub struct LockedBook {
+    book: Mutex<Book>,
+}
+
+impl LockedBook {
+    /// Puts the book under a lock. It takes no memory.
+    pub fn new(book: Book) -> LockedBook {
+        LockedBook {
+            book: Mutex::new(book),
+        }
+    }
+
+    /// Waits for the lock, and then answers as `Book::record` of the book that it finds, with the same refusals: B1 where
+    /// the book is full, B3 where a key of the chain isn't below the book's bound, B2 where memory was refused. After a
+    /// refusal the book is as it was found. The chain is given up in any case.
+    pub fn record<R: Wait>(&self, rt: &R, trace: u32, chain: Chain) -> Result<News, BookFault> {
+        self.book.lock(rt).record(trace, chain)
+    }
+
+    /// Waits for the lock, and then answers as `Book::is_clean` of the book that it finds.
+    pub fn is_clean<R: Wait>(&self, rt: &R) -> bool {
+        self.book.lock(rt).is_clean()
+    }
+
+    /// Takes the book out of the lock.
+    pub fn into_book(self) -> Book {
+        let LockedBook { book } = self;
+        book.into_inner()
+    }
+}
