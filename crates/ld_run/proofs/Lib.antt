@@ -1,4 +1,3 @@
-pub mod Gathered
 pub mod Walking
 pub mod Sound
 pub mod Tallies

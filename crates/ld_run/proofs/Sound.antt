@@ -1,5 +1,5 @@
 -- The facts of a trace before its first event that isn't allowed.
-use Rattle.std.proofs.Common.{◌≡◌, ℕ, zero, suc, ◌<◌, ◌≤◌, ◌⊎◌, ◌↔◌, List, [], ◌∷◌, take, slice_get, length, Some, None, refl, sym, ap, ◌∙◌, subst, inl, inr, Any, arith}
+use Rattle.std.proofs.Common.{◌≡◌, ℕ, Bool, true, false, zero, suc, ◌<◌, ◌≤◌, ◌⊎◌, ◌↔◌, List, [], ◌∷◌, take, slice_get, length, Some, None, refl, sym, ap, ◌∙◌, subst, inl, inr, Any, arith}
 use Rattle.std.proofs.lemmas.Bool.{cases_lt}
 use Rattle.std.proofs.lemmas.List.{take_all, length-take-le}
 use Rattle.ld_trace.specs.declared.event.Event.{Event}
@@ -18,10 +18,19 @@ use Rattle.ld_task.proofs.FactLaws.{dependencies_are_the_chains, marks_are_the_c
 use Rattle.ld_graph.specs.Arrows.{Arrow, arrow}
 use Rattle.ld_graph.specs.Facts.{FactWords, HasDep, HasMark}
 use Rattle.ld_graph.specs.Laws.{AddsChains}
-use Rattle.ld_run.specs.TraceFacts.{kind_with}
+use Rattle.ld_book.specs.Books.{kind_with}
 use Rattle.ld_run.specs.Tallies.{HasSoundDependency, HasSoundMark}
 use Rattle.ld_run.specs.Walks.{AddsSound}
-use Rattle.ld_run.proofs.Gathered.{arrow_of_letters}
+
+-- an arrow is that of its letters' kind
+arrow_of_letters : (d : Arrow) → arrow d.start d.end (kind_with d.first_is_s d.second_is_r) ≡ d
+arrow_of_letters d = same_letters d.start d.end d.first_is_s d.second_is_r
+  where
+    same_letters : (a b : ℕ) (s r : Bool) → arrow a b (kind_with s r) ≡ record { start = a; end = b; first_is_s = s; second_is_r = r }
+    same_letters a b false true = refl
+    same_letters a b false false = refl
+    same_letters a b true true = refl
+    same_letters a b true false = refl
 
 pub slice_get-take : {A : Type 0} (xs : List A) (i k : ℕ) → k < i → slice_get (take i xs) k ≡ slice_get xs k
 slice_get-take [] zero k l = absurd (omega arith)
@@ -53,10 +62,10 @@ beginning_ends : (t : List Event) (m n : ℕ) (f : StepFault) → IsWellFormed (
 beginning_ends t m n f well first = elim (cases_lt n m) [
   | inr early ↦ omega (arith, early)
   | inl past ↦ absurd (
-    let in_beginning : n < length (take m t) = longer t m n past first.in_range in
-    let agree : Agree (take m t) t n = record { same = λ j l. slice_get-take t m j (omega (arith, l, past)) } in
-    let same = fault-agree (take m t) t n agree (slice_get-take t m n past) in
-    none_some (sym (well.allowed n in_beginning) ∙ same ∙ first.refused))
+      let in_beginning : n < length (take m t) = longer t m n past first.in_range in
+      let agree : Agree (take m t) t n = record { same = λ j l. slice_get-take t m j (omega (arith, l, past)) } in
+      let same = fault-agree (take m t) t n agree (slice_get-take t m n past) in
+      none_some (sym (well.allowed n in_beginning) ∙ same ∙ first.refused))
 ]
   where
     none_some : {x : StepFault} → None ≡ Some x → ⊥

@@ -12,7 +12,8 @@ use Rattle.ld_task.specs.Marks.{IsMarked}
 use Rattle.ld_task.specs.WellFormed.{IsWellFormed, IsFirstFault}
 use Rattle.ld_graph.specs.Arrows.{Arrow}
 use Rattle.ld_graph.specs.Facts.{FactWords, HasDep, HasMark, IsUnion}
-use Rattle.ld_run.specs.TraceFacts.{HaveDependency, HaveMark, IsFirstRefused, kind_with}
+use Rattle.ld_run.specs.TraceFacts.{HaveDependency, HaveMark, IsFirstRefused}
+use Rattle.ld_book.specs.Books.{kind_with}
 use Rattle.ld_run.specs.Faults.{IsCrew}
 use Rattle.ld_run.specs.Runs.{AreFactsOfAll, CompletesRun}
 use Rattle.ld_run.specs.Tallies.{HasSoundDependency, HasSoundMark, OfSome, AreSound, IsLeastRefused, LeastRefusedIs, IsTally, IsShareOf, IsShareBelow}

@@ -18,7 +18,7 @@ use Rattle.ld_graph.specs.Arrows.{arrow}
 use Rattle.ld_graph.specs.Facts.{FactWords, HasDep, HasMark, AddsChain}
 use Rattle.ld_graph.specs.Laws.{AddsChains}
 use Rattle.ld_graph.proofs.ChainLists.{Any-push}
-use Rattle.ld_run.specs.Walks.{WalksOn}
+use Rattle.ld_run.specs.Walks.{ComesNext, WalksOn}
 
 -- the chain of an event of a trace has the trace's keys
 pub chain_below : (keys : ℕ) (t : List Event) (n : ℕ) (state : EndState) (r : Result (Option ChainParts) StepFault) (c : ChainParts) → r ≡ Ok (Some c) → GoesOn t n state r → KeysBelow keys t → ChainKeysBelow keys c
@@ -101,3 +101,11 @@ pub never_past : {A : Type 0} (xs : List A) (i : ℕ) → i < length xs → slic
 never_past [] i l e = omega (arith, l)
 never_past (x ∷ xs) zero l e = cc
 never_past (x ∷ xs) (suc i) l e = never_past xs i (omega (arith, l)) e
+
+-- the event that is read next
+pub comes_next : (first now : FactWords) (t : List Event) (n : ℕ) (state : EndState) (number : ℕ) (r : Option Event) (event : Event) → IsWalking first now t n state number → r ≡ slice_get t n → r ≡ Some event → KeysBelow first.keys t → ComesNext now.keys state event t n
+comes_next first now t n state number r event walking read is below = record {
+  after = walking.after;
+  here = sym read ∙ is;
+  below = subst (λ k. KeysBelow k t) (sym walking.keys) below;
+}

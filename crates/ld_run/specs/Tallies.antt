@@ -8,7 +8,7 @@ use Rattle.ld_task.specs.Marks.{IsMarked}
 use Rattle.ld_task.specs.WellFormed.{IsWellFormed, IsFirstFault}
 use Rattle.ld_graph.specs.Arrows.{Arrow}
 use Rattle.ld_graph.specs.Facts.{FactWords, HasDep, HasMark}
-use Rattle.ld_run.specs.TraceFacts.{kind_with}
+use Rattle.ld_book.specs.Books.{kind_with}
 
 -- the dependency is one of the trace before its first event that isn't allowed: one of a well-formed beginning of it
 abbrev pub HasSoundDependency : List Event → Arrow → Type 0

@@ -1,21 +1,13 @@
 -- The facts of many traces together: the union of each one's. This project's own.
-use Rattle.std.specs.Prelude.{◌≡◌, ℕ, Bool, true, false, List, Any, All, Some, take, slice_get}
+use Rattle.std.specs.Prelude.{◌≡◌, ℕ, List, Any, All, Some, take, slice_get}
 use Rattle.ld_trace.specs.declared.event.Event.{Event}
 use Rattle.ld_task.specs.declared.fault.StepAt.{StepAt}
-use Rattle.ld_task.specs.declared.kind.Kind.{Kind}
-use Rattle.ld_task.specs.declared.kind.Kind.TheVariants.{Er, En, Sr, Sn}
 use Rattle.ld_task.specs.declared.mark.Mark.{Mark}
 use Rattle.ld_task.specs.Dependencies.{IsDependency}
 use Rattle.ld_task.specs.Marks.{IsMarked}
 use Rattle.ld_task.specs.WellFormed.{IsWellFormed, IsFirstFault}
 use Rattle.ld_graph.specs.Arrows.{Arrow}
-
--- the kind with these letters
-abbrev pub kind_with : (first_is_s second_is_r : Bool) → Kind
-kind_with false true = Er
-kind_with false false = En
-kind_with true true = Sr
-kind_with true false = Sn
+use Rattle.ld_book.specs.Books.{kind_with}
 
 -- some trace of the list has the dependency
 abbrev pub HaveDependency : List (List Event) → Arrow → Type 0

@@ -10,8 +10,8 @@ ghost use Rattle.ld_run.specs.Tallies.{IsShareBelow, IsTally};
 
 use crate::fault::RunFault;
 use crate::gate::Gate;
-use crate::settling::settle;
 use crate::settled::Settled;
+use crate::settling::settle;
 use crate::worker::{Lost, Tally, walk_share};
 use ld_book::{Book, LockedBook};
 use ld_graph::Facts;

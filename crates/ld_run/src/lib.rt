@@ -6,6 +6,8 @@ mod fault;
 mod gate;
 mod settled;
 mod settling;
+#[cfg(test)]
+mod tests;
 mod worker;
 
 pub use crew::run;

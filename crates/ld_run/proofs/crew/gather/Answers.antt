@@ -6,5 +6,5 @@ pub unite-requires : goal.unite-requires
 unite-requires g c = (
   c.args.traces.now,
   bring_same c.args.traces.now c.args.keys c.args.together.now.keys c.args.workers c.in-Ok.brought.items c.deref.result.now c.requires.keys c.deref.ensures.value
-  (c.deref.ensures.len ∙ c.in-Ok.ensures.len) c.in-Ok.ensures.each,
+      (c.deref.ensures.len ∙ c.in-Ok.ensures.len) c.in-Ok.ensures.each,
 )

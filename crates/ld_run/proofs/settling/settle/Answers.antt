@@ -13,8 +13,10 @@ returns-then-same-clause-exact c =
 pub returns-else-same-clause-exact : goal.returns-else-same-clause-exact
 returns-else-same-clause-exact c =
     let e = c.into_graph-graph.ensures in
-    let law = settles-same c.args.book c.into_graph-graph.result.facts c.args.tallies.now e.keys e.dependencies e.marks in
-    (λ is. cc, λ settles.
-        let same = subst (λ f. HaveSameFacts f c.args.tallies.now) (sym c.facts.ensures) (law.1 settles) in
-        let yes = c.same.ensures.exact.1 same in
-        let no = c.if-same.false in cc)
+    let law = settles-same c.args.book c.into_graph-graph.result.facts c.args.tallies.now e.keys e.dependencies e.marks in (
+      λ is. cc,
+      λ settles.
+          let same = subst (λ f. HaveSameFacts f c.args.tallies.now) (sym c.facts.ensures) (law.1 settles) in
+          let yes = c.same.ensures.exact.1 same in
+          let no = c.if-same.false in cc,
+    )

@@ -1,7 +1,7 @@
 use Rattle.std.proofs.Common.{◌≡◌, ◌∙◌, sym, ap, subst, Some, None, arith}
 use Rattle.ld_trace.specs.Events.{KeysBelow}
 use Rattle.ld_run.specs.Walks.{AddsSound, ComesNext, WalksOn}
-use Rattle.ld_run.proofs.Walking.{IsWalking-none, IsWalking-next, never_past}
+use Rattle.ld_run.proofs.Walking.{IsWalking-none, IsWalking-next, comes_next, never_past}
 use Rattle.ld_run.proofs.Sound.{adds_sound-refused, adds_sound-whole}
 use Rattle.ld_run.proofs.worker.walk_trace.Goals as goal
 
@@ -17,11 +17,7 @@ loop-at-preserved-in_default g c =
 pub returns-in-Some-refused-clause-adds : goal.returns-in-Some-refused-clause-adds
 returns-in-Some-refused-clause-adds g c =
     let walking = c.loop-at.invariant in
-    let next : ComesNext c.loop-at.facts.keys c.loop-at.state c.in-Some.event c.args.trace.now c.loop-at.at = record {
-      after = walking.after;
-      here = sym c.event.ensures ∙ c.in-Some.is;
-      below = subst (λ k. KeysBelow k c.args.trace.now) (sym walking.keys) c.requires.below;
-    } in
+    let next = comes_next c.args.facts.now c.loop-at.facts c.args.trace.now c.loop-at.at c.loop-at.state c.loop-at.number c.event.result c.in-Some.event walking c.event.ensures c.in-Some.is c.requires.below in
     let on = subst (WalksOn c.loop-at.facts c.walk_event.new.facts c.walk_event.new.state c.args.trace.now c.loop-at.at) c.in-Some-refused.is (c.in_ok-refused.ensures.walks_on c.args.trace.now c.loop-at.at next) in
     subst (λ facts. AddsSound c.args.facts.now facts c.args.trace.now) (sym on.1)
     (adds_sound-refused c.args.facts.now c.loop-at.facts c.args.trace.now c.loop-at.at c.in-Some-refused.fault walking.after.well_formed on.0 walking.adds)
@@ -29,11 +25,7 @@ returns-in-Some-refused-clause-adds g c =
 pub loop-at-preserved : goal.loop-at-preserved
 loop-at-preserved g c =
     let walking = c.loop-at.invariant in
-    let next : ComesNext c.loop-at.facts.keys c.loop-at.state c.in-Some.event c.args.trace.now c.loop-at.at = record {
-      after = walking.after;
-      here = sym c.event.ensures ∙ c.in-Some.is;
-      below = subst (λ k. KeysBelow k c.args.trace.now) (sym walking.keys) c.requires.below;
-    } in
+    let next = comes_next c.args.facts.now c.loop-at.facts c.args.trace.now c.loop-at.at c.loop-at.state c.loop-at.number c.event.result c.in-Some.event walking c.event.ensures c.in-Some.is c.requires.below in
     let on = subst (WalksOn c.loop-at.facts c.walk_event.new.facts c.walk_event.new.state c.args.trace.now c.loop-at.at) c.in_default-refused.is (c.in_ok-refused.ensures.walks_on c.args.trace.now c.loop-at.at next) in
     IsWalking-next c.args.facts.now c.loop-at.facts c.walk_event.new.facts c.args.trace.now c.loop-at.at c.loop-at.state c.walk_event.new.state c.loop-at.number c.walk_event.new.number walking c.walk_event.ensures.keys c.walk_event.ensures.number on
 
