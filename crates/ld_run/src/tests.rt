@@ -7,8 +7,10 @@ use ld_task::{Chain, StepFault, TaskState};
 use ld_trace::{Event, KeyId, Mode, RawTrace};
 use std::alloc::Global;
 use std::process::Abort;
+use std::sync::Wait;
 use std::sync::atomic::{AtomicBool, AtomicU64, Ordering};
 use std::test::Fail;
+use std::thread::Threads;
 
 // The first keys, by the letters of the examples.
 const A: u16 = 0;
@@ -94,12 +96,26 @@ fn book_without(alloc: Global, chains: Vec<Chain>, left_out: usize) -> Result<Bo
     Ok(book)
 }
 
-fn facts_of(alloc: Global, chains: &[Chain]) -> Result<Facts, Fail> {
+fn facts_of(rt: &impl Abort, alloc: Global, chains: &[Chain]) -> Result<Facts, Fail> {
     let mut facts = Facts::new(alloc, 3)?;
     for chain in chains {
+        assert!(rt; chain.keys_below(facts.keys()));
         facts.add_chain(chain);
     }
     Ok(facts)
+}
+
+// The run, over traces whose keys are below this bound.
+fn run_over<R: Threads + Wait + Sync + Abort, G: Gate + Sync>(
+    rt: &R,
+    alloc: Global,
+    traces: &[RawTrace],
+    keys: u16,
+    workers: u16,
+    gate: &G,
+) -> Result<Settled, RunFault> {
+    assert!(rt; keys <= 256 && traces.iter().all(|trace| trace.keys_below(keys)));
+    run(rt, alloc, traces, keys, workers, gate)
 }
 
 // What the run over two locks in both orders says.
@@ -114,7 +130,7 @@ fn is_both_orders(settled: &Settled) -> bool {
 fn both_orders_by_any_number_of_workers(rt: HostRuntime) -> Result<(), Fail> {
     let traces = both_orders(rt.alloc())?;
     for workers in [1u16, 2, 4, 64] {
-        let settled = run(&rt, rt.alloc(), &traces, 2, workers, &OpenGate)?;
+        let settled = run_over(&rt, rt.alloc(), &traces, 2, workers, &OpenGate)?;
         assert!(rt; is_both_orders(&settled));
     }
     Ok(())
@@ -122,7 +138,7 @@ fn both_orders_by_any_number_of_workers(rt: HostRuntime) -> Result<(), Fail> {
 
 #[test]
 fn a_run_over_no_traces(rt: HostRuntime) -> Result<(), Fail> {
-    let settled = run(&rt, rt.alloc(), &[], 0, 1, &OpenGate)?;
+    let settled = run_over(&rt, rt.alloc(), &[], 0, 1, &OpenGate)?;
     assert!(rt; settled.is_clean() && settled.dependencies() == 0);
     Ok(())
 }
@@ -131,12 +147,13 @@ fn a_run_over_no_traces(rt: HostRuntime) -> Result<(), Fail> {
 fn numbers_of_workers_and_traces_that_are_refused(rt: HostRuntime) -> Result<(), Fail> {
     let many = empty_traces(rt.alloc(), 4097)?;
     for workers in [0u16, 65] {
-        let refused = run(&rt, rt.alloc(), &many, 2, workers, &OpenGate);
+        let refused = run_over(&rt, rt.alloc(), &many, 2, workers, &OpenGate);
         assert!(rt; matches!(refused, Err(RunFault::BadWorkers)));
     }
-    let refused = run(&rt, rt.alloc(), &many, 2, 2, &OpenGate);
+    let refused = run_over(&rt, rt.alloc(), &many, 2, 2, &OpenGate);
     assert!(rt; matches!(refused, Err(RunFault::TooManyTraces)));
-    let settled = run(&rt, rt.alloc(), &many[..4096], 2, 2, &OpenGate)?;
+    let allowed = empty_traces(rt.alloc(), 4096)?;
+    let settled = run_over(&rt, rt.alloc(), &allowed, 2, 2, &OpenGate)?;
     assert!(rt; settled.is_clean());
     Ok(())
 }
@@ -153,7 +170,7 @@ fn the_least_trace_that_is_not_well_formed(rt: HostRuntime) -> Result<(), Fail> 
         fault: StepFault::NotHeld,
     };
     for workers in [1u16, 2, 8] {
-        let Err(refused) = run(&rt, rt.alloc(), &traces, 2, workers, &OpenGate) else {
+        let Err(refused) = run_over(&rt, rt.alloc(), &traces, 2, workers, &OpenGate) else {
             panic!(rt; "a trace that isn't well formed was passed over")
         };
         assert!(rt; refused == expected && refused.code() == "N5 Refused");
@@ -172,10 +189,10 @@ fn the_codes_of_refused_runs(rt: HostRuntime) {
 #[test]
 fn a_book_that_lacks_a_dependency_does_not_settle(rt: HostRuntime) -> Result<(), Fail> {
     let alloc = rt.alloc();
-    let tallies = facts_of(alloc, &released_between(alloc)?)?;
+    let tallies = facts_of(&rt, alloc, &released_between(alloc)?)?;
     let lacking = book_without(alloc, released_between(alloc)?, 2)?;
     assert!(rt; matches!(settle(lacking, &tallies), Err(RunFault::Unsettled)));
-    let two = facts_of(alloc, &released_between(alloc)?[..2])?;
+    let two = facts_of(&rt, alloc, &chains_of(alloc, &[write(A), write(B)])?)?;
     let settled = settle(book_without(alloc, released_between(alloc)?, 2)?, &two)?;
     assert!(rt; settled.dependencies() == 1 && settled.has_dep(A, B, Kind::En));
     Ok(())
@@ -184,7 +201,7 @@ fn a_book_that_lacks_a_dependency_does_not_settle(rt: HostRuntime) -> Result<(),
 #[test]
 fn a_chain_that_brings_nothing_is_not_missed(rt: HostRuntime) -> Result<(), Fail> {
     let alloc = rt.alloc();
-    let tallies = facts_of(alloc, &chains_of_both_orders(alloc)?)?;
+    let tallies = facts_of(&rt, alloc, &chains_of_both_orders(alloc)?)?;
     let without_last = book_without(alloc, chains_of_both_orders(alloc)?, 3)?;
     assert!(rt; matches!(settle(without_last, &tallies), Err(RunFault::Unsettled)));
     let without_third = book_without(alloc, chains_of_both_orders(alloc)?, 2)?;
@@ -242,7 +259,7 @@ fn gate_two(rt: HostRuntime) -> Result<(), Fail> {
         here: [AtomicBool::new(false), AtomicBool::new(false)],
         missed: AtomicBool::new(false),
     };
-    let settled = run(&rt, rt.alloc(), &traces, 2, 2, &gate)?;
+    let settled = run_over(&rt, rt.alloc(), &traces, 2, 2, &gate)?;
     assert!(rt; !gate.missed.load(Ordering::SeqCst));
     assert!(rt;
         gate.calls[0].load(Ordering::SeqCst) == 1 && gate.calls[1].load(Ordering::SeqCst) == 1
@@ -273,7 +290,7 @@ fn the_gate_is_called_once_for_each_chain(rt: HostRuntime) -> Result<(), Fail> {
             calls: AtomicU64::new(0),
             numbers: AtomicU64::new(0),
         };
-        run(&rt, rt.alloc(), &traces, 2, workers, &gate)?;
+        run_over(&rt, rt.alloc(), &traces, 2, workers, &gate)?;
         assert!(rt;
             gate.calls.load(Ordering::SeqCst) == 4 && gate.numbers.load(Ordering::SeqCst) == 2
         );
@@ -287,7 +304,7 @@ fn a_settled_run_tells_doubles_and_inversions(rt: HostRuntime) -> Result<(), Fai
     let mut traces = Vec::new(rt.alloc());
     traces.push(trace_of(rt.alloc(), &[Event::Enter { irq }, write(A)])?)?;
     traces.push(trace_of(rt.alloc(), &[write(A), write(B), give(B), give(A)])?)?;
-    let settled = run(&rt, rt.alloc(), &traces, 2, 2, &OpenGate)?;
+    let settled = run_over(&rt, rt.alloc(), &traces, 2, 2, &OpenGate)?;
     assert!(rt; settled.is_double(irq, A) && !settled.is_double(irq, B));
     assert!(rt; settled.is_inversion(irq, A, B) && !settled.is_inversion(irq, B, A));
     Ok(())
@@ -299,7 +316,7 @@ fn a_locked_book_is_taken_out_whole(rt: HostRuntime) -> Result<(), Fail> {
     for chain in released_between(rt.alloc())? {
         book.record(&rt, 0, chain)?;
     }
-    let tallies = facts_of(rt.alloc(), &released_between(rt.alloc())?)?;
+    let tallies = facts_of(&rt, rt.alloc(), &released_between(rt.alloc())?)?;
     let settled = settle(book.into_book(), &tallies)?;
     assert!(rt; settled.is_clean() && settled.dependencies() == 2);
     Ok(())
