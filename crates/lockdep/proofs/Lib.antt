@@ -7,3 +7,4 @@ pub mod ChainLemmas
 pub mod GatherLemmas
 pub mod ReportLemmas
 pub mod FaultLemmas
+pub mod LineLemmas

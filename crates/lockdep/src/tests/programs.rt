@@ -3,18 +3,22 @@
 use crate::program::program;
 use crate::tests::writers::Narrow;
 use std::process::Abort;
+use std::rt::Files;
 use std::str;
+use std::sync::Wait;
 use std::test::Fail;
+use std::thread::Threads;
 
 // Asserts the status of the program and what it wrote on its two outputs.
 fn assert_output(
-    rt: &(impl Abort + AllocGlobal),
+    rt: &(impl Files + Threads + Wait + Sync + Abort + AllocGlobal),
     words: &[&str],
     input: &str,
     (status, out, err): (u8, &str, &str),
 ) -> Result<(), Fail> {
     let (mut got_out, mut got_err) = (Vec::new(rt.alloc()), Vec::new(rt.alloc()));
     let got_status = program(
+        rt,
         rt.alloc(),
         words,
         input.as_bytes(),
@@ -145,7 +149,7 @@ fn a_failing_output_and_a_failing_error_output(rt: HostRuntime) -> Result<(), Fa
             let mut out = Narrow::new(rt.alloc(), 3, stuck);
             let mut err = Vec::new(rt.alloc());
             let input = b"lockdep,1\nacq,A,0,w\n".as_slice();
-            let status = program(rt.alloc(), &["lockdep", word], input, &mut out, &mut err);
+            let status = program(&rt, rt.alloc(), &["lockdep", word], input, &mut out, &mut err);
             assert_eq!(rt; status, 2, "{word}");
             assert_eq!(rt;
                 str::from_utf8(err.as_slice())?,
@@ -157,7 +161,7 @@ fn a_failing_output_and_a_failing_error_output(rt: HostRuntime) -> Result<(), Fa
     }
     let mut out = Vec::new(rt.alloc());
     let mut err = Narrow::new(rt.alloc(), 9, false);
-    let status = program(rt.alloc(), &["lockdep"], b"".as_slice(), &mut out, &mut err);
+    let status = program(&rt, rt.alloc(), &["lockdep"], b"".as_slice(), &mut out, &mut err);
     assert_eq!(rt; status, 2);
     assert_eq!(rt; str::from_utf8(err.taken.as_slice())?, "lockdep:");
     Ok(())
