@@ -4,7 +4,6 @@ pub mod GroupLemmas
 pub mod StepLemmas
 pub mod PageLemmas
 pub mod ChainLemmas
-pub mod GatherLemmas
 pub mod ReportLemmas
 pub mod FaultLemmas
 pub mod LineLemmas

@@ -6,7 +6,7 @@ use Rattle.ld_trace.specs.declared.event.Event.{Event}
 use Rattle.ld_task.specs.WellFormed.{IsWellFormed}
 use Rattle.lockdep.specs.Output.{AppendsBeginning}
 use Rattle.lockdep.specs.Report.{IsReportOf}
-use Rattle.lockdep.specs.TraceFacts.{IsFirstRefused}
+use Rattle.ld_run.specs.TraceFacts.{IsFirstRefused}
 use Rattle.lockdep.specs.declared.fault.WriteFault.{WriteFault}
 use Rattle.lockdep.specs.declared.fault.WriteFault.TheVariants.{Failed, Stuck, Memory}
 use Rattle.lockdep.specs.declared.fault.RunFault.{RunFault}

@@ -2,7 +2,6 @@ pub mod Output
 pub mod Words
 pub mod Order
 pub mod Groups
-pub mod TraceFacts
 pub mod Report
 pub mod ChainLines
 pub mod Faults

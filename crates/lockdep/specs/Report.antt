@@ -13,7 +13,7 @@ use Rattle.ld_graph.specs.Arrows.{Arrow, arrow}
 use Rattle.ld_graph.specs.Walks.{OnCircle}
 use Rattle.ld_graph.specs.Links.{IsDouble, IsInversion, IsClean}
 use Rattle.ld_graph.specs.Counting.{IsNumberOf}
-use Rattle.lockdep.specs.TraceFacts.{HaveDependency, HaveMark}
+use Rattle.ld_run.specs.TraceFacts.{HaveDependency, HaveMark}
 use Rattle.lockdep.specs.Words.{name_at, key_text}
 use Rattle.lockdep.specs.Order.{IsKeyOrder}
 use Rattle.lockdep.specs.Groups.{InTurn, ShowsWhere}

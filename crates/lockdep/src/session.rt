@@ -14,7 +14,7 @@ ghost use Rattle.ld_graph.specs.Links.{IsClean};
 ghost use Rattle.lockdep.specs.Faults.{StopsReport, StopsWriting};
 ghost use Rattle.lockdep.specs.declared.fault.WriteFault.{WriteFault};
 ghost use Rattle.lockdep.specs.Report.{IsReportOf};
-ghost use Rattle.lockdep.specs.TraceFacts.{HaveDependency, HaveMark};
+ghost use Rattle.ld_run.specs.TraceFacts.{HaveDependency, HaveMark};
 
 use crate::fault::{ReportFault, RunFault};
 use crate::gather::add_traces;

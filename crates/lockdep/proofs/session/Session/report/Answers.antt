@@ -5,7 +5,7 @@ use Rattle.ld_graph.specs.Links.{IsClean}
 use Rattle.lockdep.specs.Faults.{StopsReport}
 use Rattle.lockdep.specs.Report.{IsReportOf}
 use Rattle.lockdep.specs.Sessions.{SessionParts}
-use Rattle.lockdep.specs.TraceFacts.{HaveDependency, HaveMark}
+use Rattle.ld_run.specs.TraceFacts.{HaveDependency, HaveMark}
 use Rattle.lockdep.proofs.session.Session.report.Goals as goal
 
 pub returns-clause-ok : goal.returns-clause-ok

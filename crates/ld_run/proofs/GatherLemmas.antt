@@ -15,8 +15,16 @@ use Rattle.ld_task.specs.WellFormed.{IsWellFormed}
 use Rattle.ld_task.proofs.TraceLaws.{chain_keys_are_the_traces}
 use Rattle.ld_graph.specs.Facts.{FactWords, AddsChain}
 use Rattle.ld_graph.specs.Laws.{AreFactsOf}
-use Rattle.lockdep.proofs.GroupLemmas.{flat_map-next}
 use Rattle.ld_graph.proofs.ChainLists.{adding_one_more_unites}
+
+flat_map-append : {X Y : Type 0} (f : Y → List X) (a b : List Y) → flat_map f (a ++ b) ≡ flat_map f a ++ flat_map f b
+flat_map-append f [] b = refl
+flat_map-append f (y ∷ a) b = ap (λ t. f y ++ t) (flat_map-append f a b) ∙ sym (append_assoc (f y) (flat_map f a) (flat_map f b))
+
+flat_map-next : {X Y : Type 0} (f : Y → List X) (keys : List Y) (i : ℕ) (d : Y) → i < length keys → flat_map f (take (i + 1) keys) ≡ flat_map f (take i keys) ++ f (slice_index_or keys i d)
+flat_map-next f keys i d within =
+    ap (flat_map f) (take_more keys i d within) ∙ flat_map-append f (take i keys) (slice_index_or keys i d ∷ [])
+    ∙ ap (λ t. flat_map f (take i keys) ++ t) (append-nil (f (slice_index_or keys i d)))
 
 -- the chain of an event of a trace has the trace's keys
 pub chain_below : (keys : ℕ) (t : List Event) (n : ℕ) (state : EndState) (r : Result (Option ChainParts) StepFault) (c : ChainParts) → r ≡ Ok (Some c) → GoesOn t n state r → KeysBelow keys t → ChainKeysBelow keys c

@@ -1,6 +1,6 @@
 use Rattle.std.proofs.Common.{ap, ◌∙◌, Ok}
-use Rattle.lockdep.proofs.GatherLemmas.{chain_below, facts_with_chain}
-use Rattle.lockdep.proofs.gather.add_event.Goals as goal
+use Rattle.ld_run.proofs.GatherLemmas.{chain_below, facts_with_chain}
+use Rattle.ld_run.proofs.gather.add_event.Goals as goal
 
 pub add_chain-requires : goal.add_chain-requires
 add_chain-requires c =

@@ -1,5 +1,5 @@
-use Rattle.lockdep.proofs.GatherLemmas.{IsGathering}
-use Rattle.lockdep.proofs.gather.add_trace.Given as goal
+use Rattle.ld_run.proofs.GatherLemmas.{IsGathering}
+use Rattle.ld_run.proofs.gather.add_trace.Given as goal
 
 -- the events so far were allowed, and their facts were added
 abbrev pub invariant-loop-place : goal.invariant-loop-place

@@ -9,7 +9,7 @@ ghost use Rattle.ld_task.specs.TraceChains.{chains};
 ghost use Rattle.ld_task.specs.Steps.{IsStateAfter};
 ghost use Rattle.ld_task.specs.WellFormed.{IsFirstFault, IsWellFormed};
 ghost use Rattle.ld_graph.specs.Laws.{AreFactsOf};
-ghost use Rattle.lockdep.specs.TraceFacts.{ComesNext, IsFirstRefused};
+ghost use Rattle.ld_run.specs.TraceFacts.{ComesNext, IsFirstRefused};
 
 use ld_graph::Graph;
 use ld_task::{StepAt, StepFault, TaskState};

@@ -1,5 +1,5 @@
-use Rattle.lockdep.proofs.GatherLemmas.{HaveGathered}
-use Rattle.lockdep.proofs.gather.add_traces.Given as goal
+use Rattle.ld_run.proofs.GatherLemmas.{HaveGathered}
+use Rattle.ld_run.proofs.gather.add_traces.Given as goal
 
 -- the traces so far were well formed, and their facts were added
 abbrev pub invariant-loop-place : goal.invariant-loop-place

@@ -1,0 +1,3 @@
+pub mod TraceFacts
+pub mod Faults
+pub mod Runs

@@ -1,0 +1,86 @@
+//! The facts of a completed run, and what they mean.
+
+ghost use Rattle.std.specs.Prelude.{◌≡◌, ◌↔◌, IsTrue};
+ghost use Rattle.ld_graph.specs.Arrows.{arrow};
+ghost use Rattle.ld_graph.specs.Counting.{IsNumberOf};
+ghost use Rattle.ld_graph.specs.Facts.{HasDep, HasMark};
+ghost use Rattle.ld_graph.specs.Graphs.{AreClean};
+ghost use Rattle.ld_graph.specs.Links.{IsDouble, IsInversion};
+ghost use Rattle.ld_graph.specs.Walks.{OnCircle};
+
+use ld_graph::{Graph, Kind, Mark};
+use ld_trace::Irq;
+use std::marker::Model;
+
+/// Facts on which the book and the workers agree. Whoever has one can ask what the facts mean; no question takes memory.
+#[derive(Drop)]
+pub struct Settled {
+    graph: Graph,
+}
+
+impl Model for Settled {
+    ghost use Rattle.ld_graph.specs.Facts.{FactWords};
+
+    ghost Value = { FactWords };
+
+    ghost view = { λ s. s.graph.facts };
+}
+
+impl Settled {
+    // The facts of this graph.
+    pub(crate) fn of_graph(graph: Graph) -> Settled
+        ensures { result ≡ graph.facts }
+    {
+        Settled { graph }
+    }
+
+    /// Whether the dependency is among the facts.
+    pub fn has_dep(&self, from: u16, to: u16, kind: Kind) -> bool
+        ensures { IsTrue result ↔ HasDep self.now (arrow from to kind) }
+    {
+        self.graph.facts().has_dep(from, to, kind)
+    }
+
+    /// Whether the key has the mark.
+    pub fn has_mark(&self, key: u16, mark: Mark) -> bool
+        ensures { IsTrue result ↔ HasMark self.now key mark }
+    {
+        self.graph.facts().has_mark(key, mark)
+    }
+
+    /// How many distinct dependencies there are, at most 262,144.
+    pub fn dependencies(&self) -> u64
+        ensures { IsNumberOf (HasDep self.now) result }
+    {
+        self.graph.facts().dependencies()
+    }
+
+    /// Whether the dependency is on a circle. False where it isn't among the facts.
+    pub fn on_circle(&self, from: u16, to: u16, kind: Kind) -> bool
+        ensures { IsTrue result ↔ OnCircle (HasDep self.now) (arrow from to kind) }
+    {
+        self.graph.on_circle(from, to, kind)
+    }
+
+    /// Whether the key is a double of the state: used in it and used with it enabled, and not by readers alone.
+    pub fn is_double(&self, irq: Irq, key: u16) -> bool
+        ensures { IsTrue result ↔ IsDouble (HasMark self.now) irq key }
+    {
+        self.graph.is_double(irq, key)
+    }
+
+    /// Whether `a` and `b` are an inversion of the state: a strong walk from `a` to `b` and an interrupt link from `b`
+    /// to `a`, each of which may follow the other.
+    pub fn is_inversion(&self, irq: Irq, a: u16, b: u16) -> bool
+        ensures { IsTrue result ↔ IsInversion (HasDep self.now) (HasMark self.now) irq a b }
+    {
+        self.graph.is_inversion(irq, a, b)
+    }
+
+    /// Whether no dependency is on a circle and there is no double and no inversion.
+    pub fn is_clean(&self) -> bool
+        ensures { IsTrue result ↔ AreClean self.now }
+    {
+        self.graph.is_clean()
+    }
+}
