@@ -47,9 +47,9 @@ fn files_argument<'a>(alloc: Global) -> Arg<'a>
     ensures rule { rule_of result ≡ files_rule }
     ensures local { result.global ≡ false }
 {
-    Arg::new(alloc, "FILE")
-        .num_args(0..)
-        .help("A file with a trace; without one, a trace is read from standard input")
+    Arg::new(alloc, "FILE").num_args(0..).help(
+        "A file with a trace; without one, a trace is read from standard input",
+    )
 }
 
 // The one file of a trace.

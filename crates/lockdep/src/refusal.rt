@@ -6,9 +6,10 @@ ghost use Rattle.std.specs.Io.KnownBytes.{Appends};
 ghost use Rattle.lockdep.specs.FaultLines.{fault_line, record_line};
 ghost use Rattle.lockdep.specs.Output.{AppendsBeginning, PutsBehind};
 
-use crate::fault::{ReportFault, RunFault, WriteFault};
+use crate::fault::WriteFault;
 use crate::page::{Page, put_all, write_out};
 use crate::text::number_words;
+use ld_run::RunFault;
 use ld_task::StepFault;
 use ld_trace::TraceFault;
 use std::io::Write;
@@ -22,13 +23,18 @@ pub(crate) enum Refusal<'a> {
     /// P1: the command line is refused, or its words can't be got as text.
     BadCommandLine,
     /// P2: the file can't be opened.
-    CannotOpen { file: &'a str },
+    CannotOpen {
+        file: &'a str,
+    },
     /// P3: the output took no more.
     Output,
     /// P4: memory was refused in the command line, in making the session or the key table, or in writing.
     Memory,
     /// A trace is refused in reading.
-    Reading { file: &'a str, fault: TraceFault },
+    Reading {
+        file: &'a str,
+        fault: TraceFault,
+    },
     /// A trace isn't well formed: the number of the record, counted from 1 with the header, and why.
     Step {
         file: &'a str,
@@ -70,12 +76,7 @@ fn tell_texts<W: Write>(w: &mut W, texts: &[&str]) -> Result<(), WriteFault>
 }
 
 // Puts a record's number onto the page, and writes out page and code.
-fn tell_place<W: Write>(
-    w: &mut W,
-    page: &mut Page,
-    at: usize,
-    code: &str,
-) -> Result<(), WriteFault>
+fn tell_place<W: Write>(w: &mut W, page: &mut Page, at: usize, code: &str) -> Result<(), WriteFault>
     ensures ok { OnOk result (Appends (W.contents w.old) (W.contents w.new) (page.old.bytes ++ (decimal at ++ (codes ": " ++ (code.now ++ codes "\n"))))) }
     ensures err { OnErr result (AppendsBeginning (W.contents w.old) (W.contents w.new) (page.old.bytes ++ (decimal at ++ (codes ": " ++ (code.now ++ codes "\n"))))) }
 {

@@ -17,5 +17,5 @@ returns-clause-ok g c =
 
 pub returns-clause-refused : goal.returns-clause-refused
 returns-clause-refused g c =
-    subst (λ (s : SessionParts). IfErr c.report_traces.result (StopsReport s.traces s.names (g.W.Write.contents c.args.w.now) (g.W.Write.contents c.report_traces.new.w)))
+    subst (λ (s : SessionParts). IfErr c.report_traces.result (StopsReport s.traces s.names c.args.workers (g.W.Write.contents c.args.w.now) (g.W.Write.contents c.report_traces.new.w)))
     c.self.view_is (rw c.as_slice.ensures.value at c.report_traces.ensures.refused)
