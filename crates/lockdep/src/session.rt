@@ -1,6 +1,6 @@
 //! A session: traces that are read one after the other, and the report of all of them.
 
-ghost use Rattle.std.specs.Prelude.{◌≡◌, ◌+◌, ◌<◌, ◌≤◌, ◌∷◌, ◌++◌, [], ℕ, List, Option, All, length, slice_get, IfOk, IfErr, IfSome, IsSomeAnd, IsTrue, OnOk, ◌↔◌};
+ghost use Rattle.std.specs.Prelude.{◌≡◌, ◌+◌, ◌<◌, ◌≤◌, ◌∷◌, ◌++◌, [], ℕ, List, Option, All, length, slice_get, IfOk, IfErr, IfSome, IsErrOf, IsSomeAnd, IsTrue, OnOk, ◌↔◌};
 ghost use Rattle.std.specs.Io.KnownBytes.{Appends};
 ghost use Rattle.ld_trace.specs.declared.event.Event.{Event};
 ghost use Rattle.ld_trace.specs.Names.{Name};
@@ -90,6 +90,9 @@ impl Session {
             × (IsTrue clean ↔ IsClean (HaveDependency self.traces) (HaveMark self.traces))
             × ((text : List ℕ) × IsReportOf self.traces self.names text × Appends (W.contents w.old) (W.contents w.new) text)) }
         ensures crew { OnOk result (IsCrew workers × (length self.traces ≤ 4096)) }
+        ensures bad_workers { IsErrOf result (ReportFault.Run RunFault.BadWorkers) ↔ (¬ IsCrew workers) }
+        ensures too_many { IsErrOf result (ReportFault.Run RunFault.TooManyTraces)
+            ↔ (IsCrew workers × (4096 < length self.traces)) }
         ensures refused { IfErr result (StopsReport self.traces self.names workers (W.contents w.old) (W.contents w.new)) }
     {
         report_traces(

@@ -21,7 +21,9 @@ fn folder_with(
 ) -> Result<String, Fail> {
     let now = SystemTime::now(rt)?.duration_since(SystemTime::UNIX_EPOCH)?;
     let name = format!(in rt.alloc(); "lockdep-{}", now.as_nanos())?;
-    let folder = env::temp_dir(rt)?.join(rt.alloc(), name.as_str())?.into_string();
+    let folder = env::temp_dir(rt)?
+        .join(rt.alloc(), name.as_str())?
+        .into_string();
     fs::create_dir(rt, folder.as_str())?;
     for (file, text) in files {
         fs::write(rt, path_in(rt, folder.as_str(), file)?.as_str(), *text)?;
@@ -94,9 +96,18 @@ fn refused_files_are_named(rt: HostRuntime) -> Result<(), Fail> {
         (&["lockdep", "check", good, bad], of_bad.as_str()),
         (&["lockdep", "check", bad, "nofile"], of_bad.as_str()),
         (&["lockdep", "check", unheld, good, bad], of_bad.as_str()),
-        (&["lockdep", "check", "nofile", bad], "lockdep: nofile: P2 CannotOpen\n"),
-        (&["lockdep", "check", good, unheld, unheld], of_unheld.as_str()),
-        (&["lockdep", "check", unheld, "--workers", "0"], "lockdep: N1 BadWorkers\n"),
+        (
+            &["lockdep", "check", "nofile", bad],
+            "lockdep: nofile: P2 CannotOpen\n",
+        ),
+        (
+            &["lockdep", "check", good, unheld, unheld],
+            of_unheld.as_str(),
+        ),
+        (
+            &["lockdep", "check", unheld, "--workers", "0"],
+            "lockdep: N1 BadWorkers\n",
+        ),
         (&["lockdep", "check", good, folder], of_folder.as_str()),
         (&["lockdep", "chains", folder], of_folder.as_str()),
         (&["lockdep", "chains", unheld], of_unheld.as_str()),

@@ -9,18 +9,28 @@ fn workers_and_files_of_a_check(rt: HostRuntime) -> Result<(), Fail> {
         (&["lockdep", "check"], 4, &[]),
         (&["lockdep", "check", "a.txt"], 4, &["a.txt"]),
         (&["lockdep", "check", "b", "a", "b"], 4, &["b", "a", "b"]),
-        (&["lockdep", "check", "a", "--workers", "2", "b"], 2, &["a", "b"]),
+        (
+            &["lockdep", "check", "a", "--workers", "2", "b"],
+            2,
+            &["a", "b"],
+        ),
         (&["lockdep", "check", "--workers=65535", "a"], 65535, &["a"]),
-        (&["lockdep", "check", "--", "--workers", "2"], 4, &["--workers", "2"]),
+        (
+            &["lockdep", "check", "--", "--workers", "2"],
+            4,
+            &["--workers", "2"],
+        ),
         (&["lockdep", "check", "--workers", "0", "-"], 0, &["-"]),
         (&["lockdep", "check", "", "chains"], 4, &["", "chains"]),
     ];
     for (words, workers, files) in examples {
         match command_line(rt.alloc(), words) {
-            Ok(Line::Check {
-                workers: got,
-                files: named,
-            }) => {
+            Ok(
+                Line::Check {
+                    workers: got,
+                    files: named,
+                },
+            ) => {
                 assert_eq!(rt; got, workers, "{words:?}");
                 assert_eq!(rt; named.as_slice(), files, "{words:?}");
             }

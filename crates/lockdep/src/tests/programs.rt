@@ -233,7 +233,14 @@ fn a_full_device(rt: HostRuntime) -> Result<(), Fail> {
     }
     let mut out = Vec::new(rt.alloc());
     let mut err = OpenOptions::new().write(true).open(&rt, "/dev/full")?;
-    let status = program(&rt, rt.alloc(), &["lockdep"], b"".as_slice(), &mut out, &mut err);
+    let status = program(
+        &rt,
+        rt.alloc(),
+        &["lockdep"],
+        b"".as_slice(),
+        &mut out,
+        &mut err,
+    );
     assert_eq!(rt; status, 2);
     Ok(())
 }
