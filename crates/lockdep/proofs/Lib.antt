@@ -6,3 +6,4 @@ pub mod PageLemmas
 pub mod ChainLemmas
 pub mod ReportLemmas
 pub mod FaultLemmas
+pub mod LineLemmas

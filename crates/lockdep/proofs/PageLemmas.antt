@@ -57,6 +57,12 @@ AppendsBeginning-append old mid new p q a b first then_more =
     subst (λ t. AppendsBeginning old new t) (sym (append_assoc first.part q b) ∙ ap (λ t. t ++ b) (sym first.split) ∙ append_assoc p a b)
     (AppendsBeginning-after old mid new first.part (q ++ b) first.wrote then_more)
 
+-- one text was put, and then page and text were written
+pub Appends-behind : (old mid new : Option (List ℕ)) (p q a b : List ℕ) → PutsBehind old mid p q a → Appends mid new (q ++ b) → Appends old new (p ++ (a ++ b))
+Appends-behind old mid new p q a b first then_more =
+    subst (λ t. Appends old new t) (sym (append_assoc first.part q b) ∙ ap (λ t. t ++ b) (sym first.split) ∙ append_assoc p a b)
+    (Appends-append old mid new first.part (q ++ b) first.wrote then_more)
+
 -- the next of several texts
 pub flat_map-split : {X : Type 0} (f : X → List ℕ) (xs : List X) (i : ℕ) (d : X) → i < length xs → flat_map f xs ≡ flat_map f (take i xs) ++ (f (slice_index_or xs i d) ++ flat_map f (drop (i + 1) xs))
 flat_map-split f xs i d within =

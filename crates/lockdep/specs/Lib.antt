@@ -6,3 +6,6 @@ pub mod Report
 pub mod ChainLines
 pub mod Faults
 pub mod Sessions
+pub mod CommandLine
+pub mod FaultLines
+pub mod Program

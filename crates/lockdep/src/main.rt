@@ -5,15 +5,14 @@ use std::process::ExitCode;
 use std::{env, io};
 
 mod chains;
+mod command_line;
 mod fault;
-mod gather;
 mod order;
 mod output;
 mod page;
 mod program;
 mod refusal;
 mod report;
-mod request;
 mod session;
 #[cfg(test)]
 mod tests;
@@ -21,9 +20,13 @@ mod text;
 
 use program::program;
 use refusal::{Refusal, refuse};
+use std::io::{Read, Write};
+use std::rt::{Env, Files};
+use std::sync::Wait;
+use std::thread::Threads;
 
 // The words of the command line, the program's name first.
-fn words_of(rt: &HostRuntime) -> Result<Vec<String>, Refusal> {
+fn words_of(rt: &(impl Env + AllocGlobal)) -> Result<Vec<String>, Refusal<'static>> {
     let words = match env::args(rt) {
         Ok(words) => words,
         Err(error) => {
@@ -39,28 +42,28 @@ fn words_of(rt: &HostRuntime) -> Result<Vec<String>, Refusal> {
     }
 }
 
-// Runs the program over the process's own words, input and output, and answers its status.
-fn run(rt: &HostRuntime) -> u8 {
-    let mut err = rt.stderr();
+// Runs the program over the process's own words, and answers its status.
+fn run<R, I, O, E>(rt: &R, input: I, out: &mut O, err: &mut E) -> u8
+where
+    R: Files + Env + Threads + Wait + Sync + AllocGlobal,
+    I: Read + Drop,
+    O: Write,
+    E: Write,
+{
     let words = match words_of(rt) {
         Ok(words) => words,
-        Err(refusal) => return refuse(&mut err, refusal),
+        Err(refusal) => return refuse(err, refusal),
     };
     let mut texts = Vec::new(rt.alloc());
     for word in words.iter() {
         if texts.push(word.as_str()).is_err() {
-            return refuse(&mut err, Refusal::Memory);
+            return refuse(err, Refusal::Memory);
         }
     }
-    program(
-        rt.alloc(),
-        texts.as_slice(),
-        rt.stdin(),
-        &mut rt.stdout(),
-        &mut err,
-    )
+    program(rt, rt.alloc(), texts.as_slice(), input, out, err)
 }
 
 fn main(rt: HostRuntime) -> ExitCode {
-    ExitCode::from(run(&rt))
+    let (mut out, mut err) = (rt.stdout(), rt.stderr());
+    ExitCode::from(run(&rt, rt.stdin(), &mut out, &mut err))
 }

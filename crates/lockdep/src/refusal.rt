@@ -1,11 +1,16 @@
 //! Why the program refused, and the one line that it says so with.
 
-ghost use Rattle.std.specs.Prelude.{◌≡◌};
+ghost use Rattle.std.specs.Prelude.{◌≡◌, ◌+◌, ◌++◌, OnOk, OnErr, List, codes, decimal};
+ghost use Rattle.std.specs.List.{flat_map};
+ghost use Rattle.std.specs.Io.KnownBytes.{Appends};
+ghost use Rattle.lockdep.specs.FaultLines.{fault_line, record_line};
+ghost use Rattle.lockdep.specs.Output.{AppendsBeginning, PutsBehind};
 
-use crate::fault::{ReportFault, RunFault, WriteFault};
-use crate::page::{Page, put, put_all, write_out};
+use crate::fault::WriteFault;
+use crate::page::{Page, put_all, write_out};
 use crate::text::number_words;
-use ld_task::StepAt;
+use ld_run::RunFault;
+use ld_task::StepFault;
 use ld_trace::TraceFault;
 use std::io::Write;
 
@@ -14,100 +19,102 @@ const REFUSED: u8 = 2;
 
 /// Why the program refused.
 #[derive(Clone, Copy, PartialEq, Eq, Debug)]
-pub(crate) enum Refusal {
+pub(crate) enum Refusal<'a> {
     /// P1: the command line is refused, or its words can't be got as text.
     BadCommandLine,
+    /// P2: the file can't be opened.
+    CannotOpen {
+        file: &'a str,
+    },
     /// P3: the output took no more.
     Output,
     /// P4: memory was refused in the command line, in making the session or the key table, or in writing.
     Memory,
-    /// A trace is refused in reading, or isn't well formed: the record's number, counted from 1 with the header, and the
-    /// code.
-    Record { at: usize, code: &'static str },
+    /// A trace is refused in reading.
+    Reading {
+        file: &'a str,
+        fault: TraceFault,
+    },
+    /// A trace isn't well formed: the number of the record, counted from 1 with the header, and why.
+    Step {
+        file: &'a str,
+        at: usize,
+        fault: StepFault,
+    },
     /// The run over the traces is refused otherwise.
     Run(RunFault),
 }
 
-impl Refusal {
-    /// That of a trace that is refused in reading.
-    pub fn of_reading(fault: TraceFault) -> Refusal {
-        Refusal::Record {
-            at: fault.at,
-            code: fault.code(),
-        }
-    }
-
-    /// That of a trace that isn't well formed.
-    pub fn of_step(found: StepAt) -> Refusal {
-        Refusal::Record {
-            at: found.place.saturating_add(2),
-            code: found.fault.code(),
-        }
-    }
-
-    /// That of a text that wasn't written whole.
-    pub fn of_writing(fault: WriteFault) -> Refusal {
-        match fault {
-            WriteFault::Failed | WriteFault::Stuck => Refusal::Output,
-            WriteFault::Memory => Refusal::Memory,
-        }
-    }
-
-    /// That of a refused report.
-    pub fn of_report(fault: ReportFault) -> Refusal {
-        match fault {
-            ReportFault::Step { at, fault, .. } => Refusal::Record {
-                at,
-                code: fault.code(),
-            },
-            ReportFault::Run(fault) => Refusal::Run(fault),
-            ReportFault::Out(fault) => Refusal::of_writing(fault),
-        }
-    }
-
-    /// The refusal's number and name, as `P1 BadCommandLine`.
-    pub fn code(self) -> &'static str {
-        match self {
-            Refusal::BadCommandLine => "P1 BadCommandLine",
-            Refusal::Output => "P3 Output",
-            Refusal::Memory => "P4 Memory",
-            Refusal::Record { code, .. } => code,
-            Refusal::Run(fault) => fault.code(),
-        }
-    }
-}
-
 // Puts the digits of a number onto the page.
-fn put_digits<W: Write>(w: &mut W, page: &mut Page, number: usize) -> Result<(), WriteFault> {
-    if number >= 10 {
-        put_digits(w, page, number / 10)?;
+fn put_digits<W: Write>(w: &mut W, page: &mut Page, number: usize) -> Result<(), WriteFault>
+    ensures ok { OnOk result (PutsBehind (W.contents w.old) (W.contents w.new) page.old.bytes page.new.bytes (decimal number)) }
+    ensures err { OnErr result (AppendsBeginning (W.contents w.old) (W.contents w.new) (page.old.bytes ++ decimal number)) }
+{
+    if number < 10 {
+        return put_all(w, page, &number_words(number));
     }
+    put_digits(w, page, number / 10)?;
     put_all(w, page, &number_words(number % 10))
 }
 
-// Puts the place of a refused record onto the page.
-fn put_record<W: Write>(w: &mut W, page: &mut Page, at: usize) -> Result<(), WriteFault> {
-    put(w, page, "stdin: record ")?;
+// Puts some texts onto the page and writes it out.
+fn finish<W: Write>(w: &mut W, page: &mut Page, texts: &[&str]) -> Result<(), WriteFault>
+    ensures ok { OnOk result (Appends (W.contents w.old) (W.contents w.new) (page.old.bytes ++ flat_map (λ text. text.now) texts.now)) }
+    ensures err { OnErr result (AppendsBeginning (W.contents w.old) (W.contents w.new) (page.old.bytes ++ flat_map (λ text. text.now) texts.now)) }
+{
+    put_all(w, page, texts)?;
+    write_out(w, page)
+}
+
+// Writes some texts.
+fn tell_texts<W: Write>(w: &mut W, texts: &[&str]) -> Result<(), WriteFault>
+    ensures ok { OnOk result (Appends (W.contents w.old) (W.contents w.new) (flat_map (λ text. text.now) texts.now)) }
+    ensures err { OnErr result (AppendsBeginning (W.contents w.old) (W.contents w.new) (flat_map (λ text. text.now) texts.now)) }
+{
+    let mut page = Page::new();
+    finish(w, &mut page, texts)
+}
+
+// Puts a record's number onto the page, and writes out page and code.
+fn tell_place<W: Write>(w: &mut W, page: &mut Page, at: usize, code: &str) -> Result<(), WriteFault>
+    ensures ok { OnOk result (Appends (W.contents w.old) (W.contents w.new) (page.old.bytes ++ (decimal at ++ (codes ": " ++ (code.now ++ codes "\n"))))) }
+    ensures err { OnErr result (AppendsBeginning (W.contents w.old) (W.contents w.new) (page.old.bytes ++ (decimal at ++ (codes ": " ++ (code.now ++ codes "\n"))))) }
+{
     put_digits(w, page, at)?;
-    put(w, page, ": ")
+    finish(w, page, &[": ", code, "\n"])
+}
+
+// Writes the line of a refused record.
+fn tell_record<W: Write>(w: &mut W, file: &str, at: usize, code: &str) -> Result<(), WriteFault>
+    ensures ok { OnOk result (Appends (W.contents w.old) (W.contents w.new) (record_line file.now at code.now)) }
+    ensures err { OnErr result (AppendsBeginning (W.contents w.old) (W.contents w.new) (record_line file.now at code.now)) }
+{
+    let mut page = Page::new();
+    put_all(w, &mut page, &["lockdep: ", file, ": record "])?;
+    tell_place(w, &mut page, at, code)
 }
 
 // Writes the line of a refusal.
-fn tell<W: Write>(w: &mut W, refusal: Refusal) -> Result<(), WriteFault> {
-    let mut page = Page::new();
-    put(w, &mut page, "lockdep: ")?;
-    if let Refusal::Record { at, .. } = refusal {
-        put_record(w, &mut page, at)?;
+fn tell<W: Write>(w: &mut W, refusal: Refusal<'_>) -> Result<(), WriteFault>
+    ensures ok { OnOk result (Appends (W.contents w.old) (W.contents w.new) (fault_line refusal.entry)) }
+    ensures err { OnErr result (AppendsBeginning (W.contents w.old) (W.contents w.new) (fault_line refusal.entry)) }
+{
+    match refusal {
+        Refusal::BadCommandLine => tell_texts(w, &["lockdep: P1 BadCommandLine\n"]),
+        Refusal::CannotOpen { file } => tell_texts(w, &["lockdep: ", file, ": P2 CannotOpen\n"]),
+        Refusal::Output => tell_texts(w, &["lockdep: P3 Output\n"]),
+        Refusal::Memory => tell_texts(w, &["lockdep: P4 Memory\n"]),
+        Refusal::Reading { file, fault } => tell_record(w, file, fault.at, fault.code()),
+        Refusal::Step { file, at, fault } => tell_record(w, file, at, fault.code()),
+        Refusal::Run(fault) => tell_texts(w, &["lockdep: ", fault.code(), "\n"]),
     }
-    put(w, &mut page, refusal.code())?;
-    put(w, &mut page, "\n")?;
-    write_out(w, &mut page)
 }
 
-/// Writes the one line that says why the program refused, as `lockdep: stdin: record 2: T2 BadRecord`, and answers the
-/// status. Takes no memory. A writer that fails is passed over.
-pub(crate) fn refuse<W: Write>(w: &mut W, refusal: Refusal) -> u8
-    ensures { result ≡ 2 }
+/// Writes the one line that says why the program refused, as `lockdep: a.txt: record 2: T2 BadRecord`, and answers the
+/// status. Takes no memory. A writer that fails is passed over; a beginning of the line was written then.
+pub(crate) fn refuse<W: Write>(w: &mut W, refusal: Refusal<'_>) -> u8
+    ensures status { result ≡ 2 }
+    ensures line { AppendsBeginning (W.contents w.old) (W.contents w.new) (fault_line refusal.entry) }
 {
     let _ = tell(w, refusal);
     REFUSED

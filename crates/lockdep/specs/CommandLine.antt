@@ -1,0 +1,76 @@
+-- The command line, as clap's own definition reads it. This project's own.
+use Rattle.std.specs.Prelude.{◌≡◌, ⊤, ℕ, pos, true, List, [], ◌∷◌, Option, Some, map, option_map, unwrap_or, codes}
+use Rattle.std.specs.Str.Parse.{IsNumeral, digits_value, without_leading_plus}
+use Rattle.clap.specs.Lexer.{usize_max}
+use Rattle.clap.specs.Words.{App, Row, Rule, Shape, Text, IsAmong, all_of, fault_of, first_of, new_app, new_rule, one_of, subcommand_of, with_rule, with_subcommand}
+use Rattle.clap.specs.declared.builder.value_parser.ValueParser.TheVariants.{Signed}
+use Rattle.clap.specs.declared.error.kind.ErrorKind.TheVariants.{DisplayHelp}
+use Rattle.lockdep.specs.declared.command_line.LineFault.{LineFault}
+use Rattle.lockdep.specs.declared.command_line.LineFault.TheVariants.{Help, Refused, Memory}
+use Rattle.lockdep.specs.declared.command_line.Line.{Line}
+use Rattle.lockdep.specs.declared.command_line.Line.TheVariants.{Check, Chains}
+
+-- `--workers N`: a whole number from 0 to 65,535, 4 where it isn't given
+abbrev pub workers_rule : Rule
+workers_rule = record (new_rule (codes "workers")) {
+  long = Some (codes "workers");
+  value_names = 1;
+  parser = Some (Signed (pos 0) (pos 65535));
+  defaults = codes "4" ∷ [];
+}
+
+-- `[FILE...]`: any number of words
+abbrev pub files_rule : Rule
+files_rule = record (new_rule (codes "FILE")) { range = Some (record { start_inclusive = 0; end_inclusive = usize_max }) }
+
+-- `[FILE]`: one word at most
+abbrev pub file_rule : Rule
+file_rule = new_rule (codes "FILE")
+
+-- `check [--workers N] [FILE...]`
+abbrev pub check_shape : Shape
+check_shape = (with_rule (with_rule (new_app (codes "check")) workers_rule) files_rule).top
+
+-- `chains [FILE]`
+abbrev pub chains_shape : Shape
+chains_shape = (with_rule (new_app (codes "chains")) file_rule).top
+
+-- the program's command lines: one of the two subcommands
+abbrev pub lockdep_app : App
+lockdep_app = with_subcommand (with_subcommand (record (new_app (codes "lockdep")) { top = record (new_app (codes "lockdep")).top { subcommand_required = true } }) check_shape) chains_shape
+
+-- the arguments of `check` say so many workers and these files
+pub record ReadsCheck (rows : List Row) (workers : ℕ) (files : List Text) : Type 0 where
+  pub text : Text
+  pub given : one_of (codes "workers") rows ≡ Some text
+  pub numeral : IsNumeral 10 (without_leading_plus text)
+  pub workers_are : workers ≡ digits_value 10 (without_leading_plus text)
+  pub files_are : files ≡ unwrap_or (all_of (codes "FILE") rows) []
+
+-- the word of the subcommand
+abbrev pub subcommand_word : Line → Text
+subcommand_word (Check workers files) = codes "check"
+subcommand_word (Chains file) = codes "chains"
+
+-- the arguments of the subcommand say this
+abbrev pub ReadsLine : List Row → Line → Type 0
+ReadsLine rows (Check workers files) = ReadsCheck rows workers (map (λ file. file.now) files.items)
+ReadsLine rows (Chains file) = option_map (λ word. word.now) file ≡ first_of (codes "FILE") rows
+
+-- a subcommand's name and arguments ask for this
+abbrev pub IsLineIn : Option (Text × List Row) → Line → Type 0
+IsLineIn met line = (rows : List Row) × (met ≡ Some (subcommand_word line, rows)) × ReadsLine rows line
+
+-- the words, the program's name first, ask for this: clap's definition gives them that subcommand and those arguments
+abbrev pub IsLineOf : List Text → Line → Type 0
+IsLineOf words line = IsLineIn (subcommand_of lockdep_app words) line
+
+-- the words ask for help, by clap's definition
+abbrev pub AskForHelp : List Text → Type 0
+AskForHelp words = IsAmong DisplayHelp (fault_of lockdep_app words)
+
+-- why the words ask for nothing that the program does with traces
+abbrev pub IsLineFault : List Text → LineFault → Type 0
+IsLineFault words (Help error) = AskForHelp words
+IsLineFault words Refused = ⊤
+IsLineFault words Memory = ⊤

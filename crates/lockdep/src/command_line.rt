@@ -1,0 +1,167 @@
+//! What a command line asks for.
+
+ghost use Rattle.std.specs.Prelude.{◌≡◌, [], false, ℕ, List, IfOk, IfErr, map, unwrap_or, codes};
+ghost use Rattle.clap.specs.Words.{all_of, app_of, found_of, kind_of, rows_of, rule_of, shape_of, subcommand_rows_of};
+ghost use Rattle.clap.specs.declared.builder.command.Command.TheViews.{out-Command};
+ghost use Rattle.lockdep.specs.CommandLine.{AskForHelp, IsLineFault, IsLineIn, IsLineOf, ReadsLine, chains_shape, check_shape, file_rule, files_rule, lockdep_app, subcommand_word, workers_rule};
+
+use clap::error::ErrorKind;
+use clap::{Arg, ArgMatches, Command, value_parser};
+use std::alloc::{AllocError, Global};
+
+/// What a command line asks for.
+#[derive(Debug, Drop)]
+pub enum Line<'a> {
+    /// The report of the traces in these files, or of the one on standard input where no file is named, by so many workers.
+    Check { workers: u16, files: Vec<&'a str> },
+    /// The chains of the trace in this file, or of the one on standard input where no file is named.
+    Chains { file: Option<&'a str> },
+}
+
+/// Why a command line asks for nothing that the program does with traces.
+#[derive(Debug, Drop)]
+pub enum LineFault {
+    /// Help was asked for. The error's text is the help.
+    Help(clap::Error),
+    /// P1: the words are no command line of the program.
+    Refused,
+    /// P4: memory was refused.
+    Memory,
+}
+
+// The number of workers, `--workers N`.
+fn workers_option<'a>(alloc: Global) -> Arg<'a>
+    ensures rule { rule_of result ≡ workers_rule }
+    ensures local { result.global ≡ false }
+{
+    Arg::new(alloc, "workers")
+        .long("workers")
+        .value_name("N")
+        .value_parser(value_parser!(u16))
+        .default_value("4")
+        .help("How many workers check the traces, from 1 to 64")
+}
+
+// The files of traces, in their order.
+fn files_argument<'a>(alloc: Global) -> Arg<'a>
+    ensures rule { rule_of result ≡ files_rule }
+    ensures local { result.global ≡ false }
+{
+    Arg::new(alloc, "FILE").num_args(0..).help(
+        "A file with a trace; without one, a trace is read from standard input",
+    )
+}
+
+// The one file of a trace.
+fn file_argument<'a>(alloc: Global) -> Arg<'a>
+    ensures rule { rule_of result ≡ file_rule }
+    ensures local { result.global ≡ false }
+{
+    Arg::new(alloc, "FILE").help(
+        "A file with a trace; without one, a trace is read from standard input",
+    )
+}
+
+// The command lines of the report.
+fn check_command<'a>(alloc: Global) -> Result<Command<'a>, AllocError>
+    ensures shape { IfOk result (λ command. shape_of command ≡ check_shape) }
+    ensures local { IfOk result (λ command. (out-Command command).has_globals ≡ false) }
+{
+    Command::new(alloc, "check")
+        .about("Reads traces and writes the report of their lock order")
+        .arg(workers_option(alloc))?
+        .arg(files_argument(alloc))
+}
+
+// The command lines of the chains.
+fn chains_command<'a>(alloc: Global) -> Result<Command<'a>, AllocError>
+    ensures shape { IfOk result (λ command. shape_of command ≡ chains_shape) }
+    ensures local { IfOk result (λ command. (out-Command command).has_globals ≡ false) }
+{
+    Command::new(alloc, "chains")
+        .about("Reads a trace and writes its chains")
+        .arg(file_argument(alloc))
+}
+
+// The command lines that the program takes.
+fn command<'a>(alloc: Global) -> Result<Command<'a>, AllocError>
+    ensures { IfOk result (λ command. app_of command ≡ lockdep_app) }
+{
+    let check = check_command(alloc)?;
+    let chains = chains_command(alloc)?;
+    Command::new(alloc, "lockdep")
+        .about("Checks recorded traces of tasks for lock orders that can deadlock")
+        .subcommand_required(true)
+        .subcommand(check)?
+        .subcommand(chains)
+}
+
+// The FILE words.
+fn files_of<'a>(alloc: Global, found: &ArgMatches<'a>) -> Result<Vec<&'a str>, AllocError>
+    ensures { IfOk result (λ files. map (λ file. file.now) files.items ≡ unwrap_or (all_of (codes "FILE") (rows_of (found_of found.now))) []) }
+{
+    let mut files = Vec::new(alloc);
+    if let Some(given) = found.get_raw("FILE") {
+        files.extend_from_slice(given)?;
+    }
+    Ok(files)
+}
+
+// What the words of `check` ask for.
+fn check_line<'a>(alloc: Global, found: &ArgMatches<'a>) -> Result<Line<'a>, LineFault>
+    ensures ok { IfOk result (λ line. (subcommand_word line ≡ codes "check") × ReadsLine (rows_of (found_of found.now)) line) }
+    ensures no_help { IfErr result (λ fault. (words : List (List ℕ)) → IsLineFault words fault) }
+{
+    let Some(workers) = found.get_one::<u16>("workers") else {
+        return Err(LineFault::Refused);
+    };
+    match files_of(alloc, found) {
+        Ok(files) => Ok(Line::Check { workers, files }),
+        Err(_) => Err(LineFault::Memory),
+    }
+}
+
+// What the words of a subcommand ask for.
+fn line_of<'a>(alloc: Global, matches: &ArgMatches<'a>) -> Result<Line<'a>, LineFault>
+    ensures ok { IfOk result (IsLineIn (subcommand_rows_of matches.now)) }
+    ensures no_help { IfErr result (λ fault. (words : List (List ℕ)) → IsLineFault words fault) }
+{
+    if let Some(found) = matches.subcommand_matches("check") {
+        return check_line(alloc, found);
+    }
+    match matches.subcommand_matches("chains") {
+        Some(found) => Ok(Line::Chains {
+            file: found.get_str("FILE"),
+        }),
+        None => Err(LineFault::Refused),
+    }
+}
+
+// What an error of clap comes to.
+fn fault_of(error: clap::Error) -> LineFault
+    ensures { (words : List (List ℕ)) → (kind_of error ≡ ErrorKind.DisplayHelp → AskForHelp words) → IsLineFault words result }
+{
+    match error.kind() {
+        ErrorKind::DisplayHelp => LineFault::Help(error),
+        ErrorKind::OutOfMemory => LineFault::Memory,
+        _ => LineFault::Refused,
+    }
+}
+
+/// What the command line asks for. The words begin with the program's name, and are read as `clap` defines it: `check
+/// [--workers N] [FILE...]`, with N a whole number from 0 to 65,535 and 4 where it isn't given, and `chains [FILE]`.
+///
+/// Refusals: `Help` where help is asked for, `Memory` where memory is refused, and `Refused` for every other line that isn't
+/// taken. This project's own.
+pub fn command_line<'a>(alloc: Global, words: &'a [&'a str]) -> Result<Line<'a>, LineFault>
+    ensures ok { IfOk result (IsLineOf (map (λ word. word.now) words.entry.now)) }
+    ensures refused { IfErr result (IsLineFault (map (λ word. word.now) words.entry.now)) }
+{
+    let Ok(command) = command(alloc) else {
+        return Err(LineFault::Memory);
+    };
+    match command.try_get_matches_from(words) {
+        Ok(matches) => line_of(alloc, &matches),
+        Err(error) => Err(fault_of(error)),
+    }
+}
