@@ -21,7 +21,7 @@ use Rattle.ld_task.specs.Marks.{IsMarked}
 use Rattle.ld_task.proofs.FactLaws.{dependencies_are_the_chains, marks_are_the_chains}
 use Rattle.lockdep.specs.Groups.{InTurn, ShowsWhere}
 use Rattle.lockdep.specs.Report.{IsReport, IsReportOf, IsUsageCharacter, IsUsageLine, ShowsCircle, ShowsDouble, ShowsInversion, circle_line, double_line, inversion_line, dependencies_between, uses_of, pairs_of}
-use Rattle.ld_run.specs.TraceFacts.{HaveDependency, HaveMark, kind_with}
+use Rattle.ld_run.specs.TraceFacts.{HaveDependency, HaveMark}
 
 -- groups whose parts mean the same
 pub InTurn-same : {X : Type 0} (R S : X → List ℕ → Type 0) → ((x : X) (text : List ℕ) → R x text → S x text) → (xs : List X) (text : List ℕ) → InTurn R xs text → InTurn S xs text
