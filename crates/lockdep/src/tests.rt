@@ -3,6 +3,7 @@
 mod chain_texts;
 mod examples;
 mod files;
+mod gates;
 mod lines;
 mod programs;
 mod refusals;
