@@ -1,15 +1,13 @@
 -- The facts and the totals of a journal, and what one entry more does to them.
-use Rattle.std.proofs.Common.{◌≡◌, ℕ, ◌+◌, ◌-◌, ◌<◌, ◌≤◌, ◌⊎◌, ◌↔◌, List, [], ◌∷◌, ◌++◌, length, length-append, Bool, true, false, cond, Option, Some, None, is_some, refl, sym, ap, subst, ◌∙◌, inl, inr, arith}
-use Rattle.std.specs.Prelude.{Any, IfSome, count_by, is_none, option_map, slice_get}
+use Rattle.std.proofs.Common.{◌≡◌, ℕ, ◌+◌, ◌↔◌, List, [], ◌∷◌, ◌++◌, length, length-append, Bool, true, false, cond, Option, Some, None, is_some, refl, sym, ap, subst, ◌∙◌, inl, inr, arith}
+use Rattle.std.specs.Prelude.{is_none, option_map, slice_get}
 use Rattle.std.specs.Int.{from_bool}
 use Rattle.std.proofs.lemmas.List.Sums.{sum_by_push, sum_by-cons}
 use Rattle.ld_task.specs.declared.kind.Kind.{Kind}
 use Rattle.ld_task.specs.declared.kind.Kind.TheVariants.{Er, En, Sr, Sn}
 use Rattle.ld_task.specs.declared.mark.Mark.{Mark}
-use Rattle.ld_task.specs.declared.frame.Frame.{Frame}
-use Rattle.ld_task.specs.declared.lock.Lock.{Lock}
 use Rattle.ld_task.proofs.Places.{slice_get-append_seam}
-use Rattle.ld_task.specs.Chains.{ChainParts, ChainHasDependency, ChainHasMark, ChainKeysBelow}
+use Rattle.ld_task.specs.Chains.{ChainParts, ChainHasDependency, ChainHasMark}
 use Rattle.ld_graph.specs.Arrows.{Arrow, arrow, is_s, is_r}
 use Rattle.ld_graph.specs.Counting.{IsNumberOf}
 use Rattle.ld_graph.specs.Facts.{FactWords, HasDep, HasMark, AddsChain, HoldsChain}

@@ -1,10 +1,9 @@
-use Rattle.std.proofs.Common.{◌≡◌, ◌↔◌, ◌+◌, length, ◌++◌, [], ◌∷◌, refl, sym, ap, subst, ◌∙◌}
-use Rattle.std.specs.Prelude.{IsFalse, IsTrue}
-use Rattle.ld_task.specs.Chains.{ChainParts, key_mode_and_frame}
+use Rattle.std.proofs.Common.{◌↔◌, ◌+◌, length, sym, ap, subst, ◌∙◌}
+use Rattle.std.specs.Prelude.{IsFalse}
+use Rattle.ld_task.specs.Chains.{key_mode_and_frame}
 use Rattle.ld_graph.specs.Facts.{AddsChain, HoldsChain}
-use Rattle.ld_graph.specs.Links.{IsClean}
-use Rattle.ld_book.specs.Books.{BookParts, AreFactsOfJournal, AreRecorded, IsLawful, RecordsDependency, RecordsMark}
-use Rattle.ld_book.proofs.BookLemmas.{AreFactsOfJournal-adds, AreRecorded-standing, HoldsChain-iff, AreClean-iff, IsLawful-entered, chain-entered, from_bool-taken, has_room}
+use Rattle.ld_book.specs.Books.{BookParts, AreRecorded, IsLawful}
+use Rattle.ld_book.proofs.BookLemmas.{AreFactsOfJournal-adds, AreRecorded-standing, HoldsChain-iff, IsLawful-entered, chain-entered, from_bool-taken, has_room}
 use Rattle.ld_book.proofs.book.Book.record.Goals as goal
 
 pub learn-fresh-requires-clause-known : goal.learn-fresh-requires-clause-known
