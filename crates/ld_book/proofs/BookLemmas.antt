@@ -1,6 +1,6 @@
 -- The facts and the totals of a journal, and what one entry more does to them.
-use Rattle.std.proofs.Common.{◌≡◌, ℕ, ◌+◌, ◌-◌, ◌≤◌, ◌⊎◌, ◌↔◌, List, [], ◌∷◌, ◌++◌, length, length-append, Bool, true, false, cond, Option, Some, None, is_some, refl, sym, ap, subst, ◌∙◌, inl, inr, arith}
-use Rattle.std.specs.Prelude.{Any, count_by, is_none, option_map, slice_get}
+use Rattle.std.proofs.Common.{◌≡◌, ℕ, ◌+◌, ◌↔◌, List, [], ◌∷◌, ◌++◌, length, length-append, Bool, true, false, cond, Option, Some, None, is_some, refl, sym, ap, subst, ◌∙◌, inl, inr, arith}
+use Rattle.std.specs.Prelude.{is_none, option_map, slice_get}
 use Rattle.std.specs.Int.{from_bool}
 use Rattle.std.proofs.lemmas.List.Sums.{sum_by_push, sum_by-cons}
 use Rattle.ld_task.specs.declared.kind.Kind.{Kind}
@@ -128,6 +128,13 @@ AreRecorded-standing journal chain (k, e, l, at, is) = record {
         (subst (ChainHasDependency chain from to) (sym (kind_with-letters kind)) has),
   );
   marks = λ key mark has. (k, e, l, at, subst (λ c. ChainHasMark c key mark) (sym is) has);
+}
+
+-- a chain without facts is recorded by every journal
+pub AreRecorded-none : (journal : List (ℕ × ChainParts)) (chain : ChainParts) → AreRecorded [] chain → AreRecorded journal chain
+AreRecorded-none journal chain none = record {
+  dependencies = λ from to kind has. absurd (let l = (none.dependencies from to kind has).2 in omega arith);
+  marks = λ key mark has. absurd (let l = (none.marks key mark has).2 in omega arith);
 }
 
 -- ---- totals

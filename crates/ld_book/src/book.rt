@@ -105,11 +105,11 @@ impl Book {
             ↔ (¬ (length self.old.journal ≡ self.old.limit) × ¬ ChainKeysBelow self.old.keys chain) }
         ensures refused { OnErr result (self.new ≡ self.old) }
     {
-        let place = self.journal.len();
+        let place = self.len();
         if place as u64 == self.limit {
             return Err(BookFault::Full);
         }
-        if !chain.keys_below(self.graph.facts().keys()) {
+        if !chain.keys_below(self.keys()) {
             return Err(BookFault::BadKey);
         }
         let is_acquisition = chain.taken().is_some();
@@ -120,7 +120,7 @@ impl Book {
         let fresh = learn(&mut self.graph, self.journal.chain(place), is_new);
         Ok(News {
             fresh,
-            clean: self.graph.is_clean(),
+            clean: self.is_clean(),
         })
     }
 
@@ -176,7 +176,7 @@ impl Book {
         ensures openings { result.openings ≡ opening_count self.now.journal }
         ensures dependencies { IsNumberOf (RecordsDependency self.now.journal) result.dependencies }
     {
-        let entries = self.journal.len() as u64;
+        let entries = self.len() as u64;
         Totals {
             entries,
             acquisitions: self.acquisitions,

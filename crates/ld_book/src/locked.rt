@@ -1,5 +1,9 @@
 //! A book that several threads write into.
 
+ghost use Rattle.std.specs.Prelude.{[], IfOk, IsErrOf, IsFalse};
+ghost use Rattle.ld_task.specs.Chains.{ChainKeysBelow};
+ghost use Rattle.ld_book.specs.Books.{AreRecorded};
+
 use crate::book::{Book, News};
 use crate::fault::BookFault;
 use ld_task::Chain;
@@ -23,7 +27,11 @@ impl LockedBook {
     /// Waits for the lock, and then answers as `Book::record` of the book that it finds, with the same refusals: B1 where
     /// the book is full, B3 where a key of the chain isn't below the book's bound, B2 where memory was refused. After a
     /// refusal the book is as it was found. The chain is given up in any case.
-    pub fn record<R: Wait>(&self, rt: &R, trace: u32, chain: Chain) -> Result<News, BookFault> {
+    pub fn record<R: Wait>(&self, rt: &R, trace: u32, chain: Chain) -> Result<News, BookFault>
+        // Whatever the book that is found, a chain without facts is never fresh, and one without keys never refused by B3.
+        ensures fresh { IfOk result (λ news. AreRecorded [] chain → IsFalse news.fresh) }
+        ensures bad_key { IsErrOf result BookFault.BadKey → ¬ ChainKeysBelow 0 chain }
+    {
         self.book.lock(rt).record(trace, chain)
     }
 

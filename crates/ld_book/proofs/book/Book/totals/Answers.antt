@@ -1,13 +1,15 @@
-use Rattle.std.proofs.Common.{◌≡◌, ◌-◌, subst, arith}
+use Rattle.std.proofs.Common.{◌≡◌, ◌-◌, ◌∙◌, ap, length, sym, subst, arith}
 use Rattle.ld_graph.specs.Counting.{IsNumberOf}
 use Rattle.ld_graph.specs.Facts.{HasDep}
-use Rattle.ld_book.specs.Books.{RecordsDependency, opening_count}
+use Rattle.ld_book.specs.Books.{BookParts, RecordsDependency, opening_count}
 use Rattle.ld_book.proofs.BookLemmas.{IsNumberOf-recorded, counts-length}
 use Rattle.ld_book.proofs.book.Book.totals.Goals as goal
 
 pub returns-clause-openings : goal.returns-clause-openings
-returns-clause-openings c = subst (λ v. c.len-entries.result - c.self.inside.acquisitions ≡ opening_count v.journal) c.self.view_is
-    (omega (arith, c.len-entries.ensures, c.self.invariant.counted, counts-length c.self.inside.journal))
+returns-clause-openings c =
+    let entries = c.len-entries.ensures.value ∙ ap (λ (v : BookParts). length v.journal) (sym c.self.view_is) in
+    subst (λ v. c.len-entries.result - c.self.inside.acquisitions ≡ opening_count v.journal) c.self.view_is
+    (omega (arith, entries, c.self.invariant.counted, counts-length c.self.inside.journal))
 
 pub returns-clause-dependencies : goal.returns-clause-dependencies
 returns-clause-dependencies c =

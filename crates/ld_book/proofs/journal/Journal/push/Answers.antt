@@ -1,10 +1,9 @@
-use Rattle.std.proofs.Common.{◌≡◌, ◌↔◌, ◌++◌, [], ◌∷◌, Bool, true, false, not, refl, sym, ap, subst, ◌∙◌}
+use Rattle.std.proofs.Common.{◌≡◌, ◌↔◌, Bool, true, false, not, refl, sym, subst}
 use Rattle.std.specs.Prelude.{IsFalse}
 use Rattle.std.specs.List.{list_any}
 use Rattle.ld_task.specs.ChainEquality.{chain_eq}
 use Rattle.ld_book.specs.Books.{StandsIn}
-use Rattle.ld_book.specs.Journals.{journal_of, IsJournal}
-use Rattle.ld_book.proofs.JournalLemmas.{PutsChain, PutsChain-inserted, IsJournal-push, journal_of-push, list_any-iff}
+use Rattle.ld_book.proofs.JournalLemmas.{PutsChain-inserted, IsJournal-push, journal_of-push, list_any-iff}
 use Rattle.ld_book.proofs.journal.Journal.push.Goals as goal
 
 pub invariant_of-self-in-Ok : goal.invariant_of-self-in-Ok
