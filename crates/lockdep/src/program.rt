@@ -61,7 +61,8 @@ pub fn program<R: Files + Threads + Wait + Sync, I: Read + Drop, O: Write, E: Wr
     ensures done { result < 2 → DoesWords (map (λ word. word.now) words.entry.now) (I.remaining input)
         (O.contents out.old) (O.contents out.new) result }
     ensures quiet { result < 2 → err.new ≡ err.old }
-    ensures refused { result ≡ 2 → (refusal : Refusal) × LeavesOutput refusal (O.contents out.old) (O.contents out.new)
+    ensures refused { result ≡ 2 → (refusal : Refusal)
+        × LeavesOutput refusal (O.contents out.old) (O.contents out.new)
         × AppendsBeginning (E.contents err.old) (E.contents err.new) (fault_line refusal) }
 {
     match answer(rt, alloc, words, input, out) {
@@ -133,7 +134,8 @@ fn answer_help<'a, O: Write>(
     help: &clap::Error,
     out: &mut O,
 ) -> Result<u8, Refusal<'a>>
-    ensures ok { IfOk result (λ status. (status ≡ 0) × ((text : List ℕ) × Appends (O.contents out.old) (O.contents out.new) text)) }
+    ensures ok { IfOk result (λ status. (status ≡ 0)
+        × ((text : List ℕ) × Appends (O.contents out.old) (O.contents out.new) text)) }
     ensures err { IfErr result (λ refusal. LeavesOutput refusal (O.contents out.old) (O.contents out.new)) }
 {
     let Ok(text) = help.to_string(alloc) else {
@@ -176,7 +178,8 @@ fn report_session<'a, R: Threads + Wait + Sync, O: Write>(
     session: Session,
     out: &mut O,
 ) -> Result<u8, Refusal<'a>>
-    ensures ok { IfOk result (WritesReport workers session.names session.traces (O.contents out.old) (O.contents out.new)) }
+    ensures ok { IfOk result (WritesReport workers session.names session.traces
+        (O.contents out.old) (O.contents out.new)) }
     ensures err { IfErr result (λ refusal. LeavesOutput refusal (O.contents out.old) (O.contents out.new)) }
 {
     match session.report(rt, alloc, workers, &OpenGate, out) {
@@ -194,7 +197,8 @@ fn add_traces<'a, R: Files, I: Read + Drop>(
 ) -> Result<(), Refusal<'a>>
     requires no_names { session.old.names ≡ [] }
     requires no_traces { session.old.traces ≡ [] }
-    ensures ok { OnOk result (AreTracesOf (map (λ file. file.now) files.entry.now) (I.remaining input) session.new.names session.new.traces) }
+    ensures ok { OnOk result (AreTracesOf (map (λ file. file.now) files.entry.now) (I.remaining input)
+        session.new.names session.new.traces) }
     ensures err { IfErr result (λ refusal. (known : Option (List ℕ)) → LeavesOutput refusal known known) }
 {
     if files.is_empty() {
@@ -292,7 +296,8 @@ fn chains_status<'a, O: Write>(
     keys: &KeyTable,
 ) -> Result<u8, Refusal<'a>>
     requires { KeysBelow (length keys.now) trace.now }
-    ensures ok { IfOk result (λ status. (status ≡ 0) × Appends (O.contents out.old) (O.contents out.new) (chains_text keys.now trace.now)) }
+    ensures ok { IfOk result (λ status. (status ≡ 0)
+        × Appends (O.contents out.old) (O.contents out.new) (chains_text keys.now trace.now)) }
     ensures err { IfErr result (λ refusal. LeavesOutput refusal (O.contents out.old) (O.contents out.new)) }
 {
     match write_chains(out, trace, keys) {

@@ -47,8 +47,10 @@ pub(crate) enum Refusal<'a> {
 
 // Puts the digits of a number onto the page.
 fn put_digits<W: Write>(w: &mut W, page: &mut Page, number: usize) -> Result<(), WriteFault>
-    ensures ok { OnOk result (PutsBehind (W.contents w.old) (W.contents w.new) page.old.bytes page.new.bytes (decimal number)) }
-    ensures err { OnErr result (AppendsBeginning (W.contents w.old) (W.contents w.new) (page.old.bytes ++ decimal number)) }
+    ensures ok { OnOk result (PutsBehind (W.contents w.old) (W.contents w.new) page.old.bytes page.new.bytes
+        (decimal number)) }
+    ensures err { OnErr result (AppendsBeginning (W.contents w.old) (W.contents w.new)
+        (page.old.bytes ++ decimal number)) }
 {
     if number < 10 {
         return put_all(w, page, &number_words(number));
@@ -59,8 +61,10 @@ fn put_digits<W: Write>(w: &mut W, page: &mut Page, number: usize) -> Result<(),
 
 // Puts some texts onto the page and writes it out.
 fn finish<W: Write>(w: &mut W, page: &mut Page, texts: &[&str]) -> Result<(), WriteFault>
-    ensures ok { OnOk result (Appends (W.contents w.old) (W.contents w.new) (page.old.bytes ++ flat_map (λ text. text.now) texts.now)) }
-    ensures err { OnErr result (AppendsBeginning (W.contents w.old) (W.contents w.new) (page.old.bytes ++ flat_map (λ text. text.now) texts.now)) }
+    ensures ok { OnOk result (Appends (W.contents w.old) (W.contents w.new)
+        (page.old.bytes ++ flat_map (λ text. text.now) texts.now)) }
+    ensures err { OnErr result (AppendsBeginning (W.contents w.old) (W.contents w.new)
+        (page.old.bytes ++ flat_map (λ text. text.now) texts.now)) }
 {
     put_all(w, page, texts)?;
     write_out(w, page)
@@ -69,7 +73,8 @@ fn finish<W: Write>(w: &mut W, page: &mut Page, texts: &[&str]) -> Result<(), Wr
 // Writes some texts.
 fn tell_texts<W: Write>(w: &mut W, texts: &[&str]) -> Result<(), WriteFault>
     ensures ok { OnOk result (Appends (W.contents w.old) (W.contents w.new) (flat_map (λ text. text.now) texts.now)) }
-    ensures err { OnErr result (AppendsBeginning (W.contents w.old) (W.contents w.new) (flat_map (λ text. text.now) texts.now)) }
+    ensures err { OnErr result (AppendsBeginning (W.contents w.old) (W.contents w.new)
+        (flat_map (λ text. text.now) texts.now)) }
 {
     let mut page = Page::new();
     finish(w, &mut page, texts)
@@ -77,8 +82,10 @@ fn tell_texts<W: Write>(w: &mut W, texts: &[&str]) -> Result<(), WriteFault>
 
 // Puts a record's number onto the page, and writes out page and code.
 fn tell_place<W: Write>(w: &mut W, page: &mut Page, at: usize, code: &str) -> Result<(), WriteFault>
-    ensures ok { OnOk result (Appends (W.contents w.old) (W.contents w.new) (page.old.bytes ++ (decimal at ++ (codes ": " ++ (code.now ++ codes "\n"))))) }
-    ensures err { OnErr result (AppendsBeginning (W.contents w.old) (W.contents w.new) (page.old.bytes ++ (decimal at ++ (codes ": " ++ (code.now ++ codes "\n"))))) }
+    ensures ok { OnOk result (Appends (W.contents w.old) (W.contents w.new)
+        (page.old.bytes ++ (decimal at ++ (codes ": " ++ (code.now ++ codes "\n"))))) }
+    ensures err { OnErr result (AppendsBeginning (W.contents w.old) (W.contents w.new)
+        (page.old.bytes ++ (decimal at ++ (codes ": " ++ (code.now ++ codes "\n"))))) }
 {
     put_digits(w, page, at)?;
     finish(w, page, &[": ", code, "\n"])
@@ -87,7 +94,8 @@ fn tell_place<W: Write>(w: &mut W, page: &mut Page, at: usize, code: &str) -> Re
 // Writes the line of a refused record.
 fn tell_record<W: Write>(w: &mut W, file: &str, at: usize, code: &str) -> Result<(), WriteFault>
     ensures ok { OnOk result (Appends (W.contents w.old) (W.contents w.new) (record_line file.now at code.now)) }
-    ensures err { OnErr result (AppendsBeginning (W.contents w.old) (W.contents w.new) (record_line file.now at code.now)) }
+    ensures err { OnErr result (AppendsBeginning (W.contents w.old) (W.contents w.new)
+        (record_line file.now at code.now)) }
 {
     let mut page = Page::new();
     put_all(w, &mut page, &["lockdep: ", file, ": record "])?;

@@ -56,7 +56,8 @@ impl Findings<'_> {
 
     // Whether the two keys are in an inversion.
     fn is_inversion(self, irq: Irq, a: KeyId, b: KeyId) -> bool
-        ensures { IsTrue result ↔ IsInversion (HasDep self.entry.settled.now) (HasMark self.entry.settled.now) irq a b }
+        ensures { IsTrue result ↔ IsInversion (HasDep self.entry.settled.now)
+            (HasMark self.entry.settled.now) irq a b }
     {
         self.settled.is_inversion(irq, a.get(), b.get())
     }
@@ -76,7 +77,8 @@ impl Findings<'_> {
         to: KeyId,
         kind: Kind,
     ) -> Result<(), AllocError>
-        ensures { OnOk result (string_bytes text.new ≡ string_bytes text.old ++ circle_line self.entry.names.now (from, to, kind)) }
+        ensures { OnOk result (string_bytes text.new ≡ string_bytes text.old
+            ++ circle_line self.entry.names.now (from, to, kind)) }
     {
         let (from_name, from_sub) = name_of(self.names, from);
         let (to_name, to_sub) = name_of(self.names, to);
@@ -95,7 +97,9 @@ impl Findings<'_> {
         to: KeyId,
         kind: Kind,
     ) -> Result<(), AllocError>
-        ensures { OnOk result (GrowsBy (ShowsCircle (HasDep self.entry.settled.now) self.entry.names.now (from, to, kind)) (string_bytes text.old) (string_bytes text.new)) }
+        ensures { OnOk result (GrowsBy
+            (ShowsCircle (HasDep self.entry.settled.now) self.entry.names.now (from, to, kind))
+            (string_bytes text.old) (string_bytes text.new)) }
     {
         if self.on_circle(from, to, kind) {
             self.add_circle_line(text, from, to, kind)
@@ -106,7 +110,10 @@ impl Findings<'_> {
 
     // The circle lines of the dependencies from the one key to the other.
     fn add_circles_to(self, text: &mut String, from: KeyId, to: KeyId) -> Result<(), AllocError>
-        ensures { OnOk result (GrowsBy (InTurn (ShowsCircle (HasDep self.entry.settled.now) self.entry.names.now) (map (λ kind. (from, to, kind)) kinds)) (string_bytes text.old) (string_bytes text.new)) }
+        ensures { OnOk result (GrowsBy
+            (InTurn (ShowsCircle (HasDep self.entry.settled.now) self.entry.names.now)
+            (map (λ kind. (from, to, kind)) kinds))
+            (string_bytes text.old) (string_bytes text.new)) }
     {
         for kind in KINDS {
             self.add_circle(text, from, to, kind)?;
@@ -116,7 +123,10 @@ impl Findings<'_> {
 
     // The circle lines of the dependencies from the key.
     fn add_circles_from(self, text: &mut String, from: KeyId) -> Result<(), AllocError>
-        ensures { OnOk result (GrowsBy (InTurn (ShowsCircle (HasDep self.entry.settled.now) self.entry.names.now) (dependencies_from self.entry.keys.now from)) (string_bytes text.old) (string_bytes text.new)) }
+        ensures { OnOk result (GrowsBy
+            (InTurn (ShowsCircle (HasDep self.entry.settled.now) self.entry.names.now)
+            (dependencies_from self.entry.keys.now from))
+            (string_bytes text.old) (string_bytes text.new)) }
     {
         for to in self.keys {
             self.add_circles_to(text, from, *to)?;
@@ -126,7 +136,10 @@ impl Findings<'_> {
 
     // The circle lines.
     fn add_circles(self, text: &mut String) -> Result<(), AllocError>
-        ensures { OnOk result (GrowsBy (InTurn (ShowsCircle (HasDep self.entry.settled.now) self.entry.names.now) (dependencies_between self.entry.keys.now)) (string_bytes text.old) (string_bytes text.new)) }
+        ensures { OnOk result (GrowsBy
+            (InTurn (ShowsCircle (HasDep self.entry.settled.now) self.entry.names.now)
+            (dependencies_between self.entry.keys.now))
+            (string_bytes text.old) (string_bytes text.new)) }
     {
         for from in self.keys {
             self.add_circles_from(text, *from)?;
@@ -136,7 +149,8 @@ impl Findings<'_> {
 
     // The line of a key that is used both in a state and with it enabled.
     fn add_double_line(self, text: &mut String, irq: Irq, key: KeyId) -> Result<(), AllocError>
-        ensures { OnOk result (string_bytes text.new ≡ string_bytes text.old ++ double_line self.entry.names.now (irq, key)) }
+        ensures { OnOk result (string_bytes text.new ≡ string_bytes text.old
+            ++ double_line self.entry.names.now (irq, key)) }
     {
         let (name, sub) = name_of(self.names, key);
         let state = irq_word(irq);
@@ -145,7 +159,9 @@ impl Findings<'_> {
 
     // The same, where the key is used so.
     fn add_double(self, text: &mut String, irq: Irq, key: KeyId) -> Result<(), AllocError>
-        ensures { OnOk result (GrowsBy (ShowsDouble (HasMark self.entry.settled.now) self.entry.names.now (irq, key)) (string_bytes text.old) (string_bytes text.new)) }
+        ensures { OnOk result (GrowsBy
+            (ShowsDouble (HasMark self.entry.settled.now) self.entry.names.now (irq, key))
+            (string_bytes text.old) (string_bytes text.new)) }
     {
         if self.is_double(irq, key) {
             self.add_double_line(text, irq, key)
@@ -156,7 +172,10 @@ impl Findings<'_> {
 
     // The double lines of one state.
     fn add_doubles_of(self, text: &mut String, irq: Irq) -> Result<(), AllocError>
-        ensures { OnOk result (GrowsBy (InTurn (ShowsDouble (HasMark self.entry.settled.now) self.entry.names.now) (map (λ key. (irq, key)) self.entry.keys.now)) (string_bytes text.old) (string_bytes text.new)) }
+        ensures { OnOk result (GrowsBy
+            (InTurn (ShowsDouble (HasMark self.entry.settled.now) self.entry.names.now)
+            (map (λ key. (irq, key)) self.entry.keys.now))
+            (string_bytes text.old) (string_bytes text.new)) }
     {
         for key in self.keys {
             self.add_double(text, irq, *key)?;
@@ -166,7 +185,9 @@ impl Findings<'_> {
 
     // The double lines.
     fn add_doubles(self, text: &mut String) -> Result<(), AllocError>
-        ensures { OnOk result (GrowsBy (InTurn (ShowsDouble (HasMark self.entry.settled.now) self.entry.names.now) (uses_of self.entry.keys.now)) (string_bytes text.old) (string_bytes text.new)) }
+        ensures { OnOk result (GrowsBy
+            (InTurn (ShowsDouble (HasMark self.entry.settled.now) self.entry.names.now) (uses_of self.entry.keys.now))
+            (string_bytes text.old) (string_bytes text.new)) }
     {
         for irq in STATES {
             self.add_doubles_of(text, irq)?;
@@ -182,7 +203,8 @@ impl Findings<'_> {
         a: KeyId,
         b: KeyId,
     ) -> Result<(), AllocError>
-        ensures { OnOk result (string_bytes text.new ≡ string_bytes text.old ++ inversion_line self.entry.names.now (irq, a, b)) }
+        ensures { OnOk result (string_bytes text.new ≡ string_bytes text.old
+            ++ inversion_line self.entry.names.now (irq, a, b)) }
     {
         let (a_name, a_sub) = name_of(self.names, a);
         let (b_name, b_sub) = name_of(self.names, b);
@@ -198,7 +220,10 @@ impl Findings<'_> {
         a: KeyId,
         b: KeyId,
     ) -> Result<(), AllocError>
-        ensures { OnOk result (GrowsBy (ShowsInversion (HasDep self.entry.settled.now) (HasMark self.entry.settled.now) self.entry.names.now (irq, a, b)) (string_bytes text.old) (string_bytes text.new)) }
+        ensures { OnOk result (GrowsBy
+            (ShowsInversion (HasDep self.entry.settled.now) (HasMark self.entry.settled.now) self.entry.names.now
+            (irq, a, b))
+            (string_bytes text.old) (string_bytes text.new)) }
     {
         if self.is_inversion(irq, a, b) {
             self.add_inversion_line(text, irq, a, b)
@@ -209,7 +234,11 @@ impl Findings<'_> {
 
     // The inversion lines of one state and one first key.
     fn add_inversions_from(self, text: &mut String, irq: Irq, a: KeyId) -> Result<(), AllocError>
-        ensures { OnOk result (GrowsBy (InTurn (ShowsInversion (HasDep self.entry.settled.now) (HasMark self.entry.settled.now) self.entry.names.now) (map (λ b. (irq, a, b)) self.entry.keys.now)) (string_bytes text.old) (string_bytes text.new)) }
+        ensures { OnOk result (GrowsBy
+            (InTurn (ShowsInversion (HasDep self.entry.settled.now) (HasMark self.entry.settled.now)
+            self.entry.names.now)
+            (map (λ b. (irq, a, b)) self.entry.keys.now))
+            (string_bytes text.old) (string_bytes text.new)) }
     {
         for b in self.keys {
             self.add_inversion(text, irq, a, *b)?;
@@ -219,7 +248,11 @@ impl Findings<'_> {
 
     // The inversion lines of one state.
     fn add_inversions_of(self, text: &mut String, irq: Irq) -> Result<(), AllocError>
-        ensures { OnOk result (GrowsBy (InTurn (ShowsInversion (HasDep self.entry.settled.now) (HasMark self.entry.settled.now) self.entry.names.now) (pairs_with self.entry.keys.now irq)) (string_bytes text.old) (string_bytes text.new)) }
+        ensures { OnOk result (GrowsBy
+            (InTurn (ShowsInversion (HasDep self.entry.settled.now) (HasMark self.entry.settled.now)
+            self.entry.names.now)
+            (pairs_with self.entry.keys.now irq))
+            (string_bytes text.old) (string_bytes text.new)) }
     {
         for a in self.keys {
             self.add_inversions_from(text, irq, *a)?;
@@ -229,7 +262,11 @@ impl Findings<'_> {
 
     // The inversion lines.
     fn add_inversions(self, text: &mut String) -> Result<(), AllocError>
-        ensures { OnOk result (GrowsBy (InTurn (ShowsInversion (HasDep self.entry.settled.now) (HasMark self.entry.settled.now) self.entry.names.now) (pairs_of self.entry.keys.now)) (string_bytes text.old) (string_bytes text.new)) }
+        ensures { OnOk result (GrowsBy
+            (InTurn (ShowsInversion (HasDep self.entry.settled.now) (HasMark self.entry.settled.now)
+            self.entry.names.now)
+            (pairs_of self.entry.keys.now))
+            (string_bytes text.old) (string_bytes text.new)) }
     {
         for irq in STATES {
             self.add_inversions_of(text, irq)?;
@@ -256,7 +293,8 @@ impl Findings<'_> {
         soft: &str,
         soft_read: &str,
     ) -> Result<(), AllocError>
-        ensures { OnOk result (string_bytes text.new ≡ string_bytes text.old ++ usage_line (name_at self.entry.names.now key) hard.now hard_read.now soft.now soft_read.now) }
+        ensures { OnOk result (string_bytes text.new ≡ string_bytes text.old
+            ++ usage_line (name_at self.entry.names.now key) hard.now hard_read.now soft.now soft_read.now) }
     {
         let (name, sub) = name_of(self.names, key);
         writeln!(
@@ -267,7 +305,9 @@ impl Findings<'_> {
 
     // The usage line of a key.
     fn add_usage_line(self, text: &mut String, key: KeyId) -> Result<(), AllocError>
-        ensures { OnOk result (GrowsBy (IsUsageLine self.entry.names.now (HasMark self.entry.settled.now) key) (string_bytes text.old) (string_bytes text.new)) }
+        ensures { OnOk result (GrowsBy
+            (IsUsageLine self.entry.names.now (HasMark self.entry.settled.now) key)
+            (string_bytes text.old) (string_bytes text.new)) }
     {
         let hard = self.usage_character(key, Irq::Hard, false);
         let hard_read = self.usage_character(key, Irq::Hard, true);
@@ -278,7 +318,9 @@ impl Findings<'_> {
 
     // The usage lines.
     fn add_usage(self, text: &mut String) -> Result<(), AllocError>
-        ensures { OnOk result (GrowsBy (InTurn (IsUsageLine self.entry.names.now (HasMark self.entry.settled.now)) self.entry.keys.now) (string_bytes text.old) (string_bytes text.new)) }
+        ensures { OnOk result (GrowsBy
+            (InTurn (IsUsageLine self.entry.names.now (HasMark self.entry.settled.now)) self.entry.keys.now)
+            (string_bytes text.old) (string_bytes text.new)) }
     {
         for key in self.keys {
             self.add_usage_line(text, *key)?;
@@ -295,7 +337,8 @@ fn report_text(
     traces: usize,
     events: u128,
 ) -> Result<String, AllocError>
-    ensures { IfOk result (λ text. IsReport (HasDep settled.now) (HasMark settled.now) traces events names.now (string_bytes text)) }
+    ensures { IfOk result (λ text. IsReport (HasDep settled.now) (HasMark settled.now) traces events names.now
+        (string_bytes text)) }
 {
     let keys = sorted_keys(alloc, names)?;
     let findings = Findings {
@@ -328,7 +371,8 @@ fn add_total_lines(
     dependencies: u64,
     clean: bool,
 ) -> Result<(), AllocError>
-    ensures { OnOk result (string_bytes text.new ≡ string_bytes text.old ++ total_lines traces events keys dependencies clean) }
+    ensures { OnOk result (string_bytes text.new ≡ string_bytes text.old
+        ++ total_lines traces events keys dependencies clean) }
 {
     add_total(text, "traces", traces as u128)?;
     add_total(text, "events", events)?;
@@ -375,7 +419,8 @@ pub fn write_report<W: Write>(
     names: &KeyTable,
 ) -> Result<(), WriteFault>
     ensures ok { OnOk result ((text : List ℕ)
-        × IsReport (HasDep settled.now) (HasMark settled.now) (length traces.now) (sum_by length traces.now) names.now text
+        × IsReport (HasDep settled.now) (HasMark settled.now) (length traces.now) (sum_by length traces.now)
+        names.now text
         × Appends (W.contents w.old) (W.contents w.new) text) }
     ensures err { IfErr result (StopsWriting
         (IsReport (HasDep settled.now) (HasMark settled.now) (length traces.now) (sum_by length traces.now) names.now)

@@ -88,12 +88,14 @@ impl Session {
     ) -> Result<bool, ReportFault>
         ensures ok { IfOk result (λ clean. All IsWellFormed self.traces
             × (IsTrue clean ↔ IsClean (HaveDependency self.traces) (HaveMark self.traces))
-            × ((text : List ℕ) × IsReportOf self.traces self.names text × Appends (W.contents w.old) (W.contents w.new) text)) }
+            × ((text : List ℕ) × IsReportOf self.traces self.names text
+            × Appends (W.contents w.old) (W.contents w.new) text)) }
         ensures crew { OnOk result (IsCrew workers × (length self.traces ≤ 4096)) }
         ensures bad_workers { IsErrOf result (ReportFault.Run RunFault.BadWorkers) ↔ (¬ IsCrew workers) }
         ensures too_many { IsErrOf result (ReportFault.Run RunFault.TooManyTraces)
             ↔ (IsCrew workers × (4096 < length self.traces)) }
-        ensures refused { IfErr result (StopsReport self.traces self.names workers (W.contents w.old) (W.contents w.new)) }
+        ensures refused { IfErr result (StopsReport self.traces self.names workers
+            (W.contents w.old) (W.contents w.new)) }
     {
         report_traces(
             rt,
@@ -114,7 +116,8 @@ fn add_trace<R: Read + Drop>(
     keys: &mut KeyTable,
     traces: &mut Vec<RawTrace>,
 ) -> Result<(), TraceFault>
-    ensures ok { IfOk result (λ _. (trace : List Event) × (traces.new.items ≡ traces.old.items ++ trace ∷ []) × KeysBelow (length keys.new) trace
+    ensures ok { IfOk result (λ _. (trace : List Event) × (traces.new.items ≡ traces.old.items ++ trace ∷ [])
+        × KeysBelow (length keys.new) trace
         × IfSome (R.remaining reader) (λ bytes. ReadsTo keys.old bytes keys.new trace)) }
     ensures refused { IfErr result (λ fault. (traces.new.items ≡ traces.old.items)
         × IfSome (R.remaining reader) (λ bytes. StopsAt keys.old bytes keys.new fault)) }
@@ -155,7 +158,8 @@ fn report_traces<R: Threads + Wait + Sync, W: Write, G: Gate + Sync>(
     requires { All (KeysBelow (length keys.now)) traces.now }
     ensures ok { IfOk result (λ clean. All IsWellFormed traces.now
         × (IsTrue clean ↔ IsClean (HaveDependency traces.now) (HaveMark traces.now))
-        × ((text : List ℕ) × IsReportOf traces.now keys.now text × Appends (W.contents w.old) (W.contents w.new) text)) }
+        × ((text : List ℕ) × IsReportOf traces.now keys.now text
+        × Appends (W.contents w.old) (W.contents w.new) text)) }
     ensures crew { OnOk result (IsCrew workers × (length traces.now ≤ 4096)) }
     ensures refused { IfErr result (StopsReport traces.now keys.now workers (W.contents w.old) (W.contents w.new)) }
 {
@@ -206,7 +210,8 @@ fn write_settled<W: Write>(
 ) -> Result<bool, ReportFault>
     requires { AreFactsOfAll settled.now traces.now }
     ensures ok { IfOk result (λ clean. (IsTrue clean ↔ IsClean (HaveDependency traces.now) (HaveMark traces.now))
-        × ((text : List ℕ) × IsReportOf traces.now keys.now text × Appends (W.contents w.old) (W.contents w.new) text)) }
+        × ((text : List ℕ) × IsReportOf traces.now keys.now text
+        × Appends (W.contents w.old) (W.contents w.new) text)) }
     ensures refused { IfErr result (λ fault. (out : WriteFault) × (fault ≡ ReportFault.Out out)
         × StopsWriting (IsReportOf traces.now keys.now) (W.contents w.old) (W.contents w.new) out) }
 {

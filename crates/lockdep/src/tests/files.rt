@@ -2,8 +2,11 @@
 
 use crate::tests::programs::assert_output;
 use std::alloc::AllocError;
+use std::process::Abort;
 use std::rt::{Clock, Env, Files};
+use std::sync::Wait;
 use std::test::Fail;
+use std::thread::Threads;
 use std::time::SystemTime;
 use std::{env, fs};
 
@@ -36,15 +39,25 @@ fn path_in(rt: &impl AllocGlobal, folder: &str, file: &str) -> Result<String, Al
     format!(in rt.alloc(); "{folder}/{file}")
 }
 
+// Asserts that the program refuses with this line.
+fn assert_refused(
+    rt: &(impl Files + Threads + Wait + Sync + Abort + AllocGlobal),
+    words: &[&str],
+    line: &str,
+) -> Result<(), Fail> {
+    assert_output(rt, words, "", (2, "", line))
+}
+
 #[test]
 fn files_are_read_in_their_order(rt: HostRuntime) -> Result<(), Fail> {
     let folder = folder_with(&rt, &[("a.txt", FORTH), ("b.txt", BACK)])?;
-    let a = path_in(&rt, folder.as_str(), "a.txt")?;
-    let b = path_in(&rt, folder.as_str(), "b.txt")?;
-    let (a, b) = (a.as_str(), b.as_str());
-    for words in [["lockdep", "check", a, b], ["lockdep", "check", b, a]] {
-        assert_output(&rt, &words, "", (1, BOTH_ORDERS, ""))?;
-    }
+    let paths = [
+        path_in(&rt, folder.as_str(), "a.txt")?,
+        path_in(&rt, folder.as_str(), "b.txt")?,
+    ];
+    let (a, b) = (paths[0].as_str(), paths[1].as_str());
+    assert_output(&rt, &["lockdep", "check", a, b], "", (1, BOTH_ORDERS, ""))?;
+    assert_output(&rt, &["lockdep", "check", b, a], "", (1, BOTH_ORDERS, ""))?;
     let twice =
         "traces 2\nevents 8\nkeys 2\ndependencies 1\nclean yes\nusage A/0 {+.+.}\nusage B/0 {+.+.}\n";
     assert_output(&rt, &["lockdep", "check", a, a], "", (0, twice, ""))?;
@@ -92,29 +105,31 @@ fn refused_files_are_named(rt: HostRuntime) -> Result<(), Fail> {
     let of_bad = format!(in rt.alloc(); "lockdep: {bad}: record 2: T2 BadRecord\n")?;
     let of_unheld = format!(in rt.alloc(); "lockdep: {unheld}: record 3: S1 NotHeld\n")?;
     let of_folder = format!(in rt.alloc(); "lockdep: {folder}: record 1: T8 Source\n")?;
-    let examples: [(&[&str], &str); 9] = [
-        (&["lockdep", "check", good, bad], of_bad.as_str()),
-        (&["lockdep", "check", bad, "nofile"], of_bad.as_str()),
-        (&["lockdep", "check", unheld, good, bad], of_bad.as_str()),
-        (
-            &["lockdep", "check", "nofile", bad],
-            "lockdep: nofile: P2 CannotOpen\n",
-        ),
-        (
-            &["lockdep", "check", good, unheld, unheld],
-            of_unheld.as_str(),
-        ),
-        (
-            &["lockdep", "check", unheld, "--workers", "0"],
-            "lockdep: N1 BadWorkers\n",
-        ),
-        (&["lockdep", "check", good, folder], of_folder.as_str()),
-        (&["lockdep", "chains", folder], of_folder.as_str()),
-        (&["lockdep", "chains", unheld], of_unheld.as_str()),
-    ];
-    for (words, line) in examples {
-        assert_output(&rt, words, "", (2, "", line))?;
-    }
+    assert_refused(&rt, &["lockdep", "check", good, bad], of_bad.as_str())?;
+    assert_refused(&rt, &["lockdep", "check", bad, "nofile"], of_bad.as_str())?;
+    assert_refused(
+        &rt,
+        &["lockdep", "check", unheld, good, bad],
+        of_bad.as_str(),
+    )?;
+    assert_refused(
+        &rt,
+        &["lockdep", "check", good, unheld, unheld],
+        of_unheld.as_str(),
+    )?;
+    assert_refused(&rt, &["lockdep", "check", good, folder], of_folder.as_str())?;
+    assert_refused(&rt, &["lockdep", "chains", folder], of_folder.as_str())?;
+    assert_refused(&rt, &["lockdep", "chains", unheld], of_unheld.as_str())?;
+    assert_refused(
+        &rt,
+        &["lockdep", "check", "nofile", bad],
+        "lockdep: nofile: P2 CannotOpen\n",
+    )?;
+    assert_refused(
+        &rt,
+        &["lockdep", "check", unheld, "--workers", "0"],
+        "lockdep: N1 BadWorkers\n",
+    )?;
     fs::remove_dir_all(&rt, folder)?;
     Ok(())
 }
