@@ -1,7 +1,7 @@
 -- The shares of the workers, gathered and put together.
-use Rattle.std.proofs.Common.{◌≡◌, ℕ, ◌+◌, ◌<◌, ◌≤◌, ◌%◌, ◌⊎◌, ◌↔◌, List, Option, Some, None, Result, Ok, slice_get, slice_index_or, length, refl, sym, ap, ◌∙◌, subst, inl, inr, IfSome, arith}
+use Rattle.std.proofs.Common.{◌≡◌, ℕ, ◌+◌, ◌<◌, ◌≤◌, ◌%◌, ◌⊎◌, List, Option, None, Result, Ok, slice_index_or, length, refl, sym, ap, ◌∙◌, subst, inl, inr, IfSome, arith}
 use Rattle.std.proofs.lemmas.Bool.{cases_eq}
-use Rattle.std.proofs.lemmas.Option.{slice_get_read, slice_get-get_or}
+use Rattle.std.proofs.lemmas.Option.{slice_get_read}
 use Rattle.ld_trace.specs.declared.event.Event.{Event}
 use Rattle.ld_task.specs.declared.fault.StepAt.{StepAt}
 use Rattle.ld_graph.specs.Facts.{FactWords, IsUnion}

@@ -1,22 +1,20 @@
 -- The facts of a trace before its first event that isn't allowed.
-use Rattle.std.proofs.Common.{◌≡◌, ℕ, Bool, true, false, zero, suc, ◌<◌, ◌≤◌, ◌⊎◌, ◌↔◌, List, [], ◌∷◌, take, slice_get, length, Some, None, refl, sym, ap, ◌∙◌, subst, inl, inr, Any, arith}
+use Rattle.std.proofs.Common.{◌≡◌, ℕ, Bool, true, false, zero, suc, ◌<◌, ◌≤◌, ◌⊎◌, ◌↔◌, List, [], ◌∷◌, take, slice_get, length, Some, None, refl, sym, ◌∙◌, subst, inl, inr, Any, arith}
 use Rattle.std.proofs.lemmas.Bool.{cases_lt}
-use Rattle.std.proofs.lemmas.List.{take_all, length-take-le}
+use Rattle.std.proofs.lemmas.List.{take_all}
 use Rattle.ld_trace.specs.declared.event.Event.{Event}
 use Rattle.ld_task.specs.declared.fault.StepFault.{StepFault}
-use Rattle.ld_task.specs.declared.fault.StepAt.{StepAt}
-use Rattle.ld_task.specs.declared.kind.Kind.{Kind}
 use Rattle.ld_task.specs.declared.mark.Mark.{Mark}
 use Rattle.ld_task.specs.Chains.{ChainParts, ChainHasDependency, ChainHasMark}
-use Rattle.ld_task.specs.TraceChains.{chain, chains}
+use Rattle.ld_task.specs.TraceChains.{chains}
 use Rattle.ld_task.specs.Dependencies.{IsDependency}
 use Rattle.ld_task.specs.Marks.{IsMarked}
-use Rattle.ld_task.specs.WellFormed.{IsWellFormed, IsFirstFault, fault}
+use Rattle.ld_task.specs.WellFormed.{IsWellFormed, IsFirstFault}
 use Rattle.ld_task.proofs.ChainLists.{Any-chains, chains-Any, chain-agree}
 use Rattle.ld_task.proofs.TraceLemmas.{Agree, fault-agree}
 use Rattle.ld_task.proofs.FactLaws.{dependencies_are_the_chains, marks_are_the_chains}
 use Rattle.ld_graph.specs.Arrows.{Arrow, arrow}
-use Rattle.ld_graph.specs.Facts.{FactWords, HasDep, HasMark}
+use Rattle.ld_graph.specs.Facts.{FactWords, HasDep}
 use Rattle.ld_graph.specs.Laws.{AddsChains}
 use Rattle.ld_book.specs.Books.{kind_with}
 use Rattle.ld_run.specs.Tallies.{HasSoundDependency, HasSoundMark}

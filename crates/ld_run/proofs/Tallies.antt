@@ -1,22 +1,19 @@
 -- Tallies of parts of the traces, put together.
-use Rattle.std.proofs.Common.{◌≡◌, ℕ, zero, suc, ◌+◌, ◌<◌, ◌≤◌, ◌%◌, ◌⊎◌, ◌↔◌, Bool, true, false, List, [], ◌∷◌, Option, Some, None, cond, take, slice_get, slice_index_or, length, refl, sym, ap, ◌∙◌, subst, inl, inr, Any, All, arith}
+use Rattle.std.proofs.Common.{◌≡◌, ℕ, zero, suc, ◌<◌, ◌≤◌, ◌⊎◌, ◌↔◌, List, [], ◌∷◌, Option, Some, None, cond, take, slice_get, slice_index_or, length, refl, sym, ap, ◌∙◌, subst, inl, inr, Any, All, arith}
 use Rattle.std.proofs.Math.Nat.{mod-lt}
 use Rattle.std.proofs.lemmas.Bool.{cases_lt, lt-ltb, le-ltb}
-use Rattle.std.proofs.lemmas.List.{take_all}
 use Rattle.std.proofs.lemmas.Option.{slice_get_within, slice_get_read, get_or_from_slice_get, slice_get-get_or}
 use Rattle.ld_trace.specs.declared.event.Event.{Event}
 use Rattle.ld_task.specs.declared.fault.StepAt.{StepAt}
-use Rattle.ld_task.specs.declared.mark.Mark.{Mark}
 use Rattle.ld_task.specs.Dependencies.{IsDependency}
 use Rattle.ld_task.specs.Marks.{IsMarked}
-use Rattle.ld_task.specs.WellFormed.{IsWellFormed, IsFirstFault}
-use Rattle.ld_graph.specs.Arrows.{Arrow}
-use Rattle.ld_graph.specs.Facts.{FactWords, HasDep, HasMark, IsUnion}
-use Rattle.ld_run.specs.TraceFacts.{HaveDependency, HaveMark, IsFirstRefused}
+use Rattle.ld_task.specs.WellFormed.{IsWellFormed}
+use Rattle.ld_graph.specs.Facts.{FactWords, IsUnion}
+use Rattle.ld_run.specs.TraceFacts.{IsFirstRefused}
 use Rattle.ld_book.specs.Books.{kind_with}
 use Rattle.ld_run.specs.Faults.{IsCrew}
-use Rattle.ld_run.specs.Runs.{AreFactsOfAll, CompletesRun}
-use Rattle.ld_run.specs.Tallies.{HasSoundDependency, HasSoundMark, OfSome, AreSound, IsLeastRefused, LeastRefusedIs, IsTally, IsShareOf, IsShareBelow}
+use Rattle.ld_run.specs.Runs.{CompletesRun}
+use Rattle.ld_run.specs.Tallies.{HasSoundDependency, HasSoundMark, OfSome, AreSound, IsLeastRefused, LeastRefusedIs, IsTally, IsShareBelow}
 use Rattle.ld_run.specs.Walks.{AddsSound, FirstFaultIs, earlier_refused}
 use Rattle.ld_run.specs.Shares.{AreNone, lesser_refused}
 use Rattle.ld_run.proofs.Sound.{sound_dependency-whole, sound_mark-whole, slice_get-take}

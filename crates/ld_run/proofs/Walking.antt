@@ -1,21 +1,17 @@
 -- Going along a trace, and what is gathered on the way.
-use Rattle.std.proofs.Common.{◌≡◌, ℕ, zero, suc, ◌+◌, ◌<◌, ◌≤◌, ◌⊎◌, ◌↔◌, List, [], ◌∷◌, ◌++◌, Option, Some, None, Result, Ok, take, slice_get, length, refl, sym, ap, ◌∙◌, subst, inl, inr, Any, All, arith}
-use Rattle.std.proofs.lemmas.Bool.{cases_lt}
-use Rattle.std.proofs.lemmas.List.{append-nil, take_all, length-take-le}
+use Rattle.std.proofs.Common.{◌≡◌, ℕ, zero, suc, ◌+◌, ◌<◌, ◌≤◌, List, [], ◌∷◌, ◌++◌, Option, Some, None, Result, Ok, take, slice_get, length, refl, sym, ◌∙◌, subst, inl, inr, arith}
+use Rattle.std.proofs.lemmas.List.{append-nil}
 use Rattle.std.proofs.lemmas.List.Elements.{All-take, All-pop}
 use Rattle.ld_trace.specs.Events.{KeysBelow, KeyIsBelow}
 use Rattle.ld_trace.specs.declared.event.Event.{Event}
 use Rattle.ld_task.specs.declared.fault.StepFault.{StepFault}
-use Rattle.ld_task.specs.declared.kind.Kind.{Kind}
-use Rattle.ld_task.specs.declared.mark.Mark.{Mark}
 use Rattle.ld_task.specs.Chains.{ChainParts, ChainKeysBelow, ChainHasDependency, ChainHasMark}
-use Rattle.ld_task.specs.TraceChains.{chain, chains}
+use Rattle.ld_task.specs.TraceChains.{chains}
 use Rattle.ld_task.specs.Positions.{positions_below}
 use Rattle.ld_task.specs.EndState.{EndState}
 use Rattle.ld_task.specs.Steps.{GoesOn, IsStateAfter}
 use Rattle.ld_task.proofs.TraceLaws.{chain_keys_are_the_traces}
-use Rattle.ld_graph.specs.Arrows.{arrow}
-use Rattle.ld_graph.specs.Facts.{FactWords, HasDep, HasMark, AddsChain}
+use Rattle.ld_graph.specs.Facts.{FactWords, AddsChain}
 use Rattle.ld_graph.specs.Laws.{AddsChains}
 use Rattle.ld_graph.proofs.ChainLists.{Any-push}
 use Rattle.ld_run.specs.Walks.{ComesNext, WalksOn}

@@ -1,5 +1,5 @@
 -- What the workers of a run bring back, each of its own share. This project's own.
-use Rattle.std.specs.Prelude.{◌≡◌, ◌<◌, ℕ, Bool, List, Option, Some, None, IfOk, IfSome, if◌then◌else◌, nat_lt, slice_get, Result}
+use Rattle.std.specs.Prelude.{◌≡◌, ◌<◌, ℕ, List, Option, Some, None, IfOk, IfSome, if◌then◌else◌, nat_lt, slice_get, Result}
 use Rattle.ld_trace.specs.declared.event.Event.{Event}
 use Rattle.ld_task.specs.declared.fault.StepAt.{StepAt}
 use Rattle.ld_task.specs.declared.mark.Mark.{Mark}

@@ -1,5 +1,5 @@
 -- What the workers of a run gather, each from its share of the traces. This project's own.
-use Rattle.std.specs.Prelude.{◌≡◌, ◌↔◌, ◌⊎◌, ◌<◌, ◌%◌, ℕ, List, Option, Some, None, take, slice_get}
+use Rattle.std.specs.Prelude.{◌≡◌, ◌↔◌, ◌<◌, ◌%◌, ℕ, List, Option, Some, None, take, slice_get}
 use Rattle.ld_trace.specs.declared.event.Event.{Event}
 use Rattle.ld_task.specs.declared.fault.StepAt.{StepAt}
 use Rattle.ld_task.specs.declared.mark.Mark.{Mark}

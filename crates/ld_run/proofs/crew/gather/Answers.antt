@@ -1,4 +1,4 @@
-use Rattle.std.proofs.Common.{◌≡◌, ◌∙◌, ap, length}
+use Rattle.std.proofs.Common.{◌∙◌}
 use Rattle.ld_run.proofs.Shares.{bring_same}
 use Rattle.ld_run.proofs.crew.gather.Goals as goal
 

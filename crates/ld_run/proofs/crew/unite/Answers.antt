@@ -1,5 +1,5 @@
-use Rattle.std.proofs.Common.{◌≡◌, ◌∙◌, ◌+◌, Ok, sym, ap, subst, slice_index_or, length, arith}
-use Rattle.ld_run.specs.Tallies.{IsShareBelow, IsTally}
+use Rattle.std.proofs.Common.{◌≡◌, ◌+◌, sym, subst, slice_index_or, length, arith}
+use Rattle.ld_run.specs.Tallies.{IsShareBelow}
 use Rattle.ld_run.proofs.Shares.{HaveUnited, HaveUnited-next}
 use Rattle.ld_run.proofs.Tallies.{IsTally-same}
 use Rattle.ld_run.proofs.crew.unite.Goals as goal

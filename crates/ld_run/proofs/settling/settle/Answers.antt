@@ -1,4 +1,4 @@
-use Rattle.std.proofs.Common.{◌≡◌, ◌∙◌, sym, subst, true, false, refl}
+use Rattle.std.proofs.Common.{sym, subst, refl}
 use Rattle.ld_graph.specs.Facts.{HaveSameFacts}
 use Rattle.ld_run.proofs.Settlements.{settles-same}
 use Rattle.ld_run.proofs.settling.settle.Goals as goal

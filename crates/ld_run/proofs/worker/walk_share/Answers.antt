@@ -1,4 +1,4 @@
-use Rattle.std.proofs.Common.{◌≡◌, ◌+◌, sym, subst}
+use Rattle.std.proofs.Common.{◌+◌, sym, subst}
 use Rattle.ld_run.proofs.Shares.{HasWalked, HasWalked-mine, HasWalked-other, HasWalked-all}
 use Rattle.ld_run.proofs.worker.walk_share.Goals as goal
 

@@ -1,5 +1,3 @@
-use Rattle.std.proofs.Common.{◌≡◌, ◌<◌}
-use Rattle.ld_run.specs.Tallies.{IsShareOf, IsTally}
 use Rattle.ld_run.proofs.Shares.{HasWalked}
 use Rattle.ld_run.proofs.worker.walk_share.Given as goal
 

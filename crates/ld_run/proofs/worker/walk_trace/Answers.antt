@@ -1,6 +1,5 @@
-use Rattle.std.proofs.Common.{◌≡◌, ◌∙◌, sym, ap, subst, Some, None, arith}
-use Rattle.ld_trace.specs.Events.{KeysBelow}
-use Rattle.ld_run.specs.Walks.{AddsSound, ComesNext, WalksOn}
+use Rattle.std.proofs.Common.{◌∙◌, sym, subst, arith}
+use Rattle.ld_run.specs.Walks.{AddsSound, WalksOn}
 use Rattle.ld_run.proofs.Walking.{IsWalking-none, IsWalking-next, comes_next, never_past}
 use Rattle.ld_run.proofs.Sound.{adds_sound-refused, adds_sound-whole}
 use Rattle.ld_run.proofs.worker.walk_trace.Goals as goal
