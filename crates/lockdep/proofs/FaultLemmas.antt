@@ -1,8 +1,14 @@
 -- What a refused write leaves.
-use Rattle.std.proofs.Common.{◌≡◌, ℕ, List, Option, Result, Ok, Err, OnErr, IfErr, refl}
+use Rattle.std.proofs.Common.{◌≡◌, ◌<◌, ◌≤◌, ◌↔◌, ℕ, Bool, List, Option, Result, Ok, Err, OnOk, OnErr, IfErr, IsErrOf, length, refl, arith}
+use Rattle.ld_trace.specs.Names.{Name}
+use Rattle.ld_trace.specs.declared.event.Event.{Event}
+use Rattle.ld_run.specs.Faults.{IsCrew}
+use Rattle.ld_run.specs.declared.fault.RunFault.TheVariants as run
+use Rattle.lockdep.specs.declared.fault.ReportFault.{ReportFault}
+use Rattle.lockdep.specs.declared.fault.ReportFault.TheVariants.{Step, Run, Out}
 use Rattle.lockdep.specs.declared.fault.WriteFault.{WriteFault}
 use Rattle.lockdep.specs.declared.fault.WriteFault.TheVariants.{Failed, Stuck, Memory}
-use Rattle.lockdep.specs.Faults.{StopsWriting}
+use Rattle.lockdep.specs.Faults.{StopsReport, StopsWriting}
 use Rattle.lockdep.specs.Output.{AppendsBeginning}
 
 pub StopsWriting-begun : {T : Type 0} (IsText : List ℕ → Type 0) (old new : Option (List ℕ)) (text : List ℕ) (r : Result T WriteFault) → IsText text → ¬ (r ≡ Err Memory) → OnErr r (AppendsBeginning old new text) → IfErr r (StopsWriting IsText old new)
@@ -16,3 +22,26 @@ pub StopsWriting-same : (A B : List ℕ → Type 0) → ((text : List ℕ) → A
 StopsWriting-same A B same old new Failed (text, is_text, begun) = (text, same text is_text, begun)
 StopsWriting-same A B same old new Stuck (text, is_text, begun) = (text, same text is_text, begun)
 StopsWriting-same A B same old new Memory kept = kept
+
+module _ (traces : List (List Event)) (names : List Name) (workers : ℕ) (old new : Option (List ℕ)) where
+  -- a report is refused for the number of workers exactly where there can't be so many
+  pub bad_workers_is : (r : Result Bool ReportFault) → OnOk r (IsCrew workers × (length traces ≤ 4096)) → IfErr r (StopsReport traces names workers old new) → IsErrOf r (Run run.BadWorkers) ↔ (¬ IsCrew workers)
+  bad_workers_is (Ok x) crew stops = (λ e. absurd (cc), λ no. absurd (no crew.0))
+  bad_workers_is (Err (Step trace at fault)) crew stops = (λ e. absurd (cc), λ no. absurd (no stops.1.0))
+  bad_workers_is (Err (Run run.BadWorkers)) crew stops = (λ e. stops.0, λ no. refl)
+  bad_workers_is (Err (Run run.TooManyTraces)) crew stops = (λ e. absurd (cc), λ no. absurd (no stops.0.0))
+  bad_workers_is (Err (Run run.Unsettled)) crew stops = (λ e. absurd (cc), λ no. absurd (no stops.0.0))
+  bad_workers_is (Err (Run run.Memory)) crew stops = (λ e. absurd (cc), λ no. absurd (no stops.0.0))
+  bad_workers_is (Err (Run (run.Refused trace place fault))) crew stops = absurd stops.0
+  bad_workers_is (Err (Out fault)) crew stops = (λ e. absurd (cc), λ no. absurd (no stops.0))
+
+  -- and for the number of traces exactly where there are too many for a crew
+  pub too_many_is : (r : Result Bool ReportFault) → OnOk r (IsCrew workers × (length traces ≤ 4096)) → IfErr r (StopsReport traces names workers old new) → IsErrOf r (Run run.TooManyTraces) ↔ (IsCrew workers × (4096 < length traces))
+  too_many_is (Ok x) crew stops = (λ e. absurd (cc), λ more. absurd (omega (arith, crew.1, more.1)))
+  too_many_is (Err (Step trace at fault)) crew stops = (λ e. absurd (cc), λ more. absurd (omega (arith, stops.1.1, more.1)))
+  too_many_is (Err (Run run.BadWorkers)) crew stops = (λ e. absurd (cc), λ more. absurd (stops.0 more.0))
+  too_many_is (Err (Run run.TooManyTraces)) crew stops = (λ e. stops.0, λ more. refl)
+  too_many_is (Err (Run run.Unsettled)) crew stops = (λ e. absurd (cc), λ more. absurd (omega (arith, stops.0.1, more.1)))
+  too_many_is (Err (Run run.Memory)) crew stops = (λ e. absurd (cc), λ more. absurd (omega (arith, stops.0.1, more.1)))
+  too_many_is (Err (Run (run.Refused trace place fault))) crew stops = absurd stops.0
+  too_many_is (Err (Out fault)) crew stops = (λ e. absurd (cc), λ more. absurd (omega (arith, stops.1, more.1)))

@@ -1,7 +1,7 @@
 -- Groups of lines that grow.
-use Rattle.std.proofs.Common.{◌≡◌, ℕ, ◌+◌, ◌<◌, ◌≤◌, List, [], ◌∷◌, ◌++◌, map, take, length, slice_index_or, refl, sym, ap, ◌∙◌, subst, inl, inr}
+use Rattle.std.proofs.Common.{◌≡◌, ℕ, ◌+◌, ◌<◌, List, [], ◌∷◌, ◌++◌, take, length, slice_index_or, refl, sym, ap, ◌∙◌, subst, inl, inr}
 use Rattle.std.specs.List.{flat_map}
-use Rattle.std.proofs.lemmas.List.{append_assoc, append-nil, take_more, take_all}
+use Rattle.std.proofs.lemmas.List.{append_assoc, append-nil, take_more}
 use Rattle.lockdep.specs.Groups.{GrowsBy, InTurn, ShowsWhere}
 
 pub flat_map-append : {X Y : Type 0} (f : Y → List X) (a b : List Y) → flat_map f (a ++ b) ≡ flat_map f a ++ flat_map f b
@@ -12,10 +12,6 @@ pub flat_map-next : {X Y : Type 0} (f : Y → List X) (keys : List Y) (i : ℕ) 
 flat_map-next f keys i d within =
     ap (flat_map f) (take_more keys i d within) ∙ flat_map-append f (take i keys) (slice_index_or keys i d ∷ [])
     ∙ ap (λ t. flat_map f (take i keys) ++ t) (append-nil (f (slice_index_or keys i d)))
-
-pub flat_map-singles : {X Y : Type 0} (f : Y → X) (ys : List Y) → flat_map (λ y. f y ∷ []) ys ≡ map f ys
-flat_map-singles f [] = refl
-flat_map-singles f (y ∷ ys) = ap (λ t. f y ∷ t) (flat_map-singles f ys)
 
 module _ {X : Type 0} (R : X → List ℕ → Type 0) where
   pub InTurn-append : (xs ys : List X) (a b : List ℕ) → InTurn R xs a → InTurn R ys b → InTurn R (xs ++ ys) (a ++ b)
@@ -52,10 +48,6 @@ module _ {X : Type 0} (R : X → List ℕ → Type 0) where
   pub GrowsBy-next_item : {Y : Type 0} (f : Y → List X) (keys : List Y) (i : ℕ) (key : Y) (old mid new : List ℕ) → key ≡ slice_index_or keys i key → i < length keys → GrowsBy (InTurn R (flat_map f (take i keys))) old mid → GrowsBy (InTurn R (f key)) mid new → GrowsBy (InTurn R (flat_map f (take (i + 1) keys))) old new
   GrowsBy-next_item f keys i key old mid new is within before more =
       GrowsBy-next f keys i key old mid new within before (subst (λ k. GrowsBy (InTurn R (f k)) mid new) is more)
-
-  -- all of the list was gone through
-  pub GrowsBy-all : {Y : Type 0} (f : Y → List X) (keys : List Y) (i : ℕ) (old new : List ℕ) → length keys ≤ i → GrowsBy (InTurn R (flat_map f (take i keys))) old new → GrowsBy (InTurn R (flat_map f keys)) old new
-  GrowsBy-all f keys i old new end grew = subst (λ ys. GrowsBy (InTurn R (flat_map f ys)) old new) (take_all i keys end) grew
 
   -- one more thing of the list itself
   pub GrowsBy-more : (xs : List X) (i : ℕ) (x : X) (old mid new : List ℕ) → x ≡ slice_index_or xs i x → i < length xs → GrowsBy (InTurn R (take i xs)) old mid → GrowsBy (R x) mid new → GrowsBy (InTurn R (take (i + 1) xs)) old new

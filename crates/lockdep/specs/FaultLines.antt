@@ -2,7 +2,7 @@
 use Rattle.std.specs.Prelude.{ℕ, List, ◌++◌, codes, decimal}
 use Rattle.ld_trace.specs.TraceFaults.{code_of as trace_code_of}
 use Rattle.ld_task.specs.Faults.{code_of as step_code_of}
-use Rattle.lockdep.specs.Faults.{run_code_of}
+use Rattle.ld_run.specs.Faults.{run_code_of}
 use Rattle.lockdep.specs.declared.refusal.Refusal.{Refusal}
 use Rattle.lockdep.specs.declared.refusal.Refusal.TheVariants.{BadCommandLine, CannotOpen, Output, Memory, Reading, Step, Run}
 

@@ -1,18 +1,18 @@
--- The codes of refused runs and writes, and what a refused report leaves. This project's own.
-use Rattle.std.specs.Prelude.{◌≡◌, ◌+◌, ℕ, List, Option, codes, All}
+-- The codes of refused writes, and what a refused report leaves. This project's own.
+use Rattle.std.specs.Prelude.{◌≡◌, ◌+◌, ◌≤◌, ℕ, List, Option, codes, All, length}
 use Rattle.std.specs.Io.KnownBytes.{Keeps}
 use Rattle.ld_trace.specs.Names.{Name}
 use Rattle.ld_trace.specs.declared.event.Event.{Event}
 use Rattle.ld_task.specs.WellFormed.{IsWellFormed}
 use Rattle.lockdep.specs.Output.{AppendsBeginning}
 use Rattle.lockdep.specs.Report.{IsReportOf}
-use Rattle.ld_run.specs.TraceFacts.{IsFirstRefused}
 use Rattle.lockdep.specs.declared.fault.WriteFault.{WriteFault}
 use Rattle.lockdep.specs.declared.fault.WriteFault.TheVariants.{Failed, Stuck, Memory}
-use Rattle.lockdep.specs.declared.fault.RunFault.{RunFault}
+use Rattle.ld_run.specs.Faults.{IsCrew, StopsRun}
+use Rattle.ld_run.specs.declared.fault.RunFault.{RunFault}
 use Rattle.lockdep.specs.declared.fault.ReportFault.{ReportFault}
 use Rattle.lockdep.specs.declared.fault.ReportFault.TheVariants.{Step, Run, Out}
-use Rattle.lockdep.specs.declared.fault.RunFault.TheVariants.{Memory as RunMemory}
+use Rattle.ld_run.specs.declared.fault.RunFault.TheVariants.{Refused}
 
 -- the number and name of a refused write
 abbrev pub write_code_of : WriteFault → List ℕ
@@ -20,20 +20,22 @@ write_code_of Failed = codes "O1 Failed"
 write_code_of Stuck = codes "O2 Stuck"
 write_code_of Memory = codes "O3 Memory"
 
--- the number and name of a refused run
-abbrev pub run_code_of : RunFault → List ℕ
-run_code_of RunMemory = codes "N4 Memory"
-
 -- writing a text that is as said stopped so: a beginning of one was written, or nothing, where memory was refused
 abbrev pub StopsWriting : (List ℕ → Type 0) → Option (List ℕ) → Option (List ℕ) → WriteFault → Type 0
 StopsWriting IsText old new Failed = (text : List ℕ) × IsText text × AppendsBeginning old new text
 StopsWriting IsText old new Stuck = (text : List ℕ) × IsText text × AppendsBeginning old new text
 StopsWriting IsText old new Memory = Keeps old new
 
--- the report of these traces was refused so: by the first trace that isn't well formed, with the record of its first event
--- that isn't allowed; by want of memory; or in writing
-abbrev pub StopsReport : List (List Event) → List Name → Option (List ℕ) → Option (List ℕ) → ReportFault → Type 0
-StopsReport traces names old new (Step trace at fault) =
-    (place : ℕ) × IsFirstRefused traces trace (record { fault = fault; place = place }) × (at ≡ place + 2) × Keeps old new
-StopsReport traces names old new (Run fault) = Keeps old new
-StopsReport traces names old new (Out fault) = All IsWellFormed traces × StopsWriting (IsReportOf traces names) old new fault
+-- the run was refused so, and not for a trace that isn't well formed
+abbrev pub StopsOtherwise : List (List Event) → ℕ → RunFault → Type 0
+StopsOtherwise traces workers (Refused trace place fault) = ⊥
+StopsOtherwise traces workers fault = StopsRun traces workers fault
+
+-- the report of these traces by so many workers was refused so: by the first trace that isn't well formed, with the record of
+-- its first event that isn't allowed; by the run otherwise; or in writing
+abbrev pub StopsReport : List (List Event) → List Name → ℕ → Option (List ℕ) → Option (List ℕ) → ReportFault → Type 0
+StopsReport traces names workers old new (Step trace at fault) =
+    (place : ℕ) × StopsRun traces workers (Refused trace place fault) × (at ≡ place + 2) × Keeps old new
+StopsReport traces names workers old new (Run fault) = StopsOtherwise traces workers fault × Keeps old new
+StopsReport traces names workers old new (Out fault) =
+    IsCrew workers × (length traces ≤ 4096) × All IsWellFormed traces × StopsWriting (IsReportOf traces names) old new fault

@@ -6,12 +6,13 @@ use Rattle.ld_trace.specs.declared.event.Event.{Event}
 use Rattle.ld_trace.specs.Reading.{ReadsTo}
 use Rattle.ld_task.specs.WellFormed.{IsWellFormed}
 use Rattle.ld_graph.specs.Links.{IsClean}
+use Rattle.ld_run.specs.Faults.{IsCrew}
 use Rattle.clap.specs.Words.{Text}
 use Rattle.lockdep.specs.ChainLines.{chains_text}
 use Rattle.lockdep.specs.CommandLine.{AskForHelp, IsLineOf}
 use Rattle.lockdep.specs.Output.{AppendsBeginning}
 use Rattle.lockdep.specs.Report.{IsReportOf}
-use Rattle.lockdep.specs.TraceFacts.{HaveDependency, HaveMark}
+use Rattle.ld_run.specs.TraceFacts.{HaveDependency, HaveMark}
 use Rattle.lockdep.specs.declared.command_line.Line.{Line}
 use Rattle.lockdep.specs.declared.command_line.Line.TheVariants.{Check, Chains}
 use Rattle.lockdep.specs.declared.refusal.Refusal.{Refusal}
@@ -22,17 +23,23 @@ pub record AreTracesOf (files : List Text) (input : Option (List ℕ)) (names : 
   pub from_input : length files ≡ 0 → (trace : List Event) × (traces ≡ trace ∷ []) × IfSome input (λ bytes. ReadsTo [] bytes names trace)
   pub from_files : 0 < length files → length traces ≡ length files
 
--- the report of the traces was written, and the status says whether their facts are clean
-pub record ReportsOn (files : List Text) (input old new : Option (List ℕ)) (status : ℕ) : Type 0 where
-  pub names : List Name
-  pub traces : List (List Event)
-  pub read : AreTracesOf files input names traces
+-- the report of the traces by so many workers was written, and the status says whether their facts are clean
+pub record WritesReport (workers : ℕ) (names : List Name) (traces : List (List Event)) (old new : Option (List ℕ)) (status : ℕ) : Type 0 where
+  pub crew : IsCrew workers
+  pub few : length traces ≤ 4096
   pub well_formed : All IsWellFormed traces
   pub text : List ℕ
   pub is_report : IsReportOf traces names text
   pub wrote : Appends old new text
   pub range : status ≤ 1
   pub clean : (status ≡ 0) ↔ IsClean (HaveDependency traces) (HaveMark traces)
+
+-- the same, of the traces of the files
+pub record ReportsOn (workers : ℕ) (files : List Text) (input old new : Option (List ℕ)) (status : ℕ) : Type 0 where
+  pub names : List Name
+  pub traces : List (List Event)
+  pub read : AreTracesOf files input names traces
+  pub writes : WritesReport workers names traces old new status
 
 -- the chains of a trace were written: of that of the file, or of the one that standard input holds
 pub record WritesChains (file : Option Text) (input old new : Option (List ℕ)) (status : ℕ) : Type 0 where
@@ -45,7 +52,7 @@ pub record WritesChains (file : Option Text) (input old new : Option (List ℕ))
 
 -- what the line asks for was done
 abbrev pub DoesLine : Line → (input old new : Option (List ℕ)) → ℕ → Type 0
-DoesLine (Check workers files) = ReportsOn (map (λ file. file.now) files.items)
+DoesLine (Check workers files) = ReportsOn workers (map (λ file. file.now) files.items)
 DoesLine (Chains file) = WritesChains (option_map (λ word. word.now) file)
 
 -- help was asked for and written

@@ -21,16 +21,20 @@ use std::io::Write;
 // Puts a number onto the page.
 fn put_number<W: Write>(w: &mut W, page: &mut Page, number: usize) -> Result<(), WriteFault>
     requires { number < 1000 }
-    ensures ok { OnOk result (PutsBehind (W.contents w.old) (W.contents w.new) page.old.bytes page.new.bytes (decimal number)) }
-    ensures err { OnErr result (AppendsBeginning (W.contents w.old) (W.contents w.new) (page.old.bytes ++ decimal number)) }
+    ensures ok { OnOk result (PutsBehind (W.contents w.old) (W.contents w.new) page.old.bytes page.new.bytes
+        (decimal number)) }
+    ensures err { OnErr result (AppendsBeginning (W.contents w.old) (W.contents w.new)
+        (page.old.bytes ++ decimal number)) }
 {
     put_all(w, page, &number_words(number))
 }
 
 // A slash and a subclass.
 fn put_sub<W: Write>(w: &mut W, page: &mut Page, sub: u8) -> Result<(), WriteFault>
-    ensures ok { OnOk result (PutsBehind (W.contents w.old) (W.contents w.new) page.old.bytes page.new.bytes (codes "/" ++ decimal sub)) }
-    ensures err { OnErr result (AppendsBeginning (W.contents w.old) (W.contents w.new) (page.old.bytes ++ (codes "/" ++ decimal sub))) }
+    ensures ok { OnOk result (PutsBehind (W.contents w.old) (W.contents w.new) page.old.bytes page.new.bytes
+        (codes "/" ++ decimal sub)) }
+    ensures err { OnErr result (AppendsBeginning (W.contents w.old) (W.contents w.new)
+        (page.old.bytes ++ (codes "/" ++ decimal sub))) }
 {
     put(w, page, "/")?;
     put_number(w, page, sub as usize)
@@ -38,8 +42,10 @@ fn put_sub<W: Write>(w: &mut W, page: &mut Page, sub: u8) -> Result<(), WriteFau
 
 // A class's name and a subclass.
 fn put_name<W: Write>(w: &mut W, page: &mut Page, name: &str, sub: u8) -> Result<(), WriteFault>
-    ensures ok { OnOk result (PutsBehind (W.contents w.old) (W.contents w.new) page.old.bytes page.new.bytes (key_text (name.now, sub))) }
-    ensures err { OnErr result (AppendsBeginning (W.contents w.old) (W.contents w.new) (page.old.bytes ++ (key_text (name.now, sub)))) }
+    ensures ok { OnOk result (PutsBehind (W.contents w.old) (W.contents w.new) page.old.bytes page.new.bytes
+        (key_text (name.now, sub))) }
+    ensures err { OnErr result (AppendsBeginning (W.contents w.old) (W.contents w.new)
+        (page.old.bytes ++ (key_text (name.now, sub)))) }
 {
     put(w, page, name)?;
     put_sub(w, page, sub)
@@ -52,8 +58,10 @@ fn put_key<W: Write>(
     names: &KeyTable,
     key: KeyId,
 ) -> Result<(), WriteFault>
-    ensures ok { OnOk result (PutsBehind (W.contents w.old) (W.contents w.new) page.old.bytes page.new.bytes (key_text (name_at names.now key))) }
-    ensures err { OnErr result (AppendsBeginning (W.contents w.old) (W.contents w.new) (page.old.bytes ++ (key_text (name_at names.now key)))) }
+    ensures ok { OnOk result (PutsBehind (W.contents w.old) (W.contents w.new) page.old.bytes page.new.bytes
+        (key_text (name_at names.now key))) }
+    ensures err { OnErr result (AppendsBeginning (W.contents w.old) (W.contents w.new)
+        (page.old.bytes ++ (key_text (name_at names.now key)))) }
 {
     let (name, sub) = name_of(names, key);
     put_name(w, page, name, sub)
@@ -61,32 +69,40 @@ fn put_key<W: Write>(
 
 // A mode.
 fn put_mode<W: Write>(w: &mut W, page: &mut Page, mode: Mode) -> Result<(), WriteFault>
-    ensures ok { OnOk result (PutsBehind (W.contents w.old) (W.contents w.new) page.old.bytes page.new.bytes (mode_text mode)) }
-    ensures err { OnErr result (AppendsBeginning (W.contents w.old) (W.contents w.new) (page.old.bytes ++ (mode_text mode))) }
+    ensures ok { OnOk result (PutsBehind (W.contents w.old) (W.contents w.new) page.old.bytes page.new.bytes
+        (mode_text mode)) }
+    ensures err { OnErr result (AppendsBeginning (W.contents w.old) (W.contents w.new)
+        (page.old.bytes ++ (mode_text mode))) }
 {
     put(w, page, mode_word(mode))
 }
 
 // A flag.
 fn put_flag<W: Write>(w: &mut W, page: &mut Page, on: bool) -> Result<(), WriteFault>
-    ensures ok { OnOk result (PutsBehind (W.contents w.old) (W.contents w.new) page.old.bytes page.new.bytes (flag_text on)) }
-    ensures err { OnErr result (AppendsBeginning (W.contents w.old) (W.contents w.new) (page.old.bytes ++ (flag_text on))) }
+    ensures ok { OnOk result (PutsBehind (W.contents w.old) (W.contents w.new) page.old.bytes page.new.bytes
+        (flag_text on)) }
+    ensures err { OnErr result (AppendsBeginning (W.contents w.old) (W.contents w.new)
+        (page.old.bytes ++ (flag_text on))) }
 {
     put(w, page, flag_word(on))
 }
 
 // A frame.
 fn put_frame<W: Write>(w: &mut W, page: &mut Page, frame: Frame) -> Result<(), WriteFault>
-    ensures ok { OnOk result (PutsBehind (W.contents w.old) (W.contents w.new) page.old.bytes page.new.bytes (frame_text frame)) }
-    ensures err { OnErr result (AppendsBeginning (W.contents w.old) (W.contents w.new) (page.old.bytes ++ (frame_text frame))) }
+    ensures ok { OnOk result (PutsBehind (W.contents w.old) (W.contents w.new) page.old.bytes page.new.bytes
+        (frame_text frame)) }
+    ensures err { OnErr result (AppendsBeginning (W.contents w.old) (W.contents w.new)
+        (page.old.bytes ++ (frame_text frame))) }
 {
     put(w, page, frame_word(frame))
 }
 
 // A space and a mode.
 fn put_spaced_mode<W: Write>(w: &mut W, page: &mut Page, mode: Mode) -> Result<(), WriteFault>
-    ensures ok { OnOk result (PutsBehind (W.contents w.old) (W.contents w.new) page.old.bytes page.new.bytes (codes " " ++ mode_text mode)) }
-    ensures err { OnErr result (AppendsBeginning (W.contents w.old) (W.contents w.new) (page.old.bytes ++ (codes " " ++ mode_text mode))) }
+    ensures ok { OnOk result (PutsBehind (W.contents w.old) (W.contents w.new) page.old.bytes page.new.bytes
+        (codes " " ++ mode_text mode)) }
+    ensures err { OnErr result (AppendsBeginning (W.contents w.old) (W.contents w.new)
+        (page.old.bytes ++ (codes " " ++ mode_text mode))) }
 {
     put(w, page, " ")?;
     put_mode(w, page, mode)
@@ -100,8 +116,10 @@ fn put_taken<W: Write>(
     key: KeyId,
     mode: Mode,
 ) -> Result<(), WriteFault>
-    ensures ok { OnOk result (PutsBehind (W.contents w.old) (W.contents w.new) page.old.bytes page.new.bytes (taken_text names.now key mode)) }
-    ensures err { OnErr result (AppendsBeginning (W.contents w.old) (W.contents w.new) (page.old.bytes ++ (taken_text names.now key mode))) }
+    ensures ok { OnOk result (PutsBehind (W.contents w.old) (W.contents w.new) page.old.bytes page.new.bytes
+        (taken_text names.now key mode)) }
+    ensures err { OnErr result (AppendsBeginning (W.contents w.old) (W.contents w.new)
+        (page.old.bytes ++ (taken_text names.now key mode))) }
 {
     put_key(w, page, names, key)?;
     put_spaced_mode(w, page, mode)
@@ -109,8 +127,10 @@ fn put_taken<W: Write>(
 
 // A space and a flag.
 fn put_spaced_flag<W: Write>(w: &mut W, page: &mut Page, on: bool) -> Result<(), WriteFault>
-    ensures ok { OnOk result (PutsBehind (W.contents w.old) (W.contents w.new) page.old.bytes page.new.bytes (codes " " ++ flag_text on)) }
-    ensures err { OnErr result (AppendsBeginning (W.contents w.old) (W.contents w.new) (page.old.bytes ++ (codes " " ++ flag_text on))) }
+    ensures ok { OnOk result (PutsBehind (W.contents w.old) (W.contents w.new) page.old.bytes page.new.bytes
+        (codes " " ++ flag_text on)) }
+    ensures err { OnErr result (AppendsBeginning (W.contents w.old) (W.contents w.new)
+        (page.old.bytes ++ (codes " " ++ flag_text on))) }
 {
     put(w, page, " ")?;
     put_flag(w, page, on)
@@ -123,8 +143,10 @@ fn put_flags<W: Write>(
     hard_on: bool,
     soft_on: bool,
 ) -> Result<(), WriteFault>
-    ensures ok { OnOk result (PutsBehind (W.contents w.old) (W.contents w.new) page.old.bytes page.new.bytes (flags_text hard_on soft_on)) }
-    ensures err { OnErr result (AppendsBeginning (W.contents w.old) (W.contents w.new) (page.old.bytes ++ (flags_text hard_on soft_on))) }
+    ensures ok { OnOk result (PutsBehind (W.contents w.old) (W.contents w.new) page.old.bytes page.new.bytes
+        (flags_text hard_on soft_on)) }
+    ensures err { OnErr result (AppendsBeginning (W.contents w.old) (W.contents w.new)
+        (page.old.bytes ++ (flags_text hard_on soft_on))) }
 {
     put_flag(w, page, hard_on)?;
     put_spaced_flag(w, page, soft_on)
@@ -137,8 +159,10 @@ fn put_spaced_flags<W: Write>(
     hard_on: bool,
     soft_on: bool,
 ) -> Result<(), WriteFault>
-    ensures ok { OnOk result (PutsBehind (W.contents w.old) (W.contents w.new) page.old.bytes page.new.bytes (codes " " ++ flags_text hard_on soft_on)) }
-    ensures err { OnErr result (AppendsBeginning (W.contents w.old) (W.contents w.new) (page.old.bytes ++ (codes " " ++ flags_text hard_on soft_on))) }
+    ensures ok { OnOk result (PutsBehind (W.contents w.old) (W.contents w.new) page.old.bytes page.new.bytes
+        (codes " " ++ flags_text hard_on soft_on)) }
+    ensures err { OnErr result (AppendsBeginning (W.contents w.old) (W.contents w.new)
+        (page.old.bytes ++ (codes " " ++ flags_text hard_on soft_on))) }
 {
     put(w, page, " ")?;
     put_flags(w, page, hard_on, soft_on)
@@ -152,8 +176,10 @@ fn put_circumstances<W: Write>(
     hard_on: bool,
     soft_on: bool,
 ) -> Result<(), WriteFault>
-    ensures ok { OnOk result (PutsBehind (W.contents w.old) (W.contents w.new) page.old.bytes page.new.bytes (frame_text frame ++ (codes " " ++ flags_text hard_on soft_on))) }
-    ensures err { OnErr result (AppendsBeginning (W.contents w.old) (W.contents w.new) (page.old.bytes ++ (frame_text frame ++ (codes " " ++ flags_text hard_on soft_on)))) }
+    ensures ok { OnOk result (PutsBehind (W.contents w.old) (W.contents w.new) page.old.bytes page.new.bytes
+        (frame_text frame ++ (codes " " ++ flags_text hard_on soft_on))) }
+    ensures err { OnErr result (AppendsBeginning (W.contents w.old) (W.contents w.new)
+        (page.old.bytes ++ (frame_text frame ++ (codes " " ++ flags_text hard_on soft_on)))) }
 {
     put_frame(w, page, frame)?;
     put_spaced_flags(w, page, hard_on, soft_on)
@@ -167,8 +193,10 @@ fn put_spaced_circumstances<W: Write>(
     hard_on: bool,
     soft_on: bool,
 ) -> Result<(), WriteFault>
-    ensures ok { OnOk result (PutsBehind (W.contents w.old) (W.contents w.new) page.old.bytes page.new.bytes (codes " " ++ (frame_text frame ++ (codes " " ++ flags_text hard_on soft_on)))) }
-    ensures err { OnErr result (AppendsBeginning (W.contents w.old) (W.contents w.new) (page.old.bytes ++ (codes " " ++ (frame_text frame ++ (codes " " ++ flags_text hard_on soft_on))))) }
+    ensures ok { OnOk result (PutsBehind (W.contents w.old) (W.contents w.new) page.old.bytes page.new.bytes
+        (codes " " ++ (frame_text frame ++ (codes " " ++ flags_text hard_on soft_on)))) }
+    ensures err { OnErr result (AppendsBeginning (W.contents w.old) (W.contents w.new)
+        (page.old.bytes ++ (codes " " ++ (frame_text frame ++ (codes " " ++ flags_text hard_on soft_on))))) }
 {
     put(w, page, " ")?;
     put_circumstances(w, page, frame, hard_on, soft_on)
@@ -181,8 +209,10 @@ fn put_lock<W: Write>(
     names: &KeyTable,
     lock: (KeyId, Mode),
 ) -> Result<(), WriteFault>
-    ensures ok { OnOk result (PutsBehind (W.contents w.old) (W.contents w.new) page.old.bytes page.new.bytes (codes " " ++ taken_text names.now lock.0 lock.1)) }
-    ensures err { OnErr result (AppendsBeginning (W.contents w.old) (W.contents w.new) (page.old.bytes ++ (codes " " ++ taken_text names.now lock.0 lock.1))) }
+    ensures ok { OnOk result (PutsBehind (W.contents w.old) (W.contents w.new) page.old.bytes page.new.bytes
+        (codes " " ++ taken_text names.now lock.0 lock.1)) }
+    ensures err { OnErr result (AppendsBeginning (W.contents w.old) (W.contents w.new)
+        (page.old.bytes ++ (codes " " ++ taken_text names.now lock.0 lock.1))) }
 {
     put(w, page, " ")?;
     put_taken(w, page, names, lock.0, lock.1)
@@ -197,8 +227,12 @@ fn put_taken_in<W: Write>(
     hard_on: bool,
     soft_on: bool,
 ) -> Result<(), WriteFault>
-    ensures ok { OnOk result (PutsBehind (W.contents w.old) (W.contents w.new) page.old.bytes page.new.bytes (taken_text names.now taken.0 taken.1 ++ (codes " " ++ (frame_text taken.2 ++ (codes " " ++ flags_text hard_on soft_on))))) }
-    ensures err { OnErr result (AppendsBeginning (W.contents w.old) (W.contents w.new) (page.old.bytes ++ (taken_text names.now taken.0 taken.1 ++ (codes " " ++ (frame_text taken.2 ++ (codes " " ++ flags_text hard_on soft_on)))))) }
+    ensures ok { OnOk result (PutsBehind (W.contents w.old) (W.contents w.new) page.old.bytes page.new.bytes
+        (taken_text names.now taken.0 taken.1
+        ++ (codes " " ++ (frame_text taken.2 ++ (codes " " ++ flags_text hard_on soft_on))))) }
+    ensures err { OnErr result (AppendsBeginning (W.contents w.old) (W.contents w.new)
+        (page.old.bytes ++ (taken_text names.now taken.0 taken.1
+        ++ (codes " " ++ (frame_text taken.2 ++ (codes " " ++ flags_text hard_on soft_on)))))) }
 {
     put_taken(w, page, names, taken.0, taken.1)?;
     put_spaced_circumstances(w, page, taken.2, hard_on, soft_on)
@@ -213,8 +247,12 @@ fn put_acquisition<W: Write>(
     hard_on: bool,
     soft_on: bool,
 ) -> Result<(), WriteFault>
-    ensures ok { OnOk result (PutsBehind (W.contents w.old) (W.contents w.new) page.old.bytes page.new.bytes (codes "acq " ++ (taken_text names.now taken.0 taken.1 ++ (codes " " ++ (frame_text taken.2 ++ (codes " " ++ flags_text hard_on soft_on)))))) }
-    ensures err { OnErr result (AppendsBeginning (W.contents w.old) (W.contents w.new) (page.old.bytes ++ (codes "acq " ++ (taken_text names.now taken.0 taken.1 ++ (codes " " ++ (frame_text taken.2 ++ (codes " " ++ flags_text hard_on soft_on))))))) }
+    ensures ok { OnOk result (PutsBehind (W.contents w.old) (W.contents w.new) page.old.bytes page.new.bytes
+        (codes "acq " ++ (taken_text names.now taken.0 taken.1
+        ++ (codes " " ++ (frame_text taken.2 ++ (codes " " ++ flags_text hard_on soft_on)))))) }
+    ensures err { OnErr result (AppendsBeginning (W.contents w.old) (W.contents w.new)
+        (page.old.bytes ++ (codes "acq " ++ (taken_text names.now taken.0 taken.1
+        ++ (codes " " ++ (frame_text taken.2 ++ (codes " " ++ flags_text hard_on soft_on))))))) }
 {
     put(w, page, "acq ")?;
     put_taken_in(w, page, names, taken, hard_on, soft_on)
@@ -227,8 +265,10 @@ fn put_opening<W: Write>(
     hard_on: bool,
     soft_on: bool,
 ) -> Result<(), WriteFault>
-    ensures ok { OnOk result (PutsBehind (W.contents w.old) (W.contents w.new) page.old.bytes page.new.bytes (codes "on " ++ flags_text hard_on soft_on)) }
-    ensures err { OnErr result (AppendsBeginning (W.contents w.old) (W.contents w.new) (page.old.bytes ++ (codes "on " ++ flags_text hard_on soft_on))) }
+    ensures ok { OnOk result (PutsBehind (W.contents w.old) (W.contents w.new) page.old.bytes page.new.bytes
+        (codes "on " ++ flags_text hard_on soft_on)) }
+    ensures err { OnErr result (AppendsBeginning (W.contents w.old) (W.contents w.new)
+        (page.old.bytes ++ (codes "on " ++ flags_text hard_on soft_on))) }
 {
     put(w, page, "on ")?;
     put_flags(w, page, hard_on, soft_on)
@@ -241,8 +281,10 @@ fn put_head<W: Write>(
     names: &KeyTable,
     chain: &Chain,
 ) -> Result<(), WriteFault>
-    ensures ok { OnOk result (PutsBehind (W.contents w.old) (W.contents w.new) page.old.bytes page.new.bytes (head_text names.now chain.now.new_lock chain.now.hard_on chain.now.soft_on)) }
-    ensures err { OnErr result (AppendsBeginning (W.contents w.old) (W.contents w.new) (page.old.bytes ++ (head_text names.now chain.now.new_lock chain.now.hard_on chain.now.soft_on))) }
+    ensures ok { OnOk result (PutsBehind (W.contents w.old) (W.contents w.new) page.old.bytes page.new.bytes
+        (head_text names.now chain.now.new_lock chain.now.hard_on chain.now.soft_on)) }
+    ensures err { OnErr result (AppendsBeginning (W.contents w.old) (W.contents w.new)
+        (page.old.bytes ++ (head_text names.now chain.now.new_lock chain.now.hard_on chain.now.soft_on))) }
 {
     let (hard_on, soft_on) = (chain.hard_on(), chain.soft_on());
     match chain.taken() {
@@ -258,8 +300,10 @@ fn put_locks<W: Write>(
     names: &KeyTable,
     chain: &Chain,
 ) -> Result<(), WriteFault>
-    ensures ok { OnOk result (PutsBehind (W.contents w.old) (W.contents w.new) page.old.bytes page.new.bytes (flat_map (lock_text names.now) chain.now.held_locks)) }
-    ensures err { OnErr result (AppendsBeginning (W.contents w.old) (W.contents w.new) (page.old.bytes ++ (flat_map (lock_text names.now) chain.now.held_locks))) }
+    ensures ok { OnOk result (PutsBehind (W.contents w.old) (W.contents w.new) page.old.bytes page.new.bytes
+        (flat_map (lock_text names.now) chain.now.held_locks)) }
+    ensures err { OnErr result (AppendsBeginning (W.contents w.old) (W.contents w.new)
+        (page.old.bytes ++ (flat_map (lock_text names.now) chain.now.held_locks))) }
 {
     for place in 0..chain.held_len() {
         if let Some(lock) = chain.held(place) {
@@ -271,8 +315,10 @@ fn put_locks<W: Write>(
 
 // How many locks are held.
 fn put_count<W: Write>(w: &mut W, page: &mut Page, chain: &Chain) -> Result<(), WriteFault>
-    ensures ok { OnOk result (PutsBehind (W.contents w.old) (W.contents w.new) page.old.bytes page.new.bytes (decimal (length chain.now.held_locks))) }
-    ensures err { OnErr result (AppendsBeginning (W.contents w.old) (W.contents w.new) (page.old.bytes ++ (decimal (length chain.now.held_locks)))) }
+    ensures ok { OnOk result (PutsBehind (W.contents w.old) (W.contents w.new) page.old.bytes page.new.bytes
+        (decimal (length chain.now.held_locks))) }
+    ensures err { OnErr result (AppendsBeginning (W.contents w.old) (W.contents w.new)
+        (page.old.bytes ++ (decimal (length chain.now.held_locks)))) }
 {
     put_number(w, page, chain.held_len())
 }
@@ -284,8 +330,11 @@ fn put_count_and_locks<W: Write>(
     names: &KeyTable,
     chain: &Chain,
 ) -> Result<(), WriteFault>
-    ensures ok { OnOk result (PutsBehind (W.contents w.old) (W.contents w.new) page.old.bytes page.new.bytes (decimal (length chain.now.held_locks) ++ flat_map (lock_text names.now) chain.now.held_locks)) }
-    ensures err { OnErr result (AppendsBeginning (W.contents w.old) (W.contents w.new) (page.old.bytes ++ (decimal (length chain.now.held_locks) ++ flat_map (lock_text names.now) chain.now.held_locks))) }
+    ensures ok { OnOk result (PutsBehind (W.contents w.old) (W.contents w.new) page.old.bytes page.new.bytes
+        (decimal (length chain.now.held_locks) ++ flat_map (lock_text names.now) chain.now.held_locks)) }
+    ensures err { OnErr result (AppendsBeginning (W.contents w.old) (W.contents w.new)
+        (page.old.bytes
+        ++ (decimal (length chain.now.held_locks) ++ flat_map (lock_text names.now) chain.now.held_locks))) }
 {
     put_count(w, page, chain)?;
     put_locks(w, page, names, chain)
@@ -298,8 +347,10 @@ fn put_held<W: Write>(
     names: &KeyTable,
     chain: &Chain,
 ) -> Result<(), WriteFault>
-    ensures ok { OnOk result (PutsBehind (W.contents w.old) (W.contents w.new) page.old.bytes page.new.bytes (held_text names.now chain.now.held_locks)) }
-    ensures err { OnErr result (AppendsBeginning (W.contents w.old) (W.contents w.new) (page.old.bytes ++ (held_text names.now chain.now.held_locks))) }
+    ensures ok { OnOk result (PutsBehind (W.contents w.old) (W.contents w.new) page.old.bytes page.new.bytes
+        (held_text names.now chain.now.held_locks)) }
+    ensures err { OnErr result (AppendsBeginning (W.contents w.old) (W.contents w.new)
+        (page.old.bytes ++ (held_text names.now chain.now.held_locks))) }
 {
     put(w, page, " held ")?;
     put_count_and_locks(w, page, names, chain)
@@ -312,8 +363,10 @@ fn put_rest<W: Write>(
     names: &KeyTable,
     chain: &Chain,
 ) -> Result<(), WriteFault>
-    ensures ok { OnOk result (PutsBehind (W.contents w.old) (W.contents w.new) page.old.bytes page.new.bytes (held_text names.now chain.now.held_locks ++ codes "\n")) }
-    ensures err { OnErr result (AppendsBeginning (W.contents w.old) (W.contents w.new) (page.old.bytes ++ (held_text names.now chain.now.held_locks ++ codes "\n"))) }
+    ensures ok { OnOk result (PutsBehind (W.contents w.old) (W.contents w.new) page.old.bytes page.new.bytes
+        (held_text names.now chain.now.held_locks ++ codes "\n")) }
+    ensures err { OnErr result (AppendsBeginning (W.contents w.old) (W.contents w.new)
+        (page.old.bytes ++ (held_text names.now chain.now.held_locks ++ codes "\n"))) }
 {
     put_held(w, page, names, chain)?;
     put(w, page, "\n")
@@ -326,8 +379,10 @@ fn put_line<W: Write>(
     names: &KeyTable,
     chain: &Chain,
 ) -> Result<(), WriteFault>
-    ensures ok { OnOk result (PutsBehind (W.contents w.old) (W.contents w.new) page.old.bytes page.new.bytes (chain_line names.now chain.now)) }
-    ensures err { OnErr result (AppendsBeginning (W.contents w.old) (W.contents w.new) (page.old.bytes ++ (chain_line names.now chain.now))) }
+    ensures ok { OnOk result (PutsBehind (W.contents w.old) (W.contents w.new) page.old.bytes page.new.bytes
+        (chain_line names.now chain.now)) }
+    ensures err { OnErr result (AppendsBeginning (W.contents w.old) (W.contents w.new)
+        (page.old.bytes ++ (chain_line names.now chain.now))) }
 {
     put_head(w, page, names, chain)?;
     put_rest(w, page, names, chain)
@@ -341,11 +396,14 @@ fn put_event<W: Write>(
     state: &mut TaskState,
     event: Event,
 ) -> Result<(), WriteFault>
-    ensures state { (t : List Event) (n : ℕ) → IsWellFormed t → IsStateAfter t n state.old → slice_get t n ≡ Some event → IsStateAfter t (n + 1) state.new }
-    ensures ok { OnOk result ((t : List Event) (n : ℕ) → IsWellFormed t → IsStateAfter t n state.old → slice_get t n ≡ Some event
-        → (text : List ℕ) × IsLineOf names.now t n text × PutsBehind (W.contents w.old) (W.contents w.new) page.old.bytes page.new.bytes text) }
-    ensures err { OnErr result ((t : List Event) (n : ℕ) → IsWellFormed t → IsStateAfter t n state.old → slice_get t n ≡ Some event
-        → (text : List ℕ) × IsLineOf names.now t n text × AppendsBeginning (W.contents w.old) (W.contents w.new) (page.old.bytes ++ text)) }
+    ensures state { (t : List Event) (n : ℕ) → IsWellFormed t → IsStateAfter t n state.old
+        → slice_get t n ≡ Some event → IsStateAfter t (n + 1) state.new }
+    ensures ok { OnOk result ((t : List Event) (n : ℕ) → IsWellFormed t → IsStateAfter t n state.old
+        → slice_get t n ≡ Some event → (text : List ℕ) × IsLineOf names.now t n text
+        × PutsBehind (W.contents w.old) (W.contents w.new) page.old.bytes page.new.bytes text) }
+    ensures err { OnErr result ((t : List Event) (n : ℕ) → IsWellFormed t → IsStateAfter t n state.old
+        → slice_get t n ≡ Some event → (text : List ℕ) × IsLineOf names.now t n text
+        × AppendsBeginning (W.contents w.old) (W.contents w.new) (page.old.bytes ++ text)) }
 {
     match state.step(event) {
         Ok(answer) => match answer {
@@ -363,8 +421,10 @@ fn put_lines<W: Write>(
     names: &KeyTable,
     trace: &Trace,
 ) -> Result<(), WriteFault>
-    ensures ok { OnOk result (PutsBehind (W.contents w.old) (W.contents w.new) page.old.bytes page.new.bytes (chains_text names.now trace.now)) }
-    ensures err { OnErr result (AppendsBeginning (W.contents w.old) (W.contents w.new) (page.old.bytes ++ (chains_text names.now trace.now))) }
+    ensures ok { OnOk result (PutsBehind (W.contents w.old) (W.contents w.new) page.old.bytes page.new.bytes
+        (chains_text names.now trace.now)) }
+    ensures err { OnErr result (AppendsBeginning (W.contents w.old) (W.contents w.new)
+        (page.old.bytes ++ (chains_text names.now trace.now))) }
 {
     let mut state = TaskState::new();
     for place in 0..trace.len() {
@@ -382,7 +442,8 @@ fn put_lines<W: Write>(
 /// then. Takes no memory.
 pub fn write_chains<W: Write>(w: &mut W, trace: &Trace, names: &KeyTable) -> Result<(), WriteFault>
     ensures ok { OnOk result (Appends (W.contents w.old) (W.contents w.new) (chains_text names.now trace.now)) }
-    ensures err { OnErr result (AppendsBeginning (W.contents w.old) (W.contents w.new) (chains_text names.now trace.now)) }
+    ensures err { OnErr result (AppendsBeginning (W.contents w.old) (W.contents w.new)
+        (chains_text names.now trace.now)) }
 {
     let mut page = Page::new();
     put_lines(w, &mut page, names, trace)?;

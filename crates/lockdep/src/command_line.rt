@@ -47,9 +47,9 @@ fn files_argument<'a>(alloc: Global) -> Arg<'a>
     ensures rule { rule_of result ≡ files_rule }
     ensures local { result.global ≡ false }
 {
-    Arg::new(alloc, "FILE")
-        .num_args(0..)
-        .help("A file with a trace; without one, a trace is read from standard input")
+    Arg::new(alloc, "FILE").num_args(0..).help(
+        "A file with a trace; without one, a trace is read from standard input",
+    )
 }
 
 // The one file of a trace.
@@ -98,7 +98,8 @@ fn command<'a>(alloc: Global) -> Result<Command<'a>, AllocError>
 
 // The FILE words.
 fn files_of<'a>(alloc: Global, found: &ArgMatches<'a>) -> Result<Vec<&'a str>, AllocError>
-    ensures { IfOk result (λ files. map (λ file. file.now) files.items ≡ unwrap_or (all_of (codes "FILE") (rows_of (found_of found.now))) []) }
+    ensures { IfOk result (λ files. map (λ file. file.now) files.items
+        ≡ unwrap_or (all_of (codes "FILE") (rows_of (found_of found.now))) []) }
 {
     let mut files = Vec::new(alloc);
     if let Some(given) = found.get_raw("FILE") {
@@ -109,7 +110,8 @@ fn files_of<'a>(alloc: Global, found: &ArgMatches<'a>) -> Result<Vec<&'a str>, A
 
 // What the words of `check` ask for.
 fn check_line<'a>(alloc: Global, found: &ArgMatches<'a>) -> Result<Line<'a>, LineFault>
-    ensures ok { IfOk result (λ line. (subcommand_word line ≡ codes "check") × ReadsLine (rows_of (found_of found.now)) line) }
+    ensures ok { IfOk result (λ line. (subcommand_word line ≡ codes "check")
+        × ReadsLine (rows_of (found_of found.now)) line) }
     ensures no_help { IfErr result (λ fault. (words : List (List ℕ)) → IsLineFault words fault) }
 {
     let Some(workers) = found.get_one::<u16>("workers") else {
@@ -139,7 +141,8 @@ fn line_of<'a>(alloc: Global, matches: &ArgMatches<'a>) -> Result<Line<'a>, Line
 
 // What an error of clap comes to.
 fn fault_of(error: clap::Error) -> LineFault
-    ensures { (words : List (List ℕ)) → (kind_of error ≡ ErrorKind.DisplayHelp → AskForHelp words) → IsLineFault words result }
+    ensures { (words : List (List ℕ)) → (kind_of error ≡ ErrorKind.DisplayHelp → AskForHelp words)
+        → IsLineFault words result }
 {
     match error.kind() {
         ErrorKind::DisplayHelp => LineFault::Help(error),

@@ -1,8 +1,9 @@
 //! Why no report was written.
 
 ghost use Rattle.std.specs.Prelude.{◌≡◌};
-ghost use Rattle.lockdep.specs.Faults.{run_code_of, write_code_of};
+ghost use Rattle.lockdep.specs.Faults.{write_code_of};
 
+use ld_run::RunFault;
 use ld_task::StepFault;
 use thiserror::Error;
 
@@ -29,25 +30,6 @@ impl WriteFault {
             WriteFault::Failed => "O1 Failed",
             WriteFault::Stuck => "O2 Stuck",
             WriteFault::Memory => "O3 Memory",
-        }
-    }
-}
-
-/// Why a run over traces was refused.
-#[derive(Clone, Copy, PartialEq, Eq, Debug, Error)]
-pub enum RunFault {
-    /// N4: memory was refused.
-    #[error("N4 Memory")]
-    Memory,
-}
-
-impl RunFault {
-    /// The fault's number and name, as `N4 Memory`.
-    pub fn code(&self) -> &'static str
-        ensures { result.now ≡ run_code_of self.now }
-    {
-        match self {
-            RunFault::Memory => "N4 Memory",
         }
     }
 }

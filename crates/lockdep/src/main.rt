@@ -7,7 +7,6 @@ use std::{env, io};
 mod chains;
 mod command_line;
 mod fault;
-mod gather;
 mod order;
 mod output;
 mod page;

@@ -26,7 +26,8 @@ pub(crate) fn write_out<W: Write>(w: &mut W, page: &mut Page) -> Result<(), Writ
 
 /// Puts a text onto the page, and writes the page out where there is no room.
 pub(crate) fn put<W: Write>(w: &mut W, page: &mut Page, text: &str) -> Result<(), WriteFault>
-    ensures ok { OnOk result (PutsBehind (W.contents w.old) (W.contents w.new) page.old.bytes page.new.bytes text.now) }
+    ensures ok { OnOk result (PutsBehind (W.contents w.old) (W.contents w.new) page.old.bytes page.new.bytes
+        text.now) }
     ensures err { OnErr result (AppendsBeginning (W.contents w.old) (W.contents w.new) (page.old.bytes ++ text.now)) }
 {
     match page.try_push_str(text) {
@@ -37,7 +38,8 @@ pub(crate) fn put<W: Write>(w: &mut W, page: &mut Page, text: &str) -> Result<()
 
 // Writes out the page, and the text behind it.
 fn write_both<W: Write>(w: &mut W, page: &mut Page, text: &str) -> Result<(), WriteFault>
-    ensures ok { OnOk result (PutsBehind (W.contents w.old) (W.contents w.new) page.old.bytes page.new.bytes text.now) }
+    ensures ok { OnOk result (PutsBehind (W.contents w.old) (W.contents w.new) page.old.bytes page.new.bytes
+        text.now) }
     ensures err { OnErr result (AppendsBeginning (W.contents w.old) (W.contents w.new) (page.old.bytes ++ text.now)) }
 {
     write_out(w, page)?;
@@ -50,8 +52,10 @@ pub(crate) fn put_all<W: Write>(
     page: &mut Page,
     texts: &[&str],
 ) -> Result<(), WriteFault>
-    ensures ok { OnOk result (PutsBehind (W.contents w.old) (W.contents w.new) page.old.bytes page.new.bytes (flat_map (λ text. text.now) texts.now)) }
-    ensures err { OnErr result (AppendsBeginning (W.contents w.old) (W.contents w.new) (page.old.bytes ++ flat_map (λ text. text.now) texts.now)) }
+    ensures ok { OnOk result (PutsBehind (W.contents w.old) (W.contents w.new) page.old.bytes page.new.bytes
+        (flat_map (λ text. text.now) texts.now)) }
+    ensures err { OnErr result (AppendsBeginning (W.contents w.old) (W.contents w.new)
+        (page.old.bytes ++ flat_map (λ text. text.now) texts.now)) }
 {
     for text in texts {
         put(w, page, text)?;

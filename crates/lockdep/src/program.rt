@@ -1,6 +1,20 @@
 //! The program: a command line, the traces that it names, and what is written for them.
 
-ghost use Rattle.std.specs.Prelude.{◌≤◌, IfOk};
+ghost use Rattle.std.specs.Prelude.{◌≡◌, ◌<◌, ◌≤◌, ◌+◌, ◌∷◌, ◌++◌, [], ℕ, List, Option, None, IfOk, IfErr, IfSome, OnOk, length, map, option_map};
+ghost use Rattle.std.specs.Io.KnownBytes.{Appends};
+ghost use Rattle.ld_trace.specs.Events.{KeysBelow};
+ghost use Rattle.ld_trace.specs.Names.{Name};
+ghost use Rattle.ld_trace.specs.Reading.{ReadsTo};
+ghost use Rattle.ld_trace.specs.declared.event.Event.{Event};
+ghost use Rattle.ld_task.specs.WellFormed.{IsWellFormed};
+ghost use Rattle.lockdep.specs.ChainLines.{chains_text};
+ghost use Rattle.lockdep.specs.CommandLine.{IsLineFault};
+ghost use Rattle.lockdep.specs.FaultLines.{fault_line};
+ghost use Rattle.lockdep.specs.Faults.{StopsReport, StopsWriting};
+ghost use Rattle.lockdep.specs.Output.{AppendsBeginning};
+ghost use Rattle.lockdep.specs.Program.{AreTracesOf, DoesLine, DoesWords, LeavesOutput, ReportsOn, WritesChains, WritesHelp, WritesReport};
+ghost use Rattle.lockdep.specs.Report.{IsReportOf};
+ghost use Rattle.lockdep.specs.declared.refusal.Refusal.{Refusal};
 
 use crate::chains::write_chains;
 use crate::command_line::{Line, LineFault, command_line};
@@ -8,8 +22,9 @@ use crate::fault::{ReportFault, WriteFault};
 use crate::output::write_text;
 use crate::refusal::{Refusal, refuse};
 use crate::session::Session;
-use ld_task::{StepAt, Trace, check};
-use ld_trace::{KeyTable, read_trace};
+use ld_run::OpenGate;
+use ld_task::{Trace, check};
+use ld_trace::{KeyTable, RawTrace, read_trace};
 use std::alloc::Global;
 use std::fs::File;
 use std::io::{Read, Write};
@@ -33,7 +48,7 @@ const STDIN: &str = "stdin";
 ///
 /// The status is 0 where the facts are clean, the chains were written, or help was asked for and written; 1 where a report
 /// was written whose facts aren't clean; and 2 where the program refused. Exactly one line is written on `err` then, and
-/// none otherwise; where `err` fails, that is passed over.
+/// none otherwise; where `err` fails, that is passed over. This project's own.
 pub fn program<R: Files + Threads + Wait + Sync, I: Read + Drop, O: Write, E: Write>(
     rt: &R,
     alloc: Global,
@@ -42,7 +57,13 @@ pub fn program<R: Files + Threads + Wait + Sync, I: Read + Drop, O: Write, E: Wr
     out: &mut O,
     err: &mut E,
 ) -> u8
-    ensures { result ≤ 2 }
+    ensures status { result ≤ 2 }
+    ensures done { result < 2 → DoesWords (map (λ word. word.now) words.entry.now) (I.remaining input)
+        (O.contents out.old) (O.contents out.new) result }
+    ensures quiet { result < 2 → err.new ≡ err.old }
+    ensures refused { result ≡ 2 → (refusal : Refusal)
+        × LeavesOutput refusal (O.contents out.old) (O.contents out.new)
+        × AppendsBeginning (E.contents err.old) (E.contents err.new) (fault_line refusal) }
 {
     match answer(rt, alloc, words, input, out) {
         Ok(status) => status,
@@ -51,58 +72,150 @@ pub fn program<R: Files + Threads + Wait + Sync, I: Read + Drop, O: Write, E: Wr
 }
 
 // Does what the words ask for, and answers the status.
-fn answer<'a, R: Files, I: Read + Drop, O: Write>(
+fn answer<'a, R: Files + Threads + Wait + Sync, I: Read + Drop, O: Write>(
     rt: &R,
     alloc: Global,
     words: &'a [&'a str],
     input: I,
     out: &mut O,
 ) -> Result<u8, Refusal<'a>>
-    ensures { IfOk result (λ status. status ≤ 1) }
+    ensures ok { IfOk result (DoesWords (map (λ word. word.now) words.entry.now) (I.remaining input)
+        (O.contents out.old) (O.contents out.new)) }
+    ensures few { IfOk result (λ status. status ≤ 1) }
+    ensures err { IfErr result (λ refusal. LeavesOutput refusal (O.contents out.old) (O.contents out.new)) }
 {
     match command_line(alloc, words) {
-        Ok(Line::Check { workers, files }) => {
-            answer_check(rt, alloc, workers, files.as_slice(), input, out)
+        Ok(line) => answer_line(rt, alloc, &line, input, out),
+        Err(fault) => answer_fault(alloc, &fault, out),
+    }
+}
+
+// Does what the line asks for.
+fn answer_line<'a, R: Files + Threads + Wait + Sync, I: Read + Drop, O: Write>(
+    rt: &R,
+    alloc: Global,
+    line: &Line<'a>,
+    input: I,
+    out: &mut O,
+) -> Result<u8, Refusal<'a>>
+    ensures ok { IfOk result (DoesLine line.entry.now (I.remaining input) (O.contents out.old) (O.contents out.new)) }
+    ensures few { IfOk result (λ status. status ≤ 1) }
+    ensures err { IfErr result (λ refusal. LeavesOutput refusal (O.contents out.old) (O.contents out.new)) }
+{
+    match line {
+        Line::Check { workers, files } => {
+            answer_check(rt, alloc, *workers, files.as_slice(), input, out)
         }
-        Ok(Line::Chains { file }) => answer_chains(rt, alloc, file, input, out),
-        Err(LineFault::Help(help)) => answer_help(alloc, &help, out),
-        Err(LineFault::Refused) => Err(Refusal::BadCommandLine),
-        Err(LineFault::Memory) => Err(Refusal::Memory),
+        Line::Chains { file } => answer_chains(rt, alloc, *file, input, out),
+    }
+}
+
+// Writes the help that was asked for, or answers why the command line is refused.
+fn answer_fault<'a, O: Write>(
+    alloc: Global,
+    fault: &LineFault,
+    out: &mut O,
+) -> Result<u8, Refusal<'a>>
+    ensures ok { (words : List (List ℕ)) → IsLineFault words fault.now
+        → IfOk result (WritesHelp words (O.contents out.old) (O.contents out.new)) }
+    ensures few { IfOk result (λ status. status ≤ 1) }
+    ensures err { IfErr result (λ refusal. LeavesOutput refusal (O.contents out.old) (O.contents out.new)) }
+{
+    match fault {
+        LineFault::Help(help) => answer_help(alloc, help, out),
+        LineFault::Refused => Err(Refusal::BadCommandLine),
+        LineFault::Memory => Err(Refusal::Memory),
+    }
+}
+
+// Writes the text of the help that was asked for.
+fn answer_help<'a, O: Write>(
+    alloc: Global,
+    help: &clap::Error,
+    out: &mut O,
+) -> Result<u8, Refusal<'a>>
+    ensures ok { IfOk result (λ status. (status ≡ 0)
+        × ((text : List ℕ) × Appends (O.contents out.old) (O.contents out.new) text)) }
+    ensures err { IfErr result (λ refusal. LeavesOutput refusal (O.contents out.old) (O.contents out.new)) }
+{
+    let Ok(text) = help.to_string(alloc) else {
+        return Err(Refusal::Memory);
+    };
+    match write_text(out, text.as_str().as_bytes()) {
+        Ok(()) => Ok(DONE),
+        Err(_) => Err(Refusal::Output),
     }
 }
 
 // Writes the report of the traces in the files, or of the one in the input where there are none.
-fn answer_check<'a, R: Files, I: Read + Drop, O: Write>(
+fn answer_check<'a, R: Files + Threads + Wait + Sync, I: Read + Drop, O: Write>(
     rt: &R,
     alloc: Global,
-    _workers: u16,
+    workers: u16,
     files: &[&'a str],
     input: I,
     out: &mut O,
 ) -> Result<u8, Refusal<'a>>
-    ensures { IfOk result (λ status. status ≤ 1) }
+    ensures ok { IfOk result (ReportsOn workers (map (λ file. file.now) files.entry.now) (I.remaining input)
+        (O.contents out.old) (O.contents out.new)) }
+    ensures err { IfErr result (λ refusal. LeavesOutput refusal (O.contents out.old) (O.contents out.new)) }
 {
     let Ok(mut session) = Session::new(alloc) else {
         return Err(Refusal::Memory);
     };
-    add_traces(rt, &mut session, files, input)?;
-    match session.report(alloc, out) {
-        Ok(true) => Ok(DONE),
-        Ok(false) => Ok(NOT_CLEAN),
+    match add_traces(rt, &mut session, files, input) {
+        Ok(()) => report_session(rt, alloc, workers, files, session, out),
+        Err(refusal) => Err(refusal),
+    }
+}
+
+// Writes the report of the session's traces, which are those of the files.
+fn report_session<'a, R: Threads + Wait + Sync, O: Write>(
+    rt: &R,
+    alloc: Global,
+    workers: u16,
+    files: &[&'a str],
+    session: Session,
+    out: &mut O,
+) -> Result<u8, Refusal<'a>>
+    ensures ok { IfOk result (WritesReport workers session.names session.traces
+        (O.contents out.old) (O.contents out.new)) }
+    ensures err { IfErr result (λ refusal. LeavesOutput refusal (O.contents out.old) (O.contents out.new)) }
+{
+    match session.report(rt, alloc, workers, &OpenGate, out) {
+        Ok(clean) => Ok(if clean { DONE } else { NOT_CLEAN }),
         Err(fault) => Err(report_refusal(files, fault)),
     }
 }
 
-// Reads the traces of the files, or that of the input where there are none.
+// Reads the traces of the files, or that of the input where there are none, into a session that has none.
 fn add_traces<'a, R: Files, I: Read + Drop>(
     rt: &R,
     session: &mut Session,
     files: &[&'a str],
     input: I,
-) -> Result<(), Refusal<'a>> {
+) -> Result<(), Refusal<'a>>
+    requires no_names { session.old.names ≡ [] }
+    requires no_traces { session.old.traces ≡ [] }
+    ensures ok { OnOk result (AreTracesOf (map (λ file. file.now) files.entry.now) (I.remaining input)
+        session.new.names session.new.traces) }
+    ensures err { IfErr result (λ refusal. (known : Option (List ℕ)) → LeavesOutput refusal known known) }
+{
     if files.is_empty() {
         return add_trace(session, STDIN, input);
     }
+    add_files(rt, session, files)
+}
+
+// Opens and reads each file in turn.
+fn add_files<'a, R: Files>(
+    rt: &R,
+    session: &mut Session,
+    files: &[&'a str],
+) -> Result<(), Refusal<'a>>
+    ensures ok { OnOk result (length session.new.traces ≡ length session.old.traces + length files.entry.now) }
+    ensures err { IfErr result (λ refusal. (known : Option (List ℕ)) → LeavesOutput refusal known known) }
+{
     for file in files {
         add_file(rt, session, file)?;
     }
@@ -110,11 +223,10 @@ fn add_traces<'a, R: Files, I: Read + Drop>(
 }
 
 // Opens a file and reads its trace.
-fn add_file<'a, R: Files>(
-    rt: &R,
-    session: &mut Session,
-    file: &'a str,
-) -> Result<(), Refusal<'a>> {
+fn add_file<'a, R: Files>(rt: &R, session: &mut Session, file: &'a str) -> Result<(), Refusal<'a>>
+    ensures ok { OnOk result (length session.new.traces ≡ length session.old.traces + 1) }
+    ensures err { IfErr result (λ refusal. (known : Option (List ℕ)) → LeavesOutput refusal known known) }
+{
     match File::open(rt, file) {
         Ok(opened) => add_trace(session, file, opened),
         Err(_) => Err(Refusal::CannotOpen { file }),
@@ -126,7 +238,11 @@ fn add_trace<'a, I: Read + Drop>(
     session: &mut Session,
     file: &'a str,
     opened: I,
-) -> Result<(), Refusal<'a>> {
+) -> Result<(), Refusal<'a>>
+    ensures ok { OnOk result ((trace : List Event) × (session.new.traces ≡ session.old.traces ++ trace ∷ [])
+        × IfSome (I.remaining opened) (λ bytes. ReadsTo session.old.names bytes session.new.names trace)) }
+    ensures err { IfErr result (λ refusal. (known : Option (List ℕ)) → LeavesOutput refusal known known) }
+{
     match session.add(opened) {
         Ok(()) => Ok(()),
         Err(fault) => Err(Refusal::Reading { file, fault }),
@@ -141,7 +257,9 @@ fn answer_chains<'a, R: Files, I: Read + Drop, O: Write>(
     input: I,
     out: &mut O,
 ) -> Result<u8, Refusal<'a>>
-    ensures { IfOk result (λ status. status ≤ 1) }
+    ensures ok { IfOk result (WritesChains (option_map (λ word. word.now) file.entry) (I.remaining input)
+        (O.contents out.old) (O.contents out.new)) }
+    ensures err { IfErr result (λ refusal. LeavesOutput refusal (O.contents out.old) (O.contents out.new)) }
 {
     let Some(file) = file else {
         return answer_chains_of(alloc, STDIN, input, out);
@@ -159,15 +277,32 @@ fn answer_chains_of<'a, I: Read + Drop, O: Write>(
     opened: I,
     out: &mut O,
 ) -> Result<u8, Refusal<'a>>
-    ensures { IfOk result (λ status. status ≤ 1) }
+    ensures ok { IfOk result (WritesChains None (I.remaining opened) (O.contents out.old) (O.contents out.new)) }
+    ensures err { IfErr result (λ refusal. LeavesOutput refusal (O.contents out.old) (O.contents out.new)) }
 {
     let Ok(mut keys) = KeyTable::new(alloc) else {
         return Err(Refusal::Memory);
     };
-    let trace = well_formed_trace(alloc, file, opened, &mut keys)?;
-    match write_chains(out, &trace, &keys) {
+    match well_formed_trace(alloc, file, opened, &mut keys) {
+        Ok(trace) => chains_status(out, &trace, &keys),
+        Err(refusal) => Err(refusal),
+    }
+}
+
+// Writes the chains of the trace.
+fn chains_status<'a, O: Write>(
+    out: &mut O,
+    trace: &Trace,
+    keys: &KeyTable,
+) -> Result<u8, Refusal<'a>>
+    requires { KeysBelow (length keys.now) trace.now }
+    ensures ok { IfOk result (λ status. (status ≡ 0)
+        × Appends (O.contents out.old) (O.contents out.new) (chains_text keys.now trace.now)) }
+    ensures err { IfErr result (λ refusal. LeavesOutput refusal (O.contents out.old) (O.contents out.new)) }
+{
+    match write_chains(out, trace, keys) {
         Ok(()) => Ok(DONE),
-        Err(fault) => Err(write_refusal(fault)),
+        Err(_) => Err(Refusal::Output),
     }
 }
 
@@ -177,39 +312,37 @@ fn well_formed_trace<'a, I: Read + Drop>(
     file: &'a str,
     opened: I,
     keys: &mut KeyTable,
-) -> Result<Trace, Refusal<'a>> {
+) -> Result<Trace, Refusal<'a>>
+    ensures ok { IfOk result (λ trace. IsWellFormed trace × KeysBelow (length keys.new) trace
+        × IfSome (I.remaining opened) (λ bytes. ReadsTo keys.old bytes keys.new trace)) }
+    ensures err { IfErr result (λ refusal. (known : Option (List ℕ)) → LeavesOutput refusal known known) }
+{
     match read_trace(alloc, opened, keys) {
-        Ok(read) => match check(read) {
-            Ok(trace) => Ok(trace),
-            Err(StepAt { fault, place }) => Err(Refusal::Step {
-                file,
-                at: place + 2,
-                fault,
-            }),
-        },
+        Ok(read) => checked_trace(file, read),
         Err(fault) => Err(Refusal::Reading { file, fault }),
     }
 }
 
-// Writes the text of the help that was asked for.
-fn answer_help<'a, O: Write>(
-    alloc: Global,
-    help: &clap::Error,
-    out: &mut O,
-) -> Result<u8, Refusal<'a>>
-    ensures { IfOk result (λ status. status ≤ 1) }
+// The trace, where it is well formed.
+fn checked_trace<'a>(file: &'a str, read: RawTrace) -> Result<Trace, Refusal<'a>>
+    ensures ok { IfOk result (λ trace. (trace ≡ read) × IsWellFormed trace) }
+    ensures err { IfErr result (λ refusal. (known : Option (List ℕ)) → LeavesOutput refusal known known) }
 {
-    let Ok(text) = help.to_string(alloc) else {
-        return Err(Refusal::Memory);
-    };
-    match write_text(out, text.as_str().as_bytes()) {
-        Ok(()) => Ok(DONE),
-        Err(fault) => Err(write_refusal(fault)),
+    match check(read) {
+        Ok(trace) => Ok(trace),
+        Err(found) => Err(Refusal::Step {
+            file,
+            at: found.place + 2,
+            fault: found.fault,
+        }),
     }
 }
 
-// The refusal of a text that wasn't written whole.
-fn write_refusal<'a>(fault: WriteFault) -> Refusal<'a> {
+// The refusal of a report that wasn't written whole.
+fn write_refusal<'a>(fault: WriteFault) -> Refusal<'a>
+    ensures { (traces : List (List Event)) (names : List Name) (old new : Option (List ℕ))
+        → StopsWriting (IsReportOf traces names) old new fault → LeavesOutput result old new }
+{
     match fault {
         WriteFault::Failed => Refusal::Output,
         WriteFault::Stuck => Refusal::Output,
@@ -218,7 +351,10 @@ fn write_refusal<'a>(fault: WriteFault) -> Refusal<'a> {
 }
 
 // The refusal of a report on the traces of these files.
-fn report_refusal<'a>(files: &[&'a str], fault: ReportFault) -> Refusal<'a> {
+fn report_refusal<'a>(files: &[&'a str], fault: ReportFault) -> Refusal<'a>
+    ensures { (traces : List (List Event)) (names : List Name) (workers : ℕ) (old new : Option (List ℕ))
+        → StopsReport traces names workers old new fault → LeavesOutput result old new }
+{
     match fault {
         ReportFault::Step { trace, at, fault } => Refusal::Step {
             file: file_of(files, trace),

@@ -6,9 +6,10 @@ ghost use Rattle.std.specs.Io.KnownBytes.{Appends};
 ghost use Rattle.lockdep.specs.FaultLines.{fault_line, record_line};
 ghost use Rattle.lockdep.specs.Output.{AppendsBeginning, PutsBehind};
 
-use crate::fault::{ReportFault, RunFault, WriteFault};
+use crate::fault::WriteFault;
 use crate::page::{Page, put_all, write_out};
 use crate::text::number_words;
+use ld_run::RunFault;
 use ld_task::StepFault;
 use ld_trace::TraceFault;
 use std::io::Write;
@@ -22,13 +23,18 @@ pub(crate) enum Refusal<'a> {
     /// P1: the command line is refused, or its words can't be got as text.
     BadCommandLine,
     /// P2: the file can't be opened.
-    CannotOpen { file: &'a str },
+    CannotOpen {
+        file: &'a str,
+    },
     /// P3: the output took no more.
     Output,
     /// P4: memory was refused in the command line, in making the session or the key table, or in writing.
     Memory,
     /// A trace is refused in reading.
-    Reading { file: &'a str, fault: TraceFault },
+    Reading {
+        file: &'a str,
+        fault: TraceFault,
+    },
     /// A trace isn't well formed: the number of the record, counted from 1 with the header, and why.
     Step {
         file: &'a str,
@@ -41,8 +47,10 @@ pub(crate) enum Refusal<'a> {
 
 // Puts the digits of a number onto the page.
 fn put_digits<W: Write>(w: &mut W, page: &mut Page, number: usize) -> Result<(), WriteFault>
-    ensures ok { OnOk result (PutsBehind (W.contents w.old) (W.contents w.new) page.old.bytes page.new.bytes (decimal number)) }
-    ensures err { OnErr result (AppendsBeginning (W.contents w.old) (W.contents w.new) (page.old.bytes ++ decimal number)) }
+    ensures ok { OnOk result (PutsBehind (W.contents w.old) (W.contents w.new) page.old.bytes page.new.bytes
+        (decimal number)) }
+    ensures err { OnErr result (AppendsBeginning (W.contents w.old) (W.contents w.new)
+        (page.old.bytes ++ decimal number)) }
 {
     if number < 10 {
         return put_all(w, page, &number_words(number));
@@ -53,8 +61,10 @@ fn put_digits<W: Write>(w: &mut W, page: &mut Page, number: usize) -> Result<(),
 
 // Puts some texts onto the page and writes it out.
 fn finish<W: Write>(w: &mut W, page: &mut Page, texts: &[&str]) -> Result<(), WriteFault>
-    ensures ok { OnOk result (Appends (W.contents w.old) (W.contents w.new) (page.old.bytes ++ flat_map (λ text. text.now) texts.now)) }
-    ensures err { OnErr result (AppendsBeginning (W.contents w.old) (W.contents w.new) (page.old.bytes ++ flat_map (λ text. text.now) texts.now)) }
+    ensures ok { OnOk result (Appends (W.contents w.old) (W.contents w.new)
+        (page.old.bytes ++ flat_map (λ text. text.now) texts.now)) }
+    ensures err { OnErr result (AppendsBeginning (W.contents w.old) (W.contents w.new)
+        (page.old.bytes ++ flat_map (λ text. text.now) texts.now)) }
 {
     put_all(w, page, texts)?;
     write_out(w, page)
@@ -63,21 +73,19 @@ fn finish<W: Write>(w: &mut W, page: &mut Page, texts: &[&str]) -> Result<(), Wr
 // Writes some texts.
 fn tell_texts<W: Write>(w: &mut W, texts: &[&str]) -> Result<(), WriteFault>
     ensures ok { OnOk result (Appends (W.contents w.old) (W.contents w.new) (flat_map (λ text. text.now) texts.now)) }
-    ensures err { OnErr result (AppendsBeginning (W.contents w.old) (W.contents w.new) (flat_map (λ text. text.now) texts.now)) }
+    ensures err { OnErr result (AppendsBeginning (W.contents w.old) (W.contents w.new)
+        (flat_map (λ text. text.now) texts.now)) }
 {
     let mut page = Page::new();
     finish(w, &mut page, texts)
 }
 
 // Puts a record's number onto the page, and writes out page and code.
-fn tell_place<W: Write>(
-    w: &mut W,
-    page: &mut Page,
-    at: usize,
-    code: &str,
-) -> Result<(), WriteFault>
-    ensures ok { OnOk result (Appends (W.contents w.old) (W.contents w.new) (page.old.bytes ++ (decimal at ++ (codes ": " ++ (code.now ++ codes "\n"))))) }
-    ensures err { OnErr result (AppendsBeginning (W.contents w.old) (W.contents w.new) (page.old.bytes ++ (decimal at ++ (codes ": " ++ (code.now ++ codes "\n"))))) }
+fn tell_place<W: Write>(w: &mut W, page: &mut Page, at: usize, code: &str) -> Result<(), WriteFault>
+    ensures ok { OnOk result (Appends (W.contents w.old) (W.contents w.new)
+        (page.old.bytes ++ (decimal at ++ (codes ": " ++ (code.now ++ codes "\n"))))) }
+    ensures err { OnErr result (AppendsBeginning (W.contents w.old) (W.contents w.new)
+        (page.old.bytes ++ (decimal at ++ (codes ": " ++ (code.now ++ codes "\n"))))) }
 {
     put_digits(w, page, at)?;
     finish(w, page, &[": ", code, "\n"])
@@ -86,7 +94,8 @@ fn tell_place<W: Write>(
 // Writes the line of a refused record.
 fn tell_record<W: Write>(w: &mut W, file: &str, at: usize, code: &str) -> Result<(), WriteFault>
     ensures ok { OnOk result (Appends (W.contents w.old) (W.contents w.new) (record_line file.now at code.now)) }
-    ensures err { OnErr result (AppendsBeginning (W.contents w.old) (W.contents w.new) (record_line file.now at code.now)) }
+    ensures err { OnErr result (AppendsBeginning (W.contents w.old) (W.contents w.new)
+        (record_line file.now at code.now)) }
 {
     let mut page = Page::new();
     put_all(w, &mut page, &["lockdep: ", file, ": record "])?;

@@ -5,7 +5,7 @@ ghost use Rattle.std.specs.List.{flat_map};
 ghost use Rattle.std.specs.Io.KnownBytes.{Appends};
 ghost use Rattle.ld_graph.specs.Arrows.{arrow};
 ghost use Rattle.ld_graph.specs.Walks.{OnCircle};
-ghost use Rattle.ld_graph.specs.Links.{IsClean, IsDouble, IsInversion};
+ghost use Rattle.ld_graph.specs.Links.{IsDouble, IsInversion};
 ghost use Rattle.ld_graph.specs.Facts.{HasDep, HasMark};
 ghost use Rattle.lockdep.specs.Faults.{StopsWriting};
 ghost use Rattle.lockdep.specs.Groups.{GrowsBy, InTurn};
@@ -16,7 +16,8 @@ use crate::fault::WriteFault;
 use crate::order::{name_of, sorted_keys};
 use crate::output::write_text;
 use crate::text::{irq_word, kind_word};
-use ld_graph::{Graph, Kind, Mark};
+use ld_graph::{Kind, Mark};
+use ld_run::Settled;
 use ld_trace::{Irq, KeyId, KeyTable, RawTrace};
 use std::alloc::{AllocError, Global};
 use std::io::Write;
@@ -29,42 +30,43 @@ const STATES: [Irq; 2] = [Irq::Hard, Irq::Soft];
 
 /// What a report is written from.
 #[derive(Clone, Copy)]
-pub(crate) struct Findings<'a> {
+struct Findings<'a> {
     /// The facts, with what they mean.
-    pub graph: &'a Graph,
+    settled: &'a Settled,
     /// The names of the keys.
-    pub names: &'a KeyTable,
+    names: &'a KeyTable,
     /// All keys, in the order of their names.
-    pub keys: &'a [KeyId],
+    keys: &'a [KeyId],
 }
 
 impl Findings<'_> {
     // Whether the dependency is on a circle.
     fn on_circle(self, from: KeyId, to: KeyId, kind: Kind) -> bool
-        ensures { IsTrue result ↔ OnCircle (HasDep self.entry.graph.now.facts) (arrow from to kind) }
+        ensures { IsTrue result ↔ OnCircle (HasDep self.entry.settled.now) (arrow from to kind) }
     {
-        self.graph.on_circle(from.get(), to.get(), kind)
+        self.settled.on_circle(from.get(), to.get(), kind)
     }
 
     // Whether the key is used both in the state and with it enabled.
     fn is_double(self, irq: Irq, key: KeyId) -> bool
-        ensures { IsTrue result ↔ IsDouble (HasMark self.entry.graph.now.facts) irq key }
+        ensures { IsTrue result ↔ IsDouble (HasMark self.entry.settled.now) irq key }
     {
-        self.graph.is_double(irq, key.get())
+        self.settled.is_double(irq, key.get())
     }
 
     // Whether the two keys are in an inversion.
     fn is_inversion(self, irq: Irq, a: KeyId, b: KeyId) -> bool
-        ensures { IsTrue result ↔ IsInversion (HasDep self.entry.graph.now.facts) (HasMark self.entry.graph.now.facts) irq a b }
+        ensures { IsTrue result ↔ IsInversion (HasDep self.entry.settled.now)
+            (HasMark self.entry.settled.now) irq a b }
     {
-        self.graph.is_inversion(irq, a.get(), b.get())
+        self.settled.is_inversion(irq, a.get(), b.get())
     }
 
     // Whether the key has the mark.
     fn has_mark(self, key: KeyId, mark: Mark) -> bool
-        ensures { IsTrue result ↔ HasMark self.entry.graph.now.facts key mark }
+        ensures { IsTrue result ↔ HasMark self.entry.settled.now key mark }
     {
-        self.graph.facts().has_mark(key.get(), mark)
+        self.settled.has_mark(key.get(), mark)
     }
 
     // The line of a dependency on a circle.
@@ -75,7 +77,8 @@ impl Findings<'_> {
         to: KeyId,
         kind: Kind,
     ) -> Result<(), AllocError>
-        ensures { OnOk result (string_bytes text.new ≡ string_bytes text.old ++ circle_line self.entry.names.now (from, to, kind)) }
+        ensures { OnOk result (string_bytes text.new ≡ string_bytes text.old
+            ++ circle_line self.entry.names.now (from, to, kind)) }
     {
         let (from_name, from_sub) = name_of(self.names, from);
         let (to_name, to_sub) = name_of(self.names, to);
@@ -94,7 +97,9 @@ impl Findings<'_> {
         to: KeyId,
         kind: Kind,
     ) -> Result<(), AllocError>
-        ensures { OnOk result (GrowsBy (ShowsCircle (HasDep self.entry.graph.now.facts) self.entry.names.now (from, to, kind)) (string_bytes text.old) (string_bytes text.new)) }
+        ensures { OnOk result (GrowsBy
+            (ShowsCircle (HasDep self.entry.settled.now) self.entry.names.now (from, to, kind))
+            (string_bytes text.old) (string_bytes text.new)) }
     {
         if self.on_circle(from, to, kind) {
             self.add_circle_line(text, from, to, kind)
@@ -105,7 +110,10 @@ impl Findings<'_> {
 
     // The circle lines of the dependencies from the one key to the other.
     fn add_circles_to(self, text: &mut String, from: KeyId, to: KeyId) -> Result<(), AllocError>
-        ensures { OnOk result (GrowsBy (InTurn (ShowsCircle (HasDep self.entry.graph.now.facts) self.entry.names.now) (map (λ kind. (from, to, kind)) kinds)) (string_bytes text.old) (string_bytes text.new)) }
+        ensures { OnOk result (GrowsBy
+            (InTurn (ShowsCircle (HasDep self.entry.settled.now) self.entry.names.now)
+            (map (λ kind. (from, to, kind)) kinds))
+            (string_bytes text.old) (string_bytes text.new)) }
     {
         for kind in KINDS {
             self.add_circle(text, from, to, kind)?;
@@ -115,7 +123,10 @@ impl Findings<'_> {
 
     // The circle lines of the dependencies from the key.
     fn add_circles_from(self, text: &mut String, from: KeyId) -> Result<(), AllocError>
-        ensures { OnOk result (GrowsBy (InTurn (ShowsCircle (HasDep self.entry.graph.now.facts) self.entry.names.now) (dependencies_from self.entry.keys.now from)) (string_bytes text.old) (string_bytes text.new)) }
+        ensures { OnOk result (GrowsBy
+            (InTurn (ShowsCircle (HasDep self.entry.settled.now) self.entry.names.now)
+            (dependencies_from self.entry.keys.now from))
+            (string_bytes text.old) (string_bytes text.new)) }
     {
         for to in self.keys {
             self.add_circles_to(text, from, *to)?;
@@ -125,7 +136,10 @@ impl Findings<'_> {
 
     // The circle lines.
     fn add_circles(self, text: &mut String) -> Result<(), AllocError>
-        ensures { OnOk result (GrowsBy (InTurn (ShowsCircle (HasDep self.entry.graph.now.facts) self.entry.names.now) (dependencies_between self.entry.keys.now)) (string_bytes text.old) (string_bytes text.new)) }
+        ensures { OnOk result (GrowsBy
+            (InTurn (ShowsCircle (HasDep self.entry.settled.now) self.entry.names.now)
+            (dependencies_between self.entry.keys.now))
+            (string_bytes text.old) (string_bytes text.new)) }
     {
         for from in self.keys {
             self.add_circles_from(text, *from)?;
@@ -135,7 +149,8 @@ impl Findings<'_> {
 
     // The line of a key that is used both in a state and with it enabled.
     fn add_double_line(self, text: &mut String, irq: Irq, key: KeyId) -> Result<(), AllocError>
-        ensures { OnOk result (string_bytes text.new ≡ string_bytes text.old ++ double_line self.entry.names.now (irq, key)) }
+        ensures { OnOk result (string_bytes text.new ≡ string_bytes text.old
+            ++ double_line self.entry.names.now (irq, key)) }
     {
         let (name, sub) = name_of(self.names, key);
         let state = irq_word(irq);
@@ -144,7 +159,9 @@ impl Findings<'_> {
 
     // The same, where the key is used so.
     fn add_double(self, text: &mut String, irq: Irq, key: KeyId) -> Result<(), AllocError>
-        ensures { OnOk result (GrowsBy (ShowsDouble (HasMark self.entry.graph.now.facts) self.entry.names.now (irq, key)) (string_bytes text.old) (string_bytes text.new)) }
+        ensures { OnOk result (GrowsBy
+            (ShowsDouble (HasMark self.entry.settled.now) self.entry.names.now (irq, key))
+            (string_bytes text.old) (string_bytes text.new)) }
     {
         if self.is_double(irq, key) {
             self.add_double_line(text, irq, key)
@@ -155,7 +172,10 @@ impl Findings<'_> {
 
     // The double lines of one state.
     fn add_doubles_of(self, text: &mut String, irq: Irq) -> Result<(), AllocError>
-        ensures { OnOk result (GrowsBy (InTurn (ShowsDouble (HasMark self.entry.graph.now.facts) self.entry.names.now) (map (λ key. (irq, key)) self.entry.keys.now)) (string_bytes text.old) (string_bytes text.new)) }
+        ensures { OnOk result (GrowsBy
+            (InTurn (ShowsDouble (HasMark self.entry.settled.now) self.entry.names.now)
+            (map (λ key. (irq, key)) self.entry.keys.now))
+            (string_bytes text.old) (string_bytes text.new)) }
     {
         for key in self.keys {
             self.add_double(text, irq, *key)?;
@@ -165,7 +185,9 @@ impl Findings<'_> {
 
     // The double lines.
     fn add_doubles(self, text: &mut String) -> Result<(), AllocError>
-        ensures { OnOk result (GrowsBy (InTurn (ShowsDouble (HasMark self.entry.graph.now.facts) self.entry.names.now) (uses_of self.entry.keys.now)) (string_bytes text.old) (string_bytes text.new)) }
+        ensures { OnOk result (GrowsBy
+            (InTurn (ShowsDouble (HasMark self.entry.settled.now) self.entry.names.now) (uses_of self.entry.keys.now))
+            (string_bytes text.old) (string_bytes text.new)) }
     {
         for irq in STATES {
             self.add_doubles_of(text, irq)?;
@@ -181,7 +203,8 @@ impl Findings<'_> {
         a: KeyId,
         b: KeyId,
     ) -> Result<(), AllocError>
-        ensures { OnOk result (string_bytes text.new ≡ string_bytes text.old ++ inversion_line self.entry.names.now (irq, a, b)) }
+        ensures { OnOk result (string_bytes text.new ≡ string_bytes text.old
+            ++ inversion_line self.entry.names.now (irq, a, b)) }
     {
         let (a_name, a_sub) = name_of(self.names, a);
         let (b_name, b_sub) = name_of(self.names, b);
@@ -197,7 +220,10 @@ impl Findings<'_> {
         a: KeyId,
         b: KeyId,
     ) -> Result<(), AllocError>
-        ensures { OnOk result (GrowsBy (ShowsInversion (HasDep self.entry.graph.now.facts) (HasMark self.entry.graph.now.facts) self.entry.names.now (irq, a, b)) (string_bytes text.old) (string_bytes text.new)) }
+        ensures { OnOk result (GrowsBy
+            (ShowsInversion (HasDep self.entry.settled.now) (HasMark self.entry.settled.now) self.entry.names.now
+            (irq, a, b))
+            (string_bytes text.old) (string_bytes text.new)) }
     {
         if self.is_inversion(irq, a, b) {
             self.add_inversion_line(text, irq, a, b)
@@ -208,7 +234,11 @@ impl Findings<'_> {
 
     // The inversion lines of one state and one first key.
     fn add_inversions_from(self, text: &mut String, irq: Irq, a: KeyId) -> Result<(), AllocError>
-        ensures { OnOk result (GrowsBy (InTurn (ShowsInversion (HasDep self.entry.graph.now.facts) (HasMark self.entry.graph.now.facts) self.entry.names.now) (map (λ b. (irq, a, b)) self.entry.keys.now)) (string_bytes text.old) (string_bytes text.new)) }
+        ensures { OnOk result (GrowsBy
+            (InTurn (ShowsInversion (HasDep self.entry.settled.now) (HasMark self.entry.settled.now)
+            self.entry.names.now)
+            (map (λ b. (irq, a, b)) self.entry.keys.now))
+            (string_bytes text.old) (string_bytes text.new)) }
     {
         for b in self.keys {
             self.add_inversion(text, irq, a, *b)?;
@@ -218,7 +248,11 @@ impl Findings<'_> {
 
     // The inversion lines of one state.
     fn add_inversions_of(self, text: &mut String, irq: Irq) -> Result<(), AllocError>
-        ensures { OnOk result (GrowsBy (InTurn (ShowsInversion (HasDep self.entry.graph.now.facts) (HasMark self.entry.graph.now.facts) self.entry.names.now) (pairs_with self.entry.keys.now irq)) (string_bytes text.old) (string_bytes text.new)) }
+        ensures { OnOk result (GrowsBy
+            (InTurn (ShowsInversion (HasDep self.entry.settled.now) (HasMark self.entry.settled.now)
+            self.entry.names.now)
+            (pairs_with self.entry.keys.now irq))
+            (string_bytes text.old) (string_bytes text.new)) }
     {
         for a in self.keys {
             self.add_inversions_from(text, irq, *a)?;
@@ -228,7 +262,11 @@ impl Findings<'_> {
 
     // The inversion lines.
     fn add_inversions(self, text: &mut String) -> Result<(), AllocError>
-        ensures { OnOk result (GrowsBy (InTurn (ShowsInversion (HasDep self.entry.graph.now.facts) (HasMark self.entry.graph.now.facts) self.entry.names.now) (pairs_of self.entry.keys.now)) (string_bytes text.old) (string_bytes text.new)) }
+        ensures { OnOk result (GrowsBy
+            (InTurn (ShowsInversion (HasDep self.entry.settled.now) (HasMark self.entry.settled.now)
+            self.entry.names.now)
+            (pairs_of self.entry.keys.now))
+            (string_bytes text.old) (string_bytes text.new)) }
     {
         for irq in STATES {
             self.add_inversions_of(text, irq)?;
@@ -238,7 +276,7 @@ impl Findings<'_> {
 
     // What the usage line says of one state and form.
     fn usage_character(self, key: KeyId, irq: Irq, read: bool) -> &'static str
-        ensures { IsUsageCharacter (HasMark self.entry.graph.now.facts key) irq read result.now }
+        ensures { IsUsageCharacter (HasMark self.entry.settled.now key) irq read result.now }
     {
         let enabled = self.has_mark(key, Mark::Enabled { irq, read });
         let used_in = self.has_mark(key, Mark::UsedIn { irq, read });
@@ -255,7 +293,8 @@ impl Findings<'_> {
         soft: &str,
         soft_read: &str,
     ) -> Result<(), AllocError>
-        ensures { OnOk result (string_bytes text.new ≡ string_bytes text.old ++ usage_line (name_at self.entry.names.now key) hard.now hard_read.now soft.now soft_read.now) }
+        ensures { OnOk result (string_bytes text.new ≡ string_bytes text.old
+            ++ usage_line (name_at self.entry.names.now key) hard.now hard_read.now soft.now soft_read.now) }
     {
         let (name, sub) = name_of(self.names, key);
         writeln!(
@@ -266,7 +305,9 @@ impl Findings<'_> {
 
     // The usage line of a key.
     fn add_usage_line(self, text: &mut String, key: KeyId) -> Result<(), AllocError>
-        ensures { OnOk result (GrowsBy (IsUsageLine self.entry.names.now (HasMark self.entry.graph.now.facts) key) (string_bytes text.old) (string_bytes text.new)) }
+        ensures { OnOk result (GrowsBy
+            (IsUsageLine self.entry.names.now (HasMark self.entry.settled.now) key)
+            (string_bytes text.old) (string_bytes text.new)) }
     {
         let hard = self.usage_character(key, Irq::Hard, false);
         let hard_read = self.usage_character(key, Irq::Hard, true);
@@ -277,7 +318,9 @@ impl Findings<'_> {
 
     // The usage lines.
     fn add_usage(self, text: &mut String) -> Result<(), AllocError>
-        ensures { OnOk result (GrowsBy (InTurn (IsUsageLine self.entry.names.now (HasMark self.entry.graph.now.facts)) self.entry.keys.now) (string_bytes text.old) (string_bytes text.new)) }
+        ensures { OnOk result (GrowsBy
+            (InTurn (IsUsageLine self.entry.names.now (HasMark self.entry.settled.now)) self.entry.keys.now)
+            (string_bytes text.old) (string_bytes text.new)) }
     {
         for key in self.keys {
             self.add_usage_line(text, *key)?;
@@ -286,21 +329,20 @@ impl Findings<'_> {
     }
 }
 
-/// The text of the report of the graph's facts, from so many traces and events. The flag says whether they are clean.
-pub(crate) fn report_text(
+// The text of the report of the settled facts, from so many traces and events.
+fn report_text(
     alloc: Global,
-    graph: &Graph,
+    settled: &Settled,
     names: &KeyTable,
     traces: usize,
     events: u128,
-    clean: bool,
 ) -> Result<String, AllocError>
-    ensures { IfOk result (λ text. (IsTrue clean ↔ IsClean (HasDep graph.now.facts) (HasMark graph.now.facts))
-        → IsReport (HasDep graph.now.facts) (HasMark graph.now.facts) traces events names.now (string_bytes text)) }
+    ensures { IfOk result (λ text. IsReport (HasDep settled.now) (HasMark settled.now) traces events names.now
+        (string_bytes text)) }
 {
     let keys = sorted_keys(alloc, names)?;
     let findings = Findings {
-        graph,
+        settled,
         names,
         keys: keys.as_slice(),
     };
@@ -310,8 +352,8 @@ pub(crate) fn report_text(
         traces,
         events,
         names.len(),
-        graph.facts().dependencies(),
-        clean,
+        settled.dependencies(),
+        settled.is_clean(),
     )?;
     findings.add_usage(&mut text)?;
     findings.add_circles(&mut text)?;
@@ -329,7 +371,8 @@ fn add_total_lines(
     dependencies: u64,
     clean: bool,
 ) -> Result<(), AllocError>
-    ensures { OnOk result (string_bytes text.new ≡ string_bytes text.old ++ total_lines traces events keys dependencies clean) }
+    ensures { OnOk result (string_bytes text.new ≡ string_bytes text.old
+        ++ total_lines traces events keys dependencies clean) }
 {
     add_total(text, "traces", traces as u128)?;
     add_total(text, "events", events)?;
@@ -364,26 +407,27 @@ fn character_of(enabled: bool, used_in: bool) -> &'static str
     }
 }
 
-/// Writes the report of the graph's facts, which come from these traces. The flag says whether they are clean.
+/// Writes the report of settled facts that come from these traces, with the names of the keys that are in the table.
 ///
 /// Refusals: O3 where memory for the text is refused, before its first byte; O1 where the writer answers an error and O2
-/// where it takes nothing, after exactly a beginning of the text.
-pub(crate) fn write_report<W: Write>(
+/// where it takes nothing, after exactly a beginning of the text. This project's own.
+pub fn write_report<W: Write>(
     alloc: Global,
     w: &mut W,
-    graph: &Graph,
+    settled: &Settled,
     traces: &[RawTrace],
     names: &KeyTable,
-    clean: bool,
 ) -> Result<(), WriteFault>
-    requires { IsTrue clean ↔ IsClean (HasDep graph.now.facts) (HasMark graph.now.facts) }
-    ensures ok { OnOk result ((text : List ℕ) × IsReport (HasDep graph.now.facts) (HasMark graph.now.facts) (length traces.now) (sum_by length traces.now) names.now text
+    ensures ok { OnOk result ((text : List ℕ)
+        × IsReport (HasDep settled.now) (HasMark settled.now) (length traces.now) (sum_by length traces.now)
+        names.now text
         × Appends (W.contents w.old) (W.contents w.new) text) }
-    ensures err { IfErr result (StopsWriting (IsReport (HasDep graph.now.facts) (HasMark graph.now.facts) (length traces.now) (sum_by length traces.now) names.now)
+    ensures err { IfErr result (StopsWriting
+        (IsReport (HasDep settled.now) (HasMark settled.now) (length traces.now) (sum_by length traces.now) names.now)
         (W.contents w.old) (W.contents w.new)) }
 {
     let events = event_count(traces);
-    match report_text(alloc, graph, names, traces.len(), events, clean) {
+    match report_text(alloc, settled, names, traces.len(), events) {
         Ok(text) => write_text(w, text.as_str().as_bytes()),
         Err(_) => Err(WriteFault::Memory),
     }

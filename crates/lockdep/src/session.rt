@@ -1,30 +1,29 @@
 //! A session: traces that are read one after the other, and the report of all of them.
 
-ghost use Rattle.std.specs.Prelude.{◌≡◌, ◌+◌, ◌<◌, ◌∷◌, ◌++◌, [], ℕ, List, All, length, IsOkAnd, IfOk, IfErr, IfSome, IsTrue, ◌↔◌};
+ghost use Rattle.std.specs.Prelude.{◌≡◌, ◌+◌, ◌<◌, ◌≤◌, ◌∷◌, ◌++◌, [], ℕ, List, Option, All, length, slice_get, IfOk, IfErr, IfSome, IsErrOf, IsSomeAnd, IsTrue, OnOk, ◌↔◌};
 ghost use Rattle.std.specs.Io.KnownBytes.{Appends};
 ghost use Rattle.ld_trace.specs.declared.event.Event.{Event};
-ghost use Rattle.std.specs.List.{flat_map};
 ghost use Rattle.ld_trace.specs.Names.{Name};
 ghost use Rattle.ld_trace.specs.Events.{KeysBelow};
 ghost use Rattle.ld_trace.specs.Reading.{ReadsTo, StopsAt};
 ghost use Rattle.ld_task.specs.WellFormed.{IsWellFormed};
-ghost use Rattle.ld_task.specs.TraceChains.{chains};
-ghost use Rattle.ld_graph.specs.Laws.{AreFactsOf};
 ghost use Rattle.ld_graph.specs.Links.{IsClean};
+ghost use Rattle.ld_run.specs.Faults.{IsCrew, StopsRun};
+ghost use Rattle.ld_run.specs.Runs.{AreFactsOfAll};
 ghost use Rattle.lockdep.specs.Faults.{StopsReport, StopsWriting};
 ghost use Rattle.lockdep.specs.declared.fault.WriteFault.{WriteFault};
 ghost use Rattle.lockdep.specs.Report.{IsReportOf};
 ghost use Rattle.ld_run.specs.TraceFacts.{HaveDependency, HaveMark};
 
-use crate::fault::{ReportFault, RunFault};
-use crate::gather::add_traces;
+use crate::fault::ReportFault;
 use crate::report::write_report;
-use ld_graph::Graph;
-use ld_task::StepAt;
+use ld_run::{Gate, RunFault, Settled, run};
 use ld_trace::{KeyFault, KeyTable, RawTrace, TraceFault, TraceFaultKind, read_trace};
 use std::alloc::Global;
 use std::io::{Read, Write};
 use std::marker::Model;
+use std::sync::Wait;
+use std::thread::Threads;
 
 /// Traces that were read, and the names of their keys.
 #[derive(Drop)]
@@ -70,18 +69,43 @@ impl Session {
         add_trace(self.alloc, reader, &mut self.keys, &mut self.traces)
     }
 
-    /// Writes the report of all traces together, and answers whether their facts are clean. The session is given up.
+    /// Checks all traces by so many workers, writes the report of all of them together, and answers whether their facts are
+    /// clean. What is written doesn't depend on the number of workers. Each worker calls the gate just before it records a
+    /// chain. The session is given up.
     ///
-    /// Refusals, in this order: `Run` with N4 where memory for the facts is refused; `Step` with the least trace that isn't
-    /// well formed, the record of its first event that isn't allowed and why; `Out` where writing failed. Nothing was
-    /// written after the first two and after O3, and exactly a beginning of the report after O1 and O2.
-    pub fn report<W: Write>(self, alloc: Global, w: &mut W) -> Result<bool, ReportFault>
+    /// Refusals, in this order: `Run` with N1 where `workers` isn't 1 to 64, with N2 where there are more than 4,096 traces
+    /// and with N4 where memory for the run is refused; `Step` with the least trace that isn't well formed, the record of its
+    /// first event that isn't allowed and why; `Run` with N3 where the workers don't agree on the facts; `Out` where writing
+    /// failed. Nothing was written before `Out` and after O3, and exactly a beginning of the report after O1 and O2. This
+    /// project's own.
+    pub fn report<R: Threads + Wait + Sync, W: Write, G: Gate + Sync>(
+        self,
+        rt: &R,
+        alloc: Global,
+        workers: u16,
+        gate: &G,
+        w: &mut W,
+    ) -> Result<bool, ReportFault>
         ensures ok { IfOk result (λ clean. All IsWellFormed self.traces
             × (IsTrue clean ↔ IsClean (HaveDependency self.traces) (HaveMark self.traces))
-            × ((text : List ℕ) × IsReportOf self.traces self.names text × Appends (W.contents w.old) (W.contents w.new) text)) }
-        ensures refused { IfErr result (StopsReport self.traces self.names (W.contents w.old) (W.contents w.new)) }
+            × ((text : List ℕ) × IsReportOf self.traces self.names text
+            × Appends (W.contents w.old) (W.contents w.new) text)) }
+        ensures crew { OnOk result (IsCrew workers × (length self.traces ≤ 4096)) }
+        ensures bad_workers { IsErrOf result (ReportFault.Run RunFault.BadWorkers) ↔ (¬ IsCrew workers) }
+        ensures too_many { IsErrOf result (ReportFault.Run RunFault.TooManyTraces)
+            ↔ (IsCrew workers × (4096 < length self.traces)) }
+        ensures refused { IfErr result (StopsReport self.traces self.names workers
+            (W.contents w.old) (W.contents w.new)) }
     {
-        report_traces(alloc, w, self.traces.as_slice(), &self.keys)
+        report_traces(
+            rt,
+            alloc,
+            workers,
+            gate,
+            w,
+            self.traces.as_slice(),
+            &self.keys,
+        )
     }
 }
 
@@ -92,7 +116,8 @@ fn add_trace<R: Read + Drop>(
     keys: &mut KeyTable,
     traces: &mut Vec<RawTrace>,
 ) -> Result<(), TraceFault>
-    ensures ok { IfOk result (λ _. (trace : List Event) × (traces.new.items ≡ traces.old.items ++ trace ∷ []) × KeysBelow (length keys.new) trace
+    ensures ok { IfOk result (λ _. (trace : List Event) × (traces.new.items ≡ traces.old.items ++ trace ∷ [])
+        × KeysBelow (length keys.new) trace
         × IfSome (R.remaining reader) (λ bytes. ReadsTo keys.old bytes keys.new trace)) }
     ensures refused { IfErr result (λ fault. (traces.new.items ≡ traces.old.items)
         × IfSome (R.remaining reader) (λ bytes. StopsAt keys.old bytes keys.new fault)) }
@@ -120,9 +145,12 @@ fn no_room() -> TraceFault
     }
 }
 
-// Writes the report of the traces, and answers whether their facts are clean.
-fn report_traces<W: Write>(
+// Checks the traces, writes their report, and answers whether their facts are clean.
+fn report_traces<R: Threads + Wait + Sync, W: Write, G: Gate + Sync>(
+    rt: &R,
     alloc: Global,
+    workers: u16,
+    gate: &G,
     w: &mut W,
     traces: &[RawTrace],
     keys: &KeyTable,
@@ -130,47 +158,65 @@ fn report_traces<W: Write>(
     requires { All (KeysBelow (length keys.now)) traces.now }
     ensures ok { IfOk result (λ clean. All IsWellFormed traces.now
         × (IsTrue clean ↔ IsClean (HaveDependency traces.now) (HaveMark traces.now))
-        × ((text : List ℕ) × IsReportOf traces.now keys.now text × Appends (W.contents w.old) (W.contents w.new) text)) }
-    ensures refused { IfErr result (StopsReport traces.now keys.now (W.contents w.old) (W.contents w.new)) }
+        × ((text : List ℕ) × IsReportOf traces.now keys.now text
+        × Appends (W.contents w.old) (W.contents w.new) text)) }
+    ensures crew { OnOk result (IsCrew workers × (length traces.now ≤ 4096)) }
+    ensures refused { IfErr result (StopsReport traces.now keys.now workers (W.contents w.old) (W.contents w.new)) }
 {
-    let Ok(mut graph) = Graph::new(alloc, keys.len() as u16) else {
-        return Err(ReportFault::Run(RunFault::Memory));
-    };
-    match add_traces(&mut graph, traces) {
-        Ok(()) => write_graph(alloc, w, &graph, traces, keys),
-        Err((trace, found)) => Err(step_fault(trace, found)),
+    match run(rt, alloc, traces, keys.len() as u16, workers, gate) {
+        Ok(settled) => write_settled(alloc, w, &settled, traces, keys),
+        Err(fault) => Err(run_fault(fault, traces)),
     }
 }
 
-// The fault of a trace that isn't well formed.
-fn step_fault(trace: usize, found: StepAt) -> ReportFault
-    requires { found.place < 1000000 }
-    ensures { result ≡ ReportFault.Step trace (found.place + 2) found.fault }
+// What a refused run over these traces comes to.
+fn run_fault(fault: RunFault, traces: &[RawTrace]) -> ReportFault
+    requires { (workers : ℕ) × StopsRun traces.now workers fault }
+    ensures { (workers : ℕ) (known : Option (List ℕ)) → StopsRun traces.now workers fault → (names : List Name)
+        → StopsReport traces.now names workers known known result }
 {
-    ReportFault::Step {
-        trace,
-        at: found.place + 2,
-        fault: found.fault,
+    match fault {
+        RunFault::Refused {
+            trace,
+            place,
+            fault,
+        } => ReportFault::Step {
+            trace,
+            at: record_of(traces, trace, place),
+            fault,
+        },
+        other => ReportFault::Run(other),
     }
 }
 
-// Writes the report of the facts that were gathered from the traces.
-fn write_graph<W: Write>(
+// The number of the record of an event, counted from 1 with the header.
+fn record_of(traces: &[RawTrace], trace: usize, place: usize) -> usize
+    requires within { IsSomeAnd (slice_get traces.now trace) (λ refused. place < length refused) }
+    ensures { result ≡ place + 2 }
+{
+    match traces.get(trace) {
+        Some(refused) => place.min(refused.len()) + 2,
+        None => 0,
+    }
+}
+
+// Writes the report of the settled facts of the traces.
+fn write_settled<W: Write>(
     alloc: Global,
     w: &mut W,
-    graph: &Graph,
+    settled: &Settled,
     traces: &[RawTrace],
     keys: &KeyTable,
 ) -> Result<bool, ReportFault>
-    requires gathered { AreFactsOf graph.now.facts (flat_map chains traces.now) }
+    requires { AreFactsOfAll settled.now traces.now }
     ensures ok { IfOk result (λ clean. (IsTrue clean ↔ IsClean (HaveDependency traces.now) (HaveMark traces.now))
-        × ((text : List ℕ) × IsReportOf traces.now keys.now text × Appends (W.contents w.old) (W.contents w.new) text)) }
+        × ((text : List ℕ) × IsReportOf traces.now keys.now text
+        × Appends (W.contents w.old) (W.contents w.new) text)) }
     ensures refused { IfErr result (λ fault. (out : WriteFault) × (fault ≡ ReportFault.Out out)
         × StopsWriting (IsReportOf traces.now keys.now) (W.contents w.old) (W.contents w.new) out) }
 {
-    let clean = graph.is_clean();
-    match write_report(alloc, w, graph, traces, keys, clean) {
-        Ok(()) => Ok(clean),
+    match write_report(alloc, w, settled, traces, keys) {
+        Ok(()) => Ok(settled.is_clean()),
         Err(fault) => Err(ReportFault::Out(fault)),
     }
 }

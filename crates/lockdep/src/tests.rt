@@ -2,6 +2,8 @@
 
 mod chain_texts;
 mod examples;
+mod files;
+mod lines;
 mod programs;
 mod refusals;
 mod reports;

@@ -2,13 +2,16 @@
 
 use crate::chains::write_chains;
 use crate::session::Session;
+use ld_run::OpenGate;
 use ld_task::check;
 use ld_trace::{KeyTable, read_trace};
 use std::alloc::{AllocError, Global};
 use std::io::Write;
 use std::process::Abort;
 use std::str;
+use std::sync::Wait;
 use std::test::Fail;
+use std::thread::Threads;
 
 /// The text of a trace whose records stand in one line, with spaces between them.
 pub(crate) fn trace_text(alloc: Global, records: &str) -> Result<Vec<u8>, AllocError> {
@@ -49,13 +52,13 @@ pub(crate) struct Example<'t> {
 
 /// Asserts that each list of traces has its report.
 pub(crate) fn assert_reports(
-    rt: &(impl Abort + AllocGlobal),
+    rt: &(impl Threads + Wait + Sync + Abort + AllocGlobal),
     examples: &[Example<'_>],
 ) -> Result<(), Fail> {
     for example in examples {
         let session = session_of(rt.alloc(), example.traces)?;
         let mut text = Vec::new(rt.alloc());
-        let clean = session.report(rt.alloc(), &mut text)?;
+        let clean = session.report(rt, rt.alloc(), 4, &OpenGate, &mut text)?;
         assert_eq!(rt; str::from_utf8(text.as_slice())?, example.report);
         assert_eq!(rt;
             clean,

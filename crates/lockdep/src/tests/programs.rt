@@ -2,6 +2,7 @@
 
 use crate::program::program;
 use crate::tests::writers::Narrow;
+use std::fs::OpenOptions;
 use std::process::Abort;
 use std::rt::Files;
 use std::str;
@@ -9,8 +10,8 @@ use std::sync::Wait;
 use std::test::Fail;
 use std::thread::Threads;
 
-// Asserts the status of the program and what it wrote on its two outputs.
-fn assert_output(
+/// Asserts the status of the program and what it wrote on its two outputs.
+pub(crate) fn assert_output(
     rt: &(impl Files + Threads + Wait + Sync + Abort + AllocGlobal),
     words: &[&str],
     input: &str,
@@ -100,16 +101,23 @@ fn refused_traces_name_their_record_and_code(rt: HostRuntime) -> Result<(), Fail
 
 #[test]
 fn refused_command_lines(rt: HostRuntime) -> Result<(), Fail> {
-    let examples: [&[&str]; 10] = [
+    let examples: [&[&str]; 17] = [
         &[],
         &["lockdep"],
         &["lockdep", "test"],
         &["lockdep", "--version"],
-        &["lockdep", "check", "a.txt"],
-        &["lockdep", "check", "--workers", "2"],
-        &["lockdep", "check", "--", "a.txt"],
-        &["lockdep", "check", "chains"],
-        &["lockdep", "chains", "a.txt"],
+        &["lockdep", "--workers", "2", "check"],
+        &["lockdep", "check", "--workers"],
+        &["lockdep", "check", "--workers", "-1"],
+        &["lockdep", "check", "--workers=-1"],
+        &["lockdep", "check", "--workers", ""],
+        &["lockdep", "check", "--workers="],
+        &["lockdep", "check", "--workers", "65536"],
+        &["lockdep", "check", "--workers", "two"],
+        &["lockdep", "check", "--workers", "2", "--workers", "2"],
+        &["lockdep", "check", "--threads", "2"],
+        &["lockdep", "chains", "--workers", "2"],
+        &["lockdep", "chains", "a.txt", "b.txt"],
         &["lockdep", "help", "test"],
     ];
     for words in examples {
@@ -124,17 +132,60 @@ fn refused_command_lines(rt: HostRuntime) -> Result<(), Fail> {
 }
 
 #[test]
+fn numbers_of_workers(rt: HostRuntime) -> Result<(), Fail> {
+    let trace = "lockdep,1\nacq,A,0,w\nacq,B,0,w\nrel,A,0\nacq,C,0,w\n";
+    let report =
+        "traces 1\nevents 4\nkeys 3\ndependencies 2\nclean yes\nusage A/0 {+.+.}\nusage B/0 {+.+.}\nusage C/0 {+.+.}\n";
+    let taken: [&[&str]; 6] = [
+        &["lockdep", "check", "--workers", "1"],
+        &["lockdep", "check", "--workers", "64"],
+        &["lockdep", "check", "--workers", "+4"],
+        &["lockdep", "check", "--workers", "07"],
+        &["lockdep", "check", "--workers=4"],
+        &["lockdep", "check", "--workers", "2", "--"],
+    ];
+    for words in taken {
+        assert_output(&rt, words, trace, (0, report, ""))?;
+    }
+    for number in ["0", "65", "65535"] {
+        let words = ["lockdep", "check", "--workers", number];
+        assert_output(&rt, &words, trace, (2, "", "lockdep: N1 BadWorkers\n"))?;
+    }
+    Ok(())
+}
+
+#[test]
+fn workers_are_looked_at_between_reading_and_checking(rt: HostRuntime) -> Result<(), Fail> {
+    let words = ["lockdep", "check", "--workers", "0"];
+    assert_output(
+        &rt,
+        &words,
+        "lockdep,1\nrel,A,0\nacq,A,9,w\n",
+        (2, "", "lockdep: stdin: record 3: T4 BadSub\n"),
+    )?;
+    assert_output(
+        &rt,
+        &words,
+        "lockdep,1\nrel,A,0\n",
+        (2, "", "lockdep: N1 BadWorkers\n"),
+    )
+}
+
+#[test]
 fn help_that_is_asked_for(rt: HostRuntime) -> Result<(), Fail> {
     let whole =
-        "Checks recorded traces of tasks for lock orders that can deadlock\n\nUsage: lockdep <COMMAND>\n\nCommands:\n  check   Reads a trace from standard input and writes the report of its lock order\n  chains  Reads a trace from standard input and writes its chains\n  help    Print this message or the help of the given subcommand(s)\n\nOptions:\n  -h, --help  Print help\n";
+        "Checks recorded traces of tasks for lock orders that can deadlock\n\nUsage: lockdep <COMMAND>\n\nCommands:\n  check   Reads traces and writes the report of their lock order\n  chains  Reads a trace and writes its chains\n  help    Print this message or the help of the given subcommand(s)\n\nOptions:\n  -h, --help  Print help\n";
     let of_check =
-        "Reads a trace from standard input and writes the report of its lock order\n\nUsage: lockdep check\n\nOptions:\n  -h, --help  Print help\n";
-    let examples: [(&[&str], &str); 5] = [
+        "Reads traces and writes the report of their lock order\n\nUsage: lockdep check [OPTIONS] [FILE]...\n\nArguments:\n  [FILE]...  A file with a trace; without one, a trace is read from standard input\n\nOptions:\n      --workers <N>  How many workers check the traces, from 1 to 64 [default: 4]\n  -h, --help         Print help\n";
+    let of_chains =
+        "Reads a trace and writes its chains\n\nUsage: lockdep chains [FILE]\n\nArguments:\n  [FILE]  A file with a trace; without one, a trace is read from standard input\n\nOptions:\n  -h, --help  Print help\n";
+    let examples: [(&[&str], &str); 6] = [
         (&["lockdep", "-h"], whole),
         (&["lockdep", "--help"], whole),
         (&["lockdep", "help"], whole),
         (&["lockdep", "help", "check"], of_check),
         (&["lockdep", "check", "--help"], of_check),
+        (&["lockdep", "chains", "a.txt", "-h"], of_chains),
     ];
     for (words, text) in examples {
         assert_output(&rt, words, "", (0, text, ""))?;
@@ -143,13 +194,20 @@ fn help_that_is_asked_for(rt: HostRuntime) -> Result<(), Fail> {
 }
 
 #[test]
-fn a_failing_output_and_a_failing_error_output(rt: HostRuntime) -> Result<(), Fail> {
+fn a_failing_output(rt: HostRuntime) -> Result<(), Fail> {
     for word in ["check", "chains", "help"] {
         for stuck in [false, true] {
             let mut out = Narrow::new(rt.alloc(), 3, stuck);
             let mut err = Vec::new(rt.alloc());
             let input = b"lockdep,1\nacq,A,0,w\n".as_slice();
-            let status = program(&rt, rt.alloc(), &["lockdep", word], input, &mut out, &mut err);
+            let status = program(
+                &rt,
+                rt.alloc(),
+                &["lockdep", word],
+                input,
+                &mut out,
+                &mut err,
+            );
             assert_eq!(rt; status, 2, "{word}");
             assert_eq!(rt;
                 str::from_utf8(err.as_slice())?,
@@ -159,9 +217,46 @@ fn a_failing_output_and_a_failing_error_output(rt: HostRuntime) -> Result<(), Fa
             assert_eq!(rt; out.taken.len(), 2, "{word}");
         }
     }
+    Ok(())
+}
+
+#[test]
+fn a_full_device(rt: HostRuntime) -> Result<(), Fail> {
+    for word in ["check", "chains", "help"] {
+        let mut out = OpenOptions::new().write(true).open(&rt, "/dev/full")?;
+        let mut err = Vec::new(rt.alloc());
+        let input = b"lockdep,1\nacq,A,0,w\n".as_slice();
+        let words = ["lockdep", word];
+        let status = program(&rt, rt.alloc(), &words, input, &mut out, &mut err);
+        assert_eq!(rt; status, 2, "{word}");
+        assert_eq!(rt; str::from_utf8(err.as_slice())?, "lockdep: P3 Output\n");
+    }
+    let mut out = Vec::new(rt.alloc());
+    let mut err = OpenOptions::new().write(true).open(&rt, "/dev/full")?;
+    let status = program(
+        &rt,
+        rt.alloc(),
+        &["lockdep"],
+        b"".as_slice(),
+        &mut out,
+        &mut err,
+    );
+    assert_eq!(rt; status, 2);
+    Ok(())
+}
+
+#[test]
+fn a_failing_error_output(rt: HostRuntime) -> Result<(), Fail> {
     let mut out = Vec::new(rt.alloc());
     let mut err = Narrow::new(rt.alloc(), 9, false);
-    let status = program(&rt, rt.alloc(), &["lockdep"], b"".as_slice(), &mut out, &mut err);
+    let status = program(
+        &rt,
+        rt.alloc(),
+        &["lockdep"],
+        b"".as_slice(),
+        &mut out,
+        &mut err,
+    );
     assert_eq!(rt; status, 2);
     assert_eq!(rt; str::from_utf8(err.taken.as_slice())?, "lockdep:");
     Ok(())

@@ -1,8 +1,9 @@
 //! Traces that are refused.
 
-use crate::fault::{ReportFault, RunFault, WriteFault};
+use crate::fault::{ReportFault, WriteFault};
 use crate::session::Session;
 use crate::tests::examples::session_of;
+use ld_run::{OpenGate, RunFault};
 use ld_task::StepFault;
 use ld_trace::{TraceFault, TraceFaultKind};
 use std::test::Fail;
@@ -58,7 +59,7 @@ fn traces_that_are_not_well_formed(rt: HostRuntime) -> Result<(), Fail> {
             fault,
         };
         assert_eq!(rt;
-            session.report(rt.alloc(), &mut text),
+            session.report(&rt, rt.alloc(), 4, &OpenGate, &mut text),
             Err(refused),
             "{records}"
         );
@@ -81,7 +82,10 @@ fn a_49th_held_lock(rt: HostRuntime) -> Result<(), Fail> {
         at: 50,
         fault: StepFault::TooDeep,
     };
-    assert_eq!(rt; session.report(rt.alloc(), &mut text), Err(refused));
+    assert_eq!(rt;
+        session.report(&rt, rt.alloc(), 4, &OpenGate, &mut text),
+        Err(refused)
+    );
     Ok(())
 }
 
@@ -97,14 +101,40 @@ fn the_first_refused_trace_is_named_and_a_refused_one_is_not_kept(
         at: 2,
         fault: StepFault::LeaveTask,
     };
-    assert_eq!(rt; session.report(rt.alloc(), &mut text), Err(refused));
+    assert_eq!(rt;
+        session.report(&rt, rt.alloc(), 4, &OpenGate, &mut text),
+        Err(refused)
+    );
     Ok(())
 }
 
 #[test]
-fn codes_of_refused_writes_and_runs(rt: HostRuntime) {
+fn codes_of_refused_writes(rt: HostRuntime) {
     assert_eq!(rt; WriteFault::Failed.code(), "O1 Failed");
     assert_eq!(rt; WriteFault::Stuck.code(), "O2 Stuck");
     assert_eq!(rt; WriteFault::Memory.code(), "O3 Memory");
-    assert_eq!(rt; RunFault::Memory.code(), "N4 Memory");
+}
+
+#[test]
+fn numbers_of_workers_and_of_traces(rt: HostRuntime) -> Result<(), Fail> {
+    for workers in [0, 65, 65535] {
+        let session = session_of(rt.alloc(), &["leave"])?;
+        let mut text = Vec::new(rt.alloc());
+        assert_eq!(rt;
+            session.report(&rt, rt.alloc(), workers, &OpenGate, &mut text),
+            Err(ReportFault::Run(RunFault::BadWorkers))
+        );
+        assert!(rt; text.is_empty());
+    }
+    let mut session = Session::new(rt.alloc())?;
+    for _ in 0..4097 {
+        session.add(b"lockdep,1\n".as_slice())?;
+    }
+    let mut text = Vec::new(rt.alloc());
+    assert_eq!(rt;
+        session.report(&rt, rt.alloc(), 4, &OpenGate, &mut text),
+        Err(ReportFault::Run(RunFault::TooManyTraces))
+    );
+    assert!(rt; text.is_empty());
+    Ok(())
 }

@@ -1,6 +1,7 @@
 //! Whole reports of small traces.
 
 use crate::tests::examples::{Example, assert_reports, session_of};
+use ld_run::OpenGate;
 use std::str;
 use std::test::Fail;
 
@@ -246,7 +247,7 @@ fn a_trace_without_events(rt: HostRuntime) -> Result<(), Fail> {
     let mut session = session_of(rt.alloc(), &[])?;
     session.add(b"lockdep,1\n".as_slice())?;
     let mut text = Vec::new(rt.alloc());
-    assert!(rt; session.report(rt.alloc(), &mut text)?);
+    assert!(rt; session.report(&rt, rt.alloc(), 4, &OpenGate, &mut text)?);
     assert_eq!(rt;
         str::from_utf8(text.as_slice())?,
         "traces 1\nevents 0\nkeys 0\ndependencies 0\nclean yes\n"
@@ -268,7 +269,7 @@ fn forty_eight_locks_held(rt: HostRuntime) -> Result<(), Fail> {
     let mut session = session_of(rt.alloc(), &[])?;
     session.add(trace.as_str().as_bytes())?;
     let mut text = Vec::new(rt.alloc());
-    assert!(rt; session.report(rt.alloc(), &mut text)?);
+    assert!(rt; session.report(&rt, rt.alloc(), 4, &OpenGate, &mut text)?);
     assert_eq!(rt; str::from_utf8(text.as_slice())?, report.as_str());
     Ok(())
 }
@@ -282,9 +283,60 @@ fn two_hundred_and_fifty_six_keys(rt: HostRuntime) -> Result<(), Fail> {
     let mut session = session_of(rt.alloc(), &[])?;
     session.add(trace.as_str().as_bytes())?;
     let mut text = Vec::new(rt.alloc());
-    assert!(rt; session.report(rt.alloc(), &mut text)?);
+    assert!(rt; session.report(&rt, rt.alloc(), 4, &OpenGate, &mut text)?);
     let start =
         "traces 1\nevents 512\nkeys 256\ndependencies 0\nclean yes\nusage n0/0 {+.+.}\nusage n1/0 {+.+.}\nusage n10/0 {+.+.}\n";
     assert!(rt; str::from_utf8(text.as_slice())?.starts_with(start));
+    Ok(())
+}
+
+#[test]
+fn circles_apart_are_all_named(rt: HostRuntime) -> Result<(), Fail> {
+    assert_reports(
+        &rt,
+        &[Example {
+            traces: &[
+                "acq,X,0,w acq,Y,0,w rel,Y,0 rel,X,0",
+                "acq,Y,0,w acq,X,0,w rel,X,0 rel,Y,0",
+                "acq,A,0,w acq,B,0,w",
+                "acq,B,0,w acq,C,0,w",
+                "acq,C,0,w acq,A,0,w",
+                "acq,A,0,w acq,D,0,w",
+            ],
+            report: "traces 6\nevents 16\nkeys 6\ndependencies 6\nclean no\nusage A/0 {+.+.}\nusage B/0 {+.+.}\nusage C/0 {+.+.}\nusage D/0 {+.+.}\nusage X/0 {+.+.}\nusage Y/0 {+.+.}\ncircle A/0 EN B/0\ncircle B/0 EN C/0\ncircle C/0 EN A/0\ncircle X/0 EN Y/0\ncircle Y/0 EN X/0\n",
+        }],
+    )
+}
+
+#[test]
+fn the_number_of_workers_does_not_show(rt: HostRuntime) -> Result<(), Fail> {
+    let traces = [
+        "acq,A,0,w acq,B,0,w rel,B,0 rel,A,0",
+        "acq,B,0,w acq,A,0,w rel,A,0 rel,B,0",
+    ];
+    let report =
+        "traces 2\nevents 8\nkeys 2\ndependencies 2\nclean no\nusage A/0 {+.+.}\nusage B/0 {+.+.}\ncircle A/0 EN B/0\ncircle B/0 EN A/0\n";
+    for workers in [1, 2, 4, 64] {
+        let session = session_of(rt.alloc(), &traces)?;
+        let mut text = Vec::new(rt.alloc());
+        let clean = session.report(&rt, rt.alloc(), workers, &OpenGate, &mut text)?;
+        assert!(rt; !clean, "{workers}");
+        assert_eq!(rt; str::from_utf8(text.as_slice())?, report, "{workers}");
+    }
+    Ok(())
+}
+
+#[test]
+fn one_trace_a_hundred_times(rt: HostRuntime) -> Result<(), Fail> {
+    let report =
+        "traces 100\nevents 400\nkeys 2\ndependencies 1\nclean yes\nusage A/0 {+.+.}\nusage B/0 {+.+.}\n";
+    for workers in [1, 8] {
+        let traces = ["acq,A,0,w acq,B,0,w rel,B,0 rel,A,0"; 100];
+        let session = session_of(rt.alloc(), &traces)?;
+        let mut text = Vec::new(rt.alloc());
+        let clean = session.report(&rt, rt.alloc(), workers, &OpenGate, &mut text)?;
+        assert!(rt; clean, "{workers}");
+        assert_eq!(rt; str::from_utf8(text.as_slice())?, report, "{workers}");
+    }
     Ok(())
 }

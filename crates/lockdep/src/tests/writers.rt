@@ -3,6 +3,7 @@
 use crate::chains::write_chains;
 use crate::fault::{ReportFault, WriteFault};
 use crate::tests::examples::{session_of, trace_text};
+use ld_run::OpenGate;
 use ld_task::check;
 use ld_trace::{KeyTable, read_trace};
 use std::alloc::Global;
@@ -65,7 +66,7 @@ fn a_report_on_a_writer_that_fails_at_each_call(rt: HostRuntime) -> Result<(), F
             let session = session_of(rt.alloc(), &traces)?;
             let mut w = Narrow::new(rt.alloc(), done + 1, stuck);
             assert_eq!(rt;
-                session.report(rt.alloc(), &mut w),
+                session.report(&rt, rt.alloc(), 4, &OpenGate, &mut w),
                 Err(ReportFault::Out(fault))
             );
             assert_eq!(rt; w.taken.as_slice(), &report[..done]);
@@ -73,7 +74,7 @@ fn a_report_on_a_writer_that_fails_at_each_call(rt: HostRuntime) -> Result<(), F
     }
     let mut w = Narrow::new(rt.alloc(), report.len() + 1, true);
     assert_eq!(rt;
-        session_of(rt.alloc(), &traces)?.report(rt.alloc(), &mut w),
+        session_of(rt.alloc(), &traces)?.report(&rt, rt.alloc(), 4, &OpenGate, &mut w),
         Ok(false)
     );
     assert_eq!(rt; w.taken.as_slice(), report);

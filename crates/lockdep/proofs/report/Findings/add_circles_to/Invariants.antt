@@ -7,4 +7,4 @@ use Rattle.lockdep.proofs.report.Findings.add_circles_to.Given as goal
 
 -- the lines for the kinds so far
 abbrev pub invariant-loop-kind : goal.invariant-loop-kind
-invariant-loop-kind l = GrowsBy (InTurn (ShowsCircle (HasDep l.self.graph.now.facts) l.self.names.now) (flat_map (λ kind. (l.from, l.to, kind) ∷ []) (take l.kind-index l.kind-items))) (string_bytes l.initial.text) (string_bytes l.text)
+invariant-loop-kind l = GrowsBy (InTurn (ShowsCircle (HasDep l.self.settled.now) l.self.names.now) (flat_map (λ kind. (l.from, l.to, kind) ∷ []) (take l.kind-index l.kind-items))) (string_bytes l.initial.text) (string_bytes l.text)

@@ -7,4 +7,4 @@ use Rattle.lockdep.proofs.report.Findings.add_doubles_of.Given as goal
 
 -- the lines of the keys so far
 abbrev pub invariant-loop-key : goal.invariant-loop-key
-invariant-loop-key l = GrowsBy (InTurn (ShowsDouble (HasMark l.self.graph.now.facts) l.self.names.now) (flat_map (λ key. (l.irq, key) ∷ []) (take l.key-index l.key-items))) (string_bytes l.initial.text) (string_bytes l.text)
+invariant-loop-key l = GrowsBy (InTurn (ShowsDouble (HasMark l.self.settled.now) l.self.names.now) (flat_map (λ key. (l.irq, key) ∷ []) (take l.key-index l.key-items))) (string_bytes l.initial.text) (string_bytes l.text)

@@ -7,4 +7,4 @@ use Rattle.lockdep.proofs.report.Findings.add_inversions_from.Given as goal
 
 -- the lines to the keys so far
 abbrev pub invariant-loop-b : goal.invariant-loop-b
-invariant-loop-b l = GrowsBy (InTurn (ShowsInversion (HasDep l.self.graph.now.facts) (HasMark l.self.graph.now.facts) l.self.names.now) (flat_map (λ b. (l.irq, l.a, b) ∷ []) (take l.b-index l.b-items))) (string_bytes l.initial.text) (string_bytes l.text)
+invariant-loop-b l = GrowsBy (InTurn (ShowsInversion (HasDep l.self.settled.now) (HasMark l.self.settled.now) l.self.names.now) (flat_map (λ b. (l.irq, l.a, b) ∷ []) (take l.b-index l.b-items))) (string_bytes l.initial.text) (string_bytes l.text)

@@ -7,4 +7,4 @@ use Rattle.lockdep.proofs.report.Findings.add_inversions_of.Given as goal
 
 -- the lines from the keys so far
 abbrev pub invariant-loop-a : goal.invariant-loop-a
-invariant-loop-a l = GrowsBy (InTurn (ShowsInversion (HasDep l.self.graph.now.facts) (HasMark l.self.graph.now.facts) l.self.names.now) (flat_map (λ a. map (λ b. (l.irq, a, b)) l.self.keys.now) (take l.a-index l.a-items))) (string_bytes l.initial.text) (string_bytes l.text)
+invariant-loop-a l = GrowsBy (InTurn (ShowsInversion (HasDep l.self.settled.now) (HasMark l.self.settled.now) l.self.names.now) (flat_map (λ a. map (λ b. (l.irq, a, b)) l.self.keys.now) (take l.a-index l.a-items))) (string_bytes l.initial.text) (string_bytes l.text)

@@ -6,4 +6,4 @@ use Rattle.lockdep.proofs.report.Findings.add_usage.Given as goal
 
 -- the lines of the keys so far
 abbrev pub invariant-loop-key : goal.invariant-loop-key
-invariant-loop-key l = GrowsBy (InTurn (IsUsageLine l.self.names.now (HasMark l.self.graph.now.facts)) (take l.key-index l.key-items)) (string_bytes l.initial.text) (string_bytes l.text)
+invariant-loop-key l = GrowsBy (InTurn (IsUsageLine l.self.names.now (HasMark l.self.settled.now)) (take l.key-index l.key-items)) (string_bytes l.initial.text) (string_bytes l.text)

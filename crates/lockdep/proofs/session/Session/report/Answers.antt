@@ -1,4 +1,4 @@
-use Rattle.std.proofs.Common.{◌↔◌, List, ℕ, All, IfOk, IfErr, IsTrue, subst}
+use Rattle.std.proofs.Common.{◌↔◌, List, ℕ, All, IfOk, IfErr, IsTrue, OnOk, ◌≤◌, length, subst}
 use Rattle.std.specs.Io.KnownBytes.{Appends}
 use Rattle.ld_task.specs.WellFormed.{IsWellFormed}
 use Rattle.ld_graph.specs.Links.{IsClean}
@@ -6,6 +6,8 @@ use Rattle.lockdep.specs.Faults.{StopsReport}
 use Rattle.lockdep.specs.Report.{IsReportOf}
 use Rattle.lockdep.specs.Sessions.{SessionParts}
 use Rattle.ld_run.specs.TraceFacts.{HaveDependency, HaveMark}
+use Rattle.ld_run.specs.Faults.{IsCrew}
+use Rattle.lockdep.proofs.FaultLemmas.{bad_workers_is, too_many_is}
 use Rattle.lockdep.proofs.session.Session.report.Goals as goal
 
 pub returns-clause-ok : goal.returns-clause-ok
@@ -17,5 +19,16 @@ returns-clause-ok g c =
 
 pub returns-clause-refused : goal.returns-clause-refused
 returns-clause-refused g c =
-    subst (λ (s : SessionParts). IfErr c.report_traces.result (StopsReport s.traces s.names (g.W.Write.contents c.args.w.now) (g.W.Write.contents c.report_traces.new.w)))
+    subst (λ (s : SessionParts). IfErr c.report_traces.result (StopsReport s.traces s.names c.args.workers (g.W.Write.contents c.args.w.now) (g.W.Write.contents c.report_traces.new.w)))
     c.self.view_is (rw c.as_slice.ensures.value at c.report_traces.ensures.refused)
+
+pub returns-clause-crew : goal.returns-clause-crew
+returns-clause-crew g c =
+    subst (λ (s : SessionParts). OnOk c.report_traces.result (IsCrew c.args.workers × (length s.traces ≤ 4096)))
+    c.self.view_is (rw c.as_slice.ensures.value at c.report_traces.ensures.crew)
+
+pub returns-clause-bad_workers : goal.returns-clause-bad_workers
+returns-clause-bad_workers g c = bad_workers_is _ _ c.args.workers _ _ c.report_traces.result (returns-clause-crew g c) (returns-clause-refused g c)
+
+pub returns-clause-too_many : goal.returns-clause-too_many
+returns-clause-too_many g c = too_many_is _ _ c.args.workers _ _ c.report_traces.result (returns-clause-crew g c) (returns-clause-refused g c)
