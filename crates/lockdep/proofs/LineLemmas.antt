@@ -1,12 +1,11 @@
 -- What the getters of clap's matches give, said of the rows that its definition gives.
-use Rattle.std.proofs.Common.{◌≡◌, ◌∙◌, ℕ, List, [], Option, Some, None, Result, Ok, map, option_map, refl, sym, ap, subst, Bor}
+use Rattle.std.proofs.Common.{◌≡◌, ◌∙◌, ℕ, List, [], Option, Some, None, Result, Ok, map, option_map, refl, ap, subst, Bor}
 use Rattle.std.specs.Prelude.{unwrap_or, Box}
 use Rattle.std.specs.Box.{box_value}
 use Rattle.std.specs.Str.Parse.{IsNumeral, ParsesUnsigned, digits_value, without_leading_plus}
 use Rattle.clap.specs.Matches.{ReadsOne, matched_of, raw_values}
 use Rattle.clap.specs.Walk.{Row, Text, all_of, rows_of}
 use Rattle.clap.specs.Simple.{subcommand_rows}
-use Rattle.clap.specs.Matches.{found_of}
 use Rattle.clap.specs.declared.parser.matches.Found.{Found}
 use Rattle.clap.specs.declared.parser.matches.SubCommand.{SubCommand}
 use Rattle.clap.specs.declared.parser.matches.ArgMatches.TheViews.{out-SubCommand}

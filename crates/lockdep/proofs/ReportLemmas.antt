@@ -1,27 +1,19 @@
 -- Reports of equal facts, and of facts that were gathered from traces.
-use Rattle.std.proofs.Common.{◌≡◌, ℕ, Bool, true, false, List, [], ◌∷◌, refl, sym, subst, IsTrue, ◌↔◌, inl, inr, Any, Contains, length, sum_by, arith}
-use Rattle.std.specs.List.{flat_map}
+use Rattle.std.proofs.Common.{ℕ, Bool, List, [], ◌∷◌, IsTrue, ◌↔◌, inl, inr, length, sum_by}
 use Rattle.ld_trace.specs.Names.{Name}
 use Rattle.ld_trace.specs.declared.event.Event.{Event}
 use Rattle.ld_trace.specs.declared.event.Irq.{Irq}
 use Rattle.ld_task.specs.declared.mark.Mark.{Mark}
 use Rattle.ld_task.specs.declared.mark.Mark.TheVariants.{UsedIn, Enabled}
-use Rattle.ld_task.specs.Chains.{ChainParts, ChainHasDependency, ChainHasMark}
-use Rattle.ld_task.specs.TraceChains.{chains}
 use Rattle.ld_graph.specs.Arrows.{Arrow, arrow}
 use Rattle.ld_graph.specs.Facts.{FactWords, HasDep, HasMark}
 use Rattle.ld_run.specs.Runs.{AreFactsOfAll}
 use Rattle.ld_graph.specs.Links.{IsClean}
 use Rattle.ld_graph.proofs.Clean.{OnCircle-same, IsDouble-same, IsInversion-same, IsClean-same}
 use Rattle.ld_graph.proofs.Counted.{IsNumberOf-iff}
-use Rattle.ld_graph.proofs.ChainLists.{Any-member}
-use Rattle.std.proofs.lemmas.List.Elements.{Contains-append_left, Contains-append_right, Contains-append_cases, Contains-push, Contains-push_cases}
-use Rattle.ld_task.specs.Dependencies.{IsDependency}
-use Rattle.ld_task.specs.Marks.{IsMarked}
-use Rattle.ld_task.proofs.FactLaws.{dependencies_are_the_chains, marks_are_the_chains}
 use Rattle.lockdep.specs.Groups.{InTurn, ShowsWhere}
 use Rattle.lockdep.specs.Report.{IsReport, IsReportOf, IsUsageCharacter, IsUsageLine, ShowsCircle, ShowsDouble, ShowsInversion, circle_line, double_line, inversion_line, dependencies_between, uses_of, pairs_of}
-use Rattle.ld_run.specs.TraceFacts.{HaveDependency, HaveMark, kind_with}
+use Rattle.ld_run.specs.TraceFacts.{HaveDependency, HaveMark}
 
 -- groups whose parts mean the same
 pub InTurn-same : {X : Type 0} (R S : X → List ℕ → Type 0) → ((x : X) (text : List ℕ) → R x text → S x text) → (xs : List X) (text : List ℕ) → InTurn R xs text → InTurn S xs text
