@@ -1,6 +1,7 @@
-# Makes a trace for the benchmark: awk -v story=NAME -f trace.awk
+# Makes a trace for the benchmark: awk -v story=NAME [-v events=N] [-v seed=N] -f trace.awk
 #
-#   nested   1,000,000 events over 200 keys: nests of 1 to 6 locks, taken in the order of their keys
+#   nested   N events, an even number, 1,000,000 if it isn't said, over 200 keys: nests of 1 to 6 locks, taken in the order
+#            of their keys; another seed makes another trace
 #   dense    an order over 256 keys without a circle: each pair in that order, as a dependency of each kind
 #   tangled  each pair of 256 keys in both orders, of each kind, and each key taken in a hardirq and in a softirq
 
@@ -50,7 +51,7 @@ function nest(depth,    i, key) {
 }
 
 function tell_nested(    left, depth) {
-    for (left = 1000000; left > 0; left -= 2 * depth) {
+    for (left = events; left > 0; left -= 2 * depth) {
         depth = 1 + draw(6)
         if (2 * depth > left)
             depth = left / 2
@@ -80,7 +81,8 @@ function tell_tangled(    key) {
 }
 
 BEGIN {
-    seed = 1
+    if (!seed) seed = 1
+    if (!events) events = 1000000
     print "lockdep,1"
     if (story == "nested") tell_nested()
     else if (story == "dense") tell_dense()
