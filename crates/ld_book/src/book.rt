@@ -38,8 +38,10 @@ pub struct Totals {
     pub dependencies: u64,
 }
 
-/// A journal of chains, each with the trace that it comes from, and the facts of these chains. The keys are below a bound
-/// of at most 256, and the journal is no longer than a limit.
+/// A journal of chains, each with the trace that it comes from, and the facts of these chains (this project's own; the
+/// rules of the facts are those of the sections "Multi-lock dependency rules" and "Single-lock state rules"). The keys are
+/// below a bound of at most 256, and the journal is no longer than a limit. Whatever a book answers is read off its
+/// journal, also after a refused entry.
 #[derive(Drop)]
 pub struct Book {
     journal: Journal,

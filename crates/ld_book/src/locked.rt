@@ -10,7 +10,7 @@ use ld_task::Chain;
 use std::sync::{Mutex, Wait};
 
 /// A book under a lock. Whoever gets the lock finds a lawful book: what it answers is read off its journal, also after a
-/// refused entry. Entries stand in the order in which the lock was taken.
+/// refused entry. Entries stand in the order in which the lock was taken (this project's own).
 #[derive(Drop)]
 pub struct LockedBook {
     book: Mutex<Book>,
