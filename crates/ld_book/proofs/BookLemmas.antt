@@ -54,14 +54,6 @@ AreFactsOfJournal-none facts no_dependency no_mark = record {
   marks = λ key mark. ((λ h. absurd (no_mark key mark h)), (λ h. absurd (let l = h.2 in omega arith)));
 }
 
--- a chain whose facts are there adds nothing
-pub AddsChain-held : (facts : FactWords) (chain : ChainParts) → HoldsChain facts chain → AddsChain facts facts chain
-AddsChain-held facts chain held = record {
-  keys = refl;
-  dependencies = λ from to kind. ((λ h. inl h), (λ h. elim h [ inl old ↦ old | inr has ↦ held.dependencies from to kind has ]));
-  marks = λ key mark. ((λ h. inl h), (λ h. elim h [ inl old ↦ old | inr has ↦ held.marks key mark has ]));
-}
-
 module _ (facts : FactWords) (journal : List (ℕ × ChainParts)) (are : AreFactsOfJournal facts journal) where
   -- with the facts of one entry more
   pub AreFactsOfJournal-adds : (new : FactWords) (trace : ℕ) (chain : ChainParts) →
@@ -100,12 +92,6 @@ module _ (facts : FactWords) (journal : List (ℕ × ChainParts)) (are : AreFact
       marks = λ key mark has. (are.marks key mark).1 (recorded.marks key mark has);
     }),
   )
-
-  -- with one entry more whose facts were recorded
-  pub AreFactsOfJournal-known : (trace : ℕ) (chain : ChainParts) → AreRecorded journal chain →
-      AreFactsOfJournal facts (journal ++ (trace, chain) ∷ [])
-  AreFactsOfJournal-known trace chain recorded =
-      AreFactsOfJournal-adds facts trace chain (AddsChain-held facts chain ((HoldsChain-iff chain).1 recorded))
 
   -- the facts are clean where what the journal records is
   pub AreClean-iff : AreClean facts ↔ IsClean (RecordsDependency journal) (RecordsMark journal)

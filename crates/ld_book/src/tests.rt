@@ -99,12 +99,15 @@ fn an_entry_is_its_trace_and_its_chain(rt: HostRuntime) -> Result<(), Fail> {
 fn two_locks_in_both_orders_bring_news_under_a_lock(rt: HostRuntime) -> Result<(), Fail> {
     let book = LockedBook::new(Book::new(rt.alloc(), 2, 4)?);
     for place in 0..4usize {
-        let News { fresh, clean } = book.record(&rt, 0, chain_at(place)?)?;
+        let News { fresh, clean } = book.record(&rt, 10 + place as u32, chain_at(place)?)?;
         assert_eq!(rt; (fresh, clean), NEWS[place], "at {place}");
         assert_eq!(rt; book.is_clean(&rt), clean);
     }
     assert!(rt; book.record(&rt, 2, chain_at(0)?) == Err(BookFault::Full));
-    assert!(rt; told(&book.into_book()) == (are(4, 4, 0, 2), 4, 4));
+    let book = book.into_book();
+    assert!(rt; told(&book) == (are(4, 4, 0, 2), 4, 4));
+    let (trace, chain) = book.entry(2).ok_or("an entry")?;
+    assert!(rt; trace == 12 && *chain == chain_at(2)?);
     Ok(())
 }
 

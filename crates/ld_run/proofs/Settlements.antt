@@ -17,13 +17,15 @@ pub settles-same : (book : BookParts) (facts tallies : FactWords) → facts.keys
 settles-same book facts tallies keys dependencies marks = (
   λ same. record {
     keys = sym keys ∙ same.keys;
-    dependencies = λ d. ((λ r. (same.dependencies d).0 ((dependencies d).1 r)), (λ h. (dependencies d).0 ((same.dependencies d).1 h)));
-    marks = λ key mark. ((λ r. (same.marks key mark).0 ((marks key mark).1 r)), (λ h. (marks key mark).0 ((same.marks key mark).1 h)));
+    facts = record {
+      dependencies = λ d. ((λ h. (dependencies d).0 ((same.dependencies d).1 h)), (λ r. (same.dependencies d).0 ((dependencies d).1 r)));
+      marks = λ key mark. ((λ h. (marks key mark).0 ((same.marks key mark).1 h)), (λ r. (same.marks key mark).0 ((marks key mark).1 r)));
+    };
   },
   λ settles. record {
     keys = keys ∙ settles.keys;
-    dependencies = λ d. ((λ h. (settles.dependencies d).0 ((dependencies d).0 h)), (λ h. (dependencies d).1 ((settles.dependencies d).1 h)));
-    marks = λ key mark. ((λ h. (settles.marks key mark).0 ((marks key mark).0 h)), (λ h. (marks key mark).1 ((settles.marks key mark).1 h)));
+    dependencies = λ d. ((λ h. (settles.facts.dependencies d).1 ((dependencies d).0 h)), (λ h. (dependencies d).1 ((settles.facts.dependencies d).0 h)));
+    marks = λ key mark. ((λ h. (settles.facts.marks key mark).1 ((marks key mark).0 h)), (λ h. (marks key mark).1 ((settles.facts.marks key mark).0 h)));
   },
 )
 
