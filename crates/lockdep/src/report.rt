@@ -13,9 +13,9 @@ ghost use Rattle.lockdep.specs.Words.{name_at};
 ghost use Rattle.lockdep.specs.Report.{IsReport, IsUsageCharacter, IsUsageLine, ShowsCircle, ShowsDouble, ShowsInversion, circle_line, clean_line, dependencies_between, dependencies_from, double_line, inversion_line, kinds, pairs_of, pairs_with, states, total_line, total_lines, usage_character, usage_line, uses_of};
 
 use crate::fault::WriteFault;
-use crate::order::{name_of, sorted_keys};
+use crate::order::sorted_keys;
 use crate::output::write_text;
-use crate::text::{irq_word, kind_word};
+use crate::words::{irq_word, kind_word, name_of};
 use ld_graph::{Kind, Mark};
 use ld_run::Settled;
 use ld_trace::{Irq, KeyId, KeyTable, RawTrace};
