@@ -8,7 +8,7 @@ use Rattle.ld_task.specs.declared.lock.Lock.{Lock}
 use Rattle.ld_task.specs.Chains.{key_and_mode}
 use Rattle.ld_task.specs.EndState.{EndState}
 use Rattle.ld_task.specs.Steps.{IsStateAfter}
-use Rattle.lockdep.specs.ChainLines.{IsLineOf, chains_text, lines_before, lock_text, taken_text}
+use Rattle.lockdep.specs.ChainLines.{IsLineAt, chains_text, lines_before, lock_text, taken_text}
 use Rattle.lockdep.specs.Output.{AppendsBeginning, PutsBehind}
 use Rattle.lockdep.proofs.GroupLemmas.{flat_map-next}
 use Rattle.lockdep.proofs.OutputLemmas.{AppendsBeginning-append, AppendsBeginning-more, PutsBehind-append}
@@ -40,14 +40,14 @@ pub record PutsLines (old new : Option (List ℕ)) (page : List ℕ) (names : Li
 
 module _ (old mid new : Option (List ℕ)) (q : List ℕ) (names : List Name) (t : List Event) (n : ℕ) (state : EndState) (before : PutsLines old mid q names t n state) where
   -- the line of one more event was put
-  pub PutsLines-next : (r : List ℕ) (next : EndState) (text : List ℕ) → IsStateAfter t (n + 1) next → IsLineOf names t n text → PutsBehind mid new q r text → PutsLines old new r names t (n + 1) next
+  pub PutsLines-next : (r : List ℕ) (next : EndState) (text : List ℕ) → IsStateAfter t (n + 1) next → IsLineAt names t n text → PutsBehind mid new q r text → PutsLines old new r names t (n + 1) next
   PutsLines-next r next text after line puts = record {
     after = after;
     puts = subst (λ (x : List ℕ). PutsBehind old new [] r x) (sym line.adds) (PutsBehind-append old mid new [] q (lines_before names t n) before.puts r text puts);
   }
 
   -- the line of one more event was begun
-  pub PutsLines-stopped : (text : List ℕ) → n < length t → IsLineOf names t n text → AppendsBeginning mid new (q ++ text) → AppendsBeginning old new (chains_text names t)
+  pub PutsLines-stopped : (text : List ℕ) → n < length t → IsLineAt names t n text → AppendsBeginning mid new (q ++ text) → AppendsBeginning old new (chains_text names t)
   PutsLines-stopped text within line begun =
       let rest = lines_before-begin names t (n + 1) (omega arith) in
       subst (λ x. AppendsBeginning old new x) (sym (rest.1 ∙ ap (λ x. x ++ rest.0) line.adds))

@@ -1,9 +1,7 @@
 //! Words of the program's texts.
 
 ghost use Rattle.std.specs.Prelude.{◌≡◌, ◌≤◌, length};
-ghost use Rattle.lockdep.specs.ChainLines.{flag_text, frame_text, mode_text};
-ghost use Rattle.lockdep.specs.Report.{irq_text, kind_text};
-ghost use Rattle.lockdep.specs.Words.{name_at};
+ghost use Rattle.lockdep.specs.Words.{flag_text, frame_text, irq_text, kind_text, mode_text, name_at};
 
 use ld_graph::Kind;
 use ld_task::Frame;
