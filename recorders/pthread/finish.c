@@ -623,7 +623,7 @@ static void write_summary(void) {
     tell(file, "left out: try acquisitions, which version 1 can't say", sums.tries);
     tell(file, "left out: releases of locks that the thread wasn't seen to take", sums.raw.releases);
     tell(file, "left out: acquisitions of a thread beyond 1,000,000 events", sums.raw.full);
-    tell(file, "left out: calls of signal handlers that interrupted the recorder", sums.raw.reentered);
+    tell(file, "left out: calls while the recorder was at work, from a signal handler or around a fork", sums.raw.reentered);
     tell(file, "left out: acquisitions for want of memory", sums.raw.no_memory);
     fclose(file);
 }

@@ -53,11 +53,12 @@
 REALS(DECLARE)
 
 static _Atomic int resolve_state; /* 0 not begun, 1 under way, 2 done */
-static __thread bool resolving __attribute__((tls_model("initial-exec")));
+/* Volatile, since the C library declares its functions as if none of them could call us. */
+static __thread volatile bool resolving __attribute__((tls_model("initial-exec")));
 
 /* The condition variables have an older version beside the one that programs mean. */
 static void *find_real(const char *name) {
-    void *found = dlvsym(RTLD_NEXT, name, "GLIBC_2.3.2");
+    void *found = strncmp(name, "pthread_cond_", 13) == 0 ? dlvsym(RTLD_NEXT, name, "GLIBC_2.3.2") : NULL;
     return found ? found : dlsym(RTLD_NEXT, name);
 }
 
@@ -459,7 +460,7 @@ struct thread {
 };
 
 static __thread struct thread *own __attribute__((tls_model("initial-exec")));
-static __thread bool busy __attribute__((tls_model("initial-exec")));
+static __thread volatile bool busy __attribute__((tls_model("initial-exec")));
 static __thread bool ended __attribute__((tls_model("initial-exec")));
 static _Atomic uint32_t foreign_epoch;
 static pthread_key_t thread_end;
