@@ -15,7 +15,8 @@ use Rattle.ld_task.specs.Events.{event, is_acquire, is_turn_on, key_taken, mode_
 use Rattle.ld_task.specs.Frames.{kind}
 use Rattle.ld_task.specs.Flags.{flag}
 use Rattle.ld_task.specs.Held.{held}
-use Rattle.ld_task.specs.Dependencies.{IsDependency, kind_between}
+use Rattle.ld_task.specs.Dependencies.{IsDependency}
+use Rattle.ld_task.specs.Kinds.{kind_between}
 use Rattle.ld_task.specs.Marks.{IsMarked, IsMarkedTaking, IsMarkedOpening, marks_taken, marks_opened}
 use Rattle.ld_task.specs.Chains.{ChainParts, ChainHasDependency, ChainHasMark, ChainMarksNew, ChainMarksHeld}
 use Rattle.ld_task.specs.TraceChains.{lock_at, held_locks_at, chains}

@@ -5,7 +5,7 @@ use Rattle.ld_task.specs.declared.frame.Frame.{Frame}
 use Rattle.ld_task.specs.declared.kind.Kind.{Kind}
 use Rattle.ld_task.specs.declared.mark.Mark.{Mark}
 use Rattle.ld_task.specs.declared.lock.Lock.{Lock}
-use Rattle.ld_task.specs.Dependencies.{kind_between}
+use Rattle.ld_task.specs.Kinds.{kind_between}
 use Rattle.ld_task.specs.Marks.{marks_taken, marks_opened}
 
 -- a chain: the locks held in the frame, oldest first; for an acquisition the new lock and the frame's kind;

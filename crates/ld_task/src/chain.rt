@@ -6,7 +6,7 @@ ghost use Rattle.ld_task.specs.ChainEquality.{lock_eq, new_lock_eq};
 ghost use Rattle.ld_task.specs.Chains.{ChainKeysBelow, key_and_mode, key_mode_and_frame};
 
 use crate::frame::Frame;
-use crate::lock::Lock;
+use crate::lock::{Lock, MAX_HELD};
 use arrayvec::ArrayVec;
 use ld_trace::{KeyId, Mode};
 use std::hash::{Hash, Hasher};
@@ -17,7 +17,7 @@ use std::marker::Model;
 /// are held.
 #[derive(Drop, Debug)]
 pub struct Chain {
-    held: ArrayVec<Lock, 48>,
+    held: ArrayVec<Lock, MAX_HELD>,
     taken: Option<(Lock, Frame)>,
     hard_on: bool,
     soft_on: bool,
@@ -26,6 +26,7 @@ pub struct Chain {
 impl Model for Chain {
     ghost use Rattle.std.specs.Prelude.{◌≤◌, length};
     ghost use Rattle.ld_task.specs.Chains.{ChainParts};
+    ghost use Rattle.ld_task.specs.declared.lock.TheConstants.{MAX_HELD};
 
     ghost Value = { ChainParts };
 
@@ -36,13 +37,13 @@ impl Model for Chain {
       soft_on = c.soft_on;
     } };
 
-    ghost invariant = { λ c. length c.held.items ≤ 48 };
+    ghost invariant = { λ c. length c.held.items ≤ MAX_HELD };
 }
 
 impl Chain {
     // The chain of an acquisition.
     pub(crate) fn acquisition(
-        held: ArrayVec<Lock, 48>,
+        held: ArrayVec<Lock, MAX_HELD>,
         taken: Lock,
         frame: Frame,
         hard_on: bool,
@@ -64,7 +65,7 @@ impl Chain {
     }
 
     // The chain of an opening.
-    pub(crate) fn opening(held: ArrayVec<Lock, 48>, hard_on: bool, soft_on: bool) -> Chain
+    pub(crate) fn opening(held: ArrayVec<Lock, MAX_HELD>, hard_on: bool, soft_on: bool) -> Chain
         ensures { result ≡ record {
           held_locks = held.items;
           new_lock = None;
@@ -83,7 +84,7 @@ impl Chain {
     /// The number of locks that are held, at most 48.
     pub fn held_len(&self) -> usize
         ensures exact { result ≡ length self.now.held_locks }
-        ensures at_most { result ≤ 48 }
+        ensures at_most { result ≤ MAX_HELD }
     {
         self.held.len()
     }

@@ -2,6 +2,9 @@
 
 use ld_trace::{KeyId, Mode};
 
+/// The most locks that a task keeps, over all its open frames.
+pub const MAX_HELD: usize = 48;
+
 /// A key that is taken in a mode.
 #[derive(Clone, Copy, PartialEq, Eq, Debug, Hash)]
 pub struct Lock {
