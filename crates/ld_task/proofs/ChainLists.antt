@@ -103,7 +103,7 @@ module _ (s t : List Event) (n : ℕ) (a : Agree s t n) where
 
   chain_of-agree : (j : ℕ) → j < n → (e : Event) → chain_of s j e ≡ chain_of t j e
   unfolding chain_of
-  chain_of-agree j l (Acquire key mode) = rw (held_locks_at-agree j (omega arith), kind-agree s t n a j (omega arith), flag-agree s t n a Hard j (omega arith), flag-agree s t n a Soft j (omega arith)) refl
+  chain_of-agree j l (Acquire mode key) = rw (held_locks_at-agree j (omega arith), kind-agree s t n a j (omega arith), flag-agree s t n a Hard j (omega arith), flag-agree s t n a Soft j (omega arith)) refl
   chain_of-agree j l (TurnOn irq) = rw (held_locks_at-agree j (omega arith), flag-agree s t n a Hard (suc j) (omega arith), flag-agree s t n a Soft (suc j) (omega arith)) refl
   chain_of-agree j l (Release key) = refl
   chain_of-agree j l (Enter irq) = refl
@@ -144,7 +144,7 @@ opening_at t j = record { held_locks = held_locks_at t j; new_lock = None; hard_
 pub record IsAcquisition (t : List Event) (j : ℕ) (c : ChainParts) : Type 0 where
   pub key : ℕ
   pub mode : Mode
-  pub is_event : event t j ≡ Some (Acquire key mode)
+  pub is_event : event t j ≡ Some (Acquire mode key)
   pub parts : acquisition_at t j key mode ≡ c
 
 -- an opening's chain
@@ -154,7 +154,7 @@ pub record IsOpening (t : List Event) (j : ℕ) (c : ChainParts) : Type 0 where
   pub parts : opening_at t j ≡ c
 
 module _ (t : List Event) (j : ℕ) where
-  pub chain-acquire : (key : ℕ) (mode : Mode) → event t j ≡ Some (Acquire key mode) → chain t j ≡ Some (acquisition_at t j key mode)
+  pub chain-acquire : (key : ℕ) (mode : Mode) → event t j ≡ Some (Acquire mode key) → chain t j ≡ Some (acquisition_at t j key mode)
   unfolding chain_of
   chain-acquire key mode e = ap (option_and_then (chain_of t j)) e
 
@@ -165,7 +165,7 @@ module _ (t : List Event) (j : ℕ) where
   cases : (c : ChainParts) (o : Option Event) → event t j ≡ o → option_and_then (chain_of t j) o ≡ Some c → IsAcquisition t j c ⊎ IsOpening t j c
   unfolding chain_of
   cases c None e h = cc
-  cases c (Some (Acquire key mode)) e h = inl (record { key = key; mode = mode; is_event = e; parts = cc })
+  cases c (Some (Acquire mode key)) e h = inl (record { key = key; mode = mode; is_event = e; parts = cc })
   cases c (Some (TurnOn irq)) e h = inr (record { irq = irq; is_event = e; parts = cc })
   cases c (Some (Release key)) e h = cc
   cases c (Some (Enter irq)) e h = cc

@@ -56,10 +56,10 @@ module _ (t : List Event) where
   record Takes (j : ℕ) : Type 0 where
     key : ℕ
     mode : Mode
-    is_event : event t j ≡ Some (Acquire key mode)
+    is_event : event t j ≡ Some (Acquire mode key)
 
   takes : (j : ℕ) (o : Option Event) → event t j ≡ o → is_acquire o ≡ true → Takes j
-  takes j (Some (Acquire key mode)) e a = record { key = key; mode = mode; is_event = e }
+  takes j (Some (Acquire mode key)) e a = record { key = key; mode = mode; is_event = e }
   takes j None e a = absurd (true≢false (sym a))
   takes j (Some (Release key)) e a = absurd (true≢false (sym a))
   takes j (Some (Enter irq)) e a = absurd (true≢false (sym a))
@@ -70,7 +70,7 @@ module _ (t : List Event) where
   opens : (j : ℕ) (o : Option Event) → event t j ≡ o → is_turn_on o ≡ true → (irq : Irq) × (event t j ≡ Some (TurnOn irq))
   opens j (Some (TurnOn irq)) e a = (irq, e)
   opens j None e a = absurd (true≢false (sym a))
-  opens j (Some (Acquire key mode)) e a = absurd (true≢false (sym a))
+  opens j (Some (Acquire mode key)) e a = absurd (true≢false (sym a))
   opens j (Some (Release key)) e a = absurd (true≢false (sym a))
   opens j (Some (Enter irq)) e a = absurd (true≢false (sym a))
   opens j (Some Leave) e a = absurd (true≢false (sym a))

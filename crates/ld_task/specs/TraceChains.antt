@@ -21,7 +21,7 @@ held_locks_at t j = map (lock_at t) (positions_below j (λ i. held t i j))
 
 -- the chain that the event e makes at j: only an acquisition and an opening make one
 unfoldable pub chain_of : List Event → ℕ → Event → Option ChainParts
-chain_of t j (Acquire key mode) = Some (record { held_locks = held_locks_at t j; new_lock = Some (record { key = key; mode = mode }, kind t j); hard_on = flag t Hard j; soft_on = flag t Soft j })
+chain_of t j (Acquire mode key) = Some (record { held_locks = held_locks_at t j; new_lock = Some (record { key = key; mode = mode }, kind t j); hard_on = flag t Hard j; soft_on = flag t Soft j })
 chain_of t j (TurnOn irq) = Some (record { held_locks = held_locks_at t j; new_lock = None; hard_on = flag t Hard (suc j); soft_on = flag t Soft (suc j) })
 chain_of t j (Release key) = None
 chain_of t j (Enter irq) = None

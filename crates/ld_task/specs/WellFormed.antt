@@ -15,7 +15,7 @@ use Rattle.ld_trace.specs.declared.event.Irq.TheVariants.{Hard, Soft}
 
 -- why the event e isn't allowed at j
 unfoldable pub fault_of : List Event → ℕ → Event → Option StepFault
-fault_of t j (Acquire key mode) = if nat_lt (count_below j (λ i. kept t i j)) MAX_HELD then None else Some TooDeep
+fault_of t j (Acquire mode key) = if nat_lt (count_below j (λ i. kept t i j)) MAX_HELD then None else Some TooDeep
 fault_of t j (Release key) = if any_below j (λ i. held t i j && takes key (event t i)) then None else Some NotHeld
 fault_of t j (Enter Hard) = if flag t Hard j then None else Some BadEnter
 fault_of t j (Enter Soft) = if is_task (kind t j) && flag t Hard j && flag t Soft j then None else Some BadEnter

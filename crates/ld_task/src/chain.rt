@@ -1,8 +1,6 @@
 //! Chains: what one acquisition or opening tells.
 
 ghost use Rattle.std.specs.Prelude.{◌≡◌, ◌≤◌, ◌↔◌, IsTrue, length, option_map, slice_get};
-ghost use Rattle.std.specs.Cmp.Lexicographic.{pointwise};
-ghost use Rattle.ld_task.specs.ChainEquality.{lock_eq, new_lock_eq};
 ghost use Rattle.ld_task.specs.Chains.{ChainKeysBelow, key_and_mode, key_mode_and_frame};
 
 use crate::frame::Frame;
@@ -94,7 +92,7 @@ impl Chain {
         ensures { result ≡ option_map key_and_mode (slice_get self.now.held_locks i) }
     {
         let lock = self.held.as_slice().get(i)?;
-        Some((lock.key, lock.mode))
+        Some((lock.key(), lock.mode()))
     }
 
     /// The lock that an acquisition takes, with its frame; None for an opening.
@@ -102,7 +100,7 @@ impl Chain {
         ensures { result ≡ option_map key_mode_and_frame self.now.new_lock }
     {
         let (lock, frame) = self.taken?;
-        Some((lock.key, lock.mode, frame))
+        Some((lock.key(), lock.mode(), frame))
     }
 
     /// Whether hardirqs are on, just before an acquisition or just after an opening.
@@ -124,10 +122,10 @@ impl Chain {
         ensures { IsTrue result ↔ ChainKeysBelow n self.now }
     {
         let new_below = match self.taken {
-            Some((lock, _)) => lock.key.get() < n,
+            Some((lock, _)) => lock.key().get() < n,
             None => true,
         };
-        new_below && self.held.as_slice().iter().all(|lock| lock.key.get() < n)
+        new_below && self.held.as_slice().iter().all(|lock| lock.key().get() < n)
     }
 }
 
@@ -141,8 +139,8 @@ impl PartialEq for Chain {
     ghost laws = { partial_equiv_from_equiv chain_eq-equivalence };
 
     fn eq(&self, other: &Chain) -> bool {
-        is_same_held(self.held.as_slice(), other.held.as_slice())
-            && is_same_taken(self.taken, other.taken)
+        self.held.as_slice() == other.held.as_slice()
+            && self.taken == other.taken
             && self.hard_on == other.hard_on
             && self.soft_on == other.soft_on
     }
@@ -172,18 +170,4 @@ impl Hash for Chain {
         self.hard_on.hash(state);
         self.soft_on.hash(state);
     }
-}
-
-// Whether the held locks are the same.
-fn is_same_held(a: &[Lock], b: &[Lock]) -> bool
-    ensures { result ≡ pointwise lock_eq a.now b.now }
-{
-    a == b
-}
-
-// Whether the new locks and their frames are the same.
-fn is_same_taken(a: Option<(Lock, Frame)>, b: Option<(Lock, Frame)>) -> bool
-    ensures { result ≡ new_lock_eq a b }
-{
-    a == b
 }

@@ -10,10 +10,7 @@ use arrayvec::ArrayVec;
 use ld_trace::KeyId;
 
 /// The locks that were taken at this level, oldest first.
-pub(crate) fn held_at(
-    locks: &ArrayVec<KeptLock, MAX_HELD>,
-    level: usize,
-) -> ArrayVec<Lock, MAX_HELD>
+pub(crate) fn held_at(locks: &ArrayVec<KeptLock, MAX_HELD>, level: u8) -> ArrayVec<Lock, MAX_HELD>
     ensures { result.items ≡ map lock_of (filter (is_at level) locks.now.items) }
 {
     let mut held = ArrayVec::new();
@@ -26,7 +23,7 @@ pub(crate) fn held_at(
 }
 
 /// Whether a lock was taken at this level.
-pub(crate) fn any_at(locks: &ArrayVec<KeptLock, MAX_HELD>, level: usize) -> bool
+pub(crate) fn any_at(locks: &ArrayVec<KeptLock, MAX_HELD>, level: u8) -> bool
     ensures { result ≡ list_any (is_at level) locks.now.items }
 {
     locks.as_slice().iter().any(|kept| kept.level == level)
@@ -35,7 +32,7 @@ pub(crate) fn any_at(locks: &ArrayVec<KeptLock, MAX_HELD>, level: usize) -> bool
 /// The place of the newest lock of this key that was taken at this level.
 pub(crate) fn newest_of(
     locks: &ArrayVec<KeptLock, MAX_HELD>,
-    level: usize,
+    level: u8,
     key: KeyId,
 ) -> Option<usize>
     ensures exact { result ≡ last_place (is_of level key) locks.now.items }
@@ -43,7 +40,7 @@ pub(crate) fn newest_of(
 {
     let mut found = None;
     for (place, kept) in locks.as_slice().iter().enumerate() {
-        if kept.level == level && kept.lock.key == key {
+        if kept.level == level && kept.lock.key() == key {
             found = Some(place);
         }
     }
