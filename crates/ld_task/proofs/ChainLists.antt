@@ -13,7 +13,7 @@ use Rattle.ld_trace.specs.declared.event.Irq.TheVariants.{Hard, Soft}
 use Rattle.ld_task.specs.Positions.{positions_below}
 use Rattle.ld_task.specs.Events.{event}
 use Rattle.ld_task.specs.Frames.{kind}
-use Rattle.ld_task.specs.Flags.{flag}
+use Rattle.ld_task.specs.Flags.{flags_at}
 use Rattle.ld_task.specs.Held.{held}
 use Rattle.ld_task.specs.Chains.{ChainParts}
 use Rattle.ld_task.specs.TraceChains.{lock_at, held_locks_at, chain_of, chain, chains}
@@ -135,10 +135,10 @@ chains-snoc h e =
 -- The two forms of a chain.
 
 abbrev pub acquisition_at : List Event → ℕ → ℕ → Mode → ChainParts
-acquisition_at t j key mode = record { held_locks = held_locks_at t j; new_lock = Some (record { key = key; mode = mode }, kind t j); hard_on = flag t Hard j; soft_on = flag t Soft j }
+acquisition_at t j key mode = record { held_locks = held_locks_at t j; new_lock = Some (record { key = key; mode = mode }, kind t j); flags = flags_at t j }
 
 abbrev pub opening_at : List Event → ℕ → ChainParts
-opening_at t j = record { held_locks = held_locks_at t j; new_lock = None; hard_on = flag t Hard (suc j); soft_on = flag t Soft (suc j) }
+opening_at t j = record { held_locks = held_locks_at t j; new_lock = None; flags = flags_at t (suc j) }
 
 -- an acquisition's chain
 pub record IsAcquisition (t : List Event) (j : ℕ) (c : ChainParts) : Type 0 where

@@ -7,9 +7,11 @@ use Rattle.std.specs.Option.{option_eq}
 use Rattle.std.proofs.Common.{sym, ap, ◌∙◌}
 use Rattle.std.proofs.lemmas.Bool.{true≢false, and_parts, and_from}
 use Rattle.std.proofs.lemmas.Bool.Decides.{Decides-eqb}
+use Rattle.ld_task.specs.declared.frame.Flags.{Flags}
 use Rattle.ld_task.specs.declared.frame.Frame.{Frame}
 use Rattle.ld_task.specs.declared.frame.Frame.TheVariants.{Task, Softirq, Hardirq}
 use Rattle.ld_task.specs.contracts.frame.FramePartialEq.TheImpl as frame
+use Rattle.ld_task.specs.contracts.frame.FlagsPartialEq.TheImpl as flags
 use Rattle.ld_task.specs.ChainEquality.{chain_eq, lock_eq, new_lock_eq}
 use Rattle.ld_task.specs.Chains.{ChainParts}
 use Rattle.ld_task.specs.LockLaws.{lock_of_word-word}
@@ -48,18 +50,23 @@ option_eq-decides eq d None (Some b) = (λ h. absurd (true≢false (sym h)), λ 
 option_eq-decides eq d (Some a) None = (λ h. absurd (true≢false (sym h)), λ h. cc)
 option_eq-decides eq d (Some a) (Some b) = (λ h. ap Some ((d a b).0 h), λ e. let same : a ≡ b = cc in (d a b).1 same)
 
+flags_eq-decides : (a b : Flags) → Decides (flags.eq-value.it a b) (a ≡ b)
+flags_eq-decides a b =
+    both (beq a.hard_on b.hard_on) (beq a.soft_on b.soft_on) (booleans_Decides a.hard_on b.hard_on) (booleans_Decides a.soft_on b.soft_on)
+    (λ p i. record { hard_on = p.0 i; soft_on = p.1 i }) (λ e. (λ i. (e i).hard_on, λ i. (e i).soft_on))
+
 -- two chains are equal exactly where all their parts are
 pub chain_eq-decides : (a b : ChainParts) → Decides (chain_eq a b) (a ≡ b)
 chain_eq-decides a b =
-    both _ _ with_hard (booleans_Decides a.soft_on b.soft_on)
-    (λ p i. record { held_locks = p.0.0.0 i; new_lock = p.0.0.1 i; hard_on = p.0.1 i; soft_on = p.1 i })
-    (λ e. (((λ i. (e i).held_locks, λ i. (e i).new_lock), λ i. (e i).hard_on), λ i. (e i).soft_on))
+    both _ _ locks (flags_eq-decides a.flags b.flags)
+    (λ p i. record { held_locks = p.0.0 i; new_lock = p.0.1 i; flags = p.1 i })
+    (λ e. ((λ i. (e i).held_locks, λ i. (e i).new_lock), λ i. (e i).flags))
   where
-    locks : Decides (pointwise lock_eq a.held_locks b.held_locks && option_eq new_lock_eq a.new_lock b.new_lock) ((a.held_locks ≡ b.held_locks) × (a.new_lock ≡ b.new_lock))
-    locks = both _ _ (pointwise_decides lock_eq-decides a.held_locks b.held_locks) (option_eq-decides new_lock_eq new_lock_eq-decides a.new_lock b.new_lock) (λ p. p) (λ p. p)
-
-    with_hard : Decides (pointwise lock_eq a.held_locks b.held_locks && option_eq new_lock_eq a.new_lock b.new_lock && beq a.hard_on b.hard_on) (((a.held_locks ≡ b.held_locks) × (a.new_lock ≡ b.new_lock)) × (a.hard_on ≡ b.hard_on))
-    with_hard = both _ _ locks (booleans_Decides a.hard_on b.hard_on) (λ p. p) (λ p. p)
+    locks : Decides (pointwise lock_eq a.held_locks b.held_locks && option_eq new_lock_eq a.new_lock b.new_lock)
+        ((a.held_locks ≡ b.held_locks) × (a.new_lock ≡ b.new_lock))
+    locks =
+        both _ _ (pointwise_decides lock_eq-decides a.held_locks b.held_locks)
+        (option_eq-decides new_lock_eq new_lock_eq-decides a.new_lock b.new_lock) (λ p. p) (λ p. p)
 
 -- so it is an equivalence
 pub chain_eq-equivalence : IsEquivalence chain_eq

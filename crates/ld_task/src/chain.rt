@@ -1,24 +1,24 @@
 //! Chains: what one acquisition or opening tells.
 
 ghost use Rattle.std.specs.Prelude.{◌≡◌, ◌≤◌, ◌↔◌, IsTrue, length, option_map, slice_get};
+ghost use Rattle.ld_task.specs.Flags.{is_on};
 ghost use Rattle.ld_task.specs.Chains.{ChainKeysBelow, key_and_mode, key_mode_and_frame};
 
-use crate::frame::Frame;
+use crate::frame::{Flags, Frame};
 use crate::lock::{Lock, MAX_HELD};
 use arrayvec::ArrayVec;
-use ld_trace::{KeyId, Mode};
+use ld_trace::{Irq, KeyId, Mode};
 use std::hash::{Hash, Hasher};
 use std::marker::Model;
 
 /// What an acquisition or an opening tells: the locks that are held in its frame, oldest first; for an acquisition the
-/// new lock and the frame; and the two flags, just before an acquisition or just after an opening. At most 48 locks
+/// new lock and the frame; and the flags, just before an acquisition or just after an opening. At most 48 locks
 /// are held.
 #[derive(Drop, Debug)]
 pub struct Chain {
     held: ArrayVec<Lock, MAX_HELD>,
     taken: Option<(Lock, Frame)>,
-    hard_on: bool,
-    soft_on: bool,
+    flags: Flags,
 }
 
 impl Model for Chain {
@@ -31,8 +31,7 @@ impl Model for Chain {
     ghost view = { λ c. record {
       held_locks = c.held.items;
       new_lock = c.taken;
-      hard_on = c.hard_on;
-      soft_on = c.soft_on;
+      flags = c.flags;
     } };
 
     ghost invariant = { λ c. length c.held.items ≤ MAX_HELD };
@@ -44,38 +43,33 @@ impl Chain {
         held: ArrayVec<Lock, MAX_HELD>,
         taken: Lock,
         frame: Frame,
-        hard_on: bool,
-        soft_on: bool,
+        flags: Flags,
     ) -> Chain
         ensures { result ≡ record {
           held_locks = held.items;
           new_lock = Some (taken, frame);
-          hard_on = hard_on;
-          soft_on = soft_on;
+          flags = flags;
         } }
     {
         Chain {
             held,
             taken: Some((taken, frame)),
-            hard_on,
-            soft_on,
+            flags,
         }
     }
 
     // The chain of an opening.
-    pub(crate) fn opening(held: ArrayVec<Lock, MAX_HELD>, hard_on: bool, soft_on: bool) -> Chain
+    pub(crate) fn opening(held: ArrayVec<Lock, MAX_HELD>, flags: Flags) -> Chain
         ensures { result ≡ record {
           held_locks = held.items;
           new_lock = None;
-          hard_on = hard_on;
-          soft_on = soft_on;
+          flags = flags;
         } }
     {
         Chain {
             held,
             taken: None,
-            hard_on,
-            soft_on,
+            flags,
         }
     }
 
@@ -103,18 +97,25 @@ impl Chain {
         Some((lock.key(), lock.mode(), frame))
     }
 
+    /// The flags, just before an acquisition or just after an opening.
+    pub fn flags(&self) -> Flags
+        ensures { result ≡ self.now.flags }
+    {
+        self.flags
+    }
+
     /// Whether hardirqs are on, just before an acquisition or just after an opening.
     pub fn hard_on(&self) -> bool
-        ensures { result ≡ self.now.hard_on }
+        ensures { result ≡ is_on Irq.Hard self.now.flags }
     {
-        self.hard_on
+        self.flags.hard_on
     }
 
     /// Whether softirqs are on, just before an acquisition or just after an opening.
     pub fn soft_on(&self) -> bool
-        ensures { result ≡ self.now.soft_on }
+        ensures { result ≡ is_on Irq.Soft self.now.flags }
     {
-        self.soft_on
+        self.flags.soft_on
     }
 
     /// Whether every key of the chain is below `n`.
@@ -141,8 +142,7 @@ impl PartialEq for Chain {
     fn eq(&self, other: &Chain) -> bool {
         self.held.as_slice() == other.held.as_slice()
             && self.taken == other.taken
-            && self.hard_on == other.hard_on
-            && self.soft_on == other.soft_on
+            && self.flags == other.flags
     }
 }
 
@@ -160,14 +160,13 @@ impl Hash for Chain {
 
     ghost hash_input = { λ c. fed.slice ⟦<Lock as Hash>⟧.hash_input c.held_locks
         ++ ⟦<Option<(Lock, Frame)> as Hash>⟧.hash_input c.new_lock
-        ++ fed.bool c.hard_on ++ fed.bool c.soft_on };
+        ++ ⟦<Flags as Hash>⟧.hash_input c.flags };
 
     ghost respects_eq = { (same_Alike _ chain_eq-decides).fed };
 
     fn hash<H: Hasher>(&self, state: &mut H) {
         self.held.hash(state);
         self.taken.hash(state);
-        self.hard_on.hash(state);
-        self.soft_on.hash(state);
+        self.flags.hash(state);
     }
 }
