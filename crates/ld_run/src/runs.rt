@@ -1,28 +1,34 @@
 //! A run: workers over many traces.
 
-ghost use Rattle.std.specs.Prelude.{◌≡◌, ◌≤◌, ◌<◌, ◌↔◌, ℕ, List, All, IfOk, IfErr, IfSome, IsErrOf, length, slice_get, vec_len};
+ghost use Rattle.std.specs.Prelude.{◌≡◌, ◌≤◌, ◌<◌, ◌↔◌, ℕ, List, All, IfOk, IfErr, IsErrOf, count_by, length, sum_by, take};
 ghost use Rattle.ld_trace.specs.declared.event.Event.{Event};
 ghost use Rattle.ld_trace.specs.Events.{KeysBelow};
-ghost use Rattle.ld_run.specs.Faults.{IsCrew, StopsRun};
-ghost use Rattle.ld_run.specs.Runs.{CompletesRun, EndsRun};
-ghost use Rattle.ld_run.specs.Shares.{AreNone, BringsShare, BringShares, lesser_refused};
-ghost use Rattle.ld_run.specs.Tallies.{IsShareBelow, IsTally};
+ghost use Rattle.ld_task.specs.Events.{makes_chain};
+ghost use Rattle.ld_graph.specs.FactBits.{HasFact};
+ghost use Rattle.ld_graph.specs.declared.fact.Fact.{Fact};
+ghost use Rattle.ld_run.specs.Runs.{CompletesRun, EndsRun, IsCrew, StopsRun};
+ghost use Rattle.ld_run.specs.Shares.{BringShares, BringsShare, earlier_refused};
+ghost use Rattle.ld_run.specs.Tallies.{BelongsToFirst, IsTally};
 
 use crate::fault::RunFault;
 use crate::gate::Gate;
-use crate::settled::Settled;
-use crate::settling::settle;
-use crate::worker::{Lost, Tally, walk_share};
+use crate::settled::{Settled, settle};
+use crate::worker::{Lost, RefusedTrace, Tally, walk_share};
 use ld_book::{Book, LockedBook};
 use ld_graph::Facts;
-use ld_task::StepAt;
-use ld_trace::{Event, RawTrace};
+use ld_trace::{Event, MAX_EVENTS, MAX_KEYS, RawTrace};
 use std::alloc::{AllocError, Global};
 use std::sync::Wait;
 use std::thread;
 use std::thread::Threads;
 
-/// Walks the traces, whose keys are below `keys`, with so many workers, each in a thread of its own: trace i belongs to worker i
+/// The most traces of a run.
+pub const MAX_TRACES: usize = 4096;
+
+/// The most workers of a run.
+pub const MAX_WORKERS: u16 = 64;
+
+/// Walks the traces, whose keys are below `keys`, with `workers` workers, each in a thread of its own: trace i belongs to worker i
 /// modulo `workers`. Each worker gathers the facts of its traces, calls the gate just before it records a chain, and records it in
 /// one book that all share. The answer is the facts of all traces together, where the book and the workers agree on them. Where a
 /// thread can't be made the calling thread does its work.
@@ -40,18 +46,18 @@ pub fn run<R: Threads + Wait + Sync, G: Gate + Sync>(
     workers: u16,
     gate: &G,
 ) -> Result<Settled, RunFault>
-    requires few { keys ≤ 256 }
+    requires few { keys ≤ MAX_KEYS }
     requires below { All (KeysBelow keys) traces.now }
     ensures ok { IfOk result (CompletesRun traces.now workers) }
     ensures keys { IfOk result (λ settled. settled.keys ≡ keys) }
     ensures bad_workers { IsErrOf result RunFault.BadWorkers ↔ (¬ IsCrew workers) }
-    ensures too_many { IsErrOf result RunFault.TooManyTraces ↔ (IsCrew workers × (4096 < length traces.now)) }
+    ensures too_many { IsErrOf result RunFault.TooManyTraces ↔ (IsCrew workers × (MAX_TRACES < length traces.now)) }
     ensures refused { IfErr result (StopsRun traces.now workers) }
 {
-    if workers == 0 || workers > 64 {
+    if workers == 0 || workers > MAX_WORKERS {
         return Err(RunFault::BadWorkers);
     }
-    if traces.len() > 4096 {
+    if traces.len() > MAX_TRACES {
         return Err(RunFault::TooManyTraces);
     }
     complete(rt, alloc, traces, keys, usize::from(workers), gate)
@@ -66,10 +72,10 @@ fn complete<R: Threads + Wait + Sync, G: Gate + Sync>(
     workers: usize,
     gate: &G,
 ) -> Result<Settled, RunFault>
-    requires few { keys ≤ 256 }
+    requires few { keys ≤ MAX_KEYS }
     requires below { All (KeysBelow keys) traces.now }
     requires crew { IsCrew workers }
-    requires traces { length traces.now ≤ 4096 }
+    requires traces { length traces.now ≤ MAX_TRACES }
     ensures ok { IfOk result (CompletesRun traces.now workers) }
     ensures keys { IfOk result (λ settled. settled.keys ≡ keys) }
     ensures allowed { ¬ IsErrOf result RunFault.BadWorkers × ¬ IsErrOf result RunFault.TooManyTraces }
@@ -92,10 +98,10 @@ fn complete<R: Threads + Wait + Sync, G: Gate + Sync>(
 fn conclude(
     book: Book,
     together: &Facts,
-    refused: Option<(usize, StepAt)>,
+    refused: Option<RefusedTrace>,
 ) -> Result<Settled, RunFault>
-    ensures ends { (traces : List (List Event)) (workers : ℕ) → IsCrew workers → length traces ≤ 4096
-        → IsTally traces (IsShareBelow workers workers) together.now refused → EndsRun traces workers result }
+    ensures ends { (traces : List (List Event)) (workers : ℕ) → IsCrew workers → length traces ≤ MAX_TRACES
+        → IsTally traces (BelongsToFirst workers workers) together.now refused → EndsRun traces workers result }
     ensures keys { IfOk result (λ settled. settled.keys ≡ together.now.keys) }
     ensures allowed { ¬ IsErrOf result RunFault.BadWorkers × ¬ IsErrOf result RunFault.TooManyTraces }
 {
@@ -106,17 +112,17 @@ fn conclude(
 }
 
 // The fault of a trace that isn't well formed.
-fn refused_by(found: (usize, StepAt)) -> RunFault
-    ensures { result ≡ RunFault.Refused found.0 found.1.place found.1.fault }
+fn refused_by(found: RefusedTrace) -> RunFault
+    ensures { result ≡ RunFault.Refused found.trace found.first.place found.first.fault }
 {
     RunFault::Refused {
-        trace: found.0,
-        place: found.1.place,
-        fault: found.1.fault,
+        trace: found.trace,
+        place: found.first.place,
+        fault: found.first.fault,
     }
 }
 
-// Gathers the facts of all traces, and answers the least one that isn't well formed.
+// Gathers the facts of all traces, and returns the first that isn't well formed.
 fn gather<R: Threads + Wait + Sync, G: Gate + Sync>(
     rt: &R,
     alloc: Global,
@@ -126,20 +132,21 @@ fn gather<R: Threads + Wait + Sync, G: Gate + Sync>(
     keys: u16,
     workers: usize,
     together: &mut Facts,
-) -> Result<Option<(usize, StepAt)>, Lost>
-    requires few { keys ≤ 256 }
+) -> Result<Option<RefusedTrace>, Lost>
+    requires few { keys ≤ MAX_KEYS }
     requires below { All (KeysBelow keys) traces.now }
     requires workers { 0 < workers }
-    requires traces { length traces.now ≤ 4096 }
+    requires traces { length traces.now ≤ MAX_TRACES }
     requires keys { together.old.keys ≡ keys }
-    requires none { AreNone together.old }
+    requires none { (x : Fact) → ¬ HasFact together.old x }
     ensures keys { together.new.keys ≡ keys }
-    ensures tally { IfOk result (λ refused. IsTally traces.now (IsShareBelow workers workers) together.new refused) }
+    ensures tally { IfOk result (λ refused.
+        IsTally traces.now (BelongsToFirst workers workers) together.new refused) }
 {
     let Ok(brought) = walk_all(rt, alloc, book, gate, traces, keys, workers) else {
         return Err(Lost);
     };
-    unite(together, &brought)
+    add_up(together, &brought)
 }
 
 // Each worker walks its share, in a thread of its own where one can be made.
@@ -152,10 +159,10 @@ fn walk_all<R: Threads + Wait + Sync, G: Gate + Sync>(
     keys: u16,
     workers: usize,
 ) -> Result<Vec<Result<Tally, Lost>>, AllocError>
-    requires few { keys ≤ 256 }
+    requires few { keys ≤ MAX_KEYS }
     requires below { All (KeysBelow keys) traces.now }
     requires workers { 0 < workers }
-    requires traces { length traces.now ≤ 4096 }
+    requires traces { length traces.now ≤ MAX_TRACES }
     ensures len { IfOk result (λ brought. vec_len brought ≡ workers) }
     ensures each { IfOk result (λ brought. BringShares traces.now keys workers brought.items) }
 {
@@ -164,21 +171,23 @@ fn walk_all<R: Threads + Wait + Sync, G: Gate + Sync>(
         alloc,
         workers,
         &|worker: usize| -> Result<Tally, Lost>
-            requires { (keys ≤ 256) × All (KeysBelow keys) traces.now × (0 < workers) × (length traces.now ≤ 4096) }
+            requires { (keys ≤ MAX_KEYS) × All (KeysBelow keys) traces.now × (0 < workers) × (length traces.now ≤ MAX_TRACES) }
             ensures { BringsShare traces.entry.now keys workers worker result }
         { walk_share(rt, alloc, book, gate, traces, keys, workers, worker) },
     )
 }
 
-// Adds the facts that all workers brought, and answers the least trace that one of them refused.
-fn unite(
+// Adds the facts that all workers brought, and returns the first trace that one of them refused.
+fn add_up(
     together: &mut Facts,
     brought: &[Result<Tally, Lost>],
-) -> Result<Option<(usize, StepAt)>, Lost>
+) -> Result<Option<RefusedTrace>, Lost>
     requires { (traces : List (List Event)) × BringShares traces together.old.keys (length brought.now) brought.now }
     ensures keys { together.new.keys ≡ together.old.keys }
-    ensures united { IfOk result (λ refused. (traces : List (List Event)) → BringShares traces together.old.keys (length brought.now) brought.now
-        → AreNone together.old → IsTally traces (IsShareBelow (length brought.now) (length brought.now)) together.new refused) }
+    ensures united { IfOk result (λ refused. (traces : List (List Event))
+        → BringShares traces together.old.keys (length brought.now) brought.now
+        → ((x : Fact) → ¬ HasFact together.old x)
+        → IsTally traces (BelongsToFirst (length brought.now) (length brought.now)) together.new refused) }
 {
     let mut refused = None;
     for share in brought {
@@ -186,27 +195,27 @@ fn unite(
             return Err(Lost);
         };
         together.unite(&tally.facts);
-        refused = lesser(refused, tally.refused);
+        refused = earlier(refused, tally.refused);
     }
     Ok(refused)
 }
 
-// The one with the lesser place.
-fn lesser(one: Option<(usize, StepAt)>, other: Option<(usize, StepAt)>) -> Option<(usize, StepAt)>
-    ensures { result ≡ lesser_refused one other }
+// The earlier of two traces.
+fn earlier(a: Option<RefusedTrace>, b: Option<RefusedTrace>) -> Option<RefusedTrace>
+    ensures { result ≡ earlier_refused a b }
 {
-    match one {
-        Some(first) => match other {
-            Some(second) => Some(if second.0 < first.0 { second } else { first }),
-            None => Some(first),
-        },
-        None => other,
+    match (a, b) {
+        (Some(a), Some(b)) => Some(if b.trace < a.trace { b } else { a }),
+        (Some(a), None) => Some(a),
+        (None, b) => b,
     }
 }
 
-// How many chains the traces have at most: their events that take a lock or turn a flag on.
+// How many chains the traces have at most, which is the most that the book has to hold: their events that take a lock or
+// turn a flag on.
 fn chain_count(traces: &[RawTrace]) -> u64
-    requires { length traces.now ≤ 4096 }
+    requires { length traces.now ≤ MAX_TRACES }
+    ensures { result ≡ sum_by (count_by makes_chain) traces.now }
 {
     let mut count = 0;
     for trace in traces {
@@ -217,15 +226,15 @@ fn chain_count(traces: &[RawTrace]) -> u64
 
 // How many events of a trace take a lock or turn a flag on.
 fn chains_of(trace: &RawTrace) -> u64
-    ensures { result ≤ 1000000 }
+    ensures value { result ≡ count_by makes_chain trace.now }
+    ensures few { result ≤ MAX_EVENTS }
 {
     let mut count = 0;
-    for at in 0..trace.len() {
-        if let Some(event) = trace.event(at) {
-            if matches!(event, Event::Acquire { .. } | Event::TurnOn { .. }) {
-                count += 1;
-            }
-        }
+    for place in 0..trace.len() {
+        let Some(event) = trace.event(place) else {
+            unreachable!();
+        };
+        count += u64::from(matches!(event, Event::Acquire { .. } | Event::TurnOn { .. }));
     }
     count
 }
