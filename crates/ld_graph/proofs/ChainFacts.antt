@@ -13,7 +13,9 @@ use Rattle.ld_task.specs.declared.mark.Mark.TheVariants.{Used, UsedIn, Enabled}
 use Rattle.ld_task.specs.Chains.{ChainParts, ChainKeysBelow}
 use Rattle.ld_task.specs.Dependencies.{kind_between}
 use Rattle.ld_task.specs.Marks.{is_read, is_in, is_enabled, same_form, marks_taken, marks_opened}
-use Rattle.ld_graph.specs.ChainFacts.{ChainHas, FactBelow, chain_fact, fact_by, fact_places, mark_if, mark_of_held, mark_by_taking, mark_by_opening}
+use Rattle.ld_graph.specs.Facts.{ChainHas}
+use Rattle.ld_graph.specs.FactBits.{FactBelow}
+use Rattle.ld_graph.specs.ChainFacts.{chain_fact, fact_by, fact_slots, mark_if, mark_of_held, mark_by_taking, mark_by_opening}
 use Rattle.ld_graph.specs.declared.fact.Fact.{Fact}
 use Rattle.ld_graph.specs.declared.fact.Fact.TheVariants.{Dependency, Marked}
 
@@ -119,16 +121,16 @@ chain_fact-sound c n x e = pick c.new_lock refl e
 abbrev pub StandsIn : ChainParts → Fact → ℕ → Type 0
 StandsIn c x bound = (n : ℕ) × (n < bound) × (chain_fact c n ≡ Some x)
 
-pub chain_fact-complete : (c : ChainParts) (x : Fact) → ChainHas c x → StandsIn c x (fact_places c)
+pub chain_fact-complete : (c : ChainParts) (x : Fact) → ChainHas c x → StandsIn c x (fact_slots c)
 chain_fact-complete c (Dependency from to kind) h =
     let (k, l, at) = h.is_held in
-    let places : fact_places c ≡ length c.held_locks + 5 = rw h.is_new refl in
+    let slots : fact_slots c ≡ length c.held_locks + 5 = rw h.is_new refl in
     let here : chain_fact c k ≡ Some (Dependency h.old.key h.new.key (kind_between h.old.mode h.new.mode)) =
     rw (h.is_new, lt-ltb k (length c.held_locks) l, slice_get-get_or c.held_locks k h.old l, at) refl in
     (k, omega arith, here ∙ rw (h.from_is, h.to_is, h.how) refl)
 chain_fact-complete c (Marked key mark) (inl h) =
     let n : ℕ = length c.held_locks + taking_place mark in
-    let places : fact_places c ≡ length c.held_locks + 5 = rw h.is_new refl in
+    let slots : fact_slots c ≡ length c.held_locks + 5 = rw h.is_new refl in
     let after : n - length c.held_locks ≡ taking_place mark = omega arith in
     let m : mark_by_taking (is_read h.new.mode) (n - length c.held_locks) ≡ mark =
     ap (mark_by_taking (is_read h.new.mode)) after ∙ mark_by_taking-place h.new.mode h.frame c.hard_on c.soft_on mark h.gives in
@@ -143,7 +145,7 @@ chain_fact-complete c (Marked key mark) (inr h) =
     let (k, l, at) = h.is_held in
     let n : ℕ = k * 2 + opening_place mark in
     let lt : opening_place mark < 2 = opening_place-lt mark in
-    let places : fact_places c ≡ length c.held_locks * 2 = rw h.is_opening refl in
+    let slots : fact_slots c ≡ length c.held_locks * 2 = rw h.is_opening refl in
     let half : n / 2 ≡ k = omega arith in
     let odd : n % 2 ≡ opening_place mark = omega arith in
     let here : chain_fact c n ≡ mark_if (marks_opened h.old.mode c.hard_on c.soft_on) h.old.key (mark_by_opening (is_read h.old.mode) (opening_place mark)) =

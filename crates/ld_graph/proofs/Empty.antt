@@ -3,7 +3,7 @@ use Rattle.std.proofs.Common.{◌≡◌, ℕ, ◌+◌, ◌*◌, ◌/◌, ◌≤�
 use Rattle.std.proofs.lemmas.List.{length-replicate}
 use Rattle.ld_graph.specs.Bits.{has_bit}
 use Rattle.ld_graph.specs.Numbers.{dependency_total, bit_total}
-use Rattle.ld_graph.specs.Facts.{FactWords, AreCounted, dependency_count, mark_count}
+use Rattle.ld_graph.specs.FactBits.{FactWords, AreCounted, dependency_count, mark_count}
 use Rattle.ld_graph.proofs.BitLemmas.{has_bit-zeros, zeros_at, count_below-none}
 
 module _ (facts : FactWords) (n : ℕ) (zeros : facts.words ≡ replicate n 0) where

@@ -1,5 +1,6 @@
 -- One row more of those that are chosen.
 use Rattle.std.proofs.Common.{◌≡◌, ◌≢◌, ℕ, ◌+◌, ◌-◌, ◌*◌, ◌/◌, ◌<◌, ◌≤◌, ◌⊎◌, ◌↔◌, ◌||◌, ◌&&◌, List, [], ◌∷◌, length, get_or, set, refl, ap, sym, ◌∙◌, subst, inl, inr, arith, Bool, true, false, get_or-set_same, get_or-set_other}
+use Rattle.std.specs.Cmp.{both_ways}
 use Rattle.std.proofs.lemmas.Bool.{cases_eq}
 use Rattle.ld_graph.specs.Bits.{has_bit}
 use Rattle.ld_graph.specs.Tables.{reaches}
@@ -64,9 +65,4 @@ pub joined_all : (first now : List (List ℕ)) (chosen taken row : List ℕ) →
     ((k : ℕ) → has_bit chosen k ≡ true → has_bit taken k ≡ true) →
     (p q : ℕ) → reaches now p q ≡ (reaches first p q || (has_bit chosen p && has_bit row q))
 joined_all first now chosen taken row was all p q =
-    was.joined p q ∙ ap (λ b. reaches first p q || (b && has_bit row q)) (same (has_bit taken p) (has_bit chosen p) (was.only p) (all p))
-  where
-    same : (a b : Bool) → (a ≡ true → b ≡ true) → (b ≡ true → a ≡ true) → a ≡ b
-    same true b f g = sym (f refl)
-    same false true f g = absurd (let e : false ≡ true = g refl in cc)
-    same false false f g = refl
+    was.joined p q ∙ ap (λ b. reaches first p q || (b && has_bit row q)) (both_ways (has_bit taken p) (has_bit chosen p) (was.only p) (all p))

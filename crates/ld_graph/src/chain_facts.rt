@@ -3,15 +3,15 @@
 ghost use Rattle.std.specs.Prelude.{◌≡◌, ◌+◌, ◌-◌, ◌*◌, ◌/◌, ◌%◌, ◌<◌, ◌≤◌, slice_get, if◌then◌else◌, length};
 ghost use Rattle.ld_task.specs.Dependencies.{kind_between};
 ghost use Rattle.ld_task.specs.Marks.{is_read, marks_taken, marks_opened};
-ghost use Rattle.ld_graph.specs.ChainFacts.{chain_fact, dependency_from, fact_places, mark_if, mark_of_held, mark_by_taking, mark_by_opening};
+ghost use Rattle.ld_graph.specs.ChainFacts.{chain_fact, dependency_from, fact_slots, mark_if, mark_of_held, mark_by_taking, mark_by_opening};
 
 use crate::fact::Fact;
 use ld_task::{Chain, Frame, Kind, Mark};
 use ld_trace::{Irq, KeyId, Mode};
 
-// How many places the chain has for facts, some of them empty.
-pub(crate) fn places(chain: &Chain) -> usize
-    ensures value { result ≡ fact_places chain.now }
+// How many slots the chain has for facts, some of them empty.
+pub(crate) fn slots(chain: &Chain) -> usize
+    ensures value { result ≡ fact_slots chain.now }
     ensures few { result ≤ 96 }
 {
     match chain.taken() {
@@ -20,7 +20,7 @@ pub(crate) fn places(chain: &Chain) -> usize
     }
 }
 
-// The fact at a place, if there is one: of an acquisition the dependencies, oldest first, and then the marks of the new
+// The fact in a slot, if there is one: of an acquisition the dependencies, oldest first, and then the marks of the new
 // lock; of an opening the marks of the held locks.
 pub(crate) fn fact_at(chain: &Chain, n: usize) -> Option<Fact>
     ensures { result ≡ chain_fact chain.now n }
