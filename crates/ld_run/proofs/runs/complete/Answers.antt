@@ -1,5 +1,5 @@
 use Rattle.ld_run.proofs.Settlements.{ends_ok, ends_err}
-use Rattle.ld_run.proofs.crew.complete.Goals as goal
+use Rattle.ld_run.proofs.runs.complete.Goals as goal
 
 pub returns-in-Ok-gather-clause-ok : goal.returns-in-Ok-gather-clause-ok
 returns-in-Ok-gather-clause-ok g c =

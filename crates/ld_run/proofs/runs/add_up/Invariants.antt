@@ -1,5 +1,5 @@
 use Rattle.ld_run.proofs.Shares.{HaveUnited}
-use Rattle.ld_run.proofs.crew.unite.Given as goal
+use Rattle.ld_run.proofs.runs.add_up.Given as goal
 
 -- what the workers so far brought was put together
 abbrev pub invariant-loop-share : goal.invariant-loop-share
