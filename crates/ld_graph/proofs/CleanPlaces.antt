@@ -5,7 +5,8 @@ use Rattle.ld_task.specs.declared.kind.Kind.{Kind}
 use Rattle.ld_task.specs.declared.kind.Kind.TheVariants.{Er, En, Sr, Sn}
 use Rattle.ld_task.specs.declared.mark.Mark.{Mark}
 use Rattle.ld_task.specs.declared.mark.Mark.TheVariants.{Used, UsedIn, Enabled}
-use Rattle.ld_graph.specs.Arrows.{Arrow, MayFollow, arrow, is_s, is_r}
+use Rattle.ld_task.specs.Kinds.{is_s, is_r}
+use Rattle.ld_graph.specs.Arrows.{Arrow, MayFollow, arrow}
 use Rattle.ld_graph.specs.Facts.{Holds, Adds, DependenciesOf}
 use Rattle.ld_graph.specs.FactBits.{FactBelow}
 use Rattle.ld_graph.specs.FactLaws.{StrongWalk-more}

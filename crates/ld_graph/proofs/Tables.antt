@@ -3,7 +3,8 @@ use Rattle.std.proofs.Common.{◌≡◌, ◌≢◌, ℕ, ◌⊎◌, ◌↔◌, �
 use Rattle.std.specs.Cmp.{both_ways}
 use Rattle.std.proofs.lemmas.Bool.{cases_eq, cases_lt, cases_Bool, or_cases, or_left, or_right, and_parts, and_from, not_from_false}
 use Rattle.std.proofs.lemmas.List.{get_or_past, get_or-replicate, length-replicate}
-use Rattle.ld_graph.specs.Arrows.{Arrow, is_s, is_r}
+use Rattle.ld_task.specs.Kinds.{is_s, is_r}
+use Rattle.ld_graph.specs.Arrows.{Arrow}
 use Rattle.ld_graph.specs.Bits.{has_bit}
 use Rattle.ld_graph.specs.Places.{place, arrival, Leaves}
 use Rattle.ld_graph.specs.Tables.{reaches, Comes, IsSource, IsTarget, AreSpan, IsTransitive, TakesArrow, AreTables}

@@ -4,7 +4,8 @@ use Rattle.ld_trace.specs.declared.event.Irq.{Irq}
 use Rattle.ld_task.specs.declared.kind.Kind.{Kind}
 use Rattle.ld_task.specs.declared.mark.Mark.{Mark}
 use Rattle.ld_task.specs.declared.mark.Mark.TheVariants.{Used, UsedIn, Enabled}
-use Rattle.ld_graph.specs.Arrows.{Arrow, MayFollow, arrow, is_r}
+use Rattle.ld_task.specs.Kinds.{is_r}
+use Rattle.ld_graph.specs.Arrows.{Arrow, MayFollow, arrow}
 use Rattle.ld_graph.specs.Bits.{has_bit}
 use Rattle.ld_graph.specs.Facts.{DependenciesOf}
 use Rattle.ld_graph.specs.FactBits.{FactWords, HasFact, rows_allowed}

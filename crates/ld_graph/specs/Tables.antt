@@ -1,6 +1,7 @@
 -- A table of the places that are reached from each place: a row of bits for each.
 use Rattle.std.specs.Prelude.{◌≡◌, ℕ, ◌⊎◌, Bool, ◌↔◌, IsTrue, List, [], length, slice_index_or}
-use Rattle.ld_graph.specs.Arrows.{Arrow, is_s, is_r}
+use Rattle.ld_task.specs.Kinds.{is_s, is_r}
+use Rattle.ld_graph.specs.Arrows.{Arrow}
 use Rattle.ld_graph.specs.Bits.{has_bit}
 use Rattle.ld_graph.specs.Places.{place, LeavesFrom}
 

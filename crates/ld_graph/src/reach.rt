@@ -6,7 +6,6 @@ ghost use Rattle.ld_graph.specs.Bits.{has_bit};
 ghost use Rattle.ld_graph.specs.Places.{place, LeavesFrom};
 ghost use Rattle.ld_graph.specs.Tables.{reaches, IsSource, IsTarget, AreSpan, IsTransitive, TakesArrow};
 
-use crate::arrows::{begins_with_s, ends_in_r};
 use crate::bits;
 use crate::places::{PLACES, ROW_WORDS, Row, place_of};
 use ld_task::Kind;
@@ -116,11 +115,11 @@ impl Reach {
         ensures count { result ≤ 1024 }
     {
         let mut fresh_sources = *sources;
-        bits::remove(&mut fresh_sources, &self.to(place_of(to, ends_in_r(kind))));
+        bits::remove(&mut fresh_sources, &self.to(place_of(to, kind.ends_in_r())));
         let mut fresh_targets = *targets;
         bits::remove(
             &mut fresh_targets,
-            &self.reached_from_each(from, begins_with_s(kind)),
+            &self.reached_from_each(from, kind.begins_with_s()),
         );
         join(&mut self.ahead, &fresh_sources, targets);
         join(&mut self.behind, &fresh_targets, sources);
@@ -136,9 +135,9 @@ fn rows_taken(written: &Row, from: u16, to: u16, kind: Kind) -> u64
     ensures { result ≤ 512 }
 {
     let mut rows = *written;
-    bits::insert(&mut rows, place_of(to, ends_in_r(kind)));
+    bits::insert(&mut rows, place_of(to, kind.ends_in_r()));
     bits::insert(&mut rows, place_of(from, false));
-    if !begins_with_s(kind) {
+    if !kind.begins_with_s() {
         bits::insert(&mut rows, place_of(from, true));
     }
     bits::count(&rows)

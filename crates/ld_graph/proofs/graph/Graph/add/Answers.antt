@@ -1,5 +1,6 @@
 use Rattle.std.proofs.Common.{rules, not, ◌≡◌, ◌+◌, ◌≤◌, ◌↔◌, ◌∙◌, ℕ, refl, sym, ap, subst, arith, Bool, true, false}
-use Rattle.ld_graph.specs.Arrows.{Arrow, arrow, is_s}
+use Rattle.ld_task.specs.Kinds.{is_s}
+use Rattle.ld_graph.specs.Arrows.{Arrow, arrow}
 use Rattle.ld_graph.specs.Bits.{has_bit}
 use Rattle.ld_graph.specs.Facts.{Adds, DependenciesOf}
 use Rattle.ld_graph.specs.FactBits.{FactWords, HasFact, rows_allowed, rows_for}
