@@ -2,6 +2,8 @@
 use Rattle.std.proofs.Common.{◌≡◌, ℕ, ◌+◌, ◌-◌, ◌*◌, ◌/◌, ◌<◌, ◌≤◌, length, ap, sym, ◌∙◌, subst, inl, inr, arith, true, false, cond, not}
 use Rattle.std.proofs.lemmas.Bool.{cases_eq}
 use Rattle.std.proofs.lemmas.Nat.{mul-le}
+use Rattle.ld_trace.specs.declared.key_id.TheConstants.{MAX_KEYS}
+use Rattle.ld_graph.specs.declared.places.TheConstants.{PLACES}
 use Rattle.ld_graph.specs.Bits.{has_bit, count_below}
 use Rattle.ld_graph.specs.Numbers.{fact_number, dependency_total, mark_total, bit_total}
 use Rattle.ld_graph.specs.Facts.{Adds}
@@ -12,15 +14,15 @@ use Rattle.ld_graph.proofs.BitLemmas.{count_below-le, count_below-same, count_be
 use Rattle.ld_graph.proofs.Numbers.{dependency-lt, mark-lt, fact_number-same}
 
 -- ---- how many there can be
-pub dependency_count-le : (facts : FactWords) → facts.keys ≤ 256 → dependency_count facts ≤ 262144
+pub dependency_count-le : (facts : FactWords) → facts.keys ≤ MAX_KEYS → dependency_count facts ≤ dependency_total MAX_KEYS
 dependency_count-le facts few =
-    let squares : facts.keys * facts.keys ≤ 256 * 256 = mul-le facts.keys facts.keys 256 256 few few in
+    let squares : facts.keys * facts.keys ≤ MAX_KEYS * 256 = mul-le facts.keys facts.keys MAX_KEYS MAX_KEYS few few in
     omega (arith, count_below-le (has_bit facts.words) (dependency_total facts.keys))
 
-pub mark_count-le : (facts : FactWords) → facts.keys ≤ 256 → mark_count facts ≤ 2304
+pub mark_count-le : (facts : FactWords) → facts.keys ≤ MAX_KEYS → mark_count facts ≤ mark_total MAX_KEYS
 mark_count-le facts few = omega (arith, count_below-le (λ n. has_bit facts.words (dependency_total facts.keys + n)) (mark_total facts.keys))
 
-pub rows_allowed-le : (facts : FactWords) → facts.keys ≤ 256 → rows_allowed facts ≤ 269615104
+pub rows_allowed-le : (facts : FactWords) → facts.keys ≤ MAX_KEYS → rows_allowed facts ≤ 2 * PLACES * dependency_total MAX_KEYS + PLACES * mark_total MAX_KEYS
 rows_allowed-le facts few = omega (arith, dependency_count-le facts few, mark_count-le facts few)
 
 -- ---- the counts when a bit is set
@@ -55,7 +57,7 @@ module _ (old new : FactWords) (n : ℕ) (sets : SetsBit old new n) where
 
   AreFacts-set : length new.words ≡ length old.words → n < bit_total old.keys → AreFacts old → AreFacts new
   AreFacts-set len below are = record {
-    few = subst (λ k. k ≤ 256) (sym sets.keys) are.few;
+    few = subst (λ k. k ≤ MAX_KEYS) (sym sets.keys) are.few;
     words = len ∙ are.words ∙ ap (λ k. (bit_total k + 63) / 64) (sym sets.keys);
     none_past = λ k past.
         let past' : bit_total old.keys ≤ k = subst (λ x. bit_total x ≤ k) sets.keys past in

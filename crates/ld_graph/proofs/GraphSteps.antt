@@ -3,7 +3,9 @@ use Rattle.std.proofs.Common.{◌≡◌, ℕ, ◌≤◌, ◌↔◌, List, refl, 
 use Rattle.ld_trace.specs.declared.event.Irq.{Irq}
 use Rattle.ld_task.specs.declared.mark.Mark.{Mark}
 use Rattle.ld_task.specs.declared.mark.Mark.TheVariants.{Used, UsedIn, Enabled}
-use Rattle.ld_graph.specs.Arrows.{Arrow, is_s}
+use Rattle.ld_task.specs.Kinds.{is_s}
+use Rattle.ld_trace.specs.declared.key_id.TheConstants.{MAX_KEYS}
+use Rattle.ld_graph.specs.Arrows.{Arrow}
 use Rattle.ld_graph.specs.Bits.{has_bit}
 use Rattle.ld_graph.specs.Facts.{Holds, Adds, DependenciesOf}
 use Rattle.ld_graph.specs.FactBits.{FactWords, FactBelow, HasFact, rows_allowed}
@@ -21,7 +23,7 @@ use Rattle.ld_graph.proofs.Search.{OnCircle-iff, Path-more}
 use Rattle.ld_graph.proofs.Ways.{Comes-path, ways_taken}
 use Rattle.ld_graph.proofs.CleanPlaces.{CleanPlaces-from, IsClean-from_places, CleanPlaces-dependency, CleanPlaces-mark, ComesBack, Joins, TurnsBackBy, arrows_within, arrows_added, Leads-kept, LinkArrives-adds, LinkLeaves-adds, LinkArrives-kept, LinkLeaves-kept}
 
-pub facts_within : (facts : FactWords) → facts.keys ≤ 256 → Holds (FactBelow 256) (HasFact facts)
+pub facts_within : (facts : FactWords) → facts.keys ≤ MAX_KEYS → Holds (FactBelow MAX_KEYS) (HasFact facts)
 facts_within facts few (Dependency from to kind) h = let l = h.0 in (omega arith, omega arith)
 facts_within facts few (Marked key mark) h = let l = h.0 in omega arith
 
@@ -29,7 +31,7 @@ off_on : {A : Type 0} (b : Bool) → b ≡ false → b ≡ true → A
 off_on b off on = absurd (let e : false ≡ true = sym off ∙ on in cc)
 
 -- ---- a new graph
-pub IsGraph-new : (facts : FactWords) (table : List (List ℕ)) (ends : Ends) → facts.keys ≤ 256 → ((x : Fact) → ¬ HasFact facts x) →
+pub IsGraph-new : (facts : FactWords) (table : List (List ℕ)) (ends : Ends) → facts.keys ≤ MAX_KEYS → ((x : Fact) → ¬ HasFact facts x) →
     ((p q : ℕ) → reaches table p q ≡ false) →
     ((irq : Irq) (p : ℕ) → arrives_at ends irq p ≡ false) → ((irq : Irq) (q : ℕ) → departs_from ends irq q ≡ false) →
     IsGraph facts table ends true 0
@@ -55,7 +57,7 @@ IsGraph-new facts table ends few free empty arrivals departures = record {
 }
 
 -- ---- look-ups
-pub OnCircle-by_table : (facts : FactWords) (table : List (List ℕ)) → facts.keys ≤ 256 →
+pub OnCircle-by_table : (facts : FactWords) (table : List (List ℕ)) → facts.keys ≤ MAX_KEYS →
     ((p q : ℕ) → (reaches table p q ≡ true) ↔ Way (Leads (DependenciesOf (HasFact facts))) p q) → (d : Arrow) → DependenciesOf (HasFact facts) d →
     (targets : List ℕ) → ((q : ℕ) → (has_bit targets q ≡ true) ↔ Comes table (arrival d) q) →
     OnCircle (HasFact facts) d ↔ LeavesTarget targets d.start (is_s d.kind)
@@ -71,8 +73,8 @@ module _ (old new : FactWords) (d : Arrow) (keys : new.keys ≡ old.keys)
     (adds : Adds (HasFact old) (HasFact new) (λ x. x ≡ Dependency d.start d.end d.kind))
     (table table' : List (List ℕ)) (takes : TakesArrow table table' d) (sources targets : List ℕ) (span : AreSpan table d sources targets)
     (ends : Ends) (clean : Bool) (searched : ℕ) (was : IsGraph old table ends clean searched) where
-  few : new.keys ≤ 256
-  few = subst (λ k. k ≤ 256) (sym keys) was.few
+  few : new.keys ≤ MAX_KEYS
+  few = subst (λ k. k ≤ MAX_KEYS) (sym keys) was.few
 
   comes : (p q : ℕ) → Comes table p q ↔ Path (Leads (DependenciesOf (HasFact old))) p q
   comes p q = Comes-path (Leads (DependenciesOf (HasFact old))) table was.ways p q
@@ -140,8 +142,8 @@ module _ (old new : FactWords) (key : ℕ) (mark : Mark) (keys : new.keys ≡ ol
     (adds : Adds (HasFact old) (HasFact new) (λ x. x ≡ Marked key mark)) (table : List (List ℕ))
     (ends ends' : Ends) (takes : TakesMark ends ends' key mark)
     (clean : Bool) (searched : ℕ) (was : IsGraph old table ends clean searched) where
-  few_marked : new.keys ≤ 256
-  few_marked = subst (λ k. k ≤ 256) (sym keys) was.few
+  few_marked : new.keys ≤ MAX_KEYS
+  few_marked = subst (λ k. k ≤ MAX_KEYS) (sym keys) was.few
 
   comes_marked : (p q : ℕ) → Comes table p q ↔ Path (Leads (DependenciesOf (HasFact old))) p q
   comes_marked p q = Comes-path (Leads (DependenciesOf (HasFact old))) table was.ways p q

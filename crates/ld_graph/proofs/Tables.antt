@@ -3,27 +3,29 @@ use Rattle.std.proofs.Common.{◌≡◌, ◌≢◌, ℕ, ◌⊎◌, ◌↔◌, �
 use Rattle.std.specs.Cmp.{both_ways}
 use Rattle.std.proofs.lemmas.Bool.{cases_eq, cases_lt, cases_Bool, or_cases, or_left, or_right, and_parts, and_from, not_from_false}
 use Rattle.std.proofs.lemmas.List.{get_or_past, get_or-replicate, length-replicate}
-use Rattle.ld_graph.specs.Arrows.{Arrow, is_s, is_r}
+use Rattle.ld_task.specs.Kinds.{is_s, is_r}
+use Rattle.ld_graph.specs.declared.places.TheConstants.{PLACES, ROW_WORDS}
+use Rattle.ld_graph.specs.Arrows.{Arrow}
 use Rattle.ld_graph.specs.Bits.{has_bit}
 use Rattle.ld_graph.specs.Places.{place, arrival, Leaves}
 use Rattle.ld_graph.specs.Tables.{reaches, Comes, IsSource, IsTarget, AreSpan, IsTransitive, TakesArrow, AreTables}
 use Rattle.ld_graph.proofs.BitLemmas.{has_bit-zeros, zeros_at}
-use Rattle.ld_graph.proofs.Joining.{eight_zeros}
+use Rattle.ld_graph.proofs.Joining.{zero_row}
 
 -- ---- a table of zeros
-pub reaches-zeros : (table : List (List ℕ)) (n : ℕ) → table ≡ replicate n eight_zeros → (p q : ℕ) → reaches table p q ≡ false
+pub reaches-zeros : (table : List (List ℕ)) (n : ℕ) → table ≡ replicate n zero_row → (p q : ℕ) → reaches table p q ≡ false
 reaches-zeros table n zeros p q =
     ap (λ t. reaches t p q) zeros ∙
     elim (cases_lt p n) [
-      | inl l ↦ ap (λ row. has_bit row q) (get_or-replicate n p eight_zeros [] l) ∙ has_bit-zeros eight_zeros q (zeros_at 8)
-      | inr l ↦ ap (λ row. has_bit row q) (get_or_past (replicate n eight_zeros) p [] (omega (arith, length-replicate n eight_zeros))) ∙ has_bit-zeros [] q (λ i. refl)
+      | inl l ↦ ap (λ row. has_bit row q) (get_or-replicate n p zero_row [] l) ∙ has_bit-zeros zero_row q (zeros_at ROW_WORDS)
+      | inr l ↦ ap (λ row. has_bit row q) (get_or_past (replicate n zero_row) p [] (omega (arith, length-replicate n zero_row))) ∙ has_bit-zeros [] q (λ i. refl)
     ]
 
-pub AreTables-zeros : (ahead behind : List (List ℕ)) → ahead ≡ replicate 512 eight_zeros → behind ≡ replicate 512 eight_zeros → AreTables ahead behind
+pub AreTables-zeros : (ahead behind : List (List ℕ)) → ahead ≡ replicate PLACES zero_row → behind ≡ replicate PLACES zero_row → AreTables ahead behind
 AreTables-zeros ahead behind a b = record {
-  ahead_rows = ap length a ∙ length-replicate 512 eight_zeros;
-  behind_rows = ap length b ∙ length-replicate 512 eight_zeros;
-  turned = λ p q. reaches-zeros behind 512 b q p ∙ sym (reaches-zeros ahead 512 a p q);
+  ahead_rows = ap length a ∙ length-replicate PLACES zero_row;
+  behind_rows = ap length b ∙ length-replicate PLACES zero_row;
+  turned = λ p q. reaches-zeros behind PLACES b q p ∙ sym (reaches-zeros ahead PLACES a p q);
 }
 
 -- ---- the sources of an arrow that begins with E, from its two places

@@ -1,12 +1,13 @@
 -- The facts of a chain one after the other.
 use Rattle.std.specs.Prelude.{ℕ, ◌+◌, ◌-◌, ◌*◌, ◌/◌, ◌%◌, ◌==◌, nat_lt, Bool, if◌then◌else◌, length, Option, Some, None, slice_get}
 use Rattle.ld_trace.specs.declared.event.Irq.TheVariants.{Hard, Soft}
+use Rattle.ld_task.specs.declared.frame.Flags.{Flags}
 use Rattle.ld_task.specs.declared.frame.Frame.{Frame}
 use Rattle.ld_task.specs.declared.lock.Lock.{Lock}
 use Rattle.ld_task.specs.declared.mark.Mark.{Mark}
 use Rattle.ld_task.specs.declared.mark.Mark.TheVariants.{Used, UsedIn, Enabled}
 use Rattle.ld_task.specs.Chains.{ChainParts}
-use Rattle.ld_task.specs.Dependencies.{kind_between}
+use Rattle.ld_task.specs.Kinds.{kind_between}
 use Rattle.ld_task.specs.Marks.{is_read, marks_taken, marks_opened}
 use Rattle.ld_graph.specs.declared.fact.Fact.{Fact}
 use Rattle.ld_graph.specs.declared.fact.Fact.TheVariants.{Dependency, Marked}
@@ -31,19 +32,19 @@ dependency_from None new = None
 dependency_from (Some old) new = Some (Dependency old.key new.key (kind_between old.mode new.mode))
 
 -- the mark of that number on a held lock, if there is one
-abbrev pub mark_of_held : Option Lock → Bool → Bool → ℕ → Option Fact
-mark_of_held None hard soft n = None
-mark_of_held (Some old) hard soft n =
-    mark_if (marks_opened old.mode hard soft) old.key (mark_by_opening (is_read old.mode) n)
+abbrev pub mark_of_held : Option Lock → Flags → ℕ → Option Fact
+mark_of_held None flags n = None
+mark_of_held (Some old) flags n =
+    mark_if (marks_opened old.mode flags) old.key (mark_by_opening (is_read old.mode) n)
 
 -- the fact of the chain in slot n, if there is one: of an acquisition the dependencies, oldest first, and then the
 -- marks of the new lock; of an opening the marks of the held locks
 abbrev pub fact_by : Option (Lock × Frame) → ChainParts → ℕ → Option Fact
 fact_by (Some new) c n =
     if nat_lt n (length c.held_locks) then dependency_from (slice_get c.held_locks n) new.0 else
-    mark_if (marks_taken new.0.mode new.1 c.hard_on c.soft_on) new.0.key
+    mark_if (marks_taken new.0.mode new.1 c.flags) new.0.key
     (mark_by_taking (is_read new.0.mode) (n - length c.held_locks))
-fact_by None c n = mark_of_held (slice_get c.held_locks (n / 2)) c.hard_on c.soft_on (n % 2)
+fact_by None c n = mark_of_held (slice_get c.held_locks (n / 2)) c.flags (n % 2)
 
 abbrev pub chain_fact : ChainParts → ℕ → Option Fact
 chain_fact c n = fact_by c.new_lock c n

@@ -1,6 +1,8 @@
 -- Facts about the keys below a bound, kept as bits in words of 64.
 use Rattle.std.specs.Prelude.{◌≡◌, ℕ, ◌+◌, ◌*◌, ◌/◌, ◌||◌, ◌==◌, ◌<◌, ◌≤◌, false, IsTrue, List, length}
 use Rattle.std.specs.Int.{bit_at}
+use Rattle.ld_trace.specs.declared.key_id.TheConstants.{MAX_KEYS}
+use Rattle.ld_graph.specs.declared.places.TheConstants.{PLACES}
 use Rattle.ld_graph.specs.Bits.{has_bit, count_below}
 use Rattle.ld_graph.specs.Numbers.{fact_number, dependency_total, mark_total, bit_total}
 use Rattle.ld_graph.specs.declared.fact.Fact.{Fact}
@@ -31,15 +33,15 @@ mark_count facts =
 
 -- as many rows as may be taken up for these facts, and for one more
 abbrev pub rows_allowed : FactWords → ℕ
-rows_allowed facts = 1024 * dependency_count facts + 512 * mark_count facts
+rows_allowed facts = 2 * PLACES * dependency_count facts + PLACES * mark_count facts
 
 abbrev pub rows_for : Fact → ℕ
-rows_for (Dependency from to kind) = 1024
-rows_for (Marked key mark) = 512
+rows_for (Dependency from to kind) = 2 * PLACES
+rows_for (Marked key mark) = PLACES
 
 -- words that hold facts about the keys below `keys`, and no other bit
 pub record AreFacts (facts : FactWords) : Type 0 where
-  pub few : facts.keys ≤ 256
+  pub few : facts.keys ≤ MAX_KEYS
   pub words : length facts.words ≡ (bit_total facts.keys + 63) / 64
   pub none_past : (n : ℕ) → bit_total facts.keys ≤ n → has_bit facts.words n ≡ false
 

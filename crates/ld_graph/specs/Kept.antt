@@ -4,7 +4,9 @@ use Rattle.ld_trace.specs.declared.event.Irq.{Irq}
 use Rattle.ld_task.specs.declared.kind.Kind.{Kind}
 use Rattle.ld_task.specs.declared.mark.Mark.{Mark}
 use Rattle.ld_task.specs.declared.mark.Mark.TheVariants.{Used, UsedIn, Enabled}
-use Rattle.ld_graph.specs.Arrows.{Arrow, MayFollow, arrow, is_r}
+use Rattle.ld_task.specs.Kinds.{is_r}
+use Rattle.ld_trace.specs.declared.key_id.TheConstants.{MAX_KEYS}
+use Rattle.ld_graph.specs.Arrows.{Arrow, MayFollow, arrow}
 use Rattle.ld_graph.specs.Bits.{has_bit}
 use Rattle.ld_graph.specs.Facts.{DependenciesOf}
 use Rattle.ld_graph.specs.FactBits.{FactWords, HasFact, rows_allowed}
@@ -75,7 +77,7 @@ IsInversionBy Has irq a b read = (kind : Kind) × (is_r kind ≡ read) ×
 -- the table is that of the ways, the ends are those of the links, the flag says that the facts are clean, and no more
 -- rows were taken up than may be
 pub record IsGraph (facts : FactWords) (table : List (List ℕ)) (ends : Ends) (clean : Bool) (searched : ℕ) : Type 0 where
-  pub few : facts.keys ≤ 256
+  pub few : facts.keys ≤ MAX_KEYS
   pub ways : (p q : ℕ) → IsTrue (reaches table p q) ↔ Way (Leads (DependenciesOf (HasFact facts))) p q
   pub ends_are : AreEnds (HasFact facts) ends
   pub flag : IsTrue clean ↔ IsClean (HasFact facts)

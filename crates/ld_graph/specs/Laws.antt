@@ -5,7 +5,8 @@ use Rattle.ld_trace.specs.declared.event.Irq.{Irq}
 use Rattle.ld_task.specs.declared.mark.Mark.TheVariants.{UsedIn, Enabled}
 use Rattle.ld_task.specs.Chains.{ChainParts}
 use Rattle.ld_task.specs.TraceChains.{chains}
-use Rattle.ld_graph.specs.Arrows.{Arrow, is_s, is_r}
+use Rattle.ld_task.specs.Kinds.{is_s, is_r}
+use Rattle.ld_graph.specs.Arrows.{Arrow}
 use Rattle.ld_graph.specs.Facts.{TraceHas, ChainHas, ChainsHave, AreSame, Adds, DependenciesOf}
 use Rattle.ld_graph.specs.FactBits.{FactWords, HasFact}
 use Rattle.ld_graph.specs.Links.{IsDoubleBy, IsInversionWith}

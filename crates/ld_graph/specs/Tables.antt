@@ -1,6 +1,8 @@
 -- A table of the places that are reached from each place: a row of bits for each.
 use Rattle.std.specs.Prelude.{◌≡◌, ℕ, ◌⊎◌, Bool, ◌↔◌, IsTrue, List, [], length, slice_index_or}
-use Rattle.ld_graph.specs.Arrows.{Arrow, is_s, is_r}
+use Rattle.ld_task.specs.Kinds.{is_s, is_r}
+use Rattle.ld_graph.specs.declared.places.TheConstants.{PLACES}
+use Rattle.ld_graph.specs.Arrows.{Arrow}
 use Rattle.ld_graph.specs.Bits.{has_bit}
 use Rattle.ld_graph.specs.Places.{place, LeavesFrom}
 
@@ -37,6 +39,6 @@ TakesArrow old new d = (p q : ℕ) → IsTrue (reaches new p q) ↔
 
 -- the second table is the first, read backwards
 pub record AreTables (ahead behind : List (List ℕ)) : Type 0 where
-  pub ahead_rows : length ahead ≡ 512
-  pub behind_rows : length behind ≡ 512
+  pub ahead_rows : length ahead ≡ PLACES
+  pub behind_rows : length behind ≡ PLACES
   pub turned : (p q : ℕ) → reaches behind q p ≡ reaches ahead p q

@@ -6,6 +6,7 @@ ghost use Rattle.ld_graph.specs.Bits.{has_bit};
 ghost use Rattle.ld_graph.specs.Numbers.{irq_number};
 ghost use Rattle.ld_graph.specs.Places.{LeavesFrom};
 ghost use Rattle.ld_graph.specs.Kept.{arrives_at, departs_from, TakesMark, JoinsLinks, MarkTurnsBack};
+ghost use Rattle.ld_trace.specs.declared.key_id.TheConstants.{MAX_KEYS};
 
 use crate::bits;
 use crate::places::{ROW_WORDS, Row, place_of};
@@ -38,7 +39,7 @@ impl Ends {
 
     /// Takes in the ends of the links by a mark.
     pub(crate) fn add(&mut self, key: u16, mark: Mark)
-        requires { key < 256 }
+        requires { key < MAX_KEYS }
         ensures { TakesMark self.old self.new key mark }
     {
         match mark {
@@ -66,7 +67,7 @@ impl Ends {
 
     /// Whether a link by the mark leads back to it, by what is reached.
     pub(crate) fn turns_back(&self, reach: &Reach, key: u16, mark: Mark) -> bool
-        requires { key < 256 }
+        requires { key < MAX_KEYS }
         ensures { IsTrue result ↔ MarkTurnsBack reach.now self.now key mark }
     {
         match mark {
@@ -94,7 +95,7 @@ pub(crate) fn irq_number(irq: Irq) -> usize
 
 // Adds the places that an arrow from the key leaves, by its first letter.
 fn insert_left(row: &mut Row, key: u16, by_s: bool)
-    requires { key < 256 }
+    requires { key < MAX_KEYS }
     ensures { (q : ℕ) → IsTrue (has_bit row.new q)
         ↔ (IsTrue (has_bit row.old q) ⊎ LeavesFrom key by_s q) }
 {

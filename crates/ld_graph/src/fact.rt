@@ -3,6 +3,7 @@
 ghost use Rattle.std.specs.Prelude.{◌≡◌, ◌<◌, ◌≤◌, ◌↔◌, IsTrue};
 ghost use Rattle.ld_graph.specs.Numbers.{kind_number, mark_index, fact_number, dependency_total, bit_total};
 ghost use Rattle.ld_graph.specs.FactBits.{FactBelow};
+ghost use Rattle.ld_trace.specs.declared.key_id.TheConstants.{MAX_KEYS};
 
 use crate::ends::irq_number;
 use ld_task::{Kind, Mark};
@@ -27,7 +28,7 @@ impl Fact {
 
     // The number of the fact's bit. Marks stand after the dependencies.
     pub(crate) fn number(self, keys: u16) -> usize
-        requires few { keys ≤ 256 }
+        requires few { keys ≤ MAX_KEYS }
         requires below { FactBelow keys self }
         ensures value { result ≡ fact_number keys self }
         ensures within { result < bit_total keys }
@@ -40,7 +41,7 @@ impl Fact {
 }
 
 fn dependency_number(keys: u16, from: u16, to: u16, kind: Kind) -> usize
-    requires few { keys ≤ 256 }
+    requires few { keys ≤ MAX_KEYS }
     requires from { from < keys }
     requires to { to < keys }
     ensures value { result ≡ fact_number keys (Fact.Dependency from to kind) }
@@ -50,7 +51,7 @@ fn dependency_number(keys: u16, from: u16, to: u16, kind: Kind) -> usize
 }
 
 fn mark_number(keys: u16, key: u16, mark: Mark) -> usize
-    requires few { keys ≤ 256 }
+    requires few { keys ≤ MAX_KEYS }
     requires key { key < keys }
     ensures value { result ≡ fact_number keys (Fact.Marked key mark) }
     ensures within { result < bit_total keys }

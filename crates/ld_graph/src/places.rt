@@ -4,23 +4,25 @@
 ghost use Rattle.std.specs.Prelude.{◌≡◌, ◌<◌};
 ghost use Rattle.ld_graph.specs.Places.{place};
 
+use ld_trace::MAX_KEYS;
+
 /// How many places there are: two for each key.
-pub(crate) const PLACES: usize = 512;
+pub(crate) const PLACES: usize = 2 * MAX_KEYS as usize;
 
 /// How many words a row has.
-pub(crate) const ROW_WORDS: usize = 8;
+pub(crate) const ROW_WORDS: usize = PLACES / 64;
 
 /// A set of places.
 pub(crate) type Row = [u64; ROW_WORDS];
 
-/// The place of a key and a letter, below 512.
+/// The place of a key and a letter.
 pub(crate) fn place_of(key: u16, at_r: bool) -> usize
-    requires { key < 256 }
+    requires { key < MAX_KEYS }
     ensures value { result ≡ place key at_r }
-    ensures below { result < 512 }
+    ensures below { result < PLACES }
 {
     if at_r {
-        usize::from(key) + 256
+        usize::from(key) + usize::from(MAX_KEYS)
     } else {
         usize::from(key)
     }

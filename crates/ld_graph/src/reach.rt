@@ -5,8 +5,8 @@ ghost use Rattle.ld_graph.specs.Arrows.{arrow};
 ghost use Rattle.ld_graph.specs.Bits.{has_bit};
 ghost use Rattle.ld_graph.specs.Places.{place, LeavesFrom};
 ghost use Rattle.ld_graph.specs.Tables.{reaches, IsSource, IsTarget, AreSpan, IsTransitive, TakesArrow};
+ghost use Rattle.ld_trace.specs.declared.key_id.TheConstants.{MAX_KEYS};
 
-use crate::arrows::{begins_with_s, ends_in_r};
 use crate::bits;
 use crate::places::{PLACES, ROW_WORDS, Row, place_of};
 use ld_task::Kind;
@@ -43,7 +43,7 @@ impl Reach {
 
     /// The places that are reached from `p`.
     pub(crate) fn from(&self, p: usize) -> Row
-        requires { p < 512 }
+        requires { p < PLACES }
         ensures { (q : ℕ) → has_bit result q ≡ reaches self.now p q }
     {
         self.ahead[p]
@@ -51,7 +51,7 @@ impl Reach {
 
     /// The places from which `q` is reached.
     fn to(&self, q: usize) -> Row
-        requires { q < 512 }
+        requires { q < PLACES }
         ensures { (p : ℕ) → has_bit result p ≡ reaches self.now p q }
     {
         self.behind[q]
@@ -59,7 +59,7 @@ impl Reach {
 
     /// The places at which an arrow to the key arrives, by its second letter, and those that are reached from there.
     pub(crate) fn targets(&self, key: u16, by_r: bool) -> Row
-        requires { key < 256 }
+        requires { key < MAX_KEYS }
         ensures { (q : ℕ) → IsTrue (has_bit result q) ↔ IsTarget self.now key by_r q }
     {
         let place = place_of(key, by_r);
@@ -70,7 +70,7 @@ impl Reach {
 
     /// The places that an arrow from the key leaves, by its first letter, and those from which these are reached.
     pub(crate) fn sources(&self, key: u16, by_s: bool) -> Row
-        requires { key < 256 }
+        requires { key < MAX_KEYS }
         ensures { (p : ℕ) → IsTrue (has_bit result p) ↔ IsSource self.now key by_s p }
     {
         let place = place_of(key, false);
@@ -86,7 +86,7 @@ impl Reach {
 
     // The places that are reached from each place that an arrow from the key leaves, by its first letter.
     fn reached_from_each(&self, key: u16, by_s: bool) -> Row
-        requires { key < 256 }
+        requires { key < MAX_KEYS }
         ensures { (q : ℕ) → IsTrue (has_bit result q)
             ↔ ((l : ℕ) → LeavesFrom key by_s l → IsTrue (reaches self.now l q)) }
     {
@@ -108,19 +108,19 @@ impl Reach {
         sources: &Row,
         targets: &Row,
     ) -> u64
-        requires from { from < 256 }
-        requires to { to < 256 }
+        requires from { from < MAX_KEYS }
+        requires to { to < MAX_KEYS }
         requires transitive { IsTransitive self.old }
         requires span { AreSpan self.old (arrow from to kind) sources.now targets.now }
         ensures takes { TakesArrow self.old self.new (arrow from to kind) }
-        ensures count { result ≤ 1024 }
+        ensures count { result ≤ 2 * PLACES }
     {
         let mut fresh_sources = *sources;
-        bits::remove(&mut fresh_sources, &self.to(place_of(to, ends_in_r(kind))));
+        bits::remove(&mut fresh_sources, &self.to(place_of(to, kind.ends_in_r())));
         let mut fresh_targets = *targets;
         bits::remove(
             &mut fresh_targets,
-            &self.reached_from_each(from, begins_with_s(kind)),
+            &self.reached_from_each(from, kind.begins_with_s()),
         );
         join(&mut self.ahead, &fresh_sources, targets);
         join(&mut self.behind, &fresh_targets, sources);
@@ -131,14 +131,14 @@ impl Reach {
 // How many rows of a table a dependency takes up: those written, and those read, which are of the place where it
 // arrives and of the places that it leaves.
 fn rows_taken(written: &Row, from: u16, to: u16, kind: Kind) -> u64
-    requires from { from < 256 }
-    requires to { to < 256 }
-    ensures { result ≤ 512 }
+    requires from { from < MAX_KEYS }
+    requires to { to < MAX_KEYS }
+    ensures { result ≤ PLACES }
 {
     let mut rows = *written;
-    bits::insert(&mut rows, place_of(to, ends_in_r(kind)));
+    bits::insert(&mut rows, place_of(to, kind.ends_in_r()));
     bits::insert(&mut rows, place_of(from, false));
-    if !begins_with_s(kind) {
+    if !kind.begins_with_s() {
         bits::insert(&mut rows, place_of(from, true));
     }
     bits::count(&rows)
@@ -146,7 +146,7 @@ fn rows_taken(written: &Row, from: u16, to: u16, kind: Kind) -> u64
 
 // Adds the row to each row that is chosen.
 fn join(rows: &mut [Row], chosen: &Row, row: &Row)
-    requires { length rows.old ≡ 512 }
+    requires { length rows.old ≡ PLACES }
     ensures len { length rows.new ≡ length rows.old }
     ensures joined { (p q : ℕ) → reaches rows.new p q
         ≡ (reaches rows.old p q || (has_bit chosen.now p && has_bit row.now q)) }
