@@ -13,7 +13,7 @@ use Rattle.ld_trace.specs.declared.event.Irq.TheVariants.{Hard, Soft}
 use Rattle.ld_task.specs.Positions.{positions_below}
 use Rattle.ld_task.specs.Events.{event}
 use Rattle.ld_task.specs.Frames.{kind}
-use Rattle.ld_task.specs.Flags.{flag}
+use Rattle.ld_task.specs.Flags.{flags_at}
 use Rattle.ld_task.specs.Held.{held}
 use Rattle.ld_task.specs.Chains.{ChainParts}
 use Rattle.ld_task.specs.TraceChains.{lock_at, held_locks_at, chain_of, chain, chains}
@@ -103,7 +103,7 @@ module _ (s t : List Event) (n : ℕ) (a : Agree s t n) where
 
   chain_of-agree : (j : ℕ) → j < n → (e : Event) → chain_of s j e ≡ chain_of t j e
   unfolding chain_of
-  chain_of-agree j l (Acquire key mode) = rw (held_locks_at-agree j (omega arith), kind-agree s t n a j (omega arith), flag-agree s t n a Hard j (omega arith), flag-agree s t n a Soft j (omega arith)) refl
+  chain_of-agree j l (Acquire mode key) = rw (held_locks_at-agree j (omega arith), kind-agree s t n a j (omega arith), flag-agree s t n a Hard j (omega arith), flag-agree s t n a Soft j (omega arith)) refl
   chain_of-agree j l (TurnOn irq) = rw (held_locks_at-agree j (omega arith), flag-agree s t n a Hard (suc j) (omega arith), flag-agree s t n a Soft (suc j) (omega arith)) refl
   chain_of-agree j l (Release key) = refl
   chain_of-agree j l (Enter irq) = refl
@@ -135,16 +135,16 @@ chains-snoc h e =
 -- The two forms of a chain.
 
 abbrev pub acquisition_at : List Event → ℕ → ℕ → Mode → ChainParts
-acquisition_at t j key mode = record { held_locks = held_locks_at t j; new_lock = Some (record { key = key; mode = mode }, kind t j); hard_on = flag t Hard j; soft_on = flag t Soft j }
+acquisition_at t j key mode = record { held_locks = held_locks_at t j; new_lock = Some (record { key = key; mode = mode }, kind t j); flags = flags_at t j }
 
 abbrev pub opening_at : List Event → ℕ → ChainParts
-opening_at t j = record { held_locks = held_locks_at t j; new_lock = None; hard_on = flag t Hard (suc j); soft_on = flag t Soft (suc j) }
+opening_at t j = record { held_locks = held_locks_at t j; new_lock = None; flags = flags_at t (suc j) }
 
 -- an acquisition's chain
 pub record IsAcquisition (t : List Event) (j : ℕ) (c : ChainParts) : Type 0 where
   pub key : ℕ
   pub mode : Mode
-  pub is_event : event t j ≡ Some (Acquire key mode)
+  pub is_event : event t j ≡ Some (Acquire mode key)
   pub parts : acquisition_at t j key mode ≡ c
 
 -- an opening's chain
@@ -154,7 +154,7 @@ pub record IsOpening (t : List Event) (j : ℕ) (c : ChainParts) : Type 0 where
   pub parts : opening_at t j ≡ c
 
 module _ (t : List Event) (j : ℕ) where
-  pub chain-acquire : (key : ℕ) (mode : Mode) → event t j ≡ Some (Acquire key mode) → chain t j ≡ Some (acquisition_at t j key mode)
+  pub chain-acquire : (key : ℕ) (mode : Mode) → event t j ≡ Some (Acquire mode key) → chain t j ≡ Some (acquisition_at t j key mode)
   unfolding chain_of
   chain-acquire key mode e = ap (option_and_then (chain_of t j)) e
 
@@ -165,7 +165,7 @@ module _ (t : List Event) (j : ℕ) where
   cases : (c : ChainParts) (o : Option Event) → event t j ≡ o → option_and_then (chain_of t j) o ≡ Some c → IsAcquisition t j c ⊎ IsOpening t j c
   unfolding chain_of
   cases c None e h = cc
-  cases c (Some (Acquire key mode)) e h = inl (record { key = key; mode = mode; is_event = e; parts = cc })
+  cases c (Some (Acquire mode key)) e h = inl (record { key = key; mode = mode; is_event = e; parts = cc })
   cases c (Some (TurnOn irq)) e h = inr (record { irq = irq; is_event = e; parts = cc })
   cases c (Some (Release key)) e h = cc
   cases c (Some (Enter irq)) e h = cc

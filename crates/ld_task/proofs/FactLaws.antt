@@ -6,16 +6,16 @@ use Rattle.ld_trace.specs.declared.event.Event.{Event}
 use Rattle.ld_trace.specs.declared.event.Event.TheVariants.{Acquire, Release, Enter, Leave, TurnOn, TurnOff}
 use Rattle.ld_trace.specs.declared.event.Mode.{Mode}
 use Rattle.ld_trace.specs.declared.event.Irq.{Irq}
-use Rattle.ld_trace.specs.declared.event.Irq.TheVariants.{Hard, Soft}
 use Rattle.ld_task.specs.declared.frame.Frame.{Frame}
 use Rattle.ld_task.specs.declared.kind.Kind.{Kind}
 use Rattle.ld_task.specs.declared.lock.Lock.{Lock}
 use Rattle.ld_task.specs.declared.mark.Mark.{Mark}
 use Rattle.ld_task.specs.Events.{event, is_acquire, is_turn_on, key_taken, mode_taken}
 use Rattle.ld_task.specs.Frames.{kind}
-use Rattle.ld_task.specs.Flags.{flag}
+use Rattle.ld_task.specs.Flags.{flags_at}
 use Rattle.ld_task.specs.Held.{held}
-use Rattle.ld_task.specs.Dependencies.{IsDependency, kind_between}
+use Rattle.ld_task.specs.Dependencies.{IsDependency}
+use Rattle.ld_task.specs.Kinds.{kind_between}
 use Rattle.ld_task.specs.Marks.{IsMarked, IsMarkedTaking, IsMarkedOpening, marks_taken, marks_opened}
 use Rattle.ld_task.specs.Chains.{ChainParts, ChainHasDependency, ChainHasMark, ChainMarksNew, ChainMarksHeld}
 use Rattle.ld_task.specs.TraceChains.{lock_at, held_locks_at, chains}
@@ -55,10 +55,10 @@ module _ (t : List Event) where
   record Takes (j : ℕ) : Type 0 where
     key : ℕ
     mode : Mode
-    is_event : event t j ≡ Some (Acquire key mode)
+    is_event : event t j ≡ Some (Acquire mode key)
 
   takes : (j : ℕ) (o : Option Event) → event t j ≡ o → is_acquire o ≡ true → Takes j
-  takes j (Some (Acquire key mode)) e a = record { key = key; mode = mode; is_event = e }
+  takes j (Some (Acquire mode key)) e a = record { key = key; mode = mode; is_event = e }
   takes j None e a = absurd (true≢false (sym a))
   takes j (Some (Release key)) e a = absurd (true≢false (sym a))
   takes j (Some (Enter irq)) e a = absurd (true≢false (sym a))
@@ -69,7 +69,7 @@ module _ (t : List Event) where
   opens : (j : ℕ) (o : Option Event) → event t j ≡ o → is_turn_on o ≡ true → (irq : Irq) × (event t j ≡ Some (TurnOn irq))
   opens j (Some (TurnOn irq)) e a = (irq, e)
   opens j None e a = absurd (true≢false (sym a))
-  opens j (Some (Acquire key mode)) e a = absurd (true≢false (sym a))
+  opens j (Some (Acquire mode key)) e a = absurd (true≢false (sym a))
   opens j (Some (Release key)) e a = absurd (true≢false (sym a))
   opens j (Some (Enter irq)) e a = absurd (true≢false (sym a))
   opens j (Some Leave) e a = absurd (true≢false (sym a))
@@ -133,7 +133,7 @@ module _ (t : List Event) (key : ℕ) (mark : Mark) where
         frame = kind t m.j;
         is_new = refl;
         key_is = m.key_is ∙ ap key_taken a.is_event;
-        gives = subst (λ o. IsTrue (marks_taken (mode_taken o) (kind t m.j) (flag t Hard m.j) (flag t Soft m.j) mark)) a.is_event m.gives;
+        gives = subst (λ o. IsTrue (marks_taken (mode_taken o) (kind t m.j) (flags_at t m.j) mark)) a.is_event m.gives;
       }))
 
   opening-told : IsMarkedOpening t key mark → Any (λ c. ChainHasMark c key mark) (chains t)
@@ -152,29 +152,27 @@ module _ (t : List Event) (key : ℕ) (mark : Mark) where
       let m = subst (λ x. ChainMarksNew x key mark) (sym a.parts) m' in
       let lock = new_is (record { key = a.key; mode = a.mode }) m.new (kind t j) m.frame m.is_new in
       let frame = frame_is (record { key = a.key; mode = a.mode }) m.new (kind t j) m.frame m.is_new in
-      let hard = flag t Hard j in
-      let soft = flag t Soft j in
-      let here : IsTrue (marks_taken a.mode (kind t j) hard soft mark) = subst (λ f. IsTrue (marks_taken a.mode f hard soft mark)) (sym frame) (subst (λ (l : Lock). IsTrue (marks_taken l.mode m.frame hard soft mark)) (sym lock) m.gives) in
+      let flags = flags_at t j in
+      let here : IsTrue (marks_taken a.mode (kind t j) flags mark) = subst (λ f. IsTrue (marks_taken a.mode f flags mark)) (sym frame) (subst (λ (l : Lock). IsTrue (marks_taken l.mode m.frame flags mark)) (sym lock) m.gives) in
       inl (record {
         j = j;
         is_taken = ap is_acquire a.is_event;
         key_is = m.key_is ∙ sym (ap (λ (l : Lock). l.key) lock) ∙ sym (ap key_taken a.is_event);
-        gives = subst (λ o. IsTrue (marks_taken (mode_taken o) (kind t j) hard soft mark)) (sym a.is_event) here;
+        gives = subst (λ o. IsTrue (marks_taken (mode_taken o) (kind t j) flags mark)) (sym a.is_event) here;
       })
 
   opening-back : (j : ℕ) (c : ChainParts) → IsOpening t j c → ChainMarksHeld c key mark → IsMarked t key mark
   opening-back j c o m' =
       let m = subst (λ x. ChainMarksHeld x key mark) (sym o.parts) m' in
       let r = among-held t j m.old m.is_held in
-      let hard = flag t Hard (suc j) in
-      let soft = flag t Soft (suc j) in
+      let flags = flags_at t (suc j) in
       inr (record {
         i = r.at;
         j = j;
         is_opening = ap is_turn_on o.is_event;
         is_held = r.passes;
         key_is = m.key_is ∙ sym (ap (λ (l : Lock). l.key) r.gives);
-        gives = subst (λ (l : Lock). IsTrue (marks_opened l.mode hard soft mark)) (sym r.gives) m.gives;
+        gives = subst (λ (l : Lock). IsTrue (marks_opened l.mode flags mark)) (sym r.gives) m.gives;
       })
 
   -- an opening has no new lock, and an acquisition has one

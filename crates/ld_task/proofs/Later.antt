@@ -48,7 +48,7 @@ module _ (t : List Event) where
   takes-key key i h = at (event t i) h
     where
       at : (o : Option Event) → is_acquire o ≡ true → takes key o ≡ eqb (key_taken o) key
-      at (Some (Acquire k mode)) h = refl
+      at (Some (Acquire mode k)) h = refl
       at None h = absurd (true≢false (sym h))
       at (Some (Release k)) h = absurd (true≢false (sym h))
       at (Some (Enter irq)) h = absurd (true≢false (sym h))

@@ -26,7 +26,7 @@ module _ (t : List Event) (n : ℕ) (keys : KeysBelow n t) where
   event_below j e h = subst (KeyIsBelow n) (get_or_from_slice_get t j e e h) (keys j e (slice_get_within t j e h))
 
   key_below : (j : ℕ) (o : Option Event) → event t j ≡ o → is_acquire o ≡ true → key_at t j < n
-  key_below j (Some (Acquire key mode)) e a = rw e (event_below j (Acquire key mode) e)
+  key_below j (Some (Acquire mode key)) e a = rw e (event_below j (Acquire mode key) e)
   key_below j None e a = absurd (true≢false (sym a))
   key_below j (Some (Release key)) e a = absurd (true≢false (sym a))
   key_below j (Some (Enter irq)) e a = absurd (true≢false (sym a))
@@ -42,7 +42,7 @@ module _ (t : List Event) (n : ℕ) (keys : KeysBelow n t) where
       subst (λ (x : Lock). x.key < n) r.gives (key_below r.at (event t r.at) refl taken)
 
   chain_below : (j : ℕ) (c : ChainParts) → IsAcquisition t j c ⊎ IsOpening t j c → ChainKeysBelow n c
-  chain_below j c (inl a) = subst (ChainKeysBelow n) a.parts (record { held_below = held_below j; new_below = event_below j (Acquire a.key a.mode) a.is_event })
+  chain_below j c (inl a) = subst (ChainKeysBelow n) a.parts (record { held_below = held_below j; new_below = event_below j (Acquire a.mode a.key) a.is_event })
   chain_below j c (inr o) = subst (ChainKeysBelow n) o.parts (record { held_below = held_below j; new_below = tt })
 
 pub chain_keys_are_the_traces : ChainKeysAreTheTraces

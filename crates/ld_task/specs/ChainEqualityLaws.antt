@@ -1,32 +1,29 @@
 -- The test of two chains finds what is equal, and it alone. Cited by the laws of equality and hash.
-use Rattle.std.specs.Prelude.{◌≡◌, Bool, true, false, ◌&&◌, ◌==◌, Option, Some, None, refl}
-use Rattle.std.specs.Bool.{beq}
-use Rattle.std.proofs.Common.{sym, ap}
-use Rattle.std.specs.Bool.{Decides}
-use Rattle.std.specs.Cmp.{IsEquivalence, both_ways}
+use Rattle.std.specs.Prelude.{◌≡◌, Bool, ◌&&◌, Option, Some, None, refl}
+use Rattle.std.specs.Bool.{Decides, beq}
+use Rattle.std.specs.Cmp.{IsEquivalence, booleans_Decides, both_ways}
 use Rattle.std.specs.Cmp.Lexicographic.{pointwise, pointwise_decides}
+use Rattle.std.specs.Option.{option_eq}
+use Rattle.std.proofs.Common.{sym, ap, ◌∙◌}
 use Rattle.std.proofs.lemmas.Bool.{true≢false, and_parts, and_from}
 use Rattle.std.proofs.lemmas.Bool.Decides.{Decides-eqb}
-use Rattle.ld_trace.specs.declared.event.Mode.{Mode}
-use Rattle.ld_trace.specs.declared.event.Mode.TheVariants.{Write, Read, RecRead}
+use Rattle.ld_task.specs.declared.frame.Flags.{Flags}
 use Rattle.ld_task.specs.declared.frame.Frame.{Frame}
 use Rattle.ld_task.specs.declared.frame.Frame.TheVariants.{Task, Softirq, Hardirq}
-use Rattle.ld_task.specs.declared.lock.Lock.{Lock}
+use Rattle.ld_task.specs.contracts.frame.FramePartialEq.TheImpl as frame
+use Rattle.ld_task.specs.contracts.frame.FlagsPartialEq.TheImpl as flags
+use Rattle.ld_task.specs.ChainEquality.{chain_eq, lock_eq, new_lock_eq}
 use Rattle.ld_task.specs.Chains.{ChainParts}
-use Rattle.ld_task.specs.ChainEquality.{mode_eq, frame_eq, lock_eq, new_lock_eq, chain_eq}
+use Rattle.ld_task.specs.LockLaws.{lock_of_word-word}
+use Rattle.ld_task.specs.Locks.{LockParts, lock_of_word, lock_word}
 
-pub mode_eq-decides : (a b : Mode) → Decides (mode_eq a b) (a ≡ b)
-mode_eq-decides Write Write = (λ _. refl, λ _. refl)
-mode_eq-decides Read Read = (λ _. refl, λ _. refl)
-mode_eq-decides RecRead RecRead = (λ _. refl, λ _. refl)
-mode_eq-decides Write Read = (λ h. absurd (true≢false (sym h)), λ h. cc)
-mode_eq-decides Write RecRead = (λ h. absurd (true≢false (sym h)), λ h. cc)
-mode_eq-decides Read Write = (λ h. absurd (true≢false (sym h)), λ h. cc)
-mode_eq-decides Read RecRead = (λ h. absurd (true≢false (sym h)), λ h. cc)
-mode_eq-decides RecRead Write = (λ h. absurd (true≢false (sym h)), λ h. cc)
-mode_eq-decides RecRead Read = (λ h. absurd (true≢false (sym h)), λ h. cc)
+lock_eq-decides : (a b : LockParts) → Decides (lock_eq a b) (a ≡ b)
+lock_eq-decides a b = (
+  λ h. sym (lock_of_word-word a) ∙ ap lock_of_word ((Decides-eqb (lock_word a) (lock_word b)).0 h) ∙ lock_of_word-word b,
+  λ e. (Decides-eqb (lock_word a) (lock_word b)).1 (ap lock_word e),
+)
 
-pub frame_eq-decides : (a b : Frame) → Decides (frame_eq a b) (a ≡ b)
+frame_eq-decides : (a b : Frame) → Decides (frame.eq-value.it a b) (a ≡ b)
 frame_eq-decides Task Task = (λ _. refl, λ _. refl)
 frame_eq-decides Softirq Softirq = (λ _. refl, λ _. refl)
 frame_eq-decides Hardirq Hardirq = (λ _. refl, λ _. refl)
@@ -37,59 +34,39 @@ frame_eq-decides Softirq Hardirq = (λ h. absurd (true≢false (sym h)), λ h. c
 frame_eq-decides Hardirq Task = (λ h. absurd (true≢false (sym h)), λ h. cc)
 frame_eq-decides Hardirq Softirq = (λ h. absurd (true≢false (sym h)), λ h. cc)
 
-beq-decides : (a b : Bool) → Decides (beq a b) (a ≡ b)
-beq-decides true true = (λ _. refl, λ _. refl)
-beq-decides false false = (λ _. refl, λ _. refl)
-beq-decides true false = (λ h. absurd (true≢false (sym h)), λ h. cc)
-beq-decides false true = (λ h. absurd (true≢false (sym h)), λ h. cc)
+-- two tests decide what their facts together are
+both : {P Q R : Type 0} (r s : Bool) → Decides r P → Decides s Q → (P × Q → R) → (R → P × Q) → Decides (r && s) R
+both r s d e there back =
+    (λ h. let h' = and_parts r s h in there (d.0 h'.0, e.0 h'.1), λ x. and_from r s (d.1 (back x).0) (e.1 (back x).1))
 
-pub lock_eq-decides : (a b : Lock) → Decides (lock_eq a b) (a ≡ b)
-lock_eq-decides a b = (found, λ e. and_from (a.key == b.key) (mode_eq a.mode b.mode) ((Decides-eqb a.key b.key).1 (ap (λ (l : Lock). l.key) e)) ((mode_eq-decides a.mode b.mode).1 (ap (λ (l : Lock). l.mode) e)))
-  where
-    found : lock_eq a b ≡ true → a ≡ b
-    found h =
-        let both = and_parts (a.key == b.key) (mode_eq a.mode b.mode) h in
-        let key = (Decides-eqb a.key b.key).0 both.0 in
-        let mode = (mode_eq-decides a.mode b.mode).0 both.1 in
-        λ i. record { key = key i; mode = mode i }
+new_lock_eq-decides : (a b : LockParts × Frame) → Decides (new_lock_eq a b) (a ≡ b)
+new_lock_eq-decides a b =
+    both (lock_eq a.0 b.0) (frame.eq-value.it a.1 b.1) (lock_eq-decides a.0 b.0) (frame_eq-decides a.1 b.1)
+    (λ p i. (p.0 i, p.1 i)) (λ e. (λ i. (e i).0, λ i. (e i).1))
 
-pub new_lock_eq-decides : (a b : Option (Lock × Frame)) → Decides (new_lock_eq a b) (a ≡ b)
-new_lock_eq-decides None None = (λ _. refl, λ _. refl)
-new_lock_eq-decides None (Some b) = (λ h. absurd (true≢false (sym h)), λ h. cc)
-new_lock_eq-decides (Some a) None = (λ h. absurd (true≢false (sym h)), λ h. cc)
-new_lock_eq-decides (Some a) (Some b) = (found, λ e. let same : a ≡ b = cc in and_from (lock_eq a.0 b.0) (frame_eq a.1 b.1) ((lock_eq-decides a.0 b.0).1 (ap (λ (x : Lock × Frame). x.0) same)) ((frame_eq-decides a.1 b.1).1 (ap (λ (x : Lock × Frame). x.1) same)))
-  where
-    found : (lock_eq a.0 b.0 && frame_eq a.1 b.1) ≡ true → Some a ≡ Some b
-    found h =
-        let both = and_parts (lock_eq a.0 b.0) (frame_eq a.1 b.1) h in
-        let lock = (lock_eq-decides a.0 b.0).0 both.0 in
-        let frame = (frame_eq-decides a.1 b.1).0 both.1 in
-        λ i. Some (lock i, frame i)
+option_eq-decides : {A : Type 0} (eq : A → A → Bool) → ((a b : A) → Decides (eq a b) (a ≡ b)) → (a b : Option A) → Decides (option_eq eq a b) (a ≡ b)
+option_eq-decides eq d None None = (λ _. refl, λ _. refl)
+option_eq-decides eq d None (Some b) = (λ h. absurd (true≢false (sym h)), λ h. cc)
+option_eq-decides eq d (Some a) None = (λ h. absurd (true≢false (sym h)), λ h. cc)
+option_eq-decides eq d (Some a) (Some b) = (λ h. ap Some ((d a b).0 h), λ e. let same : a ≡ b = cc in (d a b).1 same)
+
+flags_eq-decides : (a b : Flags) → Decides (flags.eq-value.it a b) (a ≡ b)
+flags_eq-decides a b =
+    both (beq a.hard_on b.hard_on) (beq a.soft_on b.soft_on) (booleans_Decides a.hard_on b.hard_on) (booleans_Decides a.soft_on b.soft_on)
+    (λ p i. record { hard_on = p.0 i; soft_on = p.1 i }) (λ e. (λ i. (e i).hard_on, λ i. (e i).soft_on))
 
 -- two chains are equal exactly where all their parts are
 pub chain_eq-decides : (a b : ChainParts) → Decides (chain_eq a b) (a ≡ b)
-chain_eq-decides a b = (found, equal)
+chain_eq-decides a b =
+    both _ _ locks (flags_eq-decides a.flags b.flags)
+    (λ p i. record { held_locks = p.0.0 i; new_lock = p.0.1 i; flags = p.1 i })
+    (λ e. ((λ i. (e i).held_locks, λ i. (e i).new_lock), λ i. (e i).flags))
   where
-    found : chain_eq a b ≡ true → a ≡ b
-    found h =
-        let abc = and_parts (pointwise lock_eq a.held_locks b.held_locks && new_lock_eq a.new_lock b.new_lock && beq a.hard_on b.hard_on) (beq a.soft_on b.soft_on) h in
-        let ab = and_parts (pointwise lock_eq a.held_locks b.held_locks && new_lock_eq a.new_lock b.new_lock) (beq a.hard_on b.hard_on) abc.0 in
-        let parts = and_parts (pointwise lock_eq a.held_locks b.held_locks) (new_lock_eq a.new_lock b.new_lock) ab.0 in
-        let held = (pointwise_decides lock_eq-decides a.held_locks b.held_locks).0 parts.0 in
-        let new = (new_lock_eq-decides a.new_lock b.new_lock).0 parts.1 in
-        let hard = (beq-decides a.hard_on b.hard_on).0 ab.1 in
-        let soft = (beq-decides a.soft_on b.soft_on).0 abc.1 in
-        λ i. record { held_locks = held i; new_lock = new i; hard_on = hard i; soft_on = soft i }
-
-    equal : a ≡ b → chain_eq a b ≡ true
-    equal e =
-        and_from (pointwise lock_eq a.held_locks b.held_locks && new_lock_eq a.new_lock b.new_lock && beq a.hard_on b.hard_on) (beq a.soft_on b.soft_on)
-        (and_from (pointwise lock_eq a.held_locks b.held_locks && new_lock_eq a.new_lock b.new_lock) (beq a.hard_on b.hard_on)
-        (and_from (pointwise lock_eq a.held_locks b.held_locks) (new_lock_eq a.new_lock b.new_lock)
-        ((pointwise_decides lock_eq-decides a.held_locks b.held_locks).1 (ap (λ (c : ChainParts). c.held_locks) e))
-        ((new_lock_eq-decides a.new_lock b.new_lock).1 (ap (λ (c : ChainParts). c.new_lock) e)))
-        ((beq-decides a.hard_on b.hard_on).1 (ap (λ (c : ChainParts). c.hard_on) e)))
-        ((beq-decides a.soft_on b.soft_on).1 (ap (λ (c : ChainParts). c.soft_on) e))
+    locks : Decides (pointwise lock_eq a.held_locks b.held_locks && option_eq new_lock_eq a.new_lock b.new_lock)
+        ((a.held_locks ≡ b.held_locks) × (a.new_lock ≡ b.new_lock))
+    locks =
+        both _ _ (pointwise_decides lock_eq-decides a.held_locks b.held_locks)
+        (option_eq-decides new_lock_eq new_lock_eq-decides a.new_lock b.new_lock) (λ p. p) (λ p. p)
 
 -- so it is an equivalence
 pub chain_eq-equivalence : IsEquivalence chain_eq

@@ -1,20 +1,20 @@
 -- What a chain is, and what it tells by itself ["Performance" speaks of chains; their parts are this project's own].
-use Rattle.std.specs.Prelude.{◌≡◌, ℕ, ◌<◌, Bool, List, All, Contains, IsTrue, IfSome, Option, Some, None, ◌⊎◌}
+use Rattle.std.specs.Prelude.{◌≡◌, ℕ, ◌<◌, List, All, Contains, IsTrue, IfSome, Option, Some, None, ◌⊎◌}
 use Rattle.ld_trace.specs.declared.event.Mode.{Mode}
+use Rattle.ld_task.specs.declared.frame.Flags.{Flags}
 use Rattle.ld_task.specs.declared.frame.Frame.{Frame}
 use Rattle.ld_task.specs.declared.kind.Kind.{Kind}
 use Rattle.ld_task.specs.declared.mark.Mark.{Mark}
 use Rattle.ld_task.specs.declared.lock.Lock.{Lock}
-use Rattle.ld_task.specs.Dependencies.{kind_between}
+use Rattle.ld_task.specs.Kinds.{kind_between}
 use Rattle.ld_task.specs.Marks.{marks_taken, marks_opened}
 
 -- a chain: the locks held in the frame, oldest first; for an acquisition the new lock and the frame's kind;
--- and the two flags, just before an acquisition or just after an opening
+-- and the flags, just before an acquisition or just after an opening
 pub record ChainParts : Type 0 where
   pub held_locks : List Lock
   pub new_lock : Option (Lock × Frame)
-  pub hard_on : Bool
-  pub soft_on : Bool
+  pub flags : Flags
 
 -- a lock's key and mode
 abbrev pub key_and_mode : Lock → ℕ × Mode
@@ -41,7 +41,7 @@ pub record ChainMarksNew (c : ChainParts) (key : ℕ) (mark : Mark) : Type 0 whe
   pub frame : Frame
   pub is_new : c.new_lock ≡ Some (new, frame)
   pub key_is : key ≡ new.key
-  pub gives : IsTrue (marks_taken new.mode frame c.hard_on c.soft_on mark)
+  pub gives : IsTrue (marks_taken new.mode frame c.flags mark)
 
 -- the chain is an opening and gives a held lock of the key this mark
 pub record ChainMarksHeld (c : ChainParts) (key : ℕ) (mark : Mark) : Type 0 where
@@ -49,7 +49,7 @@ pub record ChainMarksHeld (c : ChainParts) (key : ℕ) (mark : Mark) : Type 0 wh
   pub is_opening : c.new_lock ≡ None
   pub is_held : Contains c.held_locks old
   pub key_is : key ≡ old.key
-  pub gives : IsTrue (marks_opened old.mode c.hard_on c.soft_on mark)
+  pub gives : IsTrue (marks_opened old.mode c.flags mark)
 
 -- the chain gives the key this mark
 abbrev pub ChainHasMark : ChainParts → ℕ → Mark → Type 0

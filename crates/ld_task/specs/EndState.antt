@@ -2,14 +2,13 @@
 use Rattle.std.specs.Prelude.{ℕ, suc, Bool, ◌&&◌, List, nat_lt, map, length}
 use Rattle.ld_task.specs.Events.{event, is_enter}
 use Rattle.ld_task.specs.Frames.{depth, kind}
-use Rattle.ld_task.specs.Flags.{flag}
+use Rattle.ld_task.specs.Flags.{flags_at}
 use Rattle.ld_task.specs.Held.{kept}
 use Rattle.ld_task.specs.TraceChains.{lock_at}
 use Rattle.ld_task.specs.Positions.{positions_below, all_between}
 use Rattle.ld_task.specs.declared.frame.OpenFrame.{OpenFrame}
 use Rattle.ld_task.specs.declared.lock.KeptLock.{KeptLock}
 use Rattle.ld_trace.specs.declared.event.Event.{Event}
-use Rattle.ld_trace.specs.declared.event.Irq.TheVariants.{Hard, Soft}
 
 -- the state at a position: the outer frames from outside in, the frame there, and the kept locks in order
 pub record EndState : Type 0 where
@@ -19,7 +18,7 @@ pub record EndState : Type 0 where
 
 -- the frame at j, with its flags just before j
 abbrev pub frame_at : List Event → ℕ → OpenFrame
-frame_at t j = record { kind = kind t j; hard_on = flag t Hard j; soft_on = flag t Soft j }
+frame_at t j = record { kind = kind t j; flags = flags_at t j }
 
 -- the lock that the acquisition at i takes, with the number of frames outside its own
 abbrev pub kept_lock_at : List Event → ℕ → KeptLock

@@ -1,13 +1,38 @@
 -- Whether a state is on in a frame [this project's own; the states are those of "State"].
 use Rattle.std.specs.Prelude.{ℕ, Bool, true, ◌&&◌, List, Option, Some, None, false}
 use Rattle.ld_task.specs.Events.{event, changes_flag, is_turn_on}
-use Rattle.ld_task.specs.Frames.{one_frame, kind}
+use Rattle.ld_task.specs.Frames.{is_task, one_frame, kind}
 use Rattle.ld_task.specs.Positions.{last_below}
+use Rattle.ld_task.specs.declared.frame.Flags.{Flags}
 use Rattle.ld_task.specs.declared.frame.Frame.{Frame}
 use Rattle.ld_task.specs.declared.frame.Frame.TheVariants.{Task, Softirq, Hardirq}
 use Rattle.ld_trace.specs.declared.event.Event.{Event}
 use Rattle.ld_trace.specs.declared.event.Irq.{Irq}
 use Rattle.ld_trace.specs.declared.event.Irq.TheVariants.{Hard, Soft}
+
+-- whether a state is on
+abbrev pub is_on : Irq → Flags → Bool
+is_on Hard flags = flags.hard_on
+is_on Soft flags = flags.soft_on
+
+-- the flags that say this of each state
+abbrev pub flags_of : (Irq → Bool) → Flags
+flags_of on = record { hard_on = on Hard; soft_on = on Soft }
+
+-- the flags with that of one state set
+abbrev pub with_flag : Irq → Bool → Flags → Flags
+with_flag Hard on flags = record flags { hard_on = on }
+with_flag Soft on flags = record flags { soft_on = on }
+
+-- a use with these flags is one with the state enabled: a softirq comes only with hardirqs on too
+abbrev pub is_enabled : Irq → Flags → Bool
+is_enabled Hard flags = is_on Hard flags
+is_enabled Soft flags = is_on Hard flags && is_on Soft flags
+
+-- an interrupt of the state may come in a frame of this kind with these flags: a softirq only in the task's
+abbrev pub may_enter : Irq → Frame → Flags → Bool
+may_enter Hard frame flags = is_enabled Hard flags
+may_enter Soft frame flags = is_task frame && is_enabled Soft flags
 
 -- the flag of a state at the start of a frame
 abbrev pub starts_on : Irq → Frame → Bool
@@ -39,3 +64,7 @@ flag_from t irq frame (Some k) = is_turn_on (event t k)
 -- whether a state is on just before j; just after j is just before j + 1
 unfoldable pub flag : List Event → Irq → ℕ → Bool
 flag t irq j = flag_from t irq (kind t j) (last_change t irq j)
+
+-- the flags just before j
+abbrev pub flags_at : List Event → ℕ → Flags
+flags_at t j = flags_of (λ irq. flag t irq j)

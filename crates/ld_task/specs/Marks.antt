@@ -2,8 +2,9 @@
 use Rattle.std.specs.Prelude.{ℕ, suc, Bool, true, ◌&&◌, not, List, ◌≡◌, false, IsTrue, ◌⊎◌}
 use Rattle.ld_task.specs.Events.{event, is_acquire, is_turn_on, mode_taken}
 use Rattle.ld_task.specs.Frames.{kind}
-use Rattle.ld_task.specs.Flags.{flag}
+use Rattle.ld_task.specs.Flags.{flags_at, is_enabled}
 use Rattle.ld_task.specs.Held.{key_at, held}
+use Rattle.ld_task.specs.declared.frame.Flags.{Flags}
 use Rattle.ld_task.specs.declared.frame.Frame.{Frame}
 use Rattle.ld_task.specs.declared.mark.Mark.{Mark}
 use Rattle.ld_task.specs.declared.frame.Frame.TheVariants.{Task, Softirq, Hardirq}
@@ -34,29 +35,24 @@ abbrev pub same_form : Bool → Bool → Bool
 same_form true read = read
 same_form false read = not read
 
--- a use with these flags is one with the state enabled
-abbrev pub is_enabled : Irq → Bool → Bool → Bool
-is_enabled Hard hard soft = hard
-is_enabled Soft hard soft = hard && soft
-
 -- an acquisition in this mode, with the frame's kind and the flags just before it, gives this mark
-abbrev pub marks_taken : Mode → Frame → Bool → Bool → Mark → Bool
-marks_taken mode frame hard soft Used = true
-marks_taken mode frame hard soft (UsedIn irq read) = is_in irq frame && same_form read (is_read mode)
-marks_taken mode frame hard soft (Enabled irq read) = is_enabled irq hard soft && same_form read (is_read mode)
+abbrev pub marks_taken : Mode → Frame → Flags → Mark → Bool
+marks_taken mode frame flags Used = true
+marks_taken mode frame flags (UsedIn irq read) = is_in irq frame && same_form read (is_read mode)
+marks_taken mode frame flags (Enabled irq read) = is_enabled irq flags && same_form read (is_read mode)
 
 -- an opening, with the flags just after it, gives a lock held in this mode this mark
-abbrev pub marks_opened : Mode → Bool → Bool → Mark → Bool
-marks_opened mode hard soft Used = false
-marks_opened mode hard soft (UsedIn irq read) = false
-marks_opened mode hard soft (Enabled irq read) = is_enabled irq hard soft && same_form read (is_read mode)
+abbrev pub marks_opened : Mode → Flags → Mark → Bool
+marks_opened mode flags Used = false
+marks_opened mode flags (UsedIn irq read) = false
+marks_opened mode flags (Enabled irq read) = is_enabled irq flags && same_form read (is_read mode)
 
 -- an acquisition of the key gives it this mark
 pub record IsMarkedTaking (t : List Event) (key : ℕ) (mark : Mark) : Type 0 where
   pub j : ℕ
   pub is_taken : IsTrue (is_acquire (event t j))
   pub key_is : key ≡ key_at t j
-  pub gives : IsTrue (marks_taken (mode_taken (event t j)) (kind t j) (flag t Hard j) (flag t Soft j) mark)
+  pub gives : IsTrue (marks_taken (mode_taken (event t j)) (kind t j) (flags_at t j) mark)
 
 -- an opening gives it to a held lock of the key
 pub record IsMarkedOpening (t : List Event) (key : ℕ) (mark : Mark) : Type 0 where
@@ -65,7 +61,7 @@ pub record IsMarkedOpening (t : List Event) (key : ℕ) (mark : Mark) : Type 0 w
   pub is_opening : IsTrue (is_turn_on (event t j))
   pub is_held : IsTrue (held t i j)
   pub key_is : key ≡ key_at t i
-  pub gives : IsTrue (marks_opened (mode_taken (event t i)) (flag t Hard (suc j)) (flag t Soft (suc j)) mark)
+  pub gives : IsTrue (marks_opened (mode_taken (event t i)) (flags_at t (suc j)) mark)
 
 -- the trace gives the key this mark
 abbrev pub IsMarked : List Event → ℕ → Mark → Type 0

@@ -2,13 +2,12 @@
 use Rattle.std.specs.Prelude.{ℕ, suc, true, List, Option, Some, None, map, length, option_and_then, filter_map}
 use Rattle.ld_task.specs.Events.{event, mode_taken}
 use Rattle.ld_task.specs.Frames.{kind}
-use Rattle.ld_task.specs.Flags.{flag}
+use Rattle.ld_task.specs.Flags.{flags_at}
 use Rattle.ld_task.specs.Held.{key_at, held}
 use Rattle.ld_task.specs.Positions.{positions_below}
 use Rattle.ld_task.specs.declared.lock.Lock.{Lock}
 use Rattle.ld_trace.specs.declared.event.Event.{Event}
 use Rattle.ld_trace.specs.declared.event.Event.TheVariants.{Acquire, Release, Enter, Leave, TurnOn, TurnOff}
-use Rattle.ld_trace.specs.declared.event.Irq.TheVariants.{Hard, Soft}
 use Rattle.ld_task.specs.Chains.{ChainParts}
 
 -- the lock that the acquisition at i takes
@@ -21,8 +20,8 @@ held_locks_at t j = map (lock_at t) (positions_below j (λ i. held t i j))
 
 -- the chain that the event e makes at j: only an acquisition and an opening make one
 unfoldable pub chain_of : List Event → ℕ → Event → Option ChainParts
-chain_of t j (Acquire key mode) = Some (record { held_locks = held_locks_at t j; new_lock = Some (record { key = key; mode = mode }, kind t j); hard_on = flag t Hard j; soft_on = flag t Soft j })
-chain_of t j (TurnOn irq) = Some (record { held_locks = held_locks_at t j; new_lock = None; hard_on = flag t Hard (suc j); soft_on = flag t Soft (suc j) })
+chain_of t j (Acquire mode key) = Some (record { held_locks = held_locks_at t j; new_lock = Some (record { key = key; mode = mode }, kind t j); flags = flags_at t j })
+chain_of t j (TurnOn irq) = Some (record { held_locks = held_locks_at t j; new_lock = None; flags = flags_at t (suc j) })
 chain_of t j (Release key) = None
 chain_of t j (Enter irq) = None
 chain_of t j Leave = None

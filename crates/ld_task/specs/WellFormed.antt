@@ -2,22 +2,21 @@
 use Rattle.std.specs.Prelude.{ℕ, ◌&&◌, List, Option, Some, None, if◌then◌else◌, ◌≡◌, ◌<◌, nat_lt, length, option_and_then}
 use Rattle.ld_task.specs.Events.{event, takes}
 use Rattle.ld_task.specs.Frames.{kind, is_task}
-use Rattle.ld_task.specs.Flags.{may_change, flag}
+use Rattle.ld_task.specs.Flags.{flags_at, may_change, may_enter}
 use Rattle.ld_task.specs.Held.{kept, held}
 use Rattle.ld_task.specs.Positions.{count_below, any_below}
 use Rattle.ld_task.specs.declared.fault.StepFault.{StepFault}
+use Rattle.ld_task.specs.declared.lock.TheConstants.{MAX_HELD}
 use Rattle.ld_task.specs.declared.fault.StepAt.{StepAt}
 use Rattle.ld_task.specs.declared.fault.StepFault.TheVariants.{NotHeld, TooDeep, BadEnter, LeaveTask, LeaveHeld, BadFlag}
 use Rattle.ld_trace.specs.declared.event.Event.{Event}
 use Rattle.ld_trace.specs.declared.event.Event.TheVariants.{Acquire, Release, Enter, Leave, TurnOn, TurnOff}
-use Rattle.ld_trace.specs.declared.event.Irq.TheVariants.{Hard, Soft}
 
 -- why the event e isn't allowed at j
 unfoldable pub fault_of : List Event → ℕ → Event → Option StepFault
-fault_of t j (Acquire key mode) = if nat_lt (count_below j (λ i. kept t i j)) 48 then None else Some TooDeep
+fault_of t j (Acquire mode key) = if nat_lt (count_below j (λ i. kept t i j)) MAX_HELD then None else Some TooDeep
 fault_of t j (Release key) = if any_below j (λ i. held t i j && takes key (event t i)) then None else Some NotHeld
-fault_of t j (Enter Hard) = if flag t Hard j then None else Some BadEnter
-fault_of t j (Enter Soft) = if is_task (kind t j) && flag t Hard j && flag t Soft j then None else Some BadEnter
+fault_of t j (Enter irq) = if may_enter irq (kind t j) (flags_at t j) then None else Some BadEnter
 fault_of t j Leave = if is_task (kind t j) then Some LeaveTask else if any_below j (λ i. held t i j) then Some LeaveHeld else None
 fault_of t j (TurnOn irq) = if may_change irq (kind t j) then None else Some BadFlag
 fault_of t j (TurnOff irq) = if may_change irq (kind t j) then None else Some BadFlag

@@ -1,89 +1,82 @@
 //! Chains: what one acquisition or opening tells.
 
 ghost use Rattle.std.specs.Prelude.{◌≡◌, ◌≤◌, ◌↔◌, IsTrue, length, option_map, slice_get};
-ghost use Rattle.std.specs.Cmp.Lexicographic.{pointwise};
-ghost use Rattle.ld_task.specs.ChainEquality.{lock_eq, new_lock_eq};
+ghost use Rattle.ld_task.specs.Flags.{is_on};
 ghost use Rattle.ld_task.specs.Chains.{ChainKeysBelow, key_and_mode, key_mode_and_frame};
 
-use crate::frame::Frame;
-use crate::lock::Lock;
+use crate::frame::{Flags, Frame};
+use crate::lock::{Lock, MAX_HELD};
 use arrayvec::ArrayVec;
-use ld_trace::{KeyId, Mode};
+use ld_trace::{Irq, KeyId, Mode};
 use std::hash::{Hash, Hasher};
 use std::marker::Model;
 
 /// What an acquisition or an opening tells: the locks that are held in its frame, oldest first; for an acquisition the
-/// new lock and the frame; and the two flags, just before an acquisition or just after an opening. At most 48 locks
+/// new lock and the frame; and the flags, just before an acquisition or just after an opening. At most 48 locks
 /// are held.
 #[derive(Drop, Debug)]
 pub struct Chain {
-    held: ArrayVec<Lock, 48>,
+    held: ArrayVec<Lock, MAX_HELD>,
     taken: Option<(Lock, Frame)>,
-    hard_on: bool,
-    soft_on: bool,
+    flags: Flags,
 }
 
 impl Model for Chain {
     ghost use Rattle.std.specs.Prelude.{◌≤◌, length};
     ghost use Rattle.ld_task.specs.Chains.{ChainParts};
+    ghost use Rattle.ld_task.specs.declared.lock.TheConstants.{MAX_HELD};
 
     ghost Value = { ChainParts };
 
     ghost view = { λ c. record {
       held_locks = c.held.items;
       new_lock = c.taken;
-      hard_on = c.hard_on;
-      soft_on = c.soft_on;
+      flags = c.flags;
     } };
 
-    ghost invariant = { λ c. length c.held.items ≤ 48 };
+    ghost invariant = { λ c. length c.held.items ≤ MAX_HELD };
 }
 
 impl Chain {
     // The chain of an acquisition.
     pub(crate) fn acquisition(
-        held: ArrayVec<Lock, 48>,
+        held: ArrayVec<Lock, MAX_HELD>,
         taken: Lock,
         frame: Frame,
-        hard_on: bool,
-        soft_on: bool,
+        flags: Flags,
     ) -> Chain
         ensures { result ≡ record {
           held_locks = held.items;
           new_lock = Some (taken, frame);
-          hard_on = hard_on;
-          soft_on = soft_on;
+          flags = flags;
         } }
     {
         Chain {
             held,
             taken: Some((taken, frame)),
-            hard_on,
-            soft_on,
+            flags,
         }
     }
 
     // The chain of an opening.
-    pub(crate) fn opening(held: ArrayVec<Lock, 48>, hard_on: bool, soft_on: bool) -> Chain
+    pub(crate) fn opening(held: ArrayVec<Lock, MAX_HELD>, flags: Flags) -> Chain
         ensures { result ≡ record {
           held_locks = held.items;
           new_lock = None;
-          hard_on = hard_on;
-          soft_on = soft_on;
+          flags = flags;
         } }
     {
         Chain {
             held,
             taken: None,
-            hard_on,
-            soft_on,
+            flags,
         }
     }
 
     /// The number of locks that are held, at most 48.
     pub fn held_len(&self) -> usize
         ensures exact { result ≡ length self.now.held_locks }
-        ensures at_most { result ≤ 48 }
+        ensures at_most { result ≤ MAX_HELD }
     {
         self.held.len()
     }
@@ -93,7 +86,7 @@ impl Chain {
         ensures { result ≡ option_map key_and_mode (slice_get self.now.held_locks i) }
     {
         let lock = self.held.as_slice().get(i)?;
-        Some((lock.key, lock.mode))
+        Some((lock.key(), lock.mode()))
     }
 
     /// The lock that an acquisition takes, with its frame; None for an opening.
@@ -101,21 +94,28 @@ impl Chain {
         ensures { result ≡ option_map key_mode_and_frame self.now.new_lock }
     {
         let (lock, frame) = self.taken?;
-        Some((lock.key, lock.mode, frame))
+        Some((lock.key(), lock.mode(), frame))
+    }
+
+    /// The flags, just before an acquisition or just after an opening.
+    pub fn flags(&self) -> Flags
+        ensures { result ≡ self.now.flags }
+    {
+        self.flags
     }
 
     /// Whether hardirqs are on, just before an acquisition or just after an opening.
     pub fn hard_on(&self) -> bool
-        ensures { result ≡ self.now.hard_on }
+        ensures { result ≡ is_on Irq.Hard self.now.flags }
     {
-        self.hard_on
+        self.flags.hard_on
     }
 
     /// Whether softirqs are on, just before an acquisition or just after an opening.
     pub fn soft_on(&self) -> bool
-        ensures { result ≡ self.now.soft_on }
+        ensures { result ≡ is_on Irq.Soft self.now.flags }
     {
-        self.soft_on
+        self.flags.soft_on
     }
 
     /// Whether every key of the chain is below `n`.
@@ -123,10 +123,10 @@ impl Chain {
         ensures { IsTrue result ↔ ChainKeysBelow n self.now }
     {
         let new_below = match self.taken {
-            Some((lock, _)) => lock.key.get() < n,
+            Some((lock, _)) => lock.key().get() < n,
             None => true,
         };
-        new_below && self.held.as_slice().iter().all(|lock| lock.key.get() < n)
+        new_below && self.held.as_slice().iter().all(|lock| lock.key().get() < n)
     }
 }
 
@@ -140,10 +140,9 @@ impl PartialEq for Chain {
     ghost laws = { partial_equiv_from_equiv chain_eq-equivalence };
 
     fn eq(&self, other: &Chain) -> bool {
-        is_same_held(self.held.as_slice(), other.held.as_slice())
-            && is_same_taken(self.taken, other.taken)
-            && self.hard_on == other.hard_on
-            && self.soft_on == other.soft_on
+        self.held.as_slice() == other.held.as_slice()
+            && self.taken == other.taken
+            && self.flags == other.flags
     }
 }
 
@@ -161,28 +160,13 @@ impl Hash for Chain {
 
     ghost hash_input = { λ c. fed.slice ⟦<Lock as Hash>⟧.hash_input c.held_locks
         ++ ⟦<Option<(Lock, Frame)> as Hash>⟧.hash_input c.new_lock
-        ++ fed.bool c.hard_on ++ fed.bool c.soft_on };
+        ++ ⟦<Flags as Hash>⟧.hash_input c.flags };
 
     ghost respects_eq = { (same_Alike _ chain_eq-decides).fed };
 
     fn hash<H: Hasher>(&self, state: &mut H) {
         self.held.hash(state);
         self.taken.hash(state);
-        self.hard_on.hash(state);
-        self.soft_on.hash(state);
+        self.flags.hash(state);
     }
-}
-
-// Whether the held locks are the same.
-fn is_same_held(a: &[Lock], b: &[Lock]) -> bool
-    ensures { result ≡ pointwise lock_eq a.now b.now }
-{
-    a == b
-}
-
-// Whether the new locks and their frames are the same.
-fn is_same_taken(a: Option<(Lock, Frame)>, b: Option<(Lock, Frame)>) -> bool
-    ensures { result ≡ new_lock_eq a b }
-{
-    a == b
 }

@@ -15,7 +15,7 @@ pub enum Frame {
 
 impl Frame {
     ghost use Rattle.std.specs.Prelude.{◌≡◌};
-    ghost use Rattle.ld_task.specs.Flags.{may_change};
+    ghost use Rattle.ld_task.specs.Flags.{may_change, starts_on};
     ghost use Rattle.ld_task.specs.Frames.{is_task};
 
     // Whether it is the task's.
@@ -23,6 +23,18 @@ impl Frame {
         ensures { result ≡ is_task self }
     {
         matches!(self, Frame::Task)
+    }
+
+    // Whether the flag of this state is on at its start.
+    fn starts_on(self, irq: Irq) -> bool
+        ensures { result ≡ starts_on irq self }
+    {
+        match (irq, self) {
+            (_, Frame::Task) => true,
+            (Irq::Hard, Frame::Softirq) => true,
+            (Irq::Soft, Frame::Softirq) => false,
+            (_, Frame::Hardirq) => false,
+        }
     }
 
     // Whether the flag of this state may change in it.
@@ -38,41 +50,108 @@ impl Frame {
     }
 }
 
+/// Which states are on in a frame.
+#[derive(Clone, Copy, PartialEq, Eq, Debug, Hash)]
+pub struct Flags {
+    /// Hardware interrupts are on.
+    pub hard_on: bool,
+    /// Software interrupts are on.
+    pub soft_on: bool,
+}
+
+impl Flags {
+    ghost use Rattle.std.specs.Prelude.{◌≡◌};
+    ghost use Rattle.ld_task.specs.Flags.{flags_of, is_enabled, is_on, starts_on, with_flag};
+
+    // The flags at the start of a frame of this kind.
+    fn at_start(frame: Frame) -> Flags
+        ensures { result ≡ flags_of (λ irq. starts_on irq frame) }
+    {
+        Flags {
+            hard_on: frame.starts_on(Irq::Hard),
+            soft_on: frame.starts_on(Irq::Soft),
+        }
+    }
+
+    /// Whether this state is on.
+    pub fn is_on(self, irq: Irq) -> bool
+        ensures { result ≡ is_on irq self }
+    {
+        match irq {
+            Irq::Hard => self.hard_on,
+            Irq::Soft => self.soft_on,
+        }
+    }
+
+    /// Whether a use with these flags is one with this state enabled.
+    pub fn is_enabled(self, irq: Irq) -> bool
+        ensures { result ≡ is_enabled irq self }
+    {
+        match irq {
+            Irq::Hard => self.hard_on,
+            Irq::Soft => self.hard_on && self.soft_on,
+        }
+    }
+
+    // The flags with that of this state set.
+    pub(crate) fn with(self, irq: Irq, on: bool) -> Flags
+        ensures { result ≡ with_flag irq on self }
+    {
+        match irq {
+            Irq::Hard => Flags {
+                hard_on: on,
+                ..self
+            },
+            Irq::Soft => Flags {
+                soft_on: on,
+                ..self
+            },
+        }
+    }
+}
+
 /// An open frame, with the flags that are its own.
 #[derive(Clone, Copy, PartialEq, Eq, Debug)]
 pub struct OpenFrame {
     pub kind: Frame,
-    pub hard_on: bool,
-    pub soft_on: bool,
+    pub flags: Flags,
 }
 
 impl Default for OpenFrame {
-    ghost use Rattle.std.specs.Prelude.{◌≡◌, true};
+    ghost use Rattle.std.specs.Prelude.{◌≡◌};
     ghost use Rattle.ld_task.specs.declared.frame.Frame.TheVariants.{Task};
+    ghost use Rattle.ld_task.specs.OpenFrames.{fresh};
 
     // The task frame at its start.
     fn default() -> Self
-        ensures { result ≡ record { kind = Task; hard_on = true; soft_on = true } }
+        ensures { result ≡ fresh Task }
     {
-        OpenFrame {
-            kind: Frame::Task,
-            hard_on: true,
-            soft_on: true,
-        }
+        OpenFrame::fresh(Frame::Task)
     }
 }
 
 impl OpenFrame {
     ghost use Rattle.std.specs.Prelude.{◌≡◌};
-    ghost use Rattle.ld_task.specs.OpenFrames.{fresh_frame, may_enter, with_flag};
+    ghost use Rattle.ld_task.specs.Flags.{may_enter};
+    ghost use Rattle.ld_task.specs.OpenFrames.{fresh, fresh_frame, turned};
+
+    // A frame of this kind at its start.
+    fn fresh(kind: Frame) -> OpenFrame
+        ensures { result ≡ fresh kind }
+    {
+        OpenFrame {
+            kind,
+            flags: Flags::at_start(kind),
+        }
+    }
 
     // Whether the state may be entered from it.
     pub(crate) fn may_enter(self, irq: Irq) -> bool
-        ensures { result ≡ may_enter irq self }
+        ensures { result ≡ may_enter irq self.kind self.flags }
     {
         match irq {
-            Irq::Hard => self.hard_on,
-            Irq::Soft => self.kind.is_task() && self.hard_on && self.soft_on,
+            Irq::Hard => self.flags.is_enabled(irq),
+            Irq::Soft => self.kind.is_task() && self.flags.is_enabled(irq),
         }
     }
 
@@ -81,34 +160,18 @@ impl OpenFrame {
         ensures { result ≡ fresh_frame irq }
     {
         match irq {
-            Irq::Hard => OpenFrame {
-                kind: Frame::Hardirq,
-                hard_on: false,
-                soft_on: false,
-            },
-            Irq::Soft => OpenFrame {
-                kind: Frame::Softirq,
-                hard_on: true,
-                soft_on: false,
-            },
+            Irq::Hard => OpenFrame::fresh(Frame::Hardirq),
+            Irq::Soft => OpenFrame::fresh(Frame::Softirq),
         }
     }
 
     // The frame with the flag of this state set.
-    pub(crate) fn with_flag(self, irq: Irq, on: bool) -> OpenFrame
-        ensures { result ≡ with_flag irq on self }
+    pub(crate) fn turned(self, irq: Irq, on: bool) -> OpenFrame
+        ensures { result ≡ turned irq on self }
     {
-        match irq {
-            Irq::Hard => OpenFrame {
-                kind: self.kind,
-                hard_on: on,
-                soft_on: self.soft_on,
-            },
-            Irq::Soft => OpenFrame {
-                kind: self.kind,
-                hard_on: self.hard_on,
-                soft_on: on,
-            },
+        OpenFrame {
+            kind: self.kind,
+            flags: self.flags.with(irq, on),
         }
     }
 }

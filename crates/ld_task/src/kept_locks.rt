@@ -5,12 +5,12 @@ ghost use Rattle.std.specs.Prelude.{◌≡◌, ◌<◌, filter, IfSome, length, 
 ghost use Rattle.std.specs.List.{list_any};
 ghost use Rattle.ld_task.specs.Machine.{is_at, is_of, last_place, lock_of};
 
-use crate::lock::{KeptLock, Lock};
+use crate::lock::{KeptLock, Lock, MAX_HELD};
 use arrayvec::ArrayVec;
 use ld_trace::KeyId;
 
 /// The locks that were taken at this level, oldest first.
-pub(crate) fn held_at(locks: &ArrayVec<KeptLock, 48>, level: usize) -> ArrayVec<Lock, 48>
+pub(crate) fn held_at(locks: &ArrayVec<KeptLock, MAX_HELD>, level: u8) -> ArrayVec<Lock, MAX_HELD>
     ensures { result.items ≡ map lock_of (filter (is_at level) locks.now.items) }
 {
     let mut held = ArrayVec::new();
@@ -23,20 +23,24 @@ pub(crate) fn held_at(locks: &ArrayVec<KeptLock, 48>, level: usize) -> ArrayVec<
 }
 
 /// Whether a lock was taken at this level.
-pub(crate) fn any_at(locks: &ArrayVec<KeptLock, 48>, level: usize) -> bool
+pub(crate) fn any_at(locks: &ArrayVec<KeptLock, MAX_HELD>, level: u8) -> bool
     ensures { result ≡ list_any (is_at level) locks.now.items }
 {
     locks.as_slice().iter().any(|kept| kept.level == level)
 }
 
 /// The place of the newest lock of this key that was taken at this level.
-pub(crate) fn newest_of(locks: &ArrayVec<KeptLock, 48>, level: usize, key: KeyId) -> Option<usize>
+pub(crate) fn newest_of(
+    locks: &ArrayVec<KeptLock, MAX_HELD>,
+    level: u8,
+    key: KeyId,
+) -> Option<usize>
     ensures exact { result ≡ last_place (is_of level key) locks.now.items }
     ensures within { IfSome result (λ place. place < length locks.now.items) }
 {
     let mut found = None;
     for (place, kept) in locks.as_slice().iter().enumerate() {
-        if kept.level == level && kept.lock.key == key {
+        if kept.level == level && kept.lock.key() == key {
             found = Some(place);
         }
     }

@@ -2,6 +2,7 @@
 
 ghost use Rattle.std.specs.Prelude.{◌≡◌, ◌≤◌, ◌↔◌, IsTrue, length, slice_get};
 ghost use Rattle.ld_trace.specs.Events.{KeysBelow};
+ghost use Rattle.ld_trace.specs.declared.raw_trace.TheConstants.{MAX_EVENTS};
 ghost use Rattle.ld_task.specs.WellFormed.{IsWellFormed};
 
 use ld_trace::{Event, RawTrace};
@@ -37,7 +38,7 @@ impl Trace {
     /// How many events there are, at most 1,000,000.
     pub fn len(&self) -> usize
         ensures count { result ≡ length self.now }
-        ensures most { result ≤ 1000000 }
+        ensures most { result ≤ MAX_EVENTS }
         ensures well_formed { IsWellFormed self.now }
     {
         self.events.len()

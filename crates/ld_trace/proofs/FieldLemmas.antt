@@ -5,6 +5,7 @@ use Rattle.std.proofs.lemmas.Str.{IsUtf8-from_ascii}
 use Rattle.std.proofs.lemmas.Str.Ascii.{IsAscii-from_all}
 use Rattle.std.proofs.lemmas.List.Sums.{AllPass-from_list_all}
 use Rattle.std.proofs.lemmas.Bool.Decides.{nat_tests}
+use Rattle.ld_trace.specs.declared.stored_name.TheConstants.{MAX_NAME}
 use Rattle.csv.specs.Records.{field_at}
 use Rattle.ld_trace.specs.declared.trace_fault.TraceFaultKind.TheVariants.{BadRecord}
 use Rattle.ld_trace.specs.Lines.{Record, acquire_said, irq_of, is_header, leave_said, mode_of, named, release_said, said, state_said, sub_of}
@@ -89,4 +90,4 @@ class-visible : (a b v : Bool) → (a && b && v) ≡ true → v ≡ true
 class-visible a b v h = grind arith
 
 pub utf8-class_name : (bytes : List ℕ) → is_class_name bytes ≡ true → IsUtf8 bytes
-utf8-class_name bytes h = IsUtf8-from_ascii bytes (IsAscii-from_all bytes (each-ascii bytes (class-visible (nat_le 1 (length bytes)) (nat_le (length bytes) 64) (are_visible bytes) h)))
+utf8-class_name bytes h = IsUtf8-from_ascii bytes (IsAscii-from_all bytes (each-ascii bytes (class-visible (nat_le 1 (length bytes)) (nat_le (length bytes) MAX_NAME) (are_visible bytes) h)))

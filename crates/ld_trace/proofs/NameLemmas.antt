@@ -1,9 +1,10 @@
 -- The names of a table, and a set of values that stand for them.
-use Rattle.std.proofs.Common.{◌≡◌, ℕ, ◌<◌, ◌≤◌, ◌++◌, ◌∷◌, ◌&&◌, not, Bool, true, false, cond, List, [], map, length, length-append, refl, sym, ◌∙◌, arith, nat_le, nat_lt, Some, None, position, if◌then◌else◌}
+use Rattle.std.proofs.Common.{◌≡◌, ℕ, ◌≤◌, ◌++◌, ◌∷◌, Bool, true, false, cond, List, [], map, length, refl, sym, ◌∙◌, arith, nat_lt, Some, None, position, if◌then◌else◌}
 use Rattle.std.specs.List.{AllByRecursion, IsDistinct, list_all, list_any, position_or_len}
 use Rattle.std.proofs.lemmas.Bool.Decides.{nat_tests}
 use Rattle.std.proofs.lemmas.List.{map-append}
 use Rattle.std.proofs.lemmas.List.Folds.{list_all-append}
+use Rattle.ld_trace.specs.declared.key_id.TheConstants.{MAX_KEYS}
 use Rattle.indexmap.specs.IndexSet.{insert_key}
 use Rattle.ld_trace.specs.Names.{AreNumbered, Name, is_known, is_name, is_one_too_many, is_same, place_of, with_name}
 
@@ -36,14 +37,7 @@ module _ {X : Type 0} (f : X → Name) (eq : X → X → Bool) (says : (a b : X)
   distinct-map [] h = tt
   distinct-map (k ∷ ks) h = (all-differ k ks h.0, distinct-map ks h.1)
 
--- one more name, where there was room for it
-pub length-with_name : (names : List Name) (name : Name) → length names < 256 → length (with_name names name) ≤ 256
-length-with_name names name room = by (is_known names name)
-  where
-    by : (b : Bool) → length (if b then names else names ++ name ∷ []) ≤ 256
-    by true = omega arith
-    by false = omega (arith, length-append names (name ∷ []))
-
+-- one more name
 pub named-with_name : (names : List Name) (name : Name) → list_all is_name names ≡ true → is_name name ≡ true → list_all is_name (with_name names name) ≡ true
 named-with_name names name all one = by (is_known names name)
   where
@@ -60,16 +54,8 @@ AreNumbered-none = record { few = omega arith; named = refl; once = tt }
 pub fits-known : (names : List Name) (name : Name) → is_known names name ≡ true → is_one_too_many names name ≡ false
 fits-known names name known = rw known refl
 
--- nor is any where there is room
-pub fits-room : (names : List Name) (name : Name) → length names < 256 → is_one_too_many names name ≡ false
-fits-room names name room = by (not (is_known names name))
-  where
-    by : (b : Bool) → (b && nat_le 256 (length names)) ≡ false
-    by true = grind (arith, nat_tests)
-    by false = refl
-
 -- a new one is, where there is no room
-pub too-many-new : (names : List Name) (name : Name) → is_known names name ≡ false → 256 ≤ length names → is_one_too_many names name ≡ true
+pub too-many-new : (names : List Name) (name : Name) → is_known names name ≡ false → MAX_KEYS ≤ length names → is_one_too_many names name ≡ true
 too-many-new names name new full = rw new (grind (arith, nat_tests))
 
 -- the place that a search found

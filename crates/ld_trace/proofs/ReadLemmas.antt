@@ -6,6 +6,7 @@ use Rattle.std.proofs.lemmas.List.{append-nil}
 use Rattle.std.proofs.lemmas.List.Elements.{All-nil}
 use Rattle.std.proofs.lemmas.Slice.Eq.{bytes_eq-Decides}
 use Rattle.std.specs.Str.{bytes_eq}
+use Rattle.ld_trace.specs.declared.raw_trace.TheConstants.{MAX_EVENTS}
 use Rattle.csv.specs.Reading.{ReadRecord}
 use Rattle.csv.specs.declared.reader.Reader.{Reader}
 use Rattle.ld_trace.specs.declared.event.Event.{Event}
@@ -106,7 +107,7 @@ module _ {R : Type 0} (rem : R → Option (List ℕ)) (known : Option (List ℕ)
   -- a later read: an event, a record that is refused, no record, or a failure
   module _ (now : List Name) (events : List Event) where
     pub event-taken : (b : Reader R) (r : Record) (new : List Name) (after : List Event) → ReadsPlain a → ReadRecord rem a b true r → TakesLine now new events after r
-        → length events < 1000000 → HasTaken rem known a old now events → HasTaken rem known b old new after
+        → length events < MAX_EVENTS → HasTaken rem known a old now events → HasTaken rem known b old new after
     event-taken b r new after p read t few h =
         (h.0 ++ r ∷ [], given-more rem known a b h.0 r p h.1 read, taken-more old h.0 now new events after r h.2 t few)
 
@@ -130,8 +131,8 @@ module _ {R : Type 0} (rem : R → Option (List ℕ)) (known : Option (List ℕ)
         (given-begin rem known a h.0 h.1)
 
 -- whether a place is past the last that may hold an event's record
-pub past-last : (n : ℕ) → 1000000 ≤ n → nat_lt 1000000 (suc n) ≡ true
+pub past-last : (n : ℕ) → MAX_EVENTS ≤ n → nat_lt MAX_EVENTS (suc n) ≡ true
 past-last n h = grind (arith, nat_tests)
 
-pub within-last : (n : ℕ) → n < 1000000 → nat_lt 1000000 (suc n) ≡ false
+pub within-last : (n : ℕ) → n < MAX_EVENTS → nat_lt MAX_EVENTS (suc n) ≡ false
 within-last n h = grind (arith, nat_tests)

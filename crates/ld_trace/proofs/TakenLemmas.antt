@@ -9,6 +9,7 @@ use Rattle.std.specs.List.{list_any, position_or_len}
 use Rattle.std.proofs.lemmas.List.Sums.{prefix_len-le-length}
 use Rattle.std.proofs.lemmas.List.Elements.{All-push}
 use Rattle.std.proofs.lemmas.Option.{slice_get_past}
+use Rattle.ld_trace.specs.declared.raw_trace.TheConstants.{MAX_EVENTS}
 use Rattle.ld_trace.specs.declared.event.Event.{Event}
 use Rattle.ld_trace.specs.declared.event.Event.TheVariants.{Acquire, Release, Enter, Leave, TurnOn, TurnOff}
 use Rattle.ld_trace.specs.Events.{KeyIsBelow, KeysBelow}
@@ -71,11 +72,11 @@ unfolding event_at
 event_at-next old rows rest r n e = rw (← e, names_before-all old rows (r ∷ rest), slice_get-seam rows r rest)
 
 -- a record that was taken has no fault
-taken-faultless : (now new : List Name) (before after : List Event) (r : Record) (place : ℕ) → TakesLine now new before after r → place ≤ 1000000
+taken-faultless : (now new : List Name) (before after : List Event) (r : Record) (place : ℕ) → TakesLine now new before after r → place ≤ MAX_EVENTS
     → record_fault now place (Some r) ≡ None
 taken-faultless now new before after r place t few = rw (few-places place few, t.says, t.fits)
   where
-    few-places : (p : ℕ) → p ≤ 1000000 → nat_lt 1000000 p ≡ false
+    few-places : (p : ℕ) → p ≤ MAX_EVENTS → nat_lt MAX_EVENTS p ≡ false
     few-places p h = grind (arith, nat_tests)
 
 -- and stands for its event
@@ -126,7 +127,7 @@ event-below names (turns_on irq) = tt
 event-below names (turns_off irq) = tt
 
 KeyIsBelow-mono : (m n : ℕ) (event : Event) → m ≤ n → KeyIsBelow m event → KeyIsBelow n event
-KeyIsBelow-mono m n (Acquire key mode) h below = omega arith
+KeyIsBelow-mono m n (Acquire mode key) h below = omega arith
 KeyIsBelow-mono m n (Release key) h below = omega arith
 KeyIsBelow-mono m n (Enter irq) h below = tt
 KeyIsBelow-mono m n Leave h below = tt
@@ -138,7 +139,7 @@ KeysBelow-mono m n events h below = λ k d lt. KeyIsBelow-mono m n (get_or event
 
 -- one more record was taken
 module _ (old : List Name) (rows : List Record) (now new : List Name) (before after : List Event) (r : Record)
-    (a : AreTaken old rows now before) (t : TakesLine now new before after r) (few : length before < 1000000) where
+    (a : AreTaken old rows now before) (t : TakesLine now new before after r) (few : length before < MAX_EVENTS) where
   more-faultless : (i : ℕ) → i < length (rows ++ r ∷ []) → fault_at old (rows ++ r ∷ []) i ≡ None
   more-faultless i h = by (cases_lt i (length rows))
     where

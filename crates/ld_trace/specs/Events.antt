@@ -5,7 +5,7 @@ use Rattle.ld_trace.specs.declared.event.Event.TheVariants.{Acquire, Release, En
 
 -- the event's key, if it has one, is below n
 abbrev pub KeyIsBelow : ℕ → Event → Type 0
-KeyIsBelow n (Acquire key mode) = key < n
+KeyIsBelow n (Acquire mode key) = key < n
 KeyIsBelow n (Release key) = key < n
 KeyIsBelow n (Enter irq) = ⊤
 KeyIsBelow n Leave = ⊤

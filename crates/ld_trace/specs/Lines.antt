@@ -113,7 +113,7 @@ is_over names (turns_off irq) = false
 
 -- the event that a line stands for: a key's number is the place of its name
 abbrev pub event_of : List Name → Line → Event
-event_of names (takes name mode) = Acquire (place_of names name) mode
+event_of names (takes name mode) = Acquire mode (place_of names name)
 event_of names (gives_back name) = Release (place_of names name)
 event_of names (enters irq) = Enter irq
 event_of names leaves = Leave

@@ -2,6 +2,9 @@
 use Rattle.std.specs.Prelude.{◌≡◌, ℕ, ◌≤◌, ◌==◌, ◌&&◌, ◌++◌, ◌∷◌, Bool, true, not, List, [], length, nat_le, if◌then◌else◌}
 use Rattle.std.specs.List.{IsDistinct, list_all, list_any, position_or_len}
 use Rattle.std.specs.Str.{bytes_eq}
+use Rattle.ld_trace.specs.declared.key_id.TheConstants.{MAX_KEYS}
+use Rattle.ld_trace.specs.declared.key_table.TheConstants.{MAX_SUB}
+use Rattle.ld_trace.specs.declared.stored_name.TheConstants.{MAX_NAME}
 
 -- a key's name: the bytes of its lock class's name, and its subclass (sections "Lock-class" and "Exception: Nested data
 -- dependencies leading to nested locking")
@@ -14,11 +17,11 @@ are_visible bytes = list_all (λ byte. nat_le 0x21 byte && nat_le byte 0x7E) byt
 
 -- whether these bytes name a lock class: 1 to 64 of them, all visible (this project's own)
 abbrev pub is_class_name : List ℕ → Bool
-is_class_name bytes = nat_le 1 (length bytes) && nat_le (length bytes) 64 && are_visible bytes
+is_class_name bytes = nat_le 1 (length bytes) && nat_le (length bytes) MAX_NAME && are_visible bytes
 
 -- whether a class's name and a subclass name a key: subclasses are 0 to 7
 abbrev pub is_name : Name → Bool
-is_name name = is_class_name name.0 && nat_le name.1 7
+is_name name = is_class_name name.0 && nat_le name.1 MAX_SUB
 
 -- whether two names are the same
 abbrev pub is_same : Name → Name → Bool
@@ -38,10 +41,10 @@ with_name names name = if is_known names name then names else names ++ name ∷ 
 
 -- whether the name would be the 257th
 abbrev pub is_one_too_many : List Name → Name → Bool
-is_one_too_many names name = not (is_known names name) && nat_le 256 (length names)
+is_one_too_many names name = not (is_known names name) && nat_le MAX_KEYS (length names)
 
 -- what a table of names keeps: at most 256 of them, each a name, none of them twice
 pub record AreNumbered (names : List Name) : Type 0 where
-  pub few : length names ≤ 256
+  pub few : length names ≤ MAX_KEYS
   pub named : list_all is_name names ≡ true
   pub once : IsDistinct is_same names

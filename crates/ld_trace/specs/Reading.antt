@@ -2,6 +2,7 @@
 use Rattle.std.specs.Prelude.{◌≡◌, ℕ, zero, suc, ◌<◌, true, List, [], ◌∷◌, take, length, slice_get, nat_lt, Option, Some, None, Result, Ok, Err, if◌then◌else◌}
 use Rattle.csv.specs.Reading.{default_config, records, strip_bom}
 use Rattle.ld_trace.specs.declared.event.Event.{Event}
+use Rattle.ld_trace.specs.declared.raw_trace.TheConstants.{MAX_EVENTS}
 use Rattle.ld_trace.specs.declared.trace_fault.TraceFault.{TraceFault}
 use Rattle.ld_trace.specs.declared.trace_fault.TraceFaultKind.{TraceFaultKind}
 use Rattle.ld_trace.specs.declared.trace_fault.TraceFaultKind.TheVariants.{NoHeader, TooManyRecords, TooManyKeys}
@@ -40,7 +41,7 @@ said_fault names (Ok line) = if is_over names line then Some TooManyKeys else No
 -- the fault of a record after the first, if there is one at this place
 abbrev pub record_fault : List Name → ℕ → Option Record → Option TraceFaultKind
 record_fault names place None = None
-record_fault names place (Some r) = if nat_lt 1000000 place then Some TooManyRecords else said_fault names (said r)
+record_fault names place (Some r) = if nat_lt MAX_EVENTS place then Some TooManyRecords else said_fault names (said r)
 
 -- the fault of the record at a place, if it has one
 unfoldable pub fault_at : List Name → List Record → ℕ → Option TraceFaultKind

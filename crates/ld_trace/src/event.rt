@@ -37,7 +37,7 @@ pub enum Irq {
 #[derive(Clone, Copy, PartialEq, Eq, Debug, Hash)]
 pub enum Event {
     /// The task takes a lock of this key.
-    Acquire { key: KeyId, mode: Mode },
+    Acquire { mode: Mode, key: KeyId },
     /// It gives back a lock of this key.
     Release { key: KeyId },
     /// An interrupt of this kind begins in it.

@@ -4,7 +4,10 @@ ghost use Rattle.std.specs.Prelude.{◌≡◌, ◌<◌, ◌↔◌, IsSome, IfSom
 
 use std::marker::Model;
 
-/// The number of a lock key, 0 to 255.
+/// The most lock keys that there are: each has a number below it.
+pub const MAX_KEYS: u16 = 256;
+
+/// The number of a lock key, below `MAX_KEYS`.
 #[derive(Clone, Copy, PartialEq, Eq, Debug, Hash)]
 pub struct KeyId {
     number: u16,
@@ -12,12 +15,13 @@ pub struct KeyId {
 
 impl Model for KeyId {
     ghost use Rattle.std.specs.Prelude.{ℕ, ◌<◌};
+    ghost use Rattle.ld_trace.specs.declared.key_id.TheConstants.{MAX_KEYS};
 
     ghost Value = { ℕ };
 
     ghost view = { λ k. k.number };
 
-    ghost invariant = { λ k. k.number < 256 };
+    ghost invariant = { λ k. k.number < MAX_KEYS };
 
     ghost inverse = { λ n. record { number = n } };
 }
@@ -31,12 +35,12 @@ impl Default for KeyId {
 }
 
 impl KeyId {
-    /// The key of this number. None exactly from 256 on.
+    /// The key of this number. None exactly from `MAX_KEYS` on.
     pub fn new(number: u16) -> Option<KeyId>
-        ensures exact { IsSome result ↔ (number < 256) }
+        ensures exact { IsSome result ↔ (number < MAX_KEYS) }
         ensures value { IfSome result (λ key. key ≡ number) }
     {
-        if number < 256 {
+        if number < MAX_KEYS {
             Some(KeyId { number })
         } else {
             None
@@ -46,14 +50,14 @@ impl KeyId {
     /// Its number.
     pub fn get(self) -> u16
         ensures value { result ≡ self }
-        ensures below { result < 256 }
+        ensures below { result < MAX_KEYS }
     {
         self.number
     }
 
     /// The key of the name at this place of a table.
     pub(crate) fn from_place(place: usize) -> KeyId
-        requires { place < 256 }
+        requires { place < MAX_KEYS }
         ensures { result ≡ place }
     {
         KeyId {

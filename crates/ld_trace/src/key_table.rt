@@ -6,16 +6,13 @@ ghost use Rattle.ld_trace.specs.Stored.{name_of, names_of};
 ghost use Rattle.std.specs.List.{IsDistinct};
 
 use crate::stored_name::{StoredName, is_class_name};
-use crate::{KeyFault, KeyId};
+use crate::{KeyFault, KeyId, MAX_KEYS};
 use indexmap::IndexSet;
 use std::alloc::Global;
 use std::marker::Model;
 
-/// The most keys that a table holds.
-const MAX_KEYS: usize = 256;
-
 /// The greatest subclass.
-const MAX_SUB: u8 = 7;
+pub const MAX_SUB: u8 = 7;
 
 /// The names of the lock keys, numbered 0, 1, and so on in order of first sight.
 ///
@@ -66,7 +63,7 @@ impl KeyTable {
         ensures names { IfOk result (λ _. self.new ≡ with_name self.old (name.now, sub)) }
 
         ensures bad_name { IsErrOf result KeyFault.BadName ↔ (is_class_name name.now ≡ false) }
-        ensures bad_sub { IsErrOf result KeyFault.BadSub ↔ ((is_class_name name.now ≡ true) × (7 < sub)) }
+        ensures bad_sub { IsErrOf result KeyFault.BadSub ↔ ((is_class_name name.now ≡ true) × (MAX_SUB < sub)) }
         ensures full { IsErrOf result KeyFault.Full ↔ ((is_name (name.now, sub) ≡ true) × (is_one_too_many self.old (name.now, sub) ≡ true)) }
         ensures known { is_name (name.now, sub) ≡ true → is_known self.old (name.now, sub) ≡ true → IsOk result }
 
@@ -106,18 +103,18 @@ impl KeyTable {
 
 /// The place of a name among those of a table, where a new one goes last.
 fn place_among(names: &mut IndexSet<StoredName>, name: StoredName) -> Result<usize, KeyFault>
-    requires { length names.old.keys ≤ 256 }
+    requires { length names.old.keys ≤ MAX_KEYS }
     ensures value { IfOk result (λ place. place ≡ place_of (names_of names.old) (name_of name)) }
-    ensures within { IfOk result (λ place. place < 256) }
+    ensures within { IfOk result (λ place. place < MAX_KEYS) }
     ensures names { IfOk result (λ _. names_of names.new ≡ with_name (names_of names.old) (name_of name)) }
-    ensures few { length names.new.keys ≤ 256 }
+    ensures few { length names.new.keys ≤ MAX_KEYS }
     ensures full { IsErrOf result KeyFault.Full ↔ (is_one_too_many (names_of names.old) (name_of name) ≡ true) }
     ensures known { is_known (names_of names.old) (name_of name) ≡ true → IsOk result }
     ensures either { IfErr result (λ fault. (fault ≡ KeyFault.Full) ⊎ (fault ≡ KeyFault.Memory)) }
     ensures refused { OnErr result (names_of names.new ≡ names_of names.old) }
     ensures unique { IsDistinct is_same (names_of names.new) }
 {
-    if names.len() >= MAX_KEYS {
+    if names.len() >= MAX_KEYS as usize {
         return match names.get_index_of(&name) {
             Some(place) => Ok(place),
             None => Err(KeyFault::Full),

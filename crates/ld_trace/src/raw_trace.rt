@@ -7,7 +7,7 @@ use crate::Event;
 use std::marker::Model;
 
 /// The most events that a trace may have.
-pub(crate) const MAX_EVENTS: usize = 1_000_000;
+pub const MAX_EVENTS: usize = 1_000_000;
 
 /// One task's events in order, at most 1,000,000 of them, not yet checked against each other.
 #[derive(Drop, Debug)]
@@ -18,18 +18,19 @@ pub struct RawTrace {
 impl Model for RawTrace {
     ghost use Rattle.std.specs.Prelude.{List, ◌≤◌, length};
     ghost use Rattle.ld_trace.specs.declared.event.Event.{Event};
+    ghost use Rattle.ld_trace.specs.declared.raw_trace.TheConstants.{MAX_EVENTS};
 
     ghost Value = { List Event };
 
     ghost view = { λ t. t.events.items };
 
-    ghost invariant = { λ t. length t.events.items ≤ 1000000 };
+    ghost invariant = { λ t. length t.events.items ≤ MAX_EVENTS };
 }
 
 impl RawTrace {
     /// The trace of these events. None exactly where there are more than 1,000,000, and then they are given up.
     pub fn from_events(events: Vec<Event>) -> Option<RawTrace>
-        ensures exact { IsSome result ↔ (length events.items ≤ 1000000) }
+        ensures exact { IsSome result ↔ (length events.items ≤ MAX_EVENTS) }
         ensures events { IfSome result (λ trace. trace ≡ events.items) }
     {
         if events.len() <= MAX_EVENTS {
@@ -41,7 +42,7 @@ impl RawTrace {
 
     /// The trace of these events, of which there are few enough.
     pub(crate) fn of_few(events: Vec<Event>) -> RawTrace
-        requires { length events.items ≤ 1000000 }
+        requires { length events.items ≤ MAX_EVENTS }
         ensures { result ≡ events.items }
     {
         RawTrace { events }
@@ -50,7 +51,7 @@ impl RawTrace {
     /// How many events there are, at most 1,000,000.
     pub fn len(&self) -> usize
         ensures count { result ≡ length self.now }
-        ensures most { result ≤ 1000000 }
+        ensures most { result ≤ MAX_EVENTS }
     {
         self.events.len()
     }

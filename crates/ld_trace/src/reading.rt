@@ -10,9 +10,8 @@ ghost use Rattle.ld_trace.specs.Progress.{AreRead, AreRefused, HasGiven, HasTake
 ghost use Rattle.ld_trace.specs.Reading.{ReadsTo, StopsAt, said_fault};
 ghost use Rattle.ld_trace.specs.TraceFaults.{is_of_text};
 
-use crate::raw_trace::MAX_EVENTS;
 use crate::record::{is_header, line_of};
-use crate::{Event, KeyTable, RawTrace, TraceFault, TraceFaultKind};
+use crate::{Event, KeyTable, MAX_EVENTS, RawTrace, TraceFault, TraceFaultKind};
 use csv::{ByteRecord, ErrorKind, Reader, ReaderBuilder};
 use std::alloc::Global;
 use std::io::Read;
@@ -102,9 +101,9 @@ fn take_event<R: Read>(
     keys: &mut KeyTable,
 ) -> Result<bool, TraceFaultKind>
     requires plain { ReadsPlain source.old }
-    requires few { length events.old.items ≤ 1000000 }
+    requires few { length events.old.items ≤ MAX_EVENTS }
     ensures plain { OnOk result (ReadsPlain source.new) }
-    ensures more { IfOk result (λ found. found ≡ true → (length events.new.items ≡ suc (length events.old.items)) × (length events.new.items ≤ 1000000)) }
+    ensures more { IfOk result (λ found. found ≡ true → (length events.new.items ≡ suc (length events.old.items)) × (length events.new.items ≤ MAX_EVENTS)) }
     ensures no_more { IfOk result (λ found. found ≡ false → events.new.items ≡ events.old.items) }
     ensures kept_events { OnErr result (events.new.items ≡ events.old.items) }
     ensures kept_names { (added : List Name) × (keys.new ≡ keys.old ++ added) }

@@ -6,19 +6,19 @@ ghost use Rattle.ld_trace.specs.Names.{are_visible, is_class_name};
 use arrayvec::ArrayString;
 
 /// The most bytes that a class's name may have.
-const MAX_NAME: usize = 64;
+pub const MAX_NAME: usize = 64;
 
 /// A class's name and a subclass, kept without memory of their own.
 #[derive(Clone, Copy, PartialEq, Eq, Hash, Debug)]
 pub(crate) struct StoredName {
-    pub(crate) text: ArrayString<64>,
+    pub(crate) text: ArrayString<MAX_NAME>,
     pub(crate) sub: u8,
 }
 
 impl StoredName {
     /// Keeps a name of at most 64 bytes and a subclass.
     pub(crate) fn new(text: &str, sub: u8) -> StoredName
-        requires { length text.now ≤ 64 }
+        requires { length text.now ≤ MAX_NAME }
         ensures text { result.text.bytes ≡ text.now }
         ensures sub { result.sub ≡ sub }
     {

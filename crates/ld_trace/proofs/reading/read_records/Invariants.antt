@@ -1,10 +1,11 @@
 use Rattle.std.proofs.Common.{◌≡◌, ◌≤◌, ◌-◌, ◌++◌, ℕ, Option, List, [], length}
+use Rattle.ld_trace.specs.declared.raw_trace.TheConstants.{MAX_EVENTS}
 use Rattle.ld_trace.specs.Names.{Name}
 use Rattle.ld_trace.specs.Progress.{HasGiven, HasTaken, ReadsPlain}
 use Rattle.ld_trace.proofs.reading.read_records.Given as goal
 
 abbrev pub invariant-records : goal.invariant-records
-invariant-records g l = ReadsPlain l.source × (length l.events.items ≤ 1000000)
+invariant-records g l = ReadsPlain l.source × (length l.events.items ≤ MAX_EVENTS)
     × ((known : Option (List ℕ)) → HasGiven g.R.Read.remaining known l.fn.source [] → HasTaken g.R.Read.remaining known l.source l.fn.keys l.keys l.events.items)
     × ((added : List Name) × (l.keys ≡ l.fn.keys ++ added))
 
