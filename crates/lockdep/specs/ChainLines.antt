@@ -1,10 +1,13 @@
 -- The text of a trace's chains [this project's own].
-use Rattle.std.specs.Prelude.{◌≡◌, ℕ, ◌+◌, Bool, List, ◌++◌, length, take, codes, decimal, Option, Some, None}
+use Rattle.std.specs.Prelude.{◌≡◌, ℕ, ◌+◌, List, ◌++◌, length, take, codes, decimal, Option, Some, None}
 use Rattle.std.specs.List.{flat_map}
 use Rattle.ld_trace.specs.Names.{Name}
 use Rattle.ld_trace.specs.declared.event.Event.{Event}
 use Rattle.ld_trace.specs.declared.event.Mode.{Mode}
+use Rattle.ld_trace.specs.declared.event.Irq.TheVariants.{Hard, Soft}
+use Rattle.ld_task.specs.declared.frame.Flags.{Flags}
 use Rattle.ld_task.specs.declared.frame.Frame.{Frame}
+use Rattle.ld_task.specs.Flags.{is_on}
 use Rattle.ld_task.specs.declared.lock.Lock.{Lock}
 use Rattle.ld_task.specs.Chains.{ChainParts}
 use Rattle.ld_task.specs.TraceChains.{chains}
@@ -14,16 +17,16 @@ use Rattle.lockdep.specs.Words.{flag_text, frame_text, key_text, mode_text, name
 abbrev pub taken_text : List Name → ℕ → Mode → List ℕ
 taken_text names key mode = key_text (name_at names key) ++ (codes " " ++ mode_text mode)
 
--- the two flags
-abbrev pub flags_text : (hard_on soft_on : Bool) → List ℕ
-flags_text hard_on soft_on = flag_text hard_on ++ (codes " " ++ flag_text soft_on)
+-- the flags: hardirq, softirq
+abbrev pub flags_text : Flags → List ℕ
+flags_text flags = flag_text (is_on Hard flags) ++ (codes " " ++ flag_text (is_on Soft flags))
 
 -- what a line says of the chain itself: an acquisition or an opening, and the flags
-abbrev pub head_text : List Name → Option (Lock × Frame) → (hard_on soft_on : Bool) → List ℕ
-head_text names (Some new) hard_on soft_on =
+abbrev pub head_text : List Name → Option (Lock × Frame) → Flags → List ℕ
+head_text names (Some new) flags =
     codes "acq " ++ (taken_text names new.0.key new.0.mode
-    ++ (codes " " ++ (frame_text new.1 ++ (codes " " ++ flags_text hard_on soft_on))))
-head_text names None hard_on soft_on = codes "on " ++ flags_text hard_on soft_on
+    ++ (codes " " ++ (frame_text new.1 ++ (codes " " ++ flags_text flags))))
+head_text names None flags = codes "on " ++ flags_text flags
 
 -- a held lock
 abbrev pub lock_text : List Name → Lock → List ℕ
@@ -36,7 +39,7 @@ held_text names locks = codes " held " ++ (decimal (length locks) ++ flat_map (l
 -- the line of a chain
 unfoldable pub chain_line : List Name → ChainParts → List ℕ
 chain_line names c =
-    head_text names c.new_lock c.hard_on c.soft_on ++ (held_text names c.held_locks ++ codes "\n")
+    head_text names c.new_lock c.flags ++ (held_text names c.held_locks ++ codes "\n")
 
 -- the lines of the trace's chains, in order
 unfoldable pub chains_text : List Name → List Event → List ℕ

@@ -6,13 +6,15 @@ use Rattle.ld_trace.specs.declared.event.Irq.{Irq}
 use Rattle.ld_trace.specs.declared.event.Irq.TheVariants.{Hard, Soft}
 use Rattle.ld_task.specs.declared.kind.Kind.{Kind}
 use Rattle.ld_task.specs.declared.kind.Kind.TheVariants.{Er, En, Sr, Sn}
-use Rattle.ld_task.specs.declared.mark.Mark.{Mark}
 use Rattle.ld_task.specs.declared.mark.Mark.TheVariants.{UsedIn, Enabled}
-use Rattle.ld_graph.specs.Arrows.{Arrow, arrow}
+use Rattle.ld_graph.specs.Arrows.{arrow}
+use Rattle.ld_graph.specs.Facts.{DependenciesOf}
+use Rattle.ld_graph.specs.declared.fact.Fact.{Fact}
+use Rattle.ld_graph.specs.declared.fact.Fact.TheVariants.{Marked}
 use Rattle.ld_graph.specs.Walks.{OnCircle}
 use Rattle.ld_graph.specs.Links.{IsDouble, IsInversion, IsClean}
 use Rattle.ld_graph.specs.Counting.{IsNumberOf}
-use Rattle.ld_run.specs.TraceFacts.{HaveDependency, HaveMark}
+use Rattle.ld_run.specs.TraceFacts.{TracesHave}
 use Rattle.lockdep.specs.Words.{irq_text, key_text, kind_text, name_at}
 use Rattle.lockdep.specs.Order.{IsKeyOrder}
 use Rattle.lockdep.specs.Groups.{InSequence, InTurn, ShowsWhere}
@@ -37,11 +39,11 @@ clean_line true = codes "clean yes\n"
 clean_line false = codes "clean no\n"
 
 -- the five lines that every report begins with, of so many traces, events and keys
-pub record AreTotals (In : Arrow → Type 0) (Marked : ℕ → Mark → Type 0) (traces events keys : ℕ) (text : List ℕ) : Type 0 where
+pub record AreTotals (Has : Fact → Type 0) (traces events keys : ℕ) (text : List ℕ) : Type 0 where
   pub dependencies : ℕ
-  pub dependencies_are : IsNumberOf In dependencies
+  pub dependencies_are : IsNumberOf (DependenciesOf Has) dependencies
   pub clean : Bool
-  pub clean_is : IsTrue clean ↔ IsClean In Marked
+  pub clean_is : IsTrue clean ↔ IsClean Has
   pub text_is : text ≡ total_line (codes "traces") traces ++ total_line (codes "events") events
       ++ total_line (codes "keys") keys ++ total_line (codes "dependencies") dependencies ++ clean_line clean
 
@@ -58,22 +60,22 @@ usage_character false true = codes "-"
 usage_character true false = codes "+"
 usage_character false false = codes "."
 
--- the character is that of a key with these marks, in this state and form
-pub record IsUsageCharacter (Marked : Mark → Type 0) (irq : Irq) (read : Bool) (character : List ℕ) : Type 0 where
+-- the character is that of the key with these facts, in this state and form
+pub record IsUsageCharacter (Has : Fact → Type 0) (key : ℕ) (irq : Irq) (read : Bool) (character : List ℕ) : Type 0 where
   pub enabled : Bool
   pub used_in : Bool
-  pub enabled_is : IsTrue enabled ↔ Marked (Enabled irq read)
-  pub used_in_is : IsTrue used_in ↔ Marked (UsedIn irq read)
+  pub enabled_is : IsTrue enabled ↔ Has (Marked key (Enabled irq read))
+  pub used_in_is : IsTrue used_in ↔ Has (Marked key (UsedIn irq read))
   pub character_is : character ≡ usage_character enabled used_in
 
 -- a key's line, with its four characters
 abbrev pub usage_line : Name → (characters : List ℕ) → List ℕ
 usage_line name characters = codes "usage " ++ key_text name ++ codes " {" ++ characters ++ codes "}\n"
 
--- the line is that of a key with these marks
-pub record IsUsageLine (names : List Name) (Marked : ℕ → Mark → Type 0) (key : ℕ) (line : List ℕ) : Type 0 where
+-- the line is that of the key with these facts
+pub record IsUsageLine (Has : Fact → Type 0) (names : List Name) (key : ℕ) (line : List ℕ) : Type 0 where
   pub characters : List ℕ
-  pub each : InTurn (λ form. IsUsageCharacter (Marked key) form.0 form.1) forms characters
+  pub each : InTurn (λ form. IsUsageCharacter Has key form.0 form.1) forms characters
   pub line_is : line ≡ usage_line (name_at names key) characters
 
 -- Circles.
@@ -83,14 +85,14 @@ circle_line names from to kind = codes "circle " ++ key_text (name_at names from
     ++ kind_text kind ++ codes " " ++ key_text (name_at names to) ++ codes "\n"
 
 -- the line of the dependency, where it is on a circle
-abbrev pub ShowsCircle : (Arrow → Type 0) → List Name → (from to : ℕ) → Kind → List ℕ → Type 0
-ShowsCircle In names from to kind =
-    ShowsWhere (OnCircle In (arrow from to kind)) (circle_line names from to kind)
+abbrev pub ShowsCircle : (Fact → Type 0) → List Name → (from to : ℕ) → Kind → List ℕ → Type 0
+ShowsCircle Has names from to kind =
+    ShowsWhere (OnCircle Has (arrow from to kind)) (circle_line names from to kind)
 
 -- the lines of every dependency on a circle: by the first key, the second, and the kind
-abbrev pub AreCircles : (Arrow → Type 0) → List Name → (keys : List ℕ) → List ℕ → Type 0
-AreCircles In names keys =
-    InTurn (λ from. InTurn (λ to. InTurn (ShowsCircle In names from to) kinds) keys) keys
+abbrev pub AreCircles : (Fact → Type 0) → List Name → (keys : List ℕ) → List ℕ → Type 0
+AreCircles Has names keys =
+    InTurn (λ from. InTurn (λ to. InTurn (ShowsCircle Has names from to) kinds) keys) keys
 
 -- Doubles.
 
@@ -99,12 +101,12 @@ double_line names irq key =
     codes "double " ++ irq_text irq ++ codes " " ++ key_text (name_at names key) ++ codes "\n"
 
 -- the line of the key, where it is used both in the state and with it enabled
-abbrev pub ShowsDouble : (ℕ → Mark → Type 0) → List Name → Irq → (key : ℕ) → List ℕ → Type 0
-ShowsDouble Marked names irq key = ShowsWhere (IsDouble Marked irq key) (double_line names irq key)
+abbrev pub ShowsDouble : (Fact → Type 0) → List Name → Irq → (key : ℕ) → List ℕ → Type 0
+ShowsDouble Has names irq key = ShowsWhere (IsDouble Has irq key) (double_line names irq key)
 
 -- the lines of every double: by the state and the key
-abbrev pub AreDoubles : (ℕ → Mark → Type 0) → List Name → (keys : List ℕ) → List ℕ → Type 0
-AreDoubles Marked names keys = InTurn (λ irq. InTurn (ShowsDouble Marked names irq) keys) states
+abbrev pub AreDoubles : (Fact → Type 0) → List Name → (keys : List ℕ) → List ℕ → Type 0
+AreDoubles Has names keys = InTurn (λ irq. InTurn (ShowsDouble Has names irq) keys) states
 
 -- Inversions.
 
@@ -113,29 +115,29 @@ inversion_line names irq a b = codes "inversion " ++ irq_text irq ++ codes " "
     ++ key_text (name_at names a) ++ codes " " ++ key_text (name_at names b) ++ codes "\n"
 
 -- the line of the two keys, where they are in an inversion
-abbrev pub ShowsInversion : (Arrow → Type 0) → (ℕ → Mark → Type 0) → List Name → Irq → (a b : ℕ) → List ℕ → Type 0
-ShowsInversion In Marked names irq a b =
-    ShowsWhere (IsInversion In Marked irq a b) (inversion_line names irq a b)
+abbrev pub ShowsInversion : (Fact → Type 0) → List Name → Irq → (a b : ℕ) → List ℕ → Type 0
+ShowsInversion Has names irq a b =
+    ShowsWhere (IsInversion Has irq a b) (inversion_line names irq a b)
 
 -- the lines of every inversion: by the state, the first key and the second
-abbrev pub AreInversions : (Arrow → Type 0) → (ℕ → Mark → Type 0) → List Name → (keys : List ℕ) → List ℕ → Type 0
-AreInversions In Marked names keys =
-    InTurn (λ irq. InTurn (λ a. InTurn (ShowsInversion In Marked names irq a) keys) keys) states
+abbrev pub AreInversions : (Fact → Type 0) → List Name → (keys : List ℕ) → List ℕ → Type 0
+AreInversions Has names keys =
+    InTurn (λ irq. InTurn (λ a. InTurn (ShowsInversion Has names irq a) keys) keys) states
 
 -- The whole text.
 
 -- the text is the report of these facts, of so many traces and events, for the keys with these names
-pub record IsReport (In : Arrow → Type 0) (Marked : ℕ → Mark → Type 0) (traces events : ℕ) (names : List Name) (text : List ℕ) : Type 0 where
+pub record IsReport (Has : Fact → Type 0) (traces events : ℕ) (names : List Name) (text : List ℕ) : Type 0 where
   pub keys : List ℕ
   pub keys_are : IsKeyOrder names keys
   pub text_is : InSequence (
-      AreTotals In Marked traces events (length names)
-      ∷ InTurn (IsUsageLine names Marked) keys
-      ∷ AreCircles In names keys
-      ∷ AreDoubles Marked names keys
-      ∷ AreInversions In Marked names keys
+      AreTotals Has traces events (length names)
+      ∷ InTurn (IsUsageLine Has names) keys
+      ∷ AreCircles Has names keys
+      ∷ AreDoubles Has names keys
+      ∷ AreInversions Has names keys
       ∷ []) text
 
 -- the text is the report of all these traces together
 abbrev pub IsReportOf : List (List Event) → List Name → List ℕ → Type 0
-IsReportOf traces names text = IsReport (HaveDependency traces) (HaveMark traces) (length traces) (sum_by length traces) names text
+IsReportOf traces names text = IsReport (TracesHave traces) (length traces) (sum_by length traces) names text

@@ -11,8 +11,8 @@ use crate::fault::WriteFault;
 use crate::output::{Page, put, write_out};
 use crate::words::{flag_word, frame_word, mode_word, name_of};
 use arrayvec::ArrayString;
-use ld_task::{Chain, TaskState, Trace};
-use ld_trace::{KeyId, KeyTable, Mode};
+use ld_task::{Chain, Flags, TaskState, Trace};
+use ld_trace::{Irq, KeyId, KeyTable, Mode};
 use std::io::Write;
 
 // Room for any line: 91 bytes for an acquisition, 26 for the count, 72 for each of 48 held locks, and 1 for the line's end.
@@ -45,22 +45,22 @@ fn add_lock(line: &mut Line, names: &KeyTable, lock: (KeyId, Mode))
     line.push_str(mode_word(lock.1));
 }
 
-// The two flags.
-fn add_flags(line: &mut Line, hard_on: bool, soft_on: bool)
+// The flags: hardirq, softirq.
+fn add_flags(line: &mut Line, flags: Flags)
     requires { length line.old.bytes + 7 ≤ LINE_BYTES }
-    ensures text { line.new.bytes ≡ line.old.bytes ++ flags_text hard_on soft_on }
+    ensures text { line.new.bytes ≡ line.old.bytes ++ flags_text flags }
     ensures short { length line.new.bytes ≤ length line.old.bytes + 7 }
 {
-    line.push_str(flag_word(hard_on));
+    line.push_str(flag_word(flags.is_on(Irq::Hard)));
     line.push_str(" ");
-    line.push_str(flag_word(soft_on));
+    line.push_str(flag_word(flags.is_on(Irq::Soft)));
 }
 
 // What a line says of the chain itself.
 fn add_head(line: &mut Line, names: &KeyTable, chain: &Chain)
     requires { length line.old.bytes + 91 ≤ LINE_BYTES }
     ensures text { line.new.bytes
-        ≡ line.old.bytes ++ head_text names.now chain.now.new_lock chain.now.hard_on chain.now.soft_on }
+        ≡ line.old.bytes ++ head_text names.now chain.now.new_lock chain.now.flags }
     ensures short { length line.new.bytes ≤ length line.old.bytes + 91 }
 {
     match chain.taken() {
@@ -73,7 +73,7 @@ fn add_head(line: &mut Line, names: &KeyTable, chain: &Chain)
         }
         None => line.push_str("on "),
     }
-    add_flags(line, chain.hard_on(), chain.soft_on());
+    add_flags(line, chain.flags());
 }
 
 // The line of a chain.

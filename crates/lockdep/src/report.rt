@@ -2,7 +2,7 @@
 
 ghost use Rattle.std.specs.Prelude.{◌≡◌, ◌++◌, List, ℕ, OnOk, IfOk, IfErr, length, string_bytes, sum_by};
 ghost use Rattle.std.specs.Io.KnownBytes.{Appends};
-ghost use Rattle.ld_graph.specs.Facts.{HasDep, HasMark};
+ghost use Rattle.ld_graph.specs.FactBits.{HasFact};
 ghost use Rattle.lockdep.specs.Faults.{StopsWriting};
 ghost use Rattle.lockdep.specs.Groups.{GrowsBy, InTurn};
 ghost use Rattle.lockdep.specs.Report.{AreCircles, AreDoubles, AreInversions, AreTotals, IsReport, IsUsageCharacter, IsUsageLine, ShowsCircle, ShowsDouble, ShowsInversion, clean_line, forms, kinds, total_line, usage_character};
@@ -46,7 +46,7 @@ impl ReportView<'_> {
     // The line of a dependency, where it is on a circle.
     fn add_circle(self, text: &mut String, from: KeyId, to: KeyId, kind: Kind) -> Result<(), AllocError>
         ensures { OnOk result (GrowsBy
-            (ShowsCircle (HasDep self.entry.settled.now) self.entry.names.now from to kind)
+            (ShowsCircle (HasFact self.entry.settled.now) self.entry.names.now from to kind)
             (string_bytes text.old) (string_bytes text.new)) }
     {
         if self.settled.on_circle(from.get(), to.get(), kind) {
@@ -61,7 +61,7 @@ impl ReportView<'_> {
     // The circle lines of the dependencies from the one key to the other.
     fn add_circles_to(self, text: &mut String, from: KeyId, to: KeyId) -> Result<(), AllocError>
         ensures { OnOk result (GrowsBy
-            (InTurn (ShowsCircle (HasDep self.entry.settled.now) self.entry.names.now from to) kinds)
+            (InTurn (ShowsCircle (HasFact self.entry.settled.now) self.entry.names.now from to) kinds)
             (string_bytes text.old) (string_bytes text.new)) }
     {
         for kind in KINDS {
@@ -73,7 +73,7 @@ impl ReportView<'_> {
     // The circle lines of the dependencies from the key.
     fn add_circles_from(self, text: &mut String, from: KeyId) -> Result<(), AllocError>
         ensures { OnOk result (GrowsBy
-            (InTurn (λ to. InTurn (ShowsCircle (HasDep self.entry.settled.now) self.entry.names.now from to) kinds)
+            (InTurn (λ to. InTurn (ShowsCircle (HasFact self.entry.settled.now) self.entry.names.now from to) kinds)
             self.entry.keys.now)
             (string_bytes text.old) (string_bytes text.new)) }
     {
@@ -86,7 +86,7 @@ impl ReportView<'_> {
     // The circle lines.
     fn add_circles(self, text: &mut String) -> Result<(), AllocError>
         ensures { OnOk result (GrowsBy
-            (AreCircles (HasDep self.entry.settled.now) self.entry.names.now self.entry.keys.now)
+            (AreCircles (HasFact self.entry.settled.now) self.entry.names.now self.entry.keys.now)
             (string_bytes text.old) (string_bytes text.new)) }
     {
         for from in self.keys {
@@ -98,7 +98,7 @@ impl ReportView<'_> {
     // The line of a key, where it is used both in a state and with it enabled.
     fn add_double(self, text: &mut String, irq: Irq, key: KeyId) -> Result<(), AllocError>
         ensures { OnOk result (GrowsBy
-            (ShowsDouble (HasMark self.entry.settled.now) self.entry.names.now irq key)
+            (ShowsDouble (HasFact self.entry.settled.now) self.entry.names.now irq key)
             (string_bytes text.old) (string_bytes text.new)) }
     {
         if self.settled.is_double(irq, key.get()) {
@@ -112,7 +112,7 @@ impl ReportView<'_> {
     // The double lines of one state.
     fn add_doubles_of(self, text: &mut String, irq: Irq) -> Result<(), AllocError>
         ensures { OnOk result (GrowsBy
-            (InTurn (ShowsDouble (HasMark self.entry.settled.now) self.entry.names.now irq) self.entry.keys.now)
+            (InTurn (ShowsDouble (HasFact self.entry.settled.now) self.entry.names.now irq) self.entry.keys.now)
             (string_bytes text.old) (string_bytes text.new)) }
     {
         for key in self.keys {
@@ -124,7 +124,7 @@ impl ReportView<'_> {
     // The double lines.
     fn add_doubles(self, text: &mut String) -> Result<(), AllocError>
         ensures { OnOk result (GrowsBy
-            (AreDoubles (HasMark self.entry.settled.now) self.entry.names.now self.entry.keys.now)
+            (AreDoubles (HasFact self.entry.settled.now) self.entry.names.now self.entry.keys.now)
             (string_bytes text.old) (string_bytes text.new)) }
     {
         for irq in STATES {
@@ -136,7 +136,7 @@ impl ReportView<'_> {
     // The line of two keys, where they are in an inversion.
     fn add_inversion(self, text: &mut String, irq: Irq, a: KeyId, b: KeyId) -> Result<(), AllocError>
         ensures { OnOk result (GrowsBy
-            (ShowsInversion (HasDep self.entry.settled.now) (HasMark self.entry.settled.now) self.entry.names.now irq a b)
+            (ShowsInversion (HasFact self.entry.settled.now) self.entry.names.now irq a b)
             (string_bytes text.old) (string_bytes text.new)) }
     {
         if self.settled.is_inversion(irq, a.get(), b.get()) {
@@ -151,7 +151,7 @@ impl ReportView<'_> {
     // The inversion lines of one state and one first key.
     fn add_inversions_from(self, text: &mut String, irq: Irq, a: KeyId) -> Result<(), AllocError>
         ensures { OnOk result (GrowsBy
-            (InTurn (ShowsInversion (HasDep self.entry.settled.now) (HasMark self.entry.settled.now)
+            (InTurn (ShowsInversion (HasFact self.entry.settled.now)
             self.entry.names.now irq a) self.entry.keys.now)
             (string_bytes text.old) (string_bytes text.new)) }
     {
@@ -164,7 +164,7 @@ impl ReportView<'_> {
     // The inversion lines of one state.
     fn add_inversions_of(self, text: &mut String, irq: Irq) -> Result<(), AllocError>
         ensures { OnOk result (GrowsBy
-            (InTurn (λ a. InTurn (ShowsInversion (HasDep self.entry.settled.now) (HasMark self.entry.settled.now)
+            (InTurn (λ a. InTurn (ShowsInversion (HasFact self.entry.settled.now)
             self.entry.names.now irq a) self.entry.keys.now) self.entry.keys.now)
             (string_bytes text.old) (string_bytes text.new)) }
     {
@@ -177,7 +177,7 @@ impl ReportView<'_> {
     // The inversion lines.
     fn add_inversions(self, text: &mut String) -> Result<(), AllocError>
         ensures { OnOk result (GrowsBy
-            (AreInversions (HasDep self.entry.settled.now) (HasMark self.entry.settled.now)
+            (AreInversions (HasFact self.entry.settled.now)
             self.entry.names.now self.entry.keys.now)
             (string_bytes text.old) (string_bytes text.new)) }
     {
@@ -189,7 +189,7 @@ impl ReportView<'_> {
 
     // What the usage line says of one state and form.
     fn usage_character(self, key: KeyId, irq: Irq, read: bool) -> &'static str
-        ensures { IsUsageCharacter (HasMark self.entry.settled.now key) irq read result.now }
+        ensures { IsUsageCharacter (HasFact self.entry.settled.now) key irq read result.now }
     {
         let enabled = self.settled.has_mark(key.get(), Mark::Enabled { irq, read });
         let used_in = self.settled.has_mark(key.get(), Mark::UsedIn { irq, read });
@@ -199,7 +199,7 @@ impl ReportView<'_> {
     // The four characters of a key's usage line.
     fn add_characters(self, text: &mut String, key: KeyId) -> Result<(), AllocError>
         ensures { OnOk result (GrowsBy
-            (InTurn (λ form. IsUsageCharacter (HasMark self.entry.settled.now key) form.0 form.1) forms)
+            (InTurn (λ form. IsUsageCharacter (HasFact self.entry.settled.now) key form.0 form.1) forms)
             (string_bytes text.old) (string_bytes text.new)) }
     {
         for form in FORMS {
@@ -211,7 +211,7 @@ impl ReportView<'_> {
     // The usage line of a key.
     fn add_usage_line(self, text: &mut String, key: KeyId) -> Result<(), AllocError>
         ensures { OnOk result (GrowsBy
-            (IsUsageLine self.entry.names.now (HasMark self.entry.settled.now) key)
+            (IsUsageLine (HasFact self.entry.settled.now) self.entry.names.now key)
             (string_bytes text.old) (string_bytes text.new)) }
     {
         let (name, sub) = name_of(self.names, key);
@@ -224,7 +224,7 @@ impl ReportView<'_> {
     // The usage lines.
     fn add_usage(self, text: &mut String) -> Result<(), AllocError>
         ensures { OnOk result (GrowsBy
-            (InTurn (IsUsageLine self.entry.names.now (HasMark self.entry.settled.now)) self.entry.keys.now)
+            (InTurn (IsUsageLine (HasFact self.entry.settled.now) self.entry.names.now) self.entry.keys.now)
             (string_bytes text.old) (string_bytes text.new)) }
     {
         for key in self.keys {
@@ -236,7 +236,7 @@ impl ReportView<'_> {
     // The five lines that every report begins with.
     fn add_totals(self, text: &mut String, traces: usize, events: u128) -> Result<(), AllocError>
         ensures { OnOk result (GrowsBy
-            (AreTotals (HasDep self.entry.settled.now) (HasMark self.entry.settled.now) traces events
+            (AreTotals (HasFact self.entry.settled.now) traces events
             (length self.entry.names.now))
             (string_bytes text.old) (string_bytes text.new)) }
     {
@@ -256,7 +256,7 @@ fn report_text(
     traces: usize,
     events: u128,
 ) -> Result<String, AllocError>
-    ensures { IfOk result (λ text. IsReport (HasDep settled.now) (HasMark settled.now) traces events names.now
+    ensures { IfOk result (λ text. IsReport (HasFact settled.now) traces events names.now
         (string_bytes text)) }
 {
     let keys = sorted_keys(alloc, names)?;
@@ -309,11 +309,11 @@ pub fn write_report<W: Write>(
     names: &KeyTable,
 ) -> Result<(), WriteFault>
     ensures ok { OnOk result ((text : List ℕ)
-        × IsReport (HasDep settled.now) (HasMark settled.now) (length traces.now) (sum_by length traces.now)
+        × IsReport (HasFact settled.now) (length traces.now) (sum_by length traces.now)
         names.now text
         × Appends (W.contents w.old) (W.contents w.new) text) }
     ensures err { IfErr result (StopsWriting
-        (IsReport (HasDep settled.now) (HasMark settled.now) (length traces.now) (sum_by length traces.now) names.now)
+        (IsReport (HasFact settled.now) (length traces.now) (sum_by length traces.now) names.now)
         (W.contents w.old) (W.contents w.new)) }
 {
     let events = event_count(traces);

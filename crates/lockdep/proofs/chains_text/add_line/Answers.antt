@@ -28,7 +28,7 @@ pub returns : goal.returns
 unfolding chain_line
 returns c =
     let locks = c.args.chain.now.held_locks in
-    let head = head_text c.args.names.now c.args.chain.now.new_lock c.args.chain.now.hard_on c.args.chain.now.soft_on in
+    let head = head_text c.args.names.now c.args.chain.now.new_lock c.args.chain.now.flags in
     let all : take c.loop-place.place locks ≡ locks = take_all c.loop-place.place locks (omega (arith, c.held_len-place-end.ensures.exact)) in
     c.push_str-3.ensures.bytes
     ∙ ap (λ t. t ++ codes "\n") (c.loop-place.invariant.text ∙ ap (λ xs. head ++ (codes " held " ++ (decimal (length locks) ++ flat_map (lock_text c.args.names.now) xs))) all)
