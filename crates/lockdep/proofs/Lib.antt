@@ -6,3 +6,4 @@ pub mod ChainLemmas
 pub mod ReportLemmas
 pub mod FaultLemmas
 pub mod LineLemmas
+pub mod ProgramLemmas

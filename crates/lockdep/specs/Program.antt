@@ -1,26 +1,36 @@
--- What the program does for a command line. This project's own.
-use Rattle.std.specs.Prelude.{◌≡◌, ◌↔◌, ◌⊎◌, ◌<◌, ◌≤◌, ℕ, List, [], ◌∷◌, Option, None, All, IfSome, length, map, option_map}
+-- What the program does for a command line [this project's own].
+use Rattle.std.specs.Prelude.{◌≡◌, ◌↔◌, ◌⊎◌, ⊤, ◌+◌, ◌<◌, ◌≤◌, ℕ, List, [], ◌∷◌, Option, None, Some, All, Contains, IfSome, codes, length, map, option_map, slice_get, unwrap_or}
 use Rattle.std.specs.Io.KnownBytes.{Appends, Keeps}
+use Rattle.ld_trace.specs.Events.{KeysBelow}
 use Rattle.ld_trace.specs.Names.{Name}
 use Rattle.ld_trace.specs.declared.event.Event.{Event}
-use Rattle.ld_trace.specs.Reading.{ReadsTo}
-use Rattle.ld_task.specs.WellFormed.{IsWellFormed}
+use Rattle.ld_trace.specs.Reading.{ReadsTo, StopsAt}
+use Rattle.ld_task.specs.WellFormed.{IsFirstFault, IsWellFormed}
 use Rattle.ld_graph.specs.Links.{IsClean}
 use Rattle.ld_run.specs.Runs.{IsCrew}
 use Rattle.ld_run.specs.declared.runs.TheConstants.{MAX_TRACES}
 use Rattle.clap.specs.Words.{Text}
 use Rattle.lockdep.specs.ChainLines.{chains_text}
 use Rattle.lockdep.specs.CommandLine.{AskForHelp, IsLineOf}
+use Rattle.lockdep.specs.Faults.{StopsReport}
 use Rattle.lockdep.specs.Output.{AppendsBeginning}
 use Rattle.lockdep.specs.Report.{IsReportOf}
 use Rattle.ld_run.specs.TraceFacts.{TracesHave}
 use Rattle.lockdep.specs.declared.command_line.Line.{Line}
 use Rattle.lockdep.specs.declared.command_line.Line.TheVariants.{Check, Chains}
+use Rattle.lockdep.specs.declared.fault.ReportFault.{ReportFault}
+use Rattle.lockdep.specs.declared.fault.ReportFault.TheVariants as report
+use Rattle.lockdep.specs.declared.fault.WriteFault.{WriteFault}
+use Rattle.lockdep.specs.declared.fault.WriteFault.TheVariants as write
 use Rattle.lockdep.specs.declared.refusal.Refusal.{Refusal}
-use Rattle.lockdep.specs.declared.refusal.Refusal.TheVariants.{Output}
+use Rattle.lockdep.specs.declared.refusal.Refusal.TheVariants.{BadCommandLine, CannotOpen, Output, Memory, Reading, Step, Run}
 
--- these are the traces that were read: one of each file, or the one that standard input holds
+-- What is done.
+
+-- these are the traces that were read: one of each file, or the one that standard input holds. Of the traces of files their
+-- number is said, and that their keys are in the table; no contract can tell what a file holds
 pub record AreTracesOf (files : List Text) (input : Option (List ℕ)) (names : List Name) (traces : List (List Event)) : Type 0 where
+  pub below : All (KeysBelow (length names)) traces
   pub from_input : length files ≡ 0 → (trace : List Event) × (traces ≡ trace ∷ []) × IfSome input (λ bytes. ReadsTo [] bytes names trace)
   pub from_files : 0 < length files → length traces ≡ length files
 
@@ -42,19 +52,29 @@ pub record ReportsOn (workers : ℕ) (files : List Text) (input old new : Option
   pub read : AreTracesOf files input names traces
   pub writes : WritesReport workers names traces old new status
 
--- the chains of a trace were written: of that of the file, or of the one that standard input holds
-pub record WritesChains (file : Option Text) (input old new : Option (List ℕ)) (status : ℕ) : Type 0 where
+-- what is known of the bytes of a trace: those that standard input holds, and of a file's nothing
+abbrev pub known_of : Option Text → (input : Option (List ℕ)) → Option (List ℕ)
+known_of None input = input
+known_of (Some file) input = None
+
+-- this trace was read from these bytes
+pub record IsTraceOf (bytes : Option (List ℕ)) (names : List Name) (trace : List Event) : Type 0 where
+  pub below : KeysBelow (length names) trace
+  pub reads : IfSome bytes (λ known. ReadsTo [] known names trace)
+
+-- the chains of the trace were written
+pub record WritesChains (bytes old new : Option (List ℕ)) (status : ℕ) : Type 0 where
   pub names : List Name
   pub trace : List Event
-  pub read : file ≡ None → IfSome input (λ bytes. ReadsTo [] bytes names trace)
+  pub read : IsTraceOf bytes names trace
   pub well_formed : IsWellFormed trace
   pub wrote : Appends old new (chains_text names trace)
   pub done : status ≡ 0
 
 -- what the line asks for was done
 abbrev pub DoesLine : Line → (input old new : Option (List ℕ)) → ℕ → Type 0
-DoesLine (Check workers files) = ReportsOn workers (map (λ file. file.now) files.items)
-DoesLine (Chains file) = WritesChains (option_map (λ word. word.now) file)
+DoesLine (Check workers files) input = ReportsOn workers (map (λ file. file.now) files.items) input
+DoesLine (Chains file) input = WritesChains (known_of (option_map (λ word. word.now) file) input)
 
 -- help was asked for and written
 pub record WritesHelp (words : List Text) (old new : Option (List ℕ)) (status : ℕ) : Type 0 where
@@ -68,7 +88,92 @@ abbrev pub DoesWords : List Text → (input old new : Option (List ℕ)) → ℕ
 DoesWords words input old new status =
     ((line : Line) × IsLineOf words line × DoesLine line input old new status) ⊎ WritesHelp words old new status
 
--- what a refused program leaves on standard output: a beginning of a text where writing it failed, and else nothing
-abbrev pub LeavesOutput : Refusal → (old new : Option (List ℕ)) → Type 0
-LeavesOutput Output old new = (text : List ℕ) × AppendsBeginning old new text
-LeavesOutput _ old new = Keeps old new
+-- What is refused, and what is left on standard output.
+
+-- what fault lines call the trace at this place: its file, or standard input where no file is named
+abbrev pub file_at : List Text → ℕ → Text
+file_at files place = unwrap_or (slice_get files place) (codes "stdin")
+
+-- the trace with these bytes is refused in reading, with the names that were there before
+abbrev pub IsReadingRefusal : (file : Text) (names : List Name) (bytes : Option (List ℕ)) → Refusal → Type 0
+IsReadingRefusal file names bytes (Reading named fault) =
+    (named.now ≡ file) × IfSome bytes (λ known. (new : List Name) × StopsAt names known new fault)
+IsReadingRefusal file names bytes _ = ⊥
+
+-- the trace isn't well formed: its first fault, with the record of the event, counted from 1 with the header
+abbrev pub IsStepRefusal : (file : Text) (trace : List Event) → Refusal → Type 0
+IsStepRefusal file trace (Step named at fault) = (named.now ≡ file)
+    × ((place : ℕ) × (at ≡ place + 2) × IsFirstFault trace (record { fault = fault; place = place }))
+IsStepRefusal file trace _ = ⊥
+
+-- the traces of these files weren't all read: one can't be opened or is refused in reading, or memory was refused before
+abbrev pub StopsReading : List Text → (input : Option (List ℕ)) → Refusal → Type 0
+StopsReading files input (CannotOpen named) = Contains files named.now
+StopsReading files input (Reading named fault) = Contains files named.now
+    ⊎ ((files ≡ []) × IsReadingRefusal (codes "stdin") [] input (Reading named fault))
+StopsReading files input Memory = ⊤
+StopsReading files input _ = ⊥
+
+-- the refusal of a text that wasn't written whole
+abbrev pub write_refusal_of : WriteFault → Refusal
+write_refusal_of write.Failed = Output
+write_refusal_of write.Stuck = Output
+write_refusal_of write.Memory = Memory
+
+-- the refusal of a report of the traces of these files that wasn't written whole
+abbrev pub IsReportRefusal : List Text → ReportFault → Refusal → Type 0
+IsReportRefusal files (report.Step trace at fault) (Step named named_at named_fault) =
+    (named.now ≡ file_at files trace) × (named_at ≡ at) × (named_fault ≡ fault)
+IsReportRefusal files (report.Step trace at fault) _ = ⊥
+IsReportRefusal files (report.Run fault) refusal = refusal ≡ Run fault
+IsReportRefusal files (report.Out fault) refusal = refusal ≡ write_refusal_of fault
+
+-- these traces of the files have no report, or it wasn't written whole
+pub record RefusesTraces (workers : ℕ) (files : List Text) (names : List Name) (traces : List (List Event)) (old new : Option (List ℕ)) (refusal : Refusal) : Type 0 where
+  pub fault : ReportFault
+  pub stops : StopsReport traces names workers old new fault
+  pub refusal_is : IsReportRefusal files fault refusal
+
+-- no report was written whole: in reading, and then nothing was written, or after it
+abbrev pub RefusesReport : ℕ → List Text → (input old new : Option (List ℕ)) → Refusal → Type 0
+RefusesReport workers files input old new refusal = (StopsReading files input refusal × Keeps old new)
+    ⊎ ((names : List Name) × (traces : List (List Event)) × AreTracesOf files input names traces
+    × RefusesTraces workers files names traces old new refusal)
+
+-- the trace isn't well formed, or its chains weren't written whole
+abbrev pub RefusesTrace : (file : Text) → List Name → List Event → (old new : Option (List ℕ)) → Refusal → Type 0
+RefusesTrace file names trace old new refusal = (IsStepRefusal file trace refusal × Keeps old new)
+    ⊎ (IsWellFormed trace × (refusal ≡ Output) × AppendsBeginning old new (chains_text names trace))
+
+-- no chains were written whole: memory was refused before, or the trace in reading, or after it
+abbrev pub RefusesOpened : (file : Text) → (bytes old new : Option (List ℕ)) → Refusal → Type 0
+RefusesOpened file bytes old new refusal =
+    (((refusal ≡ Memory) ⊎ IsReadingRefusal file [] bytes refusal) × Keeps old new)
+    ⊎ ((names : List Name) × (trace : List Event) × IsTraceOf bytes names trace
+    × RefusesTrace file names trace old new refusal)
+
+-- the same, or the file can't be opened
+abbrev pub RefusesChains : Option Text → (input old new : Option (List ℕ)) → Refusal → Type 0
+RefusesChains file input old new (CannotOpen named) = (file ≡ Some named.now) × Keeps old new
+RefusesChains file input old new refusal =
+    RefusesOpened (unwrap_or file (codes "stdin")) (known_of file input) old new refusal
+
+-- what the line asks for is refused so
+abbrev pub RefusesLine : Line → (input old new : Option (List ℕ)) → Refusal → Type 0
+RefusesLine (Check workers files) = RefusesReport workers (map (λ file. file.now) files.items)
+RefusesLine (Chains file) = RefusesChains (option_map (λ word. word.now) file)
+
+-- the help wasn't written whole
+abbrev pub RefusesHelp : (old new : Option (List ℕ)) → Refusal → Type 0
+RefusesHelp old new refusal =
+    ((refusal ≡ Memory) × Keeps old new) ⊎ ((refusal ≡ Output) × ((text : List ℕ) × AppendsBeginning old new text))
+
+-- the words ask for nothing that is done with traces, or for help that wasn't written whole
+abbrev pub RefusesNoLine : List Text → (old new : Option (List ℕ)) → Refusal → Type 0
+RefusesNoLine words old new refusal =
+    (((refusal ≡ BadCommandLine) ⊎ (refusal ≡ Memory)) × Keeps old new) ⊎ (AskForHelp words × RefusesHelp old new refusal)
+
+-- what the words ask for is refused so
+abbrev pub RefusesWords : List Text → (input old new : Option (List ℕ)) → Refusal → Type 0
+RefusesWords words input old new refusal =
+    ((line : Line) × IsLineOf words line × RefusesLine line input old new refusal) ⊎ RefusesNoLine words old new refusal

@@ -1,19 +1,17 @@
 //! The program: a command line, the traces that it names, and what is written for them.
 
-ghost use Rattle.std.specs.Prelude.{◌≡◌, ◌<◌, ◌≤◌, ◌+◌, ◌∷◌, ◌++◌, [], ℕ, List, Option, None, IfOk, IfErr, IfSome, OnOk, length, map, option_map};
+ghost use Rattle.std.specs.Prelude.{◌≡◌, ◌<◌, ◌≤◌, ◌+◌, ◌∷◌, ◌++◌, [], ℕ, List, Option, None, All, IfOk, IfErr, IfSome, OnOk, length, map, option_map};
 ghost use Rattle.std.specs.Io.KnownBytes.{Appends};
 ghost use Rattle.ld_trace.specs.Events.{KeysBelow};
-ghost use Rattle.ld_trace.specs.Names.{Name};
 ghost use Rattle.ld_trace.specs.Reading.{ReadsTo};
 ghost use Rattle.ld_trace.specs.declared.event.Event.{Event};
-ghost use Rattle.ld_task.specs.WellFormed.{IsWellFormed};
+ghost use Rattle.ld_task.specs.WellFormed.{IsFirstFault, IsWellFormed};
+ghost use Rattle.ld_trace.specs.declared.raw_trace.TheConstants.{MAX_EVENTS};
 ghost use Rattle.lockdep.specs.ChainLines.{chains_text};
 ghost use Rattle.lockdep.specs.CommandLine.{IsLineFault};
 ghost use Rattle.lockdep.specs.FaultLines.{fault_line};
-ghost use Rattle.lockdep.specs.Faults.{StopsReport, StopsWriting};
 ghost use Rattle.lockdep.specs.Output.{AppendsBeginning};
-ghost use Rattle.lockdep.specs.Program.{AreTracesOf, DoesLine, DoesWords, LeavesOutput, ReportsOn, WritesChains, WritesHelp, WritesReport};
-ghost use Rattle.lockdep.specs.Report.{IsReportOf};
+ghost use Rattle.lockdep.specs.Program.{AreTracesOf, DoesLine, DoesWords, IsReadingRefusal, IsReportRefusal, IsStepRefusal, RefusesChains, RefusesHelp, RefusesLine, RefusesNoLine, RefusesOpened, RefusesReport, RefusesTrace, RefusesTraces, RefusesWords, ReportsOn, StopsReading, WritesChains, WritesHelp, WritesReport, file_at, known_of, write_refusal_of};
 ghost use Rattle.lockdep.specs.declared.refusal.Refusal.{Refusal};
 
 use crate::chains_text::write_chains;
@@ -23,7 +21,7 @@ use crate::output::write_text;
 use crate::refusal::{Refusal, refuse};
 use crate::session::Session;
 use ld_run::OpenGate;
-use ld_task::{Trace, check};
+use ld_task::{StepAt, check};
 use ld_trace::{KeyTable, RawTrace, read_trace};
 use std::alloc::Global;
 use std::fs::File;
@@ -62,7 +60,8 @@ pub fn program<R: Files + Threads + Wait + Sync, I: Read + Drop, O: Write, E: Wr
         (O.contents out.old) (O.contents out.new) result }
     ensures quiet { result < 2 → err.new ≡ err.old }
     ensures refused { result ≡ 2 → (refusal : Refusal)
-        × LeavesOutput refusal (O.contents out.old) (O.contents out.new)
+        × RefusesWords (map (λ word. word.now) words.entry.now) (I.remaining input)
+            (O.contents out.old) (O.contents out.new) refusal
         × AppendsBeginning (E.contents err.old) (E.contents err.new) (fault_line refusal) }
 {
     match answer(rt, alloc, words, input, out) {
@@ -82,7 +81,8 @@ fn answer<'a, R: Files + Threads + Wait + Sync, I: Read + Drop, O: Write>(
     ensures ok { IfOk result (DoesWords (map (λ word. word.now) words.entry.now) (I.remaining input)
         (O.contents out.old) (O.contents out.new)) }
     ensures few { IfOk result (λ status. status ≤ 1) }
-    ensures err { IfErr result (λ refusal. LeavesOutput refusal (O.contents out.old) (O.contents out.new)) }
+    ensures err { IfErr result (RefusesWords (map (λ word. word.now) words.entry.now) (I.remaining input)
+        (O.contents out.old) (O.contents out.new)) }
 {
     match command_line(alloc, words) {
         Ok(line) => answer_line(rt, alloc, &line, input, out),
@@ -100,7 +100,7 @@ fn answer_line<'a, R: Files + Threads + Wait + Sync, I: Read + Drop, O: Write>(
 ) -> Result<u8, Refusal<'a>>
     ensures ok { IfOk result (DoesLine line.entry.now (I.remaining input) (O.contents out.old) (O.contents out.new)) }
     ensures few { IfOk result (λ status. status ≤ 1) }
-    ensures err { IfErr result (λ refusal. LeavesOutput refusal (O.contents out.old) (O.contents out.new)) }
+    ensures err { IfErr result (RefusesLine line.entry.now (I.remaining input) (O.contents out.old) (O.contents out.new)) }
 {
     match line {
         Line::Check { workers, files } => {
@@ -119,7 +119,8 @@ fn answer_fault<'a, O: Write>(
     ensures ok { (words : List (List ℕ)) → IsLineFault words fault.now
         → IfOk result (WritesHelp words (O.contents out.old) (O.contents out.new)) }
     ensures few { IfOk result (λ status. status ≤ 1) }
-    ensures err { IfErr result (λ refusal. LeavesOutput refusal (O.contents out.old) (O.contents out.new)) }
+    ensures err { (words : List (List ℕ)) → IsLineFault words fault.now
+        → IfErr result (RefusesNoLine words (O.contents out.old) (O.contents out.new)) }
 {
     match fault {
         LineFault::Help(help) => answer_help(alloc, help, out),
@@ -136,7 +137,7 @@ fn answer_help<'a, O: Write>(
 ) -> Result<u8, Refusal<'a>>
     ensures ok { IfOk result (λ status. (status ≡ 0)
         × ((text : List ℕ) × Appends (O.contents out.old) (O.contents out.new) text)) }
-    ensures err { IfErr result (λ refusal. LeavesOutput refusal (O.contents out.old) (O.contents out.new)) }
+    ensures err { IfErr result (RefusesHelp (O.contents out.old) (O.contents out.new)) }
 {
     let Ok(text) = help.to_string(alloc) else {
         return Err(Refusal::Memory);
@@ -158,7 +159,8 @@ fn answer_check<'a, R: Files + Threads + Wait + Sync, I: Read + Drop, O: Write>(
 ) -> Result<u8, Refusal<'a>>
     ensures ok { IfOk result (ReportsOn workers (map (λ file. file.now) files.entry.now) (I.remaining input)
         (O.contents out.old) (O.contents out.new)) }
-    ensures err { IfErr result (λ refusal. LeavesOutput refusal (O.contents out.old) (O.contents out.new)) }
+    ensures err { IfErr result (RefusesReport workers (map (λ file. file.now) files.entry.now) (I.remaining input)
+        (O.contents out.old) (O.contents out.new)) }
 {
     let Ok(mut session) = Session::new(alloc) else {
         return Err(Refusal::Memory);
@@ -180,7 +182,8 @@ fn report_session<'a, R: Threads + Wait + Sync, O: Write>(
 ) -> Result<u8, Refusal<'a>>
     ensures ok { IfOk result (WritesReport workers session.names session.traces
         (O.contents out.old) (O.contents out.new)) }
-    ensures err { IfErr result (λ refusal. LeavesOutput refusal (O.contents out.old) (O.contents out.new)) }
+    ensures err { IfErr result (RefusesTraces workers (map (λ file. file.now) files.entry.now)
+        session.names session.traces (O.contents out.old) (O.contents out.new)) }
 {
     match session.report(rt, alloc, workers, &OpenGate, out) {
         Ok(clean) => Ok(if clean { DONE } else { NOT_CLEAN }),
@@ -199,7 +202,7 @@ fn add_traces<'a, R: Files, I: Read + Drop>(
     requires no_traces { session.old.traces ≡ [] }
     ensures ok { OnOk result (AreTracesOf (map (λ file. file.now) files.entry.now) (I.remaining input)
         session.new.names session.new.traces) }
-    ensures err { IfErr result (λ refusal. (known : Option (List ℕ)) → LeavesOutput refusal known known) }
+    ensures err { IfErr result (StopsReading (map (λ file. file.now) files.entry.now) (I.remaining input)) }
 {
     if files.is_empty() {
         return add_trace(session, STDIN, input);
@@ -213,8 +216,10 @@ fn add_files<'a, R: Files>(
     session: &mut Session,
     files: &[&'a str],
 ) -> Result<(), Refusal<'a>>
+    requires { All (KeysBelow (length session.old.names)) session.old.traces }
     ensures ok { OnOk result (length session.new.traces ≡ length session.old.traces + length files.entry.now) }
-    ensures err { IfErr result (λ refusal. (known : Option (List ℕ)) → LeavesOutput refusal known known) }
+    ensures below { OnOk result (All (KeysBelow (length session.new.names)) session.new.traces) }
+    ensures err { (input : Option (List ℕ)) → IfErr result (StopsReading (map (λ file. file.now) files.entry.now) input) }
 {
     for file in files {
         add_file(rt, session, file)?;
@@ -225,7 +230,8 @@ fn add_files<'a, R: Files>(
 // Opens a file and reads its trace.
 fn add_file<'a, R: Files>(rt: &R, session: &mut Session, file: &'a str) -> Result<(), Refusal<'a>>
     ensures ok { OnOk result (length session.new.traces ≡ length session.old.traces + 1) }
-    ensures err { IfErr result (λ refusal. (known : Option (List ℕ)) → LeavesOutput refusal known known) }
+    ensures below { OnOk result (All (KeysBelow (length session.new.names)) session.new.traces) }
+    ensures err { IfErr result (StopsReading (file.entry.now ∷ []) None) }
 {
     match File::open(rt, file) {
         Ok(opened) => add_trace(session, file, opened),
@@ -241,7 +247,8 @@ fn add_trace<'a, I: Read + Drop>(
 ) -> Result<(), Refusal<'a>>
     ensures ok { OnOk result ((trace : List Event) × (session.new.traces ≡ session.old.traces ++ trace ∷ [])
         × IfSome (I.remaining opened) (λ bytes. ReadsTo session.old.names bytes session.new.names trace)) }
-    ensures err { IfErr result (λ refusal. (known : Option (List ℕ)) → LeavesOutput refusal known known) }
+    ensures below { All (KeysBelow (length session.new.names)) session.new.traces }
+    ensures err { IfErr result (IsReadingRefusal file.entry.now session.old.names (I.remaining opened)) }
 {
     match session.add(opened) {
         Ok(()) => Ok(()),
@@ -257,9 +264,10 @@ fn answer_chains<'a, R: Files, I: Read + Drop, O: Write>(
     input: I,
     out: &mut O,
 ) -> Result<u8, Refusal<'a>>
-    ensures ok { IfOk result (WritesChains (option_map (λ word. word.now) file.entry) (I.remaining input)
+    ensures ok { IfOk result (WritesChains (known_of (option_map (λ word. word.now) file.entry) (I.remaining input))
         (O.contents out.old) (O.contents out.new)) }
-    ensures err { IfErr result (λ refusal. LeavesOutput refusal (O.contents out.old) (O.contents out.new)) }
+    ensures err { IfErr result (RefusesChains (option_map (λ word. word.now) file.entry) (I.remaining input)
+        (O.contents out.old) (O.contents out.new)) }
 {
     let Some(file) = file else {
         return answer_chains_of(alloc, STDIN, input, out);
@@ -277,83 +285,65 @@ fn answer_chains_of<'a, I: Read + Drop, O: Write>(
     opened: I,
     out: &mut O,
 ) -> Result<u8, Refusal<'a>>
-    ensures ok { IfOk result (WritesChains None (I.remaining opened) (O.contents out.old) (O.contents out.new)) }
-    ensures err { IfErr result (λ refusal. LeavesOutput refusal (O.contents out.old) (O.contents out.new)) }
+    ensures ok { IfOk result (WritesChains (I.remaining opened) (O.contents out.old) (O.contents out.new)) }
+    ensures err { IfErr result (RefusesOpened file.entry.now (I.remaining opened)
+        (O.contents out.old) (O.contents out.new)) }
 {
     let Ok(mut keys) = KeyTable::new(alloc) else {
         return Err(Refusal::Memory);
     };
-    match well_formed_trace(alloc, file, opened, &mut keys) {
-        Ok(trace) => chains_status(out, &trace, &keys),
-        Err(refusal) => Err(refusal),
+    match read_trace(alloc, opened, &mut keys) {
+        Ok(read) => answer_trace(file, read, &keys, out),
+        Err(fault) => Err(Refusal::Reading { file, fault }),
     }
 }
 
-// Writes the chains of the trace.
-fn chains_status<'a, O: Write>(
-    out: &mut O,
-    trace: &Trace,
+// Writes the chains of a trace that was read.
+fn answer_trace<'a, O: Write>(
+    file: &'a str,
+    read: RawTrace,
     keys: &KeyTable,
+    out: &mut O,
 ) -> Result<u8, Refusal<'a>>
-    requires { KeysBelow (length keys.now) trace.now }
-    ensures ok { IfOk result (λ status. (status ≡ 0)
-        × Appends (O.contents out.old) (O.contents out.new) (chains_text keys.now trace.now)) }
-    ensures err { IfErr result (λ refusal. LeavesOutput refusal (O.contents out.old) (O.contents out.new)) }
+    ensures ok { IfOk result (λ status. IsWellFormed read × (status ≡ 0)
+        × Appends (O.contents out.old) (O.contents out.new) (chains_text keys.now read)) }
+    ensures err { IfErr result (RefusesTrace file.entry.now keys.now read (O.contents out.old) (O.contents out.new)) }
 {
-    match write_chains(out, trace, keys) {
+    let trace = match check(read) {
+        Ok(trace) => trace,
+        Err(found) => return Err(step_refusal(file, found)),
+    };
+    match write_chains(out, &trace, keys) {
         Ok(()) => Ok(DONE),
         Err(_) => Err(Refusal::Output),
     }
 }
 
-// Reads the trace of a file that is open, and checks it.
-fn well_formed_trace<'a, I: Read + Drop>(
-    alloc: Global,
-    file: &'a str,
-    opened: I,
-    keys: &mut KeyTable,
-) -> Result<Trace, Refusal<'a>>
-    ensures ok { IfOk result (λ trace. IsWellFormed trace × KeysBelow (length keys.new) trace
-        × IfSome (I.remaining opened) (λ bytes. ReadsTo keys.old bytes keys.new trace)) }
-    ensures err { IfErr result (λ refusal. (known : Option (List ℕ)) → LeavesOutput refusal known known) }
+// The refusal of a trace that isn't well formed. The record of an event is counted from 1 with the header.
+fn step_refusal<'a>(file: &'a str, found: StepAt) -> Refusal<'a>
+    requires { (trace : List Event) × IsFirstFault trace found × (length trace ≤ MAX_EVENTS) }
+    ensures { (trace : List Event) → IsFirstFault trace found → IsStepRefusal file.entry.now trace result }
 {
-    match read_trace(alloc, opened, keys) {
-        Ok(read) => checked_trace(file, read),
-        Err(fault) => Err(Refusal::Reading { file, fault }),
+    Refusal::Step {
+        file,
+        at: found.place + 2,
+        fault: found.fault,
     }
 }
 
-// The trace, where it is well formed.
-fn checked_trace<'a>(file: &'a str, read: RawTrace) -> Result<Trace, Refusal<'a>>
-    ensures ok { IfOk result (λ trace. (trace ≡ read) × IsWellFormed trace) }
-    ensures err { IfErr result (λ refusal. (known : Option (List ℕ)) → LeavesOutput refusal known known) }
-{
-    match check(read) {
-        Ok(trace) => Ok(trace),
-        Err(found) => Err(Refusal::Step {
-            file,
-            at: found.place + 2,
-            fault: found.fault,
-        }),
-    }
-}
-
-// The refusal of a report that wasn't written whole.
+// The refusal of a text that wasn't written whole.
 fn write_refusal<'a>(fault: WriteFault) -> Refusal<'a>
-    ensures { (traces : List (List Event)) (names : List Name) (old new : Option (List ℕ))
-        → StopsWriting (IsReportOf traces names) old new fault → LeavesOutput result old new }
+    ensures { result ≡ write_refusal_of fault }
 {
     match fault {
-        WriteFault::Failed => Refusal::Output,
-        WriteFault::Stuck => Refusal::Output,
+        WriteFault::Failed | WriteFault::Stuck => Refusal::Output,
         WriteFault::Memory => Refusal::Memory,
     }
 }
 
 // The refusal of a report on the traces of these files.
 fn report_refusal<'a>(files: &[&'a str], fault: ReportFault) -> Refusal<'a>
-    ensures { (traces : List (List Event)) (names : List Name) (workers : ℕ) (old new : Option (List ℕ))
-        → StopsReport traces names workers old new fault → LeavesOutput result old new }
+    ensures { IsReportRefusal (map (λ file. file.now) files.entry.now) fault result }
 {
     match fault {
         ReportFault::Step { trace, at, fault } => Refusal::Step {
@@ -366,7 +356,9 @@ fn report_refusal<'a>(files: &[&'a str], fault: ReportFault) -> Refusal<'a>
     }
 }
 
-// The name of the file that the trace at this place was read from.
-fn file_of<'a>(files: &[&'a str], place: usize) -> &'a str {
+// The name of the file that the trace at this place was read from. Where no file is named, it is standard input.
+fn file_of<'a>(files: &[&'a str], place: usize) -> &'a str
+    ensures { result.now ≡ file_at (map (λ file. file.now) files.entry.now) place }
+{
     files.get(place).copied().unwrap_or(STDIN)
 }

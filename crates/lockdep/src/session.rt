@@ -1,8 +1,9 @@
 //! A session: traces that are read one after the other, and the report of all of them.
 
-ghost use Rattle.std.specs.Prelude.{◌≡◌, ◌+◌, ◌<◌, ◌≤◌, ◌∷◌, ◌++◌, [], ℕ, List, Option, All, length, slice_get, IfOk, IfErr, IfSome, IsErrOf, IsSomeAnd, IsTrue, OnOk, ◌↔◌};
+ghost use Rattle.std.specs.Prelude.{◌≡◌, ◌+◌, ◌<◌, ◌≤◌, ◌∷◌, ◌++◌, [], ℕ, List, Option, All, length, slice_get, IfOk, IfErr, IfSome, IsErrOf, IsOkAnd, IsSomeAnd, IsTrue, OnOk, ◌↔◌};
 ghost use Rattle.std.specs.Io.KnownBytes.{Appends};
 ghost use Rattle.ld_trace.specs.declared.event.Event.{Event};
+ghost use Rattle.ld_trace.specs.declared.trace_fault.TraceFaultKind.{TraceFaultKind};
 ghost use Rattle.ld_trace.specs.Names.{Name};
 ghost use Rattle.ld_trace.specs.Events.{KeysBelow};
 ghost use Rattle.ld_trace.specs.Reading.{ReadsTo, StopsAt};
@@ -50,7 +51,7 @@ impl Model for Session {
 impl Session {
     /// A session without traces. K4 is the only refusal that its type leaves room for.
     pub fn new(alloc: Global) -> Result<Session, KeyFault>
-        ensures { IfOk result (λ session. session ≡ record { names = []; traces = [] }) }
+        ensures { IsOkAnd result (λ session. session ≡ record { names = []; traces = [] }) }
     {
         Ok(Session {
             keys: KeyTable::new(alloc)?,
@@ -67,8 +68,9 @@ impl Session {
             × IfSome (R.remaining reader) (λ bytes. ReadsTo self.old.names bytes self.new.names trace)) }
         ensures refused { IfErr result (λ fault. (self.new.traces ≡ self.old.traces)
             × IfSome (R.remaining reader) (λ bytes. StopsAt self.old.names bytes self.new.names fault)) }
+        ensures below { All (KeysBelow (length self.new.names)) self.new.traces }
     {
-        add_trace(self.alloc, reader, &mut self.keys, &mut self.traces)
+        read_into(self.alloc, reader, &mut self.keys, &mut self.traces)
     }
 
     /// Checks all traces by so many workers, writes the report of all of them together, and answers whether their facts are
@@ -112,7 +114,7 @@ impl Session {
 }
 
 // Reads one trace and puts it behind the others.
-fn add_trace<R: Read + Drop>(
+fn read_into<R: Read + Drop>(
     alloc: Global,
     reader: R,
     keys: &mut KeyTable,
@@ -139,7 +141,8 @@ fn add_trace<R: Read + Drop>(
 
 // The fault where the room for a trace is refused.
 fn no_room() -> TraceFault
-    ensures { (names : List Name) (bytes : List ℕ) → StopsAt names bytes names result }
+    ensures fault { result ≡ record { kind = TraceFaultKind.Memory; at = 1 } }
+    ensures stops { (names : List Name) (bytes : List ℕ) → StopsAt names bytes names result }
 {
     TraceFault {
         kind: TraceFaultKind::Memory,

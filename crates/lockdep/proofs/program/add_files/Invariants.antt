@@ -1,6 +1,12 @@
-use Rattle.std.proofs.Common.{◌≡◌, ◌+◌, length}
+use Rattle.std.proofs.Common.{◌≡◌, ◌+◌, All, List, length}
+use Rattle.ld_trace.specs.Events.{KeysBelow}
+use Rattle.ld_trace.specs.Names.{Name}
+use Rattle.ld_trace.specs.declared.event.Event.{Event}
 use Rattle.lockdep.proofs.program.add_files.Given as goal
 
--- one trace of each file so far
+-- one trace of each file so far, and the keys of all are in the table
 abbrev pub invariant-loop-file : goal.invariant-loop-file
-invariant-loop-file g l = length l.session.traces ≡ length l.initial.session.traces + l.file-index
+invariant-loop-file g l = record {
+  count : length l.session.traces ≡ length l.initial.session.traces + l.file-index;
+  below : All (KeysBelow (length l.session.names)) l.session.traces;
+}

@@ -1,0 +1,60 @@
+-- Which traces a refusal names.
+use Rattle.std.proofs.Common.{◌≡◌, ◌==◌, true, Result, Ok, Err, IfErr, IsErr, IsErrAnd, ℕ, zero, suc, ◌<◌, ◌∙◌, List, [], ◌∷◌, Option, None, Bor, Contains, codes, length, map, slice_index_or, refl, sym, ap, subst, arith, inl, inr}
+use Rattle.clap.specs.Words.{Text}
+use Rattle.ld_trace.specs.Names.{Name}
+use Rattle.lockdep.specs.Program.{IsReadingRefusal, StopsReading}
+use Rattle.lockdep.specs.declared.refusal.Refusal.{Refusal}
+use Rattle.lockdep.specs.declared.refusal.Refusal.TheVariants.{BadCommandLine, CannotOpen, Output, Memory, Reading, Step, Run}
+
+-- a file of the list is among their names
+pub named_at : (files : List (Bor Text)) (i : ℕ) (d : Bor Text) → i < length files → Contains (map (λ file. file.now) files) (slice_index_or files i d).now
+named_at [] i d within = absurd (omega arith)
+named_at (file ∷ files) zero d within = (0, omega arith, refl)
+named_at (file ∷ files) (suc i) d within =
+    let (k, k_within, is) = named_at files i d (omega arith) in (suc k, omega (arith, k_within), is)
+
+-- no files have no names
+pub none_named : (files : List (Bor Text)) → true ≡ (length files == 0) → map (λ file. file.now) files ≡ []
+none_named [] none = refl
+none_named (file ∷ files) none = grind arith
+
+-- a trace that is refused is that of the one file
+pub StopsReading-one : (file : Text) (names : List Name) (bytes : Option (List ℕ)) (refusal : Refusal) → IsReadingRefusal file names bytes refusal → StopsReading (file ∷ []) None refusal
+StopsReading-one file names bytes BadCommandLine h = absurd h
+StopsReading-one file names bytes (CannotOpen named) h = absurd h
+StopsReading-one file names bytes Output h = absurd h
+StopsReading-one file names bytes Memory h = absurd h
+StopsReading-one file names bytes (Reading named fault) (is, why) = inl (0, omega arith, sym is)
+StopsReading-one file names bytes (Step named at fault) h = absurd h
+StopsReading-one file names bytes (Run fault) h = absurd h
+
+-- the one file is among several, so what is it is among them
+among_several : (file name : Text) (files : List Text) → Contains files file → Contains (file ∷ []) name → Contains files name
+among_several file name files among (zero, within, is) = subst (λ (n : Text). Contains files n) is among
+among_several file name files among (suc k, within, is) = absurd (omega arith)
+
+-- what is said of one file is said of several with it among them
+pub StopsReading-among : (file : Text) (files : List Text) (input : Option (List ℕ)) (refusal : Refusal) → Contains files file → StopsReading (file ∷ []) None refusal → StopsReading files input refusal
+StopsReading-among file files input BadCommandLine among h = absurd h
+StopsReading-among file files input (CannotOpen named) among h = among_several file named.now files among h
+StopsReading-among file files input Output among h = absurd h
+StopsReading-among file files input Memory among h = tt
+StopsReading-among file files input (Reading named fault) among (inl h) = inl (among_several file named.now files among h)
+StopsReading-among file files input (Reading named fault) among (inr (none, h)) = absurd (cc)
+StopsReading-among file files input (Step named at fault) among h = absurd h
+StopsReading-among file files input (Run fault) among h = absurd h
+
+-- of no files it is standard input
+pub StopsReading-input : (files : List Text) (input : Option (List ℕ)) (refusal : Refusal) → files ≡ [] → IsReadingRefusal (codes "stdin") [] input refusal → StopsReading files input refusal
+StopsReading-input files input BadCommandLine none h = absurd h
+StopsReading-input files input (CannotOpen named) none h = absurd h
+StopsReading-input files input Output none h = absurd h
+StopsReading-input files input Memory none h = tt
+StopsReading-input files input (Reading named fault) none h = inr (none, h)
+StopsReading-input files input (Step named at fault) none h = absurd h
+StopsReading-input files input (Run fault) none h = absurd h
+
+-- what holds of the error that is answered
+pub IfErr-passed : {T E : Type 0} (r : Result T E) (e : E) (P : E → Type 0) → IsErr r × IsErrAnd r (λ x. x ≡ e) → P e → IfErr r P
+IfErr-passed (Ok x) e P is p = tt
+IfErr-passed (Err x) e P is p = subst P (sym is.1) p
