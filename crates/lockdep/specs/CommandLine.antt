@@ -1,10 +1,10 @@
--- The command line, as clap's own definition reads it. This project's own.
-use Rattle.std.specs.Prelude.{◌≡◌, ⊤, ℕ, pos, true, List, [], ◌∷◌, Option, Some, map, option_map, unwrap_or, codes}
+-- The command line, as clap's own definition reads it [this project's own].
+use Rattle.std.specs.Prelude.{◌≡◌, ◌⊎◌, ⊤, ℕ, pos, true, List, [], ◌∷◌, Option, Some, map, option_map, unwrap_or, codes}
 use Rattle.std.specs.Str.Parse.{IsNumeral, digits_value, without_leading_plus}
 use Rattle.clap.specs.Lexer.{usize_max}
 use Rattle.clap.specs.Words.{App, Row, Rule, Shape, Text, IsAmong, all_of, fault_of, first_of, new_app, new_rule, one_of, subcommand_of, with_rule, with_subcommand}
 use Rattle.clap.specs.declared.builder.value_parser.ValueParser.TheVariants.{Signed}
-use Rattle.clap.specs.declared.error.kind.ErrorKind.TheVariants.{DisplayHelp}
+use Rattle.clap.specs.declared.error.kind.ErrorKind.TheVariants.{DisplayHelp, DisplayVersion}
 use Rattle.lockdep.specs.declared.command_line.LineFault.{LineFault}
 use Rattle.lockdep.specs.declared.command_line.LineFault.TheVariants.{Help, Refused, Memory}
 use Rattle.lockdep.specs.declared.command_line.Line.{Line}
@@ -21,7 +21,9 @@ workers_rule = record (new_rule (codes "workers")) {
 
 -- `[FILE...]`: any number of words
 abbrev pub files_rule : Rule
-files_rule = record (new_rule (codes "FILE")) { range = Some (record { start_inclusive = 0; end_inclusive = usize_max }) }
+files_rule = record (new_rule (codes "FILE")) {
+  range = Some (record { start_inclusive = 0; end_inclusive = usize_max });
+}
 
 -- `[FILE]`: one word at most
 abbrev pub file_rule : Rule
@@ -35,9 +37,11 @@ check_shape = (with_rule (with_rule (new_app (codes "check")) workers_rule) file
 abbrev pub chains_shape : Shape
 chains_shape = (with_rule (new_app (codes "chains")) file_rule).top
 
--- the program's command lines: one of the two subcommands
+-- the program's command lines: one of the two subcommands, or the version
 abbrev pub lockdep_app : App
-lockdep_app = with_subcommand (with_subcommand (record (new_app (codes "lockdep")) { top = record (new_app (codes "lockdep")).top { subcommand_required = true } }) check_shape) chains_shape
+lockdep_app = let app = new_app (codes "lockdep") in
+    with_subcommand (with_subcommand (record app { top = record app.top { subcommand_required = true; has_version = true } })
+    check_shape) chains_shape
 
 -- the arguments of `check` say so many workers and these files
 pub record ReadsCheck (rows : List Row) (workers : ℕ) (files : List Text) : Type 0 where
@@ -65,12 +69,13 @@ IsLineIn met line = (rows : List Row) × (met ≡ Some (subcommand_word line, ro
 abbrev pub IsLineOf : List Text → Line → Type 0
 IsLineOf words line = IsLineIn (subcommand_of lockdep_app words) line
 
--- the words ask for help, by clap's definition
-abbrev pub AskForHelp : List Text → Type 0
-AskForHelp words = IsAmong DisplayHelp (fault_of lockdep_app words)
+-- the words ask for help or for the version, by clap's definition
+abbrev pub AskForText : List Text → Type 0
+AskForText words =
+    IsAmong DisplayHelp (fault_of lockdep_app words) ⊎ IsAmong DisplayVersion (fault_of lockdep_app words)
 
 -- why the words ask for nothing that the program does with traces
 abbrev pub IsLineFault : List Text → LineFault → Type 0
-IsLineFault words (Help error) = AskForHelp words
+IsLineFault words (Help error) = AskForText words
 IsLineFault words Refused = ⊤
 IsLineFault words Memory = ⊤

@@ -11,7 +11,7 @@ use Rattle.ld_run.specs.Runs.{IsCrew}
 use Rattle.ld_run.specs.declared.runs.TheConstants.{MAX_TRACES}
 use Rattle.clap.specs.Words.{Text}
 use Rattle.lockdep.specs.ChainLines.{chains_text}
-use Rattle.lockdep.specs.CommandLine.{AskForHelp, IsLineOf}
+use Rattle.lockdep.specs.CommandLine.{AskForText, IsLineOf}
 use Rattle.lockdep.specs.Faults.{StopsReport}
 use Rattle.lockdep.specs.Output.{AppendsBeginning}
 use Rattle.lockdep.specs.Report.{IsReportOf}
@@ -76,9 +76,9 @@ abbrev pub DoesLine : Line → (input old new : Option (List ℕ)) → ℕ → T
 DoesLine (Check workers files) input = ReportsOn workers (map (λ file. file.now) files.items) input
 DoesLine (Chains file) input = WritesChains (known_of (option_map (λ word. word.now) file) input)
 
--- help was asked for and written
+-- help or the version was asked for and written
 pub record WritesHelp (words : List Text) (old new : Option (List ℕ)) (status : ℕ) : Type 0 where
-  pub asked : AskForHelp words
+  pub asked : AskForText words
   pub text : List ℕ
   pub wrote : Appends old new text
   pub done : status ≡ 0
@@ -163,15 +163,15 @@ abbrev pub RefusesLine : Line → (input old new : Option (List ℕ)) → Refusa
 RefusesLine (Check workers files) = RefusesReport workers (map (λ file. file.now) files.items)
 RefusesLine (Chains file) = RefusesChains (option_map (λ word. word.now) file)
 
--- the help wasn't written whole
+-- the text that was asked for wasn't written whole
 abbrev pub RefusesHelp : (old new : Option (List ℕ)) → Refusal → Type 0
 RefusesHelp old new refusal =
     ((refusal ≡ Memory) × Keeps old new) ⊎ ((refusal ≡ Output) × ((text : List ℕ) × AppendsBeginning old new text))
 
--- the words ask for nothing that is done with traces, or for help that wasn't written whole
+-- the words ask for nothing that is done with traces, or for a text that wasn't written whole
 abbrev pub RefusesNoLine : List Text → (old new : Option (List ℕ)) → Refusal → Type 0
 RefusesNoLine words old new refusal =
-    (((refusal ≡ BadCommandLine) ⊎ (refusal ≡ Memory)) × Keeps old new) ⊎ (AskForHelp words × RefusesHelp old new refusal)
+    (((refusal ≡ BadCommandLine) ⊎ (refusal ≡ Memory)) × Keeps old new) ⊎ (AskForText words × RefusesHelp old new refusal)
 
 -- what the words ask for is refused so
 abbrev pub RefusesWords : List Text → (input old new : Option (List ℕ)) → Refusal → Type 0

@@ -1,13 +1,16 @@
 //! What a command line asks for.
 
-ghost use Rattle.std.specs.Prelude.{◌≡◌, [], false, ℕ, List, IfOk, IfErr, map, unwrap_or, codes};
-ghost use Rattle.clap.specs.Words.{all_of, app_of, found_of, kind_of, rows_of, rule_of, shape_of, subcommand_rows_of};
+ghost use Rattle.std.specs.Prelude.{◌≡◌, ◌↔◌, [], false, ℕ, List, IfOk, IfErr, map, unwrap_or, codes};
+ghost use Rattle.clap.specs.Words.{HasKind, all_of, app_of, fault_of as clap_faults, found_of, kind_of, rows_of, rule_of, shape_of, subcommand_rows_of};
 ghost use Rattle.clap.specs.declared.builder.command.Command.TheViews.{out-Command};
-ghost use Rattle.lockdep.specs.CommandLine.{AskForHelp, IsLineFault, IsLineIn, IsLineOf, ReadsLine, chains_shape, check_shape, file_rule, files_rule, lockdep_app, subcommand_word, workers_rule};
+ghost use Rattle.lockdep.specs.CommandLine.{IsLineFault, IsLineIn, IsLineOf, ReadsLine, chains_shape, check_shape, file_rule, files_rule, lockdep_app, subcommand_word, workers_rule};
 
 use clap::error::ErrorKind;
 use clap::{Arg, ArgMatches, Command, value_parser};
 use std::alloc::{AllocError, Global};
+
+/// The program's version.
+pub const VERSION: &str = "0.2.0";
 
 /// What a command line asks for.
 #[derive(Debug, Drop)]
@@ -21,7 +24,7 @@ pub enum Line<'a> {
 /// Why a command line asks for nothing that the program does with traces.
 #[derive(Debug, Drop)]
 pub enum LineFault {
-    /// Help was asked for. The error's text is the help.
+    /// Help or the version was asked for. The error's text is what to write.
     Help(clap::Error),
     /// P1: the words are no command line of the program.
     Refused,
@@ -91,6 +94,7 @@ fn command<'a>(alloc: Global) -> Result<Command<'a>, AllocError>
     let chains = chains_command(alloc)?;
     Command::new(alloc, "lockdep")
         .about("Checks recorded traces of tasks for lock orders that can deadlock")
+        .version(VERSION)
         .subcommand_required(true)
         .subcommand(check)?
         .subcommand(chains)
@@ -139,13 +143,14 @@ fn line_of<'a>(alloc: Global, matches: &ArgMatches<'a>) -> Result<Line<'a>, Line
     }
 }
 
-// What an error of clap comes to.
+// The fault for an error of clap.
 fn fault_of(error: clap::Error) -> LineFault
-    ensures { (words : List (List ℕ)) → (kind_of error ≡ ErrorKind.DisplayHelp → AskForHelp words)
+    ensures fault { (words : List (List ℕ)) → HasKind (clap_faults lockdep_app words) error
         → IsLineFault words result }
+    ensures memory { (result ≡ LineFault.Memory) ↔ (kind_of error ≡ ErrorKind.OutOfMemory) }
 {
     match error.kind() {
-        ErrorKind::DisplayHelp => LineFault::Help(error),
+        ErrorKind::DisplayHelp | ErrorKind::DisplayVersion => LineFault::Help(error),
         ErrorKind::OutOfMemory => LineFault::Memory,
         _ => LineFault::Refused,
     }
@@ -154,8 +159,8 @@ fn fault_of(error: clap::Error) -> LineFault
 /// What the command line asks for. The words begin with the program's name, and are read as `clap` defines it: `check
 /// [--workers N] [FILE...]`, with N a whole number from 0 to 65,535 and 4 where it isn't given, and `chains [FILE]`.
 ///
-/// Refusals: `Help` where help is asked for, `Memory` where memory is refused, and `Refused` for every other line that isn't
-/// taken. This project's own.
+/// Refusals: `Help` where help or the version is asked for, `Memory` where memory is refused, and `Refused` for every other
+/// line that isn't taken [this project's own].
 pub fn command_line<'a>(alloc: Global, words: &'a [&'a str]) -> Result<Line<'a>, LineFault>
     ensures ok { IfOk result (IsLineOf (map (λ word. word.now) words.entry.now)) }
     ensures refused { IfErr result (IsLineFault (map (λ word. word.now) words.entry.now)) }

@@ -1,6 +1,9 @@
 //! `lockdep`: checks recorded traces of tasks for lock orders that can deadlock.
 #![tactic(auto)]
 
+ghost use Rattle.std.specs.Prelude.{◌≡◌, IfOk, map, string_bytes};
+
+use std::alloc::{AllocError, Global};
 use std::process::ExitCode;
 use std::{env, io};
 
@@ -28,17 +31,21 @@ use std::thread::Threads;
 fn words_of(rt: &(impl Env + AllocGlobal)) -> Result<Vec<String>, Refusal<'static>> {
     let words = match env::args(rt) {
         Ok(words) => words,
-        Err(error) => {
-            return Err(match error.kind() {
-                io::ErrorKind::OutOfMemory => Refusal::Memory,
-                _ => Refusal::BadCommandLine,
-            });
-        }
+        Err(error) if error.kind() == io::ErrorKind::OutOfMemory => return Err(Refusal::Memory),
+        Err(_) => return Err(Refusal::BadCommandLine),
     };
-    match words.collect(rt.alloc()) {
-        Ok(words) => Ok(words),
-        Err(_) => Err(Refusal::Memory),
+    words.collect(rt.alloc()).map_err(|_| Refusal::Memory)
+}
+
+// The texts of the words, all of them and in their order.
+fn texts_of<'a>(alloc: Global, words: &'a [String]) -> Result<Vec<&'a str>, AllocError>
+    ensures { IfOk result (λ texts. map (λ text. text.now) texts.items ≡ map string_bytes words.entry.now) }
+{
+    let mut texts = Vec::new(alloc);
+    for word in words {
+        texts.push(word.as_str())?;
     }
+    Ok(texts)
 }
 
 // Runs the program over the process's own words, and answers its status.
@@ -53,13 +60,10 @@ where
         Ok(words) => words,
         Err(refusal) => return refuse(err, refusal),
     };
-    let mut texts = Vec::new(rt.alloc());
-    for word in words.iter() {
-        if texts.push(word.as_str()).is_err() {
-            return refuse(err, Refusal::Memory);
-        }
+    match texts_of(rt.alloc(), words.as_slice()) {
+        Ok(texts) => program(rt, rt.alloc(), texts.as_slice(), input, out, err),
+        Err(_) => refuse(err, Refusal::Memory),
     }
-    program(rt, rt.alloc(), texts.as_slice(), input, out, err)
 }
 
 fn main(rt: HostRuntime) -> ExitCode {

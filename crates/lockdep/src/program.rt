@@ -42,9 +42,9 @@ const STDIN: &str = "stdin";
 /// The program. The words begin with its name, `input` stands for standard input, `out` for standard output and `err` for
 /// standard error. `lockdep check [--workers N] [FILE...]` writes the report of the traces in these files, and `lockdep
 /// chains [FILE]` the chains of a trace. Without a file one trace is read from the input. Each file is opened and read
-/// before the next one is.
+/// before the next one is. `lockdep --version` writes the version, and `lockdep help` how the program is called.
 ///
-/// The status is 0 where the facts are clean, the chains were written, or help was asked for and written; 1 where a report
+/// The status is 0 where the facts are clean, the chains were written, or what was asked for was help or the version; 1 where a report
 /// was written whose facts aren't clean; and 2 where the program refused. Exactly one line is written on `err` then, and
 /// none otherwise; where `err` fails, that is passed over. This project's own.
 pub fn program<R: Files + Threads + Wait + Sync, I: Read + Drop, O: Write, E: Write>(
@@ -110,7 +110,7 @@ fn answer_line<'a, R: Files + Threads + Wait + Sync, I: Read + Drop, O: Write>(
     }
 }
 
-// Writes the help that was asked for, or answers why the command line is refused.
+// Writes the text that was asked for, or answers why the command line is refused.
 fn answer_fault<'a, O: Write>(
     alloc: Global,
     fault: &LineFault,
@@ -129,7 +129,7 @@ fn answer_fault<'a, O: Write>(
     }
 }
 
-// Writes the text of the help that was asked for.
+// Writes the help or the version that was asked for.
 fn answer_help<'a, O: Write>(
     alloc: Global,
     help: &clap::Error,

@@ -73,15 +73,15 @@ impl Session {
         read_into(self.alloc, reader, &mut self.keys, &mut self.traces)
     }
 
-    /// Checks all traces by so many workers, writes the report of all of them together, and answers whether their facts are
+    /// Checks all traces by `workers` workers, writes the report of all of them together, and answers whether their facts are
     /// clean. What is written doesn't depend on the number of workers. Each worker calls the gate just before it records a
-    /// chain. The session is given up.
+    /// chain. The session is consumed in every case.
     ///
     /// Refusals, in this order: `Run` with N1 where `workers` isn't 1 to 64, with N2 where there are more than 4,096 traces
     /// and with N4 where memory for the run is refused; `Step` with the least trace that isn't well formed, the record of its
     /// first event that isn't allowed and why; `Run` with N3 where the workers don't agree on the facts; `Out` where writing
-    /// failed. Nothing was written before `Out` and after O3, and exactly a beginning of the report after O1 and O2. This
-    /// project's own.
+    /// failed. Nothing was written before `Out` and after O3, and exactly a beginning of the report after O1 and O2 [this
+    /// project's own].
     pub fn report<R: Threads + Wait + Sync, W: Write, G: Gate + Sync>(
         self,
         rt: &R,
@@ -199,10 +199,11 @@ fn record_of(traces: &[RawTrace], trace: usize, place: usize) -> usize
     requires within { IsSomeAnd (slice_get traces.now trace) (λ refused. place < length refused) }
     ensures { result ≡ place + 2 }
 {
-    match traces.get(trace) {
-        Some(refused) => place.min(refused.len()) + 2,
-        None => 0,
-    }
+    let Some(refused) = traces.get(trace) else {
+        unreachable!();
+    };
+    prove!(place < refused.len());
+    place + 2
 }
 
 // Writes the report of the settled facts of the traces.

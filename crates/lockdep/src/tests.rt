@@ -1,9 +1,9 @@
 //! What no clause says: worked examples with their whole texts, the program's words and lines, and writers that fail.
 
 mod chain_texts;
-mod examples;
 mod files;
 mod gates;
+mod helpers;
 mod lines;
 mod programs;
 mod refusals;

@@ -1,6 +1,6 @@
 //! Whole texts of chains.
 
-use crate::tests::examples::{trace_text, write_chains_of};
+use crate::tests::helpers::{trace_text, write_chains_of};
 use std::str;
 use std::test::Fail;
 

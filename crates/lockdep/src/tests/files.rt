@@ -68,6 +68,100 @@ fn files_are_read_in_their_order(rt: HostRuntime) -> Result<(), Fail> {
 }
 
 #[test]
+fn an_inversion_over_three_files(rt: HostRuntime) -> Result<(), Fail> {
+    let files = [
+        (
+            "used",
+            "lockdep,1\nenter,softirq\nacq,A,0,w\nrel,A,0\nleave\n",
+        ),
+        (
+            "order",
+            "lockdep,1\noff,softirq\nacq,A,0,w\nacq,B,0,w\nrel,B,0\nrel,A,0\non,softirq\n",
+        ),
+        ("enabled", "lockdep,1\nacq,B,0,w\nrel,B,0\n"),
+    ];
+    let folder = folder_with(&rt, &files)?;
+    let folder = folder.as_str();
+    let paths = [
+        path_in(&rt, folder, "used")?,
+        path_in(&rt, folder, "order")?,
+        path_in(&rt, folder, "enabled")?,
+    ];
+    let words = [
+        "lockdep",
+        "check",
+        paths[0].as_str(),
+        paths[1].as_str(),
+        paths[2].as_str(),
+    ];
+    let report =
+        "traces 3\nevents 12\nkeys 2\ndependencies 1\nclean no\nusage A/0 {+.-.}\nusage B/0 {+.+.}\ninversion softirq A/0 B/0\n";
+    assert_output(&rt, &words, "", (1, report, ""))?;
+    fs::remove_dir_all(&rt, folder)?;
+    Ok(())
+}
+
+#[test]
+fn the_file_of_the_refused_trace_is_named(rt: HostRuntime) -> Result<(), Fail> {
+    let files = [
+        ("good", FORTH),
+        ("unheld", "lockdep,1\nacq,A,0,w\nrel,B,0\n"),
+        ("left", "lockdep,1\nleave\n"),
+    ];
+    let folder = folder_with(&rt, &files)?;
+    let folder = folder.as_str();
+    let paths = [
+        path_in(&rt, folder, "good")?,
+        path_in(&rt, folder, "unheld")?,
+        path_in(&rt, folder, "left")?,
+    ];
+    let (good, unheld, left) = (paths[0].as_str(), paths[1].as_str(), paths[2].as_str());
+    let of_unheld = format!(in rt.alloc(); "lockdep: {unheld}: record 3: S1 NotHeld\n")?;
+    let of_left = format!(in rt.alloc(); "lockdep: {left}: record 2: S4 LeaveTask\n")?;
+    let examples = [
+        ([unheld, good, good], of_unheld.as_str()),
+        ([good, unheld, good], of_unheld.as_str()),
+        ([unheld, good, left], of_unheld.as_str()),
+        ([left, good, unheld], of_left.as_str()),
+    ];
+    for ([first, second, third], line) in examples {
+        assert_refused(&rt, &["lockdep", "check", first, second, third], line)?;
+    }
+    fs::remove_dir_all(&rt, folder)?;
+    Ok(())
+}
+
+#[test]
+fn a_hyphen_is_a_file_of_that_name(rt: HostRuntime) -> Result<(), Fail> {
+    for word in ["check", "chains"] {
+        assert_output(
+            &rt,
+            &["lockdep", word, "-"],
+            FORTH,
+            (2, "", "lockdep: -: P2 CannotOpen\n"),
+        )?;
+    }
+    Ok(())
+}
+
+#[test]
+fn more_than_4096_files(rt: HostRuntime) -> Result<(), Fail> {
+    let folder = folder_with(&rt, &[("none", "lockdep,1\n")])?;
+    let path = path_in(&rt, folder.as_str(), "none")?;
+    let mut words = Vec::new(rt.alloc());
+    words.extend_from_slice(&["lockdep", "check"])?;
+    for _ in 0..4096 {
+        words.push(path.as_str())?;
+    }
+    let report = "traces 4096\nevents 0\nkeys 0\ndependencies 0\nclean yes\n";
+    assert_output(&rt, words.as_slice(), "", (0, report, ""))?;
+    words.push(path.as_str())?;
+    assert_refused(&rt, words.as_slice(), "lockdep: N2 TooManyTraces\n")?;
+    fs::remove_dir_all(&rt, folder.as_str())?;
+    Ok(())
+}
+
+#[test]
 fn files_that_can_not_be_opened(rt: HostRuntime) -> Result<(), Fail> {
     for word in ["check", "chains"] {
         assert_output(
@@ -111,11 +205,6 @@ fn refused_files_are_named(rt: HostRuntime) -> Result<(), Fail> {
         &rt,
         &["lockdep", "check", unheld, good, bad],
         of_bad.as_str(),
-    )?;
-    assert_refused(
-        &rt,
-        &["lockdep", "check", good, unheld, unheld],
-        of_unheld.as_str(),
     )?;
     assert_refused(&rt, &["lockdep", "check", good, folder], of_folder.as_str())?;
     assert_refused(&rt, &["lockdep", "chains", folder], of_folder.as_str())?;

@@ -1,6 +1,6 @@
 //! Sessions whose gate tells that the workers really run side by side.
 
-use crate::tests::examples::session_of;
+use crate::tests::helpers::session_of;
 use ld_run::Gate;
 use std::str;
 use std::sync::atomic::{AtomicBool, AtomicU64, Ordering};

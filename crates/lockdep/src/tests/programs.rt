@@ -1,7 +1,7 @@
 //! The program's words, statuses and lines.
 
 use crate::program::program;
-use crate::tests::writers::Narrow;
+use crate::tests::writers::{FAILURES, Narrow};
 use std::fs::OpenOptions;
 use std::process::Abort;
 use std::rt::Files;
@@ -101,11 +101,12 @@ fn refused_traces_name_their_record_and_code(rt: HostRuntime) -> Result<(), Fail
 
 #[test]
 fn refused_command_lines(rt: HostRuntime) -> Result<(), Fail> {
-    let examples: [&[&str]; 17] = [
+    let examples: [&[&str]; 18] = [
         &[],
         &["lockdep"],
         &["lockdep", "test"],
-        &["lockdep", "--version"],
+        &["lockdep", "version"],
+        &["lockdep", "check", "--version"],
         &["lockdep", "--workers", "2", "check"],
         &["lockdep", "check", "--workers"],
         &["lockdep", "check", "--workers", "-1"],
@@ -174,7 +175,7 @@ fn workers_are_looked_at_between_reading_and_checking(rt: HostRuntime) -> Result
 #[test]
 fn help_that_is_asked_for(rt: HostRuntime) -> Result<(), Fail> {
     let whole =
-        "Checks recorded traces of tasks for lock orders that can deadlock\n\nUsage: lockdep <COMMAND>\n\nCommands:\n  check   Reads traces and writes the report of their lock order\n  chains  Reads a trace and writes its chains\n  help    Print this message or the help of the given subcommand(s)\n\nOptions:\n  -h, --help  Print help\n";
+        "Checks recorded traces of tasks for lock orders that can deadlock\n\nUsage: lockdep <COMMAND>\n\nCommands:\n  check   Reads traces and writes the report of their lock order\n  chains  Reads a trace and writes its chains\n  help    Print this message or the help of the given subcommand(s)\n\nOptions:\n  -h, --help     Print help\n  -V, --version  Print version\n";
     let of_check =
         "Reads traces and writes the report of their lock order\n\nUsage: lockdep check [OPTIONS] [FILE]...\n\nArguments:\n  [FILE]...  A file with a trace; without one, a trace is read from standard input\n\nOptions:\n      --workers <N>  How many workers check the traces, from 1 to 64 [default: 4]\n  -h, --help         Print help\n";
     let of_chains =
@@ -194,10 +195,42 @@ fn help_that_is_asked_for(rt: HostRuntime) -> Result<(), Fail> {
 }
 
 #[test]
+fn the_version_that_is_asked_for(rt: HostRuntime) -> Result<(), Fail> {
+    for word in ["--version", "-V"] {
+        assert_output(&rt, &["lockdep", word], "", (0, "lockdep 0.2.0\n", ""))?;
+    }
+    Ok(())
+}
+
+#[test]
+fn statuses_of_a_recursive_reader_and_of_no_events(rt: HostRuntime) -> Result<(), Fail> {
+    assert_output(
+        &rt,
+        &["lockdep", "check"],
+        "lockdep,1\nacq,A,0,rr\nacq,A,0,rr\n",
+        (
+            0,
+            "traces 1\nevents 2\nkeys 1\ndependencies 1\nclean yes\nusage A/0 {.+.+}\n",
+            "",
+        ),
+    )?;
+    assert_output(
+        &rt,
+        &["lockdep", "check"],
+        "lockdep,1\n",
+        (
+            0,
+            "traces 1\nevents 0\nkeys 0\ndependencies 0\nclean yes\n",
+            "",
+        ),
+    )
+}
+
+#[test]
 fn a_failing_output(rt: HostRuntime) -> Result<(), Fail> {
-    for word in ["check", "chains", "help"] {
-        for stuck in [false, true] {
-            let mut out = Narrow::new(rt.alloc(), 3, stuck);
+    for word in ["check", "chains", "help", "-V"] {
+        for (failure, _) in FAILURES {
+            let mut out = Narrow::new(rt.alloc(), 3, failure);
             let mut err = Vec::new(rt.alloc());
             let input = b"lockdep,1\nacq,A,0,w\n".as_slice();
             let status = program(
@@ -248,7 +281,7 @@ fn a_full_device(rt: HostRuntime) -> Result<(), Fail> {
 #[test]
 fn a_failing_error_output(rt: HostRuntime) -> Result<(), Fail> {
     let mut out = Vec::new(rt.alloc());
-    let mut err = Narrow::new(rt.alloc(), 9, false);
+    let mut err = Narrow::new(rt.alloc(), 9, None);
     let status = program(
         &rt,
         rt.alloc(),

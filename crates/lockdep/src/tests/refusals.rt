@@ -1,11 +1,13 @@
 //! Traces that are refused.
 
 use crate::fault::{ReportFault, WriteFault};
+use crate::refusal::{Refusal, refuse};
 use crate::session::Session;
-use crate::tests::examples::session_of;
+use crate::tests::helpers::session_of;
 use ld_run::{OpenGate, RunFault};
 use ld_task::StepFault;
 use ld_trace::{TraceFault, TraceFaultKind};
+use std::str;
 use std::test::Fail;
 
 #[test]
@@ -113,6 +115,48 @@ fn codes_of_refused_writes(rt: HostRuntime) {
     assert_eq!(rt; WriteFault::Failed.code(), "O1 Failed");
     assert_eq!(rt; WriteFault::Stuck.code(), "O2 Stuck");
     assert_eq!(rt; WriteFault::Memory.code(), "O3 Memory");
+}
+
+#[test]
+fn lines_of_refusals(rt: HostRuntime) -> Result<(), Fail> {
+    let examples = [
+        (Refusal::BadCommandLine, "lockdep: P1 BadCommandLine\n"),
+        (
+            Refusal::CannotOpen { file: "a b" },
+            "lockdep: a b: P2 CannotOpen\n",
+        ),
+        (Refusal::Output, "lockdep: P3 Output\n"),
+        (Refusal::Memory, "lockdep: P4 Memory\n"),
+        (
+            Refusal::Reading {
+                file: "a",
+                fault: TraceFault {
+                    kind: TraceFaultKind::Memory,
+                    at: 1,
+                },
+            },
+            "lockdep: a: record 1: T9 Memory\n",
+        ),
+        (
+            Refusal::Step {
+                file: "",
+                at: 1_000_001,
+                fault: StepFault::TooDeep,
+            },
+            "lockdep: : record 1000001: S2 TooDeep\n",
+        ),
+        (
+            Refusal::Run(RunFault::Unsettled),
+            "lockdep: N3 Unsettled\n",
+        ),
+        (Refusal::Run(RunFault::Memory), "lockdep: N4 Memory\n"),
+    ];
+    for (refusal, line) in examples {
+        let mut text = Vec::new(rt.alloc());
+        assert_eq!(rt; refuse(&mut text, refusal), 2);
+        assert_eq!(rt; str::from_utf8(text.as_slice())?, line);
+    }
+    Ok(())
 }
 
 #[test]

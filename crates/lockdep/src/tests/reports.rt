@@ -1,6 +1,6 @@
 //! Whole reports of small traces.
 
-use crate::tests::examples::{Example, assert_reports, session_of};
+use crate::tests::helpers::{Example, assert_reports, session_of};
 use ld_run::OpenGate;
 use std::str;
 use std::test::Fail;
@@ -330,6 +330,15 @@ fn the_number_of_workers_does_not_show(rt: HostRuntime) -> Result<(), Fail> {
 fn one_trace_a_hundred_times(rt: HostRuntime) -> Result<(), Fail> {
     let report =
         "traces 100\nevents 400\nkeys 2\ndependencies 1\nclean yes\nusage A/0 {+.+.}\nusage B/0 {+.+.}\n";
+    let once =
+        "traces 1\nevents 4\nkeys 2\ndependencies 1\nclean yes\nusage A/0 {+.+.}\nusage B/0 {+.+.}\n";
+    assert_reports(
+        &rt,
+        &[Example {
+            traces: &["acq,A,0,w acq,B,0,w rel,B,0 rel,A,0"],
+            report: once,
+        }],
+    )?;
     for workers in [1, 8] {
         let traces = ["acq,A,0,w acq,B,0,w rel,B,0 rel,A,0"; 100];
         let session = session_of(rt.alloc(), &traces)?;
@@ -338,5 +347,32 @@ fn one_trace_a_hundred_times(rt: HostRuntime) -> Result<(), Fail> {
         assert!(rt; clean, "{workers}");
         assert_eq!(rt; str::from_utf8(text.as_slice())?, report, "{workers}");
     }
+    Ok(())
+}
+
+#[test]
+fn a_report_of_a_hundred_thousand_bytes(rt: HostRuntime) -> Result<(), Fail> {
+    let name = "a_lock_with_a_long_name";
+    let mut trace = String::from_str(rt.alloc(), "lockdep,1\n")?;
+    let mut usage = String::new(rt.alloc());
+    let mut circles = String::new(rt.alloc());
+    for a in 10..60 {
+        writeln!(usage, "usage {name}{a}/0 {{+.+.}}")?;
+        for b in 10..60 {
+            if a != b {
+                writeln!(trace, "acq,{name}{a},0,w\nacq,{name}{b},0,w")?;
+                writeln!(trace, "rel,{name}{b},0\nrel,{name}{a},0")?;
+                writeln!(circles, "circle {name}{a}/0 EN {name}{b}/0")?;
+            }
+        }
+    }
+    let totals = "traces 1\nevents 9800\nkeys 50\ndependencies 2450\nclean no\n";
+    let report = format!(in rt.alloc(); "{totals}{usage}{circles}")?;
+    assert!(rt; report.len() > 100_000);
+    let mut session = session_of(rt.alloc(), &[])?;
+    session.add(trace.as_str().as_bytes())?;
+    let mut text = Vec::new(rt.alloc());
+    assert!(rt; !session.report(&rt, rt.alloc(), 4, &OpenGate, &mut text)?);
+    assert_eq!(rt; str::from_utf8(text.as_slice())?, report.as_str());
     Ok(())
 }

@@ -2,7 +2,7 @@
 
 use crate::chains_text::write_chains;
 use crate::fault::{ReportFault, WriteFault};
-use crate::tests::examples::{session_of, trace_text};
+use crate::tests::helpers::{session_of, trace_text};
 use ld_run::OpenGate;
 use ld_task::check;
 use ld_trace::{KeyTable, read_trace};
@@ -11,22 +11,29 @@ use std::io;
 use std::io::Write;
 use std::test::Fail;
 
+// Each way in which a writer can fail at one call: by an error of this kind, or by taking nothing.
+pub(crate) const FAILURES: [(Option<io::ErrorKind>, WriteFault); 3] = [
+    (Some(io::ErrorKind::Other), WriteFault::Failed),
+    (Some(io::ErrorKind::Interrupted), WriteFault::Failed),
+    (None, WriteFault::Stuck),
+];
+
 // Takes one byte a call. At one call it fails, or takes nothing.
 #[derive(Drop)]
 pub(crate) struct Narrow {
     pub taken: Vec<u8>,
     calls: usize,
     fails_at: usize,
-    stuck: bool,
+    failure: Option<io::ErrorKind>,
 }
 
 impl Narrow {
-    pub fn new(alloc: Global, fails_at: usize, stuck: bool) -> Narrow {
+    pub fn new(alloc: Global, fails_at: usize, failure: Option<io::ErrorKind>) -> Narrow {
         Narrow {
             taken: Vec::new(alloc),
             calls: 0,
             fails_at,
-            stuck,
+            failure,
         }
     }
 }
@@ -35,10 +42,9 @@ impl Write for Narrow {
     fn write(&mut self, buf: &[u8]) -> io::Result<usize> {
         self.calls = self.calls.saturating_add(1);
         if self.calls == self.fails_at {
-            return if self.stuck {
-                Ok(0)
-            } else {
-                Err(io::Error::from(io::ErrorKind::Other))
+            return match self.failure {
+                Some(kind) => Err(io::Error::from(kind)),
+                None => Ok(0),
             };
         }
         match buf.first() {
@@ -62,9 +68,9 @@ fn a_report_on_a_writer_that_fails_at_each_call(rt: HostRuntime) -> Result<(), F
     let report =
         b"traces 2\nevents 8\nkeys 2\ndependencies 2\nclean no\nusage A/0 {+.+.}\nusage B/0 {+.+.}\ncircle A/0 EN B/0\ncircle B/0 EN A/0\n".as_slice();
     for done in 0..report.len() {
-        for (stuck, fault) in [(false, WriteFault::Failed), (true, WriteFault::Stuck)] {
+        for (failure, fault) in FAILURES {
             let session = session_of(rt.alloc(), &traces)?;
-            let mut w = Narrow::new(rt.alloc(), done + 1, stuck);
+            let mut w = Narrow::new(rt.alloc(), done + 1, failure);
             assert_eq!(rt;
                 session.report(&rt, rt.alloc(), 4, &OpenGate, &mut w),
                 Err(ReportFault::Out(fault))
@@ -72,7 +78,7 @@ fn a_report_on_a_writer_that_fails_at_each_call(rt: HostRuntime) -> Result<(), F
             assert_eq!(rt; w.taken.as_slice(), &report[..done]);
         }
     }
-    let mut w = Narrow::new(rt.alloc(), report.len() + 1, true);
+    let mut w = Narrow::new(rt.alloc(), report.len() + 1, None);
     assert_eq!(rt;
         session_of(rt.alloc(), &traces)?.report(&rt, rt.alloc(), 4, &OpenGate, &mut w),
         Ok(false)
@@ -89,13 +95,13 @@ fn chains_on_a_writer_that_fails_at_each_call(rt: HostRuntime) -> Result<(), Fai
     let chains =
         b"acq A/0 w task on on held 0\nacq B/0 w task on on held 1 A/0 w\nacq C/0 w task on on held 1 B/0 w\n".as_slice();
     for done in 0..chains.len() {
-        for (stuck, fault) in [(false, WriteFault::Failed), (true, WriteFault::Stuck)] {
-            let mut w = Narrow::new(rt.alloc(), done + 1, stuck);
+        for (failure, fault) in FAILURES {
+            let mut w = Narrow::new(rt.alloc(), done + 1, failure);
             assert_eq!(rt; write_chains(&mut w, &trace, &keys), Err(fault));
             assert_eq!(rt; w.taken.as_slice(), &chains[..done]);
         }
     }
-    let mut w = Narrow::new(rt.alloc(), chains.len() + 1, false);
+    let mut w = Narrow::new(rt.alloc(), chains.len() + 1, None);
     assert_eq!(rt; write_chains(&mut w, &trace, &keys), Ok(()));
     assert_eq!(rt; w.taken.as_slice(), chains);
     Ok(())
