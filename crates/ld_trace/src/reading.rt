@@ -45,7 +45,7 @@ pub fn read_trace<R: Read + Drop>(
     read_records(alloc, &mut source, keys)
 }
 
-/// Reads all records of the source.
+// Reads all records of the source.
 fn read_records<R: Read>(
     alloc: Global,
     source: &mut Reader<R>,
@@ -75,7 +75,7 @@ fn read_records<R: Read>(
     }
 }
 
-/// Takes the first record, which has to be the header.
+// Takes the first record, which has to be the header.
 fn take_header<R: Read>(source: &mut Reader<R>, row: &mut ByteRecord) -> Result<(), TraceFaultKind>
     requires { ReadsPlain source.old }
     ensures plain { OnOk result (ReadsPlain source.new) }
@@ -93,7 +93,7 @@ fn take_header<R: Read>(source: &mut Reader<R>, row: &mut ByteRecord) -> Result<
     Ok(())
 }
 
-/// Takes the next record as an event, and says whether there was one.
+// Takes the next record as an event, and says whether there was one.
 fn take_event<R: Read>(
     source: &mut Reader<R>,
     row: &mut ByteRecord,
@@ -128,7 +128,7 @@ fn take_event<R: Read>(
     Ok(true)
 }
 
-/// Gets the next record, and says whether there was one.
+// Gets the next record, and says whether there was one.
 fn get_record<R: Read>(source: &mut Reader<R>, row: &mut ByteRecord) -> Result<bool, TraceFaultKind>
     requires { ReadsPlain source.old }
     ensures reads { IfOk result (λ found. ReadRecord R.remaining source.old source.new found (fields_of row.new)) }
@@ -144,7 +144,7 @@ fn get_record<R: Read>(source: &mut Reader<R>, row: &mut ByteRecord) -> Result<b
     }
 }
 
-/// Takes a record as an event, and numbers its key. After a refusal nothing is changed.
+// Takes a record as an event, and numbers its key. After a refusal nothing is changed.
 fn take_record(
     row: &ByteRecord,
     events: &mut Vec<Event>,

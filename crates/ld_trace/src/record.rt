@@ -13,7 +13,7 @@ use crate::{Irq, Mode, TraceFaultKind};
 use csv::ByteRecord;
 use std::str;
 
-/// Whether a record is the header of a trace of version 1.
+// Whether a record is the header of a trace of version 1.
 pub(crate) fn is_header(row: &ByteRecord) -> bool
     ensures { result ≡ is_header (fields_of row.now) }
 {
@@ -25,7 +25,7 @@ pub(crate) fn is_header(row: &ByteRecord) -> bool
     is_word(word, b"lockdep") && is_word(version, b"1")
 }
 
-/// What a record says, or its fault.
+// What a record says, or its fault.
 pub(crate) fn line_of(row: &ByteRecord) -> Result<Line<'_>, TraceFaultKind>
     ensures { Says (said (fields_of row.now)) result }
 {
@@ -38,7 +38,7 @@ pub(crate) fn line_of(row: &ByteRecord) -> Result<Line<'_>, TraceFaultKind>
     }
 }
 
-/// What `leave` says.
+// What `leave` says.
 fn leave_line(verb: &[u8]) -> Result<Line<'_>, TraceFaultKind>
     ensures { Says (leave_said verb.now) result }
 {
@@ -49,7 +49,7 @@ fn leave_line(verb: &[u8]) -> Result<Line<'_>, TraceFaultKind>
     }
 }
 
-/// What `enter`, `on` or `off` and a state say.
+// What `enter`, `on` or `off` and a state say.
 fn irq_line<'r>(verb: &[u8], irq: &'r [u8]) -> Result<Line<'r>, TraceFaultKind>
     ensures { Says (state_said verb.now (irq_of irq.now)) result }
 {
@@ -67,7 +67,7 @@ fn irq_line<'r>(verb: &[u8], irq: &'r [u8]) -> Result<Line<'r>, TraceFaultKind>
     }
 }
 
-/// What `rel` and a name say.
+// What `rel` and a name say.
 fn release_line<'r>(verb: &[u8], class: &'r [u8], sub: &[u8]) -> Result<Line<'r>, TraceFaultKind>
     ensures { Says (release_said verb.now (named class.now (sub_of sub.now))) result }
 {
@@ -77,7 +77,7 @@ fn release_line<'r>(verb: &[u8], class: &'r [u8], sub: &[u8]) -> Result<Line<'r>
     Ok(Line::GivesBack(name_of(class, sub)?))
 }
 
-/// What `acq`, a name and a mode say.
+// What `acq`, a name and a mode say.
 fn acquire_line<'r>(
     verb: &[u8],
     class: &'r [u8],
@@ -96,7 +96,7 @@ fn acquire_line<'r>(
     }
 }
 
-/// The name of these two fields, of which the class's name is judged first.
+// The name of these two fields, of which the class's name is judged first.
 fn name_of<'r>(class: &'r [u8], sub: &[u8]) -> Result<LineName<'r>, TraceFaultKind>
     ensures { SaysName (named class.now (sub_of sub.now)) result }
 {
@@ -109,7 +109,7 @@ fn name_of<'r>(class: &'r [u8], sub: &[u8]) -> Result<LineName<'r>, TraceFaultKi
     }
 }
 
-/// The class's name of this field: 1 to 64 bytes, each 0x21 to 0x7E.
+// The class's name of this field: 1 to 64 bytes, each 0x21 to 0x7E.
 fn class_of(class: &[u8]) -> Option<&str>
     ensures { option_map (λ text. text.now) result ≡ (if is_class_name class.now then Some class.now else None) }
 {
@@ -120,7 +120,7 @@ fn class_of(class: &[u8]) -> Option<&str>
     }
 }
 
-/// The subclass of this field: one digit, 0 to 7.
+// The subclass of this field: one digit, 0 to 7.
 fn sub_of(sub: &[u8]) -> Option<u8>
     ensures { result ≡ sub_of sub.now }
 {
@@ -130,7 +130,7 @@ fn sub_of(sub: &[u8]) -> Option<u8>
     }
 }
 
-/// The mode of this field.
+// The mode of this field.
 fn mode_of(word: &[u8]) -> Option<Mode>
     ensures { result ≡ mode_of word.now }
 {
@@ -145,7 +145,7 @@ fn mode_of(word: &[u8]) -> Option<Mode>
     }
 }
 
-/// The state of this field.
+// The state of this field.
 fn irq_of(word: &[u8]) -> Option<Irq>
     ensures { result ≡ irq_of word.now }
 {
@@ -158,14 +158,14 @@ fn irq_of(word: &[u8]) -> Option<Irq>
     }
 }
 
-/// Whether a field is this word.
+// Whether a field is this word.
 fn is_word(field: &[u8], word: &[u8]) -> bool
     ensures { result ≡ bytes_eq field.now word.now }
 {
     field == word
 }
 
-/// The field at this place.
+// The field at this place.
 fn field(row: &ByteRecord, place: usize) -> &[u8]
     requires { place < length (fields_of row.now) }
     ensures { field_at (fields_of row.now) place ≡ Some result.now }

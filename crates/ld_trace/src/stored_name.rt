@@ -8,7 +8,7 @@ use arrayvec::ArrayString;
 /// The most bytes that a class's name may have.
 pub const MAX_NAME: usize = 64;
 
-/// A class's name and a subclass, kept without memory of their own.
+// A class's name and a subclass, kept without memory of their own.
 #[derive(Clone, Copy, PartialEq, Eq, Hash, Debug)]
 pub(crate) struct StoredName {
     pub(crate) text: ArrayString<MAX_NAME>,
@@ -16,7 +16,7 @@ pub(crate) struct StoredName {
 }
 
 impl StoredName {
-    /// Keeps a name of at most 64 bytes and a subclass.
+    // Keeps a name of at most 64 bytes and a subclass.
     pub(crate) fn new(text: &str, sub: u8) -> StoredName
         requires { length text.now ≤ MAX_NAME }
         ensures text { result.text.bytes ≡ text.now }
@@ -28,14 +28,14 @@ impl StoredName {
     }
 }
 
-/// Whether these bytes name a lock class: 1 to 64 of them, each 0x21 to 0x7E.
+// Whether these bytes name a lock class: 1 to 64 of them, each 0x21 to 0x7E.
 pub(crate) fn is_class_name(bytes: &[u8]) -> bool
     ensures { result ≡ is_class_name bytes.now }
 {
     !bytes.is_empty() && bytes.len() <= MAX_NAME && are_visible(bytes)
 }
 
-/// Whether each of these bytes is 0x21 to 0x7E.
+// Whether each of these bytes is 0x21 to 0x7E.
 fn are_visible(bytes: &[u8]) -> bool
     ensures { result ≡ are_visible bytes.now }
 {
