@@ -25,7 +25,7 @@ pub(crate) enum Line<'r> {
 }
 
 impl Line<'_> {
-    ghost use Rattle.std.specs.Prelude.{false, IfOk, IfErr, IsErrOf, OnErr};
+    ghost use Rattle.std.specs.Prelude.{false, ◌⊎◌, IfOk, IfErr, IsErrOf, OnErr};
     ghost use Rattle.ld_trace.specs.Lines.{event_of, is_over, with_line};
     ghost use Rattle.ld_trace.specs.ReadLines.{line_read};
     ghost use Rattle.ld_trace.specs.TraceFaults.{is_of_text};
@@ -40,6 +40,7 @@ impl Line<'_> {
         ensures fits { IfOk result (λ _. is_over keys.old (line_read self.now) ≡ false) }
         ensures over { IfErr result (λ kind. is_of_text kind ≡ true → (kind ≡ TraceFaultKind.TooManyKeys) × (is_over keys.old (line_read self.now) ≡ true)) }
         ensures always_over { is_over keys.old (line_read self.now) ≡ true → IsErrOf result TraceFaultKind.TooManyKeys }
+        ensures either { IfErr result (λ kind. (kind ≡ TraceFaultKind.TooManyKeys) ⊎ (kind ≡ TraceFaultKind.Memory)) }
         ensures refused { OnErr result (keys.new ≡ keys.old) }
     {
         match self {
@@ -59,7 +60,7 @@ impl Line<'_> {
 }
 
 impl LineName<'_> {
-    ghost use Rattle.std.specs.Prelude.{false, IfOk, IfErr, IsErrOf, OnErr};
+    ghost use Rattle.std.specs.Prelude.{false, ◌⊎◌, IfOk, IfErr, IsErrOf, OnErr};
     ghost use Rattle.ld_trace.specs.Names.{is_one_too_many, place_of, with_name};
     ghost use Rattle.ld_trace.specs.ReadLines.{name_read};
     ghost use Rattle.ld_trace.specs.TraceFaults.{is_of_text};
@@ -71,6 +72,7 @@ impl LineName<'_> {
         ensures fits { IfOk result (λ _. is_one_too_many keys.old (name_read self.now) ≡ false) }
         ensures over { IfErr result (λ kind. is_of_text kind ≡ true → (kind ≡ TraceFaultKind.TooManyKeys) × (is_one_too_many keys.old (name_read self.now) ≡ true)) }
         ensures always_over { is_one_too_many keys.old (name_read self.now) ≡ true → IsErrOf result TraceFaultKind.TooManyKeys }
+        ensures either { IfErr result (λ kind. (kind ≡ TraceFaultKind.TooManyKeys) ⊎ (kind ≡ TraceFaultKind.Memory)) }
         ensures refused { OnErr result (keys.new ≡ keys.old) }
     {
         match keys.number_name(self.class, self.sub) {

@@ -1,12 +1,12 @@
 //! Reading a trace.
 
-ghost use Rattle.std.specs.Prelude.{◌≡◌, ◌≤◌, ◌+◌, ◌++◌, ℕ, suc, [], List, Option, length, true, false, IfOk, IfErr, IfSome, OnOk, OnErr, Some};
-ghost use Rattle.csv.specs.Reading.{ReadRecord};
+ghost use Rattle.std.specs.Prelude.{◌≡◌, ◌≤◌, ◌+◌, ◌++◌, ℕ, suc, [], List, Option, length, true, false, IfOk, IfErr, IfSome, OnOk, OnErr, Some, ◌⊎◌};
+ghost use Rattle.csv.specs.Reading.{ReadRecord, error_kind};
 ghost use Rattle.csv.specs.Records.{fields_of};
 ghost use Rattle.ld_trace.specs.Events.{KeysBelow};
 ghost use Rattle.ld_trace.specs.Lines.{said};
 ghost use Rattle.ld_trace.specs.Names.{Name};
-ghost use Rattle.ld_trace.specs.Progress.{AreRead, AreRefused, HasGiven, HasTaken, ReadsPlain, TakesLine};
+ghost use Rattle.ld_trace.specs.Progress.{AreRead, AreRefused, HasGiven, HasTaken, ReadsPlain, TakesLine, read_fault};
 ghost use Rattle.ld_trace.specs.Reading.{ReadsTo, StopsAt, said_fault};
 ghost use Rattle.ld_trace.specs.TraceFaults.{is_of_text};
 
@@ -137,10 +137,18 @@ fn get_record<R: Read>(source: &mut Reader<R>, row: &mut ByteRecord) -> Result<b
 {
     match source.read_byte_record(row) {
         Ok(found) => Ok(found),
-        Err(error) => match error.kind() {
-            ErrorKind::OutOfMemory => Err(TraceFaultKind::Memory),
-            _ => Err(TraceFaultKind::Source),
-        },
+        Err(error) => Err(fault_of(&error)),
+    }
+}
+
+// The fault of an error in getting a record: want of memory, or else the source's failure.
+fn fault_of(error: &csv::Error) -> TraceFaultKind
+    ensures value { result ≡ read_fault (error_kind error.now) }
+    ensures not_text { is_of_text result ≡ false }
+{
+    match error.kind() {
+        ErrorKind::OutOfMemory => TraceFaultKind::Memory,
+        _ => TraceFaultKind::Source,
     }
 }
 
@@ -152,6 +160,7 @@ fn take_record(
 ) -> Result<(), TraceFaultKind>
     ensures taken { OnOk result (TakesLine keys.old keys.new events.old.items events.new.items (fields_of row.now)) }
     ensures fault { IfErr result (λ kind. is_of_text kind ≡ true → said_fault keys.old (said (fields_of row.now)) ≡ Some kind) }
+    ensures either { IfErr result (λ kind. (is_of_text kind ≡ true) ⊎ (kind ≡ TraceFaultKind.Memory)) }
     ensures refused { OnErr result ((keys.new ≡ keys.old) × (events.new.items ≡ events.old.items)) }
 {
     let line = match line_of(row) {

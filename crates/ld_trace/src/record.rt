@@ -1,11 +1,12 @@
 //! Reading one record of a trace.
 
-ghost use Rattle.std.specs.Prelude.{◌≡◌, ◌<◌, length, Ok, Err, Some, option_map, if◌then◌else◌};
+ghost use Rattle.std.specs.Prelude.{◌≡◌, ◌<◌, length, true, Ok, Err, IfErr, Some, option_map, if◌then◌else◌};
 ghost use Rattle.std.specs.Str.{bytes_eq};
 ghost use Rattle.csv.specs.Records.{field_at, fields_of};
 ghost use Rattle.ld_trace.specs.Lines.{acquire_said, irq_of, is_header, leave_said, mode_of, named, release_said, said, state_said, sub_of};
 ghost use Rattle.ld_trace.specs.Names.{is_class_name};
 ghost use Rattle.ld_trace.specs.ReadLines.{Says, SaysName};
+ghost use Rattle.ld_trace.specs.TraceFaults.{is_of_text};
 
 use crate::line::{Line, LineName};
 use crate::stored_name::is_class_name;
@@ -27,7 +28,8 @@ pub(crate) fn is_header(row: &ByteRecord) -> bool
 
 // What a record says, or its fault.
 pub(crate) fn line_of(row: &ByteRecord) -> Result<Line<'_>, TraceFaultKind>
-    ensures { Says (said (fields_of row.now)) result }
+    ensures says { Says (said (fields_of row.now)) result }
+    ensures text { IfErr result (λ kind. is_of_text kind ≡ true) }
 {
     match row.len() {
         1 => leave_line(field(row, 0)),
@@ -40,7 +42,8 @@ pub(crate) fn line_of(row: &ByteRecord) -> Result<Line<'_>, TraceFaultKind>
 
 // What `leave` says.
 fn leave_line(verb: &[u8]) -> Result<Line<'_>, TraceFaultKind>
-    ensures { Says (leave_said verb.now) result }
+    ensures says { Says (leave_said verb.now) result }
+    ensures text { IfErr result (λ kind. is_of_text kind ≡ true) }
 {
     if is_word(verb, b"leave") {
         Ok(Line::Leaves)
@@ -51,7 +54,8 @@ fn leave_line(verb: &[u8]) -> Result<Line<'_>, TraceFaultKind>
 
 // What `enter`, `on` or `off` and a state say.
 fn irq_line<'r>(verb: &[u8], irq: &'r [u8]) -> Result<Line<'r>, TraceFaultKind>
-    ensures { Says (state_said verb.now (irq_of irq.now)) result }
+    ensures says { Says (state_said verb.now (irq_of irq.now)) result }
+    ensures text { IfErr result (λ kind. is_of_text kind ≡ true) }
 {
     let Some(irq) = irq_of(irq) else {
         return Err(TraceFaultKind::BadRecord);
@@ -69,7 +73,8 @@ fn irq_line<'r>(verb: &[u8], irq: &'r [u8]) -> Result<Line<'r>, TraceFaultKind>
 
 // What `rel` and a name say.
 fn release_line<'r>(verb: &[u8], class: &'r [u8], sub: &[u8]) -> Result<Line<'r>, TraceFaultKind>
-    ensures { Says (release_said verb.now (named class.now (sub_of sub.now))) result }
+    ensures says { Says (release_said verb.now (named class.now (sub_of sub.now))) result }
+    ensures text { IfErr result (λ kind. is_of_text kind ≡ true) }
 {
     if !is_word(verb, b"rel") {
         return Err(TraceFaultKind::BadRecord);
@@ -84,7 +89,8 @@ fn acquire_line<'r>(
     sub: &[u8],
     mode: &[u8],
 ) -> Result<Line<'r>, TraceFaultKind>
-    ensures { Says (acquire_said verb.now (named class.now (sub_of sub.now)) (mode_of mode.now)) result }
+    ensures says { Says (acquire_said verb.now (named class.now (sub_of sub.now)) (mode_of mode.now)) result }
+    ensures text { IfErr result (λ kind. is_of_text kind ≡ true) }
 {
     if !is_word(verb, b"acq") {
         return Err(TraceFaultKind::BadRecord);
@@ -98,7 +104,8 @@ fn acquire_line<'r>(
 
 // The name of these two fields, of which the class's name is judged first.
 fn name_of<'r>(class: &'r [u8], sub: &[u8]) -> Result<LineName<'r>, TraceFaultKind>
-    ensures { SaysName (named class.now (sub_of sub.now)) result }
+    ensures says { SaysName (named class.now (sub_of sub.now)) result }
+    ensures text { IfErr result (λ kind. is_of_text kind ≡ true) }
 {
     let Some(class) = class_of(class) else {
         return Err(TraceFaultKind::BadName);
