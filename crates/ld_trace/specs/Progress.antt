@@ -1,5 +1,5 @@
 -- What holds while a trace is read, of the records that were taken so far. No public clause speaks of these.
-use Rattle.std.specs.Prelude.{◌≡◌, ℕ, suc, ◌<◌, ◌++◌, None, false, List, [], ◌∷◌, length, slice_get, Option, Some, IfSome, Ok}
+use Rattle.std.specs.Prelude.{◌≡◌, ℕ, suc, ◌<◌, ◌++◌, None, false, List, [], ◌∷◌, length, slice_get, Option, Some, IfSome, Result, Ok}
 use Rattle.csv.specs.Reading.{Ready, Reached, default_config, reader_config, reader_state, reader_trim, source_of, strip_bom}
 use Rattle.csv.specs.declared.error.ErrorKind.{ErrorKind}
 use Rattle.csv.specs.declared.error.ErrorKind.TheVariants as kind
@@ -37,6 +37,14 @@ pub record AreTaken (old : List Name) (rows : List Record) (now : List Name) (ev
 -- what the loop over the records keeps: some records were taken, the first ones of the bytes
 abbrev pub HasTaken : {R : Type 0} → (R → Option (List ℕ)) → Option (List ℕ) → Reader R → List Name → List Name → List Event → Type 0
 HasTaken rem known source old now events = (rows : List Record) × HasGiven rem known source rows × AreTaken old rows now events
+
+-- what a record says is no fault, its name is known to the table, and this is its event
+pub record IsEventOf (names : List Name) (what : Result Line TraceFaultKind) (event : Event) : Type 0 where
+  pub line : Line
+  pub says : what ≡ Ok line
+  pub fits : is_over names line ≡ false
+  pub known : with_line names line ≡ names
+  pub is_event : event ≡ event_of names line
 
 -- a record was taken as what it says
 pub record TakesLine (old new : List Name) (before after : List Event) (r : Record) : Type 0 where

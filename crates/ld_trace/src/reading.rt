@@ -10,6 +10,7 @@ ghost use Rattle.ld_trace.specs.Progress.{AreRead, AreRefused, HasGiven, HasTake
 ghost use Rattle.ld_trace.specs.Reading.{ReadsTo, StopsAt, said_fault};
 ghost use Rattle.ld_trace.specs.TraceFaults.{is_of_text};
 
+use crate::known::known_event;
 use crate::record::{is_header, line_of};
 use crate::{Event, KeyTable, MAX_EVENTS, RawTrace, TraceFault, TraceFaultKind};
 use csv::{ByteRecord, ErrorKind, Reader, ReaderBuilder};
@@ -163,10 +164,10 @@ fn take_record(
     ensures either { IfErr result (λ kind. (is_of_text kind ≡ true) ⊎ (kind ≡ TraceFaultKind.Memory)) }
     ensures refused { OnErr result ((keys.new ≡ keys.old) × (events.new.items ≡ events.old.items)) }
 {
-    let line = match line_of(row) {
-        Ok(line) => line,
-        Err(kind) => return Err(kind),
-    };
+    if let Some(event) = known_event(row, keys) {
+        return events.push(event).map_err(|_| TraceFaultKind::Memory);
+    }
+    let line = line_of(row)?;
     if events.reserve(1).is_err() {
         return Err(TraceFaultKind::Memory);
     }

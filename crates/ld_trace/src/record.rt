@@ -128,7 +128,7 @@ fn class_of(class: &[u8]) -> Option<&str>
 }
 
 // The subclass of this field: one digit, 0 to 7.
-fn sub_of(sub: &[u8]) -> Option<u8>
+pub(crate) fn sub_of(sub: &[u8]) -> Option<u8>
     ensures { result ≡ sub_of sub.now }
 {
     match sub {
@@ -138,7 +138,7 @@ fn sub_of(sub: &[u8]) -> Option<u8>
 }
 
 // The mode of this field.
-fn mode_of(word: &[u8]) -> Option<Mode>
+pub(crate) fn mode_of(word: &[u8]) -> Option<Mode>
     ensures { result ≡ mode_of word.now }
 {
     if is_word(word, b"w") {
@@ -166,14 +166,14 @@ fn irq_of(word: &[u8]) -> Option<Irq>
 }
 
 // Whether a field is this word.
-fn is_word(field: &[u8], word: &[u8]) -> bool
+pub(crate) fn is_word(field: &[u8], word: &[u8]) -> bool
     ensures { result ≡ bytes_eq field.now word.now }
 {
     field == word
 }
 
 // The field at this place.
-fn field(row: &ByteRecord, place: usize) -> &[u8]
+pub(crate) fn field(row: &ByteRecord, place: usize) -> &[u8]
     requires { place < length (fields_of row.now) }
     ensures { field_at (fields_of row.now) place ≡ Some result.now }
 {
