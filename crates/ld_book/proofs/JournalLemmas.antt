@@ -12,8 +12,9 @@ use Rattle.indexmap.specs.IndexSet.{insert_key}
 use Rattle.ld_task.specs.Chains.{ChainParts}
 use Rattle.ld_task.specs.ChainEquality.{chain_eq}
 use Rattle.ld_task.specs.ChainEqualityLaws.{chain_eq-decides, chain_eq-equivalence}
-use Rattle.ld_graph.proofs.ChainLists.{Any-push}
-use Rattle.ld_book.specs.Books.{StandsIn, IsNumberOfChains}
+use Rattle.ld_graph.specs.Counting.{IsNumberOf}
+use Rattle.ld_graph.specs.FactLaws.{Any-push}
+use Rattle.ld_book.specs.Books.{StandsIn}
 use Rattle.ld_book.specs.Journals.{no_chain, entry_of, journal_of, IsJournal}
 use Rattle.ld_book.specs.declared.journal.Entry.{Entry}
 
@@ -62,9 +63,9 @@ module _ (chains : List ChainParts) (entries : List Entry) (is_journal : IsJourn
   )
 
 -- as many distinct chains as are kept
-pub IsNumberOfChains-kept : (chains : List ChainParts) (entries : List Entry) → IsJournal chains entries → IsDistinct chain_eq chains →
-    IsNumberOfChains (journal_of chains entries) (length chains)
-IsNumberOfChains-kept chains entries is_journal distinct = record {
+pub IsNumberOf-kept : (chains : List ChainParts) (entries : List Entry) → IsJournal chains entries → IsDistinct chain_eq chains →
+    IsNumberOf (StandsIn (journal_of chains entries)) (length chains)
+IsNumberOf-kept chains entries is_journal distinct = record {
   listed = chains;
   once = AllPairs-from_IsDistinct chain_eq-decides chains distinct;
   exact = λ chain. Contains-iff chains entries is_journal chain;

@@ -5,7 +5,7 @@ use Rattle.ld_book.specs.declared.journal.Entry.{Entry}
 
 -- a chain that says nothing, for a number that none has
 abbrev pub no_chain : ChainParts
-no_chain = record { held_locks = []; new_lock = None; hard_on = false; soft_on = false }
+no_chain = record { held_locks = []; new_lock = None; flags = record { hard_on = false; soft_on = false } }
 
 -- the entry that is meant: its trace, and the chain of its number
 abbrev pub entry_of : List ChainParts → Entry → ℕ × ChainParts

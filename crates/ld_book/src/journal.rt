@@ -1,7 +1,8 @@
 //! Entries in order, with each distinct chain kept once.
 
 ghost use Rattle.std.specs.Prelude.{◌≡◌, ◌<◌, ◌++◌, ◌↔◌, [], ◌∷◌, length, option_map, slice_get, IfOk, OnOk, OnErr, IsFalse, Some};
-ghost use Rattle.ld_book.specs.Books.{IsNumberOfChains, StandsIn};
+ghost use Rattle.ld_graph.specs.Counting.{IsNumberOf};
+ghost use Rattle.ld_book.specs.Books.{StandsIn};
 
 use indexmap::IndexSet;
 use ld_task::Chain;
@@ -54,7 +55,7 @@ impl Journal {
 
     /// The number of distinct chains.
     pub(crate) fn distinct(&self) -> usize
-        ensures { IsNumberOfChains self.now result }
+        ensures { IsNumberOf (StandsIn self.now) result }
     {
         self.chains.len()
     }

@@ -73,7 +73,11 @@ fn mark_of_old(chain: &Chain, i: usize, n: usize) -> Option<Fact>
 {
     let (key, mode) = chain.held(i)?;
     let irq = if n == 0 { Irq::Hard } else { Irq::Soft };
-    mark_where(chain.flags().is_enabled(irq), key, enabled(irq, reads(mode)))
+    mark_where(
+        chain.flags().is_enabled(irq),
+        key,
+        enabled(irq, reads(mode)),
+    )
 }
 
 fn used_in(irq: Irq, read: bool) -> Mark
