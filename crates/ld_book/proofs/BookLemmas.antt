@@ -4,33 +4,39 @@ use Rattle.std.specs.Prelude.{is_none, option_map, slice_get}
 use Rattle.std.specs.Int.{from_bool}
 use Rattle.std.proofs.lemmas.List.Sums.{sum_by_push, sum_by-cons}
 use Rattle.ld_task.specs.Chains.{ChainParts}
-use Rattle.ld_graph.specs.Facts.{ChainHas, AreSame, Holds, Adds}
+use Rattle.ld_graph.specs.Counting.{IsNumberOf}
 use Rattle.ld_graph.specs.FactBits.{FactWords, HasFact}
 use Rattle.ld_graph.specs.FactLaws.{Any-push}
+use Rattle.ld_graph.specs.Facts.{Adds, AreSame, ChainHas, Holds}
 use Rattle.ld_graph.specs.declared.fact.Fact.{Fact}
 use Rattle.ld_book.specs.Books.{JournalHas, StandsIn, IsLawful, acquisition_count, opening_count}
 
 -- ---- facts
 -- no facts are those of a journal without entries
-pub no_facts : (Has : Fact → Type 0) → ((x : Fact) → ¬ Has x) → AreSame Has (JournalHas [])
-no_facts Has free x = ((λ h. absurd (free x h)), (λ h. absurd (let l = h.2 in omega arith)))
+pub AreSame-none : (facts : FactWords) → ((x : Fact) → ¬ HasFact facts x) → AreSame (HasFact facts) (JournalHas [])
+AreSame-none facts none x = ((λ h. absurd (none x h)), (λ h. absurd (let l = h.2 in omega arith)))
 
--- the facts of one entry more
-pub facts_entered : (Old New : Fact → Type 0) (journal : List (ℕ × ChainParts)) (trace : ℕ) (chain : ChainParts) →
-    AreSame Old (JournalHas journal) → Adds Old New (ChainHas chain) → AreSame New (JournalHas (journal ++ (trace, chain) ∷ []))
-facts_entered Old New journal trace chain are adds x =
-    let more = Any-push (λ e. ChainHas e.1 x) journal (trace, chain) in (
-      (λ h. more.1 (elim ((adds x).0 h) [ inl o ↦ inl ((are x).0 o) | inr c ↦ inr c ])),
-      (λ h. (adds x).1 (elim (more.0 h) [ inl o ↦ inl ((are x).1 o) | inr c ↦ inr c ])),
-    )
+module _ (facts : FactWords) (journal : List (ℕ × ChainParts)) (are : AreSame (HasFact facts) (JournalHas journal)) where
+  -- with the facts of one entry more
+  pub AreSame-adds : (new : FactWords) (trace : ℕ) (chain : ChainParts) →
+      Adds (HasFact facts) (HasFact new) (ChainHas chain) → AreSame (HasFact new) (JournalHas (journal ++ (trace, chain) ∷ []))
+  AreSame-adds new trace chain adds x =
+      let more = Any-push (λ e. ChainHas e.1 x) journal (trace, chain) in (
+        (λ h. more.1 (elim ((adds x).0 h) [ inl old ↦ inl ((are x).0 old) | inr has ↦ inr has ])),
+        (λ h. (adds x).1 (elim (more.0 h) [ inl old ↦ inl ((are x).1 old) | inr has ↦ inr has ])),
+      )
 
--- a set with the same facts holds the same
-pub Holds-same : (P Q Part : Fact → Type 0) → AreSame P Q → Holds P Part ↔ Holds Q Part
-Holds-same P Q Part same = ((λ holds x h. (same x).0 (holds x h)), (λ holds x h. (same x).1 (holds x h)))
+  -- a chain's facts are there if they were recorded
+  pub Holds-iff : (chain : ChainParts) → Holds (HasFact facts) (ChainHas chain) ↔ Holds (JournalHas journal) (ChainHas chain)
+  Holds-iff chain = ((λ held x has. (are x).0 (held x has)), (λ recorded x has. (are x).1 (recorded x has)))
 
--- the facts of a chain that stands in the journal are the journal's
+-- the facts of a chain that stands in the journal are recorded
 pub Holds-standing : (journal : List (ℕ × ChainParts)) (chain : ChainParts) → StandsIn journal chain → Holds (JournalHas journal) (ChainHas chain)
-Holds-standing journal chain (k, e, l, at, is) x has = (k, e, l, at, subst (λ c. ChainHas c x) (sym is) has)
+Holds-standing journal chain (k, e, l, at, is) = λ x has. (k, e, l, at, subst (λ c. ChainHas c x) (sym is) has)
+
+-- a chain without facts is recorded by every journal
+pub Holds-none : (journal : List (ℕ × ChainParts)) (chain : ChainParts) → Holds (JournalHas []) (ChainHas chain) → Holds (JournalHas journal) (ChainHas chain)
+Holds-none journal chain none = λ x has. absurd (let l = (none x has).2 in omega arith)
 
 -- ---- totals
 from_bool-cond : (b : Bool) → from_bool b ≡ cond b 1 0
@@ -56,18 +62,18 @@ counts-length (e ∷ journal) =
     one (Some _) = refl
 
 -- ---- what is told of the entry that is put
+slice_get-push : {A : Type 0} (xs : List A) (y : A) → slice_get (xs ++ y ∷ []) (length xs) ≡ Some y
+slice_get-push [] y = refl
+slice_get-push (x ∷ xs) y = slice_get-push xs y
+
 -- the chain of the entry that was put last is the one put
 pub chain-entered : (journal entered : List (ℕ × ChainParts)) (trace place : ℕ) (chain shown : ChainParts) →
     entered ≡ journal ++ (trace, chain) ∷ [] → place ≡ length journal →
     option_map (λ (e : ℕ × ChainParts). e.1) (slice_get entered place) ≡ Some shown → shown ≡ chain
 chain-entered journal entered trace place chain shown is at shows =
     let e : Some chain ≡ Some shown =
-    sym (ap (option_map (λ (e : ℕ × ChainParts). e.1)) ((λ i. slice_get (is i) (at i)) ∙ last_is journal)) ∙ shows in
+    sym (ap (option_map (λ (e : ℕ × ChainParts). e.1)) ((λ i. slice_get (is i) (at i)) ∙ slice_get-push journal (trace, chain))) ∙ shows in
     cc
-  where
-    last_is : (xs : List (ℕ × ChainParts)) → slice_get (xs ++ (trace, chain) ∷ []) (length xs) ≡ Some (trace, chain)
-    last_is [] = refl
-    last_is (x ∷ xs) = last_is xs
 
 -- an acquisition is told by its new lock
 pub from_bool-taken : {A B : Type 0} (f : A → B) (new : Option A) (taken : Option B) (is_acquisition : Bool) (n : ℕ) →

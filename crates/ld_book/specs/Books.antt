@@ -1,8 +1,8 @@
 -- What a book tells: all of it is read off the journal [this project's own].
 use Rattle.std.specs.Prelude.{◌≡◌, ℕ, ◌≤◌, List, length, Any, count_by, is_none, is_some}
 use Rattle.ld_task.specs.Chains.{ChainParts}
-use Rattle.ld_graph.specs.Facts.{ChainHas, AreSame}
 use Rattle.ld_graph.specs.FactBits.{FactWords, HasFact}
+use Rattle.ld_graph.specs.Facts.{AreSame, ChainHas}
 use Rattle.ld_graph.specs.declared.fact.Fact.{Fact}
 
 -- what callers see of a book: its journal, an entry for each recorded chain with the trace that it comes from; the bound
@@ -12,7 +12,7 @@ pub record BookParts : Type 0 where
   pub keys : ℕ
   pub limit : ℕ
 
--- the fact is one of a chain of the journal
+-- some chain of the journal has the fact
 abbrev pub JournalHas : List (ℕ × ChainParts) → Fact → Type 0
 JournalHas journal x = Any (λ e. ChainHas e.1 x) journal
 

@@ -1,19 +1,19 @@
 //! A journal of chains, with what belongs to it.
 
 ghost use Rattle.std.specs.Prelude.{◌≡◌, ℕ, ◌≤◌, ◌++◌, ◌↔◌, [], ◌∷◌, length, option_map, slice_get, IfOk, OnOk, OnErr, IfErr, IsErrOf, IsTrue, IsFalse};
-ghost use Rattle.ld_trace.specs.declared.key_id.TheConstants.{MAX_KEYS};
 ghost use Rattle.ld_task.specs.Chains.{ChainKeysBelow};
 ghost use Rattle.ld_graph.specs.Counting.{IsNumberOf};
-ghost use Rattle.ld_graph.specs.Facts.{ChainHas, AreSame, Holds, Adds, DependenciesOf};
 ghost use Rattle.ld_graph.specs.FactBits.{HasFact};
+ghost use Rattle.ld_graph.specs.Facts.{Adds, AreSame, ChainHas, DependenciesOf, Holds};
 ghost use Rattle.ld_graph.specs.Links.{IsClean};
-ghost use Rattle.ld_graph.specs.declared.fact.Fact.TheVariants.{Dependency, Marked};
+ghost use Rattle.ld_graph.specs.declared.fact.Fact.{Fact};
 ghost use Rattle.ld_book.specs.Books.{JournalHas, StandsIn, acquisition_count, opening_count};
 
 use crate::fault::BookFault;
 use crate::journal::Journal;
 use ld_graph::Graph;
 use ld_task::{Chain, Kind, Mark};
+use ld_trace::MAX_KEYS;
 use std::alloc::Global;
 use std::marker::Model;
 
@@ -26,7 +26,7 @@ pub struct News {
     pub clean: bool,
 }
 
-/// Totals of a book's journal.
+/// Totals derived from the journal.
 #[derive(Clone, Copy, PartialEq, Eq, Debug)]
 pub struct Totals {
     /// The number of entries.
@@ -40,7 +40,7 @@ pub struct Totals {
 }
 
 /// A journal of chains, each with the trace that it comes from, and the facts of these chains [this project's own; the
-/// rules of the facts: "Multi-lock dependency rules", "Single-lock state rules"]. The keys are
+/// rules of the facts are those of the sections "Multi-lock dependency rules" and "Single-lock state rules"]. The keys are
 /// below a bound of at most 256, and the journal is no longer than a limit. Whatever a book answers is read off its
 /// journal, also after a refused entry.
 #[derive(Drop)]
@@ -92,7 +92,7 @@ impl Book {
     ///
     /// Refusals, in this order: B1 exactly where the journal has as many entries as the limit, B3 exactly where a key of
     /// the chain isn't below the book's bound, B2 where memory was refused. After each nothing is changed. A chain that
-    /// the book knows isn't looked at again.
+    /// the book knows costs one look-up.
     pub fn record(&mut self, trace: u32, chain: Chain) -> Result<News, BookFault>
         ensures recorded { OnOk result (self.new ≡ record {
           journal = self.old.journal ++ (trace, chain) ∷ [];
@@ -154,14 +154,14 @@ impl Book {
 
     /// Whether the dependency is one of a chain of the journal. False where a key isn't below the bound.
     pub fn has_dep(&self, from: u16, to: u16, kind: Kind) -> bool
-        ensures { IsTrue result ↔ JournalHas self.now.journal (Dependency from to kind) }
+        ensures { IsTrue result ↔ JournalHas self.now.journal (Fact.Dependency from to kind) }
     {
         self.graph.facts().has_dep(from, to, kind)
     }
 
     /// Whether the key has the mark by a chain of the journal. False where the key isn't below the bound.
     pub fn has_mark(&self, key: u16, mark: Mark) -> bool
-        ensures { IsTrue result ↔ JournalHas self.now.journal (Marked key mark) }
+        ensures { IsTrue result ↔ JournalHas self.now.journal (Fact.Marked key mark) }
     {
         self.graph.facts().has_mark(key, mark)
     }
@@ -196,7 +196,7 @@ impl Book {
         self.journal.distinct() as u64
     }
 
-    /// The graph of the book's facts. The journal is dropped.
+    /// The graph of the book's facts. The journal is given up.
     pub fn into_graph(self) -> Graph
         ensures keys { result.facts.keys ≡ self.keys }
         ensures facts { AreSame (HasFact result.facts) (JournalHas self.journal) }
@@ -206,7 +206,7 @@ impl Book {
     }
 }
 
-// Adds the facts of a chain, and answers whether one of them is new. A chain that isn't new isn't looked at.
+// Adds the facts of a chain, and returns whether one of them is new. A chain that isn't new brings none.
 fn add_if_new(graph: &mut Graph, chain: &Chain, is_new: bool) -> bool
     requires below { ChainKeysBelow graph.old.facts.keys chain.now }
     requires known { IsFalse is_new → Holds (HasFact graph.old.facts) (ChainHas chain.now) }

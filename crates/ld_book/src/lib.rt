@@ -1,7 +1,8 @@
 //! The book that all workers write into: a journal of chains, together with the facts, the totals and the flag that
 //! belong to it.
 //!
-//! Whatever a `Book` answers is read off its journal. It keeps each distinct chain once, and looks at none twice. A `LockedBook` is a book that several threads write into, one entry at a time.
+//! Whatever a `Book` answers is read off its journal. It keeps each distinct chain once, and a chain that it knows costs
+//! it one look-up. A `LockedBook` is a book that several threads write into, one entry at a time.
 #![tactic(auto)]
 
 mod book;

@@ -1,9 +1,9 @@
 //! A book that several threads write into.
 
-ghost use Rattle.std.specs.Prelude.{IfOk, IsErrOf, IsFalse};
+ghost use Rattle.std.specs.Prelude.{[], IfOk, IsErrOf, IsFalse};
 ghost use Rattle.ld_task.specs.Chains.{ChainKeysBelow};
-ghost use Rattle.ld_graph.specs.Facts.{ChainHas};
-ghost use Rattle.ld_graph.specs.declared.fact.Fact.{Fact};
+ghost use Rattle.ld_graph.specs.Facts.{ChainHas, Holds};
+ghost use Rattle.ld_book.specs.Books.{JournalHas};
 
 use crate::book::{Book, News};
 use crate::fault::BookFault;
@@ -30,7 +30,7 @@ impl LockedBook {
     /// refusal the book is as it was found. The chain is consumed in every case.
     pub fn record<R: Wait>(&self, rt: &R, trace: u32, chain: Chain) -> Result<News, BookFault>
         // Whatever the book that is found, a chain without facts is never fresh, and one without keys never refused by B3.
-        ensures fresh { IfOk result (λ news. ((x : Fact) → ¬ ChainHas chain x) → IsFalse news.fresh) }
+        ensures fresh { IfOk result (λ news. Holds (JournalHas []) (ChainHas chain) → IsFalse news.fresh) }
         ensures bad_key { IsErrOf result BookFault.BadKey → ¬ ChainKeysBelow 0 chain }
     {
         self.book.lock(rt).record(trace, chain)

@@ -17,7 +17,7 @@ use Rattle.ld_task.proofs.TraceLemmas.{Agree, fault-agree}
 use Rattle.ld_task.proofs.ChainLists.{chains-snoc}
 use Rattle.ld_task.proofs.Places.{slice_get-append_left, slice_get-append_seam}
 
-slice_get-take : {A : Type 0} (xs : List A) (i k : ℕ) → k < i → slice_get (take i xs) k ≡ slice_get xs k
+pub slice_get-take : {A : Type 0} (xs : List A) (i k : ℕ) → k < i → slice_get (take i xs) k ≡ slice_get xs k
 slice_get-take [] zero k l = absurd (omega arith)
 slice_get-take [] (suc i) k l = refl
 slice_get-take (x ∷ xs) zero k l = absurd (omega arith)

@@ -1,5 +1,5 @@
 -- What holds of every trace: the laws that this crate proves of its definitions.
-use Rattle.std.specs.Prelude.{◌≡◌, ◌≢◌, ◌↔◌, ℕ, suc, true, List, All, Any, Some}
+use Rattle.std.specs.Prelude.{◌≡◌, ◌≢◌, ◌↔◌, ℕ, suc, ◌<◌, ◌≤◌, true, List, All, Any, Contains, Some, take}
 use Rattle.ld_trace.specs.declared.event.Event.{Event}
 use Rattle.ld_trace.specs.declared.event.Event.TheVariants.{TurnOn}
 use Rattle.ld_trace.specs.declared.event.Irq.{Irq}
@@ -10,8 +10,9 @@ use Rattle.ld_task.specs.Events.{event}
 use Rattle.ld_task.specs.Flags.{flag}
 use Rattle.ld_task.specs.Dependencies.{IsDependency}
 use Rattle.ld_task.specs.Marks.{IsMarked}
-use Rattle.ld_task.specs.Chains.{ChainHasDependency, ChainHasMark, ChainKeysBelow}
+use Rattle.ld_task.specs.Chains.{ChainParts, ChainHasDependency, ChainHasMark, ChainKeysBelow}
 use Rattle.ld_task.specs.TraceChains.{chains}
+use Rattle.ld_task.specs.WellFormed.{fault}
 
 -- the dependencies of a trace are those of its chains
 abbrev pub DependenciesAreTheChains : Type 0
@@ -24,6 +25,15 @@ MarksAreTheChains = (t : List Event) (key : ℕ) (mark : Mark) → IsMarked t ke
 -- the keys of a trace's chains are keys of the trace
 abbrev pub ChainKeysAreTheTraces : Type 0
 ChainKeysAreTheTraces = (t : List Event) (n : ℕ) → KeysBelow n t → All (ChainKeysBelow n) (chains t)
+
+-- the chains of a beginning of a trace are among those of a longer one
+abbrev pub BeginningsKeepTheirChains : Type 0
+BeginningsKeepTheirChains = (t : List Event) (m n : ℕ) → m ≤ n →
+    (c : ChainParts) → Contains (chains (take m t)) c → Contains (chains (take n t)) c
+
+-- what isn't allowed in a beginning of a trace isn't allowed in the trace, for the same reason
+abbrev pub BeginningsKeepTheirFaults : Type 0
+BeginningsKeepTheirFaults = (t : List Event) (m j : ℕ) → j < m → fault (take m t) j ≡ fault t j
 
 -- just after a state is turned on it is on, and the other one is as before
 pub record IsOnAfter (t : List Event) (irq : Irq) (j : ℕ) : Type 0 where

@@ -2,7 +2,7 @@
 
 ghost use Rattle.std.specs.Prelude.{◌≡◌, ◌↔◌, IsTrue};
 ghost use Rattle.ld_task.specs.Chains.{ChainParts};
-ghost use Rattle.ld_task.specs.Laws.{ChainKeysAreTheTraces, DependenciesAreTheChains, MarksAreTheChains, TurningOnTurnsOn};
+ghost use Rattle.ld_task.specs.Laws.{BeginningsKeepTheirChains, BeginningsKeepTheirFaults, ChainKeysAreTheTraces, DependenciesAreTheChains, MarksAreTheChains, TurningOnTurnsOn};
 
 use crate::chain::Chain;
 use std::hash::Hash;
@@ -20,6 +20,16 @@ pub fn marks_are_the_chains()
 /// The keys of a trace's chains are keys of the trace.
 pub fn chain_keys_are_the_traces()
     ensures { ChainKeysAreTheTraces }
+{}
+
+/// The chains of a beginning of a trace are among those of a longer one.
+pub fn beginnings_keep_their_chains()
+    ensures { BeginningsKeepTheirChains }
+{}
+
+/// What isn't allowed in a beginning of a trace isn't allowed in the trace, for the same reason.
+pub fn beginnings_keep_their_faults()
+    ensures { BeginningsKeepTheirFaults }
 {}
 
 /// Just after a state is turned on it is on, and the other one is as before.
