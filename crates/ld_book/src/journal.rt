@@ -16,7 +16,7 @@ struct Entry {
     number: usize,
 }
 
-/// Entries in order: a trace and a chain each. The distinct chains are numbered in order of first entry.
+// Entries in order: a trace and a chain each. The distinct chains are numbered in order of first entry.
 #[derive(Drop)]
 pub(crate) struct Journal {
     entries: Vec<Entry>,
@@ -36,7 +36,7 @@ impl Model for Journal {
 }
 
 impl Journal {
-    /// No entries. It takes no memory yet.
+    // No entries. It takes no memory yet.
     pub(crate) fn new(alloc: Global) -> Journal
         ensures { result ≡ [] }
     {
@@ -46,21 +46,21 @@ impl Journal {
         }
     }
 
-    /// The number of entries.
+    // The number of entries.
     pub(crate) fn len(&self) -> usize
         ensures { result ≡ length self.now }
     {
         self.entries.len()
     }
 
-    /// The number of distinct chains.
+    // The number of distinct chains.
     pub(crate) fn distinct(&self) -> usize
         ensures { IsNumberOf (StandsIn self.now) result }
     {
         self.chains.len()
     }
 
-    /// The entry at place `i`, or None where there is none.
+    // The entry at place `i`, or None where there is none.
     pub(crate) fn entry(&self, i: usize) -> Option<(u32, &Chain)>
         ensures { option_map (λ e. (e.0, e.1.now)) result ≡ slice_get self.now i }
     {
@@ -68,7 +68,7 @@ impl Journal {
         Some((entry.trace, &self.chains.as_slice()[entry.number]))
     }
 
-    /// The chain of the entry at place `i`.
+    // The chain of the entry at place `i`.
     pub(crate) fn chain(&self, i: usize) -> &Chain
         requires { i < length self.now }
         ensures { option_map (λ e. e.1) (slice_get self.now i) ≡ Some result.now }
@@ -76,7 +76,7 @@ impl Journal {
         &self.chains.as_slice()[self.entries[i].number]
     }
 
-    /// Puts an entry behind the others, and answers whether its chain is new. Where memory is refused nothing is changed.
+    // Puts an entry behind the others, and answers whether its chain is new. Where memory is refused nothing is changed.
     pub(crate) fn push(&mut self, trace: u32, chain: Chain) -> Result<bool, AllocError>
         ensures pushed { OnOk result (self.new ≡ self.old ++ (trace, chain) ∷ []) }
         ensures new { IfOk result (λ new. IsFalse new ↔ StandsIn self.old chain) }
