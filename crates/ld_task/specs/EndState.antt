@@ -26,7 +26,9 @@ kept_lock_at t i = record { level = depth t i; lock = lock_at t i }
 
 -- the frame opened by the entry at p is still open at j
 unfoldable pub still_open : List Event → ℕ → ℕ → Bool
-still_open t p j = nat_lt p j && is_enter (event t p) && all_between p (suc j) (λ k. nat_lt (depth t p) (depth t k))
+still_open t p j =
+    nat_lt p j && is_enter (event t p)
+    && all_between p (suc j) (λ k. nat_lt (depth t p) (depth t k))
 
 -- the state at position n
 unfoldable pub state_at : List Event → ℕ → EndState

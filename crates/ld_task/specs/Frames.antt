@@ -15,7 +15,8 @@ depth t j = count_below j (λ k. is_enter (event t k)) - count_below j (λ k. is
 
 -- positions i ≤ j are in one frame: their depths are equal, and none between them is less
 unfoldable pub one_frame : List Event → ℕ → ℕ → Bool
-one_frame t i j = nat_eq (depth t i) (depth t j) && all_between i j (λ k. nat_le (depth t i) (depth t k))
+one_frame t i j =
+    nat_eq (depth t i) (depth t j) && all_between i j (λ k. nat_le (depth t i) (depth t k))
 
 -- the last entry before j at the depth one less than j's
 unfoldable pub entry_of : List Event → ℕ → Option ℕ

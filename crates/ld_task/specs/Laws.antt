@@ -17,11 +17,15 @@ use Rattle.ld_task.specs.WellFormed.{fault}
 
 -- the dependencies of a trace are those of its chains
 abbrev pub DependenciesAreTheChains : Type 0
-DependenciesAreTheChains = (t : List Event) (from to : ℕ) (kind : Kind) → IsDependency t from to kind ↔ Any (λ c. ChainHasDependency c from to kind) (chains t)
+DependenciesAreTheChains =
+    (t : List Event) (from to : ℕ) (kind : Kind)
+    → IsDependency t from to kind ↔ Any (λ c. ChainHasDependency c from to kind) (chains t)
 
 -- the marks of a trace are those of its chains
 abbrev pub MarksAreTheChains : Type 0
-MarksAreTheChains = (t : List Event) (key : ℕ) (mark : Mark) → IsMarked t key mark ↔ Any (λ c. ChainHasMark c key mark) (chains t)
+MarksAreTheChains =
+    (t : List Event) (key : ℕ) (mark : Mark)
+    → IsMarked t key mark ↔ Any (λ c. ChainHasMark c key mark) (chains t)
 
 -- the keys of a trace's chains are keys of the trace
 abbrev pub ChainKeysAreTheTraces : Type 0
@@ -38,7 +42,9 @@ BeginningsKeepTheirFaults = (t : List Event) (m j : ℕ) → j < m → fault (ta
 
 -- one event more adds its own chain, if it makes one
 abbrev pub OneMoreEventAddsItsChain : Type 0
-OneMoreEventAddsItsChain = (t : List Event) (e : Event) → chains (t ++ e ∷ []) ≡ chains t ++ option_to_list (chain (t ++ e ∷ []) (length t))
+OneMoreEventAddsItsChain =
+    (t : List Event) (e : Event)
+    → chains (t ++ e ∷ []) ≡ chains t ++ option_to_list (chain (t ++ e ∷ []) (length t))
 
 -- just after a state is turned on it is on, and the other one is as before
 pub record IsOnAfter (t : List Event) (irq : Irq) (j : ℕ) : Type 0 where
@@ -47,4 +53,5 @@ pub record IsOnAfter (t : List Event) (irq : Irq) (j : ℕ) : Type 0 where
 
 -- what holds just after each event that turns a state on
 abbrev pub TurningOnTurnsOn : Type 0
-TurningOnTurnsOn = (t : List Event) (irq : Irq) (j : ℕ) → event t j ≡ Some (TurnOn irq) → IsOnAfter t irq j
+TurningOnTurnsOn =
+    (t : List Event) (irq : Irq) (j : ℕ) → event t j ≡ Some (TurnOn irq) → IsOnAfter t irq j

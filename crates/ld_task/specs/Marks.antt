@@ -39,7 +39,8 @@ same_form false read = not read
 abbrev pub marks_taken : Mode → Frame → Flags → Mark → Bool
 marks_taken mode frame flags Used = true
 marks_taken mode frame flags (UsedIn irq read) = is_in irq frame && same_form read (is_read mode)
-marks_taken mode frame flags (Enabled irq read) = is_enabled irq flags && same_form read (is_read mode)
+marks_taken mode frame flags (Enabled irq read) =
+    is_enabled irq flags && same_form read (is_read mode)
 
 -- an opening, with the flags just after it, gives a lock held in this mode this mark
 abbrev pub marks_opened : Mode → Flags → Mark → Bool

@@ -20,8 +20,14 @@ held_locks_at t j = map (lock_at t) (positions_below j (λ i. is_held t i j))
 
 -- the chain that the event e makes at j: only an acquisition and an opening make one
 unfoldable pub chain_of : List Event → ℕ → Event → Option ChainParts
-chain_of t j (Acquire mode key) = Some (record { held_locks = held_locks_at t j; new_lock = Some (record { key = key; mode = mode }, kind t j); flags = flags_at t j })
-chain_of t j (TurnOn irq) = Some (record { held_locks = held_locks_at t j; new_lock = None; flags = flags_at t (suc j) })
+chain_of t j (Acquire mode key) =
+    Some (record {
+      held_locks = held_locks_at t j;
+      new_lock = Some (record { key = key; mode = mode }, kind t j);
+      flags = flags_at t j;
+    })
+chain_of t j (TurnOn irq) =
+    Some (record { held_locks = held_locks_at t j; new_lock = None; flags = flags_at t (suc j) })
 chain_of t j (Release key) = None
 chain_of t j (Enter irq) = None
 chain_of t j Leave = None

@@ -9,7 +9,7 @@ use Rattle.std.proofs.lemmas.Slice.Eq.{bytes_eq-Decides}
 use Rattle.ld_trace.specs.declared.event.Event.TheVariants.{Acquire, Release}
 use Rattle.ld_trace.specs.declared.event.Mode.{Mode}
 use Rattle.ld_trace.specs.declared.key_table.TheConstants.{MAX_SUB}
-use Rattle.ld_trace.specs.Lines.{acquire_said, gives_back, mode_of, named, release_said, sub_of, takes}
+use Rattle.ld_trace.specs.Lines.{acquire_line, gives_back, mode_of, name_of_fields, release_line, sub_of, takes}
 use Rattle.ld_trace.specs.Progress.{IsEventOf}
 use Rattle.ld_trace.specs.Names.{AreNumbered, Name, is_class_name, is_known, is_name, is_same, place_of, with_name}
 
@@ -57,7 +57,7 @@ module _ (names : List Name) (class digits : List ℕ) (sub key : ℕ) (numbered
   good = (and_parts (is_class_name class) (nat_le sub MAX_SUB) (named-there names (class, sub) key numbered.named here)).0
 
   -- a record that gives back a name of the table
-  pub release-known : (verb : List ℕ) → bytes_eq verb (codes "rel") ≡ true → IsEventOf names (release_said verb (named class (sub_of digits))) (Release key)
+  pub release-known : (verb : List ℕ) → bytes_eq verb (codes "rel") ≡ true → IsEventOf names (release_line verb (name_of_fields class (sub_of digits))) (Release key)
   release-known verb rel = record {
     line = gives_back (class, sub);
     says = rw (rel, digit, good) refl;
@@ -67,7 +67,7 @@ module _ (names : List Name) (class digits : List ℕ) (sub key : ℕ) (numbered
   }
 
   -- a record that takes one
-  pub acquire-known : (verb word : List ℕ) (mode : Mode) → bytes_eq verb (codes "acq") ≡ true → mode_of word ≡ Some mode → IsEventOf names (acquire_said verb (named class (sub_of digits)) (mode_of word)) (Acquire mode key)
+  pub acquire-known : (verb word : List ℕ) (mode : Mode) → bytes_eq verb (codes "acq") ≡ true → mode_of word ≡ Some mode → IsEventOf names (acquire_line verb (name_of_fields class (sub_of digits)) (mode_of word)) (Acquire mode key)
   acquire-known verb word mode acq is = record {
     line = takes (class, sub) mode;
     says = rw (acq, digit, good, is) refl;

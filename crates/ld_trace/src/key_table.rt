@@ -66,9 +66,12 @@ impl KeyTable {
         ensures names { IfOk result (λ _. self.new ≡ with_name self.old (name.now, sub)) }
 
         ensures bad_name { IsErrOf result KeyFault.BadName ↔ (is_class_name name.now ≡ false) }
-        ensures bad_sub { IsErrOf result KeyFault.BadSub ↔ ((is_class_name name.now ≡ true) × (MAX_SUB < sub)) }
-        ensures full { IsErrOf result KeyFault.Full ↔ ((is_name (name.now, sub) ≡ true) × (is_one_too_many self.old (name.now, sub) ≡ true)) }
-        ensures known { is_name (name.now, sub) ≡ true → is_known self.old (name.now, sub) ≡ true → IsOk result }
+        ensures bad_sub { IsErrOf result KeyFault.BadSub ↔ ((is_class_name name.now ≡ true)
+            × (MAX_SUB < sub)) }
+        ensures full { IsErrOf result KeyFault.Full ↔ ((is_name (name.now, sub) ≡ true)
+            × (is_one_too_many self.old (name.now, sub) ≡ true)) }
+        ensures known { is_name (name.now, sub) ≡ true
+            → is_known self.old (name.now, sub) ≡ true → IsOk result }
 
         ensures refused { OnErr result (self.new ≡ self.old) }
     {
@@ -86,9 +89,11 @@ impl KeyTable {
         requires { is_name (name.now, sub) ≡ true }
         ensures value { IfOk result (λ key. key ≡ place_of self.old (name.now, sub)) }
         ensures names { IfOk result (λ _. self.new ≡ with_name self.old (name.now, sub)) }
-        ensures full { IsErrOf result KeyFault.Full ↔ (is_one_too_many self.old (name.now, sub) ≡ true) }
+        ensures full { IsErrOf result KeyFault.Full
+            ↔ (is_one_too_many self.old (name.now, sub) ≡ true) }
         ensures known { is_known self.old (name.now, sub) ≡ true → IsOk result }
-        ensures either { IfErr result (λ fault. (fault ≡ KeyFault.Full) ⊎ (fault ≡ KeyFault.Memory)) }
+        ensures either { IfErr result (λ fault. (fault ≡ KeyFault.Full)
+            ⊎ (fault ≡ KeyFault.Memory)) }
         ensures refused { OnErr result (self.new ≡ self.old) }
     {
         let place = place_among(&mut self.names, StoredName::new(name, sub))?;
@@ -126,9 +131,11 @@ fn place_among(names: &mut IndexSet<StoredName>, name: StoredName) -> Result<usi
     requires { length names.old.keys ≤ MAX_KEYS }
     ensures value { IfOk result (λ place. place ≡ place_of (names_of names.old) (name_of name)) }
     ensures within { IfOk result (λ place. place < MAX_KEYS) }
-    ensures names { IfOk result (λ _. names_of names.new ≡ with_name (names_of names.old) (name_of name)) }
+    ensures names { IfOk result
+        (λ _. names_of names.new ≡ with_name (names_of names.old) (name_of name)) }
     ensures few { length names.new.keys ≤ MAX_KEYS }
-    ensures full { IsErrOf result KeyFault.Full ↔ (is_one_too_many (names_of names.old) (name_of name) ≡ true) }
+    ensures full { IsErrOf result KeyFault.Full
+        ↔ (is_one_too_many (names_of names.old) (name_of name) ≡ true) }
     ensures known { is_known (names_of names.old) (name_of name) ≡ true → IsOk result }
     ensures either { IfErr result (λ fault. (fault ≡ KeyFault.Full) ⊎ (fault ≡ KeyFault.Memory)) }
     ensures refused { OnErr result (names_of names.new ≡ names_of names.old) }

@@ -5,7 +5,7 @@
 
 ghost use Rattle.std.specs.Prelude.{IfSome};
 ghost use Rattle.csv.specs.Records.{fields_of};
-ghost use Rattle.ld_trace.specs.Lines.{acquire_said, mode_of, named, release_said, said, sub_of};
+ghost use Rattle.ld_trace.specs.Lines.{acquire_line, mode_of, name_of_fields, release_line, line_of_record, sub_of};
 ghost use Rattle.ld_trace.specs.Progress.{IsEventOf};
 
 use crate::record::{field, is_word, mode_of, sub_of};
@@ -14,7 +14,7 @@ use csv::ByteRecord;
 
 // The event of a record whose name the table found lately. None says nothing.
 pub(crate) fn known_event(row: &ByteRecord, keys: &KeyTable) -> Option<Event>
-    ensures { IfSome result (IsEventOf keys.now (said (fields_of row.now))) }
+    ensures { IfSome result (IsEventOf keys.now (line_of_record (fields_of row.now))) }
 {
     match row.len() {
         3 => known_release(keys, field(row, 0), field(row, 1), field(row, 2)),
@@ -32,7 +32,7 @@ pub(crate) fn known_event(row: &ByteRecord, keys: &KeyTable) -> Option<Event>
 // The event of `rel` and a name that the table found lately.
 fn known_release(keys: &KeyTable, verb: &[u8], class: &[u8], sub: &[u8]) -> Option<Event>
     ensures { IfSome result
-        (IsEventOf keys.now (release_said verb.now (named class.now (sub_of sub.now)))) }
+        (IsEventOf keys.now (release_line verb.now (name_of_fields class.now (sub_of sub.now)))) }
 {
     if !is_word(verb, b"rel") {
         return None;
@@ -50,7 +50,7 @@ fn known_acquisition(
     mode: &[u8],
 ) -> Option<Event>
     ensures { IfSome result (IsEventOf keys.now
-        (acquire_said verb.now (named class.now (sub_of sub.now)) (mode_of mode.now))) }
+        (acquire_line verb.now (name_of_fields class.now (sub_of sub.now)) (mode_of mode.now))) }
 {
     if !is_word(verb, b"acq") {
         return None;

@@ -38,9 +38,13 @@ impl Line<'_> {
         ensures event { IfOk result (λ event. event ≡ event_of keys.old (line_read self.now)) }
         ensures names { IfOk result (λ _. keys.new ≡ with_line keys.old (line_read self.now)) }
         ensures fits { IfOk result (λ _. is_over keys.old (line_read self.now) ≡ false) }
-        ensures over { IfErr result (λ kind. is_of_text kind ≡ true → (kind ≡ TraceFaultKind.TooManyKeys) × (is_over keys.old (line_read self.now) ≡ true)) }
-        ensures always_over { is_over keys.old (line_read self.now) ≡ true → IsErrOf result TraceFaultKind.TooManyKeys }
-        ensures either { IfErr result (λ kind. (kind ≡ TraceFaultKind.TooManyKeys) ⊎ (kind ≡ TraceFaultKind.Memory)) }
+        ensures over { IfErr result (λ kind. is_of_text kind ≡ true
+            → (kind ≡ TraceFaultKind.TooManyKeys)
+            × (is_over keys.old (line_read self.now) ≡ true)) }
+        ensures always_over { is_over keys.old (line_read self.now) ≡ true
+            → IsErrOf result TraceFaultKind.TooManyKeys }
+        ensures either { IfErr result (λ kind. (kind ≡ TraceFaultKind.TooManyKeys)
+            ⊎ (kind ≡ TraceFaultKind.Memory)) }
         ensures refused { OnErr result (keys.new ≡ keys.old) }
     {
         match self {
@@ -70,9 +74,13 @@ impl LineName<'_> {
         ensures value { IfOk result (λ key. key ≡ place_of keys.old (name_read self.now)) }
         ensures names { IfOk result (λ _. keys.new ≡ with_name keys.old (name_read self.now)) }
         ensures fits { IfOk result (λ _. is_one_too_many keys.old (name_read self.now) ≡ false) }
-        ensures over { IfErr result (λ kind. is_of_text kind ≡ true → (kind ≡ TraceFaultKind.TooManyKeys) × (is_one_too_many keys.old (name_read self.now) ≡ true)) }
-        ensures always_over { is_one_too_many keys.old (name_read self.now) ≡ true → IsErrOf result TraceFaultKind.TooManyKeys }
-        ensures either { IfErr result (λ kind. (kind ≡ TraceFaultKind.TooManyKeys) ⊎ (kind ≡ TraceFaultKind.Memory)) }
+        ensures over { IfErr result (λ kind. is_of_text kind ≡ true
+            → (kind ≡ TraceFaultKind.TooManyKeys)
+            × (is_one_too_many keys.old (name_read self.now) ≡ true)) }
+        ensures always_over { is_one_too_many keys.old (name_read self.now) ≡ true
+            → IsErrOf result TraceFaultKind.TooManyKeys }
+        ensures either { IfErr result (λ kind. (kind ≡ TraceFaultKind.TooManyKeys)
+            ⊎ (kind ≡ TraceFaultKind.Memory)) }
         ensures refused { OnErr result (keys.new ≡ keys.old) }
     {
         match keys.number_name(self.class, self.sub) {

@@ -4,10 +4,10 @@ ghost use Rattle.std.specs.Prelude.{◌≡◌, ◌≤◌, ◌+◌, ◌++◌, ℕ
 ghost use Rattle.csv.specs.Reading.{ReadRecord, error_kind};
 ghost use Rattle.csv.specs.Records.{fields_of};
 ghost use Rattle.ld_trace.specs.Events.{KeysBelow};
-ghost use Rattle.ld_trace.specs.Lines.{said};
+ghost use Rattle.ld_trace.specs.Lines.{line_of_record};
 ghost use Rattle.ld_trace.specs.Names.{Name};
 ghost use Rattle.ld_trace.specs.Progress.{AreRead, AreRefused, HasGiven, HasTaken, ReadsPlain, TakesLine, read_fault};
-ghost use Rattle.ld_trace.specs.Reading.{ReadsTo, StopsAt, said_fault};
+ghost use Rattle.ld_trace.specs.Reading.{ReadsTo, StopsAt, line_fault};
 ghost use Rattle.ld_trace.specs.TraceFaults.{is_of_text};
 
 use crate::known::known_event;
@@ -32,8 +32,10 @@ pub fn read_trace<R: Read + Drop>(
     reader: R,
     keys: &mut KeyTable,
 ) -> Result<RawTrace, TraceFault>
-    ensures ok { IfOk result (λ trace. IfSome (R.remaining reader) (λ bytes. ReadsTo keys.old bytes keys.new trace)) }
-    ensures refused { IfErr result (λ fault. IfSome (R.remaining reader) (λ bytes. StopsAt keys.old bytes keys.new fault)) }
+    ensures ok { IfOk result (λ trace. IfSome (R.remaining reader)
+        (λ bytes. ReadsTo keys.old bytes keys.new trace)) }
+    ensures refused { IfErr result (λ fault. IfSome (R.remaining reader)
+        (λ bytes. StopsAt keys.old bytes keys.new fault)) }
 
     // These hold of any reader, also of one that doesn't tell its bytes.
     ensures numbered { IfOk result (λ trace. KeysBelow (length keys.new) trace) }
@@ -53,8 +55,10 @@ fn read_records<R: Read>(
     keys: &mut KeyTable,
 ) -> Result<RawTrace, TraceFault>
     requires { ReadsPlain source.old }
-    ensures ok { IfOk result (λ trace. (known : Option (List ℕ)) → HasGiven R.remaining known source.old [] → AreRead known keys.old keys.new trace) }
-    ensures refused { IfErr result (λ fault. (known : Option (List ℕ)) → HasGiven R.remaining known source.old []
+    ensures ok { IfOk result (λ trace. (known : Option (List ℕ))
+        → HasGiven R.remaining known source.old [] → AreRead known keys.old keys.new trace) }
+    ensures refused { IfErr result (λ fault. (known : Option (List ℕ))
+        → HasGiven R.remaining known source.old []
         → AreRefused known keys.old keys.new fault.kind fault.at) }
     ensures numbered { IfOk result (λ trace. KeysBelow (length keys.new) trace) }
     ensures kept { (added : List Name) × (keys.new ≡ keys.old ++ added) }
@@ -80,9 +84,11 @@ fn read_records<R: Read>(
 fn take_header<R: Read>(source: &mut Reader<R>, row: &mut ByteRecord) -> Result<(), TraceFaultKind>
     requires { ReadsPlain source.old }
     ensures plain { OnOk result (ReadsPlain source.new) }
-    ensures taken { OnOk result ((known : Option (List ℕ)) (old : List Name) → HasGiven R.remaining known source.old []
+    ensures taken { OnOk result ((known : Option (List ℕ)) (old : List Name)
+        → HasGiven R.remaining known source.old []
         → HasTaken R.remaining known source.new old old []) }
-    ensures refused { IfErr result (λ kind. (known : Option (List ℕ)) (old : List Name) → HasGiven R.remaining known source.old []
+    ensures refused { IfErr result (λ kind. (known : Option (List ℕ)) (old : List Name)
+        → HasGiven R.remaining known source.old []
         → AreRefused known old old kind 1) }
 {
     if !get_record(source, row)? {
@@ -104,7 +110,9 @@ fn take_event<R: Read>(
     requires plain { ReadsPlain source.old }
     requires few { length events.old.items ≤ MAX_EVENTS }
     ensures plain { OnOk result (ReadsPlain source.new) }
-    ensures more { IfOk result (λ found. found ≡ true → (length events.new.items ≡ suc (length events.old.items)) × (length events.new.items ≤ MAX_EVENTS)) }
+    ensures more { IfOk result (λ found. found ≡ true
+        → (length events.new.items ≡ suc (length events.old.items))
+        × (length events.new.items ≤ MAX_EVENTS)) }
     ensures no_more { IfOk result (λ found. found ≡ false → events.new.items ≡ events.old.items) }
     ensures kept_events { OnErr result (events.new.items ≡ events.old.items) }
     ensures kept_names { (added : List Name) × (keys.new ≡ keys.old ++ added) }
@@ -112,9 +120,11 @@ fn take_event<R: Read>(
     ensures taken { IfOk result (λ found. found ≡ true → (known : Option (List ℕ)) (old : List Name)
         → HasTaken R.remaining known source.old old keys.old events.old.items
         → HasTaken R.remaining known source.new old keys.new events.new.items) }
-    ensures ended { IfOk result (λ found. found ≡ false → (known : Option (List ℕ)) (old : List Name)
+    ensures ended { IfOk result (λ found. found ≡ false
+        → (known : Option (List ℕ)) (old : List Name)
         → HasTaken R.remaining known source.old old keys.old events.old.items
-        → AreRead known old keys.new events.new.items × KeysBelow (length keys.new) events.new.items) }
+        → AreRead known old keys.new events.new.items
+            × KeysBelow (length keys.new) events.new.items) }
     ensures refused { IfErr result (λ kind. (known : Option (List ℕ)) (old : List Name)
         → HasTaken R.remaining known source.old old keys.old events.old.items
         → AreRefused known old keys.new kind (length events.old.items + 2)) }
@@ -132,7 +142,8 @@ fn take_event<R: Read>(
 // Gets the next record, and says whether there was one.
 fn get_record<R: Read>(source: &mut Reader<R>, row: &mut ByteRecord) -> Result<bool, TraceFaultKind>
     requires { ReadsPlain source.old }
-    ensures reads { IfOk result (λ found. ReadRecord R.remaining source.old source.new found (fields_of row.new)) }
+    ensures reads { IfOk result
+        (λ found. ReadRecord R.remaining source.old source.new found (fields_of row.new)) }
     ensures plain { OnOk result (ReadsPlain source.new) }
     ensures failed { IfErr result (λ kind. is_of_text kind ≡ false) }
 {
@@ -159,9 +170,12 @@ fn take_record(
     events: &mut Vec<Event>,
     keys: &mut KeyTable,
 ) -> Result<(), TraceFaultKind>
-    ensures taken { OnOk result (TakesLine keys.old keys.new events.old.items events.new.items (fields_of row.now)) }
-    ensures fault { IfErr result (λ kind. is_of_text kind ≡ true → said_fault keys.old (said (fields_of row.now)) ≡ Some kind) }
-    ensures either { IfErr result (λ kind. (is_of_text kind ≡ true) ⊎ (kind ≡ TraceFaultKind.Memory)) }
+    ensures taken { OnOk result (TakesLine keys.old keys.new events.old.items events.new.items
+        (fields_of row.now)) }
+    ensures fault { IfErr result (λ kind. is_of_text kind ≡ true
+        → line_fault keys.old (line_of_record (fields_of row.now)) ≡ Some kind) }
+    ensures either { IfErr result (λ kind. (is_of_text kind ≡ true)
+        ⊎ (kind ≡ TraceFaultKind.Memory)) }
     ensures refused { OnErr result ((keys.new ≡ keys.old) × (events.new.items ≡ events.old.items)) }
 {
     if let Some(event) = known_event(row, keys) {

@@ -3,7 +3,7 @@
 ghost use Rattle.std.specs.Prelude.{◌≡◌, ◌<◌, length, true, Ok, Err, IfErr, Some, option_map, if◌then◌else◌};
 ghost use Rattle.std.specs.Str.{bytes_eq};
 ghost use Rattle.csv.specs.Records.{field_at, fields_of};
-ghost use Rattle.ld_trace.specs.Lines.{acquire_said, irq_of, is_header, leave_said, mode_of, named, release_said, said, state_said, sub_of};
+ghost use Rattle.ld_trace.specs.Lines.{acquire_line, irq_of, is_header, leave_line, mode_of, name_of_fields, release_line, line_of_record, irq_line, sub_of};
 ghost use Rattle.ld_trace.specs.Names.{is_class_name};
 ghost use Rattle.ld_trace.specs.ReadLines.{Says, SaysName};
 ghost use Rattle.ld_trace.specs.TraceFaults.{is_of_text};
@@ -28,7 +28,7 @@ pub(crate) fn is_header(row: &ByteRecord) -> bool
 
 // What a record says, or its fault.
 pub(crate) fn line_of(row: &ByteRecord) -> Result<Line<'_>, TraceFaultKind>
-    ensures says { Says (said (fields_of row.now)) result }
+    ensures says { Says (line_of_record (fields_of row.now)) result }
     ensures text { IfErr result (λ kind. is_of_text kind ≡ true) }
 {
     match row.len() {
@@ -42,7 +42,7 @@ pub(crate) fn line_of(row: &ByteRecord) -> Result<Line<'_>, TraceFaultKind>
 
 // What `leave` says.
 fn leave_line(verb: &[u8]) -> Result<Line<'_>, TraceFaultKind>
-    ensures says { Says (leave_said verb.now) result }
+    ensures says { Says (leave_line verb.now) result }
     ensures text { IfErr result (λ kind. is_of_text kind ≡ true) }
 {
     if is_word(verb, b"leave") {
@@ -54,7 +54,7 @@ fn leave_line(verb: &[u8]) -> Result<Line<'_>, TraceFaultKind>
 
 // What `enter`, `on` or `off` and a state say.
 fn irq_line<'r>(verb: &[u8], irq: &'r [u8]) -> Result<Line<'r>, TraceFaultKind>
-    ensures says { Says (state_said verb.now (irq_of irq.now)) result }
+    ensures says { Says (irq_line verb.now (irq_of irq.now)) result }
     ensures text { IfErr result (λ kind. is_of_text kind ≡ true) }
 {
     let Some(irq) = irq_of(irq) else {
@@ -73,7 +73,7 @@ fn irq_line<'r>(verb: &[u8], irq: &'r [u8]) -> Result<Line<'r>, TraceFaultKind>
 
 // What `rel` and a name say.
 fn release_line<'r>(verb: &[u8], class: &'r [u8], sub: &[u8]) -> Result<Line<'r>, TraceFaultKind>
-    ensures says { Says (release_said verb.now (named class.now (sub_of sub.now))) result }
+    ensures says { Says (release_line verb.now (name_of_fields class.now (sub_of sub.now))) result }
     ensures text { IfErr result (λ kind. is_of_text kind ≡ true) }
 {
     if !is_word(verb, b"rel") {
@@ -89,7 +89,8 @@ fn acquire_line<'r>(
     sub: &[u8],
     mode: &[u8],
 ) -> Result<Line<'r>, TraceFaultKind>
-    ensures says { Says (acquire_said verb.now (named class.now (sub_of sub.now)) (mode_of mode.now)) result }
+    ensures says { Says (acquire_line verb.now (name_of_fields class.now (sub_of sub.now))
+        (mode_of mode.now)) result }
     ensures text { IfErr result (λ kind. is_of_text kind ≡ true) }
 {
     if !is_word(verb, b"acq") {
@@ -104,7 +105,7 @@ fn acquire_line<'r>(
 
 // The name of these two fields, of which the class's name is judged first.
 fn name_of<'r>(class: &'r [u8], sub: &[u8]) -> Result<LineName<'r>, TraceFaultKind>
-    ensures says { SaysName (named class.now (sub_of sub.now)) result }
+    ensures says { SaysName (name_of_fields class.now (sub_of sub.now)) result }
     ensures text { IfErr result (λ kind. is_of_text kind ≡ true) }
 {
     let Some(class) = class_of(class) else {
@@ -118,7 +119,8 @@ fn name_of<'r>(class: &'r [u8], sub: &[u8]) -> Result<LineName<'r>, TraceFaultKi
 
 // The class's name of this field: 1 to 64 bytes, each 0x21 to 0x7E.
 fn class_of(class: &[u8]) -> Option<&str>
-    ensures { option_map (λ text. text.now) result ≡ (if is_class_name class.now then Some class.now else None) }
+    ensures { option_map (λ text. text.now) result ≡
+        (if is_class_name class.now then Some class.now else None) }
 {
     if is_class_name(class) {
         Some(unsafe { str::from_utf8_unchecked(class) })
