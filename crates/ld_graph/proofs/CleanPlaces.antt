@@ -17,7 +17,7 @@ use Rattle.ld_graph.specs.Places.{place, arrival, Leaves, LeavesFrom, Leads, Pat
 use Rattle.ld_graph.specs.declared.fact.Fact.{Fact}
 use Rattle.ld_graph.specs.declared.fact.Fact.TheVariants.{Dependency, Marked}
 use Rattle.ld_graph.proofs.Circles.{OnCircle-new}
-use Rattle.ld_graph.proofs.Search.{IsWithin, Leaves-from_MayFollow, MayFollow-from_Leaves, OnCircle-iff, Path-more}
+use Rattle.ld_graph.proofs.Paths.{IsWithin, Leaves-from_MayFollow, MayFollow-from_Leaves, OnCircle-iff, Path-more}
 use Rattle.ld_graph.proofs.Links.{ClosesWith-iff, IsInversion-iff}
 use Rattle.ld_graph.proofs.Ways.{Path-cases, Path-from_way, Path-new, Path-joined, Path-kept, Leads-added}
 

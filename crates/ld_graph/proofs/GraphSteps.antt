@@ -19,7 +19,7 @@ use Rattle.ld_graph.specs.declared.ends.Ends.{Ends}
 use Rattle.ld_graph.specs.declared.fact.Fact.{Fact}
 use Rattle.ld_graph.specs.declared.fact.Fact.TheVariants.{Dependency, Marked}
 use Rattle.ld_graph.proofs.Circles.{OnCircle-member}
-use Rattle.ld_graph.proofs.Search.{OnCircle-iff, Path-more}
+use Rattle.ld_graph.proofs.Paths.{OnCircle-iff, Path-more}
 use Rattle.ld_graph.proofs.Ways.{Comes-path, ways_taken}
 use Rattle.ld_graph.proofs.CleanPlaces.{CleanPlaces-from, IsClean-from_places, CleanPlaces-dependency, CleanPlaces-mark, ComesBack, Joins, TurnsBackBy, arrows_within, arrows_added, Leads-kept, LinkArrives-adds, LinkLeaves-adds, LinkArrives-kept, LinkLeaves-kept}
 

@@ -39,56 +39,36 @@ module _ (first now : FactWords) (c : ChainParts) (n : ℕ) (fresh : Bool) (was 
   later : fresh ≡ true → (x : Fact) × StandsIn c x (n + 1) × ¬ HasFact first x
   later h = let (x, s, ne) = was.news h in (x, StandsIn-later c x n s, ne)
 
-  pub Grown-none : chain_fact c n ≡ None → Grown first now c (n + 1) fresh
-  Grown-none empty = record {
+  -- the facts with that of one slot more
+  step : (new : FactWords) → ((x : Fact) → HasFact new x ↔ (HasFact now x ⊎ (chain_fact c n ≡ Some x))) →
+      (x : Fact) → HasFact new x ↔ (HasFact first x ⊎ StandsIn c x (n + 1))
+  step new one x = (
+    (λ h. elim ((one x).0 h) [
+      | inl m ↦ elim ((was.facts x).0 m) [ inl o ↦ inl o | inr s ↦ inr (StandsIn-later c x n s) ]
+      | inr e ↦ inr (n, omega arith, e)
+    ]),
+    (λ h. (one x).1 (elim h [
+      | inl o ↦ inl ((was.facts x).1 (inl o))
+      | inr s ↦ elim (StandsIn-cases c x n s) [ inl t ↦ inl ((was.facts x).1 (inr t)) | inr e ↦ inr e ]
+    ])),
+  )
+
+  pub Grown-same : ((x : Fact) → chain_fact c n ≡ Some x → HasFact now x) → Grown first now c (n + 1) fresh
+  Grown-same known = record {
     keys = was.keys;
-    facts = λ x. (
-      (λ h. elim ((was.facts x).0 h) [ inl o ↦ inl o | inr s ↦ inr (StandsIn-later c x n s) ]),
-      (λ h. elim h [
-        | inl o ↦ (was.facts x).1 (inl o)
-        | inr s ↦ elim (StandsIn-cases c x n s) [
-          | inl t ↦ (was.facts x).1 (inr t)
-          | inr e ↦ absurd (none-some x (sym empty ∙ e))
-        ]
-      ]),
-    );
+    facts = step now (λ x. ((λ h. inl h), (λ h. elim h [ inl m ↦ m | inr e ↦ known x e ])));
     known = was.known;
     news = later;
   }
 
-  pub Grown-known : (x : Fact) → chain_fact c n ≡ Some x → HasFact now x → Grown first now c (n + 1) fresh
-  Grown-known x at has = record {
-    keys = was.keys;
-    facts = λ y. (
-      (λ h. elim ((was.facts y).0 h) [ inl o ↦ inl o | inr s ↦ inr (StandsIn-later c y n s) ]),
-      (λ h. elim h [
-        | inl o ↦ (was.facts y).1 (inl o)
-        | inr s ↦ elim (StandsIn-cases c y n s) [
-          | inl t ↦ (was.facts y).1 (inr t)
-          | inr e ↦ subst (HasFact now) (same_Some x y (sym at ∙ e)) has
-        ]
-      ]),
-    );
-    known = was.known;
-    news = later;
-  }
-
-  pub Grown-fresh : (new : FactWords) (x : Fact) → chain_fact c n ≡ Some x → ¬ HasFact now x → new.keys ≡ now.keys → Adds (HasFact now) (HasFact new) (λ y. y ≡ x) → Grown first new c (n + 1) true
+  pub Grown-fresh : (new : FactWords) (x : Fact) → chain_fact c n ≡ Some x → ¬ HasFact now x → new.keys ≡ now.keys →
+      Adds (HasFact now) (HasFact new) (λ y. y ≡ x) → Grown first new c (n + 1) true
   Grown-fresh new x at fresh_fact keys adds = record {
     keys = keys ∙ was.keys;
-    facts = λ y. (
-      (λ h. elim ((adds y).0 h) [
-        | inl m ↦ elim ((was.facts y).0 m) [ inl o ↦ inl o | inr s ↦ inr (StandsIn-later c y n s) ]
-        | inr e ↦ inr (n, omega arith, at ∙ ap Some (sym e))
-      ]),
-      (λ h. elim h [
-        | inl o ↦ (adds y).1 (inl ((was.facts y).1 (inl o)))
-        | inr s ↦ elim (StandsIn-cases c y n s) [
-          | inl t ↦ (adds y).1 (inl ((was.facts y).1 (inr t)))
-          | inr e ↦ (adds y).1 (inr (sym (same_Some x y (sym at ∙ e))))
-        ]
-      ]),
-    );
+    facts = step new (λ y. (
+      (λ h. elim ((adds y).0 h) [ inl m ↦ inl m | inr e ↦ inr (at ∙ ap Some (sym e)) ]),
+      (λ h. (adds y).1 (elim h [ inl m ↦ inl m | inr e ↦ inr (sym (same_Some x y (sym at ∙ e))) ])),
+    ));
     known = λ h. absurd (let e : true ≡ false = h in cc);
     news = λ h. (x, (n, omega arith, at), λ o. fresh_fact ((was.facts x).1 (inl o)));
   }

@@ -7,7 +7,7 @@ use Rattle.ld_task.specs.declared.mark.Mark.{Mark}
 use Rattle.ld_task.specs.declared.mark.Mark.TheVariants.{Used, UsedIn, Enabled}
 use Rattle.ld_graph.specs.Bits.{has_bit}
 use Rattle.ld_graph.specs.Numbers.{irq_number}
-use Rattle.ld_graph.specs.Places.{place, LeavesFrom, LinkArrives, LinkLeaves}
+use Rattle.ld_graph.specs.Places.{LeavesFrom, LinkArrives, LinkLeaves}
 use Rattle.ld_graph.specs.Tables.{reaches}
 use Rattle.ld_graph.specs.Kept.{TakesMark}
 use Rattle.ld_graph.specs.declared.ends.Ends.{Ends}
@@ -56,16 +56,6 @@ mark_of (Marked key mark) = mark
 
 abbrev Is : ℕ → Mark → Fact → Type 0
 Is key mark x = x ≡ Marked key mark
-
-arrives_by : (key : ℕ) (irq : Irq) (read : Bool) (irq' : Irq) (p : ℕ) →
-    LinkArrives (Is key (UsedIn irq read)) irq' p ↔ ((irq' ≡ irq) × (p ≡ place key read))
-arrives_by key irq read irq' p = (
-  (λ (a, r, e, at). (
-    ap (λ x. (use_of (mark_of x)).0) e,
-    at ∙ (λ i. place (key_of (e i)) (use_of (mark_of (e i))).1),
-  )),
-  (λ (same, at). (key, read, (λ i. Marked key (UsedIn (same i) read)), at)),
-)
 
 leaves_by : (key : ℕ) (irq : Irq) (read : Bool) (irq' : Irq) (q : ℕ) →
     LinkLeaves (Is key (Enabled irq read)) irq' q ↔ ((irq' ≡ irq) × LeavesFrom key read q)
@@ -128,19 +118,6 @@ module _ (rows : List (List ℕ)) (irq : Irq) (within : irq_number irq < length 
       other ne = get_or-set_other rows (irq_number irq) (irq_number irq') row [] ne
 
 module _ (ends : Ends) (key : ℕ) (irq : Irq) (read : Bool) (row : List ℕ) where
-  pub TakesMark-used_in : irq_number irq < length ends.arrivals →
-      ((p : ℕ) → (has_bit row p ≡ true) ↔ ((reaches ends.arrivals (irq_number irq) p ≡ true) ⊎ (p ≡ place key read))) →
-      TakesMark ends (record { arrivals = set ends.arrivals (irq_number irq) row; departures = ends.departures }) key (UsedIn irq read)
-  TakesMark-used_in within grows = record {
-    arrives = λ irq' p.
-        let by = arrives_by key irq read irq' p in
-        let step = row_set ends.arrivals irq within row (λ p. p ≡ place key read) grows irq' p in (
-          (λ h. elim (step.0 h) [ inl o ↦ inl o | inr n ↦ inr (by.1 n) ]),
-          (λ h. step.1 (elim h [ inl o ↦ inl o | inr n ↦ inr (by.0 n) ])),
-        );
-    leaves = λ irq' q. unchanged (reaches ends.departures (irq_number irq') q) (LinkLeaves (Is key (UsedIn irq read)) irq' q) (none_leaves key (UsedIn irq read) (λ e. omega arith) irq' q);
-  }
-
   pub TakesMark-enabled : irq_number irq < length ends.departures →
       ((q : ℕ) → (has_bit row q ≡ true) ↔ ((reaches ends.departures (irq_number irq) q ≡ true) ⊎ LeavesFrom key read q)) →
       TakesMark ends (record { arrivals = ends.arrivals; departures = set ends.departures (irq_number irq) row }) key (Enabled irq read)
@@ -153,14 +130,3 @@ module _ (ends : Ends) (key : ℕ) (irq : Irq) (read : Bool) (row : List ℕ) wh
           (λ h. step.1 (elim h [ inl o ↦ inl o | inr n ↦ inr (by.0 n) ])),
         );
   }
-
--- a bit more in a row
-pub one_more : (old new : List ℕ) (n : ℕ) → (has_bit new n ≡ true) → ((k : ℕ) → ¬ (k ≡ n) → has_bit new k ≡ has_bit old k) →
-    (p : ℕ) → (has_bit new p ≡ true) ↔ ((has_bit old p ≡ true) ⊎ (p ≡ n))
-one_more old new n set_n others p = (
-  (λ h. elim (cases_eq p n) [ inl e ↦ inr e | inr ne ↦ inl (sym (others p ne) ∙ h) ]),
-  (λ h. elim (cases_eq p n) [
-    | inl e ↦ ap (has_bit new) e ∙ set_n
-    | inr ne ↦ elim h [ inl o ↦ others p ne ∙ o | inr e ↦ absurd (ne e) ]
-  ]),
-)

@@ -1,5 +1,5 @@
 -- What holds of all facts: the laws that this crate proves of its definitions. A set of facts is a test in some of them.
-use Rattle.std.specs.Prelude.{◌≡◌, ℕ, ◌⊎◌, Bool, IsTrue, IsFalse, List, [], ◌∷◌, ◌++◌}
+use Rattle.std.specs.Prelude.{◌≡◌, ℕ, ◌⊎◌, Bool, IsTrue, IsFalse, List, [], ◌∷◌, ◌++◌, Any}
 use Rattle.ld_trace.specs.declared.event.Event.{Event}
 use Rattle.ld_trace.specs.declared.event.Irq.{Irq}
 use Rattle.ld_task.specs.declared.mark.Mark.TheVariants.{UsedIn, Enabled}
@@ -7,6 +7,7 @@ use Rattle.ld_task.specs.Chains.{ChainParts}
 use Rattle.ld_task.specs.TraceChains.{chains}
 use Rattle.ld_task.specs.Kinds.{is_s, is_r}
 use Rattle.ld_graph.specs.Arrows.{Arrow}
+use Rattle.ld_graph.specs.Counting.{IsNumberOf}
 use Rattle.ld_graph.specs.Facts.{TraceHas, ChainHas, ChainsHave, AreSame, Adds, DependenciesOf}
 use Rattle.ld_graph.specs.FactBits.{FactWords, HasFact}
 use Rattle.ld_graph.specs.Links.{IsDoubleBy, IsInversionWith}
@@ -30,6 +31,12 @@ AddsInTurn old (chain ∷ chains) new =
 abbrev pub AddingInTurnUnites : Type 0
 AddingInTurnUnites = (old new : FactWords) (chains : List ChainParts) →
     AddsInTurn old chains new → (new.keys ≡ old.keys) × Adds (HasFact old) (HasFact new) (ChainsHave chains)
+
+-- the dependencies of some traces have one number, so that to tell one is to tell how many there are
+abbrev pub DependenciesHaveOneNumber : Type 0
+DependenciesHaveOneNumber = (traces : List (List Event)) (m n : ℕ) →
+    IsNumberOf (DependenciesOf (λ x. Any (λ t. TraceHas t x) traces)) m →
+    IsNumberOf (DependenciesOf (λ x. Any (λ t. TraceHas t x) traces)) n → m ≡ n
 
 -- ---- what is new suffices
 -- the set of a test

@@ -8,7 +8,7 @@ use crate::fact::Fact;
 use ld_task::{Chain, Frame, Kind, Mark};
 use ld_trace::{Irq, KeyId, Mode};
 
-// How many slots the chain has for facts, some of them empty.
+// How many slots the chain has for facts. Some of them are empty.
 pub(crate) fn slots(chain: &Chain) -> usize
     ensures value { result ≡ fact_slots chain.now }
     ensures few { result ≤ 96 }
@@ -37,7 +37,7 @@ pub(crate) fn fact_at(chain: &Chain, n: usize) -> Option<Fact>
     }
 }
 
-// The dependency from the held lock at place `i`, if there is one, to the new lock.
+// The dependency from the held lock `i`, if there is one, to the new lock.
 fn dependency_of(chain: &Chain, i: usize, key: KeyId, mode: Mode) -> Option<Fact>
     ensures { result ≡ dependency_from (slice_get chain.now.held_locks i)
         (record { key = key; mode = mode }) }
@@ -67,21 +67,27 @@ fn mark_of_new(chain: &Chain, n: usize, key: KeyId, mode: Mode, frame: Frame) ->
     mark_where(given, key, mark)
 }
 
-// The mark of number `n` below 2 on the held lock at place `i`, if there is one and the opening gives it.
+// The mark of number `n` below 2 on the held lock `i`, if there is one and the opening gives it.
 fn mark_of_old(chain: &Chain, i: usize, n: usize) -> Option<Fact>
     ensures { result ≡ mark_of_held (slice_get chain.now.held_locks i) chain.now.flags n }
 {
     let (key, mode) = chain.held(i)?;
     let irq = if n == 0 { Irq::Hard } else { Irq::Soft };
-    mark_where(chain.flags().is_enabled(irq), key, enabled(irq, reads(mode)))
+    mark_where(
+        chain.flags().is_enabled(irq),
+        key,
+        enabled(irq, reads(mode)),
+    )
 }
 
+// The mark of a key that is used in the state.
 fn used_in(irq: Irq, read: bool) -> Mark
     ensures { result ≡ Mark.UsedIn irq read }
 {
     Mark::UsedIn { irq, read }
 }
 
+// The mark of a key that is used with the state enabled.
 fn enabled(irq: Irq, read: bool) -> Mark
     ensures { result ≡ Mark.Enabled irq read }
 {

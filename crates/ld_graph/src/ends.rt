@@ -14,11 +14,11 @@ use crate::reach::Reach;
 use ld_task::Mark;
 use ld_trace::Irq;
 
-/// How many states there are.
+// How many states there are.
 const STATES: usize = 2;
 
-/// By state, the places where its links arrive, which are those of keys used in it, and the places that its links
-/// leave, which are those of keys used with it enabled.
+// By state, the places where its links arrive, which are those of keys used in it, and the places that its links
+// leave, which are those of keys used with it enabled.
 #[derive(Drop)]
 pub(crate) struct Ends {
     arrivals: [Row; STATES],
@@ -26,7 +26,7 @@ pub(crate) struct Ends {
 }
 
 impl Ends {
-    /// No links.
+    // No links.
     pub(crate) fn new() -> Ends
         ensures arrivals { (irq : Irq) (p : ℕ) → IsFalse (arrives_at result irq p) }
         ensures departures { (irq : Irq) (q : ℕ) → IsFalse (departs_from result irq q) }
@@ -37,7 +37,7 @@ impl Ends {
         }
     }
 
-    /// Takes in the ends of the links by a mark.
+    // Takes in the ends of the links by a mark.
     pub(crate) fn add(&mut self, key: u16, mark: Mark)
         requires { key < MAX_KEYS }
         ensures { TakesMark self.old self.new key mark }
@@ -53,7 +53,7 @@ impl Ends {
         }
     }
 
-    /// Whether links of some state arrive at one of the sources and leave one of the targets.
+    // Whether links of some state arrive at one of the sources and leave one of the targets.
     pub(crate) fn are_joined(&self, sources: &Row, targets: &Row) -> bool
         ensures { IsTrue result ↔ JoinsLinks sources.now targets.now self.now }
     {
@@ -65,7 +65,7 @@ impl Ends {
         false
     }
 
-    /// Whether a link by the mark leads back to it, by what is reached.
+    // Whether a link by the mark leads back to it, by what is reached.
     pub(crate) fn turns_back(&self, reach: &Reach, key: u16, mark: Mark) -> bool
         requires { key < MAX_KEYS }
         ensures { IsTrue result ↔ MarkTurnsBack reach.now self.now key mark }
@@ -82,7 +82,7 @@ impl Ends {
     }
 }
 
-/// The number of a state.
+// The number of a state.
 pub(crate) fn irq_number(irq: Irq) -> usize
     ensures value { result ≡ irq_number irq }
     ensures below { result < 2 }

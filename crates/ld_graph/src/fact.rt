@@ -40,6 +40,7 @@ impl Fact {
     }
 }
 
+// The number of a dependency's bit.
 fn dependency_number(keys: u16, from: u16, to: u16, kind: Kind) -> usize
     requires few { keys ≤ MAX_KEYS }
     requires from { from < keys }
@@ -50,6 +51,7 @@ fn dependency_number(keys: u16, from: u16, to: u16, kind: Kind) -> usize
     (usize::from(from) * usize::from(keys) + usize::from(to)) * 4 + kind_number(kind)
 }
 
+// The number of a mark's bit.
 fn mark_number(keys: u16, key: u16, mark: Mark) -> usize
     requires few { keys ≤ MAX_KEYS }
     requires key { key < keys }
@@ -60,6 +62,7 @@ fn mark_number(keys: u16, key: u16, mark: Mark) -> usize
     n * n * 4 + (usize::from(key) * 9 + mark_index(mark))
 }
 
+// The place of a kind among the four of its keys.
 fn kind_number(kind: Kind) -> usize
     ensures value { result ≡ kind_number kind }
     ensures below { result < 4 }

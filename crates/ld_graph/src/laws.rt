@@ -1,6 +1,6 @@
 //! Laws of the definitions, each carried by a function that does nothing.
 
-ghost use Rattle.ld_graph.specs.Laws.{TraceFactsAreTheChains, AddingInTurnUnites, NewCirclesHaveNewMembers, NewDoublesHaveNewMarks, NewInversionsHaveNewParts};
+ghost use Rattle.ld_graph.specs.Laws.{DependenciesHaveOneNumber, TraceFactsAreTheChains, AddingInTurnUnites, NewCirclesHaveNewMembers, NewDoublesHaveNewMarks, NewInversionsHaveNewParts};
 
 /// The facts of a trace are those of its chains.
 pub fn trace_facts_are_the_chains()
@@ -9,6 +9,11 @@ pub fn trace_facts_are_the_chains()
     ld_task::dependencies_are_the_chains();
     ld_task::marks_are_the_chains();
 }
+
+/// The dependencies of some traces have one number.
+pub fn dependencies_have_one_number()
+    ensures { DependenciesHaveOneNumber }
+{}
 
 /// Adding chains one after the other gives the union of their facts.
 pub fn adding_in_turn_unites()

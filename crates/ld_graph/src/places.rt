@@ -6,16 +6,16 @@ ghost use Rattle.ld_graph.specs.Places.{place};
 
 use ld_trace::MAX_KEYS;
 
-/// How many places there are: two for each key.
+// How many places there are: two for each key.
 pub(crate) const PLACES: usize = 2 * MAX_KEYS as usize;
 
-/// How many words a row has.
+// How many words a row has.
 pub(crate) const ROW_WORDS: usize = PLACES / 64;
 
-/// A set of places.
+// A set of places.
 pub(crate) type Row = [u64; ROW_WORDS];
 
-/// The place of a key and a letter.
+// The place of a key and a letter.
 pub(crate) fn place_of(key: u16, at_r: bool) -> usize
     requires { key < MAX_KEYS }
     ensures value { result ≡ place key at_r }

@@ -13,7 +13,7 @@ use ld_task::Kind;
 use std::alloc::{AllocError, Global};
 use std::marker::Model;
 
-/// For each place those that are reached from it, by one dependency or more, and those from which it is reached.
+// For each place those that are reached from it, by one dependency or more, and those from which it is reached.
 #[derive(Drop)]
 pub(crate) struct Reach {
     ahead: Vec<Row>,
@@ -32,7 +32,7 @@ impl Model for Reach {
 }
 
 impl Reach {
-    /// No place is reached from another.
+    // No place is reached from another.
     pub(crate) fn new(alloc: Global) -> Result<Reach, AllocError>
         ensures { IfOk result (λ r. (p q : ℕ) → IsFalse (reaches r p q)) }
     {
@@ -41,7 +41,7 @@ impl Reach {
         Ok(Reach { ahead, behind })
     }
 
-    /// The places that are reached from `p`.
+    // The places that are reached from `p`.
     pub(crate) fn from(&self, p: usize) -> Row
         requires { p < PLACES }
         ensures { (q : ℕ) → has_bit result q ≡ reaches self.now p q }
@@ -57,7 +57,7 @@ impl Reach {
         self.behind[q]
     }
 
-    /// The places at which an arrow to the key arrives, by its second letter, and those that are reached from there.
+    // The places at which an arrow to the key arrives, by its second letter, and those that are reached from there.
     pub(crate) fn targets(&self, key: u16, by_r: bool) -> Row
         requires { key < MAX_KEYS }
         ensures { (q : ℕ) → IsTrue (has_bit result q) ↔ IsTarget self.now key by_r q }
@@ -68,7 +68,7 @@ impl Reach {
         row
     }
 
-    /// The places that an arrow from the key leaves, by its first letter, and those from which these are reached.
+    // The places that an arrow from the key leaves, by its first letter, and those from which these are reached.
     pub(crate) fn sources(&self, key: u16, by_s: bool) -> Row
         requires { key < MAX_KEYS }
         ensures { (p : ℕ) → IsTrue (has_bit result p) ↔ IsSource self.now key by_s p }
@@ -97,9 +97,9 @@ impl Reach {
         row
     }
 
-    /// Adds a dependency, whose sources come to reach its targets, and answers how many rows were read or written for
-    /// it. Only rows that change are written: those of sources that do not reach the place of arrival yet, since the
-    /// others reach all targets, and of targets that are not reached yet from each place that the dependency leaves.
+    // Adds a dependency, whose sources come to reach its targets, and answers how many rows were read or written for
+    // it. Only rows that change are written: those of sources that do not reach the place of arrival yet, since the
+    // others reach all targets, and of targets that are not reached yet from each place that the dependency leaves.
     pub(crate) fn add(
         &mut self,
         from: u16,

@@ -18,5 +18,6 @@ new_lock_eq a b = lock_eq a.0 b.0 && frame.eq-value.it a.1 b.1
 
 -- the held locks, the new lock and its frame, and the flags are the same
 abbrev pub chain_eq : ChainParts → ChainParts → Bool
-chain_eq a b = pointwise lock_eq a.held_locks b.held_locks && option_eq new_lock_eq a.new_lock b.new_lock
+chain_eq a b =
+    pointwise lock_eq a.held_locks b.held_locks && option_eq new_lock_eq a.new_lock b.new_lock
     && flags.eq-value.it a.flags b.flags

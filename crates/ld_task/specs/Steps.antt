@@ -11,7 +11,8 @@ use Rattle.ld_task.specs.EndState.{EndState, end_state}
 -- The event e after the well-formed trace h: either the longer trace is well formed, this is its end state, and the answer
 -- is the chain of its last position; or e isn't allowed there, with this fault.
 abbrev pub StepsTo : List Event → Event → EndState → Result (Option ChainParts) StepFault → Type 0
-StepsTo h e new (Ok answer) = let t = h ++ e ∷ [] in IsWellFormed t × (new ≡ end_state t) × (answer ≡ chain t (length h))
+StepsTo h e new (Ok answer) =
+    let t = h ++ e ∷ [] in IsWellFormed t × (new ≡ end_state t) × (answer ≡ chain t (length h))
 StepsTo h e new (Err refused) = fault (h ++ e ∷ []) (length h) ≡ Some refused
 
 -- the first n events of t are well formed, and this is the state after them
@@ -22,5 +23,7 @@ pub record IsStateAfter (t : List Event) (n : ℕ) (state : EndState) : Type 0 w
 -- The event at n, after the first n events of t: either this is the state after it, and the answer is the one chain that the
 -- chains so far gain; or the event at n is the first of t that isn't allowed, with this fault.
 abbrev pub GoesOn : List Event → ℕ → EndState → Result (Option ChainParts) StepFault → Type 0
-GoesOn t n new (Ok answer) = IsStateAfter t (n + 1) new × (chains (take (n + 1) t) ≡ chains (take n t) ++ option_to_list answer)
+GoesOn t n new (Ok answer) =
+    IsStateAfter t (n + 1) new
+    × (chains (take (n + 1) t) ≡ chains (take n t) ++ option_to_list answer)
 GoesOn t n new (Err refused) = IsFirstFault t (record { fault = refused; place = n })

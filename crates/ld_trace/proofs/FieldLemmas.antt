@@ -8,7 +8,7 @@ use Rattle.std.proofs.lemmas.Bool.Decides.{nat_tests}
 use Rattle.ld_trace.specs.declared.stored_name.TheConstants.{MAX_NAME}
 use Rattle.csv.specs.Records.{field_at}
 use Rattle.ld_trace.specs.declared.trace_fault.TraceFaultKind.TheVariants.{BadRecord}
-use Rattle.ld_trace.specs.Lines.{Record, acquire_said, irq_of, is_header, leave_said, mode_of, named, release_said, said, state_said, sub_of}
+use Rattle.ld_trace.specs.Lines.{Record, acquire_line, irq_of, is_header, leave_line, mode_of, name_of_fields, release_line, line_of_record, irq_line, sub_of}
 use Rattle.ld_trace.specs.Names.{are_visible, is_class_name}
 
 -- a field within the record is there
@@ -40,31 +40,31 @@ four-fields [] a b d f n h i j k = absurd (omega arith)
 four-fields (x ∷ r) a b d f n h i j k = let e : r ≡ b ∷ d ∷ f ∷ [] = three-fields r b d f (omega arith) i j k in cc
 
 -- what a record of so many fields says
-pub said-one : (fs : Record) (a : List ℕ) → length fs ≡ 1 → field_at fs 0 ≡ Some a → said fs ≡ leave_said a
-unfolding said
-said-one fs a n h = rw (one-field fs a n h)
+pub line_of_record-one : (fs : Record) (a : List ℕ) → length fs ≡ 1 → field_at fs 0 ≡ Some a → line_of_record fs ≡ leave_line a
+unfolding line_of_record
+line_of_record-one fs a n h = rw (one-field fs a n h)
 
-pub said-two : (fs : Record) (a b : List ℕ) → length fs ≡ 2 → field_at fs 0 ≡ Some a → field_at fs 1 ≡ Some b → said fs ≡ state_said a (irq_of b)
-unfolding said
-said-two fs a b n h i = rw (two-fields fs a b n h i)
+pub line_of_record-two : (fs : Record) (a b : List ℕ) → length fs ≡ 2 → field_at fs 0 ≡ Some a → field_at fs 1 ≡ Some b → line_of_record fs ≡ irq_line a (irq_of b)
+unfolding line_of_record
+line_of_record-two fs a b n h i = rw (two-fields fs a b n h i)
 
-pub said-three : (fs : Record) (a b d : List ℕ) → length fs ≡ 3 → field_at fs 0 ≡ Some a → field_at fs 1 ≡ Some b → field_at fs 2 ≡ Some d → said fs ≡ release_said a (named b (sub_of d))
-unfolding said
-said-three fs a b d n h i j = rw (three-fields fs a b d n h i j)
+pub line_of_record-three : (fs : Record) (a b d : List ℕ) → length fs ≡ 3 → field_at fs 0 ≡ Some a → field_at fs 1 ≡ Some b → field_at fs 2 ≡ Some d → line_of_record fs ≡ release_line a (name_of_fields b (sub_of d))
+unfolding line_of_record
+line_of_record-three fs a b d n h i j = rw (three-fields fs a b d n h i j)
 
-pub said-four : (fs : Record) (a b d f : List ℕ) → length fs ≡ 4 → field_at fs 0 ≡ Some a → field_at fs 1 ≡ Some b → field_at fs 2 ≡ Some d → field_at fs 3 ≡ Some f
-    → said fs ≡ acquire_said a (named b (sub_of d)) (mode_of f)
-unfolding said
-said-four fs a b d f n h i j k = rw (four-fields fs a b d f n h i j k)
+pub line_of_record-four : (fs : Record) (a b d f : List ℕ) → length fs ≡ 4 → field_at fs 0 ≡ Some a → field_at fs 1 ≡ Some b → field_at fs 2 ≡ Some d → field_at fs 3 ≡ Some f
+    → line_of_record fs ≡ acquire_line a (name_of_fields b (sub_of d)) (mode_of f)
+unfolding line_of_record
+line_of_record-four fs a b d f n h i j k = rw (four-fields fs a b d f n h i j k)
 
-pub said-others : (fs : Record) → length fs ≢ 1 → length fs ≢ 2 → length fs ≢ 3 → length fs ≢ 4 → said fs ≡ Err BadRecord
-unfolding said
-said-others [] n1 n2 n3 n4 = refl
-said-others (a ∷ []) n1 n2 n3 n4 = absurd (n1 refl)
-said-others (a ∷ b ∷ []) n1 n2 n3 n4 = absurd (n2 refl)
-said-others (a ∷ b ∷ d ∷ []) n1 n2 n3 n4 = absurd (n3 refl)
-said-others (a ∷ b ∷ d ∷ f ∷ []) n1 n2 n3 n4 = absurd (n4 refl)
-said-others (a ∷ b ∷ d ∷ f ∷ g ∷ rest) n1 n2 n3 n4 = refl
+pub line_of_record-others : (fs : Record) → length fs ≢ 1 → length fs ≢ 2 → length fs ≢ 3 → length fs ≢ 4 → line_of_record fs ≡ Err BadRecord
+unfolding line_of_record
+line_of_record-others [] n1 n2 n3 n4 = refl
+line_of_record-others (a ∷ []) n1 n2 n3 n4 = absurd (n1 refl)
+line_of_record-others (a ∷ b ∷ []) n1 n2 n3 n4 = absurd (n2 refl)
+line_of_record-others (a ∷ b ∷ d ∷ []) n1 n2 n3 n4 = absurd (n3 refl)
+line_of_record-others (a ∷ b ∷ d ∷ f ∷ []) n1 n2 n3 n4 = absurd (n4 refl)
+line_of_record-others (a ∷ b ∷ d ∷ f ∷ g ∷ rest) n1 n2 n3 n4 = refl
 
 -- whether a record is the header
 pub header-two : (fs : Record) (a b : List ℕ) → length fs ≡ 2 → field_at fs 0 ≡ Some a → field_at fs 1 ≡ Some b

@@ -13,7 +13,7 @@ use Rattle.ld_trace.specs.declared.event.Event.{Event}
 use Rattle.ld_trace.specs.declared.trace_fault.TraceFaultKind.{TraceFaultKind}
 use Rattle.ld_trace.specs.declared.trace_fault.TraceFaultKind.TheVariants.{BadRecord, NoHeader}
 use Rattle.ld_trace.specs.Events.{KeyIsBelow, KeysBelow}
-use Rattle.ld_trace.specs.Lines.{Record, is_header, said}
+use Rattle.ld_trace.specs.Lines.{Record, is_header, line_of_record}
 use Rattle.ld_trace.specs.Names.{Name}
 use Rattle.ld_trace.specs.Progress.{AreRead, AreRefused, AreTaken, HasGiven, HasTaken, ReadsPlain, TakesLine}
 use Rattle.ld_trace.specs.Reading.{ReadsTo, StopsAt, fault_at, names_after, record_fault, records_of}
@@ -22,8 +22,8 @@ use Rattle.ld_trace.proofs.CsvLemmas.{given-all, given-begin, given-more}
 use Rattle.ld_trace.proofs.TakenLemmas.{event_at-past, fault_at-front, fault_at-next, fault_at-past, names_before-all, taken-more}
 
 -- a header says nothing
-header-says : (h : Record) → is_header h ≡ true → said h ≡ Err BadRecord
-unfolding is_header said
+header-says : (h : Record) → is_header h ≡ true → line_of_record h ≡ Err BadRecord
+unfolding is_header line_of_record
 header-says [] e = refl
 header-says (w ∷ []) e = absurd (true≢false (sym e))
 header-says (w ∷ v ∷ []) e =

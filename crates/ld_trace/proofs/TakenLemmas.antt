@@ -13,10 +13,10 @@ use Rattle.ld_trace.specs.declared.raw_trace.TheConstants.{MAX_EVENTS}
 use Rattle.ld_trace.specs.declared.event.Event.{Event}
 use Rattle.ld_trace.specs.declared.event.Event.TheVariants.{Acquire, Release, Enter, Leave, TurnOn, TurnOff}
 use Rattle.ld_trace.specs.Events.{KeyIsBelow, KeysBelow}
-use Rattle.ld_trace.specs.Lines.{Line, takes, gives_back, enters, leaves, turns_on, turns_off, Record, event_of, said, with_line}
+use Rattle.ld_trace.specs.Lines.{Line, takes, gives_back, enters, leaves, turns_on, turns_off, Record, event_of, line_of_record, with_line}
 use Rattle.ld_trace.specs.Names.{Name, is_known, is_same, place_of, with_name}
 use Rattle.ld_trace.specs.Progress.{AreTaken, TakesLine}
-use Rattle.ld_trace.specs.Reading.{event_at, fault_at, header_fault, names_after, names_before, record_fault, said_event, with_said}
+use Rattle.ld_trace.specs.Reading.{event_at, fault_at, header_fault, names_after, names_before, record_fault, line_event, with_read}
 
 -- places in a longer list
 pub slice_get-front : {X : Type 0} (xs ys : List X) (i : ℕ) → i < length xs → slice_get (xs ++ ys) i ≡ slice_get xs i
@@ -29,10 +29,10 @@ slice_get-seam [] x ys = refl
 slice_get-seam (y ∷ xs) x ys = slice_get-seam xs x ys
 
 -- the names after one more record
-pub names_after-push : (old : List Name) (rows : List Record) (r : Record) → names_after old (rows ++ r ∷ []) ≡ with_said (names_after old rows) (said r)
+pub names_after-push : (old : List Name) (rows : List Record) (r : Record) → names_after old (rows ++ r ∷ []) ≡ with_read (names_after old rows) (line_of_record r)
 unfolding names_after
 names_after-push old [] r = refl
-names_after-push old (q ∷ rows) r = names_after-push (with_said old (said q)) rows r
+names_after-push old (q ∷ rows) r = names_after-push (with_read old (line_of_record q)) rows r
 
 -- what stands in front doesn't look at what follows
 pub names_before-front : (old : List Name) (rows rest : List Record) (i : ℕ) → i ≤ length rows → names_before old (rows ++ rest) i ≡ names_before old rows i
@@ -67,7 +67,7 @@ unfolding fault_at
 fault_at-next old rows rest r n e = rw (← e, names_before-all old rows (r ∷ rest), slice_get-seam rows r rest)
 
 pub event_at-next : (old : List Name) (rows rest : List Record) (r : Record) (n : ℕ) → length rows ≡ suc n
-    → event_at old (rows ++ r ∷ rest) (suc n) ≡ said_event (names_after old rows) (said r)
+    → event_at old (rows ++ r ∷ rest) (suc n) ≡ line_event (names_after old rows) (line_of_record r)
 unfolding event_at
 event_at-next old rows rest r n e = rw (← e, names_before-all old rows (r ∷ rest), slice_get-seam rows r rest)
 
@@ -80,7 +80,7 @@ taken-faultless now new before after r place t few = rw (few-places place few, t
     few-places p h = grind (arith, nat_tests)
 
 -- and stands for its event
-taken-event : (now new : List Name) (before after : List Event) (r : Record) (t : TakesLine now new before after r) → said_event now (said r) ≡ Some (event_of now t.line)
+taken-event : (now new : List Name) (before after : List Event) (r : Record) (t : TakesLine now new before after r) → line_event now (line_of_record r) ≡ Some (event_of now t.line)
 taken-event now new before after r t = rw t.says refl
 
 -- a known name stands within the names
@@ -159,7 +159,7 @@ module _ (old : List Name) (rows : List Record) (now new : List Name) (before af
       later (inl e) =
           rw (← e)
           (slice_get-seam before (event_of now t.line) []
-          ∙ sym (event_at-next old rows [] r (length before) a.count ∙ ap (λ names. said_event names (said r)) (sym a.names) ∙ taken-event now new before after r t))
+          ∙ sym (event_at-next old rows [] r (length before) a.count ∙ ap (λ names. line_event names (line_of_record r)) (sym a.names) ∙ taken-event now new before after r t))
       later (inr gt) =
           slice_get_past (before ++ event_of now t.line ∷ []) i (omega (arith, length-append before (event_of now t.line ∷ [])))
           ∙ sym (event_at-past old (rows ++ r ∷ []) (suc i) (omega (arith, a.count, length-append rows (r ∷ []))))

@@ -1,4 +1,4 @@
--- What one record of a trace says (the text format is this project's own).
+-- What one record of a trace says [the text format is this project's own].
 use Rattle.std.specs.Prelude.{ℕ, ◌-◌, ◌&&◌, Bool, false, List, [], ◌∷◌, Option, Some, None, Result, Ok, Err, codes, nat_le, if◌then◌else◌}
 use Rattle.std.specs.Str.{bytes_eq}
 use Rattle.ld_trace.specs.declared.event.Event.{Event}
@@ -44,47 +44,50 @@ sub_of (digit ∷ []) = if nat_le 48 digit && nat_le digit 55 then Some (digit -
 sub_of (digit ∷ more ∷ rest) = None
 
 -- the name of a class's name and a subclass, of which the class's name is judged first
-abbrev pub named : List ℕ → Option ℕ → Result Name TraceFaultKind
-named class None = if is_class_name class then Err BadSub else Err BadName
-named class (Some sub) = if is_class_name class then Ok (class, sub) else Err BadName
+abbrev pub name_of_fields : List ℕ → Option ℕ → Result Name TraceFaultKind
+name_of_fields class None = if is_class_name class then Err BadSub else Err BadName
+name_of_fields class (Some sub) = if is_class_name class then Ok (class, sub) else Err BadName
 
 -- what `leave` says
-abbrev pub leave_said : List ℕ → Result Line TraceFaultKind
-leave_said verb = if bytes_eq verb (codes "leave") then Ok leaves else Err BadRecord
+abbrev pub leave_line : List ℕ → Result Line TraceFaultKind
+leave_line verb = if bytes_eq verb (codes "leave") then Ok leaves else Err BadRecord
 
 -- what a verb and a state say
-abbrev pub state_said : List ℕ → Option Irq → Result Line TraceFaultKind
-state_said verb None = Err BadRecord
-state_said verb (Some irq) = if bytes_eq verb (codes "enter") then Ok (enters irq)
+abbrev pub irq_line : List ℕ → Option Irq → Result Line TraceFaultKind
+irq_line verb None = Err BadRecord
+irq_line verb (Some irq) = if bytes_eq verb (codes "enter") then Ok (enters irq)
     else if bytes_eq verb (codes "on") then Ok (turns_on irq)
     else if bytes_eq verb (codes "off") then Ok (turns_off irq)
     else Err BadRecord
 
 -- what `rel` and a name say
-abbrev pub given_back : Result Name TraceFaultKind → Result Line TraceFaultKind
-given_back (Err fault) = Err fault
-given_back (Ok name) = Ok (gives_back name)
+abbrev pub giving_back : Result Name TraceFaultKind → Result Line TraceFaultKind
+giving_back (Err fault) = Err fault
+giving_back (Ok name) = Ok (gives_back name)
 
-abbrev pub release_said : List ℕ → Result Name TraceFaultKind → Result Line TraceFaultKind
-release_said verb name = if bytes_eq verb (codes "rel") then given_back name else Err BadRecord
+abbrev pub release_line : List ℕ → Result Name TraceFaultKind → Result Line TraceFaultKind
+release_line verb name = if bytes_eq verb (codes "rel") then giving_back name else Err BadRecord
 
 -- what `acq`, a name and a mode say
-abbrev pub taken : Result Name TraceFaultKind → Option Mode → Result Line TraceFaultKind
-taken (Err fault) mode = Err fault
-taken (Ok name) None = Err BadMode
-taken (Ok name) (Some mode) = Ok (takes name mode)
+abbrev pub taking : Result Name TraceFaultKind → Option Mode → Result Line TraceFaultKind
+taking (Err fault) mode = Err fault
+taking (Ok name) None = Err BadMode
+taking (Ok name) (Some mode) = Ok (takes name mode)
 
-abbrev pub acquire_said : List ℕ → Result Name TraceFaultKind → Option Mode → Result Line TraceFaultKind
-acquire_said verb name mode = if bytes_eq verb (codes "acq") then taken name mode else Err BadRecord
+abbrev pub acquire_line : List ℕ → Result Name TraceFaultKind → Option Mode
+    → Result Line TraceFaultKind
+acquire_line verb name mode =
+    if bytes_eq verb (codes "acq") then taking name mode else Err BadRecord
 
 -- what a record says, or its fault
-unfoldable pub said : Record → Result Line TraceFaultKind
-said [] = Err BadRecord
-said (verb ∷ []) = leave_said verb
-said (verb ∷ irq ∷ []) = state_said verb (irq_of irq)
-said (verb ∷ class ∷ sub ∷ []) = release_said verb (named class (sub_of sub))
-said (verb ∷ class ∷ sub ∷ mode ∷ []) = acquire_said verb (named class (sub_of sub)) (mode_of mode)
-said (verb ∷ class ∷ sub ∷ mode ∷ more ∷ rest) = Err BadRecord
+unfoldable pub line_of_record : Record → Result Line TraceFaultKind
+line_of_record [] = Err BadRecord
+line_of_record (verb ∷ []) = leave_line verb
+line_of_record (verb ∷ irq ∷ []) = irq_line verb (irq_of irq)
+line_of_record (verb ∷ class ∷ sub ∷ []) = release_line verb (name_of_fields class (sub_of sub))
+line_of_record (verb ∷ class ∷ sub ∷ mode ∷ []) =
+    acquire_line verb (name_of_fields class (sub_of sub)) (mode_of mode)
+line_of_record (verb ∷ class ∷ sub ∷ mode ∷ more ∷ rest) = Err BadRecord
 
 -- whether a record is the header of a trace of version 1
 unfoldable pub is_header : Record → Bool

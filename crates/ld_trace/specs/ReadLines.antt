@@ -22,9 +22,9 @@ line_read (TurnsOff irq) = turns_off irq
 
 -- an answer says this
 abbrev pub Says : Result Line TraceFaultKind → Result ReadLine TraceFaultKind → Type 0
-Says said (Ok line) = said ≡ Ok (line_read line)
-Says said (Err fault) = said ≡ Err fault
+Says what (Ok line) = what ≡ Ok (line_read line)
+Says what (Err fault) = what ≡ Err fault
 
 abbrev pub SaysName : Result Name TraceFaultKind → Result LineName TraceFaultKind → Type 0
-SaysName named (Ok name) = named ≡ Ok (name_read name)
-SaysName named (Err fault) = named ≡ Err fault
+SaysName what (Ok name) = what ≡ Ok (name_read name)
+SaysName what (Err fault) = what ≡ Err fault

@@ -1,4 +1,4 @@
--- What the bytes of a trace stand for, and the first fault of one that stands for nothing (this project's own).
+-- What the bytes of a trace stand for, and the first fault of one that stands for nothing [this project's own].
 use Rattle.std.specs.Prelude.{◌≡◌, ℕ, zero, suc, ◌<◌, true, List, [], ◌∷◌, take, length, slice_get, nat_lt, Option, Some, None, Result, Ok, Err, if◌then◌else◌}
 use Rattle.csv.specs.Reading.{default_config, records, strip_bom}
 use Rattle.ld_trace.specs.declared.event.Event.{Event}
@@ -6,7 +6,7 @@ use Rattle.ld_trace.specs.declared.raw_trace.TheConstants.{MAX_EVENTS}
 use Rattle.ld_trace.specs.declared.trace_fault.TraceFault.{TraceFault}
 use Rattle.ld_trace.specs.declared.trace_fault.TraceFaultKind.{TraceFaultKind}
 use Rattle.ld_trace.specs.declared.trace_fault.TraceFaultKind.TheVariants.{NoHeader, TooManyRecords, TooManyKeys}
-use Rattle.ld_trace.specs.Lines.{Line, Record, event_of, is_header, is_over, said, with_line}
+use Rattle.ld_trace.specs.Lines.{Line, Record, event_of, is_header, is_over, line_of_record, with_line}
 use Rattle.ld_trace.specs.Names.{Name}
 use Rattle.ld_trace.specs.TraceFaults.{is_of_text}
 
@@ -15,14 +15,14 @@ abbrev pub records_of : List ℕ → List Record
 records_of bytes = records default_config (strip_bom bytes)
 
 -- the names with that of a record among them, if it says something that has one
-abbrev pub with_said : List Name → Result Line TraceFaultKind → List Name
-with_said names (Ok line) = with_line names line
-with_said names (Err fault) = names
+abbrev pub with_read : List Name → Result Line TraceFaultKind → List Name
+with_read names (Ok line) = with_line names line
+with_read names (Err fault) = names
 
 -- the names after these records: a name that isn't there goes last
 unfoldable pub names_after : List Name → List Record → List Name
 names_after names [] = names
-names_after names (r ∷ rs) = names_after (with_said names (said r)) rs
+names_after names (r ∷ rs) = names_after (with_read names (line_of_record r)) rs
 
 -- the names before the record at a place
 abbrev pub names_before : List Name → List Record → ℕ → List Name
@@ -34,29 +34,31 @@ header_fault None = Some NoHeader
 header_fault (Some r) = if is_header r then None else Some NoHeader
 
 -- the fault of what a record says
-abbrev pub said_fault : List Name → Result Line TraceFaultKind → Option TraceFaultKind
-said_fault names (Err fault) = Some fault
-said_fault names (Ok line) = if is_over names line then Some TooManyKeys else None
+abbrev pub line_fault : List Name → Result Line TraceFaultKind → Option TraceFaultKind
+line_fault names (Err fault) = Some fault
+line_fault names (Ok line) = if is_over names line then Some TooManyKeys else None
 
 -- the fault of a record after the first, if there is one at this place
 abbrev pub record_fault : List Name → ℕ → Option Record → Option TraceFaultKind
 record_fault names place None = None
-record_fault names place (Some r) = if nat_lt MAX_EVENTS place then Some TooManyRecords else said_fault names (said r)
+record_fault names place (Some r) = if nat_lt MAX_EVENTS place then Some TooManyRecords
+    else line_fault names (line_of_record r)
 
 -- the fault of the record at a place, if it has one
 unfoldable pub fault_at : List Name → List Record → ℕ → Option TraceFaultKind
 fault_at old rows zero = header_fault (slice_get rows 0)
-fault_at old rows (suc i) = record_fault (names_before old rows (suc i)) (suc i) (slice_get rows (suc i))
+fault_at old rows (suc i) =
+    record_fault (names_before old rows (suc i)) (suc i) (slice_get rows (suc i))
 
 -- the event of what a record says
-abbrev pub said_event : List Name → Result Line TraceFaultKind → Option Event
-said_event names (Err fault) = None
-said_event names (Ok line) = Some (event_of names line)
+abbrev pub line_event : List Name → Result Line TraceFaultKind → Option Event
+line_event names (Err fault) = None
+line_event names (Ok line) = Some (event_of names line)
 
 -- the event of a record
 abbrev pub record_event : List Name → Option Record → Option Event
 record_event names None = None
-record_event names (Some r) = said_event names (said r)
+record_event names (Some r) = line_event names (line_of_record r)
 
 -- the event of the record at a place, if it stands for one
 unfoldable pub event_at : List Name → List Record → ℕ → Option Event

@@ -1,15 +1,16 @@
 //! Reading a trace.
 
-ghost use Rattle.std.specs.Prelude.{◌≡◌, ◌≤◌, ◌+◌, ◌++◌, ℕ, suc, [], List, Option, length, true, false, IfOk, IfErr, IfSome, OnOk, OnErr, Some};
-ghost use Rattle.csv.specs.Reading.{ReadRecord};
+ghost use Rattle.std.specs.Prelude.{◌≡◌, ◌≤◌, ◌+◌, ◌++◌, ℕ, suc, [], List, Option, length, true, false, IfOk, IfErr, IfSome, OnOk, OnErr, Some, ◌⊎◌};
+ghost use Rattle.csv.specs.Reading.{ReadRecord, error_kind};
 ghost use Rattle.csv.specs.Records.{fields_of};
 ghost use Rattle.ld_trace.specs.Events.{KeysBelow};
-ghost use Rattle.ld_trace.specs.Lines.{said};
+ghost use Rattle.ld_trace.specs.Lines.{line_of_record};
 ghost use Rattle.ld_trace.specs.Names.{Name};
-ghost use Rattle.ld_trace.specs.Progress.{AreRead, AreRefused, HasGiven, HasTaken, ReadsPlain, TakesLine};
-ghost use Rattle.ld_trace.specs.Reading.{ReadsTo, StopsAt, said_fault};
+ghost use Rattle.ld_trace.specs.Progress.{AreRead, AreRefused, HasGiven, HasTaken, ReadsPlain, TakesLine, read_fault};
+ghost use Rattle.ld_trace.specs.Reading.{ReadsTo, StopsAt, line_fault};
 ghost use Rattle.ld_trace.specs.TraceFaults.{is_of_text};
 
+use crate::known::known_event;
 use crate::record::{is_header, line_of};
 use crate::{Event, KeyTable, MAX_EVENTS, RawTrace, TraceFault, TraceFaultKind};
 use csv::{ByteRecord, ErrorKind, Reader, ReaderBuilder};
@@ -31,8 +32,10 @@ pub fn read_trace<R: Read + Drop>(
     reader: R,
     keys: &mut KeyTable,
 ) -> Result<RawTrace, TraceFault>
-    ensures ok { IfOk result (λ trace. IfSome (R.remaining reader) (λ bytes. ReadsTo keys.old bytes keys.new trace)) }
-    ensures refused { IfErr result (λ fault. IfSome (R.remaining reader) (λ bytes. StopsAt keys.old bytes keys.new fault)) }
+    ensures ok { IfOk result (λ trace. IfSome (R.remaining reader)
+        (λ bytes. ReadsTo keys.old bytes keys.new trace)) }
+    ensures refused { IfErr result (λ fault. IfSome (R.remaining reader)
+        (λ bytes. StopsAt keys.old bytes keys.new fault)) }
 
     // These hold of any reader, also of one that doesn't tell its bytes.
     ensures numbered { IfOk result (λ trace. KeysBelow (length keys.new) trace) }
@@ -45,15 +48,17 @@ pub fn read_trace<R: Read + Drop>(
     read_records(alloc, &mut source, keys)
 }
 
-/// Reads all records of the source.
+// Reads all records of the source.
 fn read_records<R: Read>(
     alloc: Global,
     source: &mut Reader<R>,
     keys: &mut KeyTable,
 ) -> Result<RawTrace, TraceFault>
     requires { ReadsPlain source.old }
-    ensures ok { IfOk result (λ trace. (known : Option (List ℕ)) → HasGiven R.remaining known source.old [] → AreRead known keys.old keys.new trace) }
-    ensures refused { IfErr result (λ fault. (known : Option (List ℕ)) → HasGiven R.remaining known source.old []
+    ensures ok { IfOk result (λ trace. (known : Option (List ℕ))
+        → HasGiven R.remaining known source.old [] → AreRead known keys.old keys.new trace) }
+    ensures refused { IfErr result (λ fault. (known : Option (List ℕ))
+        → HasGiven R.remaining known source.old []
         → AreRefused known keys.old keys.new fault.kind fault.at) }
     ensures numbered { IfOk result (λ trace. KeysBelow (length keys.new) trace) }
     ensures kept { (added : List Name) × (keys.new ≡ keys.old ++ added) }
@@ -75,13 +80,15 @@ fn read_records<R: Read>(
     }
 }
 
-/// Takes the first record, which has to be the header.
+// Takes the first record, which has to be the header.
 fn take_header<R: Read>(source: &mut Reader<R>, row: &mut ByteRecord) -> Result<(), TraceFaultKind>
     requires { ReadsPlain source.old }
     ensures plain { OnOk result (ReadsPlain source.new) }
-    ensures taken { OnOk result ((known : Option (List ℕ)) (old : List Name) → HasGiven R.remaining known source.old []
+    ensures taken { OnOk result ((known : Option (List ℕ)) (old : List Name)
+        → HasGiven R.remaining known source.old []
         → HasTaken R.remaining known source.new old old []) }
-    ensures refused { IfErr result (λ kind. (known : Option (List ℕ)) (old : List Name) → HasGiven R.remaining known source.old []
+    ensures refused { IfErr result (λ kind. (known : Option (List ℕ)) (old : List Name)
+        → HasGiven R.remaining known source.old []
         → AreRefused known old old kind 1) }
 {
     if !get_record(source, row)? {
@@ -93,7 +100,7 @@ fn take_header<R: Read>(source: &mut Reader<R>, row: &mut ByteRecord) -> Result<
     Ok(())
 }
 
-/// Takes the next record as an event, and says whether there was one.
+// Takes the next record as an event, and says whether there was one.
 fn take_event<R: Read>(
     source: &mut Reader<R>,
     row: &mut ByteRecord,
@@ -103,7 +110,9 @@ fn take_event<R: Read>(
     requires plain { ReadsPlain source.old }
     requires few { length events.old.items ≤ MAX_EVENTS }
     ensures plain { OnOk result (ReadsPlain source.new) }
-    ensures more { IfOk result (λ found. found ≡ true → (length events.new.items ≡ suc (length events.old.items)) × (length events.new.items ≤ MAX_EVENTS)) }
+    ensures more { IfOk result (λ found. found ≡ true
+        → (length events.new.items ≡ suc (length events.old.items))
+        × (length events.new.items ≤ MAX_EVENTS)) }
     ensures no_more { IfOk result (λ found. found ≡ false → events.new.items ≡ events.old.items) }
     ensures kept_events { OnErr result (events.new.items ≡ events.old.items) }
     ensures kept_names { (added : List Name) × (keys.new ≡ keys.old ++ added) }
@@ -111,9 +120,11 @@ fn take_event<R: Read>(
     ensures taken { IfOk result (λ found. found ≡ true → (known : Option (List ℕ)) (old : List Name)
         → HasTaken R.remaining known source.old old keys.old events.old.items
         → HasTaken R.remaining known source.new old keys.new events.new.items) }
-    ensures ended { IfOk result (λ found. found ≡ false → (known : Option (List ℕ)) (old : List Name)
+    ensures ended { IfOk result (λ found. found ≡ false
+        → (known : Option (List ℕ)) (old : List Name)
         → HasTaken R.remaining known source.old old keys.old events.old.items
-        → AreRead known old keys.new events.new.items × KeysBelow (length keys.new) events.new.items) }
+        → AreRead known old keys.new events.new.items
+            × KeysBelow (length keys.new) events.new.items) }
     ensures refused { IfErr result (λ kind. (known : Option (List ℕ)) (old : List Name)
         → HasTaken R.remaining known source.old old keys.old events.old.items
         → AreRefused known old keys.new kind (length events.old.items + 2)) }
@@ -128,36 +139,49 @@ fn take_event<R: Read>(
     Ok(true)
 }
 
-/// Gets the next record, and says whether there was one.
+// Gets the next record, and says whether there was one.
 fn get_record<R: Read>(source: &mut Reader<R>, row: &mut ByteRecord) -> Result<bool, TraceFaultKind>
     requires { ReadsPlain source.old }
-    ensures reads { IfOk result (λ found. ReadRecord R.remaining source.old source.new found (fields_of row.new)) }
+    ensures reads { IfOk result
+        (λ found. ReadRecord R.remaining source.old source.new found (fields_of row.new)) }
     ensures plain { OnOk result (ReadsPlain source.new) }
     ensures failed { IfErr result (λ kind. is_of_text kind ≡ false) }
 {
     match source.read_byte_record(row) {
         Ok(found) => Ok(found),
-        Err(error) => match error.kind() {
-            ErrorKind::OutOfMemory => Err(TraceFaultKind::Memory),
-            _ => Err(TraceFaultKind::Source),
-        },
+        Err(error) => Err(fault_of(&error)),
     }
 }
 
-/// Takes a record as an event, and numbers its key. After a refusal nothing is changed.
+// The fault of an error in getting a record: want of memory, or else the source's failure.
+fn fault_of(error: &csv::Error) -> TraceFaultKind
+    ensures value { result ≡ read_fault (error_kind error.now) }
+    ensures not_text { is_of_text result ≡ false }
+{
+    match error.kind() {
+        ErrorKind::OutOfMemory => TraceFaultKind::Memory,
+        _ => TraceFaultKind::Source,
+    }
+}
+
+// Takes a record as an event, and numbers its key. After a refusal nothing is changed.
 fn take_record(
     row: &ByteRecord,
     events: &mut Vec<Event>,
     keys: &mut KeyTable,
 ) -> Result<(), TraceFaultKind>
-    ensures taken { OnOk result (TakesLine keys.old keys.new events.old.items events.new.items (fields_of row.now)) }
-    ensures fault { IfErr result (λ kind. is_of_text kind ≡ true → said_fault keys.old (said (fields_of row.now)) ≡ Some kind) }
+    ensures taken { OnOk result (TakesLine keys.old keys.new events.old.items events.new.items
+        (fields_of row.now)) }
+    ensures fault { IfErr result (λ kind. is_of_text kind ≡ true
+        → line_fault keys.old (line_of_record (fields_of row.now)) ≡ Some kind) }
+    ensures either { IfErr result (λ kind. (is_of_text kind ≡ true)
+        ⊎ (kind ≡ TraceFaultKind.Memory)) }
     ensures refused { OnErr result ((keys.new ≡ keys.old) × (events.new.items ≡ events.old.items)) }
 {
-    let line = match line_of(row) {
-        Ok(line) => line,
-        Err(kind) => return Err(kind),
-    };
+    if let Some(event) = known_event(row, keys) {
+        return events.push(event).map_err(|_| TraceFaultKind::Memory);
+    }
+    let line = line_of(row)?;
     if events.reserve(1).is_err() {
         return Err(TraceFaultKind::Memory);
     }

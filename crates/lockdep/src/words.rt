@@ -5,14 +5,13 @@ ghost use Rattle.lockdep.specs.Words.{flag_text, frame_text, irq_text, kind_text
 
 use ld_graph::Kind;
 use ld_task::Frame;
-use ld_trace::{Irq, KeyId, KeyTable, Mode};
+use ld_trace::{Irq, KeyId, KeyTable, MAX_NAME, Mode};
 
 /// The class's name and the subclass of a key; an empty name where there is no such key.
 pub(crate) fn name_of(keys: &KeyTable, key: KeyId) -> (&str, u8)
     ensures name { (result.0.now, result.1) ≡ name_at keys.now key }
-    ensures short { length result.0.now ≤ 64 }
+    ensures short { length result.0.now ≤ MAX_NAME }
 {
-    prove!(keys.len() <= 256);
     keys.name_of(key).unwrap_or(("", 0))
 }
 

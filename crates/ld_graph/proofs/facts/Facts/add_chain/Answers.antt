@@ -1,8 +1,9 @@
 use Rattle.std.proofs.Common.{◌≡◌, ◌∙◌, sym, subst, arith, false}
+use Rattle.std.proofs.lemmas.Option.{same_Some, none-some}
 use Rattle.ld_graph.specs.ChainFacts.{fact_slots}
-use Rattle.ld_graph.specs.FactBits.{FactBelow}
+use Rattle.ld_graph.specs.FactBits.{FactBelow, HasFact}
 use Rattle.ld_graph.proofs.ChainFacts.{FactBelow-chain, chain_fact-sound}
-use Rattle.ld_graph.proofs.Growing.{Grown-start, Grown-none, Grown-known, Grown-fresh, Adds-grown, Holds-grown}
+use Rattle.ld_graph.proofs.Growing.{Grown-start, Grown-same, Grown-fresh, Adds-grown, Holds-grown}
 use Rattle.ld_graph.proofs.facts.Facts.add_chain.Goals as goal
 use Rattle.ld_graph.proofs.facts.Facts.add_chain.Goals.{After-loop-n, in-Some+then-add, in-Some+else-add, in_default}
 
@@ -24,11 +25,12 @@ loop-n-preserved c = elim c.match-fact_at.branch [
       w.add.ensures.keys w.add.ensures.adds)
   | in-Some+else-add w ↦
       rw (w.self-is, w.add.ensures.known w.if-add.false, w.fresh-is)
-      (Grown-known c.args.self.now c.loop-n.self c.args.chain.now c.loop-n.n c.loop-n.fresh c.loop-n.invariant w.in-Some.fact
-      (sym c.fact_at.ensures ∙ w.in-Some.is) (w.add.ensures.fresh.0 w.if-add.false))
+      (Grown-same c.args.self.now c.loop-n.self c.args.chain.now c.loop-n.n c.loop-n.fresh c.loop-n.invariant
+      (λ x at. subst (HasFact c.loop-n.self) (same_Some w.in-Some.fact x (sym (sym c.fact_at.ensures ∙ w.in-Some.is) ∙ at)) (w.add.ensures.fresh.0 w.if-add.false)))
   | in_default w ↦
       rw (w.self-is, w.fresh-is)
-      (Grown-none c.args.self.now c.loop-n.self c.args.chain.now c.loop-n.n c.loop-n.fresh c.loop-n.invariant (sym c.fact_at.ensures ∙ w.in_default.is))
+      (Grown-same c.args.self.now c.loop-n.self c.args.chain.now c.loop-n.n c.loop-n.fresh c.loop-n.invariant
+      (λ x at. absurd (none-some x (sym (sym c.fact_at.ensures ∙ w.in_default.is) ∙ at))))
 ]
 
 done : (c : After-loop-n) → c.loop-n.n ≡ fact_slots c.args.chain.now

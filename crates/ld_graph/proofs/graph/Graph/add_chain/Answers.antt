@@ -1,10 +1,11 @@
 use Rattle.std.proofs.Common.{◌≡◌, ◌∙◌, sym, ap, subst, refl, arith, false, inl}
+use Rattle.std.proofs.lemmas.Option.{same_Some, none-some}
 use Rattle.ld_graph.specs.ChainFacts.{fact_slots}
 use Rattle.ld_graph.specs.FactBits.{FactBelow, HasFact}
 use Rattle.ld_graph.specs.FactLaws.{IsClean-fewer}
 use Rattle.ld_graph.specs.Links.{IsClean}
 use Rattle.ld_graph.proofs.ChainFacts.{FactBelow-chain, chain_fact-sound}
-use Rattle.ld_graph.proofs.Growing.{Grown-start, Grown-none, Grown-known, Grown-fresh, Adds-grown, Holds-grown}
+use Rattle.ld_graph.proofs.Growing.{Grown-start, Grown-same, Grown-fresh, Adds-grown, Holds-grown}
 use Rattle.ld_graph.proofs.graph.Graph.add_chain.Goals as goal
 use Rattle.ld_graph.proofs.graph.Graph.add_chain.Goals.{After-loop-n, Joined-fact_at, in-Some+then-add, in-Some+else-add, in_default}
 
@@ -38,14 +39,15 @@ loop-n-preserved c = elim c.match-fact_at.branch [
   }
   | in-Some+else-add w ↦ record {
     grown = rw (w.self-is, w.add.ensures.known w.if-add.false, w.fresh-is)
-        (Grown-known c.args.self.now.facts c.loop-n.self.facts c.args.chain.now c.loop-n.n c.loop-n.fresh c.loop-n.invariant.grown w.in-Some.fact
-        (sym c.fact_at.ensures ∙ w.in-Some.is) (w.add.ensures.fresh.0 w.if-add.false));
+        (Grown-same c.args.self.now.facts c.loop-n.self.facts c.args.chain.now c.loop-n.n c.loop-n.fresh c.loop-n.invariant.grown
+        (λ x at. subst (HasFact c.loop-n.self.facts) (same_Some w.in-Some.fact x (sym (sym c.fact_at.ensures ∙ w.in-Some.is) ∙ at)) (w.add.ensures.fresh.0 w.if-add.false)));
     known = λ h. w.self-is ∙ w.add.ensures.known w.if-add.false ∙ c.loop-n.invariant.known (sym w.fresh-is ∙ h);
     not_clean = λ h. ap (λ g. g.searched) (w.self-is ∙ w.add.ensures.known w.if-add.false) ∙ c.loop-n.invariant.not_clean h;
   }
   | in_default w ↦ record {
     grown = rw (w.self-is, w.fresh-is)
-        (Grown-none c.args.self.now.facts c.loop-n.self.facts c.args.chain.now c.loop-n.n c.loop-n.fresh c.loop-n.invariant.grown (sym c.fact_at.ensures ∙ w.in_default.is));
+        (Grown-same c.args.self.now.facts c.loop-n.self.facts c.args.chain.now c.loop-n.n c.loop-n.fresh c.loop-n.invariant.grown
+      (λ x at. absurd (none-some x (sym (sym c.fact_at.ensures ∙ w.in_default.is) ∙ at))));
     known = λ h. w.self-is ∙ c.loop-n.invariant.known (sym w.fresh-is ∙ h);
     not_clean = λ h. ap (λ g. g.searched) w.self-is ∙ c.loop-n.invariant.not_clean h;
   }
