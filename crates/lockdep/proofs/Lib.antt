@@ -1,7 +1,6 @@
 pub mod OutputLemmas
 pub mod OrderLemmas
 pub mod GroupLemmas
-pub mod StepLemmas
 pub mod ChainLemmas
 pub mod ReportLemmas
 pub mod FaultLemmas

@@ -48,7 +48,3 @@ chains_text names t = flat_map (chain_line names) (chains t)
 -- the lines of the chains of the trace's first n events
 abbrev pub lines_before : List Name → List Event → ℕ → List ℕ
 lines_before names t n = chains_text names (take n t)
-
--- the text is what the event at n of the well-formed trace adds to the lines before it
-pub record IsLineAt (names : List Name) (t : List Event) (n : ℕ) (text : List ℕ) : Type 0 where
-  pub adds : lines_before names t (n + 1) ≡ lines_before names t n ++ text

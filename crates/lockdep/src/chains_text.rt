@@ -9,14 +9,14 @@ ghost use Rattle.lockdep.specs.declared.chains_text.TheConstants.{LINE_BYTES};
 
 use crate::fault::WriteFault;
 use crate::output::{Page, put, write_out};
-use crate::words::{flag_word, frame_word, mode_word, name_of};
+use crate::words::{digits_of, flag_word, frame_word, mode_word, name_of};
 use arrayvec::ArrayString;
-use ld_task::{Chain, Flags, TaskState, Trace};
+use ld_task::{Chain, Flags, TaskState, Trace, one_more_event_adds_its_chain};
 use ld_trace::{Irq, KeyId, KeyTable, Mode};
 use std::io::Write;
 
-// Room for any line: 91 bytes for an acquisition, 26 for the count, 72 for each of 48 held locks, and 1 for the line's end.
-const LINE_BYTES: usize = 3_574;
+// Room for any line: 91 bytes for an acquisition, 9 for the count, 72 for each of 48 held locks, and 1 for the line's end.
+const LINE_BYTES: usize = 3_557;
 
 // A line, while it is made. It takes no memory.
 type Line = ArrayString<LINE_BYTES>;
@@ -30,7 +30,7 @@ fn add_key(line: &mut Line, names: &KeyTable, key: KeyId)
     let (name, sub) = name_of(names, key);
     line.push_str(name);
     line.push_str("/");
-    line.push_str(itoa::Buffer::new().format(sub));
+    line.push_str(digits_of(sub as usize).as_str());
 }
 
 // A held lock: its key and mode behind a space.
@@ -83,7 +83,7 @@ fn add_line(line: &mut Line, names: &KeyTable, chain: &Chain)
 {
     add_head(line, names, chain);
     line.push_str(" held ");
-    line.push_str(itoa::Buffer::new().format(chain.held_len()));
+    line.push_str(digits_of(chain.held_len()).as_str());
     for place in 0..chain.held_len() {
         let Some(lock) = chain.held(place) else {
             unreachable!();
@@ -104,6 +104,8 @@ pub fn write_chains<W: Write>(w: &mut W, trace: &Trace, names: &KeyTable) -> Res
     ensures err { OnErr result (AppendsBeginning (W.contents w.old) (W.contents w.new)
         (chains_text names.now trace.now)) }
 {
+    // A law: what was written so far begins the text, wherever writing stops.
+    one_more_event_adds_its_chain();
     let (mut page, mut line) = (Page::new(), Line::new());
     let mut state = TaskState::new();
     for place in 0..trace.len() {

@@ -8,6 +8,7 @@ ghost use Rattle.lockdep.specs.Output.{AppendsBeginning, PutsBehind};
 
 use crate::fault::WriteFault;
 use crate::output::write_texts;
+use crate::words::digits_of;
 use ld_run::RunFault;
 use ld_task::StepFault;
 use ld_trace::TraceFault;
@@ -50,11 +51,10 @@ fn tell_record<W: Write>(w: &mut W, file: &str, at: usize, code: &str) -> Result
     ensures err { OnErr result (AppendsBeginning (W.contents w.old) (W.contents w.new)
         (record_line file.now at code.now)) }
 {
-    let mut digits = itoa::Buffer::new();
-    let number = digits.format(at);
+    let number = digits_of(at);
     write_texts(
         w,
-        &["lockdep: ", file, ": record ", number, ": ", code, "\n"],
+        &["lockdep: ", file, ": record ", number.as_str(), ": ", code, "\n"],
     )
 }
 

@@ -1,8 +1,9 @@
 //! Words of the program's texts.
 
-ghost use Rattle.std.specs.Prelude.{◌≡◌, ◌≤◌, length};
+ghost use Rattle.std.specs.Prelude.{◌≡◌, ◌+◌, ◌<◌, ◌≤◌, ◌++◌, [], ◌∷◌, decimal, length};
 ghost use Rattle.lockdep.specs.Words.{flag_text, frame_text, irq_text, kind_text, mode_text, name_at};
 
+use arrayvec::ArrayString;
 use ld_graph::Kind;
 use ld_task::Frame;
 use ld_trace::{Irq, KeyId, KeyTable, MAX_NAME, Mode};
@@ -67,4 +68,41 @@ pub(crate) fn flag_word(on: bool) -> &'static str
     ensures short { length result.now ≤ 3 }
 {
     if on { "on" } else { "off" }
+}
+
+// The words for the digits.
+const DIGITS: [&str; 10] = ["0", "1", "2", "3", "4", "5", "6", "7", "8", "9"];
+
+// The digits of a number, at most 20.
+type Digits = ArrayString<20>;
+
+// The word for a digit.
+fn digit(number: usize) -> &'static str
+    requires { number < 10 }
+    ensures { result.now ≡ (48 + number) ∷ [] }
+{
+    DIGITS[number]
+}
+
+// Appends the digits of a number.
+fn add_digits(digits: &mut Digits, number: usize)
+    requires { length digits.old.bytes + length (decimal number) ≤ 20 }
+    ensures { digits.new.bytes ≡ digits.old.bytes ++ decimal number }
+{
+    if number < 10 {
+        digits.push_str(digit(number));
+        return;
+    }
+    add_digits(digits, number / 10);
+    digits.push_str(digit(number % 10));
+}
+
+// The digits of a number.
+pub(crate) fn digits_of(number: usize) -> Digits
+    ensures text { result.bytes ≡ decimal number }
+    ensures few { number < 1000 → length result.bytes ≤ 3 }
+{
+    let mut digits = Digits::new();
+    add_digits(&mut digits, number);
+    digits
 }

@@ -1,13 +1,14 @@
-use Rattle.std.proofs.Common.{◌<◌, ◌∙◌, List, ℕ, [], Ok, Option, Result, ap, subst, sym, arith, length}
+use Rattle.std.proofs.Common.{◌<◌, ◌∙◌, ◌++◌, List, ℕ, [], ◌∷◌, Some, None, Ok, Option, Result, ap, subst, sym, arith, length}
+use Rattle.std.proofs.lemmas.List.{append-nil}
 use Rattle.std.proofs.lemmas.Result.{on_ok_weaker, on_err_weaker}
 use Rattle.std.specs.Io.KnownBytes.{Appends}
 use Rattle.ld_task.specs.Chains.{ChainParts}
 use Rattle.ld_task.specs.Steps.{GoesOn}
 use Rattle.ld_task.specs.declared.fault.StepFault.{StepFault}
 use Rattle.lockdep.specs.ChainLines.{chain_line}
+use Rattle.lockdep.specs.Output.{AppendsBeginning, PutsBehind}
 use Rattle.lockdep.proofs.OutputLemmas.{Appends-append, AppendsBeginning-page, OnErr-anyway, PutsBehind-nothing}
-use Rattle.lockdep.proofs.StepLemmas.{event-none, lines_before-all, lines_before-none, no_line, one_line}
-use Rattle.lockdep.proofs.ChainLemmas.{PutsLines-next, PutsLines-stopped}
+use Rattle.lockdep.proofs.ChainLemmas.{PutsLines-next, PutsLines-stopped, event-none, lines_before-all, lines_before-none}
 use Rattle.lockdep.proofs.chains_text.write_chains.Goals.{in-Some-chain+in_ok-put, in_default-chain}
 use Rattle.lockdep.proofs.chains_text.write_chains.Goals as goal
 
@@ -24,25 +25,28 @@ pub returns-in_err-put-clause-err : goal.returns-in_err-put-clause-err
 returns-in_err-put-clause-err g c =
     let within : c.loop-place.place < length c.args.trace.now = omega (arith, c.len-place-end.ensures.count) in
     let goes_on = c.step.ensures.goes_on c.args.trace.now c.loop-place.place c.loop-place.invariant.after (sym c.event.ensures ∙ c.in-Some.is) in
+    let on = subst (λ (answer : Result (Option ChainParts) StepFault). GoesOn c.args.trace.now c.loop-place.place c.step.new.self answer) (c.in-Ok.is ∙ ap Ok c.in-Some-chain.is) goes_on in
     OnErr-anyway c.from_residual.result
     (PutsLines-stopped (g.W.Write.contents c.args.w.now) (g.W.Write.contents c.loop-place.w) (g.W.Write.contents c.put.new.w) c.loop-place.page.bytes c.args.names.now c.args.trace.now c.loop-place.place c.loop-place.state c.loop-place.invariant
-    (chain_line c.args.names.now c.in-Some-chain.chain) within
-    (one_line c.args.names.now c.args.trace.now c.loop-place.place c.step.new.self c.step.result c.in-Some-chain.chain (c.in-Ok.is ∙ ap Ok c.in-Some-chain.is) goes_on)
-    (rw (c.as_str.ensures.value, c.add_line.ensures) at c.in_err-put.ensures.err))
+    c.step.new.self (Some c.in-Some-chain.chain) on c.one_more_event_adds_its_chain.ensures within
+    (subst (λ (line : List ℕ). AppendsBeginning (g.W.Write.contents c.loop-place.w) (g.W.Write.contents c.put.new.w) (c.loop-place.page.bytes ++ line))
+    (sym (append-nil (chain_line c.args.names.now c.in-Some-chain.chain)))
+    (rw (c.as_str.ensures.value, c.add_line.ensures) at c.in_err-put.ensures.err)))
 
 pub loop-place-preserved : goal.loop-place-preserved
 loop-place-preserved g c =
     let goes_on = c.step.ensures.goes_on c.args.trace.now c.loop-place.place c.loop-place.invariant.after (sym c.event.ensures ∙ c.in-Some.is) in
-    let next = PutsLines-next (g.W.Write.contents c.args.w.now) (g.W.Write.contents c.loop-place.w) (g.W.Write.contents c.match-chain.w) c.loop-place.page.bytes c.args.names.now c.args.trace.now c.loop-place.place c.loop-place.state c.loop-place.invariant c.match-chain.page.bytes c.step.new.self in
     let answered = subst (λ (answer : Result (Option ChainParts) StepFault). GoesOn c.args.trace.now c.loop-place.place c.step.new.self answer) c.in-Ok.is goes_on in
+    let next = PutsLines-next (g.W.Write.contents c.args.w.now) (g.W.Write.contents c.loop-place.w) (g.W.Write.contents c.match-chain.w) c.loop-place.page.bytes c.args.names.now c.args.trace.now c.loop-place.place c.loop-place.state c.loop-place.invariant c.step.new.self in
+    let goes_by = λ (answer : Option ChainParts). GoesOn c.args.trace.now c.loop-place.place c.step.new.self (Ok answer) in
     elim c.match-chain.branch [
       | in-Some-chain+in_ok-put w ↦
-          next (chain_line c.args.names.now w.in-Some-chain.chain) answered.0
-          (one_line c.args.names.now c.args.trace.now c.loop-place.place c.step.new.self c.step.result w.in-Some-chain.chain (c.in-Ok.is ∙ ap Ok w.in-Some-chain.is) goes_on)
-          (rw (w.w-is, w.page-is) (rw (w.as_str.ensures.value, w.add_line.ensures) at w.in_ok-put.ensures.ok))
+          next (Some w.in-Some-chain.chain) (subst goes_by w.in-Some-chain.is answered) c.match-chain.page.bytes
+          (rw (w.w-is, w.page-is) (subst (λ (line : List ℕ). PutsBehind (g.W.Write.contents c.loop-place.w) (g.W.Write.contents w.put.new.w) c.loop-place.page.bytes w.put.new.page.bytes line)
+          (sym (append-nil (chain_line c.args.names.now w.in-Some-chain.chain)))
+          (rw (w.as_str.ensures.value, w.add_line.ensures) at w.in_ok-put.ensures.ok)))
       | in_default-chain w ↦
-          next [] answered.0
-          (no_line c.args.names.now c.args.trace.now c.loop-place.place c.step.new.self c.step.result (c.in-Ok.is ∙ ap Ok w.in_default-chain.is) goes_on)
+          next None (subst goes_by w.in_default-chain.is answered) c.match-chain.page.bytes
           (rw (w.w-is, w.page-is) (PutsBehind-nothing (g.W.Write.contents c.loop-place.w) c.loop-place.page.bytes))
     ]
 
