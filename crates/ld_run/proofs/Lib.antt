@@ -3,3 +3,4 @@ pub mod Tallies
 pub mod Walking
 pub mod Shares
 pub mod Settlements
+pub mod Counts

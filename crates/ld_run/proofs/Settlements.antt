@@ -18,10 +18,13 @@ settles-same book facts tallies keys facts_are = (
     keys = sym keys ∙ same_keys;
     facts = λ x. ((λ h. (facts_are x).0 ((same x).1 h)), (λ r. (same x).0 ((facts_are x).1 r)));
   },
-  λ settles. (keys ∙ settles.keys, λ x. (
-    (λ h. (settles.facts x).1 ((facts_are x).0 h)),
-    (λ h. (facts_are x).1 ((settles.facts x).0 h)),
-  )),
+  λ settles. (
+    keys ∙ settles.keys,
+    λ x. (
+      (λ h. (settles.facts x).1 ((facts_are x).0 h)),
+      (λ h. (facts_are x).1 ((settles.facts x).0 h)),
+    ),
+  ),
 )
 
 -- settling with the tally of all traces ends the run

@@ -45,21 +45,25 @@ Adds-more First Old New cs c before adds x =
 -- an allowed event with a chain
 pub walks_on-chain : (start old new : FactWords) (t : List Event) (n : ℕ) (state : EndState) (r : Result (Option ChainParts) StepFault) (c : ChainParts) → r ≡ Ok (Some c) → GoesOn t n state r → new.keys ≡ old.keys → Adds (HasFact old) (HasFact new) (ChainHas c) → HasGathered start old t n → WalksOn start new state t n None
 walks_on-chain start old new t n state r c is on keys adds gathered =
-    let after = subst (λ x. GoesOn t n state x) is on in
-    (after.0, record {
-      keys = keys ∙ gathered.keys;
-      adds = subst (λ cs. Adds (HasFact start) (HasFact new) (ChainsHave cs)) (sym after.1)
-          (Adds-more (HasFact start) (HasFact old) (HasFact new) (chains (take n t)) c gathered.adds adds);
-    })
+    let after = subst (λ x. GoesOn t n state x) is on in (
+      after.0,
+      record {
+        keys = keys ∙ gathered.keys;
+        adds = subst (λ cs. Adds (HasFact start) (HasFact new) (ChainsHave cs)) (sym after.1)
+            (Adds-more (HasFact start) (HasFact old) (HasFact new) (chains (take n t)) c gathered.adds adds);
+      },
+    )
 
 -- an allowed event without one
 pub walks_on-none : (start facts : FactWords) (t : List Event) (n : ℕ) (state : EndState) (r : Result (Option ChainParts) StepFault) → r ≡ Ok None → GoesOn t n state r → HasGathered start facts t n → WalksOn start facts state t n None
 walks_on-none start facts t n state r is on gathered =
-    let after = subst (λ x. GoesOn t n state x) is on in
-    (after.0, record {
-      keys = gathered.keys;
-      adds = subst (λ cs. Adds (HasFact start) (HasFact facts) (ChainsHave cs)) (sym (after.1 ∙ append-nil (chains (take n t)))) gathered.adds;
-    })
+    let after = subst (λ x. GoesOn t n state x) is on in (
+      after.0,
+      record {
+        keys = gathered.keys;
+        adds = subst (λ cs. Adds (HasFact start) (HasFact facts) (ChainsHave cs)) (sym (after.1 ∙ append-nil (chains (take n t)))) gathered.adds;
+      },
+    )
 
 -- the first n events of the trace were allowed, this is the state after them, and the facts of their chains, of which there
 -- were no more than events, were gathered

@@ -1,6 +1,6 @@
 //! A run: workers over many traces.
 
-ghost use Rattle.std.specs.Prelude.{◌≡◌, ◌≤◌, ◌<◌, ◌↔◌, ℕ, List, All, IfOk, IfErr, IsErrOf, count_by, length, sum_by, take};
+ghost use Rattle.std.specs.Prelude.{◌≡◌, ◌≤◌, ◌<◌, ◌↔◌, ℕ, List, All, IfOk, IfErr, IsErrOf, count_by, length, sum_by, take, vec_len};
 ghost use Rattle.ld_trace.specs.declared.event.Event.{Event};
 ghost use Rattle.ld_trace.specs.Events.{KeysBelow};
 ghost use Rattle.ld_task.specs.Events.{makes_chain};
@@ -105,6 +105,8 @@ fn conclude(
     ensures keys { IfOk result (λ settled. settled.keys ≡ together.now.keys) }
     ensures allowed { ¬ IsErrOf result RunFault.BadWorkers × ¬ IsErrOf result RunFault.TooManyTraces }
 {
+    ld_graph::trace_facts_are_the_chains();
+    ld_task::beginnings_keep_their_chains();
     match refused {
         None => settle(book, together),
         Some(found) => Err(refused_by(found)),
@@ -234,7 +236,14 @@ fn chains_of(trace: &RawTrace) -> u64
         let Some(event) = trace.event(place) else {
             unreachable!();
         };
-        count += u64::from(matches!(event, Event::Acquire { .. } | Event::TurnOn { .. }));
+        count += u64::from(makes_chain(event));
     }
     count
+}
+
+// Whether the event takes a lock or turns a flag on.
+fn makes_chain(event: Event) -> bool
+    ensures { result ≡ makes_chain event }
+{
+    matches!(event, Event::Acquire { .. } | Event::TurnOn { .. })
 }

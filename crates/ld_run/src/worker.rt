@@ -83,6 +83,7 @@ fn walk_event<R: Wait, G: Gate>(
     ensures walks_on { IfOk result (λ fault. (start : FactWords) (t : List Event) (n : ℕ)
         → ComesNext start facts.old state.old event t n → WalksOn start facts.new state.new t n fault) }
 {
+    ld_task::chain_keys_are_the_traces();
     match state.step(event) {
         Ok(answer) => {
             if let Some(chain) = answer {
@@ -113,7 +114,6 @@ fn walk_trace<R: Wait, G: Gate>(
     ld_graph::trace_facts_are_the_chains();
     ld_task::beginnings_keep_their_chains();
     ld_task::beginnings_keep_their_faults();
-    ld_task::chain_keys_are_the_traces();
     let mut state = TaskState::new();
     let mut number = 0;
     for place in 0..events.len() {

@@ -1,7 +1,6 @@
 -- What a beginning of a trace says is what the trace says there.
-use Rattle.std.proofs.Common.{◌≡◌, ℕ, zero, suc, ◌<◌, ◌≤◌, List, [], ◌∷◌, take, slice_get, length, refl, sym, ◌∙◌, subst, Contains, arith}
+use Rattle.std.proofs.Common.{◌≡◌, ℕ, zero, suc, ◌<◌, ◌≤◌, List, [], ◌∷◌, take, length, refl, sym, ◌∙◌, subst, Contains, arith}
 use Rattle.ld_trace.specs.declared.event.Event.{Event}
-use Rattle.ld_task.specs.Chains.{ChainParts}
 use Rattle.ld_task.specs.TraceChains.{chains}
 use Rattle.ld_task.specs.Laws.{BeginningsKeepTheirChains, BeginningsKeepTheirFaults}
 use Rattle.ld_task.proofs.ChainLists.{Any-chains, chains-Any, chain-agree}

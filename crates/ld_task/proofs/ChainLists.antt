@@ -14,11 +14,11 @@ use Rattle.ld_task.specs.Positions.{positions_below}
 use Rattle.ld_task.specs.Events.{event}
 use Rattle.ld_task.specs.Frames.{kind}
 use Rattle.ld_task.specs.Flags.{flags_at}
-use Rattle.ld_task.specs.Held.{held}
+use Rattle.ld_task.specs.Held.{is_held}
 use Rattle.ld_task.specs.Chains.{ChainParts}
 use Rattle.ld_task.specs.TraceChains.{lock_at, held_locks_at, chain_of, chain, chains}
 use Rattle.ld_task.proofs.PositionLemmas.{map_below-cong, positions_below-cong}
-use Rattle.ld_task.proofs.TraceLemmas.{Agree, held-agree, kind-agree, flag-agree}
+use Rattle.ld_task.proofs.TraceLemmas.{Agree, is_held-agree, kind-agree, flag-agree}
 use Rattle.ld_task.proofs.Places.{slice_get-append_left}
 
 -- the chains of the positions below n
@@ -97,8 +97,8 @@ module _ (s t : List Event) (n : ℕ) (a : Agree s t n) where
   held_locks_at-agree : (j : ℕ) → j ≤ n → held_locks_at s j ≡ held_locks_at t j
   unfolding held_locks_at
   held_locks_at-agree j l =
-      let p = positions_below-cong (λ i. held s i j) (λ i. held t i j) j (λ i h. held-agree s t n a i j h l) in
-      let m = map_below-cong (lock_at s) (lock_at t) (λ i. held t i j) j (λ i h. rw (a.same i (omega arith)) refl) in
+      let p = positions_below-cong (λ i. is_held s i j) (λ i. is_held t i j) j (λ i h. is_held-agree s t n a i j h l) in
+      let m = map_below-cong (lock_at s) (lock_at t) (λ i. is_held t i j) j (λ i h. rw (a.same i (omega arith)) refl) in
       ap (map (lock_at s)) p ∙ m
 
   chain_of-agree : (j : ℕ) → j < n → (e : Event) → chain_of s j e ≡ chain_of t j e

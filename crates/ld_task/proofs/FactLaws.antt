@@ -13,14 +13,14 @@ use Rattle.ld_task.specs.declared.mark.Mark.{Mark}
 use Rattle.ld_task.specs.Events.{event, is_acquire, is_turn_on, key_taken, mode_taken}
 use Rattle.ld_task.specs.Frames.{kind}
 use Rattle.ld_task.specs.Flags.{flags_at}
-use Rattle.ld_task.specs.Held.{held}
+use Rattle.ld_task.specs.Held.{is_held}
 use Rattle.ld_task.specs.Dependencies.{IsDependency}
 use Rattle.ld_task.specs.Kinds.{kind_between}
 use Rattle.ld_task.specs.Marks.{IsMarked, IsMarkedTaking, IsMarkedOpening, marks_taken, marks_opened}
 use Rattle.ld_task.specs.Chains.{ChainParts, ChainHasDependency, ChainHasMark, ChainMarksNew, ChainMarksHeld}
 use Rattle.ld_task.specs.TraceChains.{lock_at, held_locks_at, chains}
 use Rattle.ld_task.specs.Laws.{DependenciesAreTheChains, MarksAreTheChains}
-use Rattle.ld_task.proofs.TraceLemmas.{kept-true, held-parts}
+use Rattle.ld_task.proofs.TraceLemmas.{is_kept-true, is_held-parts}
 use Rattle.ld_task.proofs.Mapped.{Comes, Contains-mapped, mapped-comes}
 use Rattle.ld_task.proofs.ChainLists.{Any-chains, chains-Any, acquisition_at, opening_at, IsAcquisition, IsOpening, chain-acquire, chain-turn_on, chain-cases}
 
@@ -41,15 +41,15 @@ frame_is a b f g e = ap (λ (o : Option (Lock × Frame)). second o) e
 
 module _ (t : List Event) where
   -- what is held at a position stands among its held locks
-  held-among : (i j : ℕ) → held t i j ≡ true → Contains (held_locks_at t j) (lock_at t i)
+  is_held-among : (i j : ℕ) → is_held t i j ≡ true → Contains (held_locks_at t j) (lock_at t i)
   unfolding held_locks_at
-  held-among i j h =
-      Contains-mapped (lock_at t) (λ k. held t k j) j (lock_at t i)
-      (record { at = i; below = (kept-true t i j (held-parts t i j h).0).before; passes = h; gives = refl })
+  is_held-among i j h =
+      Contains-mapped (lock_at t) (λ k. is_held t k j) j (lock_at t i)
+      (record { at = i; below = (is_kept-true t i j (is_held-parts t i j h).0).before; passes = h; gives = refl })
 
-  pub among-held : (j : ℕ) (lock : Lock) → Contains (held_locks_at t j) lock → Comes (lock_at t) (λ k. held t k j) j lock
+  pub among-is_held : (j : ℕ) (lock : Lock) → Contains (held_locks_at t j) lock → Comes (lock_at t) (λ k. is_held t k j) j lock
   unfolding held_locks_at
-  among-held j lock m = mapped-comes (lock_at t) (λ k. held t k j) j lock m
+  among-is_held j lock m = mapped-comes (lock_at t) (λ k. is_held t k j) j lock m
 
   -- an acquisition at a position
   record Takes (j : ℕ) : Type 0 where
@@ -83,7 +83,7 @@ module _ (t : List Event) where
           old = lock_at t d.i;
           new = record { key = a.key; mode = a.mode };
           frame = kind t d.j;
-          is_held = held-among d.i d.j d.is_held;
+          is_held = is_held-among d.i d.j d.is_held;
           is_new = refl;
           from_is = d.from_is;
           to_is = d.to_is ∙ ap key_taken a.is_event;
@@ -93,7 +93,7 @@ module _ (t : List Event) where
     told-acquisition : (j : ℕ) (c : ChainParts) → IsAcquisition t j c → ChainHasDependency c from to k → IsDependency t from to k
     told-acquisition j c a d' =
         let d = subst (λ x. ChainHasDependency x from to k) (sym a.parts) d' in
-        let r = among-held j d.old d.is_held in
+        let r = among-is_held j d.old d.is_held in
         let taken = new_is (record { key = a.key; mode = a.mode }) d.new (kind t j) d.frame d.is_new in
         record {
           i = r.at;
@@ -142,7 +142,7 @@ module _ (t : List Event) (key : ℕ) (mark : Mark) where
       Any-chains t (λ c. ChainHasMark c key mark) m.j (opening_at t m.j) (chain-turn_on t m.j o.0 o.1) (inr (record {
         old = lock_at t m.i;
         is_opening = refl;
-        is_held = held-among t m.i m.j m.is_held;
+        is_held = is_held-among t m.i m.j m.is_held;
         key_is = m.key_is;
         gives = m.gives;
       }))
@@ -164,7 +164,7 @@ module _ (t : List Event) (key : ℕ) (mark : Mark) where
   opening-back : (j : ℕ) (c : ChainParts) → IsOpening t j c → ChainMarksHeld c key mark → IsMarked t key mark
   opening-back j c o m' =
       let m = subst (λ x. ChainMarksHeld x key mark) (sym o.parts) m' in
-      let r = among-held t j m.old m.is_held in
+      let r = among-is_held t j m.old m.is_held in
       let flags = flags_at t (suc j) in
       inr (record {
         i = r.at;

@@ -6,18 +6,18 @@ use Rattle.ld_trace.specs.declared.event.Event.TheVariants.{Acquire, Release, En
 use Rattle.ld_task.specs.Events.{key_taken, is_acquire, takes, event}
 use Rattle.ld_task.specs.Positions.{count_below}
 use Rattle.ld_task.specs.Frames.{depth, one_frame}
-use Rattle.ld_task.specs.Held.{key_at, taken_again, given_back, kept}
+use Rattle.ld_task.specs.Held.{key_at, acquisitions_since, releases_since, is_kept}
 use Rattle.ld_task.proofs.PositionLemmas.{count_below-none}
 use Rattle.ld_task.proofs.TraceLemmas.{one_frame-depth, one_frame-above, one_frame-from}
 
 module _ (t : List Event) where
   -- the acquisitions of i's key in i's frame that were taken after i and are kept at n
   unfoldable pub later : ℕ → ℕ → ℕ
-  later i n = count_below n (λ m. ltb i m && kept t m n && one_frame t i m && eqb (key_at t m) (key_at t i))
+  later i n = count_below n (λ m. ltb i m && is_kept t m n && one_frame t i m && eqb (key_at t m) (key_at t i))
 
   -- each release in i's frame took one of them, or they are there
   pub record Counted (n : ℕ) : Type 0 where
-    pub sum : (i : ℕ) → kept t i n ≡ true → later i n + given_back t i n ≡ taken_again t i n
+    pub sum : (i : ℕ) → is_kept t i n ≡ true → later i n + releases_since t i n ≡ acquisitions_since t i n
 
   module _ (i m n : ℕ) (im : i < m) (mn : m < n) where
     pub frame-over : one_frame t i m ≡ true → one_frame t m n ≡ true → one_frame t i n ≡ true
@@ -58,25 +58,25 @@ module _ (t : List Event) where
 
   pub later-itself : (n : ℕ) → later n (suc n) ≡ 0
   unfolding later
-  later-itself n = count_below-none (λ m. ltb n m && kept t m (suc n) && one_frame t n m && eqb (key_at t m) (key_at t n)) (suc n)
+  later-itself n = count_below-none (λ m. ltb n m && is_kept t m (suc n) && one_frame t n m && eqb (key_at t m) (key_at t n)) (suc n)
       (λ m l. let e = le-ltb n m (omega arith) in rw e refl)
 
   -- a member of `later`, as facts
   pub record IsLater (i m n : ℕ) : Type 0 where
     pub after : i < m
-    pub is_kept : kept t m n ≡ true
+    pub is_kept : is_kept t m n ≡ true
     pub frame : one_frame t i m ≡ true
     pub key : key_at t m ≡ key_at t i
 
-  pub later-true : (i m n : ℕ) → (ltb i m && kept t m n && one_frame t i m && eqb (key_at t m) (key_at t i)) ≡ true → IsLater i m n
+  pub later-true : (i m n : ℕ) → (ltb i m && is_kept t m n && one_frame t i m && eqb (key_at t m) (key_at t i)) ≡ true → IsLater i m n
   later-true i m n h =
-      let abc = and_parts (ltb i m && kept t m n && one_frame t i m) _ h in
-      let ab = and_parts (ltb i m && kept t m n) (one_frame t i m) abc.0 in
-      let a = and_parts (ltb i m) (kept t m n) ab.0 in
+      let abc = and_parts (ltb i m && is_kept t m n && one_frame t i m) _ h in
+      let ab = and_parts (ltb i m && is_kept t m n) (one_frame t i m) abc.0 in
+      let a = and_parts (ltb i m) (is_kept t m n) ab.0 in
       record { after = ltb-true i m a.0; is_kept = a.1; frame = ab.1; key = eqb-true _ _ abc.1 }
 
-  pub later-from : (i m n : ℕ) → IsLater i m n → (ltb i m && kept t m n && one_frame t i m && eqb (key_at t m) (key_at t i)) ≡ true
+  pub later-from : (i m n : ℕ) → IsLater i m n → (ltb i m && is_kept t m n && one_frame t i m && eqb (key_at t m) (key_at t i)) ≡ true
   later-from i m n h =
-      and_from (ltb i m && kept t m n && one_frame t i m) _
-      (and_from (ltb i m && kept t m n) (one_frame t i m) (and_from (ltb i m) (kept t m n) (lt-ltb i m h.after) h.is_kept) h.frame)
+      and_from (ltb i m && is_kept t m n && one_frame t i m) _
+      (and_from (ltb i m && is_kept t m n) (one_frame t i m) (and_from (ltb i m) (is_kept t m n) (lt-ltb i m h.after) h.is_kept) h.frame)
       (eq-eqb _ _ h.key)

@@ -1,8 +1,7 @@
 -- The first events of a trace, and how one more goes on from them.
-use Rattle.std.proofs.Common.{◌≡◌, ℕ, zero, suc, ◌+◌, ◌<◌, ◌≤◌, List, [], ◌∷◌, ◌++◌, length, take, slice_get, Option, Some, None, Result, Ok, Err, refl, sym, ap, ◌∙◌, subst, inl, inr, arith}
-use Rattle.std.proofs.lemmas.Bool.{cases_lt, cases_eq}
+use Rattle.std.proofs.Common.{◌≡◌, ℕ, zero, suc, ◌+◌, ◌<◌, List, [], ◌∷◌, ◌++◌, length, take, slice_get, Option, Some, Result, Ok, Err, refl, sym, ap, ◌∙◌, subst, arith}
 use Rattle.std.specs.Option.{option_to_list}
-use Rattle.std.proofs.lemmas.List.{length-take-le, take_all}
+use Rattle.std.proofs.lemmas.List.{length-take-le}
 use Rattle.std.proofs.lemmas.Option.{slice_get_within}
 use Rattle.ld_trace.specs.declared.event.Event.{Event}
 use Rattle.ld_task.specs.declared.fault.StepFault.{StepFault}
@@ -11,8 +10,7 @@ use Rattle.ld_task.specs.WellFormed.{IsWellFormed, IsFirstFault, fault}
 use Rattle.ld_task.specs.Events.{event}
 use Rattle.ld_task.specs.Chains.{ChainParts}
 use Rattle.ld_task.specs.TraceChains.{chains}
-use Rattle.ld_task.specs.declared.fault.StepAt.{StepAt}
-use Rattle.ld_task.specs.Steps.{IsStateAfter, StepsTo, GoesOn}
+use Rattle.ld_task.specs.Steps.{StepsTo, GoesOn}
 use Rattle.ld_task.proofs.TraceLemmas.{Agree, fault-agree}
 use Rattle.ld_task.proofs.ChainLists.{chains-snoc}
 use Rattle.ld_task.proofs.Places.{slice_get-append_left, slice_get-append_seam}
@@ -32,14 +30,6 @@ take-suc_get (y ∷ xs) (suc i) x e = ap (λ z. y ∷ z) (take-suc_get xs i x e)
 
 pub well_formed-nil : IsWellFormed []
 well_formed-nil = record { allowed = λ j l. absurd (omega arith) }
-
--- the first events of a well-formed trace are one
-pub well_formed-take : (t : List Event) (n : ℕ) → n ≤ length t → IsWellFormed t → IsWellFormed (take n t)
-well_formed-take t n l well = record {
-  allowed = λ j h.
-      let m : j < n = omega (arith, length-take-le n t l, h) in
-      fault-agree (take n t) t j (record { same = λ k b. slice_get-take t n k (omega arith) }) (slice_get-take t n j m) ∙ well.allowed j (omega arith);
-}
 
 module _ (t : List Event) (i : ℕ) (e : Event) (here : slice_get t i ≡ Some e) where
   in_range : i < length t
@@ -78,27 +68,3 @@ module _ (t : List Event) (i : ℕ) (e : Event) (here : slice_get t i ≡ Some e
     record { well_formed = subst IsWellFormed longer-is step.0; is_end = step.1 ∙ ap end_state longer-is },
     sym (ap chains longer-is) ∙ chains-snoc (take i t) e ∙ ap (λ o. chains (take i t) ++ option_to_list o) (sym step.2),
   )
-
--- a trace whose last event was reached is well formed
-pub well_formed-whole : (t : List Event) (state : EndState) → IsStateAfter t (length t) state → IsWellFormed t
-well_formed-whole t state s = subst IsWellFormed (take_all (length t) t (omega arith)) s.well_formed
-
--- the first fault is one alone, and there is none in a well-formed trace
-pub first_fault-unique : (t : List Event) (a b : StepAt) → IsFirstFault t a → IsFirstFault t b → a ≡ b
-first_fault-unique t a b f g =
-    elim (cases_lt a.place b.place) [
-      | inl l ↦ absurd (none_some (sym (g.first a.place l) ∙ f.refused))
-      | inr l ↦ elim (cases_eq a.place b.place) [
-        | inl e ↦ let same : a.fault ≡ b.fault = some_same (sym f.refused ∙ ap (fault t) e ∙ g.refused) in λ i. record { fault = same i; place = e i }
-        | inr ne ↦ absurd (none_some (sym (f.first b.place (omega arith)) ∙ g.refused))
-      ]
-    ]
-  where
-    none_some : {x : StepFault} → None ≡ Some x → ⊥
-    none_some e = cc
-
-    some_same : {x y : StepFault} → Some x ≡ Some y → x ≡ y
-    some_same e = cc
-
-pub first_fault-refutes : (t : List Event) (a : StepAt) → IsFirstFault t a → IsWellFormed t → ⊥
-first_fault-refutes t a f well = let e = sym (well.allowed a.place f.in_range) ∙ f.refused in cc

@@ -16,8 +16,8 @@ use Rattle.ld_task.specs.TraceChains.{held_locks_at}
 use Rattle.ld_task.specs.Laws.{ChainKeysAreTheTraces, TurningOnTurnsOn}
 use Rattle.ld_task.proofs.NextPosition.{depth-quiet}
 use Rattle.ld_task.proofs.Frames.{flag-changed, flag-quiet}
-use Rattle.ld_task.proofs.TraceLemmas.{kept-true, held-parts}
-use Rattle.ld_task.proofs.FactLaws.{among-held}
+use Rattle.ld_task.proofs.TraceLemmas.{is_kept-true, is_held-parts}
+use Rattle.ld_task.proofs.FactLaws.{among-is_held}
 use Rattle.ld_task.proofs.ChainLists.{chains-All, IsAcquisition, IsOpening, chain-cases}
 
 module _ (t : List Event) (n : ℕ) (keys : KeysBelow n t) where
@@ -37,8 +37,8 @@ module _ (t : List Event) (n : ℕ) (keys : KeysBelow n t) where
   held_below : (j : ℕ) → All (λ (lock : Lock). lock.key < n) (held_locks_at t j)
   held_below j k d l =
       let lock = slice_index_or (held_locks_at t j) k d in
-      let r = among-held t j lock (Contains-get_or (held_locks_at t j) k d l) in
-      let taken = (kept-true t r.at j (held-parts t r.at j r.passes).0).taken in
+      let r = among-is_held t j lock (Contains-get_or (held_locks_at t j) k d l) in
+      let taken = (is_kept-true t r.at j (is_held-parts t r.at j r.passes).0).taken in
       subst (λ (x : Lock). x.key < n) r.gives (key_below r.at (event t r.at) refl taken)
 
   chain_below : (j : ℕ) (c : ChainParts) → IsAcquisition t j c ⊎ IsOpening t j c → ChainKeysBelow n c

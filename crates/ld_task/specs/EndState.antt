@@ -3,7 +3,7 @@ use Rattle.std.specs.Prelude.{ℕ, suc, Bool, ◌&&◌, List, nat_lt, map, lengt
 use Rattle.ld_task.specs.Events.{event, is_enter}
 use Rattle.ld_task.specs.Frames.{depth, kind}
 use Rattle.ld_task.specs.Flags.{flags_at}
-use Rattle.ld_task.specs.Held.{kept}
+use Rattle.ld_task.specs.Held.{is_kept}
 use Rattle.ld_task.specs.TraceChains.{lock_at}
 use Rattle.ld_task.specs.Positions.{positions_below, all_between}
 use Rattle.ld_task.specs.declared.frame.OpenFrame.{OpenFrame}
@@ -33,7 +33,7 @@ unfoldable pub state_at : List Event → ℕ → EndState
 state_at t n = record {
   outer = map (frame_at t) (positions_below n (λ p. still_open t p n));
   current = frame_at t n;
-  locks = map (kept_lock_at t) (positions_below n (λ i. kept t i n));
+  locks = map (kept_lock_at t) (positions_below n (λ i. is_kept t i n));
 }
 
 -- the state after the last event

@@ -8,7 +8,8 @@ use Rattle.ld_trace.specs.declared.event.Event.{Event}
 use Rattle.ld_trace.specs.declared.event.Event.TheVariants.{Enter}
 use Rattle.ld_trace.specs.declared.event.Irq.TheVariants.{Hard, Soft}
 
--- the entries before a position less the leaves before it
+-- the entries before a position less the leaves before it. The subtraction stops at 0, so of a list that leaves the task
+-- frame the depths behind that leave mean nothing; no fault or chain before it depends on them
 unfoldable pub depth : List Event → ℕ → ℕ
 depth t j = count_below j (λ k. is_enter (event t k)) - count_below j (λ k. is_leave (event t k))
 
@@ -17,8 +18,8 @@ unfoldable pub one_frame : List Event → ℕ → ℕ → Bool
 one_frame t i j = nat_eq (depth t i) (depth t j) && all_between i j (λ k. nat_le (depth t i) (depth t k))
 
 -- the last entry before j at the depth one less than j's
-unfoldable pub opening : List Event → ℕ → Option ℕ
-opening t j = last_below j (λ k. is_enter (event t k) && nat_eq (depth t k + 1) (depth t j))
+unfoldable pub entry_of : List Event → ℕ → Option ℕ
+entry_of t j = last_below j (λ k. is_enter (event t k) && nat_eq (depth t k + 1) (depth t j))
 
 -- the kind of the frame that an entry opens
 abbrev pub frame_opened : Option Event → Frame
@@ -33,7 +34,7 @@ kind_from t (Some k) = frame_opened (event t k)
 
 -- the kind of the frame at j
 unfoldable pub kind : List Event → ℕ → Frame
-kind t j = kind_from t (opening t j)
+kind t j = kind_from t (entry_of t j)
 
 -- it is the task frame
 abbrev pub is_task : Frame → Bool

@@ -1,5 +1,6 @@
 -- What holds of every trace: the laws that this crate proves of its definitions.
-use Rattle.std.specs.Prelude.{◌≡◌, ◌≢◌, ◌↔◌, ℕ, suc, ◌<◌, ◌≤◌, true, List, All, Any, Contains, Some, take}
+use Rattle.std.specs.Prelude.{◌≡◌, ◌≢◌, ◌↔◌, ℕ, suc, ◌<◌, ◌≤◌, true, List, [], ◌∷◌, ◌++◌, length, All, Any, Contains, Some, take}
+use Rattle.std.specs.Option.{option_to_list}
 use Rattle.ld_trace.specs.declared.event.Event.{Event}
 use Rattle.ld_trace.specs.declared.event.Event.TheVariants.{TurnOn}
 use Rattle.ld_trace.specs.declared.event.Irq.{Irq}
@@ -11,7 +12,7 @@ use Rattle.ld_task.specs.Flags.{flag}
 use Rattle.ld_task.specs.Dependencies.{IsDependency}
 use Rattle.ld_task.specs.Marks.{IsMarked}
 use Rattle.ld_task.specs.Chains.{ChainParts, ChainHasDependency, ChainHasMark, ChainKeysBelow}
-use Rattle.ld_task.specs.TraceChains.{chains}
+use Rattle.ld_task.specs.TraceChains.{chain, chains}
 use Rattle.ld_task.specs.WellFormed.{fault}
 
 -- the dependencies of a trace are those of its chains
@@ -34,6 +35,10 @@ BeginningsKeepTheirChains = (t : List Event) (m n : ℕ) → m ≤ n →
 -- what isn't allowed in a beginning of a trace isn't allowed in the trace, for the same reason
 abbrev pub BeginningsKeepTheirFaults : Type 0
 BeginningsKeepTheirFaults = (t : List Event) (m j : ℕ) → j < m → fault (take m t) j ≡ fault t j
+
+-- one event more adds its own chain, if it makes one
+abbrev pub OneMoreEventAddsItsChain : Type 0
+OneMoreEventAddsItsChain = (t : List Event) (e : Event) → chains (t ++ e ∷ []) ≡ chains t ++ option_to_list (chain (t ++ e ∷ []) (length t))
 
 -- just after a state is turned on it is on, and the other one is as before
 pub record IsOnAfter (t : List Event) (irq : Irq) (j : ℕ) : Type 0 where

@@ -3,7 +3,7 @@ use Rattle.std.specs.Prelude.{ℕ, suc, Bool, true, ◌&&◌, not, List, ◌≡�
 use Rattle.ld_task.specs.Events.{event, is_acquire, is_turn_on, mode_taken}
 use Rattle.ld_task.specs.Frames.{kind}
 use Rattle.ld_task.specs.Flags.{flags_at, is_enabled}
-use Rattle.ld_task.specs.Held.{key_at, held}
+use Rattle.ld_task.specs.Held.{key_at, is_held}
 use Rattle.ld_task.specs.declared.frame.Flags.{Flags}
 use Rattle.ld_task.specs.declared.frame.Frame.{Frame}
 use Rattle.ld_task.specs.declared.mark.Mark.{Mark}
@@ -59,7 +59,7 @@ pub record IsMarkedOpening (t : List Event) (key : ℕ) (mark : Mark) : Type 0 w
   pub i : ℕ
   pub j : ℕ
   pub is_opening : IsTrue (is_turn_on (event t j))
-  pub is_held : IsTrue (held t i j)
+  pub is_held : IsTrue (is_held t i j)
   pub key_is : key ≡ key_at t i
   pub gives : IsTrue (marks_opened (mode_taken (event t i)) (flags_at t (suc j)) mark)
 

@@ -3,7 +3,7 @@ use Rattle.std.specs.Prelude.{ℕ, suc, true, List, Option, Some, None, map, len
 use Rattle.ld_task.specs.Events.{event, mode_taken}
 use Rattle.ld_task.specs.Frames.{kind}
 use Rattle.ld_task.specs.Flags.{flags_at}
-use Rattle.ld_task.specs.Held.{key_at, held}
+use Rattle.ld_task.specs.Held.{key_at, is_held}
 use Rattle.ld_task.specs.Positions.{positions_below}
 use Rattle.ld_task.specs.declared.lock.Lock.{Lock}
 use Rattle.ld_trace.specs.declared.event.Event.{Event}
@@ -16,7 +16,7 @@ lock_at t i = record { key = key_at t i; mode = mode_taken (event t i) }
 
 -- the locks held at j in its frame, oldest first
 unfoldable pub held_locks_at : List Event → ℕ → List Lock
-held_locks_at t j = map (lock_at t) (positions_below j (λ i. held t i j))
+held_locks_at t j = map (lock_at t) (positions_below j (λ i. is_held t i j))
 
 -- the chain that the event e makes at j: only an acquisition and an opening make one
 unfoldable pub chain_of : List Event → ℕ → Event → Option ChainParts

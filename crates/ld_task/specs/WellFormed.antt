@@ -3,7 +3,7 @@ use Rattle.std.specs.Prelude.{ℕ, ◌&&◌, List, Option, Some, None, if◌then
 use Rattle.ld_task.specs.Events.{event, takes}
 use Rattle.ld_task.specs.Frames.{kind, is_task}
 use Rattle.ld_task.specs.Flags.{flags_at, may_change, may_enter}
-use Rattle.ld_task.specs.Held.{kept, held}
+use Rattle.ld_task.specs.Held.{is_kept, is_held}
 use Rattle.ld_task.specs.Positions.{count_below, any_below}
 use Rattle.ld_task.specs.declared.fault.StepFault.{StepFault}
 use Rattle.ld_task.specs.declared.lock.TheConstants.{MAX_HELD}
@@ -14,10 +14,10 @@ use Rattle.ld_trace.specs.declared.event.Event.TheVariants.{Acquire, Release, En
 
 -- why the event e isn't allowed at j
 unfoldable pub fault_of : List Event → ℕ → Event → Option StepFault
-fault_of t j (Acquire mode key) = if nat_lt (count_below j (λ i. kept t i j)) MAX_HELD then None else Some TooDeep
-fault_of t j (Release key) = if any_below j (λ i. held t i j && takes key (event t i)) then None else Some NotHeld
+fault_of t j (Acquire mode key) = if nat_lt (count_below j (λ i. is_kept t i j)) MAX_HELD then None else Some TooDeep
+fault_of t j (Release key) = if any_below j (λ i. is_held t i j && takes key (event t i)) then None else Some NotHeld
 fault_of t j (Enter irq) = if may_enter irq (kind t j) (flags_at t j) then None else Some BadEnter
-fault_of t j Leave = if is_task (kind t j) then Some LeaveTask else if any_below j (λ i. held t i j) then Some LeaveHeld else None
+fault_of t j Leave = if is_task (kind t j) then Some LeaveTask else if any_below j (λ i. is_held t i j) then Some LeaveHeld else None
 fault_of t j (TurnOn irq) = if may_change irq (kind t j) then None else Some BadFlag
 fault_of t j (TurnOff irq) = if may_change irq (kind t j) then None else Some BadFlag
 

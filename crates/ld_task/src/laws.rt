@@ -2,7 +2,7 @@
 
 ghost use Rattle.std.specs.Prelude.{◌≡◌, ◌↔◌, IsTrue};
 ghost use Rattle.ld_task.specs.Chains.{ChainParts};
-ghost use Rattle.ld_task.specs.Laws.{BeginningsKeepTheirChains, BeginningsKeepTheirFaults, ChainKeysAreTheTraces, DependenciesAreTheChains, MarksAreTheChains, TurningOnTurnsOn};
+ghost use Rattle.ld_task.specs.Laws.{BeginningsKeepTheirChains, BeginningsKeepTheirFaults, ChainKeysAreTheTraces, DependenciesAreTheChains, MarksAreTheChains, OneMoreEventAddsItsChain, TurningOnTurnsOn};
 
 use crate::chain::Chain;
 use std::hash::Hash;
@@ -30,6 +30,11 @@ pub fn beginnings_keep_their_chains()
 /// What isn't allowed in a beginning of a trace isn't allowed in the trace, for the same reason.
 pub fn beginnings_keep_their_faults()
     ensures { BeginningsKeepTheirFaults }
+{}
+
+/// One event more adds its own chain to those of a trace, if it makes one.
+pub fn one_more_event_adds_its_chain()
+    ensures { OneMoreEventAddsItsChain }
 {}
 
 /// Just after a state is turned on it is on, and the other one is as before.

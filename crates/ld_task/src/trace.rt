@@ -44,6 +44,13 @@ impl Trace {
         self.events.len()
     }
 
+    /// The events in order.
+    pub fn as_slice(&self) -> &[Event]
+        ensures { result.now ≡ self.now }
+    {
+        self.events.as_slice()
+    }
+
     /// The event at this place, counted from 0. None exactly from the length on.
     pub fn event(&self, i: usize) -> Option<Event>
         ensures { result ≡ slice_get self.now i }

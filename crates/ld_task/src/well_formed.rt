@@ -27,10 +27,8 @@ fn first_fault(events: &RawTrace) -> Option<StepAt>
     ensures found { IfSome result (IsFirstFault events.now) }
 {
     let mut state = TaskState::new();
-    for place in 0..events.len() {
-        if let Some(event) = events.event(place)
-            && let Err(fault) = state.step(event)
-        {
+    for (place, event) in events.as_slice().iter().enumerate() {
+        if let Err(fault) = state.step(*event) {
             return Some(StepAt { fault, place });
         }
     }

@@ -4,3 +4,4 @@ pub mod NameLemmas
 pub mod ReadLemmas
 pub mod StoredLemmas
 pub mod TakenLemmas
+mod KnownLemmas

@@ -1,4 +1,4 @@
--- What one record of a trace says (the text format is this project's own).
+-- What one record of a trace says [the text format is this project's own].
 use Rattle.std.specs.Prelude.{ℕ, ◌-◌, ◌&&◌, Bool, false, List, [], ◌∷◌, Option, Some, None, Result, Ok, Err, codes, nat_le, if◌then◌else◌}
 use Rattle.std.specs.Str.{bytes_eq}
 use Rattle.ld_trace.specs.declared.event.Event.{Event}

@@ -6,8 +6,8 @@ use Rattle.ld_trace.specs.declared.key_id.TheConstants.{MAX_KEYS}
 use Rattle.ld_trace.specs.declared.key_table.TheConstants.{MAX_SUB}
 use Rattle.ld_trace.specs.declared.stored_name.TheConstants.{MAX_NAME}
 
--- a key's name: the bytes of its lock class's name, and its subclass (sections "Lock-class" and "Exception: Nested data
--- dependencies leading to nested locking")
+-- a key's name: the bytes of its lock class's name, and its subclass ["Lock-class"; "Exception: Nested data
+-- dependencies leading to nested locking"]
 abbrev pub Name : Type 0
 Name = List ℕ × ℕ
 
@@ -15,7 +15,7 @@ Name = List ℕ × ℕ
 abbrev pub are_visible : List ℕ → Bool
 are_visible bytes = list_all (λ byte. nat_le 0x21 byte && nat_le byte 0x7E) bytes
 
--- whether these bytes name a lock class: 1 to 64 of them, all visible (this project's own)
+-- whether these bytes name a lock class: 1 to 64 of them, all visible [this project's own]
 abbrev pub is_class_name : List ℕ → Bool
 is_class_name bytes = nat_le 1 (length bytes) && nat_le (length bytes) MAX_NAME && are_visible bytes
 

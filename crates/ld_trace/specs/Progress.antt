@@ -1,12 +1,15 @@
 -- What holds while a trace is read, of the records that were taken so far. No public clause speaks of these.
-use Rattle.std.specs.Prelude.{◌≡◌, ℕ, suc, ◌<◌, ◌++◌, None, false, List, [], ◌∷◌, length, slice_get, Option, Some, IfSome, Ok}
+use Rattle.std.specs.Prelude.{◌≡◌, ℕ, suc, ◌<◌, ◌++◌, None, false, List, [], ◌∷◌, length, slice_get, Option, Some, IfSome, Result, Ok}
 use Rattle.csv.specs.Reading.{Ready, Reached, default_config, reader_config, reader_state, reader_trim, source_of, strip_bom}
+use Rattle.csv.specs.declared.error.ErrorKind.{ErrorKind}
+use Rattle.csv.specs.declared.error.ErrorKind.TheVariants as kind
 use Rattle.csv.specs.declared.parser.State.TheVariants as st
 use Rattle.csv.specs.declared.reader.Reader.{Reader}
 use Rattle.csv.specs.declared.reader.Trim.TheVariants as trim
 use Rattle.ld_trace.specs.declared.event.Event.{Event}
 use Rattle.ld_trace.specs.Events.{KeysBelow}
 use Rattle.ld_trace.specs.declared.trace_fault.TraceFaultKind.{TraceFaultKind}
+use Rattle.ld_trace.specs.declared.trace_fault.TraceFaultKind.TheVariants.{Source, Memory}
 use Rattle.ld_trace.specs.Lines.{Line, Record, event_of, is_over, said, with_line}
 use Rattle.ld_trace.specs.Names.{Name}
 use Rattle.ld_trace.specs.Reading.{ReadsTo, StopsAt, event_at, fault_at, names_after}
@@ -35,6 +38,14 @@ pub record AreTaken (old : List Name) (rows : List Record) (now : List Name) (ev
 abbrev pub HasTaken : {R : Type 0} → (R → Option (List ℕ)) → Option (List ℕ) → Reader R → List Name → List Name → List Event → Type 0
 HasTaken rem known source old now events = (rows : List Record) × HasGiven rem known source rows × AreTaken old rows now events
 
+-- what a record says is no fault, its name is known to the table, and this is its event
+pub record IsEventOf (names : List Name) (what : Result Line TraceFaultKind) (event : Event) : Type 0 where
+  pub line : Line
+  pub says : what ≡ Ok line
+  pub fits : is_over names line ≡ false
+  pub known : with_line names line ≡ names
+  pub is_event : event ≡ event_of names line
+
 -- a record was taken as what it says
 pub record TakesLine (old new : List Name) (before after : List Event) (r : Record) : Type 0 where
   pub line : Line
@@ -50,3 +61,8 @@ AreRead known old new events = IfSome known (λ bytes. ReadsTo old bytes new eve
 -- reading the known bytes stopped at the record of this number
 abbrev pub AreRefused : Option (List ℕ) → List Name → List Name → TraceFaultKind → ℕ → Type 0
 AreRefused known old new kind number = IfSome known (λ bytes. StopsAt old bytes new (record { kind = kind; at = number }))
+
+-- the fault of an error in getting a record
+abbrev pub read_fault : ErrorKind → TraceFaultKind
+read_fault kind.OutOfMemory = Memory
+read_fault _ = Source

@@ -1,4 +1,4 @@
--- What the bytes of a trace stand for, and the first fault of one that stands for nothing (this project's own).
+-- What the bytes of a trace stand for, and the first fault of one that stands for nothing [this project's own].
 use Rattle.std.specs.Prelude.{◌≡◌, ℕ, zero, suc, ◌<◌, true, List, [], ◌∷◌, take, length, slice_get, nat_lt, Option, Some, None, Result, Ok, Err, if◌then◌else◌}
 use Rattle.csv.specs.Reading.{default_config, records, strip_bom}
 use Rattle.ld_trace.specs.declared.event.Event.{Event}

@@ -3,7 +3,7 @@ use Rattle.std.specs.Prelude.{ℕ, List, Bool, true, false, codes}
 use Rattle.ld_trace.specs.declared.trace_fault.TraceFaultKind.{TraceFaultKind}
 use Rattle.ld_trace.specs.declared.trace_fault.TraceFaultKind.TheVariants.{NoHeader, BadRecord, BadName, BadSub, BadMode, TooManyKeys, TooManyRecords, Source, Memory}
 
--- the fault's number and name (this project's own)
+-- the fault's number and name [this project's own]
 abbrev pub code_of : TraceFaultKind → List ℕ
 code_of NoHeader = codes "T1 NoHeader"
 code_of BadRecord = codes "T2 BadRecord"

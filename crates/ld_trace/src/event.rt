@@ -54,7 +54,7 @@ impl Event {
     ghost use Rattle.std.specs.Prelude.{◌↔◌, IsTrue};
     ghost use Rattle.ld_trace.specs.Events.{KeyIsBelow};
 
-    /// Whether its key, if it has one, is below `n`.
+    // Whether its key, if it has one, is below `n`.
     pub(crate) fn key_is_below(&self, n: u16) -> bool
         ensures { IsTrue result ↔ KeyIsBelow n self.now }
     {

@@ -55,7 +55,7 @@ impl KeyId {
         self.number
     }
 
-    /// The key of the name at this place of a table.
+    // The key of the name at this place of a table.
     pub(crate) fn from_place(place: usize) -> KeyId
         requires { place < MAX_KEYS }
         ensures { result ≡ place }

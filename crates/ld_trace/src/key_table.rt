@@ -1,12 +1,12 @@
 //! The table that numbers lock keys.
 
-ghost use Rattle.std.specs.Prelude.{◌≡◌, ◌≤◌, ◌<◌, ◌↔◌, [], IsOk, IsOkAnd, IfOk, IfErr, OnErr, IsErrOf, length, slice_get, option_map, true, false, ◌⊎◌};
+ghost use Rattle.std.specs.Prelude.{◌≡◌, ◌≤◌, ◌<◌, ◌↔◌, [], IsOk, IsOkAnd, IfOk, IfErr, OnErr, IsErrOf, IfSome, length, slice_get, option_map, true, false, ◌⊎◌};
 ghost use Rattle.ld_trace.specs.Names.{AreNumbered, is_class_name, is_known, is_name, is_one_too_many, is_same, place_of, with_name};
 ghost use Rattle.ld_trace.specs.Stored.{name_of, names_of};
 ghost use Rattle.std.specs.List.{IsDistinct};
 
-use crate::stored_name::{StoredName, is_class_name};
-use crate::{KeyFault, KeyId, MAX_KEYS};
+use crate::stored_name::{SLOTS, StoredName, is_class_name, slot_of};
+use crate::{KeyFault, KeyId, MAX_KEYS, MAX_NAME};
 use indexmap::IndexSet;
 use std::alloc::Global;
 use std::marker::Model;
@@ -21,6 +21,8 @@ pub const MAX_SUB: u8 = 7;
 #[derive(Drop)]
 pub struct KeyTable {
     names: IndexSet<StoredName>,
+    // Where a name of each slot was found last. It is a hint: it may be anything, and is looked at before it is believed.
+    recent: [u16; SLOTS],
 }
 
 impl Model for KeyTable {
@@ -42,6 +44,7 @@ impl KeyTable {
     {
         Ok(KeyTable {
             names: IndexSet::new(alloc),
+            recent: [0; SLOTS],
         })
     }
 
@@ -78,7 +81,7 @@ impl KeyTable {
         self.number_name(name, sub)
     }
 
-    /// The same for a name and a subclass that were looked at before, so K3 and K4 alone are answered.
+    // The same for a name and a subclass that were looked at before, so K3 and K4 alone are answered.
     pub(crate) fn number_name(&mut self, name: &str, sub: u8) -> Result<KeyId, KeyFault>
         requires { is_name (name.now, sub) ≡ true }
         ensures value { IfOk result (λ key. key ≡ place_of self.old (name.now, sub)) }
@@ -89,19 +92,36 @@ impl KeyTable {
         ensures refused { OnErr result (self.new ≡ self.old) }
     {
         let place = place_among(&mut self.names, StoredName::new(name, sub))?;
+        self.recent[slot_of(name.as_bytes(), sub)] = place as u16;
         Ok(KeyId::from_place(place))
+    }
+
+    // The number of the key of this name and subclass, where the table found it lately. It takes a fraction of the time of
+    // `number_name`. None says nothing.
+    pub(crate) fn known(&self, name: &[u8], sub: u8) -> Option<KeyId>
+        ensures hit { IfSome result (λ key. slice_get self.now key ≡ Some (name.now, sub)) }
+        ensures numbered { AreNumbered self.now }
+    {
+        let place = self.recent[slot_of(name, sub)] as usize;
+        let stored = self.names.get_index(place)?;
+        if stored.is(name, sub) {
+            Some(KeyId::from_place(place))
+        } else {
+            None
+        }
     }
 
     /// The class's name and the subclass of the key of this number. None exactly where no key has it.
     pub fn name_of(&self, id: KeyId) -> Option<(&str, u8)>
-        ensures { option_map (λ name. (name.0.now, name.1)) result ≡ slice_get self.now id }
+        ensures value { option_map (λ name. (name.0.now, name.1)) result ≡ slice_get self.now id }
+        ensures short { IfSome result (λ name. length name.0.now ≤ MAX_NAME) }
     {
         let name = self.names.get_index(id.get() as usize)?;
         Some((name.text.as_str(), name.sub))
     }
 }
 
-/// The place of a name among those of a table, where a new one goes last.
+// The place of a name among those of a table, where a new one goes last.
 fn place_among(names: &mut IndexSet<StoredName>, name: StoredName) -> Result<usize, KeyFault>
     requires { length names.old.keys ≤ MAX_KEYS }
     ensures value { IfOk result (λ place. place ≡ place_of (names_of names.old) (name_of name)) }

@@ -5,7 +5,7 @@ ghost use Rattle.ld_trace.specs.Names.{is_name};
 
 use crate::{Event, Irq, KeyFault, KeyId, KeyTable, Mode, TraceFaultKind};
 
-/// A class's name and a subclass, both as the format wants them. The name lies in the record's own bytes.
+// A class's name and a subclass, both as the format wants them. The name lies in the record's own bytes.
 #[derive(Clone, Copy)]
 pub(crate) struct LineName<'r> {
     pub(crate) class: &'r str,
@@ -13,7 +13,7 @@ pub(crate) struct LineName<'r> {
     ghost named: { is_name (class.now, sub) ≡ true },
 }
 
-/// What a record says, with the lock's name where it has one.
+// What a record says, with the lock's name where it has one.
 #[derive(Clone, Copy)]
 pub(crate) enum Line<'r> {
     Takes(LineName<'r>, Mode),
@@ -25,21 +25,22 @@ pub(crate) enum Line<'r> {
 }
 
 impl Line<'_> {
-    ghost use Rattle.std.specs.Prelude.{false, IfOk, IfErr, IsErrOf, OnErr};
+    ghost use Rattle.std.specs.Prelude.{false, ◌⊎◌, IfOk, IfErr, IsErrOf, OnErr};
     ghost use Rattle.ld_trace.specs.Lines.{event_of, is_over, with_line};
     ghost use Rattle.ld_trace.specs.ReadLines.{line_read};
     ghost use Rattle.ld_trace.specs.TraceFaults.{is_of_text};
 
-    /// Its event, with the number of its key in the table.
-    ///
-    /// `TooManyKeys` where the key would be the 257th, `Memory` where memory for a new key was refused. The table is then
-    /// unchanged.
+    // Its event, with the number of its key in the table.
+    //
+    // `TooManyKeys` where the key would be the 257th, `Memory` where memory for a new key was refused. The table is then
+    // unchanged.
     pub(crate) fn numbered(&self, keys: &mut KeyTable) -> Result<Event, TraceFaultKind>
         ensures event { IfOk result (λ event. event ≡ event_of keys.old (line_read self.now)) }
         ensures names { IfOk result (λ _. keys.new ≡ with_line keys.old (line_read self.now)) }
         ensures fits { IfOk result (λ _. is_over keys.old (line_read self.now) ≡ false) }
         ensures over { IfErr result (λ kind. is_of_text kind ≡ true → (kind ≡ TraceFaultKind.TooManyKeys) × (is_over keys.old (line_read self.now) ≡ true)) }
         ensures always_over { is_over keys.old (line_read self.now) ≡ true → IsErrOf result TraceFaultKind.TooManyKeys }
+        ensures either { IfErr result (λ kind. (kind ≡ TraceFaultKind.TooManyKeys) ⊎ (kind ≡ TraceFaultKind.Memory)) }
         ensures refused { OnErr result (keys.new ≡ keys.old) }
     {
         match self {
@@ -59,18 +60,19 @@ impl Line<'_> {
 }
 
 impl LineName<'_> {
-    ghost use Rattle.std.specs.Prelude.{false, IfOk, IfErr, IsErrOf, OnErr};
+    ghost use Rattle.std.specs.Prelude.{false, ◌⊎◌, IfOk, IfErr, IsErrOf, OnErr};
     ghost use Rattle.ld_trace.specs.Names.{is_one_too_many, place_of, with_name};
     ghost use Rattle.ld_trace.specs.ReadLines.{name_read};
     ghost use Rattle.ld_trace.specs.TraceFaults.{is_of_text};
 
-    /// The number of its key in the table. Refusals as above.
+    // The number of its key in the table. Refusals as above.
     fn numbered(&self, keys: &mut KeyTable) -> Result<KeyId, TraceFaultKind>
         ensures value { IfOk result (λ key. key ≡ place_of keys.old (name_read self.now)) }
         ensures names { IfOk result (λ _. keys.new ≡ with_name keys.old (name_read self.now)) }
         ensures fits { IfOk result (λ _. is_one_too_many keys.old (name_read self.now) ≡ false) }
         ensures over { IfErr result (λ kind. is_of_text kind ≡ true → (kind ≡ TraceFaultKind.TooManyKeys) × (is_one_too_many keys.old (name_read self.now) ≡ true)) }
         ensures always_over { is_one_too_many keys.old (name_read self.now) ≡ true → IsErrOf result TraceFaultKind.TooManyKeys }
+        ensures either { IfErr result (λ kind. (kind ≡ TraceFaultKind.TooManyKeys) ⊎ (kind ≡ TraceFaultKind.Memory)) }
         ensures refused { OnErr result (keys.new ≡ keys.old) }
     {
         match keys.number_name(self.class, self.sub) {

@@ -40,7 +40,7 @@ impl RawTrace {
         }
     }
 
-    /// The trace of these events, of which there are few enough.
+    // The trace of these events, of which there are few enough.
     pub(crate) fn of_few(events: Vec<Event>) -> RawTrace
         requires { length events.items ≤ MAX_EVENTS }
         ensures { result ≡ events.items }
@@ -54,6 +54,13 @@ impl RawTrace {
         ensures most { result ≤ MAX_EVENTS }
     {
         self.events.len()
+    }
+
+    /// The events in order.
+    pub fn as_slice(&self) -> &[Event]
+        ensures { result.now ≡ self.now }
+    {
+        &self.events
     }
 
     /// The event at this place, counted from 0. None exactly from the length on.

@@ -1,15 +1,16 @@
 //! Reading a trace.
 
-ghost use Rattle.std.specs.Prelude.{◌≡◌, ◌≤◌, ◌+◌, ◌++◌, ℕ, suc, [], List, Option, length, true, false, IfOk, IfErr, IfSome, OnOk, OnErr, Some};
-ghost use Rattle.csv.specs.Reading.{ReadRecord};
+ghost use Rattle.std.specs.Prelude.{◌≡◌, ◌≤◌, ◌+◌, ◌++◌, ℕ, suc, [], List, Option, length, true, false, IfOk, IfErr, IfSome, OnOk, OnErr, Some, ◌⊎◌};
+ghost use Rattle.csv.specs.Reading.{ReadRecord, error_kind};
 ghost use Rattle.csv.specs.Records.{fields_of};
 ghost use Rattle.ld_trace.specs.Events.{KeysBelow};
 ghost use Rattle.ld_trace.specs.Lines.{said};
 ghost use Rattle.ld_trace.specs.Names.{Name};
-ghost use Rattle.ld_trace.specs.Progress.{AreRead, AreRefused, HasGiven, HasTaken, ReadsPlain, TakesLine};
+ghost use Rattle.ld_trace.specs.Progress.{AreRead, AreRefused, HasGiven, HasTaken, ReadsPlain, TakesLine, read_fault};
 ghost use Rattle.ld_trace.specs.Reading.{ReadsTo, StopsAt, said_fault};
 ghost use Rattle.ld_trace.specs.TraceFaults.{is_of_text};
 
+use crate::known::known_event;
 use crate::record::{is_header, line_of};
 use crate::{Event, KeyTable, MAX_EVENTS, RawTrace, TraceFault, TraceFaultKind};
 use csv::{ByteRecord, ErrorKind, Reader, ReaderBuilder};
@@ -45,7 +46,7 @@ pub fn read_trace<R: Read + Drop>(
     read_records(alloc, &mut source, keys)
 }
 
-/// Reads all records of the source.
+// Reads all records of the source.
 fn read_records<R: Read>(
     alloc: Global,
     source: &mut Reader<R>,
@@ -75,7 +76,7 @@ fn read_records<R: Read>(
     }
 }
 
-/// Takes the first record, which has to be the header.
+// Takes the first record, which has to be the header.
 fn take_header<R: Read>(source: &mut Reader<R>, row: &mut ByteRecord) -> Result<(), TraceFaultKind>
     requires { ReadsPlain source.old }
     ensures plain { OnOk result (ReadsPlain source.new) }
@@ -93,7 +94,7 @@ fn take_header<R: Read>(source: &mut Reader<R>, row: &mut ByteRecord) -> Result<
     Ok(())
 }
 
-/// Takes the next record as an event, and says whether there was one.
+// Takes the next record as an event, and says whether there was one.
 fn take_event<R: Read>(
     source: &mut Reader<R>,
     row: &mut ByteRecord,
@@ -128,7 +129,7 @@ fn take_event<R: Read>(
     Ok(true)
 }
 
-/// Gets the next record, and says whether there was one.
+// Gets the next record, and says whether there was one.
 fn get_record<R: Read>(source: &mut Reader<R>, row: &mut ByteRecord) -> Result<bool, TraceFaultKind>
     requires { ReadsPlain source.old }
     ensures reads { IfOk result (λ found. ReadRecord R.remaining source.old source.new found (fields_of row.new)) }
@@ -137,14 +138,22 @@ fn get_record<R: Read>(source: &mut Reader<R>, row: &mut ByteRecord) -> Result<b
 {
     match source.read_byte_record(row) {
         Ok(found) => Ok(found),
-        Err(error) => match error.kind() {
-            ErrorKind::OutOfMemory => Err(TraceFaultKind::Memory),
-            _ => Err(TraceFaultKind::Source),
-        },
+        Err(error) => Err(fault_of(&error)),
     }
 }
 
-/// Takes a record as an event, and numbers its key. After a refusal nothing is changed.
+// The fault of an error in getting a record: want of memory, or else the source's failure.
+fn fault_of(error: &csv::Error) -> TraceFaultKind
+    ensures value { result ≡ read_fault (error_kind error.now) }
+    ensures not_text { is_of_text result ≡ false }
+{
+    match error.kind() {
+        ErrorKind::OutOfMemory => TraceFaultKind::Memory,
+        _ => TraceFaultKind::Source,
+    }
+}
+
+// Takes a record as an event, and numbers its key. After a refusal nothing is changed.
 fn take_record(
     row: &ByteRecord,
     events: &mut Vec<Event>,
@@ -152,12 +161,13 @@ fn take_record(
 ) -> Result<(), TraceFaultKind>
     ensures taken { OnOk result (TakesLine keys.old keys.new events.old.items events.new.items (fields_of row.now)) }
     ensures fault { IfErr result (λ kind. is_of_text kind ≡ true → said_fault keys.old (said (fields_of row.now)) ≡ Some kind) }
+    ensures either { IfErr result (λ kind. (is_of_text kind ≡ true) ⊎ (kind ≡ TraceFaultKind.Memory)) }
     ensures refused { OnErr result ((keys.new ≡ keys.old) × (events.new.items ≡ events.old.items)) }
 {
-    let line = match line_of(row) {
-        Ok(line) => line,
-        Err(kind) => return Err(kind),
-    };
+    if let Some(event) = known_event(row, keys) {
+        return events.push(event).map_err(|_| TraceFaultKind::Memory);
+    }
+    let line = line_of(row)?;
     if events.reserve(1).is_err() {
         return Err(TraceFaultKind::Memory);
     }

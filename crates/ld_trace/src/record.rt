@@ -1,11 +1,12 @@
 //! Reading one record of a trace.
 
-ghost use Rattle.std.specs.Prelude.{◌≡◌, ◌<◌, length, Ok, Err, Some, option_map, if◌then◌else◌};
+ghost use Rattle.std.specs.Prelude.{◌≡◌, ◌<◌, length, true, Ok, Err, IfErr, Some, option_map, if◌then◌else◌};
 ghost use Rattle.std.specs.Str.{bytes_eq};
 ghost use Rattle.csv.specs.Records.{field_at, fields_of};
 ghost use Rattle.ld_trace.specs.Lines.{acquire_said, irq_of, is_header, leave_said, mode_of, named, release_said, said, state_said, sub_of};
 ghost use Rattle.ld_trace.specs.Names.{is_class_name};
 ghost use Rattle.ld_trace.specs.ReadLines.{Says, SaysName};
+ghost use Rattle.ld_trace.specs.TraceFaults.{is_of_text};
 
 use crate::line::{Line, LineName};
 use crate::stored_name::is_class_name;
@@ -13,7 +14,7 @@ use crate::{Irq, Mode, TraceFaultKind};
 use csv::ByteRecord;
 use std::str;
 
-/// Whether a record is the header of a trace of version 1.
+// Whether a record is the header of a trace of version 1.
 pub(crate) fn is_header(row: &ByteRecord) -> bool
     ensures { result ≡ is_header (fields_of row.now) }
 {
@@ -25,9 +26,10 @@ pub(crate) fn is_header(row: &ByteRecord) -> bool
     is_word(word, b"lockdep") && is_word(version, b"1")
 }
 
-/// What a record says, or its fault.
+// What a record says, or its fault.
 pub(crate) fn line_of(row: &ByteRecord) -> Result<Line<'_>, TraceFaultKind>
-    ensures { Says (said (fields_of row.now)) result }
+    ensures says { Says (said (fields_of row.now)) result }
+    ensures text { IfErr result (λ kind. is_of_text kind ≡ true) }
 {
     match row.len() {
         1 => leave_line(field(row, 0)),
@@ -38,9 +40,10 @@ pub(crate) fn line_of(row: &ByteRecord) -> Result<Line<'_>, TraceFaultKind>
     }
 }
 
-/// What `leave` says.
+// What `leave` says.
 fn leave_line(verb: &[u8]) -> Result<Line<'_>, TraceFaultKind>
-    ensures { Says (leave_said verb.now) result }
+    ensures says { Says (leave_said verb.now) result }
+    ensures text { IfErr result (λ kind. is_of_text kind ≡ true) }
 {
     if is_word(verb, b"leave") {
         Ok(Line::Leaves)
@@ -49,9 +52,10 @@ fn leave_line(verb: &[u8]) -> Result<Line<'_>, TraceFaultKind>
     }
 }
 
-/// What `enter`, `on` or `off` and a state say.
+// What `enter`, `on` or `off` and a state say.
 fn irq_line<'r>(verb: &[u8], irq: &'r [u8]) -> Result<Line<'r>, TraceFaultKind>
-    ensures { Says (state_said verb.now (irq_of irq.now)) result }
+    ensures says { Says (state_said verb.now (irq_of irq.now)) result }
+    ensures text { IfErr result (λ kind. is_of_text kind ≡ true) }
 {
     let Some(irq) = irq_of(irq) else {
         return Err(TraceFaultKind::BadRecord);
@@ -67,9 +71,10 @@ fn irq_line<'r>(verb: &[u8], irq: &'r [u8]) -> Result<Line<'r>, TraceFaultKind>
     }
 }
 
-/// What `rel` and a name say.
+// What `rel` and a name say.
 fn release_line<'r>(verb: &[u8], class: &'r [u8], sub: &[u8]) -> Result<Line<'r>, TraceFaultKind>
-    ensures { Says (release_said verb.now (named class.now (sub_of sub.now))) result }
+    ensures says { Says (release_said verb.now (named class.now (sub_of sub.now))) result }
+    ensures text { IfErr result (λ kind. is_of_text kind ≡ true) }
 {
     if !is_word(verb, b"rel") {
         return Err(TraceFaultKind::BadRecord);
@@ -77,14 +82,15 @@ fn release_line<'r>(verb: &[u8], class: &'r [u8], sub: &[u8]) -> Result<Line<'r>
     Ok(Line::GivesBack(name_of(class, sub)?))
 }
 
-/// What `acq`, a name and a mode say.
+// What `acq`, a name and a mode say.
 fn acquire_line<'r>(
     verb: &[u8],
     class: &'r [u8],
     sub: &[u8],
     mode: &[u8],
 ) -> Result<Line<'r>, TraceFaultKind>
-    ensures { Says (acquire_said verb.now (named class.now (sub_of sub.now)) (mode_of mode.now)) result }
+    ensures says { Says (acquire_said verb.now (named class.now (sub_of sub.now)) (mode_of mode.now)) result }
+    ensures text { IfErr result (λ kind. is_of_text kind ≡ true) }
 {
     if !is_word(verb, b"acq") {
         return Err(TraceFaultKind::BadRecord);
@@ -96,9 +102,10 @@ fn acquire_line<'r>(
     }
 }
 
-/// The name of these two fields, of which the class's name is judged first.
+// The name of these two fields, of which the class's name is judged first.
 fn name_of<'r>(class: &'r [u8], sub: &[u8]) -> Result<LineName<'r>, TraceFaultKind>
-    ensures { SaysName (named class.now (sub_of sub.now)) result }
+    ensures says { SaysName (named class.now (sub_of sub.now)) result }
+    ensures text { IfErr result (λ kind. is_of_text kind ≡ true) }
 {
     let Some(class) = class_of(class) else {
         return Err(TraceFaultKind::BadName);
@@ -109,7 +116,7 @@ fn name_of<'r>(class: &'r [u8], sub: &[u8]) -> Result<LineName<'r>, TraceFaultKi
     }
 }
 
-/// The class's name of this field: 1 to 64 bytes, each 0x21 to 0x7E.
+// The class's name of this field: 1 to 64 bytes, each 0x21 to 0x7E.
 fn class_of(class: &[u8]) -> Option<&str>
     ensures { option_map (λ text. text.now) result ≡ (if is_class_name class.now then Some class.now else None) }
 {
@@ -120,8 +127,8 @@ fn class_of(class: &[u8]) -> Option<&str>
     }
 }
 
-/// The subclass of this field: one digit, 0 to 7.
-fn sub_of(sub: &[u8]) -> Option<u8>
+// The subclass of this field: one digit, 0 to 7.
+pub(crate) fn sub_of(sub: &[u8]) -> Option<u8>
     ensures { result ≡ sub_of sub.now }
 {
     match sub {
@@ -130,8 +137,8 @@ fn sub_of(sub: &[u8]) -> Option<u8>
     }
 }
 
-/// The mode of this field.
-fn mode_of(word: &[u8]) -> Option<Mode>
+// The mode of this field.
+pub(crate) fn mode_of(word: &[u8]) -> Option<Mode>
     ensures { result ≡ mode_of word.now }
 {
     if is_word(word, b"w") {
@@ -145,7 +152,7 @@ fn mode_of(word: &[u8]) -> Option<Mode>
     }
 }
 
-/// The state of this field.
+// The state of this field.
 fn irq_of(word: &[u8]) -> Option<Irq>
     ensures { result ≡ irq_of word.now }
 {
@@ -158,15 +165,15 @@ fn irq_of(word: &[u8]) -> Option<Irq>
     }
 }
 
-/// Whether a field is this word.
-fn is_word(field: &[u8], word: &[u8]) -> bool
+// Whether a field is this word.
+pub(crate) fn is_word(field: &[u8], word: &[u8]) -> bool
     ensures { result ≡ bytes_eq field.now word.now }
 {
     field == word
 }
 
-/// The field at this place.
-fn field(row: &ByteRecord, place: usize) -> &[u8]
+// The field at this place.
+pub(crate) fn field(row: &ByteRecord, place: usize) -> &[u8]
     requires { place < length (fields_of row.now) }
     ensures { field_at (fields_of row.now) place ≡ Some result.now }
 {

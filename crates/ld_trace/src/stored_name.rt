@@ -1,6 +1,7 @@
 //! A key's name as the table holds it.
 
-ghost use Rattle.std.specs.Prelude.{◌≡◌, ◌≤◌, length};
+ghost use Rattle.std.specs.Prelude.{◌≡◌, ◌+◌, ◌<◌, ◌≤◌, ◌↔◌, IsTrue, length};
+ghost use Rattle.ld_trace.specs.Stored.{name_of};
 ghost use Rattle.ld_trace.specs.Names.{are_visible, is_class_name};
 
 use arrayvec::ArrayString;
@@ -8,7 +9,10 @@ use arrayvec::ArrayString;
 /// The most bytes that a class's name may have.
 pub const MAX_NAME: usize = 64;
 
-/// A class's name and a subclass, kept without memory of their own.
+// The number of slots that names fall into.
+pub(crate) const SLOTS: usize = 4096;
+
+// A class's name and a subclass, kept without memory of their own.
 #[derive(Clone, Copy, PartialEq, Eq, Hash, Debug)]
 pub(crate) struct StoredName {
     pub(crate) text: ArrayString<MAX_NAME>,
@@ -16,7 +20,7 @@ pub(crate) struct StoredName {
 }
 
 impl StoredName {
-    /// Keeps a name of at most 64 bytes and a subclass.
+    // Keeps a name of at most 64 bytes and a subclass.
     pub(crate) fn new(text: &str, sub: u8) -> StoredName
         requires { length text.now ≤ MAX_NAME }
         ensures text { result.text.bytes ≡ text.now }
@@ -26,16 +30,58 @@ impl StoredName {
         kept.push_str(text);
         StoredName { text: kept, sub }
     }
+
+    // Whether it is this name and subclass.
+    pub(crate) fn is(&self, text: &[u8], sub: u8) -> bool
+        ensures { IsTrue result ↔ (name_of self.now ≡ (text.now, sub)) }
+    {
+        self.sub == sub && self.text.as_bytes() == text
+    }
 }
 
-/// Whether these bytes name a lock class: 1 to 64 of them, each 0x21 to 0x7E.
+// A cheap number of a name and a subclass: a few of the bytes, turned against each other. Names that differ may share it.
+pub(crate) fn slot_of(text: &[u8], sub: u8) -> usize
+    ensures { result < SLOTS }
+{
+    let (head, middle, tail) = samples_of(text);
+    let mixed = head ^ middle.rotate_left(11) ^ tail.rotate_left(22) ^ u32::from(sub);
+    (mixed.wrapping_mul(0x9E37_79B1) >> 20) as usize % SLOTS
+}
+
+// The first, the middle and the last four bytes of a text; of a shorter one its first and last byte.
+fn samples_of(text: &[u8]) -> (u32, u32, u32) {
+    let count = text.len();
+    if count >= 4 {
+        let middle = four_at(text, count / 2 - 2);
+        (four_at(text, 0), middle, four_at(text, count - 4))
+    } else {
+        match (text.first(), text.last()) {
+            (Some(first), Some(last)) => (u32::from(*first), 0, u32::from(*last)),
+            _ => (0, 0, 0),
+        }
+    }
+}
+
+// The four bytes at this place.
+fn four_at(text: &[u8], place: usize) -> u32
+    requires { place + 4 ≤ length text.now }
+{
+    u32::from_le_bytes([
+        text[place],
+        text[place + 1],
+        text[place + 2],
+        text[place + 3],
+    ])
+}
+
+// Whether these bytes name a lock class: 1 to 64 of them, each 0x21 to 0x7E.
 pub(crate) fn is_class_name(bytes: &[u8]) -> bool
     ensures { result ≡ is_class_name bytes.now }
 {
     !bytes.is_empty() && bytes.len() <= MAX_NAME && are_visible(bytes)
 }
 
-/// Whether each of these bytes is 0x21 to 0x7E.
+// Whether each of these bytes is 0x21 to 0x7E.
 fn are_visible(bytes: &[u8]) -> bool
     ensures { result ≡ are_visible bytes.now }
 {

@@ -1,4 +1,4 @@
-use Rattle.std.proofs.Common.{◌≡◌, ◌≤◌, ◌-◌, ◌++◌, ℕ, Option, List, [], length}
+use Rattle.std.proofs.Common.{◌≡◌, ◌≤◌, ◌+◌, ◌-◌, ◌++◌, ℕ, Option, List, [], length}
 use Rattle.ld_trace.specs.declared.raw_trace.TheConstants.{MAX_EVENTS}
 use Rattle.ld_trace.specs.Names.{Name}
 use Rattle.ld_trace.specs.Progress.{HasGiven, HasTaken, ReadsPlain}
@@ -10,4 +10,4 @@ invariant-records g l = ReadsPlain l.source × (length l.events.items ≤ MAX_EV
     × ((added : List Name) × (l.keys ≡ l.fn.keys ++ added))
 
 abbrev pub decreases-records : goal.decreases-records
-decreases-records g l = 1000001 - length l.events.items
+decreases-records g l = MAX_EVENTS + 1 - length l.events.items

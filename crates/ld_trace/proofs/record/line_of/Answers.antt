@@ -19,5 +19,5 @@ returns-in-4 c =
     rw (said-four (fields_of c.args.row.now) c.field-in-4.result.now c.field-in-4-2.result.now c.field-in-4-3.result.now c.field-in-4-4.result.now (sym c.len.ensures ∙ c.in-4.is) c.field-in-4.ensures c.field-in-4-2.ensures c.field-in-4-3.ensures c.field-in-4-4.ensures)
     c.acquire_line.ensures
 
-pub returns-in_default : goal.returns-in_default
-returns-in_default c = said-others (fields_of c.args.row.now) (λ e. omega arith) (λ e. omega arith) (λ e. omega arith) (λ e. omega arith)
+pub returns-in_default-clause-says : goal.returns-in_default-clause-says
+returns-in_default-clause-says c = said-others (fields_of c.args.row.now) (λ e. omega arith) (λ e. omega arith) (λ e. omega arith) (λ e. omega arith)

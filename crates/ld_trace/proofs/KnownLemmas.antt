@@ -1,0 +1,77 @@
+-- A name that stands in a table, and the record that names it.
+use Rattle.std.proofs.Common.{◌≡◌, ℕ, zero, suc, ◌+◌, ◌&&◌, ◌==◌, Bool, true, false, cond, not, List, [], ◌∷◌, length, slice_get, nat_le, Option, Some, None, Ok, codes, refl, sym, ap, ◌∙◌, arith, true≢false}
+use Rattle.std.specs.Bool.{Decides}
+use Rattle.std.specs.List.{AllByRecursion, IsDistinct, list_all, list_any, position_or_len}
+use Rattle.std.specs.Str.{bytes_eq}
+use Rattle.std.proofs.lemmas.Bool.{and_from, and_parts, cases_Bool}
+use Rattle.std.proofs.lemmas.Bool.Decides.{Decides-eqb}
+use Rattle.std.proofs.lemmas.Slice.Eq.{bytes_eq-Decides}
+use Rattle.ld_trace.specs.declared.event.Event.TheVariants.{Acquire, Release}
+use Rattle.ld_trace.specs.declared.event.Mode.{Mode}
+use Rattle.ld_trace.specs.declared.key_table.TheConstants.{MAX_SUB}
+use Rattle.ld_trace.specs.Lines.{acquire_said, gives_back, mode_of, named, release_said, sub_of, takes}
+use Rattle.ld_trace.specs.Progress.{IsEventOf}
+use Rattle.ld_trace.specs.Names.{AreNumbered, Name, is_class_name, is_known, is_name, is_same, place_of, with_name}
+
+is_same-itself : (name : Name) → is_same name name ≡ true
+is_same-itself name = and_from (bytes_eq name.0 name.0) (name.1 == name.1) ((bytes_eq-Decides name.0 name.0).1 refl) ((Decides-eqb name.1 name.1).1 refl)
+
+is_same-back : (a b : Name) → is_same a b ≡ true → is_same b a ≡ true
+is_same-back a b h =
+    let both = and_parts (bytes_eq a.0 b.0) (a.1 == b.1) h in
+    and_from (bytes_eq b.0 a.0) (b.1 == a.1) ((bytes_eq-Decides b.0 a.0).1 (sym ((bytes_eq-Decides a.0 b.0).0 both.0))) ((Decides-eqb b.1 a.1).1 (sym ((Decides-eqb a.1 b.1).0 both.1)))
+
+-- the place of a name that stands among distinct ones is where it stands
+pub place_of-there : (names : List Name) (name : Name) (i : ℕ) → IsDistinct is_same names → slice_get names i ≡ Some name → (place_of names name ≡ i) × (is_known names name ≡ true)
+unfolding IsDistinct
+place_of-there [] name i d h = absurd (cc)
+place_of-there (x ∷ xs) name zero d h =
+    let same : x ≡ name = cc in
+    let hit : is_same name x ≡ true = rw same (is_same-itself name) in
+    (rw hit refl, rw hit refl)
+place_of-there (x ∷ xs) name (suc i) d h =
+    let rest = place_of-there xs name i d.1 h in
+    let miss : is_same name x ≡ false = differs (is_same name x) refl in
+    (rw (miss, rest.0) (omega arith), rw (miss, rest.1) refl)
+  where
+    at : (ys : List Name) (k : ℕ) → AllByRecursion (λ y. is_same x y ≡ false) ys → slice_get ys k ≡ Some name → is_same x name ≡ false
+    at [] k a e = absurd (cc)
+    at (y ∷ ys) zero a e = let same : y ≡ name = cc in ap (is_same x) (sym same) ∙ a.0
+    at (y ∷ ys) (suc k) a e = at ys k a.1 e
+
+    differs : (b : Bool) → is_same name x ≡ b → b ≡ false
+    differs false e = refl
+    differs true e = absurd (true≢false (sym (is_same-back name x e) ∙ at xs i d.0 h))
+
+-- a name of the table is one
+pub named-there : (names : List Name) (name : Name) (i : ℕ) → list_all is_name names ≡ true → slice_get names i ≡ Some name → is_name name ≡ true
+named-there [] name i a h = absurd (cc)
+named-there (x ∷ xs) name zero a h = let same : x ≡ name = cc in ap is_name (sym same) ∙ (and_parts (is_name x) (list_all is_name xs) a).0
+named-there (x ∷ xs) name (suc i) a h = named-there xs name i (and_parts (is_name x) (list_all is_name xs) a).1 h
+
+module _ (names : List Name) (class digits : List ℕ) (sub key : ℕ) (numbered : AreNumbered names) (digit : sub_of digits ≡ Some sub) (here : slice_get names key ≡ Some (class, sub)) where
+  there : (place_of names (class, sub) ≡ key) × (is_known names (class, sub) ≡ true)
+  there = place_of-there names (class, sub) key numbered.once here
+
+  good : is_class_name class ≡ true
+  good = (and_parts (is_class_name class) (nat_le sub MAX_SUB) (named-there names (class, sub) key numbered.named here)).0
+
+  -- a record that gives back a name of the table
+  pub release-known : (verb : List ℕ) → bytes_eq verb (codes "rel") ≡ true → IsEventOf names (release_said verb (named class (sub_of digits))) (Release key)
+  release-known verb rel = record {
+    line = gives_back (class, sub);
+    says = rw (rel, digit, good) refl;
+    fits = rw there.1 refl;
+    known = rw there.1 refl;
+    is_event = ap Release (sym there.0);
+  }
+
+  -- a record that takes one
+  pub acquire-known : (verb word : List ℕ) (mode : Mode) → bytes_eq verb (codes "acq") ≡ true → mode_of word ≡ Some mode → IsEventOf names (acquire_said verb (named class (sub_of digits)) (mode_of word)) (Acquire mode key)
+  acquire-known verb word mode acq is = record {
+    line = takes (class, sub) mode;
+    says = rw (acq, digit, good, is) refl;
+    fits = rw there.1 refl;
+    known = rw there.1 refl;
+    is_event = ap (Acquire mode) (sym there.0);
+  }
