@@ -1,9 +1,13 @@
-# Makes a trace for the benchmark: awk -v story=NAME [-v events=N] [-v seed=N] -f trace.awk
+# Makes traces for the benchmark: awk -v story=NAME -v folder=FOLDER [-v files=N] [-v events=N] -f trace.awk writes the files
+# FOLDER/0001.csv and so on, each of about `events` events and each with another seed.
 #
-#   nested   N events, an even number, 1,000,000 if it isn't said, over 200 keys: nests of 1 to 6 locks, taken in the order
-#            of their keys; another seed makes another trace
-#   dense    an order over 256 keys without a circle: each pair in that order, as a dependency of each kind
-#   tangled  each pair of 256 keys in both orders, of each kind, and each key taken in a hardirq and in a softirq
+#   long        as programs are: 64 routines of 1 to 4 locks each of 200, called at random; most chains repeat
+#   interrupts  the same, with an interrupt that takes a lock, or a stretch with interrupts off, in between: a quarter of the
+#               records are enter, leave, on and off
+#   deep        nests of up to 40 locks, drawn anew each time: most chains are new
+#   nested      nests of 1 to 6 locks of 200, drawn anew each time, taken in the order of their keys
+#   dense       an order over 256 keys without a circle: each pair in that order, as a dependency of each kind
+#   tangled     each pair of 256 keys in both orders, of each kind, and each key taken in a hardirq and in a softirq
 
 # The next of a fixed sequence of numbers, 0 to bound - 1.
 function draw(bound) {
@@ -12,11 +16,11 @@ function draw(bound) {
 }
 
 function take(key, mode) {
-    printf "acq,lock%03d,0,%s\n", key, mode
+    printf "acq,%s%03d,0,%s\n", name, key, mode >file
 }
 
 function give_back(key) {
-    printf "rel,lock%03d,0\n", key
+    printf "rel,%s%03d,0\n", name, key >file
 }
 
 # Takes the later key under the earlier one, by a writer or a reader and as a recursive reader or a writer.
@@ -65,10 +69,63 @@ function tell_dense(    from) {
 }
 
 function handle(irq, key) {
-    print "enter," irq
+    print "enter," irq >file
     take(key, "w")
     give_back(key)
-    print "leave"
+    print "leave" >file
+}
+
+# The routines of a program: the locks that each takes, in the order of their keys, so that no circle comes of them.
+function make_routines(    i, j, key) {
+    for (i = 0; i < 64; i++) {
+        depth_of[i] = 1 + draw(4)
+        key = -1
+        for (j = 1; j <= depth_of[i]; j++) {
+            key += 1 + draw(int((197 - key) / (depth_of[i] - j + 1)))
+            lock_of[i, j] = key
+            mode_of[i, j] = draw(8) == 0 ? "r" : "w"
+        }
+    }
+}
+
+function call(i,    j) {
+    for (j = 1; j <= depth_of[i]; j++)
+        take(lock_of[i, j], mode_of[i, j])
+    for (j = depth_of[i]; j >= 1; j--)
+        give_back(lock_of[i, j])
+}
+
+function tell_long(    left, i) {
+    for (left = events; left > 0; left -= 2 * depth_of[i]) {
+        i = draw(64)
+        if (2 * depth_of[i] > left)
+            break
+        call(i)
+    }
+}
+
+# Among the calls some run with hardirqs off, and interrupts come in between, each of which takes a lock that is its alone.
+function tell_interrupts(    left, i, what) {
+    for (left = events; left > 10; ) {
+        i = draw(64)
+        what = draw(4)
+        if (what == 0) {
+            if (draw(2)) handle("hardirq", 199); else handle("softirq", 198)
+            left -= 4
+            continue
+        }
+        if (what > 1) print "off,hardirq" >file
+        call(i)
+        if (what > 1) print "on,hardirq" >file
+        left -= 2 * depth_of[i] + (what > 1 ? 2 : 0)
+    }
+}
+
+function tell_deep(    left, depth) {
+    for (left = 320000; left > 0; left -= 2 * depth) {
+        depth = 1 + draw(40)
+        nest(depth)
+    }
 }
 
 function tell_tangled(    key) {
@@ -81,11 +138,22 @@ function tell_tangled(    key) {
 }
 
 BEGIN {
-    if (!seed) seed = 1
+    if (!files) files = 1
     if (!events) events = 1000000
-    print "lockdep,1"
-    if (story == "nested") tell_nested()
-    else if (story == "dense") tell_dense()
-    else if (story == "tangled") tell_tangled()
-    else exit 1
+    name = story == "long" || story == "interrupts" ? "module.lock_" : "lock"
+    for (number = 1; number <= files; number++) {
+        seed = 1
+        make_routines()
+        seed = number
+        file = sprintf("%s/%04d.csv", folder, number)
+        print "lockdep,1" >file
+        if (story == "long") tell_long()
+        else if (story == "interrupts") tell_interrupts()
+        else if (story == "deep") tell_deep()
+        else if (story == "nested") tell_nested()
+        else if (story == "dense") tell_dense()
+        else if (story == "tangled") tell_tangled()
+        else exit 1
+        close(file)
+    }
 }

@@ -12,23 +12,23 @@ use Rattle.indexmap.specs.IndexSet.{insert_key}
 use Rattle.ld_task.specs.Chains.{ChainParts}
 use Rattle.ld_task.specs.ChainEquality.{chain_eq}
 use Rattle.ld_task.specs.ChainEqualityLaws.{chain_eq-decides, chain_eq-equivalence}
-use Rattle.ld_graph.proofs.ChainLists.{Any-push}
-use Rattle.ld_book.specs.Books.{StandsIn, IsNumberOfChains}
-use Rattle.ld_book.specs.Journals.{no_chain, entry_of, journal_of, IsJournal}
-use Rattle.ld_book.specs.declared.journal.Entry.{Entry}
+use Rattle.ld_graph.specs.Counting.{IsNumberOf}
+use Rattle.ld_graph.specs.FactLaws.{Any-push}
+use Rattle.ld_book.specs.Books.{StandsIn}
+use Rattle.ld_book.specs.Journals.{EntryParts, no_chain, entry_of, journal_of, IsJournal}
 
 -- the entries mean the same where more chains follow
-journal_of-more : (chains more : List ChainParts) (entries : List Entry) → All (λ (e : Entry). e.number < length chains) entries →
+journal_of-more : (chains more : List ChainParts) (entries : List EntryParts) → All (λ (e : EntryParts). e.number < length chains) entries →
     journal_of (chains ++ more) entries ≡ journal_of chains entries
 journal_of-more chains more [] below = refl
 journal_of-more chains more (e ∷ entries) below =
     let head : entry_of (chains ++ more) e ≡ entry_of chains e = ap (λ c. (e.trace, c))
-    (get_or_append_left chains more no_chain e.number (All-head (λ (e : Entry). e.number < length chains) e entries below)) in
-    let tail = journal_of-more chains more entries (All-tail (λ (e : Entry). e.number < length chains) e entries below) in
+    (get_or_append_left chains more no_chain e.number (All-head (λ (e : EntryParts). e.number < length chains) e entries below)) in
+    let tail = journal_of-more chains more entries (All-tail (λ (e : EntryParts). e.number < length chains) e entries below) in
     λ i. head i ∷ tail i
 
 -- ---- what stands in the journal is what the chains are
-module _ (chains : List ChainParts) (entries : List Entry) (is_journal : IsJournal chains entries) (chain : ChainParts) where
+module _ (chains : List ChainParts) (entries : List EntryParts) (is_journal : IsJournal chains entries) (chain : ChainParts) where
   stands : Contains chains chain → StandsIn (journal_of chains entries) chain
   stands (n, l, is) =
       let (k, e, lk, at, number) = is_journal.entered n l in (
@@ -41,9 +41,9 @@ module _ (chains : List ChainParts) (entries : List Entry) (is_journal : IsJourn
 
   contains : StandsIn (journal_of chains entries) chain → Contains chains chain
   contains (k, e, l, at, is) =
-      let first : Entry = record { trace = 0; number = 0 } in
+      let first : EntryParts = record { trace = 0; number = 0 } in
       let lk : k < length entries = omega (arith, l, length-map entries (entry_of chains)) in
-      let entry : Entry = get_or entries k first in
+      let entry : EntryParts = get_or entries k first in
       let within : entry.number < length chains = is_journal.numbers k first lk in
       let same : entry_of chains entry ≡ e = sym (get_or-map (entry_of chains) entries k first e lk) ∙ at in (
         entry.number,
@@ -62,9 +62,9 @@ module _ (chains : List ChainParts) (entries : List Entry) (is_journal : IsJourn
   )
 
 -- as many distinct chains as are kept
-pub IsNumberOfChains-kept : (chains : List ChainParts) (entries : List Entry) → IsJournal chains entries → IsDistinct chain_eq chains →
-    IsNumberOfChains (journal_of chains entries) (length chains)
-IsNumberOfChains-kept chains entries is_journal distinct = record {
+pub IsNumberOf-kept : (chains : List ChainParts) (entries : List EntryParts) → IsJournal chains entries → IsDistinct chain_eq chains →
+    IsNumberOf (StandsIn (journal_of chains entries)) (length chains)
+IsNumberOf-kept chains entries is_journal distinct = record {
   listed = chains;
   once = AllPairs-from_IsDistinct chain_eq-decides chains distinct;
   exact = λ chain. Contains-iff chains entries is_journal chain;
@@ -119,9 +119,9 @@ module _ (old new : List ChainParts) (number : ℕ) (chain kept : ChainParts) (i
         }
   ]
 
-module _ (old new : List ChainParts) (entries : List Entry) (is_journal : IsJournal old entries) (trace number : ℕ) (chain : ChainParts)
+module _ (old new : List ChainParts) (entries : List EntryParts) (is_journal : IsJournal old entries) (trace number : ℕ) (chain : ChainParts)
     (puts : PutsChain old new number chain) where
-  abbrev entered : Entry
+  abbrev entered : EntryParts
   entered = record { trace = trace; number = number }
 
   longer : length old ≤ length new
@@ -129,10 +129,10 @@ module _ (old new : List ChainParts) (entries : List Entry) (is_journal : IsJour
 
   pub IsJournal-push : IsJournal new (entries ++ entered ∷ [])
   IsJournal-push = record {
-    numbers = All-push (λ (e : Entry). e.number < length new) entries entered
-        (All-weaker (λ (e : Entry). e.number < length old) (λ (e : Entry). e.number < length new) (λ e l. omega (arith, longer)) entries is_journal.numbers)
+    numbers = All-push (λ (e : EntryParts). e.number < length new) entries entered
+        (All-weaker (λ (e : EntryParts). e.number < length old) (λ (e : EntryParts). e.number < length new) (λ e l. omega (arith, longer)) entries is_journal.numbers)
         puts.within;
-    entered = λ n l. (Any-push (λ (e : Entry). e.number ≡ n) entries entered).1 (elim (puts.only n l) [
+    entered = λ n l. (Any-push (λ (e : EntryParts). e.number ≡ n) entries entered).1 (elim (puts.only n l) [
       | inl below ↦ inl (is_journal.entered n below)
       | inr e ↦ inr (sym e)
     ]);

@@ -1,18 +1,19 @@
 //! A journal of chains, with what belongs to it.
 
-ghost use Rattle.std.specs.Prelude.{◌≡◌, ℕ, ◌≤◌, ◌++◌, ◌↔◌, [], ◌∷◌, length, option_map, slice_get, IfOk, OnOk, OnErr, IfErr, IsErrOf, IsTrue, IsFalse, ◌⊎◌};
-ghost use Rattle.ld_task.specs.declared.mark.Mark.{Mark};
+ghost use Rattle.std.specs.Prelude.{◌≡◌, ℕ, ◌≤◌, ◌++◌, ◌↔◌, [], ◌∷◌, length, option_map, slice_get, IfOk, OnOk, OnErr, IfErr, IsErrOf, IsTrue, IsFalse};
 ghost use Rattle.ld_task.specs.Chains.{ChainKeysBelow};
-ghost use Rattle.ld_graph.specs.Arrows.{Arrow, arrow};
 ghost use Rattle.ld_graph.specs.Counting.{IsNumberOf};
-ghost use Rattle.ld_graph.specs.Facts.{HasDep, HasMark, AddsChain, HoldsChain};
+ghost use Rattle.ld_graph.specs.FactBits.{HasFact};
+ghost use Rattle.ld_graph.specs.Facts.{Adds, AreSame, ChainHas, DependenciesOf, Holds};
 ghost use Rattle.ld_graph.specs.Links.{IsClean};
-ghost use Rattle.ld_book.specs.Books.{AreRecorded, IsNumberOfChains, RecordsDependency, RecordsMark, acquisition_count, opening_count};
+ghost use Rattle.ld_graph.specs.declared.fact.Fact.{Fact};
+ghost use Rattle.ld_book.specs.Books.{JournalHas, StandsIn, acquisition_count, opening_count};
 
 use crate::fault::BookFault;
 use crate::journal::Journal;
 use ld_graph::Graph;
 use ld_task::{Chain, Kind, Mark};
+use ld_trace::MAX_KEYS;
 use std::alloc::Global;
 use std::marker::Model;
 
@@ -25,7 +26,7 @@ pub struct News {
     pub clean: bool,
 }
 
-/// What the journal of a book comes to.
+/// Totals derived from the journal.
 #[derive(Clone, Copy, PartialEq, Eq, Debug)]
 pub struct Totals {
     /// The number of entries.
@@ -38,8 +39,8 @@ pub struct Totals {
     pub dependencies: u64,
 }
 
-/// A journal of chains, each with the trace that it comes from, and the facts of these chains (this project's own; the
-/// rules of the facts are those of the sections "Multi-lock dependency rules" and "Single-lock state rules"). The keys are
+/// A journal of chains, each with the trace that it comes from, and the facts of these chains [this project's own; the
+/// rules of the facts are those of the sections "Multi-lock dependency rules" and "Single-lock state rules"]. The keys are
 /// below a bound of at most 256, and the journal is no longer than a limit. Whatever a book answers is read off its
 /// journal, also after a refused entry.
 #[derive(Drop)]
@@ -68,7 +69,7 @@ impl Book {
     /// A book without entries, for keys below `keys`, which is at most 256, and for at most `limit` entries. B2 where
     /// memory was refused; nothing was made then.
     pub fn new(alloc: Global, keys: u16, limit: u64) -> Result<Book, BookFault>
-        requires { keys ≤ 256 }
+        requires { keys ≤ MAX_KEYS }
         ensures empty { IfOk result (λ b. b ≡ record {
           journal = [];
           keys = keys;
@@ -87,20 +88,21 @@ impl Book {
         })
     }
 
-    /// Puts a chain of a trace behind the other entries, and answers what it brought. The chain is given up in any case.
+    /// Puts a chain of a trace behind the other entries, and answers what it brought. The chain is consumed in every case.
     ///
     /// Refusals, in this order: B1 exactly where the journal has as many entries as the limit, B3 exactly where a key of
     /// the chain isn't below the book's bound, B2 where memory was refused. After each nothing is changed. A chain that
-    /// the book knows is found without any search.
+    /// the book knows costs one look-up.
     pub fn record(&mut self, trace: u32, chain: Chain) -> Result<News, BookFault>
         ensures recorded { OnOk result (self.new ≡ record {
           journal = self.old.journal ++ (trace, chain) ∷ [];
           keys = self.old.keys;
           limit = self.old.limit;
         }) }
-        ensures fresh { IfOk result (λ news. IsFalse news.fresh ↔ AreRecorded self.old.journal chain) }
+        ensures fresh { IfOk result (λ news. IsFalse news.fresh
+            ↔ Holds (JournalHas self.old.journal) (ChainHas chain)) }
         ensures clean { IfOk result (λ news. IsTrue news.clean
-            ↔ IsClean (RecordsDependency self.new.journal) (RecordsMark self.new.journal)) }
+            ↔ IsClean (JournalHas self.new.journal)) }
 
         ensures full { IsErrOf result BookFault.Full ↔ (length self.old.journal ≡ self.old.limit) }
         ensures bad_key { IsErrOf result BookFault.BadKey
@@ -119,7 +121,7 @@ impl Book {
             return Err(BookFault::Memory);
         };
         self.acquisitions += u64::from(is_acquisition);
-        let fresh = learn(&mut self.graph, self.journal.chain(place), is_new);
+        let fresh = add_if_new(&mut self.graph, self.journal.chain(place), is_new);
         Ok(News {
             fresh,
             clean: self.is_clean(),
@@ -129,7 +131,7 @@ impl Book {
     /// The bound on the keys, at most 256.
     pub fn keys(&self) -> u16
         ensures value { result ≡ self.now.keys }
-        ensures few { result ≤ 256 }
+        ensures few { result ≤ MAX_KEYS }
     {
         self.graph.facts().keys()
     }
@@ -152,21 +154,21 @@ impl Book {
 
     /// Whether the dependency is one of a chain of the journal. False where a key isn't below the bound.
     pub fn has_dep(&self, from: u16, to: u16, kind: Kind) -> bool
-        ensures { IsTrue result ↔ RecordsDependency self.now.journal (arrow from to kind) }
+        ensures { IsTrue result ↔ JournalHas self.now.journal (Fact.Dependency from to kind) }
     {
         self.graph.facts().has_dep(from, to, kind)
     }
 
     /// Whether the key has the mark by a chain of the journal. False where the key isn't below the bound.
     pub fn has_mark(&self, key: u16, mark: Mark) -> bool
-        ensures { IsTrue result ↔ RecordsMark self.now.journal key mark }
+        ensures { IsTrue result ↔ JournalHas self.now.journal (Fact.Marked key mark) }
     {
         self.graph.facts().has_mark(key, mark)
     }
 
     /// Whether the facts of the journal are clean: no dependency is on a circle, and there is no double and no inversion.
     pub fn is_clean(&self) -> bool
-        ensures { IsTrue result ↔ IsClean (RecordsDependency self.now.journal) (RecordsMark self.now.journal) }
+        ensures { IsTrue result ↔ IsClean (JournalHas self.now.journal) }
     {
         self.graph.is_clean()
     }
@@ -176,7 +178,7 @@ impl Book {
         ensures entries { result.entries ≡ length self.now.journal }
         ensures acquisitions { result.acquisitions ≡ acquisition_count self.now.journal }
         ensures openings { result.openings ≡ opening_count self.now.journal }
-        ensures dependencies { IsNumberOf (RecordsDependency self.now.journal) result.dependencies }
+        ensures dependencies { IsNumberOf (DependenciesOf (JournalHas self.now.journal)) result.dependencies }
     {
         let entries = self.len() as u64;
         Totals {
@@ -189,7 +191,7 @@ impl Book {
 
     /// How many distinct chains the journal has.
     pub fn distinct(&self) -> u64
-        ensures { IsNumberOfChains self.now.journal result }
+        ensures { IsNumberOf (StandsIn self.now.journal) result }
     {
         self.journal.distinct() as u64
     }
@@ -197,20 +199,20 @@ impl Book {
     /// The graph of the book's facts. The journal is given up.
     pub fn into_graph(self) -> Graph
         ensures keys { result.facts.keys ≡ self.keys }
-        ensures dependencies { (d : Arrow) → HasDep result.facts d ↔ RecordsDependency self.journal d }
-        ensures marks { (key : ℕ) (mark : Mark) → HasMark result.facts key mark ↔ RecordsMark self.journal key mark }
+        ensures facts { AreSame (HasFact result.facts) (JournalHas self.journal) }
     {
         let Book { graph, .. } = self;
         graph
     }
 }
 
-// Adds the facts of a chain, and answers whether one of them is new. A chain that isn't new needs no search.
-fn learn(graph: &mut Graph, chain: &Chain, is_new: bool) -> bool
+// Adds the facts of a chain, and returns whether one of them is new. A chain that isn't new brings none.
+fn add_if_new(graph: &mut Graph, chain: &Chain, is_new: bool) -> bool
     requires below { ChainKeysBelow graph.old.facts.keys chain.now }
-    requires known { IsFalse is_new → HoldsChain graph.old.facts chain.now }
-    ensures adds { AddsChain graph.old.facts graph.new.facts chain.now }
-    ensures fresh { IsFalse result ↔ HoldsChain graph.old.facts chain.now }
+    requires known { IsFalse is_new → Holds (HasFact graph.old.facts) (ChainHas chain.now) }
+    ensures keys { graph.new.facts.keys ≡ graph.old.facts.keys }
+    ensures adds { Adds (HasFact graph.old.facts) (HasFact graph.new.facts) (ChainHas chain.now) }
+    ensures fresh { IsFalse result ↔ Holds (HasFact graph.old.facts) (ChainHas chain.now) }
 {
     is_new && graph.add_chain(chain)
 }

@@ -2,7 +2,7 @@
 //! belong to it.
 //!
 //! Whatever a `Book` answers is read off its journal. It keeps each distinct chain once, and a chain that it knows costs
-//! it no search. A `LockedBook` is a book that several threads write into, one entry at a time.
+//! it one look-up. A `LockedBook` is a book that several threads write into, one entry at a time.
 #![tactic(auto)]
 
 mod book;

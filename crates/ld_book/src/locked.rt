@@ -2,7 +2,8 @@
 
 ghost use Rattle.std.specs.Prelude.{[], IfOk, IsErrOf, IsFalse};
 ghost use Rattle.ld_task.specs.Chains.{ChainKeysBelow};
-ghost use Rattle.ld_book.specs.Books.{AreRecorded};
+ghost use Rattle.ld_graph.specs.Facts.{ChainHas, Holds};
+ghost use Rattle.ld_book.specs.Books.{JournalHas};
 
 use crate::book::{Book, News};
 use crate::fault::BookFault;
@@ -10,7 +11,7 @@ use ld_task::Chain;
 use std::sync::{Mutex, Wait};
 
 /// A book under a lock. Whoever gets the lock finds a lawful book: what it answers is read off its journal, also after a
-/// refused entry. Entries stand in the order in which the lock was taken (this project's own).
+/// refused entry. Entries stand in the order in which the lock was taken [this project's own].
 #[derive(Drop)]
 pub struct LockedBook {
     book: Mutex<Book>,
@@ -26,10 +27,10 @@ impl LockedBook {
 
     /// Waits for the lock, and then answers as `Book::record` of the book that it finds, with the same refusals: B1 where
     /// the book is full, B3 where a key of the chain isn't below the book's bound, B2 where memory was refused. After a
-    /// refusal the book is as it was found. The chain is given up in any case.
+    /// refusal the book is as it was found. The chain is consumed in every case.
     pub fn record<R: Wait>(&self, rt: &R, trace: u32, chain: Chain) -> Result<News, BookFault>
         // Whatever the book that is found, a chain without facts is never fresh, and one without keys never refused by B3.
-        ensures fresh { IfOk result (λ news. AreRecorded [] chain → IsFalse news.fresh) }
+        ensures fresh { IfOk result (λ news. Holds (JournalHas []) (ChainHas chain) → IsFalse news.fresh) }
         ensures bad_key { IsErrOf result BookFault.BadKey → ¬ ChainKeysBelow 0 chain }
     {
         self.book.lock(rt).record(trace, chain)

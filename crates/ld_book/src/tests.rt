@@ -55,6 +55,18 @@ fn told(book: &Book) -> (Totals, u64, usize) {
     (book.totals(), book.distinct(), book.len())
 }
 
+// What a book tells of the facts of the two orders.
+fn facts_told(book: &Book) -> [bool; 6] {
+    [
+        book.is_clean(),
+        book.has_dep(A, B, Kind::En),
+        book.has_dep(B, A, Kind::En),
+        book.has_mark(A, Mark::Used),
+        book.has_mark(B, Mark::Used),
+        book.has_mark(C, Mark::Used),
+    ]
+}
+
 fn are(entries: u64, acquisitions: u64, openings: u64, dependencies: u64) -> Totals {
     Totals {
         entries,
@@ -112,6 +124,22 @@ fn two_locks_in_both_orders_bring_news_under_a_lock(rt: HostRuntime) -> Result<(
 }
 
 #[test]
+fn under_a_lock_too_a_bad_key_is_told_and_a_known_chain_leaves_the_flag(
+    rt: HostRuntime,
+) -> Result<(), Fail> {
+    let mut book = Book::new(rt.alloc(), 2, 10)?;
+    record_both(&rt, &mut book)?;
+    let book = LockedBook::new(book);
+    assert!(rt; book.record(&rt, 0, last_chain(&[write(C)])?) == Err(BookFault::BadKey));
+    let News { fresh, clean } = book.record(&rt, 0, chain_at(0)?)?;
+    assert!(rt;
+        !fresh && !clean,
+        "nothing is new, and the book isn't clean"
+    );
+    Ok(())
+}
+
+#[test]
 fn a_known_chain_is_kept_once(rt: HostRuntime) -> Result<(), Fail> {
     let mut book = Book::new(rt.alloc(), 2, 1000)?;
     for trace in 0..100u32 {
@@ -138,12 +166,12 @@ fn refused(
     events: &[Event],
     code: &'static str,
 ) -> Result<(), Fail> {
-    let before = told(&*book);
+    let before = (told(&*book), facts_told(&*book));
     match book.record(0, last_chain(events)?) {
         Ok(_) => panic!(rt; "recorded"),
         Err(fault) => assert_eq!(rt; fault.code(), code),
     }
-    assert!(rt; told(&*book) == before);
+    assert!(rt; (told(&*book), facts_told(&*book)) == before);
     Ok(())
 }
 
@@ -160,10 +188,10 @@ fn a_refused_chain_changes_nothing(rt: HostRuntime) -> Result<(), Fail> {
 
 // Where memory is refused the book stands as it was, and the same call then goes through.
 fn record_anyway(rt: &impl Abort, book: &mut Book, place: usize) -> Result<(), Fail> {
-    let before = told(&*book);
+    let before = (told(&*book), facts_told(&*book));
     if let Err(fault) = book.record(0, chain_at(place)?) {
         assert_eq!(rt; fault.code(), "B2 Memory");
-        assert!(rt; told(&*book) == before);
+        assert!(rt; (told(&*book), facts_told(&*book)) == before);
         book.record(0, chain_at(place)?)?;
     }
     Ok(())

@@ -6,14 +6,18 @@ use Rattle.std.proofs.lemmas.List.Elements.{All-contains}
 use Rattle.std.proofs.lemmas.Option.{slice_get-get_or, slice_get_past, same_Some, none-some}
 use Rattle.ld_trace.specs.declared.event.Irq.TheVariants.{Hard, Soft}
 use Rattle.ld_trace.specs.declared.event.Mode.{Mode}
+use Rattle.ld_task.specs.declared.frame.Flags.{Flags}
 use Rattle.ld_task.specs.declared.frame.Frame.{Frame}
 use Rattle.ld_task.specs.declared.lock.Lock.{Lock}
 use Rattle.ld_task.specs.declared.mark.Mark.{Mark}
 use Rattle.ld_task.specs.declared.mark.Mark.TheVariants.{Used, UsedIn, Enabled}
 use Rattle.ld_task.specs.Chains.{ChainParts, ChainKeysBelow}
-use Rattle.ld_task.specs.Dependencies.{kind_between}
-use Rattle.ld_task.specs.Marks.{is_read, is_in, is_enabled, same_form, marks_taken, marks_opened}
-use Rattle.ld_graph.specs.ChainFacts.{ChainHas, FactBelow, chain_fact, fact_by, fact_places, mark_if, mark_of_held, mark_by_taking, mark_by_opening}
+use Rattle.ld_task.specs.Kinds.{kind_between}
+use Rattle.ld_task.specs.Flags.{is_enabled}
+use Rattle.ld_task.specs.Marks.{is_read, is_in, same_form, marks_taken, marks_opened}
+use Rattle.ld_graph.specs.Facts.{ChainHas}
+use Rattle.ld_graph.specs.FactBits.{FactBelow}
+use Rattle.ld_graph.specs.ChainFacts.{chain_fact, fact_by, fact_slots, mark_if, mark_of_held, mark_by_taking, mark_by_opening}
 use Rattle.ld_graph.specs.declared.fact.Fact.{Fact}
 use Rattle.ld_graph.specs.declared.fact.Fact.TheVariants.{Dependency, Marked}
 
@@ -48,13 +52,13 @@ taking_place-lt (UsedIn Soft read) = omega arith
 taking_place-lt (Enabled Hard read) = omega arith
 taking_place-lt (Enabled Soft read) = omega arith
 
-mark_by_taking-place : (mode : Mode) (frame : Frame) (hard soft : Bool) (m : Mark) → marks_taken mode frame hard soft m ≡ true →
+mark_by_taking-place : (mode : Mode) (frame : Frame) (flags : Flags) (m : Mark) → marks_taken mode frame flags m ≡ true →
     mark_by_taking (is_read mode) (taking_place m) ≡ m
-mark_by_taking-place mode frame hard soft Used h = refl
-mark_by_taking-place mode frame hard soft (UsedIn Hard read) h = ap (UsedIn Hard) (sym (same_form-same read (is_read mode) (and_parts (is_in Hard frame) (same_form read (is_read mode)) h).1))
-mark_by_taking-place mode frame hard soft (UsedIn Soft read) h = ap (UsedIn Soft) (sym (same_form-same read (is_read mode) (and_parts (is_in Soft frame) (same_form read (is_read mode)) h).1))
-mark_by_taking-place mode frame hard soft (Enabled Hard read) h = ap (Enabled Hard) (sym (same_form-same read (is_read mode) (and_parts (is_enabled Hard hard soft) (same_form read (is_read mode)) h).1))
-mark_by_taking-place mode frame hard soft (Enabled Soft read) h = ap (Enabled Soft) (sym (same_form-same read (is_read mode) (and_parts (is_enabled Soft hard soft) (same_form read (is_read mode)) h).1))
+mark_by_taking-place mode frame flags Used h = refl
+mark_by_taking-place mode frame flags (UsedIn Hard read) h = ap (UsedIn Hard) (sym (same_form-same read (is_read mode) (and_parts (is_in Hard frame) (same_form read (is_read mode)) h).1))
+mark_by_taking-place mode frame flags (UsedIn Soft read) h = ap (UsedIn Soft) (sym (same_form-same read (is_read mode) (and_parts (is_in Soft frame) (same_form read (is_read mode)) h).1))
+mark_by_taking-place mode frame flags (Enabled Hard read) h = ap (Enabled Hard) (sym (same_form-same read (is_read mode) (and_parts (is_enabled Hard flags) (same_form read (is_read mode)) h).1))
+mark_by_taking-place mode frame flags (Enabled Soft read) h = ap (Enabled Soft) (sym (same_form-same read (is_read mode) (and_parts (is_enabled Soft flags) (same_form read (is_read mode)) h).1))
 
 abbrev opening_place : Mark → ℕ
 opening_place Used = 0
@@ -68,12 +72,12 @@ opening_place-lt (UsedIn irq read) = omega arith
 opening_place-lt (Enabled Hard read) = omega arith
 opening_place-lt (Enabled Soft read) = omega arith
 
-mark_by_opening-place : (mode : Mode) (hard soft : Bool) (m : Mark) → marks_opened mode hard soft m ≡ true →
+mark_by_opening-place : (mode : Mode) (flags : Flags) (m : Mark) → marks_opened mode flags m ≡ true →
     mark_by_opening (is_read mode) (opening_place m) ≡ m
-mark_by_opening-place mode hard soft Used h = absurd (let f : false ≡ true = h in cc)
-mark_by_opening-place mode hard soft (UsedIn irq read) h = absurd (let f : false ≡ true = h in cc)
-mark_by_opening-place mode hard soft (Enabled Hard read) h = ap (Enabled Hard) (sym (same_form-same read (is_read mode) (and_parts (is_enabled Hard hard soft) (same_form read (is_read mode)) h).1))
-mark_by_opening-place mode hard soft (Enabled Soft read) h = ap (Enabled Soft) (sym (same_form-same read (is_read mode) (and_parts (is_enabled Soft hard soft) (same_form read (is_read mode)) h).1))
+mark_by_opening-place mode flags Used h = absurd (let f : false ≡ true = h in cc)
+mark_by_opening-place mode flags (UsedIn irq read) h = absurd (let f : false ≡ true = h in cc)
+mark_by_opening-place mode flags (Enabled Hard read) h = ap (Enabled Hard) (sym (same_form-same read (is_read mode) (and_parts (is_enabled Hard flags) (same_form read (is_read mode)) h).1))
+mark_by_opening-place mode flags (Enabled Soft read) h = ap (Enabled Soft) (sym (same_form-same read (is_read mode) (and_parts (is_enabled Soft flags) (same_form read (is_read mode)) h).1))
 
 -- ---- what stands at a place is a fact of the chain
 held_at : (locks : List Lock) (i : ℕ) (d : Lock) → i < length locks → Contains locks (get_or locks i d)
@@ -90,8 +94,8 @@ fact_by-taking c new frame n x is e =
           (record { old = old; new = new; frame = frame; is_held = held_at c.held_locks n new l; is_new = is; from_is = refl; to_is = refl; how = refl })
       | inr g ↦
           let m : Mark = mark_by_taking (is_read new.mode) (n - length c.held_locks) in
-          let at : fact_by (Some (new, frame)) c n ≡ mark_if (marks_taken new.mode frame c.hard_on c.soft_on) new.key m = rw (le-ltb n (length c.held_locks) g) refl in
-          let got = mark_if-some (marks_taken new.mode frame c.hard_on c.soft_on) new.key m x (sym at ∙ e) in
+          let at : fact_by (Some (new, frame)) c n ≡ mark_if (marks_taken new.mode frame c.flags) new.key m = rw (le-ltb n (length c.held_locks) g) refl in
+          let got = mark_if-some (marks_taken new.mode frame c.flags) new.key m x (sym at ∙ e) in
           subst (ChainHas c) got.1 (inl (record { new = new; frame = frame; is_new = is; key_is = refl; gives = got.0 }))
     ]
 
@@ -99,11 +103,11 @@ fact_by-opening : (c : ChainParts) (n : ℕ) (x : Fact) → c.new_lock ≡ None 
 fact_by-opening c n x is e =
     pick (slice_get c.held_locks (n / 2)) refl e
   where
-    pick : (o : Option Lock) → slice_get c.held_locks (n / 2) ≡ o → mark_of_held o c.hard_on c.soft_on (n % 2) ≡ Some x → ChainHas c x
+    pick : (o : Option Lock) → slice_get c.held_locks (n / 2) ≡ o → mark_of_held o c.flags (n % 2) ≡ Some x → ChainHas c x
     pick None at h = absurd (none-some x h)
     pick (Some old) at h =
         let m : Mark = mark_by_opening (is_read old.mode) (n % 2) in
-        let got = mark_if-some (marks_opened old.mode c.hard_on c.soft_on) old.key m x h in
+        let got = mark_if-some (marks_opened old.mode c.flags) old.key m x h in
         let l : n / 2 < length c.held_locks = Rattle.std.proofs.lemmas.Option.slice_get_within c.held_locks (n / 2) old at in
         let has : Contains c.held_locks old = (n / 2, l, Rattle.std.proofs.lemmas.Option.get_or_from_slice_get c.held_locks (n / 2) old old at) in
         subst (ChainHas c) got.1 (inr (record { old = old; is_opening = is; is_held = has; key_is = refl; gives = got.0 }))
@@ -119,39 +123,39 @@ chain_fact-sound c n x e = pick c.new_lock refl e
 abbrev pub StandsIn : ChainParts → Fact → ℕ → Type 0
 StandsIn c x bound = (n : ℕ) × (n < bound) × (chain_fact c n ≡ Some x)
 
-pub chain_fact-complete : (c : ChainParts) (x : Fact) → ChainHas c x → StandsIn c x (fact_places c)
+pub chain_fact-complete : (c : ChainParts) (x : Fact) → ChainHas c x → StandsIn c x (fact_slots c)
 chain_fact-complete c (Dependency from to kind) h =
     let (k, l, at) = h.is_held in
-    let places : fact_places c ≡ length c.held_locks + 5 = rw h.is_new refl in
+    let slots : fact_slots c ≡ length c.held_locks + 5 = rw h.is_new refl in
     let here : chain_fact c k ≡ Some (Dependency h.old.key h.new.key (kind_between h.old.mode h.new.mode)) =
     rw (h.is_new, lt-ltb k (length c.held_locks) l, slice_get-get_or c.held_locks k h.old l, at) refl in
     (k, omega arith, here ∙ rw (h.from_is, h.to_is, h.how) refl)
 chain_fact-complete c (Marked key mark) (inl h) =
     let n : ℕ = length c.held_locks + taking_place mark in
-    let places : fact_places c ≡ length c.held_locks + 5 = rw h.is_new refl in
+    let slots : fact_slots c ≡ length c.held_locks + 5 = rw h.is_new refl in
     let after : n - length c.held_locks ≡ taking_place mark = omega arith in
     let m : mark_by_taking (is_read h.new.mode) (n - length c.held_locks) ≡ mark =
-    ap (mark_by_taking (is_read h.new.mode)) after ∙ mark_by_taking-place h.new.mode h.frame c.hard_on c.soft_on mark h.gives in
-    let here : chain_fact c n ≡ mark_if (marks_taken h.new.mode h.frame c.hard_on c.soft_on) h.new.key (mark_by_taking (is_read h.new.mode) (n - length c.held_locks)) =
+    ap (mark_by_taking (is_read h.new.mode)) after ∙ mark_by_taking-place h.new.mode h.frame c.flags mark h.gives in
+    let here : chain_fact c n ≡ mark_if (marks_taken h.new.mode h.frame c.flags) h.new.key (mark_by_taking (is_read h.new.mode) (n - length c.held_locks)) =
     rw (h.is_new, le-ltb n (length c.held_locks) (omega arith)) refl in (
       n,
       omega (arith, taking_place-lt mark),
-      here ∙ ap (mark_if (marks_taken h.new.mode h.frame c.hard_on c.soft_on) h.new.key) m ∙
-          mark_if-gives (marks_taken h.new.mode h.frame c.hard_on c.soft_on) h.new.key mark h.gives ∙ ap (λ k. Some (Marked k mark)) (sym h.key_is),
+      here ∙ ap (mark_if (marks_taken h.new.mode h.frame c.flags) h.new.key) m ∙
+          mark_if-gives (marks_taken h.new.mode h.frame c.flags) h.new.key mark h.gives ∙ ap (λ k. Some (Marked k mark)) (sym h.key_is),
     )
 chain_fact-complete c (Marked key mark) (inr h) =
     let (k, l, at) = h.is_held in
     let n : ℕ = k * 2 + opening_place mark in
     let lt : opening_place mark < 2 = opening_place-lt mark in
-    let places : fact_places c ≡ length c.held_locks * 2 = rw h.is_opening refl in
+    let slots : fact_slots c ≡ length c.held_locks * 2 = rw h.is_opening refl in
     let half : n / 2 ≡ k = omega arith in
     let odd : n % 2 ≡ opening_place mark = omega arith in
-    let here : chain_fact c n ≡ mark_if (marks_opened h.old.mode c.hard_on c.soft_on) h.old.key (mark_by_opening (is_read h.old.mode) (opening_place mark)) =
+    let here : chain_fact c n ≡ mark_if (marks_opened h.old.mode c.flags) h.old.key (mark_by_opening (is_read h.old.mode) (opening_place mark)) =
     rw (h.is_opening, half, odd, slice_get-get_or c.held_locks k h.old l, at) refl in (
       n,
       omega arith,
-      here ∙ ap (mark_if (marks_opened h.old.mode c.hard_on c.soft_on) h.old.key) (mark_by_opening-place h.old.mode c.hard_on c.soft_on mark h.gives) ∙
-          mark_if-gives (marks_opened h.old.mode c.hard_on c.soft_on) h.old.key mark h.gives ∙ ap (λ k. Some (Marked k mark)) (sym h.key_is),
+      here ∙ ap (mark_if (marks_opened h.old.mode c.flags) h.old.key) (mark_by_opening-place h.old.mode c.flags mark h.gives) ∙
+          mark_if-gives (marks_opened h.old.mode c.flags) h.old.key mark h.gives ∙ ap (λ k. Some (Marked k mark)) (sym h.key_is),
     )
 
 -- ---- a chain's facts name the chain's keys alone

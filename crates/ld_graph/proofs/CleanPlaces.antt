@@ -1,184 +1,288 @@
 -- Clean facts, told by places: no way leads from where a link arrives to where one of the same state leaves.
 use Rattle.std.proofs.Common.{◌≡◌, ℕ, ◌<◌, ◌⊎◌, ◌↔◌, refl, ap, sym, ◌∙◌, subst, inl, inr, Bool, true, false}
 use Rattle.ld_trace.specs.declared.event.Irq.{Irq}
+use Rattle.ld_task.specs.declared.kind.Kind.{Kind}
+use Rattle.ld_task.specs.declared.kind.Kind.TheVariants.{Er, En, Sr, Sn}
 use Rattle.ld_task.specs.declared.mark.Mark.{Mark}
 use Rattle.ld_task.specs.declared.mark.Mark.TheVariants.{Used, UsedIn, Enabled}
-use Rattle.ld_graph.specs.Arrows.{Arrow, MayFollow}
-use Rattle.ld_graph.specs.Walks.{OnCircle, HasNoCircle}
-use Rattle.ld_graph.specs.Links.{IsClean}
-use Rattle.ld_graph.specs.Places.{place, arrival, Leaves, LeavesFrom, Leads, Path, none, Way, IsWithin, LinkArrives, LinkLeaves}
-use Rattle.ld_graph.specs.Kept.{ArrivesBy, LeavesBy}
+use Rattle.ld_task.specs.Kinds.{is_s, is_r}
+use Rattle.ld_trace.specs.declared.key_id.TheConstants.{MAX_KEYS}
+use Rattle.ld_graph.specs.Arrows.{Arrow, MayFollow, arrow}
+use Rattle.ld_graph.specs.Facts.{Holds, Adds, DependenciesOf}
+use Rattle.ld_graph.specs.FactBits.{FactBelow}
+use Rattle.ld_graph.specs.FactLaws.{StrongWalk-more}
+use Rattle.ld_graph.specs.Walks.{OnCircle}
+use Rattle.ld_graph.specs.Links.{IsLink, IsClean}
+use Rattle.ld_graph.specs.Places.{place, arrival, Leaves, LeavesFrom, Leads, Path, none, Way, LinkArrives, LinkLeaves}
+use Rattle.ld_graph.specs.declared.fact.Fact.{Fact}
+use Rattle.ld_graph.specs.declared.fact.Fact.TheVariants.{Dependency, Marked}
 use Rattle.ld_graph.proofs.Circles.{OnCircle-new}
-use Rattle.ld_graph.proofs.Search.{Leaves-from_MayFollow, MayFollow-from_Leaves, OnCircle-iff}
-use Rattle.ld_graph.proofs.Links.{ClosesWith-iff, link, IsInversion-iff}
+use Rattle.ld_graph.proofs.Paths.{IsWithin, Leaves-from_MayFollow, MayFollow-from_Leaves, OnCircle-iff, Path-more}
+use Rattle.ld_graph.proofs.Links.{ClosesWith-iff, IsInversion-iff}
 use Rattle.ld_graph.proofs.Ways.{Path-cases, Path-from_way, Path-new, Path-joined, Path-kept, Leads-added}
 
--- the keys of all marks are below 256
-abbrev pub MarksWithin : (ℕ → Mark → Type 0) → Type 0
-MarksWithin Marked = (k : ℕ) (m : Mark) → Marked k m → k < 256
-
 -- a link of the state and the dependencies lead back to where it starts
-abbrev pub LinksBack : (Arrow → Type 0) → (ℕ → Mark → Type 0) → Irq → Type 0
-LinksBack In Marked irq = (p q : ℕ) × LinkArrives Marked irq p × LinkLeaves Marked irq q × Path (Leads In) p q
+abbrev pub LinksBack : (Fact → Type 0) → Irq → Type 0
+LinksBack Has irq = (p q : ℕ) × LinkArrives Has irq p × LinkLeaves Has irq q × Path (Leads (DependenciesOf Has)) p q
 
-pub record CleanPlaces (In : Arrow → Type 0) (Marked : ℕ → Mark → Type 0) : Type 0 where
-  pub circles : HasNoCircle In
-  pub links : (irq : Irq) → ¬ LinksBack In Marked irq
+pub record CleanPlaces (Has : Fact → Type 0) : Type 0 where
+  pub circles : (d : Arrow) → ¬ OnCircle Has d
+  pub links : (irq : Irq) → ¬ LinksBack Has irq
 
-module _ (In : Arrow → Type 0) (Marked : ℕ → Mark → Type 0) (within : IsWithin In) (marks : MarksWithin Marked) where
-  pub CleanPlaces-from : IsClean In Marked → CleanPlaces In Marked
+pub arrows_within : (Has : Fact → Type 0) → Holds (FactBelow MAX_KEYS) Has → IsWithin (DependenciesOf Has)
+arrows_within Has within = record {
+  starts = λ d h. (within (Dependency d.start d.end d.kind) h).0;
+  ends = λ d h. (within (Dependency d.start d.end d.kind) h).1;
+}
+
+-- the link of two marks
+link_of : (Has : Fact → Type 0) (irq : Irq) (a b : ℕ) (s r : Bool) → Has (Marked a (UsedIn irq r)) → Has (Marked b (Enabled irq s)) →
+    (kind : Kind) × IsLink Has irq (arrow b a kind) × (is_s kind ≡ s) × (is_r kind ≡ r)
+link_of Has irq a b false true used enabled = (Er, (enabled, used), refl, refl)
+link_of Has irq a b false false used enabled = (En, (enabled, used), refl, refl)
+link_of Has irq a b true true used enabled = (Sr, (enabled, used), refl, refl)
+link_of Has irq a b true false used enabled = (Sn, (enabled, used), refl, refl)
+
+module _ (Has : Fact → Type 0) (within : Holds (FactBelow MAX_KEYS) Has) where
+  abbrev In : Arrow → Type 0
+  In = DependenciesOf Has
+
+  pub CleanPlaces-from : IsClean Has → CleanPlaces Has
   CleanPlaces-from clean = record {
     circles = clean.circles;
     links = λ irq (p, q, (a, r, used, at), (b, s, enabled, leaves), path).
+        let (kind, marks, es, er) = link_of Has irq a b s r used enabled in
+        let l : Arrow = arrow b a kind in
+        let la : a < MAX_KEYS = within (Marked a (UsedIn irq r)) used in
+        let lb : b < MAX_KEYS = within (Marked b (Enabled irq s)) enabled in
+        let arrives : p ≡ arrival l = at ∙ ap (place a) (sym er) in
+        let out : Leaves l q = subst (λ x. LeavesFrom b x q) (sym es) leaves in
         elim (Path-cases (Leads In) path) [
           | inl same ↦
-              (let l : Arrow = link b a s r in
-              let out : Leaves l (arrival l) = subst (LeavesFrom b s) (sym same ∙ at) leaves in
-              let follows : MayFollow l l = MayFollow-from_Leaves l l (marks a (UsedIn irq r) used) (marks b (Enabled irq s) enabled) out in
-              clean.doubles irq a (l, (enabled, used), sym follows.0, refl, follows))
+              (let follows : MayFollow l l = MayFollow-from_Leaves l l la lb (subst (Leaves l) (sym same ∙ arrives) out) in
+              clean.doubles irq a (l, (marks, sym follows.0, refl, follows)))
           | inr way ↦
-              clean.inversions irq a b
-              ((IsInversion-iff In Marked irq a b).1 (
-                s,
-                r,
-                enabled,
-                used,
-                (ClosesWith-iff In within (link b a s r) (marks b (Enabled irq s) enabled) (marks a (UsedIn irq r) used)).1
-                    (q, subst (λ x. Way (Leads In) x q) at way, leaves),
+              clean.inversions irq a b ((IsInversion-iff Has irq a b).1 (
+                kind,
+                marks,
+                (ClosesWith-iff In (arrows_within Has within) l lb la).1 (q, subst (λ x. Way (Leads In) x q) arrives way, out),
               ))
         ];
   }
 
-  pub IsClean-from_places : CleanPlaces In Marked → IsClean In Marked
+  pub IsClean-from_places : CleanPlaces Has → IsClean Has
   IsClean-from_places clean = record {
     circles = clean.circles;
-    doubles = λ irq a (l, is_link, at, to, follows).
+    doubles = λ irq a (l, (marks, at, to, follows)).
         clean.links irq (
           arrival l,
           arrival l,
-          (l.end, l.second_is_r, is_link.1, refl),
-          (l.start, l.first_is_s, is_link.0, Leaves-from_MayFollow l l follows),
+          (l.end, is_r l.kind, marks.1, refl),
+          (l.start, is_s l.kind, marks.0, Leaves-from_MayFollow l l follows),
           none,
         );
     inversions = λ irq a b inversion.
-        (let (s, r, enabled, used, closes) = (IsInversion-iff In Marked irq a b).0 inversion in
-        let (q, way, leaves) = (ClosesWith-iff In within (link b a s r) (marks b (Enabled irq s) enabled) (marks a (UsedIn irq r) used)).0 closes in
-        clean.links irq (place a r, q, (a, r, used, refl), (b, s, enabled, leaves), Path-from_way (Leads In) (place a r) q way));
+        (let (kind, marks, closes) = (IsInversion-iff Has irq a b).0 inversion in
+        let la : a < MAX_KEYS = within (Marked a (UsedIn irq (is_r kind))) marks.1 in
+        let lb : b < MAX_KEYS = within (Marked b (Enabled irq (is_s kind))) marks.0 in
+        let (q, way, leaves) = (ClosesWith-iff In (arrows_within Has within) (arrow b a kind) lb la).0 closes in
+        clean.links irq (place a (is_r kind), q, (a, is_r kind, marks.1, refl), (b, is_s kind, marks.0, leaves), Path-from_way (Leads In) (place a (is_r kind)) q way));
   }
 
--- ---- a new dependency
--- an arrow's sources: a place that it leaves is p or is reached from it; its targets are reached from where it arrives
-abbrev pub Source : (Arrow → Type 0) → Arrow → ℕ → Type 0
-Source In d p = (l : ℕ) × Leaves d l × Path (Leads In) p l
+-- ---- more facts: more ends of links
+module _ (Old New P : Fact → Type 0) (adds : Adds Old New P) where
+  pub LinkArrives-adds : (irq : Irq) (p : ℕ) → LinkArrives New irq p ↔ (LinkArrives Old irq p ⊎ LinkArrives P irq p)
+  LinkArrives-adds irq p = (
+    (λ (a, r, used, at). elim ((adds (Marked a (UsedIn irq r))).0 used) [ inl o ↦ inl (a, r, o, at) | inr n ↦ inr (a, r, n, at) ]),
+    (λ h. elim h [
+      | inl (a, r, used, at) ↦ (a, r, (adds (Marked a (UsedIn irq r))).1 (inl used), at)
+      | inr (a, r, used, at) ↦ (a, r, (adds (Marked a (UsedIn irq r))).1 (inr used), at)
+    ]),
+  )
 
-abbrev pub Target : (Arrow → Type 0) → Arrow → ℕ → Type 0
-Target In d q = Path (Leads In) (arrival d) q
+  pub LinkLeaves-adds : (irq : Irq) (q : ℕ) → LinkLeaves New irq q ↔ (LinkLeaves Old irq q ⊎ LinkLeaves P irq q)
+  LinkLeaves-adds irq q = (
+    (λ (b, s, enabled, leaves). elim ((adds (Marked b (Enabled irq s))).0 enabled) [ inl o ↦ inl (b, s, o, leaves) | inr n ↦ inr (b, s, n, leaves) ]),
+    (λ h. elim h [
+      | inl (b, s, enabled, leaves) ↦ (b, s, (adds (Marked b (Enabled irq s))).1 (inl enabled), leaves)
+      | inr (b, s, enabled, leaves) ↦ (b, s, (adds (Marked b (Enabled irq s))).1 (inr enabled), leaves)
+    ]),
+  )
+
+-- ---- a new dependency
+is_mark : Fact → Bool
+is_mark (Dependency from to kind) = false
+is_mark (Marked key mark) = true
+
+arrow_of : Fact → Arrow
+arrow_of (Dependency from to kind) = arrow from to kind
+arrow_of (Marked key mark) = arrow key key Er
+
+apart : {A : Type 0} (a b : ℕ) (kind : Kind) (key : ℕ) (mark : Mark) → Dependency a b kind ≡ Marked key mark → A
+unfolding is_mark
+apart a b kind key mark e = absurd (let h : false ≡ true = ap is_mark e in cc)
+
+-- an arrow's sources: a place that it leaves is p or is reached from it; its targets are reached from where it arrives
+abbrev pub Source : (Fact → Type 0) → Arrow → ℕ → Type 0
+Source Has d p = (l : ℕ) × Leaves d l × Path (Leads (DependenciesOf Has)) p l
+
+abbrev pub Target : (Fact → Type 0) → Arrow → ℕ → Type 0
+Target Has d q = Path (Leads (DependenciesOf Has)) (arrival d) q
 
 -- a place that d leaves is one of its targets
-abbrev pub ComesBack : (Arrow → Type 0) → Arrow → Type 0
-ComesBack In d = (q : ℕ) × Leaves d q × Target In d q
+abbrev pub ComesBack : (Fact → Type 0) → Arrow → Type 0
+ComesBack Has d = (q : ℕ) × Leaves d q × Target Has d q
 
--- a link arrives at a source of d and one leaves a target
-abbrev pub JoinsLinks : (Arrow → Type 0) → (ℕ → Mark → Type 0) → Irq → Arrow → Type 0
-JoinsLinks In Marked irq d = ((p : ℕ) × Source In d p × LinkArrives Marked irq p) × ((q : ℕ) × Target In d q × LinkLeaves Marked irq q)
+-- a link of the state arrives at a source of d and one leaves a target
+abbrev pub Joins : (Fact → Type 0) → Arrow → Irq → Type 0
+Joins Has d irq = ((p : ℕ) × Source Has d p × LinkArrives Has irq p) × ((q : ℕ) × Target Has d q × LinkLeaves Has irq q)
 
-module _ (Old New : Arrow → Type 0) (Marked : ℕ → Mark → Type 0) (d : Arrow)
-    (one : (x : Arrow) → New x ↔ (Old x ⊎ (x ≡ d))) (within : IsWithin New) where
-  paths : {p q : ℕ} → Path (Leads New) p q → Path (Leads Old) p q ⊎ (Source Old d p × Target Old d q)
-  paths path = Path-new (Leads Old) (Leads New) (Leaves d) (arrival d) (Leads-added Old New d one) path
+module _ (Old New : Fact → Type 0) (d : Arrow) (adds : Adds Old New (λ x. x ≡ Dependency d.start d.end d.kind)) where
+  pub arrows_added : (x : Arrow) → DependenciesOf New x ↔ (DependenciesOf Old x ⊎ (x ≡ d))
+  unfolding arrow_of
+  arrows_added x = (
+    (λ h. elim ((adds (Dependency x.start x.end x.kind)).0 h) [ inl o ↦ inl o | inr e ↦ inr (ap arrow_of e) ]),
+    (λ h. (adds (Dependency x.start x.end x.kind)).1 (elim h [
+      | inl o ↦ inl o
+      | inr e ↦ inr (ap (λ (y : Arrow). Dependency y.start y.end y.kind) e)
+    ])),
+  )
 
-  joined : {p q : ℕ} → Source Old d p → Target Old d q → Path (Leads New) p q
-  joined source target = Path-joined (Leads Old) (Leads New) (Leaves d) (arrival d) (Leads-added Old New d one) source target
+  pub LinkArrives-kept : (irq : Irq) (p : ℕ) → LinkArrives New irq p ↔ LinkArrives Old irq p
+  LinkArrives-kept irq p = let both = LinkArrives-adds Old New (λ x. x ≡ Dependency d.start d.end d.kind) adds irq p in (
+    (λ h. elim (both.0 h) [ inl o ↦ o | inr (a, r, e, at) ↦ apart d.start d.end d.kind a (UsedIn irq r) (sym e) ]),
+    (λ h. both.1 (inl h)),
+  )
 
-  kept : {p q : ℕ} → Path (Leads Old) p q → Path (Leads New) p q
-  kept path = Path-kept (Leads Old) (Leads New) (Leaves d) (arrival d) (Leads-added Old New d one) path
+  pub LinkLeaves-kept : (irq : Irq) (q : ℕ) → LinkLeaves New irq q ↔ LinkLeaves Old irq q
+  LinkLeaves-kept irq q = let both = LinkLeaves-adds Old New (λ x. x ≡ Dependency d.start d.end d.kind) adds irq q in (
+    (λ h. elim (both.0 h) [ inl o ↦ o | inr (b, s, e, at) ↦ apart d.start d.end d.kind b (Enabled irq s) (sym e) ]),
+    (λ h. both.1 (inl h)),
+  )
 
-  circle : OnCircle New d ↔ ((q : ℕ) × Path (Leads New) (arrival d) q × Leaves d q)
-  circle = OnCircle-iff New within d ((one d).1 (inr refl))
+  abbrev from : ℕ → ℕ → Type 0
+  from = Leads (DependenciesOf Old)
 
-  comes_back : OnCircle New d → ComesBack Old d
-  comes_back on =
-      let (q, path, leaves) = circle.0 on in
-      elim (paths path) [
-        | inl old ↦ (q, leaves, old)
-        | inr (source, target) ↦ (let (l, out, before) = source in (l, out, before))
-      ]
+  abbrev to : ℕ → ℕ → Type 0
+  to = Leads (DependenciesOf New)
 
-  pub CleanPlaces-dependency : CleanPlaces Old Marked → CleanPlaces New Marked ↔ (¬ ComesBack Old d × ((irq : Irq) → ¬ JoinsLinks Old Marked irq d))
-  CleanPlaces-dependency was = (
+  edges : (p q : ℕ) → to p q ↔ (from p q ⊎ (Leaves d p × (arrival d ≡ q)))
+  edges = Leads-added (DependenciesOf Old) (DependenciesOf New) d arrows_added
+
+  pub CleanPlaces-dependency : Holds (FactBelow MAX_KEYS) New → CleanPlaces Old →
+      CleanPlaces New ↔ (¬ ComesBack Old d × ((irq : Irq) → ¬ Joins Old d irq))
+  CleanPlaces-dependency within was = (
     (λ now. (
-      (λ (q, leaves, path). now.circles d (circle.1 (q, kept path, leaves))),
-      λ irq ((p, source, arrives), (q, target, leaves)). now.links irq (p, q, arrives, leaves, joined source target),
+      (λ (q, leaves, path). now.circles d (circle.1 (q, Path-kept from to (Leaves d) (arrival d) edges path, leaves))),
+      λ irq ((p, source, arrives), (q, target, leaves)). now.links irq (
+        p,
+        q,
+        (LinkArrives-kept irq p).1 arrives,
+        (LinkLeaves-kept irq q).1 leaves,
+        Path-joined from to (Leaves d) (arrival d) edges source target,
+      ),
     )),
     (λ (no_circle, no_link). record {
-      circles = λ x on. no_circle (comes_back (OnCircle-new Old New d (λ y. (one y).0) was.circles x on));
+      circles = λ x on. no_circle (comes_back (OnCircle-new Old New d (λ y. (arrows_added y).0) was.circles x on));
       links = λ irq (p, q, arrives, leaves, path).
+          let arrived = (LinkArrives-kept irq p).0 arrives in
+          let left = (LinkLeaves-kept irq q).0 leaves in
           elim (paths path) [
-            | inl old ↦ was.links irq (p, q, arrives, leaves, old)
-            | inr (source, target) ↦ no_link irq ((p, source, arrives), (q, target, leaves))
+            | inl old ↦ was.links irq (p, q, arrived, left, old)
+            | inr (source, target) ↦ no_link irq ((p, source, arrived), (q, target, left))
           ];
     }),
   )
+    where
+      circle : OnCircle New d ↔ ((q : ℕ) × Path to (arrival d) q × Leaves d q)
+      circle = OnCircle-iff New (arrows_within New within) d ((arrows_added d).1 (inr refl))
+
+      paths : {p q : ℕ} → Path to p q → Path from p q ⊎ (Source Old d p × Target Old d q)
+      paths path = Path-new from to (Leaves d) (arrival d) edges path
+
+      comes_back : OnCircle New d → ComesBack Old d
+      comes_back on =
+          let (q, path, leaves) = circle.0 on in
+          elim (paths path) [
+            | inl old ↦ (q, leaves, old)
+            | inr (source, target) ↦ source
+          ]
 
 -- ---- a new mark
-abbrev is_used : Mark → Bool
-is_used Used = false
-is_used (UsedIn irq read) = true
-is_used (Enabled irq read) = false
+-- a link by the mark, and the dependencies, lead back to it
+abbrev pub TurnsBackBy : (Fact → Type 0) → Fact → Type 0
+TurnsBackBy Has (Dependency from to kind) = ⊥
+TurnsBackBy Has (Marked key Used) = ⊥
+TurnsBackBy Has (Marked key (UsedIn irq read)) =
+    (q : ℕ) × LinkLeaves Has irq q × Path (Leads (DependenciesOf Has)) (place key read) q
+TurnsBackBy Has (Marked key (Enabled irq read)) =
+    (p : ℕ) × LinkArrives Has irq p × ((l : ℕ) × LeavesFrom key read l × Path (Leads (DependenciesOf Has)) p l)
 
--- a link by the mark leads back to where it starts
-abbrev pub MarkLinksBack : (Arrow → Type 0) → (ℕ → Mark → Type 0) → Irq → ℕ → Mark → Type 0
-MarkLinksBack In Marked irq key mark =
-    ((p q : ℕ) × ArrivesBy irq key mark p × LinkLeaves Marked irq q × Path (Leads In) p q) ⊎
-    ((p q : ℕ) × LinkArrives Marked irq p × LeavesBy irq key mark q × Path (Leads In) p q)
+is_used : Fact → Bool
+is_used (Dependency from to kind) = false
+is_used (Marked key Used) = false
+is_used (Marked key (UsedIn irq read)) = true
+is_used (Marked key (Enabled irq read)) = false
 
-module _ (Old New : ℕ → Mark → Type 0) (key : ℕ) (mark : Mark)
-    (one : (x : ℕ) (m : Mark) → New x m ↔ (Old x m ⊎ ((x ≡ key) × (m ≡ mark)))) where
-  pub LinkArrives-added : (irq : Irq) (p : ℕ) → LinkArrives New irq p ↔ (LinkArrives Old irq p ⊎ ArrivesBy irq key mark p)
-  LinkArrives-added irq p = (
-    (λ (a, r, used, at). elim ((one a (UsedIn irq r)).0 used) [
-      | inl o ↦ inl (a, r, o, at)
-      | inr e ↦ inr (r, e.1, at ∙ ap (λ k. place k r) e.0)
-    ]),
-    (λ h. elim h [
-      | inl (a, r, used, at) ↦ (a, r, (one a (UsedIn irq r)).1 (inl used), at)
-      | inr (r, e, at) ↦ (key, r, (one key (UsedIn irq r)).1 (inr (refl, e)), at)
-    ]),
+module _ (Old New : Fact → Type 0) (key : ℕ) (mark : Mark) (adds : Adds Old New (λ x. x ≡ Marked key mark)) where
+  pub arrows_kept : (x : Arrow) → DependenciesOf New x ↔ DependenciesOf Old x
+  arrows_kept x = (
+    (λ h. elim ((adds (Dependency x.start x.end x.kind)).0 h) [ inl o ↦ o | inr e ↦ apart x.start x.end x.kind key mark e ]),
+    (λ h. (adds (Dependency x.start x.end x.kind)).1 (inl h)),
   )
 
-  pub LinkLeaves-added : (irq : Irq) (q : ℕ) → LinkLeaves New irq q ↔ (LinkLeaves Old irq q ⊎ LeavesBy irq key mark q)
-  LinkLeaves-added irq q = (
-    (λ (b, s, enabled, leaves). elim ((one b (Enabled irq s)).0 enabled) [
-      | inl o ↦ inl (b, s, o, leaves)
-      | inr e ↦ inr (s, e.1, subst (λ k. LeavesFrom k s q) e.0 leaves)
-    ]),
-    (λ h. elim h [
-      | inl (b, s, enabled, leaves) ↦ (b, s, (one b (Enabled irq s)).1 (inl enabled), leaves)
-      | inr (s, e, leaves) ↦ (key, s, (one key (Enabled irq s)).1 (inr (refl, e)), leaves)
-    ]),
+  pub Leads-kept : (p q : ℕ) → Leads (DependenciesOf New) p q ↔ Leads (DependenciesOf Old) p q
+  Leads-kept p q = (
+    (λ (x, has, leaves, at). (x, (arrows_kept x).0 has, leaves, at)),
+    (λ (x, has, leaves, at). (x, (arrows_kept x).1 has, leaves, at)),
   )
 
-  -- one mark isn't of both ends
-  not_both : (irq : Irq) (p q : ℕ) → ArrivesBy irq key mark p → LeavesBy irq key mark q → ⊥
-  not_both irq p q (r, used, at) (s, enabled, leaves) = let e : true ≡ false = ap is_used (used ∙ sym enabled) in cc
+  abbrev back : {p q : ℕ} → Path (Leads (DependenciesOf New)) p q → Path (Leads (DependenciesOf Old)) p q
+  back path = Path-more (Leads (DependenciesOf New)) (Leads (DependenciesOf Old)) (λ p q. (Leads-kept p q).0) path
 
-  pub CleanPlaces-mark : (In : Arrow → Type 0) → CleanPlaces In Old → CleanPlaces In New ↔ ((irq : Irq) → ¬ MarkLinksBack In Old irq key mark)
-  CleanPlaces-mark In was = (
-    (λ now irq back. elim back [
-      | inl (p, q, arrives, leaves, path) ↦ now.links irq (p, q, (LinkArrives-added irq p).1 (inr arrives), (LinkLeaves-added irq q).1 (inl leaves), path)
-      | inr (p, q, arrives, leaves, path) ↦ now.links irq (p, q, (LinkArrives-added irq p).1 (inl arrives), (LinkLeaves-added irq q).1 (inr leaves), path)
-    ]),
+  abbrev on : {p q : ℕ} → Path (Leads (DependenciesOf Old)) p q → Path (Leads (DependenciesOf New)) p q
+  on path = Path-more (Leads (DependenciesOf Old)) (Leads (DependenciesOf New)) (λ p q. (Leads-kept p q).1) path
+
+  links_new : (x : Fact) → x ≡ Marked key mark → TurnsBackBy Old x → (irq : Irq) × LinksBack New irq
+  links_new (Marked k (UsedIn irq read)) e (q, leaves, path) = (
+    irq,
+    (
+      place k read,
+      q,
+      (k, read, (adds (Marked k (UsedIn irq read))).1 (inr e), refl),
+      (LinkLeaves-adds Old New (λ x. x ≡ Marked key mark) adds irq q).1 (inl leaves),
+      on path,
+    ),
+  )
+  links_new (Marked k (Enabled irq read)) e (p, arrives, (l, leaves, path)) = (
+    irq,
+    (
+      p,
+      l,
+      (LinkArrives-adds Old New (λ x. x ≡ Marked key mark) adds irq p).1 (inl arrives),
+      (k, read, (adds (Marked k (Enabled irq read))).1 (inr e), leaves),
+      on path,
+    ),
+  )
+  links_new (Marked k Used) e h = absurd h
+  links_new (Dependency a b kind) e h = absurd h
+
+  pub CleanPlaces-mark : CleanPlaces Old → CleanPlaces New ↔ (¬ TurnsBackBy Old (Marked key mark))
+  unfolding is_used
+  CleanPlaces-mark was = (
+    (λ now turns. let (irq, links) = links_new (Marked key mark) refl turns in now.links irq links),
     (λ none_back. record {
-      circles = was.circles;
-      links = λ irq (p, q, arrives, leaves, path).
-          elim ((LinkArrives-added irq p).0 arrives) [
-            | inl a ↦ elim ((LinkLeaves-added irq q).0 leaves) [
-              | inl b ↦ was.links irq (p, q, a, b, path)
-              | inr b ↦ none_back irq (inr (p, q, a, b, path))
+      circles = λ x (a, rest, w, c).
+          was.circles x (a, rest, (StrongWalk-more (DependenciesOf New) (DependenciesOf Old) (λ y. (arrows_kept y).0) a rest w.0, w.1), c);
+      links = λ irq (p, q, (a, r, used, at), (b, s, enabled, leaves), path).
+          elim ((adds (Marked a (UsedIn irq r))).0 used) [
+            | inl u ↦ elim ((adds (Marked b (Enabled irq s))).0 enabled) [
+              | inl e ↦ was.links irq (p, q, (a, r, u, at), (b, s, e, leaves), back path)
+              | inr e ↦ none_back (subst (TurnsBackBy Old) e (p, (a, r, u, at), (q, leaves, back path)))
             ]
-            | inr a ↦ elim ((LinkLeaves-added irq q).0 leaves) [
-              | inl b ↦ none_back irq (inl (p, q, a, b, path))
-              | inr b ↦ not_both irq p q a b
+            | inr u ↦ elim ((adds (Marked b (Enabled irq s))).0 enabled) [
+              | inl e ↦ none_back (subst (TurnsBackBy Old) u (q, (b, s, e, leaves), subst (λ x. Path (Leads (DependenciesOf Old)) x q) at (back path)))
+              | inr e ↦ (let h : true ≡ false = ap is_used (u ∙ sym e) in cc)
             ]
           ];
     }),

@@ -1,19 +1,23 @@
 -- The numbers that pass a test, read as members of a set: as many as the test counts. And no set has two numbers.
-use Rattle.std.proofs.Common.{◌≡◌, ℕ, suc, zero, ◌+◌, ◌-◌, ◌<◌, ◌≤◌, ◌⊎◌, ◌↔◌, List, [], ◌∷◌, ◌++◌, length, get_or, refl, ap, sym, ◌∙◌, subst, inl, inr, arith, Bool, true, cond, length-append}
+use Rattle.std.proofs.Common.{◌≡◌, ℕ, suc, zero, ◌+◌, ◌-◌, ◌*◌, ◌/◌, ◌%◌, ◌<◌, ◌≤◌, List, [], ◌∷◌, ◌++◌, length, get_or, refl, ap, sym, ◌∙◌, subst, inl, inr, arith, Bool, true, cond, length-append}
 use Rattle.std.specs.List.{AllPairs, Contains, remove}
 use Rattle.std.proofs.lemmas.Bool.{cases_Bool, cases_eq, cases_lt}
 use Rattle.std.proofs.lemmas.List.{get_or_default}
 use Rattle.std.proofs.lemmas.List.Elements.{Contains-get_or, Contains-append_left, Contains-push, Contains-push_cases}
 use Rattle.std.proofs.lemmas.List.Edits.{get_or-remove_below, get_or-remove_above, length-remove}
 use Rattle.std.proofs.lemmas.List.Quantifiers.{all_pairs_push}
+use Rattle.ld_task.specs.declared.kind.Kind.TheVariants.{Er}
 use Rattle.ld_task.specs.declared.mark.Mark.{Mark}
 use Rattle.ld_task.specs.declared.mark.Mark.TheVariants.{Used}
-use Rattle.ld_graph.specs.Arrows.{Arrow}
+use Rattle.ld_graph.specs.Arrows.{Arrow, arrow}
 use Rattle.ld_graph.specs.Bits.{has_bit, count_below}
-use Rattle.ld_graph.specs.Numbers.{dependency_number, mark_number, dependency_total, mark_total}
-use Rattle.ld_graph.specs.Facts.{FactWords, HasDep, HasMark, dependency_count, mark_count}
-use Rattle.ld_graph.specs.Counting.{IsNumberOf, IsNumberOfMarks}
-use Rattle.ld_graph.proofs.Numbers.{dependency_of, dependency_number-of, dependency_number-same, dependency_number-lt, mark_number-of, mark_number-same, mark_number-lt}
+use Rattle.ld_graph.specs.Numbers.{fact_number, mark_index, dependency_total, mark_total}
+use Rattle.ld_graph.specs.Facts.{DependenciesOf, MarksOf}
+use Rattle.ld_graph.specs.FactBits.{FactWords, HasFact, dependency_count, mark_count}
+use Rattle.ld_graph.specs.Counting.{IsNumberOf}
+use Rattle.ld_graph.specs.declared.fact.Fact.{Fact}
+use Rattle.ld_graph.specs.declared.fact.Fact.TheVariants.{Dependency, Marked}
+use Rattle.ld_graph.proofs.Numbers.{kind_of, mark_of, dependency_of, marked_of, dependency_of-is, marked_of-is, dependency-lt, mark-lt, fact_number-same}
 
 -- ---- the numbers below n that pass, each read as a member
 module _ {A : Type 0} (test : ℕ → Bool) (read : ℕ → A) where
@@ -70,122 +74,58 @@ module _ {A : Type 0} (test : ℕ → Bool) (read : ℕ → A) where
         | inr t ↦ rw t before
       ]
 
--- ---- dependencies
-module _ (facts : FactWords) where
-  abbrev dependency_bit : ℕ → Bool
-  dependency_bit = has_bit facts.words
-
-  has_read : (k : ℕ) → k < dependency_total facts.keys → dependency_bit k ≡ true → HasDep facts (dependency_of facts.keys k)
-  has_read k l set = let (ls, le, is) = dependency_number-of facts.keys k l in (ls, le, ap (has_bit facts.words) is ∙ set)
-
-  dependencies_apart : (j k : ℕ) → j < k → k < dependency_total facts.keys → ¬ (dependency_of facts.keys j ≡ dependency_of facts.keys k)
-  dependencies_apart j k l m same =
-      let at_j : dependency_number facts.keys (dependency_of facts.keys j) ≡ j = (dependency_number-of facts.keys j (omega arith)).2 in
-      let at_k : dependency_number facts.keys (dependency_of facts.keys k) ≡ k = (dependency_number-of facts.keys k m).2 in
-      let e : j ≡ k = sym at_j ∙ ap (dependency_number facts.keys) same ∙ at_k in
-      omega arith
-
-  dependency_read : (d : Arrow) → d.start < facts.keys → d.end < facts.keys → dependency_of facts.keys (dependency_number facts.keys d) ≡ d
-  dependency_read d ls le =
-      let (ls', le', is) = dependency_number-of facts.keys (dependency_number facts.keys d) (dependency_number-lt facts.keys d ls le) in
-      dependency_number-same facts.keys (dependency_of facts.keys (dependency_number facts.keys d)) d le' le is
-
-  -- the count of the bits is the number of the dependencies
-  pub IsNumberOf-dependency_count : IsNumberOf (HasDep facts) (dependency_count facts)
-  IsNumberOf-dependency_count = record {
-    listed = listed dependency_bit (dependency_of facts.keys) (dependency_total facts.keys);
-    once = listed-once dependency_bit (dependency_of facts.keys) (dependency_total facts.keys) dependencies_apart;
-    exact = λ d. (
-      (λ h. let (k, l, set, is) = listed-from dependency_bit (dependency_of facts.keys) (dependency_total facts.keys) d h in
-          subst (HasDep facts) is (has_read k l set)),
-      (λ (ls, le, set). subst (Contains (listed dependency_bit (dependency_of facts.keys) (dependency_total facts.keys))) (dependency_read d ls le)
-          (listed-has dependency_bit (dependency_of facts.keys) (dependency_total facts.keys) (dependency_number facts.keys d)
-          (dependency_number-lt facts.keys d ls le) set)),
-    );
-    count = listed-length dependency_bit (dependency_of facts.keys) (dependency_total facts.keys);
-  }
-
--- ---- marks
-module _ (facts : FactWords) where
-  abbrev mark_bit : ℕ → Bool
-  mark_bit n = has_bit facts.words (dependency_total facts.keys + n)
-
-  -- the key and the mark that a number stands for among the marks
-  found : (k : ℕ) → k < mark_total facts.keys →
-      (key : ℕ) × (mark : Mark) × (key < facts.keys) × (mark_number facts.keys key mark ≡ dependency_total facts.keys + k)
-  found k l = mark_number-of facts.keys (dependency_total facts.keys + k) (omega arith) (omega arith)
-
-  pair_of : (k : ℕ) → (k < mark_total facts.keys) ⊎ (mark_total facts.keys ≤ k) → ℕ × Mark
-  pair_of k (inl l) = ((found k l).0, (found k l).1)
-  pair_of k (inr past) = (0, Used)
-
-  pair_of-is : (k : ℕ) (side : (k < mark_total facts.keys) ⊎ (mark_total facts.keys ≤ k)) → k < mark_total facts.keys →
-      ((pair_of k side).0 < facts.keys) × (mark_number facts.keys (pair_of k side).0 (pair_of k side).1 ≡ dependency_total facts.keys + k)
-  unfolding pair_of
-  pair_of-is k (inl l) h = ((found k l).2, (found k l).3)
-  pair_of-is k (inr past) h = absurd (omega arith)
-
-  abbrev pair_at : ℕ → ℕ × Mark
-  pair_at k = pair_of k (cases_lt k (mark_total facts.keys))
-
-  abbrev IsMarked : ℕ × Mark → Type 0
-  IsMarked p = HasMark facts p.0 p.1
-
-  is_marked : (k : ℕ) → k < mark_total facts.keys → mark_bit k ≡ true → IsMarked (pair_at k)
-  is_marked k l set =
-      let p = pair_of-is k (cases_lt k (mark_total facts.keys)) l in
-      (p.0, ap (has_bit facts.words) p.1 ∙ set)
-
-  marks_apart : (j k : ℕ) → j < k → k < mark_total facts.keys → ¬ (pair_at j ≡ pair_at k)
-  marks_apart j k l m same =
-      let at_j = (pair_of-is j (cases_lt j (mark_total facts.keys)) (omega arith)).1 in
-      let at_k = (pair_of-is k (cases_lt k (mark_total facts.keys)) m).1 in
-      let number : ℕ × Mark → ℕ = λ p. mark_number facts.keys p.0 p.1 in
-      let e : dependency_total facts.keys + j ≡ dependency_total facts.keys + k = sym at_j ∙ ap number same ∙ at_k in
-      omega arith
-
-  -- a mark stands at its number, counted from the first mark
-  pair_read : (key : ℕ) (mark : Mark) → key < facts.keys →
-      (k : ℕ) × (k < mark_total facts.keys) × (mark_number facts.keys key mark ≡ dependency_total facts.keys + k) × (pair_at k ≡ (key, mark))
-  pair_read key mark l =
-      let k : ℕ = mark_number facts.keys key mark - dependency_total facts.keys in
-      let below : k < mark_total facts.keys = omega (arith, mark_number-lt facts.keys key mark l) in
-      let at : mark_number facts.keys key mark ≡ dependency_total facts.keys + k = omega arith in
-      let p = pair_of-is k (cases_lt k (mark_total facts.keys)) below in
-      let (same_key, same_mark) = mark_number-same facts.keys (pair_at k).0 key (pair_at k).1 mark (p.1 ∙ sym at) in
-      (k, below, at, (λ i. (same_key i, same_mark i)))
-
-  -- the count of the bits is the number of the marks
-  pub IsNumberOfMarks-mark_count : IsNumberOfMarks (HasMark facts) (mark_count facts)
-  IsNumberOfMarks-mark_count = record {
-    listed = listed mark_bit pair_at (mark_total facts.keys);
-    once = listed-once mark_bit pair_at (mark_total facts.keys) marks_apart;
-    exact = λ key mark. (
-      (λ h. let (k, l, set, is) = listed-from mark_bit pair_at (mark_total facts.keys) (key, mark) h in subst IsMarked is (is_marked k l set)),
-      (λ (below, set). let (k, l, at, is) = pair_read key mark below in
-          subst (Contains (listed mark_bit pair_at (mark_total facts.keys))) is
-          (listed-has mark_bit pair_at (mark_total facts.keys) k l (ap (has_bit facts.words) (sym at) ∙ set))),
-    );
-    count = listed-length mark_bit pair_at (mark_total facts.keys);
-  }
-
--- ---- sets with the same members
-pub IsNumberOf-iff : (In In' : Arrow → Type 0) (n : ℕ) → ((d : Arrow) → In d ↔ In' d) → IsNumberOf In n → IsNumberOf In' n
-IsNumberOf-iff In In' n same number = record {
-  listed = number.listed;
-  once = number.once;
-  exact = λ d. ((λ h. (same d).0 ((number.exact d).0 h)), (λ h. (number.exact d).1 ((same d).1 h)));
-  count = number.count;
+-- each number below n is a thing's and each member of the set has one, which passes: so many members as pass
+IsNumberOf-numbered : {A : Type 0} (In : A → Type 0) (n : ℕ) (test : ℕ → Bool) (read : ℕ → A) (number : A → ℕ) →
+    ((k : ℕ) → k < n → number (read k) ≡ k) → ((k : ℕ) → k < n → test k ≡ true → In (read k)) →
+    ((x : A) → In x → (number x < n) × (test (number x) ≡ true) × (read (number x) ≡ x)) → IsNumberOf In (count_below test n)
+IsNumberOf-numbered In n test read number numbered passing member = record {
+  listed = listed test read n;
+  once = listed-once test read n (λ j k l m same.
+      (let e : j ≡ k = sym (numbered j (omega arith)) ∙ ap number same ∙ numbered k m in omega arith));
+  exact = λ x. (
+    (λ h. let (k, l, set, is) = listed-from test read n x h in subst In is (passing k l set)),
+    (λ h. let (l, set, is) = member x h in subst (Contains (listed test read n)) is (listed-has test read n (number x) l set)),
+  );
+  count = listed-length test read n;
 }
 
-pub IsNumberOfMarks-iff : (Marked Marked' : ℕ → Mark → Type 0) (n : ℕ) → ((key : ℕ) (mark : Mark) → Marked key mark ↔ Marked' key mark) →
-    IsNumberOfMarks Marked n → IsNumberOfMarks Marked' n
-IsNumberOfMarks-iff Marked Marked' n same number = record {
-  listed = number.listed;
-  once = number.once;
-  exact = λ key mark. ((λ h. (same key mark).0 ((number.exact key mark).0 h)), (λ h. (number.exact key mark).1 ((same key mark).1 h)));
-  count = number.count;
-}
+-- ---- dependencies and marks
+abbrev arrow_in : Fact → Arrow
+arrow_in (Dependency from to kind) = arrow from to kind
+arrow_in (Marked key mark) = arrow key key Er
+
+abbrev mark_in : Fact → ℕ × Mark
+mark_in (Dependency from to kind) = (from, Used)
+mark_in (Marked key mark) = (key, mark)
+
+module _ (facts : FactWords) where
+  abbrev arrow_of : ℕ → Arrow
+  arrow_of n = record { start = n / 4 / facts.keys; end = n / 4 % facts.keys; kind = kind_of (n % 4) }
+
+  abbrev arrow_number : Arrow → ℕ
+  arrow_number d = fact_number facts.keys (Dependency d.start d.end d.kind)
+
+  pub IsNumberOf-dependencies : IsNumberOf (DependenciesOf (HasFact facts)) (dependency_count facts)
+  IsNumberOf-dependencies = IsNumberOf-numbered (DependenciesOf (HasFact facts)) (dependency_total facts.keys) (has_bit facts.words) arrow_of arrow_number
+      (λ k l. (dependency_of-is facts.keys k l).1)
+      (λ k l set. let (below, is) = dependency_of-is facts.keys k l in (below, ap (has_bit facts.words) is ∙ set))
+      (λ d h. let l = dependency-lt facts.keys d.start d.end d.kind h.0.0 h.0.1 in
+      let (below, is) = dependency_of-is facts.keys (arrow_number d) l in
+      (l, h.1, ap arrow_in (fact_number-same facts.keys (dependency_of facts.keys (arrow_number d)) (Dependency d.start d.end d.kind) below h.0 is)))
+
+  abbrev mark_at : ℕ → ℕ × Mark
+  mark_at n = (n / 9, mark_of (n % 9))
+
+  abbrev place_of : ℕ × Mark → ℕ
+  place_of m = m.0 * 9 + mark_index m.1
+
+  pub IsNumberOf-marks : IsNumberOf (MarksOf (HasFact facts)) (mark_count facts)
+  IsNumberOf-marks = IsNumberOf-numbered (MarksOf (HasFact facts)) (mark_total facts.keys) (λ n. has_bit facts.words (dependency_total facts.keys + n)) mark_at place_of
+      (λ k l. let (below, is) = marked_of-is facts.keys k l in omega arith)
+      (λ k l set. let (below, is) = marked_of-is facts.keys k l in (below, ap (has_bit facts.words) is ∙ set))
+      (λ m h. let l = mark-lt facts.keys m.0 m.1 h.0 in
+      let (below, is) = marked_of-is facts.keys (place_of m) l in
+      (l, h.1, ap mark_in (fact_number-same facts.keys (marked_of (place_of m)) (Marked m.0 m.1) below h.0 is)))
 
 -- ---- one number
 -- what stands at another place is there after a removal
@@ -218,14 +158,8 @@ no_longer (x ∷ xs) ys once within =
     (λ z h. elsewhere x xs ys p once lp is z h (within z (suc h.0, omega (arith, h.1), h.2))) in
     omega (arith, length-remove ys p lp)
 
-pub IsNumberOf-unique : (In : Arrow → Type 0) (m n : ℕ) → IsNumberOf In m → IsNumberOf In n → m ≡ n
+pub IsNumberOf-unique : {A : Type 0} (In : A → Type 0) (m n : ℕ) → IsNumberOf In m → IsNumberOf In n → m ≡ n
 IsNumberOf-unique In m n a b =
     let up : length a.listed ≤ length b.listed = no_longer a.listed b.listed a.once (λ d h. (b.exact d).1 ((a.exact d).0 h)) in
     let down : length b.listed ≤ length a.listed = no_longer b.listed a.listed b.once (λ d h. (a.exact d).1 ((b.exact d).0 h)) in
-    omega (arith, a.count, b.count)
-
-pub IsNumberOfMarks-unique : (Marked : ℕ → Mark → Type 0) (m n : ℕ) → IsNumberOfMarks Marked m → IsNumberOfMarks Marked n → m ≡ n
-IsNumberOfMarks-unique Marked m n a b =
-    let up : length a.listed ≤ length b.listed = no_longer a.listed b.listed a.once (λ p h. (b.exact p.0 p.1).1 ((a.exact p.0 p.1).0 h)) in
-    let down : length b.listed ≤ length a.listed = no_longer b.listed a.listed b.once (λ p h. (a.exact p.0 p.1).1 ((b.exact p.0 p.1).0 h)) in
     omega (arith, a.count, b.count)

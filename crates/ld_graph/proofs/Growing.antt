@@ -3,16 +3,13 @@ use Rattle.std.proofs.Common.{◌≡◌, ℕ, ◌+◌, ◌⊎◌, ◌↔◌, ref
 use Rattle.std.proofs.lemmas.Bool.{cases_eq, cases_Bool}
 use Rattle.std.proofs.lemmas.Option.{same_Some, none-some}
 use Rattle.ld_task.specs.Chains.{ChainParts}
-use Rattle.ld_graph.specs.Facts.{FactWords, HasDep, HasMark, AddsChain, HoldsChain}
-use Rattle.ld_graph.specs.Graphs.{AreClean}
-use Rattle.ld_graph.specs.ChainFacts.{HasFact, ChainHas, AddsFact, chain_fact, fact_places}
+use Rattle.ld_graph.specs.Facts.{ChainHas, Holds, Adds}
+use Rattle.ld_graph.specs.FactBits.{FactWords, HasFact}
+use Rattle.ld_graph.specs.ChainFacts.{chain_fact, fact_slots}
 use Rattle.ld_graph.specs.declared.fact.Fact.{Fact}
-use Rattle.ld_graph.specs.declared.fact.Fact.TheVariants.{Dependency, Marked}
-use Rattle.ld_graph.proofs.Clean.{IsClean-fewer}
-use Rattle.ld_graph.proofs.SingleFacts.{arrow-kind_of, kind_of}
 use Rattle.ld_graph.proofs.ChainFacts.{StandsIn, chain_fact-sound, chain_fact-complete}
 
--- the facts at the chain's first n places have been added, and `fresh` says whether one was new
+-- the facts at the chain's first n slots have been added, and `fresh` says whether one was new
 pub record Grown (first now : FactWords) (c : ChainParts) (n : ℕ) (fresh : Bool) : Type 0 where
   pub keys : now.keys ≡ first.keys
   pub facts : (x : Fact) → HasFact now x ↔ (HasFact first x ⊎ StandsIn c x n)
@@ -27,7 +24,7 @@ Grown-start first c = record {
   news = λ h. absurd (let e : false ≡ true = h in cc);
 }
 
--- one place more
+-- one slot more
 StandsIn-later : (c : ChainParts) (x : Fact) (n : ℕ) → StandsIn c x n → StandsIn c x (n + 1)
 StandsIn-later c x n (k, l, e) = (k, omega arith, e)
 
@@ -42,98 +39,56 @@ module _ (first now : FactWords) (c : ChainParts) (n : ℕ) (fresh : Bool) (was 
   later : fresh ≡ true → (x : Fact) × StandsIn c x (n + 1) × ¬ HasFact first x
   later h = let (x, s, ne) = was.news h in (x, StandsIn-later c x n s, ne)
 
-  pub Grown-none : chain_fact c n ≡ None → Grown first now c (n + 1) fresh
-  Grown-none empty = record {
+  -- the facts with that of one slot more
+  step : (new : FactWords) → ((x : Fact) → HasFact new x ↔ (HasFact now x ⊎ (chain_fact c n ≡ Some x))) →
+      (x : Fact) → HasFact new x ↔ (HasFact first x ⊎ StandsIn c x (n + 1))
+  step new one x = (
+    (λ h. elim ((one x).0 h) [
+      | inl m ↦ elim ((was.facts x).0 m) [ inl o ↦ inl o | inr s ↦ inr (StandsIn-later c x n s) ]
+      | inr e ↦ inr (n, omega arith, e)
+    ]),
+    (λ h. (one x).1 (elim h [
+      | inl o ↦ inl ((was.facts x).1 (inl o))
+      | inr s ↦ elim (StandsIn-cases c x n s) [ inl t ↦ inl ((was.facts x).1 (inr t)) | inr e ↦ inr e ]
+    ])),
+  )
+
+  pub Grown-same : ((x : Fact) → chain_fact c n ≡ Some x → HasFact now x) → Grown first now c (n + 1) fresh
+  Grown-same known = record {
     keys = was.keys;
-    facts = λ x. (
-      (λ h. elim ((was.facts x).0 h) [ inl o ↦ inl o | inr s ↦ inr (StandsIn-later c x n s) ]),
-      (λ h. elim h [
-        | inl o ↦ (was.facts x).1 (inl o)
-        | inr s ↦ elim (StandsIn-cases c x n s) [
-          | inl t ↦ (was.facts x).1 (inr t)
-          | inr e ↦ absurd (none-some x (sym empty ∙ e))
-        ]
-      ]),
-    );
+    facts = step now (λ x. ((λ h. inl h), (λ h. elim h [ inl m ↦ m | inr e ↦ known x e ])));
     known = was.known;
     news = later;
   }
 
-  pub Grown-known : (x : Fact) → chain_fact c n ≡ Some x → HasFact now x → Grown first now c (n + 1) fresh
-  Grown-known x at has = record {
-    keys = was.keys;
-    facts = λ y. (
-      (λ h. elim ((was.facts y).0 h) [ inl o ↦ inl o | inr s ↦ inr (StandsIn-later c y n s) ]),
-      (λ h. elim h [
-        | inl o ↦ (was.facts y).1 (inl o)
-        | inr s ↦ elim (StandsIn-cases c y n s) [
-          | inl t ↦ (was.facts y).1 (inr t)
-          | inr e ↦ subst (HasFact now) (same_Some x y (sym at ∙ e)) has
-        ]
-      ]),
-    );
-    known = was.known;
-    news = later;
-  }
-
-  pub Grown-fresh : (new : FactWords) (x : Fact) → chain_fact c n ≡ Some x → ¬ HasFact now x → AddsFact now new x → Grown first new c (n + 1) true
-  Grown-fresh new x at fresh_fact adds = record {
-    keys = adds.keys ∙ was.keys;
-    facts = λ y. (
-      (λ h. elim ((adds.facts y).0 h) [
-        | inl m ↦ elim ((was.facts y).0 m) [ inl o ↦ inl o | inr s ↦ inr (StandsIn-later c y n s) ]
-        | inr e ↦ inr (n, omega arith, at ∙ ap Some (sym e))
-      ]),
-      (λ h. elim h [
-        | inl o ↦ (adds.facts y).1 (inl ((was.facts y).1 (inl o)))
-        | inr s ↦ elim (StandsIn-cases c y n s) [
-          | inl t ↦ (adds.facts y).1 (inl ((was.facts y).1 (inr t)))
-          | inr e ↦ (adds.facts y).1 (inr (sym (same_Some x y (sym at ∙ e))))
-        ]
-      ]),
-    );
+  pub Grown-fresh : (new : FactWords) (x : Fact) → chain_fact c n ≡ Some x → ¬ HasFact now x → new.keys ≡ now.keys →
+      Adds (HasFact now) (HasFact new) (λ y. y ≡ x) → Grown first new c (n + 1) true
+  Grown-fresh new x at fresh_fact keys adds = record {
+    keys = keys ∙ was.keys;
+    facts = step new (λ y. (
+      (λ h. elim ((adds y).0 h) [ inl m ↦ inl m | inr e ↦ inr (at ∙ ap Some (sym e)) ]),
+      (λ h. (adds y).1 (elim h [ inl m ↦ inl m | inr e ↦ inr (sym (same_Some x y (sym at ∙ e))) ])),
+    ));
     known = λ h. absurd (let e : true ≡ false = h in cc);
     news = λ h. (x, (n, omega arith, at), λ o. fresh_fact ((was.facts x).1 (inl o)));
   }
 
--- ---- more facts, and clean ones only if the first were
-pub AreClean-grown : (first now : FactWords) (c : ChainParts) (n : ℕ) (fresh : Bool) → Grown first now c n fresh → AreClean now → AreClean first
-AreClean-grown first now c n fresh was clean =
-    IsClean-fewer (HasDep first) (HasDep now) (HasMark first) (HasMark now)
-    (λ d h. subst (HasDep now) (arrow-kind_of d)
-    ((was.facts (Dependency d.start d.end (kind_of d.first_is_s d.second_is_r))).1 (inl (subst (HasDep first) (sym (arrow-kind_of d)) h))))
-    (λ key mark h. (was.facts (Marked key mark)).1 (inl h)) clean
-
--- ---- all places
-module _ (first now : FactWords) (c : ChainParts) (n : ℕ) (fresh : Bool) (n_is : n ≡ fact_places c) (was : Grown first now c n fresh) where
-  all : Grown first now c (fact_places c) fresh
+-- ---- all slots
+module _ (first now : FactWords) (c : ChainParts) (n : ℕ) (fresh : Bool) (n_is : n ≡ fact_slots c) (was : Grown first now c n fresh) where
+  all : Grown first now c (fact_slots c) fresh
   all = subst (λ m. Grown first now c m fresh) n_is was
 
-  has : (x : Fact) → HasFact now x ↔ (HasFact first x ⊎ ChainHas c x)
-  has x = (
+  pub Adds-grown : Adds (HasFact first) (HasFact now) (ChainHas c)
+  Adds-grown x = (
     (λ h. elim ((all.facts x).0 h) [ inl o ↦ inl o | inr s ↦ inr (chain_fact-sound c s.0 x s.2) ]),
     (λ h. elim h [ inl o ↦ (all.facts x).1 (inl o) | inr s ↦ (all.facts x).1 (inr (chain_fact-complete c x s)) ]),
   )
 
-  pub AddsChain-grown : AddsChain first now c
-  AddsChain-grown = record {
-    keys = was.keys;
-    dependencies = λ from to kind. has (Dependency from to kind);
-    marks = λ key mark. has (Marked key mark);
-  }
-
-  pub HoldsChain-grown : (fresh ≡ false) ↔ HoldsChain first c
-  HoldsChain-grown = (
-    (λ h. record {
-      dependencies = λ from to kind d. subst (λ f. HasFact f (Dependency from to kind)) (was.known h) ((has (Dependency from to kind)).1 (inr d));
-      marks = λ key mark m. subst (λ f. HasFact f (Marked key mark)) (was.known h) ((has (Marked key mark)).1 (inr m));
-    }),
+  pub Holds-grown : (fresh ≡ false) ↔ Holds (HasFact first) (ChainHas c)
+  Holds-grown = (
+    (λ h x has. subst (λ f. HasFact f x) (was.known h) ((Adds-grown x).1 (inr has))),
     (λ holds. elim (cases_Bool fresh) [
       | inr off ↦ off
-      | inl on ↦ absurd (let (x, s, ne) = all.news on in ne (held holds x (chain_fact-sound c s.0 x s.2)))
+      | inl on ↦ absurd (let (x, s, ne) = all.news on in ne (holds x (chain_fact-sound c s.0 x s.2)))
     ]),
   )
-    where
-      held : HoldsChain first c → (x : Fact) → ChainHas c x → HasFact first x
-      held holds (Dependency from to kind) d = holds.dependencies from to kind d
-      held holds (Marked key mark) m = holds.marks key mark m

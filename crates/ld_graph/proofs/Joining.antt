@@ -1,16 +1,18 @@
 -- One row more of those that are chosen.
-use Rattle.std.proofs.Common.{◌≡◌, ◌≢◌, ℕ, ◌+◌, ◌-◌, ◌*◌, ◌/◌, ◌<◌, ◌≤◌, ◌⊎◌, ◌↔◌, ◌||◌, ◌&&◌, List, [], ◌∷◌, length, get_or, set, refl, ap, sym, ◌∙◌, subst, inl, inr, arith, Bool, true, false, get_or-set_same, get_or-set_other}
+use Rattle.std.proofs.Common.{◌≡◌, ◌≢◌, ℕ, ◌+◌, ◌-◌, ◌*◌, ◌/◌, ◌<◌, ◌≤◌, ◌⊎◌, ◌↔◌, ◌||◌, ◌&&◌, List, [], ◌∷◌, length, get_or, replicate, set, refl, ap, sym, ◌∙◌, subst, inl, inr, arith, Bool, true, false, get_or-set_same, get_or-set_other}
+use Rattle.std.specs.Cmp.{both_ways}
 use Rattle.std.proofs.lemmas.Bool.{cases_eq}
+use Rattle.ld_graph.specs.declared.places.TheConstants.{ROW_WORDS}
 use Rattle.ld_graph.specs.Bits.{has_bit}
 use Rattle.ld_graph.specs.Tables.{reaches}
 use Rattle.ld_graph.proofs.BitLemmas.{has_bit-zeros, zeros_at}
 
-abbrev pub eight_zeros : List ℕ
-eight_zeros = 0 ∷ 0 ∷ 0 ∷ 0 ∷ 0 ∷ 0 ∷ 0 ∷ 0 ∷ []
+abbrev pub zero_row : List ℕ
+zero_row = replicate ROW_WORDS 0
 
 -- the row has been added to the rows that are taken, and only chosen ones are
 pub record Joins (first now : List (List ℕ)) (chosen taken row : List ℕ) : Type 0 where
-  pub words : length taken ≡ 8
+  pub words : length taken ≡ ROW_WORDS
   pub rows : length now ≡ length first
   pub only : (p : ℕ) → has_bit taken p ≡ true → has_bit chosen p ≡ true
   pub joined : (p q : ℕ) → reaches now p q ≡ (reaches first p q || (has_bit taken p && has_bit row q))
@@ -19,7 +21,7 @@ or_false : (a : Bool) → a ≡ (a || false)
 or_false true = refl
 or_false false = refl
 
-pub Joins-start : (first : List (List ℕ)) (chosen row : List ℕ) → Joins first first chosen eight_zeros row
+pub Joins-start : (first : List (List ℕ)) (chosen row : List ℕ) → Joins first first chosen zero_row row
 Joins-start first chosen row = record {
   words = refl;
   rows = refl;
@@ -27,8 +29,8 @@ Joins-start first chosen row = record {
   joined = λ p q. or_false (reaches first p q) ∙ ap (λ b. reaches first p q || (b && has_bit row q)) (sym (off p));
 }
   where
-    off : (p : ℕ) → has_bit eight_zeros p ≡ false
-    off p = has_bit-zeros eight_zeros p (zeros_at 8)
+    off : (p : ℕ) → has_bit zero_row p ≡ false
+    off p = has_bit-zeros zero_row p (zeros_at ROW_WORDS)
 
 pub Joins-more : (first now : List (List ℕ)) (chosen taken taken' row next : List ℕ) (p : ℕ) → p < length now →
     Joins first now chosen taken row → has_bit chosen p ≡ true → length taken' ≡ length taken → has_bit taken' p ≡ true → has_bit taken p ≡ false →
@@ -64,9 +66,4 @@ pub joined_all : (first now : List (List ℕ)) (chosen taken row : List ℕ) →
     ((k : ℕ) → has_bit chosen k ≡ true → has_bit taken k ≡ true) →
     (p q : ℕ) → reaches now p q ≡ (reaches first p q || (has_bit chosen p && has_bit row q))
 joined_all first now chosen taken row was all p q =
-    was.joined p q ∙ ap (λ b. reaches first p q || (b && has_bit row q)) (same (has_bit taken p) (has_bit chosen p) (was.only p) (all p))
-  where
-    same : (a b : Bool) → (a ≡ true → b ≡ true) → (b ≡ true → a ≡ true) → a ≡ b
-    same true b f g = sym (f refl)
-    same false true f g = absurd (let e : false ≡ true = g refl in cc)
-    same false false f g = refl
+    was.joined p q ∙ ap (λ b. reaches first p q || (b && has_bit row q)) (both_ways (has_bit taken p) (has_bit chosen p) (was.only p) (all p))

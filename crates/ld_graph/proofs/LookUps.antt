@@ -1,98 +1,109 @@
 -- Doubles and inversions, looked up.
-use Rattle.std.proofs.Common.{◌≡◌, ℕ, ◌<◌, ◌≤◌, ◌⊎◌, ◌↔◌, List, refl, sym, ◌∙◌, subst, inl, inr, arith, Bool, true, false, ◌||◌, ◌&&◌}
+use Rattle.std.proofs.Common.{◌≡◌, ℕ, ◌<◌, ◌⊎◌, ◌↔◌, List, refl, sym, ◌∙◌, subst, inl, inr, Bool, true, false, ◌||◌, ◌&&◌}
 use Rattle.std.proofs.lemmas.Bool.{or_cases, or_left, or_right, and_parts, and_from}
 use Rattle.ld_trace.specs.declared.event.Irq.{Irq}
-use Rattle.ld_task.specs.declared.mark.Mark.{Mark}
+use Rattle.ld_task.specs.declared.kind.Kind.{Kind}
+use Rattle.ld_task.specs.declared.kind.Kind.TheVariants.{Er, En, Sr, Sn}
 use Rattle.ld_task.specs.declared.mark.Mark.TheVariants.{UsedIn, Enabled}
+use Rattle.ld_task.specs.Kinds.{is_s, is_r}
+use Rattle.ld_trace.specs.declared.key_id.TheConstants.{MAX_KEYS}
+use Rattle.ld_graph.specs.Arrows.{arrow}
 use Rattle.ld_graph.specs.Bits.{has_bit}
-use Rattle.ld_graph.specs.Links.{IsDouble}
+use Rattle.ld_graph.specs.Facts.{Holds, DependenciesOf}
+use Rattle.ld_graph.specs.FactBits.{FactBelow}
+use Rattle.ld_graph.specs.Links.{IsLink, IsDouble}
 use Rattle.ld_graph.specs.Places.{place, Leads, Way}
-use Rattle.ld_graph.specs.Facts.{FactWords, HasDep, HasMark}
-use Rattle.ld_graph.specs.Kept.{LinksBackBy}
-use Rattle.ld_graph.proofs.Links.{ClosesWith, ClosesWith-iff, link, IsDouble-iff}
-use Rattle.ld_graph.proofs.GraphSteps.{HasDep-within}
+use Rattle.ld_graph.specs.Kept.{ClosesWith, IsInversionBy}
+use Rattle.ld_graph.specs.declared.fact.Fact.{Fact}
+use Rattle.ld_graph.specs.declared.fact.Fact.TheVariants.{Marked}
+use Rattle.ld_graph.proofs.Links.{ClosesWith-iff, arrow-is}
+use Rattle.ld_graph.proofs.CleanPlaces.{arrows_within}
 
--- ---- the test of the four: a writer meets either, a reader only what doesn't end in R
-abbrev pub Meets : Bool → Bool → Bool → Bool → Type 0
-Meets w r o t = ((w ≡ true) × (o ≡ true)) ⊎ ((w ≡ true) × (t ≡ true)) ⊎ ((r ≡ true) × (o ≡ true))
+-- ---- the test of the four: an arrow by E follows either, one by S only what arrives by N
+abbrev Meets : Bool → Bool → Bool → Bool → Type 0
+Meets n r e s = ((e ≡ true) × (n ≡ true)) ⊎ ((e ≡ true) × (r ≡ true)) ⊎ ((s ≡ true) × (n ≡ true))
 
-meets_parts : (w r o t : Bool) → (w && (o || t) || r && o) ≡ true → Meets w r o t
-meets_parts w r o t h =
-    elim (or_cases (w && (o || t)) (r && o) h) [
+meets_parts : (n r e s : Bool) → (e && (n || r) || s && n) ≡ true → Meets n r e s
+meets_parts n r e s h =
+    elim (or_cases (e && (n || r)) (s && n) h) [
       | inl a ↦
-          let p = and_parts w (o || t) a in
-          elim (or_cases o t p.1) [ inl x ↦ inl (p.0, x) | inr x ↦ inr (inl (p.0, x)) ]
-      | inr b ↦ inr (inr (and_parts r o b))
+          let p = and_parts e (n || r) a in
+          elim (or_cases n r p.1) [ inl x ↦ inl (p.0, x) | inr x ↦ inr (inl (p.0, x)) ]
+      | inr b ↦ inr (inr (and_parts s n b))
     ]
 
-meets_from : (w r o t : Bool) → Meets w r o t → (w && (o || t) || r && o) ≡ true
-meets_from w r o t (inl p) = or_left (w && (o || t)) (r && o) (and_from w (o || t) p.0 (or_left o t p.1))
-meets_from w r o t (inr (inl p)) = or_left (w && (o || t)) (r && o) (and_from w (o || t) p.0 (or_right o t p.1))
-meets_from w r o t (inr (inr p)) = or_right (w && (o || t)) (r && o) (and_from r o p.0 p.1)
+meets_from : (n r e s : Bool) → Meets n r e s → (e && (n || r) || s && n) ≡ true
+meets_from n r e s (inl p) = or_left (e && (n || r)) (s && n) (and_from e (n || r) p.0 (or_left n r p.1))
+meets_from n r e s (inr (inl p)) = or_left (e && (n || r)) (s && n) (and_from e (n || r) p.0 (or_right n r p.1))
+meets_from n r e s (inr (inr p)) = or_right (e && (n || r)) (s && n) (and_from s n p.0 p.1)
 
-pub IsDouble-by_marks : (Marked : ℕ → Mark → Type 0) (irq : Irq) (a : ℕ) (w r o t : Bool) →
-    ((w ≡ true) ↔ Marked a (Enabled irq false)) → ((r ≡ true) ↔ Marked a (Enabled irq true)) →
-    ((o ≡ true) ↔ Marked a (UsedIn irq false)) → ((t ≡ true) ↔ Marked a (UsedIn irq true)) →
-    ((w && (o || t) || r && o) ≡ true) ↔ IsDouble Marked irq a
-IsDouble-by_marks Marked irq a w r o t hw hr ho ht = (
-  (λ h. (IsDouble-iff Marked irq a).1 (elim (meets_parts w r o t h) [
-    | inl p ↦ (false, false, hw.0 p.0, ho.0 p.1, (λ both. let x = both.0 in cc))
-    | inr (inl p) ↦ (false, true, hw.0 p.0, ht.0 p.1, (λ both. let x = both.1 in cc))
-    | inr (inr p) ↦ (true, false, hr.0 p.0, ho.0 p.1, (λ both. let x = both.0 in cc))
-  ])),
-  (λ d. let (s, u, enabled, used, n) = (IsDouble-iff Marked irq a).0 d in meets_from w r o t (pick s u enabled used n)),
+pub IsDouble-by_marks : (Has : Fact → Type 0) (irq : Irq) (a : ℕ) (n r e s : Bool) →
+    ((n ≡ true) ↔ Has (Marked a (UsedIn irq false))) → ((r ≡ true) ↔ Has (Marked a (UsedIn irq true))) →
+    ((e ≡ true) ↔ Has (Marked a (Enabled irq false))) → ((s ≡ true) ↔ Has (Marked a (Enabled irq true))) →
+    ((e && (n || r) || s && n) ≡ true) ↔ IsDouble Has irq a
+IsDouble-by_marks Has irq a n r e s hn hr he hs = (
+  (λ h. elim (meets_parts n r e s h) [
+    | inl p ↦ (arrow a a En, ((he.0 p.0, hn.0 p.1), refl, refl, (refl, (λ both. let x = both.0 in cc))))
+    | inr (inl p) ↦ (arrow a a Er, ((he.0 p.0, hr.0 p.1), refl, refl, (refl, (λ both. let x = both.1 in cc))))
+    | inr (inr p) ↦ (arrow a a Sn, ((hs.0 p.0, hn.0 p.1), refl, refl, (refl, (λ both. let x = both.0 in cc))))
+  ]),
+  (λ (l, (marks, at, to, follows)). meets_from n r e s (pick l.kind (subst (IsLink Has irq) (arrow-is l a a at to) marks) follows.1)),
 )
   where
-    pick : (s u : Bool) → Marked a (Enabled irq s) → Marked a (UsedIn irq u) → ¬ ((u ≡ true) × (s ≡ true)) → Meets w r o t
-    pick false false e u n = inl (hw.1 e, ho.1 u)
-    pick false true e u n = inr (inl (hw.1 e, ht.1 u))
-    pick true false e u n = inr (inr (hr.1 e, ho.1 u))
-    pick true true e u n = absurd (n (refl, refl))
+    pick : (kind : Kind) → IsLink Has irq (arrow a a kind) → ¬ ((is_r kind ≡ true) × (is_s kind ≡ true)) → Meets n r e s
+    pick En marks differ = inl (he.1 marks.0, hn.1 marks.1)
+    pick Er marks differ = inr (inl (he.1 marks.0, hr.1 marks.1))
+    pick Sn marks differ = inr (inr (hs.1 marks.0, hn.1 marks.1))
+    pick Sr marks differ = absurd (differ (refl, refl))
 
 -- an arrow that starts at the key leaves a place of the row
-abbrev pub LeavesRow : List ℕ → ℕ → Bool → Type 0
+abbrev LeavesRow : List ℕ → ℕ → Bool → Type 0
 LeavesRow row b s = (has_bit row (place b false) ≡ true) ⊎ ((has_bit row (place b true) ≡ true) × (s ≡ false))
 
-pub ClosesWith-by_row : (facts : FactWords) → facts.keys ≤ 256 → (row : List ℕ) (a b : ℕ) (s r : Bool) → a < 256 → b < 256 →
-    ((q : ℕ) → (has_bit row q ≡ true) ↔ Way (Leads (HasDep facts)) (place a r) q) →
-    ClosesWith (HasDep facts) (link b a s r) ↔ LeavesRow row b s
-ClosesWith-by_row facts few row a b s r la lb exact =
-    let iff = ClosesWith-iff (HasDep facts) (HasDep-within facts few) (link b a s r) lb la in (
-      (λ closing.
-          let (q, way, leaves) = iff.0 closing in
-          let set : has_bit row q ≡ true = (exact q).1 way in
-          elim leaves [
-            | inl e ↦ inl (subst (λ x. has_bit row x ≡ true) e set)
-            | inr (e, f) ↦ inr (subst (λ x. has_bit row x ≡ true) e set, f)
-          ]),
-      (λ at. elim at [
-        | inl h ↦ iff.1 (place b false, (exact (place b false)).0 h, inl refl)
-        | inr (h, f) ↦ iff.1 (place b true, (exact (place b true)).0 h, inr (refl, f))
-      ]),
-    )
+module _ (Has : Fact → Type 0) (within : Holds (FactBelow MAX_KEYS) Has) (irq : Irq) (row : List ℕ) (a b : ℕ) (read : Bool)
+    (lb : b < MAX_KEYS) (used : Has (Marked a (UsedIn irq read)))
+    (exact : (q : ℕ) → (has_bit row q ≡ true) ↔ Way (Leads (DependenciesOf Has)) (place a read) q) where
+  closes : (kind : Kind) → is_r kind ≡ read → ClosesWith (DependenciesOf Has) (arrow b a kind) ↔ LeavesRow row b (is_s kind)
+  closes kind same =
+      let iff = ClosesWith-iff (DependenciesOf Has) (arrows_within Has within) (arrow b a kind) lb (within (Marked a (UsedIn irq read)) used) in
+      let way : (q : ℕ) → (has_bit row q ≡ true) ↔ Way (Leads (DependenciesOf Has)) (place a (is_r kind)) q =
+      subst (λ x. (q : ℕ) → (has_bit row q ≡ true) ↔ Way (Leads (DependenciesOf Has)) (place a x) q) (sym same) exact in (
+        (λ closing. let (q, reached, leaves) = iff.0 closing in
+            elim leaves [
+              | inl e ↦ inl (subst (λ x. has_bit row x ≡ true) e ((way q).1 reached))
+              | inr (e, f) ↦ inr (subst (λ x. has_bit row x ≡ true) e ((way q).1 reached), f)
+            ]),
+        (λ at. elim at [
+          | inl h ↦ iff.1 (place b false, (way (place b false)).0 h, inl refl)
+          | inr (h, f) ↦ iff.1 (place b true, (way (place b true)).0 h, inr (refl, f))
+        ]),
+      )
 
-pub LinksBackBy-row : (facts : FactWords) → facts.keys ≤ 256 → (irq : Irq) (row : List ℕ) (a b : ℕ) (read : Bool) → b < 256 → HasMark facts a (UsedIn irq read) →
-    ((q : ℕ) → (has_bit row q ≡ true) ↔ Way (Leads (HasDep facts)) (place a read) q) →
-    (w r o t : Bool) → ((w ≡ true) ↔ HasMark facts b (Enabled irq false)) → ((r ≡ true) ↔ HasMark facts b (Enabled irq true)) →
-    o ≡ has_bit row (place b false) → t ≡ has_bit row (place b true) →
-    ((w && (o || t) || r && o) ≡ true) ↔ LinksBackBy facts irq a b read
-LinksBackBy-row facts few irq row a b read lb used exact w r o t hw hr eo et = (
-  (λ h. elim (meets_parts w r o t h) [
-    | inl p ↦ (false, hw.0 p.0, used, (closes false).1 (inl (sym eo ∙ p.1)))
-    | inr (inl p) ↦ (false, hw.0 p.0, used, (closes false).1 (inr (sym et ∙ p.1, refl)))
-    | inr (inr p) ↦ (true, hr.0 p.0, used, (closes true).1 (inl (sym eo ∙ p.1)))
-  ]),
-  (λ (s, enabled, used', closing). meets_from w r o t (pick s enabled ((closes s).0 closing))),
-)
-  where
-    la : a < 256
-    la = let l = used.0 in omega arith
+  -- the kind of a link with this form of the used-in mark, by its first letter
+  by_letter : (s : Bool) → Has (Marked b (Enabled irq s)) → LeavesRow row b s → IsInversionBy Has irq a b read
+  by_letter s enabled leaves = go s read refl enabled leaves
+    where
+      go : (s r : Bool) → r ≡ read → Has (Marked b (Enabled irq s)) → LeavesRow row b s → IsInversionBy Has irq a b read
+      go false false e enabled leaves = (En, e, (enabled, subst (λ x. Has (Marked a (UsedIn irq x))) (sym e) used), (closes En e).1 leaves)
+      go false true e enabled leaves = (Er, e, (enabled, subst (λ x. Has (Marked a (UsedIn irq x))) (sym e) used), (closes Er e).1 leaves)
+      go true false e enabled leaves = (Sn, e, (enabled, subst (λ x. Has (Marked a (UsedIn irq x))) (sym e) used), (closes Sn e).1 leaves)
+      go true true e enabled leaves = (Sr, e, (enabled, subst (λ x. Has (Marked a (UsedIn irq x))) (sym e) used), (closes Sr e).1 leaves)
 
-    closes : (s : Bool) → ClosesWith (HasDep facts) (link b a s read) ↔ LeavesRow row b s
-    closes s = ClosesWith-by_row facts few row a b s read la lb exact
-
-    pick : (s : Bool) → HasMark facts b (Enabled irq s) → LeavesRow row b s → Meets w r o t
-    pick false e (inl x) = inl (hw.1 e, eo ∙ x)
-    pick false e (inr x) = inr (inl (hw.1 e, et ∙ x.0))
-    pick true e (inl x) = inr (inr (hr.1 e, eo ∙ x))
-    pick true e (inr x) = absurd (let f = x.1 in cc)
+  pub IsInversionBy-row : (n r e s : Bool) →
+      n ≡ has_bit row (place b false) → r ≡ has_bit row (place b true) →
+      ((e ≡ true) ↔ Has (Marked b (Enabled irq false))) → ((s ≡ true) ↔ Has (Marked b (Enabled irq true))) →
+      ((e && (n || r) || s && n) ≡ true) ↔ IsInversionBy Has irq a b read
+  IsInversionBy-row n r e s en er he hs = (
+    (λ h. elim (meets_parts n r e s h) [
+      | inl p ↦ by_letter false (he.0 p.0) (inl (sym en ∙ p.1))
+      | inr (inl p) ↦ by_letter false (he.0 p.0) (inr (sym er ∙ p.1, refl))
+      | inr (inr p) ↦ by_letter true (hs.0 p.0) (inl (sym en ∙ p.1))
+    ]),
+    (λ (kind, same, marks, closing). meets_from n r e s (pick (is_s kind) marks.0 ((closes kind same).0 closing))),
+  )
+    where
+      pick : (by_s : Bool) → Has (Marked b (Enabled irq by_s)) → LeavesRow row b by_s → Meets n r e s
+      pick false m (inl x) = inl (he.1 m, en ∙ x)
+      pick false m (inr x) = inr (inl (he.1 m, er ∙ x.0))
+      pick true m (inl x) = inr (inr (hs.1 m, en ∙ x))
+      pick true m (inr x) = absurd (let f = x.1 in cc)

@@ -1,28 +1,31 @@
 -- What a dependency does to the tables.
-use Rattle.std.proofs.Common.{◌≡◌, ◌≢◌, ℕ, ◌⊎◌, ◌↔◌, ◌||◌, ◌&&◌, List, [], length, replicate, refl, ap, sym, ◌∙◌, subst, inl, inr, arith, Bool, true, false, not}
-use Rattle.std.proofs.lemmas.Bool.{cases_eq, cases_lt, cases_Bool, or_cases, or_left, or_right, and_parts, and_from, not-true, not_from_false}
+use Rattle.std.proofs.Common.{◌≡◌, ◌≢◌, ℕ, ◌⊎◌, ◌↔◌, ◌||◌, ◌&&◌, List, [], length, replicate, refl, ap, sym, ◌∙◌, subst, inl, inr, arith, true, false, not}
+use Rattle.std.specs.Cmp.{both_ways}
+use Rattle.std.proofs.lemmas.Bool.{cases_eq, cases_lt, cases_Bool, or_cases, or_left, or_right, and_parts, and_from, not_from_false}
 use Rattle.std.proofs.lemmas.List.{get_or_past, get_or-replicate, length-replicate}
+use Rattle.ld_task.specs.Kinds.{is_s, is_r}
+use Rattle.ld_graph.specs.declared.places.TheConstants.{PLACES, ROW_WORDS}
 use Rattle.ld_graph.specs.Arrows.{Arrow}
 use Rattle.ld_graph.specs.Bits.{has_bit}
 use Rattle.ld_graph.specs.Places.{place, arrival, Leaves}
-use Rattle.ld_graph.specs.Tables.{reaches, Comes, IsSource, IsTarget, IsFreshSource, IsFreshTarget, IsTransitive, TakesArrow, AreTables}
+use Rattle.ld_graph.specs.Tables.{reaches, Comes, IsSource, IsTarget, AreSpan, IsTransitive, TakesArrow, AreTables}
 use Rattle.ld_graph.proofs.BitLemmas.{has_bit-zeros, zeros_at}
-use Rattle.ld_graph.proofs.Joining.{eight_zeros}
+use Rattle.ld_graph.proofs.Joining.{zero_row}
 
 -- ---- a table of zeros
-pub reaches-zeros : (table : List (List ℕ)) (n : ℕ) → table ≡ replicate n eight_zeros → (p q : ℕ) → reaches table p q ≡ false
+pub reaches-zeros : (table : List (List ℕ)) (n : ℕ) → table ≡ replicate n zero_row → (p q : ℕ) → reaches table p q ≡ false
 reaches-zeros table n zeros p q =
     ap (λ t. reaches t p q) zeros ∙
     elim (cases_lt p n) [
-      | inl l ↦ ap (λ row. has_bit row q) (get_or-replicate n p eight_zeros [] l) ∙ has_bit-zeros eight_zeros q (zeros_at 8)
-      | inr l ↦ ap (λ row. has_bit row q) (get_or_past (replicate n eight_zeros) p [] (omega (arith, length-replicate n eight_zeros))) ∙ has_bit-zeros [] q (λ i. refl)
+      | inl l ↦ ap (λ row. has_bit row q) (get_or-replicate n p zero_row [] l) ∙ has_bit-zeros zero_row q (zeros_at ROW_WORDS)
+      | inr l ↦ ap (λ row. has_bit row q) (get_or_past (replicate n zero_row) p [] (omega (arith, length-replicate n zero_row))) ∙ has_bit-zeros [] q (λ i. refl)
     ]
 
-pub AreTables-zeros : (ahead behind : List (List ℕ)) → ahead ≡ replicate 512 eight_zeros → behind ≡ replicate 512 eight_zeros → AreTables ahead behind
+pub AreTables-zeros : (ahead behind : List (List ℕ)) → ahead ≡ replicate PLACES zero_row → behind ≡ replicate PLACES zero_row → AreTables ahead behind
 AreTables-zeros ahead behind a b = record {
-  ahead_rows = ap length a ∙ length-replicate 512 eight_zeros;
-  behind_rows = ap length b ∙ length-replicate 512 eight_zeros;
-  turned = λ p q. reaches-zeros behind 512 b q p ∙ sym (reaches-zeros ahead 512 a p q);
+  ahead_rows = ap length a ∙ length-replicate PLACES zero_row;
+  behind_rows = ap length b ∙ length-replicate PLACES zero_row;
+  turned = λ p q. reaches-zeros behind PLACES b q p ∙ sym (reaches-zeros ahead PLACES a p q);
 }
 
 -- ---- the sources of an arrow that begins with E, from its two places
@@ -74,99 +77,71 @@ IsSource-both table key n r row_n with_n row_r joined with_r en er of_n set_n ot
   ]),
 )
 
--- ---- the rows that change
-and_not : (a b : Bool) → ((a && not b) ≡ true) ↔ ((a ≡ true) × (b ≡ false))
-and_not a b = (
-  (λ h. let both = and_parts a (not b) h in (both.0, not-true b both.1)),
-  (λ h. and_from a (not b) h.0 (not_from_false b h.1)),
-)
-
-module _ (table : List (List ℕ)) (d : Arrow) (all other row : List ℕ) (removed : (k : ℕ) → has_bit row k ≡ (has_bit all k && not (has_bit other k))) where
-  pub IsFreshSource-by_rows : ((p : ℕ) → (has_bit all p ≡ true) ↔ IsSource table d.start d.first_is_s p) → ((p : ℕ) → has_bit other p ≡ reaches table p (arrival d)) →
-      (p : ℕ) → (has_bit row p ≡ true) ↔ IsFreshSource table d p
-  IsFreshSource-by_rows are of p =
-      let parts = and_not (has_bit all p) (has_bit other p) in (
-        (λ h. let both = parts.0 (sym (removed p) ∙ h) in ((are p).0 both.0, sym (of p) ∙ both.1)),
-        (λ (source, off). removed p ∙ parts.1 ((are p).1 source, of p ∙ off)),
-      )
-
-  pub IsFreshTarget-by_rows : ((q : ℕ) → (has_bit all q ≡ true) ↔ IsTarget table d.end d.second_is_r q) →
-      ((q : ℕ) → (has_bit other q ≡ true) ↔ ((l : ℕ) → Leaves d l → reaches table l q ≡ true)) →
-      (q : ℕ) → (has_bit row q ≡ true) ↔ IsFreshTarget table d q
-  IsFreshTarget-by_rows are each q =
-      let parts = and_not (has_bit all q) (has_bit other q) in (
-        (λ h. let both = parts.0 (sym (removed q) ∙ h) in
-            ((are q).0 both.0, λ reached. (let on = (each q).1 reached in let off = both.1 in cc))),
-        (λ (target, fresh). removed q ∙ parts.1 ((are q).1 target, not_on (has_bit other q) (λ h. fresh ((each q).0 h)))),
-      )
-    where
-      not_on : (b : Bool) → ¬ (b ≡ true) → b ≡ false
-      not_on true n = absurd (n refl)
-      not_on false n = refl
-
 -- ---- a dependency is added: only rows that change are written
-module _ (ahead behind ahead' behind' : List (List ℕ)) (d : Arrow) (sources targets fresh_sources fresh_targets : List ℕ)
-    (were : AreTables ahead behind) (transitive : IsTransitive ahead)
-    (are_sources : (p : ℕ) → (has_bit sources p ≡ true) ↔ IsSource ahead d.start d.first_is_s p)
-    (are_targets : (q : ℕ) → (has_bit targets q ≡ true) ↔ IsTarget ahead d.end d.second_is_r q)
-    (are_fresh_sources : (p : ℕ) → (has_bit fresh_sources p ≡ true) ↔ IsFreshSource ahead d p)
-    (are_fresh_targets : (q : ℕ) → (has_bit fresh_targets q ≡ true) ↔ IsFreshTarget ahead d q)
+module _ (ahead behind ahead' behind' : List (List ℕ)) (d : Arrow) (sources targets fresh_sources fresh_targets arriving each : List ℕ)
+    (were : AreTables ahead behind) (transitive : IsTransitive ahead) (span : AreSpan ahead d sources targets)
+    (less_sources : (p : ℕ) → has_bit fresh_sources p ≡ (has_bit sources p && not (has_bit arriving p)))
+    (are_arriving : (p : ℕ) → has_bit arriving p ≡ reaches ahead p (arrival d))
+    (less_targets : (q : ℕ) → has_bit fresh_targets q ≡ (has_bit targets q && not (has_bit each q)))
+    (are_each : (q : ℕ) → (has_bit each q ≡ true) ↔ ((l : ℕ) → Leaves d l → reaches ahead l q ≡ true))
     (joined : (p q : ℕ) → reaches ahead' p q ≡ (reaches ahead p q || (has_bit fresh_sources p && has_bit targets q)))
     (joined_behind : (q p : ℕ) → reaches behind' q p ≡ (reaches behind q p || (has_bit fresh_targets q && has_bit sources p))) where
+  abbrev Spans : ℕ → ℕ → Type 0
+  Spans p q = IsSource ahead d.start (is_s d.kind) p × IsTarget ahead d.end (is_r d.kind) q
+
   -- a source that reaches the place of arrival reaches all targets
-  known_source : (p q : ℕ) → reaches ahead p (arrival d) ≡ true → IsTarget ahead d.end d.second_is_r q → reaches ahead p q ≡ true
+  known_source : (p q : ℕ) → reaches ahead p (arrival d) ≡ true → IsTarget ahead d.end (is_r d.kind) q → reaches ahead p q ≡ true
   known_source p q to target = elim target [
     | inl e ↦ subst (λ x. reaches ahead p x ≡ true) e to
     | inr r ↦ transitive p (arrival d) q to r
   ]
 
   -- a target that is reached from each place left is reached from all sources
-  known_target : (p q : ℕ) → IsSource ahead d.start d.first_is_s p → ((l : ℕ) → Leaves d l → reaches ahead l q ≡ true) → reaches ahead p q ≡ true
-  known_target p q (l, leaves, comes) each = elim comes [
-    | inl e ↦ subst (λ x. reaches ahead x q ≡ true) (sym e) (each l leaves)
-    | inr r ↦ transitive p l q r (each l leaves)
+  known_target : (p q : ℕ) → IsSource ahead d.start (is_s d.kind) p → ((l : ℕ) → Leaves d l → reaches ahead l q ≡ true) → reaches ahead p q ≡ true
+  known_target p q (l, leaves, comes) reached = elim comes [
+    | inl e ↦ subst (λ x. reaches ahead x q ≡ true) (sym e) (reached l leaves)
+    | inr r ↦ transitive p l q r (reached l leaves)
   ]
 
-  reached : (p q : ℕ) → (reaches ahead' p q ≡ true) ↔ ((reaches ahead p q ≡ true) ⊎ (IsSource ahead d.start d.first_is_s p × IsTarget ahead d.end d.second_is_r q))
-  reached p q = (
+  pub TakesArrow-joined : TakesArrow ahead ahead' d
+  TakesArrow-joined p q = (
     (λ h. elim (or_cases (reaches ahead p q) (has_bit fresh_sources p && has_bit targets q) (sym (joined p q) ∙ h)) [
       | inl o ↦ inl o
-      | inr b ↦ (let both = and_parts (has_bit fresh_sources p) (has_bit targets q) b in inr (((are_fresh_sources p).0 both.0).0, (are_targets q).0 both.1))
+      | inr b ↦
+          let (fresh, target) = and_parts (has_bit fresh_sources p) (has_bit targets q) b in
+          let (source, off) = and_parts (has_bit sources p) (not (has_bit arriving p)) (sym (less_sources p) ∙ fresh) in
+          inr ((span.sources_are p).0 source, (span.targets_are q).0 target)
     ]),
     (λ h. joined p q ∙ elim h [
       | inl o ↦ or_left (reaches ahead p q) (has_bit fresh_sources p && has_bit targets q) o
-      | inr (source, target) ↦ elim (cases_Bool (reaches ahead p (arrival d))) [
-        | inl to ↦ or_left (reaches ahead p q) (has_bit fresh_sources p && has_bit targets q) (known_source p q to target)
-        | inr off ↦ or_right (reaches ahead p q) (has_bit fresh_sources p && has_bit targets q)
-            (and_from (has_bit fresh_sources p) (has_bit targets q) ((are_fresh_sources p).1 (source, off)) ((are_targets q).1 target))
+      | inr (source, target) ↦ elim (cases_Bool (has_bit arriving p)) [
+        | inl to ↦ or_left (reaches ahead p q) (has_bit fresh_sources p && has_bit targets q) (known_source p q (sym (are_arriving p) ∙ to) target)
+        | inr off ↦
+            let fresh = less_sources p ∙ and_from (has_bit sources p) (not (has_bit arriving p)) ((span.sources_are p).1 source) (not_from_false (has_bit arriving p) off) in
+            or_right (reaches ahead p q) (has_bit fresh_sources p && has_bit targets q)
+            (and_from (has_bit fresh_sources p) (has_bit targets q) fresh ((span.targets_are q).1 target))
       ]
     ]),
   )
 
-  pub TakesArrow-joined : TakesArrow ahead ahead' d
-  TakesArrow-joined = record { reached = reached }
-
-  -- what isn't fresh is reached from each place left
-  not_fresh : (q : ℕ) → IsTarget ahead d.end d.second_is_r q → has_bit fresh_targets q ≡ false → (l : ℕ) → Leaves d l → reaches ahead l q ≡ true
-  not_fresh q target off l leaves = elim (cases_Bool (reaches ahead l q)) [
-    | inl t ↦ t
-    | inr f ↦ absurd
-        (let on : has_bit fresh_targets q ≡ true = (are_fresh_targets q).1 (target, λ each. (let t = each l leaves in cc)) in cc)
-  ]
-
-  reached_behind : (p q : ℕ) → (reaches behind' q p ≡ true) ↔ ((reaches ahead p q ≡ true) ⊎ (IsSource ahead d.start d.first_is_s p × IsTarget ahead d.end d.second_is_r q))
+  reached_behind : (p q : ℕ) → (reaches behind' q p ≡ true) ↔ ((reaches ahead p q ≡ true) ⊎ Spans p q)
   reached_behind p q = (
     (λ h. elim (or_cases (reaches behind q p) (has_bit fresh_targets q && has_bit sources p) (sym (joined_behind q p) ∙ h)) [
       | inl o ↦ inl (sym (were.turned p q) ∙ o)
-      | inr b ↦ (let both = and_parts (has_bit fresh_targets q) (has_bit sources p) b in inr ((are_sources p).0 both.1, ((are_fresh_targets q).0 both.0).0))
+      | inr b ↦
+          let (fresh, source) = and_parts (has_bit fresh_targets q) (has_bit sources p) b in
+          let (target, off) = and_parts (has_bit targets q) (not (has_bit each q)) (sym (less_targets q) ∙ fresh) in
+          inr ((span.sources_are p).0 source, (span.targets_are q).0 target)
     ]),
     (λ h. joined_behind q p ∙ elim h [
       | inl o ↦ or_left (reaches behind q p) (has_bit fresh_targets q && has_bit sources p) (were.turned p q ∙ o)
-      | inr (source, target) ↦ elim (cases_Bool (has_bit fresh_targets q)) [
-        | inl on ↦ or_right (reaches behind q p) (has_bit fresh_targets q && has_bit sources p)
-            (and_from (has_bit fresh_targets q) (has_bit sources p) on ((are_sources p).1 source))
-        | inr off ↦ or_left (reaches behind q p) (has_bit fresh_targets q && has_bit sources p)
-            (were.turned p q ∙ known_target p q source (not_fresh q target off))
+      | inr (source, target) ↦ elim (cases_Bool (has_bit each q)) [
+        | inl on ↦ or_left (reaches behind q p) (has_bit fresh_targets q && has_bit sources p)
+            (were.turned p q ∙ known_target p q source ((are_each q).0 on))
+        | inr off ↦
+            let fresh = less_targets q ∙ and_from (has_bit targets q) (not (has_bit each q)) ((span.targets_are q).1 target) (not_from_false (has_bit each q) off) in
+            or_right (reaches behind q p) (has_bit fresh_targets q && has_bit sources p)
+            (and_from (has_bit fresh_targets q) (has_bit sources p) fresh ((span.sources_are p).1 source))
       ]
     ]),
   )
@@ -175,11 +150,6 @@ module _ (ahead behind ahead' behind' : List (List ℕ)) (d : Arrow) (sources ta
   AreTables-joined la lb = record {
     ahead_rows = la ∙ were.ahead_rows;
     behind_rows = lb ∙ were.behind_rows;
-    turned = λ p q. same (reaches behind' q p) (reaches ahead' p q)
-        (λ h. (reached p q).1 ((reached_behind p q).0 h)) (λ h. (reached_behind p q).1 ((reached p q).0 h));
+    turned = λ p q. both_ways (reaches behind' q p) (reaches ahead' p q)
+        (λ h. (TakesArrow-joined p q).1 ((reached_behind p q).0 h)) (λ h. (reached_behind p q).1 ((TakesArrow-joined p q).0 h));
   }
-    where
-      same : (a b : Bool) → (a ≡ true → b ≡ true) → (b ≡ true → a ≡ true) → a ≡ b
-      same true b f g = sym (f refl)
-      same false true f g = absurd (let e : false ≡ true = g refl in cc)
-      same false false f g = refl

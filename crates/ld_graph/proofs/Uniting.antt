@@ -1,13 +1,15 @@
 -- Facts word by word.
 use Rattle.std.proofs.Common.{◌≡◌, ℕ, ◌+◌, ◌*◌, ◌/◌, ◌%◌, ◌<◌, ◌≤◌, ◌||◌, List, length, get_or, refl, ap, sym, ◌∙◌, subst, inl, inr, arith, Bool, true, false, eqb, eq-eqb, eqb-true}
+use Rattle.std.specs.Cmp.{both_ways}
 use Rattle.std.specs.Int.{bit_at}
 use Rattle.std.proofs.lemmas.Bool.{cases_eq, cases_lt, or_cases, or_left, or_right}
 use Rattle.std.proofs.lemmas.List.{get_or_past}
 use Rattle.std.proofs.lemmas.Nat.Bits.{bit_at-zero}
 use Rattle.ld_graph.specs.Bits.{has_bit}
-use Rattle.ld_graph.specs.Numbers.{dependency_number, mark_number, dependency_total, bit_total}
-use Rattle.ld_graph.specs.Facts.{FactWords, AreFacts, IsUnion, HaveSameFacts, SetsBit, UnitesWord}
-use Rattle.ld_graph.proofs.Numbers.{dependency_of, dependency_number-of, mark_number-of}
+use Rattle.ld_graph.specs.Numbers.{fact_number, bit_total}
+use Rattle.ld_graph.specs.Facts.{AreSame, Adds}
+use Rattle.ld_graph.specs.FactBits.{FactWords, FactBelow, HasFact, AreFacts, SetsBit, UnitesWord}
+use Rattle.ld_graph.proofs.Numbers.{fact_of}
 
 -- a bit of a word
 pub has_bit-at : (words : List ℕ) (i k : ℕ) → k < 64 → has_bit words (i * 64 + k) ≡ eqb (bit_at (get_or words i 0) k) 1
@@ -105,41 +107,26 @@ UnitesWords-more first now new words n was unites = record {
         (λ t. was.rest (n * 64 + j) (omega arith) t || eqb (bit_at (get_or words n 0) j) 1) ∙
         ap (λ b. has_bit first.words (n * 64 + j) || b) (sym (has_bit-at words n j l)))
 
-pub IsUnion-words : (a b now : FactWords) (n : ℕ) → a.keys ≡ b.keys → length b.words ≤ n → UnitesWords a now b.words n → IsUnion a b now
-IsUnion-words a b now n same all was = record {
-  keys = was.keys;
-  dependencies = λ d. (
-    (λ h. let o : (d.start < a.keys) × (d.end < a.keys) × (has_bit now.words (dependency_number a.keys d) ≡ true) =
-        subst (λ k. (d.start < k) × (d.end < k) × (has_bit now.words (dependency_number k d) ≡ true)) was.keys h in
-        elim (or_cases (has_bit a.words (dependency_number a.keys d)) (has_bit b.words (dependency_number a.keys d)) (sym (each (dependency_number a.keys d)) ∙ o.2)) [
-          | inl x ↦ inl (o.0, o.1, x)
-          | inr x ↦ inr (subst (λ k. (d.start < k) × (d.end < k) × (has_bit b.words (dependency_number k d) ≡ true)) same (o.0, o.1, x))
-        ]),
-    (λ h. subst (λ k. (d.start < k) × (d.end < k) × (has_bit now.words (dependency_number k d) ≡ true)) (sym was.keys) (elim h [
-      | inl x ↦ (x.0, x.1, each (dependency_number a.keys d) ∙ or_left (has_bit a.words (dependency_number a.keys d)) (has_bit b.words (dependency_number a.keys d)) x.2)
-      | inr x ↦
-          let y : (d.start < a.keys) × (d.end < a.keys) × (has_bit b.words (dependency_number a.keys d) ≡ true) =
-          subst (λ k. (d.start < k) × (d.end < k) × (has_bit b.words (dependency_number k d) ≡ true)) (sym same) x in
-          (y.0, y.1, each (dependency_number a.keys d) ∙ or_right (has_bit a.words (dependency_number a.keys d)) (has_bit b.words (dependency_number a.keys d)) y.2)
-    ])),
-  );
-  marks = λ key mark. (
-    (λ h. let o : (key < a.keys) × (has_bit now.words (mark_number a.keys key mark) ≡ true) =
-        subst (λ k. (key < k) × (has_bit now.words (mark_number k key mark) ≡ true)) was.keys h in
-        elim (or_cases (has_bit a.words (mark_number a.keys key mark)) (has_bit b.words (mark_number a.keys key mark)) (sym (each (mark_number a.keys key mark)) ∙ o.1)) [
-          | inl x ↦ inl (o.0, x)
-          | inr x ↦ inr (subst (λ k. (key < k) × (has_bit b.words (mark_number k key mark) ≡ true)) same (o.0, x))
-        ]),
-    (λ h. subst (λ k. (key < k) × (has_bit now.words (mark_number k key mark) ≡ true)) (sym was.keys) (elim h [
-      | inl x ↦ (x.0, each (mark_number a.keys key mark) ∙ or_left (has_bit a.words (mark_number a.keys key mark)) (has_bit b.words (mark_number a.keys key mark)) x.1)
-      | inr x ↦
-          let y : (key < a.keys) × (has_bit b.words (mark_number a.keys key mark) ≡ true) =
-          subst (λ k. (key < k) × (has_bit b.words (mark_number k key mark) ≡ true)) (sym same) x in
-          (y.0, each (mark_number a.keys key mark) ∙ or_right (has_bit a.words (mark_number a.keys key mark)) (has_bit b.words (mark_number a.keys key mark)) y.1)
-    ])),
-  );
-}
+pub Adds-words : (a b now : FactWords) (n : ℕ) → a.keys ≡ b.keys → length b.words ≤ n → UnitesWords a now b.words n →
+    Adds (HasFact a) (HasFact now) (HasFact b)
+Adds-words a b now n same all was x =
+    let bit : ℕ = fact_number a.keys x in (
+      (λ h. let o = at now was.keys h in elim (or_cases (has_bit a.words bit) (has_bit b.words bit) (sym (each bit) ∙ o.1)) [
+        | inl y ↦ inl (o.0, y)
+        | inr y ↦ inr (from b (sym same) (o.0, y))
+      ]),
+      (λ h. from now was.keys (elim h [
+        | inl y ↦ (y.0, each bit ∙ or_left (has_bit a.words bit) (has_bit b.words bit) y.1)
+        | inr y ↦ (let o = at b (sym same) y in (o.0, each bit ∙ or_right (has_bit a.words bit) (has_bit b.words bit) o.1))
+      ])),
+    )
   where
+    at : (f : FactWords) → f.keys ≡ a.keys → HasFact f x → FactBelow a.keys x × (has_bit f.words (fact_number a.keys x) ≡ true)
+    at f e h = subst (λ k. FactBelow k x × (has_bit f.words (fact_number k x) ≡ true)) e h
+
+    from : (f : FactWords) → f.keys ≡ a.keys → FactBelow a.keys x × (has_bit f.words (fact_number a.keys x) ≡ true) → HasFact f x
+    from f e h = subst (λ k. FactBelow k x × (has_bit f.words (fact_number k x) ≡ true)) (sym e) h
+
     past : (k : ℕ) → n ≤ k / 64 → has_bit b.words k ≡ false
     past k l =
         let zero : get_or b.words (k / 64) 0 ≡ 0 = get_or_past b.words (k / 64) 0 (omega arith) in
@@ -152,44 +139,16 @@ IsUnion-words a b now n same all was = record {
     ]
 
 -- ---- the same facts are the same words
-both_ways : (a b : Bool) → (a ≡ true → b ≡ true) → (b ≡ true → a ≡ true) → a ≡ b
-both_ways true b f g = sym (f refl)
-both_ways false true f g = absurd (let e : false ≡ true = g refl in cc)
-both_ways false false f g = refl
-
-pub HaveSameFacts-bits : (a b : FactWords) → AreFacts a → AreFacts b → HaveSameFacts a b →
+pub AreSame-bits : (a b : FactWords) → AreFacts a → AreFacts b → a.keys ≡ b.keys → AreSame (HasFact a) (HasFact b) →
     (length a.words ≡ length b.words) × ((n : ℕ) → has_bit a.words n ≡ has_bit b.words n)
-HaveSameFacts-bits a b fa fb same = (
-  fa.words ∙ ap (λ k. (bit_total k + 63) / 64) same.keys ∙ sym fb.words,
+AreSame-bits a b fa fb keys same = (
+  fa.words ∙ ap (λ k. (bit_total k + 63) / 64) keys ∙ sym fb.words,
   λ n. elim (cases_lt n (bit_total a.keys)) [
-    | inl l ↦ elim (cases_lt n (dependency_total a.keys)) [
-      | inl d ↦ dependency n d
-      | inr m ↦ mark n m l
-    ]
-    | inr past ↦ fa.none_past n past ∙ sym (fb.none_past n (subst (λ k. bit_total k ≤ n) same.keys past))
+    | inl l ↦
+        let (x, (below, is)) = fact_of a.keys n l in
+        subst (λ m. has_bit a.words m ≡ has_bit b.words m) is (both_ways (has_bit a.words (fact_number a.keys x)) (has_bit b.words (fact_number a.keys x))
+        (λ h. let o = (same x).0 (below, h) in subst (λ k. has_bit b.words (fact_number k x) ≡ true) (sym keys) o.1)
+        (λ h. ((same x).1 (subst (λ k. FactBelow k x × (has_bit b.words (fact_number k x) ≡ true)) keys (below, h))).1))
+    | inr past ↦ fa.none_past n past ∙ sym (fb.none_past n (subst (λ k. bit_total k ≤ n) keys past))
   ],
 )
-  where
-    dependency : (n : ℕ) → n < dependency_total a.keys → has_bit a.words n ≡ has_bit b.words n
-    dependency n l =
-        let d = dependency_of a.keys n in
-        let (ls, le, is) = dependency_number-of a.keys n l in
-        subst (λ m. has_bit a.words m ≡ has_bit b.words m) is
-        (both_ways (has_bit a.words (dependency_number a.keys d)) (has_bit b.words (dependency_number a.keys d))
-        (λ h. let o = (same.dependencies d).0 (ls, le, h) in subst (λ k. has_bit b.words (dependency_number k d) ≡ true) (sym same.keys) o.2)
-        (λ h. let o = (same.dependencies d).1 (subst (λ k. (d.start < k) × (d.end < k) × (has_bit b.words (dependency_number k d) ≡ true)) same.keys (ls, le, h)) in o.2))
-
-    mark : (n : ℕ) → dependency_total a.keys ≤ n → n < bit_total a.keys → has_bit a.words n ≡ has_bit b.words n
-    mark n low high =
-        let (key, m, lk, is) = mark_number-of a.keys n low high in
-        subst (λ x. has_bit a.words x ≡ has_bit b.words x) is
-        (both_ways (has_bit a.words (mark_number a.keys key m)) (has_bit b.words (mark_number a.keys key m))
-        (λ h. let o = (same.marks key m).0 (lk, h) in subst (λ k. has_bit b.words (mark_number k key m) ≡ true) (sym same.keys) o.1)
-        (λ h. let o = (same.marks key m).1 (subst (λ k. (key < k) × (has_bit b.words (mark_number k key m) ≡ true)) same.keys (lk, h)) in o.1))
-
-pub HaveSameFacts-refl : (a b : FactWords) → a ≡ b → HaveSameFacts a b
-HaveSameFacts-refl a b e = subst (HaveSameFacts a) e (record {
-  keys = refl;
-  dependencies = λ d. ((λ h. h), (λ h. h));
-  marks = λ key mark. ((λ h. h), (λ h. h));
-})

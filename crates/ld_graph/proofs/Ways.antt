@@ -124,12 +124,12 @@ pub ways_taken : (Old New : Arrow → Type 0) (d : Arrow) (before after : List (
     ((p q : ℕ) → (reaches before p q ≡ true) ↔ Way (Leads Old) p q) → TakesArrow before after d →
     (p q : ℕ) → (reaches after p q ≡ true) ↔ Way (Leads New) p q
 ways_taken Old New d before after one ways takes p q = (
-  (λ h. way.1 (elim ((takes.reached p q).0 h) [
+  (λ h. way.1 (elim ((takes p q).0 h) [
     | inl o ↦ inl ((ways p q).0 o)
     | inr (source, target) ↦ (let (l, leaves, comes) = source in
         inr ((l, leaves, (Comes-path (Leads Old) before ways p l).0 comes), (Comes-path (Leads Old) before ways (arrival d) q).0 target))
   ])),
-  (λ w. (takes.reached p q).1 (elim (way.0 w) [
+  (λ w. (takes p q).1 (elim (way.0 w) [
     | inl o ↦ inl ((ways p q).1 o)
     | inr (source, target) ↦ (let (l, leaves, path) = source in
         inr ((l, leaves, (Comes-path (Leads Old) before ways p l).1 path), (Comes-path (Leads Old) before ways (arrival d) q).1 target))

@@ -1,49 +1,16 @@
--- Single facts, and the facts of a chain one after the other.
-use Rattle.std.specs.Prelude.{◌≡◌, ℕ, ◌+◌, ◌-◌, ◌*◌, ◌/◌, ◌%◌, ◌<◌, ◌⊎◌, ◌↔◌, ◌==◌, nat_lt, Bool, if◌then◌else◌, length, Option, Some, None, slice_get}
+-- The facts of a chain one after the other.
+use Rattle.std.specs.Prelude.{ℕ, ◌+◌, ◌-◌, ◌*◌, ◌/◌, ◌%◌, ◌==◌, nat_lt, Bool, if◌then◌else◌, length, Option, Some, None, slice_get}
 use Rattle.ld_trace.specs.declared.event.Irq.TheVariants.{Hard, Soft}
+use Rattle.ld_task.specs.declared.frame.Flags.{Flags}
 use Rattle.ld_task.specs.declared.frame.Frame.{Frame}
 use Rattle.ld_task.specs.declared.lock.Lock.{Lock}
 use Rattle.ld_task.specs.declared.mark.Mark.{Mark}
 use Rattle.ld_task.specs.declared.mark.Mark.TheVariants.{Used, UsedIn, Enabled}
-use Rattle.ld_task.specs.Chains.{ChainParts, ChainHasDependency, ChainHasMark}
-use Rattle.ld_task.specs.Dependencies.{kind_between}
+use Rattle.ld_task.specs.Chains.{ChainParts}
+use Rattle.ld_task.specs.Kinds.{kind_between}
 use Rattle.ld_task.specs.Marks.{is_read, marks_taken, marks_opened}
-use Rattle.ld_graph.specs.Arrows.{Arrow, arrow}
-use Rattle.ld_graph.specs.Facts.{FactWords, HasDep, HasMark}
 use Rattle.ld_graph.specs.declared.fact.Fact.{Fact}
 use Rattle.ld_graph.specs.declared.fact.Fact.TheVariants.{Dependency, Marked}
-
--- the fact is there
-abbrev pub HasFact : FactWords → Fact → Type 0
-HasFact facts (Dependency from to kind) = HasDep facts (arrow from to kind)
-HasFact facts (Marked key mark) = HasMark facts key mark
-
--- its keys are below the bound
-abbrev pub FactBelow : ℕ → Fact → Type 0
-FactBelow keys (Dependency from to kind) = (from < keys) × (to < keys)
-FactBelow keys (Marked key mark) = key < keys
-
--- the chain has it
-abbrev pub ChainHas : ChainParts → Fact → Type 0
-ChainHas c (Dependency from to kind) = ChainHasDependency c from to kind
-ChainHas c (Marked key mark) = ChainHasMark c key mark
-
--- the later facts are the earlier ones and this one
-pub record AddsFact (old new : FactWords) (fact : Fact) : Type 0 where
-  pub keys : new.keys ≡ old.keys
-  pub facts : (x : Fact) → HasFact new x ↔ (HasFact old x ⊎ (x ≡ fact))
-
--- the later facts are the earlier ones and this dependency
-pub record AddsDep (old new : FactWords) (d : Arrow) : Type 0 where
-  pub keys : new.keys ≡ old.keys
-  pub dependencies : (x : Arrow) → HasDep new x ↔ (HasDep old x ⊎ (x ≡ d))
-  pub marks : (key : ℕ) (mark : Mark) → HasMark new key mark ↔ HasMark old key mark
-
--- the later facts are the earlier ones and this mark
-pub record AddsMark (old new : FactWords) (at : ℕ) (added : Mark) : Type 0 where
-  pub keys : new.keys ≡ old.keys
-  pub dependencies : (x : Arrow) → HasDep new x ↔ HasDep old x
-  pub marks : (key : ℕ) (mark : Mark) → HasMark new key mark ↔ (HasMark old key mark ⊎ ((key ≡ at) × (mark ≡ added)))
 
 -- the marks that an acquisition may give by its form, one for each number below 5
 abbrev pub mark_by_taking : Bool → ℕ → Mark
@@ -65,27 +32,27 @@ dependency_from None new = None
 dependency_from (Some old) new = Some (Dependency old.key new.key (kind_between old.mode new.mode))
 
 -- the mark of that number on a held lock, if there is one
-abbrev pub mark_of_held : Option Lock → Bool → Bool → ℕ → Option Fact
-mark_of_held None hard soft n = None
-mark_of_held (Some old) hard soft n =
-    mark_if (marks_opened old.mode hard soft) old.key (mark_by_opening (is_read old.mode) n)
+abbrev pub mark_of_held : Option Lock → Flags → ℕ → Option Fact
+mark_of_held None flags n = None
+mark_of_held (Some old) flags n =
+    mark_if (marks_opened old.mode flags) old.key (mark_by_opening (is_read old.mode) n)
 
--- the fact of the chain at place n, if there is one: of an acquisition the dependencies, oldest first, and then the
+-- the fact of the chain in slot n, if there is one: of an acquisition the dependencies, oldest first, and then the
 -- marks of the new lock; of an opening the marks of the held locks
 abbrev pub fact_by : Option (Lock × Frame) → ChainParts → ℕ → Option Fact
 fact_by (Some new) c n =
     if nat_lt n (length c.held_locks) then dependency_from (slice_get c.held_locks n) new.0 else
-    mark_if (marks_taken new.0.mode new.1 c.hard_on c.soft_on) new.0.key
+    mark_if (marks_taken new.0.mode new.1 c.flags) new.0.key
     (mark_by_taking (is_read new.0.mode) (n - length c.held_locks))
-fact_by None c n = mark_of_held (slice_get c.held_locks (n / 2)) c.hard_on c.soft_on (n % 2)
+fact_by None c n = mark_of_held (slice_get c.held_locks (n / 2)) c.flags (n % 2)
 
 abbrev pub chain_fact : ChainParts → ℕ → Option Fact
 chain_fact c n = fact_by c.new_lock c n
 
--- how many places there are
-abbrev pub places_by : Option (Lock × Frame) → ChainParts → ℕ
-places_by (Some new) c = length c.held_locks + 5
-places_by None c = length c.held_locks * 2
+-- how many slots there are
+abbrev pub slots_by : Option (Lock × Frame) → ChainParts → ℕ
+slots_by (Some new) c = length c.held_locks + 5
+slots_by None c = length c.held_locks * 2
 
-abbrev pub fact_places : ChainParts → ℕ
-fact_places c = places_by c.new_lock c
+abbrev pub fact_slots : ChainParts → ℕ
+fact_slots c = slots_by c.new_lock c

@@ -1,84 +1,45 @@
--- Facts about lock keys: dependencies between them and marks on them. A crate above names `HasDep` and `HasMark` alone.
-use Rattle.std.specs.Prelude.{◌≡◌, ℕ, ◌+◌, ◌*◌, ◌/◌, ◌||◌, ◌==◌, ◌<◌, ◌≤◌, ◌⊎◌, ◌↔◌, false, IsTrue, List, length}
-use Rattle.std.specs.Int.{bit_at}
-use Rattle.ld_task.specs.declared.kind.Kind.{Kind}
+-- Facts about lock keys: dependencies between them and marks on them. A set of facts is a predicate on facts.
+use Rattle.std.specs.Prelude.{ℕ, ◌⊎◌, ◌↔◌, List, Any}
+use Rattle.ld_trace.specs.declared.event.Event.{Event}
 use Rattle.ld_task.specs.declared.mark.Mark.{Mark}
 use Rattle.ld_task.specs.Chains.{ChainParts, ChainHasDependency, ChainHasMark}
-use Rattle.ld_graph.specs.Arrows.{Arrow, arrow}
-use Rattle.ld_graph.specs.Bits.{has_bit, count_below}
-use Rattle.ld_graph.specs.Numbers.{dependency_number, mark_number, dependency_total, mark_total, bit_total}
+use Rattle.ld_task.specs.Dependencies.{IsDependency}
+use Rattle.ld_task.specs.Marks.{IsMarked}
+use Rattle.ld_graph.specs.Arrows.{Arrow}
+use Rattle.ld_graph.specs.declared.fact.Fact.{Fact}
+use Rattle.ld_graph.specs.declared.fact.Fact.TheVariants.{Dependency, Marked}
 
--- facts about the keys below `keys`, as bits in words of 64
-pub record FactWords : Type 0 where
-  pub keys : ℕ
-  pub words : List ℕ
+-- ---- where facts come from
+-- the trace has the fact
+abbrev pub TraceHas : List Event → Fact → Type 0
+TraceHas t (Dependency from to kind) = IsDependency t from to kind
+TraceHas t (Marked key mark) = IsMarked t key mark
 
--- the dependency is among the facts
-abbrev pub HasDep : FactWords → Arrow → Type 0
-HasDep facts d =
-    (d.start < facts.keys) × (d.end < facts.keys) ×
-    IsTrue (has_bit facts.words (dependency_number facts.keys d))
+-- the chain has it
+abbrev pub ChainHas : ChainParts → Fact → Type 0
+ChainHas c (Dependency from to kind) = ChainHasDependency c from to kind
+ChainHas c (Marked key mark) = ChainHasMark c key mark
 
--- the key has the mark
-abbrev pub HasMark : FactWords → ℕ → Mark → Type 0
-HasMark facts key mark = (key < facts.keys) × IsTrue (has_bit facts.words (mark_number facts.keys key mark))
+-- some chain of the list has it
+abbrev pub ChainsHave : List ChainParts → Fact → Type 0
+ChainsHave chains x = Any (λ c. ChainHas c x) chains
 
--- how many dependencies there are
-abbrev pub dependency_count : FactWords → ℕ
-dependency_count facts = count_below (has_bit facts.words) (dependency_total facts.keys)
+-- ---- sets of facts
+-- both sets have the same facts
+abbrev pub AreSame : (P Q : Fact → Type 0) → Type 0
+AreSame P Q = (x : Fact) → P x ↔ Q x
 
--- how many marks there are, over all keys
-abbrev pub mark_count : FactWords → ℕ
-mark_count facts =
-    count_below (λ n. has_bit facts.words (dependency_total facts.keys + n)) (mark_total facts.keys)
+-- the set has all facts of P
+abbrev pub Holds : (Has P : Fact → Type 0) → Type 0
+Holds Has P = (x : Fact) → P x → Has x
 
--- the later facts are the earlier ones and those of the chain
-pub record AddsChain (old new : FactWords) (chain : ChainParts) : Type 0 where
-  pub keys : new.keys ≡ old.keys
-  pub dependencies : (from to : ℕ) (kind : Kind) →
-      HasDep new (arrow from to kind) ↔ (HasDep old (arrow from to kind) ⊎ ChainHasDependency chain from to kind)
-  pub marks : (key : ℕ) (mark : Mark) →
-      HasMark new key mark ↔ (HasMark old key mark ⊎ ChainHasMark chain key mark)
+-- the later set has the facts of the earlier one and those of P
+abbrev pub Adds : (Old New P : Fact → Type 0) → Type 0
+Adds Old New P = (x : Fact) → New x ↔ (Old x ⊎ P x)
 
--- the chain brings nothing new: its facts are there
-pub record HoldsChain (facts : FactWords) (chain : ChainParts) : Type 0 where
-  pub dependencies : (from to : ℕ) (kind : Kind) →
-      ChainHasDependency chain from to kind → HasDep facts (arrow from to kind)
-  pub marks : (key : ℕ) (mark : Mark) → ChainHasMark chain key mark → HasMark facts key mark
+-- the set's dependencies, as arrows, and its marks, each beside its key
+abbrev pub DependenciesOf : (Fact → Type 0) → Arrow → Type 0
+DependenciesOf Has d = Has (Dependency d.start d.end d.kind)
 
--- the facts of a and those of b
-pub record IsUnion (a b union : FactWords) : Type 0 where
-  pub keys : union.keys ≡ a.keys
-  pub dependencies : (d : Arrow) → HasDep union d ↔ (HasDep a d ⊎ HasDep b d)
-  pub marks : (key : ℕ) (mark : Mark) → HasMark union key mark ↔ (HasMark a key mark ⊎ HasMark b key mark)
-
--- the same facts, about the same keys
-pub record HaveSameFacts (a b : FactWords) : Type 0 where
-  pub keys : a.keys ≡ b.keys
-  pub dependencies : (d : Arrow) → HasDep a d ↔ HasDep b d
-  pub marks : (key : ℕ) (mark : Mark) → HasMark a key mark ↔ HasMark b key mark
-
--- words that hold facts about the keys below `keys`, and no other bit
-pub record AreFacts (facts : FactWords) : Type 0 where
-  pub few : facts.keys ≤ 256
-  pub words : length facts.words ≡ (bit_total facts.keys + 63) / 64
-  pub none_past : (n : ℕ) → bit_total facts.keys ≤ n → has_bit facts.words n ≡ false
-
--- such words, with the numbers of their dependencies and marks
-pub record AreCounted (words : FactWords) (of_dependencies of_marks : ℕ) : Type 0 where
-  pub are : AreFacts words
-  pub dependencies : of_dependencies ≡ dependency_count words
-  pub marks : of_marks ≡ mark_count words
-
--- one bit more is set
-pub record SetsBit (old new : FactWords) (n : ℕ) : Type 0 where
-  pub keys : new.keys ≡ old.keys
-  pub set : IsTrue (has_bit new.words n)
-  pub others : (k : ℕ) → ¬ (k ≡ n) → has_bit new.words k ≡ has_bit old.words k
-
--- the bits of one word are set too
-pub record UnitesWord (old new : FactWords) (i word : ℕ) : Type 0 where
-  pub keys : new.keys ≡ old.keys
-  pub within : (k : ℕ) → k < 64 →
-      has_bit new.words (i * 64 + k) ≡ (has_bit old.words (i * 64 + k) || bit_at word k == 1)
-  pub others : (k : ℕ) → ¬ (k / 64 ≡ i) → has_bit new.words k ≡ has_bit old.words k
+abbrev pub MarksOf : (Fact → Type 0) → ℕ × Mark → Type 0
+MarksOf Has m = Has (Marked m.0 m.1)

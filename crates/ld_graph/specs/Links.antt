@@ -2,29 +2,38 @@
 -- ["Single-lock state rules", "Multi-lock dependency rules"; the read forms are this project's own].
 use Rattle.std.specs.Prelude.{◌≡◌, ℕ, List}
 use Rattle.ld_trace.specs.declared.event.Irq.{Irq}
-use Rattle.ld_task.specs.declared.mark.Mark.{Mark}
 use Rattle.ld_task.specs.declared.mark.Mark.TheVariants.{UsedIn, Enabled}
+use Rattle.ld_task.specs.Kinds.{is_s, is_r}
 use Rattle.ld_graph.specs.Arrows.{Arrow, MayFollow}
-use Rattle.ld_graph.specs.Walks.{last, WalksTo, HasNoCircle}
+use Rattle.ld_graph.specs.Facts.{DependenciesOf}
+use Rattle.ld_graph.specs.Walks.{last, WalksTo, OnCircle}
+use Rattle.ld_graph.specs.declared.fact.Fact.{Fact}
+use Rattle.ld_graph.specs.declared.fact.Fact.TheVariants.{Marked}
 
 -- l is an interrupt link of the state: from a key that is used with it enabled to a key that is used in it.
 -- Its first letter is S for the read form of the one mark, its second R for the read form of the other
-abbrev pub IsLink : (ℕ → Mark → Type 0) → Irq → Arrow → Type 0
-IsLink Marked irq l = Marked l.start (Enabled irq l.first_is_s) × Marked l.end (UsedIn irq l.second_is_r)
+abbrev pub IsLink : (Fact → Type 0) → Irq → Arrow → Type 0
+IsLink Has irq l =
+    Has (Marked l.start (Enabled irq (is_s l.kind))) × Has (Marked l.end (UsedIn irq (is_r l.kind)))
 
--- some link from a to a may follow itself
-abbrev pub IsDouble : (ℕ → Mark → Type 0) → Irq → ℕ → Type 0
-IsDouble Marked irq a = (l : Arrow) × IsLink Marked irq l × (l.start ≡ a) × (l.end ≡ a) × MayFollow l l
+-- a is a double by this link, which leads from it to itself and may follow itself
+abbrev pub IsDoubleBy : (Fact → Type 0) → Irq → ℕ → Arrow → Type 0
+IsDoubleBy Has irq a l = IsLink Has irq l × (l.start ≡ a) × (l.end ≡ a) × MayFollow l l
 
--- a strong walk from a to b, and a link from b to a, each of which may follow the other
-abbrev pub IsInversion : (Arrow → Type 0) → (ℕ → Mark → Type 0) → Irq → ℕ → ℕ → Type 0
-IsInversion In Marked irq a b =
-    (d : Arrow) × (rest : List Arrow) × (l : Arrow) ×
-    WalksTo In a b d rest × IsLink Marked irq l × (l.start ≡ b) × (l.end ≡ a) ×
+abbrev pub IsDouble : (Fact → Type 0) → Irq → ℕ → Type 0
+IsDouble Has irq a = (l : Arrow) × IsDoubleBy Has irq a l
+
+-- a and b are an inversion by this strong walk from a to b and this link from b to a, each of which may follow the other
+abbrev pub IsInversionWith : (Fact → Type 0) → Irq → ℕ → ℕ → Arrow → List Arrow → Arrow → Type 0
+IsInversionWith Has irq a b d rest l =
+    WalksTo (DependenciesOf Has) a b d rest × IsLink Has irq l × (l.start ≡ b) × (l.end ≡ a) ×
     MayFollow (last d rest) l × MayFollow l d
 
+abbrev pub IsInversion : (Fact → Type 0) → Irq → ℕ → ℕ → Type 0
+IsInversion Has irq a b = (d : Arrow) × (rest : List Arrow) × (l : Arrow) × IsInversionWith Has irq a b d rest l
+
 -- no dependency on a circle, no double and no inversion
-pub record IsClean (In : Arrow → Type 0) (Marked : ℕ → Mark → Type 0) : Type 0 where
-  pub circles : HasNoCircle In
-  pub doubles : (irq : Irq) (a : ℕ) → ¬ IsDouble Marked irq a
-  pub inversions : (irq : Irq) (a b : ℕ) → ¬ IsInversion In Marked irq a b
+pub record IsClean (Has : Fact → Type 0) : Type 0 where
+  pub circles : (d : Arrow) → ¬ OnCircle Has d
+  pub doubles : (irq : Irq) (a : ℕ) → ¬ IsDouble Has irq a
+  pub inversions : (irq : Irq) (a b : ℕ) → ¬ IsInversion Has irq a b

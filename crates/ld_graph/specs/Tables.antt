@@ -1,10 +1,12 @@
 -- A table of the places that are reached from each place: a row of bits for each.
-use Rattle.std.specs.Prelude.{◌≡◌, ℕ, ◌⊎◌, ◌↔◌, Bool, IsTrue, IsFalse, List, [], length, slice_index_or}
+use Rattle.std.specs.Prelude.{◌≡◌, ℕ, ◌⊎◌, Bool, ◌↔◌, IsTrue, List, [], length, slice_index_or}
+use Rattle.ld_task.specs.Kinds.{is_s, is_r}
+use Rattle.ld_graph.specs.declared.places.TheConstants.{PLACES}
 use Rattle.ld_graph.specs.Arrows.{Arrow}
 use Rattle.ld_graph.specs.Bits.{has_bit}
-use Rattle.ld_graph.specs.Places.{place, arrival, Leaves, LeavesFrom}
+use Rattle.ld_graph.specs.Places.{place, LeavesFrom}
 
--- the place q is in the row of the place p
+-- the place q is in row p
 abbrev pub reaches : List (List ℕ) → ℕ → ℕ → Bool
 reaches table p q = has_bit (slice_index_or table p []) q
 
@@ -12,39 +14,31 @@ reaches table p q = has_bit (slice_index_or table p []) q
 abbrev pub Comes : List (List ℕ) → ℕ → ℕ → Type 0
 Comes table p q = (p ≡ q) ⊎ IsTrue (reaches table p q)
 
--- an arrow from the key, by that letter, leaves the place p or one that is reached from it
+-- a source of arrows from the key by that letter: a place that they leave, or from which one is reached
 abbrev pub IsSource : List (List ℕ) → ℕ → Bool → ℕ → Type 0
-IsSource table key is_s p = (l : ℕ) × LeavesFrom key is_s l × Comes table p l
+IsSource table key by_s p = (l : ℕ) × LeavesFrom key by_s l × Comes table p l
 
--- an arrow to the key, by that letter, arrives at the place q or at one from which it is reached
+-- a target of arrows to the key by that letter: the place where they arrive, or one that is reached from it
 abbrev pub IsTarget : List (List ℕ) → ℕ → Bool → ℕ → Type 0
-IsTarget table key is_r q = Comes table (place key is_r) q
+IsTarget table key by_r q = Comes table (place key by_r) q
 
--- a source that does not reach the place where the arrow arrives
-abbrev pub IsFreshSource : List (List ℕ) → Arrow → ℕ → Type 0
-IsFreshSource table d p = IsSource table d.start d.first_is_s p × IsFalse (reaches table p (arrival d))
-
--- a target that is not reached from each place that the arrow leaves
-abbrev pub IsFreshTarget : List (List ℕ) → Arrow → ℕ → Type 0
-IsFreshTarget table d q =
-    IsTarget table d.end d.second_is_r q × ¬ ((l : ℕ) → Leaves d l → IsTrue (reaches table l q))
+-- the rows are those of the arrow's sources and of its targets
+pub record AreSpan (table : List (List ℕ)) (d : Arrow) (sources targets : List ℕ) : Type 0 where
+  pub sources_are : (p : ℕ) → IsTrue (has_bit sources p) ↔ IsSource table d.start (is_s d.kind) p
+  pub targets_are : (q : ℕ) → IsTrue (has_bit targets q) ↔ IsTarget table d.end (is_r d.kind) q
 
 -- what is reached from what is reached is reached
 abbrev pub IsTransitive : List (List ℕ) → Type 0
 IsTransitive table =
     (p q r : ℕ) → IsTrue (reaches table p q) → IsTrue (reaches table q r) → IsTrue (reaches table p r)
 
--- where the arrow arrives is reached from each place that it leaves
-abbrev pub Implies : List (List ℕ) → Arrow → Type 0
-Implies table d = (l : ℕ) → Leaves d l → IsTrue (reaches table l (arrival d))
-
 -- the arrow's sources come to reach its targets
-pub record TakesArrow (old new : List (List ℕ)) (d : Arrow) : Type 0 where
-  pub reached : (p q : ℕ) → IsTrue (reaches new p q) ↔
-      (IsTrue (reaches old p q) ⊎ (IsSource old d.start d.first_is_s p × IsTarget old d.end d.second_is_r q))
+abbrev pub TakesArrow : (old new : List (List ℕ)) → Arrow → Type 0
+TakesArrow old new d = (p q : ℕ) → IsTrue (reaches new p q) ↔
+    (IsTrue (reaches old p q) ⊎ (IsSource old d.start (is_s d.kind) p × IsTarget old d.end (is_r d.kind) q))
 
 -- the second table is the first, read backwards
 pub record AreTables (ahead behind : List (List ℕ)) : Type 0 where
-  pub ahead_rows : length ahead ≡ 512
-  pub behind_rows : length behind ≡ 512
+  pub ahead_rows : length ahead ≡ PLACES
+  pub behind_rows : length behind ≡ PLACES
   pub turned : (p q : ℕ) → reaches behind q p ≡ reaches ahead p q

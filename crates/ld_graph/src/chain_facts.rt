@@ -1,17 +1,16 @@
 //! The facts of a chain, one after the other.
 
 ghost use Rattle.std.specs.Prelude.{◌≡◌, ◌+◌, ◌-◌, ◌*◌, ◌/◌, ◌%◌, ◌<◌, ◌≤◌, slice_get, if◌then◌else◌, length};
-ghost use Rattle.ld_task.specs.Dependencies.{kind_between};
 ghost use Rattle.ld_task.specs.Marks.{is_read, marks_taken, marks_opened};
-ghost use Rattle.ld_graph.specs.ChainFacts.{chain_fact, dependency_from, fact_places, mark_if, mark_of_held, mark_by_taking, mark_by_opening};
+ghost use Rattle.ld_graph.specs.ChainFacts.{chain_fact, dependency_from, fact_slots, mark_if, mark_of_held, mark_by_taking, mark_by_opening};
 
 use crate::fact::Fact;
 use ld_task::{Chain, Frame, Kind, Mark};
 use ld_trace::{Irq, KeyId, Mode};
 
-// How many places the chain has for facts, some of them empty.
-pub(crate) fn places(chain: &Chain) -> usize
-    ensures value { result ≡ fact_places chain.now }
+// How many slots the chain has for facts. Some of them are empty.
+pub(crate) fn slots(chain: &Chain) -> usize
+    ensures value { result ≡ fact_slots chain.now }
     ensures few { result ≤ 96 }
 {
     match chain.taken() {
@@ -20,7 +19,7 @@ pub(crate) fn places(chain: &Chain) -> usize
     }
 }
 
-// The fact at a place, if there is one: of an acquisition the dependencies, oldest first, and then the marks of the new
+// The fact in a slot, if there is one: of an acquisition the dependencies, oldest first, and then the marks of the new
 // lock; of an opening the marks of the held locks.
 pub(crate) fn fact_at(chain: &Chain, n: usize) -> Option<Fact>
     ensures { result ≡ chain_fact chain.now n }
@@ -38,7 +37,7 @@ pub(crate) fn fact_at(chain: &Chain, n: usize) -> Option<Fact>
     }
 }
 
-// The dependency from the held lock at place `i`, if there is one, to the new lock.
+// The dependency from the held lock `i`, if there is one, to the new lock.
 fn dependency_of(chain: &Chain, i: usize, key: KeyId, mode: Mode) -> Option<Fact>
     ensures { result ≡ dependency_from (slice_get chain.now.held_locks i)
         (record { key = key; mode = mode }) }
@@ -47,50 +46,48 @@ fn dependency_of(chain: &Chain, i: usize, key: KeyId, mode: Mode) -> Option<Fact
     Some(Fact::Dependency {
         from: from.get(),
         to: key.get(),
-        kind: kind_of(old, mode),
+        kind: Kind::between(old, mode),
     })
 }
 
 // The mark of number `n` below 5 on the new lock, if the acquisition gives it.
 fn mark_of_new(chain: &Chain, n: usize, key: KeyId, mode: Mode, frame: Frame) -> Option<Fact>
-    ensures { result ≡ mark_if (marks_taken mode frame chain.now.hard_on chain.now.soft_on) key
+    ensures { result ≡ mark_if (marks_taken mode frame chain.now.flags) key
         (mark_by_taking (is_read mode) n) }
 {
     let read = reads(mode);
+    let flags = chain.flags();
     let (given, mark) = match n {
         0 => (true, Mark::Used),
         1 => (frame == Frame::Hardirq, used_in(Irq::Hard, read)),
-        2 => (chain.hard_on(), enabled(Irq::Hard, read)),
+        2 => (flags.is_enabled(Irq::Hard), enabled(Irq::Hard, read)),
         3 => (frame == Frame::Softirq, used_in(Irq::Soft, read)),
-        _ => (chain.hard_on() && chain.soft_on(), enabled(Irq::Soft, read)),
+        _ => (flags.is_enabled(Irq::Soft), enabled(Irq::Soft, read)),
     };
     mark_where(given, key, mark)
 }
 
-// The mark of number `n` below 2 on the held lock at place `i`, if there is one and the opening gives it.
+// The mark of number `n` below 2 on the held lock `i`, if there is one and the opening gives it.
 fn mark_of_old(chain: &Chain, i: usize, n: usize) -> Option<Fact>
-    ensures { result ≡ mark_of_held (slice_get chain.now.held_locks i)
-        chain.now.hard_on chain.now.soft_on n }
+    ensures { result ≡ mark_of_held (slice_get chain.now.held_locks i) chain.now.flags n }
 {
     let (key, mode) = chain.held(i)?;
-    let read = reads(mode);
-    if n == 0 {
-        mark_where(chain.hard_on(), key, enabled(Irq::Hard, read))
-    } else {
-        mark_where(
-            chain.hard_on() && chain.soft_on(),
-            key,
-            enabled(Irq::Soft, read),
-        )
-    }
+    let irq = if n == 0 { Irq::Hard } else { Irq::Soft };
+    mark_where(
+        chain.flags().is_enabled(irq),
+        key,
+        enabled(irq, reads(mode)),
+    )
 }
 
+// The mark of a key that is used in the state.
 fn used_in(irq: Irq, read: bool) -> Mark
     ensures { result ≡ Mark.UsedIn irq read }
 {
     Mark::UsedIn { irq, read }
 }
 
+// The mark of a key that is used with the state enabled.
 fn enabled(irq: Irq, read: bool) -> Mark
     ensures { result ≡ Mark.Enabled irq read }
 {
@@ -108,18 +105,6 @@ fn mark_where(given: bool, key: KeyId, mark: Mark) -> Option<Fact>
         })
     } else {
         None
-    }
-}
-
-// The kind of a dependency from a lock held in the one mode to one taken in the other.
-fn kind_of(held: Mode, taken: Mode) -> Kind
-    ensures { result ≡ kind_between held taken }
-{
-    match (held, taken) {
-        (Mode::Write, Mode::RecRead) => Kind::Er,
-        (Mode::Write, _) => Kind::En,
-        (_, Mode::RecRead) => Kind::Sr,
-        _ => Kind::Sn,
     }
 }
 

@@ -1,95 +1,106 @@
-//! Where the links of a state arrive, and what they leave.
+//! Where the links of each state arrive, and what they leave.
 
 ghost use Rattle.std.specs.Prelude.{◌≡◌, ℕ, ◌<◌, ◌↔◌, ◌⊎◌, IsTrue, IsFalse};
-ghost use Rattle.ld_task.specs.declared.mark.Mark.{Mark};
-ghost use Rattle.ld_graph.specs.Arrows.{arrow};
+ghost use Rattle.ld_trace.specs.declared.event.Irq.{Irq};
 ghost use Rattle.ld_graph.specs.Bits.{has_bit};
+ghost use Rattle.ld_graph.specs.Numbers.{irq_number};
 ghost use Rattle.ld_graph.specs.Places.{LeavesFrom};
-ghost use Rattle.ld_graph.specs.Tables.{IsSource, IsTarget};
-ghost use Rattle.ld_graph.specs.Kept.{TakesMark, RowsMeet, MarkTurnsBack};
+ghost use Rattle.ld_graph.specs.Kept.{arrives_at, departs_from, TakesMark, JoinsLinks, MarkTurnsBack};
+ghost use Rattle.ld_trace.specs.declared.key_id.TheConstants.{MAX_KEYS};
 
 use crate::bits;
-use crate::fact::{begins_with_s, ends_in_r};
-use crate::places::{Row, place_of};
+use crate::places::{ROW_WORDS, Row, place_of};
 use crate::reach::Reach;
-use ld_task::{Kind, Mark};
+use ld_task::Mark;
 use ld_trace::Irq;
 
-/// The places where links of a state arrive, which are those of keys used in it, and the places that such links leave,
-/// which are those of keys used with it enabled.
+// How many states there are.
+const STATES: usize = 2;
+
+// By state, the places where its links arrive, which are those of keys used in it, and the places that its links
+// leave, which are those of keys used with it enabled.
 #[derive(Drop)]
 pub(crate) struct Ends {
-    irq: Irq,
-    arrivals: Row,
-    departures: Row,
+    arrivals: [Row; STATES],
+    departures: [Row; STATES],
 }
 
 impl Ends {
-    /// No links.
-    pub(crate) fn new(irq: Irq) -> Ends
-        ensures irq { result.irq ≡ irq }
-        ensures arrivals { (p : ℕ) → IsFalse (has_bit result.arrivals p) }
-        ensures departures { (q : ℕ) → IsFalse (has_bit result.departures q) }
+    // No links.
+    pub(crate) fn new() -> Ends
+        ensures arrivals { (irq : Irq) (p : ℕ) → IsFalse (arrives_at result irq p) }
+        ensures departures { (irq : Irq) (q : ℕ) → IsFalse (departs_from result irq q) }
     {
         Ends {
-            irq,
-            arrivals: [0; 8],
-            departures: [0; 8],
+            arrivals: [[0; ROW_WORDS]; STATES],
+            departures: [[0; ROW_WORDS]; STATES],
         }
     }
 
-    /// Takes in a mark of whatever state.
+    // Takes in the ends of the links by a mark.
     pub(crate) fn add(&mut self, key: u16, mark: Mark)
-        requires { key < 256 }
+        requires { key < MAX_KEYS }
         ensures { TakesMark self.old self.new key mark }
     {
         match mark {
             Mark::UsedIn { irq, read } => {
-                if irq == self.irq {
-                    bits::insert(&mut self.arrivals, place_of(key, read));
-                }
+                bits::insert(&mut self.arrivals[irq_number(irq)], place_of(key, read));
             }
             Mark::Enabled { irq, read } => {
-                if irq == self.irq {
-                    insert_left(&mut self.departures, key, read);
-                }
+                insert_left(&mut self.departures[irq_number(irq)], key, read);
             }
             Mark::Used => {}
         }
     }
 
-    /// Whether a link arrives at one of the sources, and one leaves one of the targets.
+    // Whether links of some state arrive at one of the sources and leave one of the targets.
     pub(crate) fn are_joined(&self, sources: &Row, targets: &Row) -> bool
-        ensures { IsTrue result ↔ RowsMeet sources.now targets.now self.now }
+        ensures { IsTrue result ↔ JoinsLinks sources.now targets.now self.now }
     {
-        bits::meet(sources, &self.arrivals) && bits::meet(targets, &self.departures)
+        for i in 0..STATES {
+            if bits::meet(sources, &self.arrivals[i]) && bits::meet(targets, &self.departures[i]) {
+                return true;
+            }
+        }
+        false
     }
 
-    /// Whether a link by the mark leads back to it, by what is reached.
+    // Whether a link by the mark leads back to it, by what is reached.
     pub(crate) fn turns_back(&self, reach: &Reach, key: u16, mark: Mark) -> bool
-        requires { key < 256 }
+        requires { key < MAX_KEYS }
         ensures { IsTrue result ↔ MarkTurnsBack reach.now self.now key mark }
     {
         match mark {
             Mark::UsedIn { irq, read } => {
-                irq == self.irq && bits::meet(&reach.targets(key, read), &self.departures)
+                bits::meet(&reach.targets(key, read), &self.departures[irq_number(irq)])
             }
             Mark::Enabled { irq, read } => {
-                irq == self.irq && bits::meet(&reach.sources(key, read), &self.arrivals)
+                bits::meet(&reach.sources(key, read), &self.arrivals[irq_number(irq)])
             }
             Mark::Used => false,
         }
     }
 }
 
+// The number of a state.
+pub(crate) fn irq_number(irq: Irq) -> usize
+    ensures value { result ≡ irq_number irq }
+    ensures below { result < 2 }
+{
+    match irq {
+        Irq::Hard => 0,
+        Irq::Soft => 1,
+    }
+}
+
 // Adds the places that an arrow from the key leaves, by its first letter.
-fn insert_left(row: &mut Row, key: u16, is_s: bool)
-    requires { key < 256 }
+fn insert_left(row: &mut Row, key: u16, by_s: bool)
+    requires { key < MAX_KEYS }
     ensures { (q : ℕ) → IsTrue (has_bit row.new q)
-        ↔ (IsTrue (has_bit row.old q) ⊎ LeavesFrom key is_s q) }
+        ↔ (IsTrue (has_bit row.old q) ⊎ LeavesFrom key by_s q) }
 {
     bits::insert(row, place_of(key, false));
-    if !is_s {
+    if !by_s {
         bits::insert(row, place_of(key, true));
     }
 }

@@ -1,43 +1,70 @@
-//! Single facts.
+//! Single facts, and their numbers as bits.
 
-ghost use Rattle.std.specs.Prelude.{◌≡◌, ◌<◌, ◌≤◌};
-ghost use Rattle.ld_graph.specs.Arrows.{arrow, is_s, is_r};
-ghost use Rattle.ld_graph.specs.Numbers.{kind_number, dependency_number, dependency_total, mark_index, mark_number, bit_total};
+ghost use Rattle.std.specs.Prelude.{◌≡◌, ◌<◌, ◌≤◌, ◌↔◌, IsTrue};
+ghost use Rattle.ld_graph.specs.Numbers.{kind_number, mark_index, fact_number, dependency_total, bit_total};
+ghost use Rattle.ld_graph.specs.FactBits.{FactBelow};
+ghost use Rattle.ld_trace.specs.declared.key_id.TheConstants.{MAX_KEYS};
 
+use crate::ends::irq_number;
 use ld_task::{Kind, Mark};
-use ld_trace::Irq;
 
 /// A dependency between two keys, or a mark on one.
-#[derive(Clone, Copy)]
-pub(crate) enum Fact {
+#[derive(Clone, Copy, PartialEq, Eq, Debug)]
+pub enum Fact {
     Dependency { from: u16, to: u16, kind: Kind },
     Marked { key: u16, mark: Mark },
 }
 
-// The bit number of a dependency.
-pub(crate) fn dependency_bit(keys: u16, from: u16, to: u16, kind: Kind) -> usize
-    requires keys { keys ≤ 256 }
+impl Fact {
+    // Whether the keys of the fact are below the bound.
+    pub(crate) fn is_below(self, keys: u16) -> bool
+        ensures { IsTrue result ↔ FactBelow keys self }
+    {
+        match self {
+            Fact::Dependency { from, to, .. } => from < keys && to < keys,
+            Fact::Marked { key, .. } => key < keys,
+        }
+    }
+
+    // The number of the fact's bit. Marks stand after the dependencies.
+    pub(crate) fn number(self, keys: u16) -> usize
+        requires few { keys ≤ MAX_KEYS }
+        requires below { FactBelow keys self }
+        ensures value { result ≡ fact_number keys self }
+        ensures within { result < bit_total keys }
+    {
+        match self {
+            Fact::Dependency { from, to, kind } => dependency_number(keys, from, to, kind),
+            Fact::Marked { key, mark } => mark_number(keys, key, mark),
+        }
+    }
+}
+
+// The number of a dependency's bit.
+fn dependency_number(keys: u16, from: u16, to: u16, kind: Kind) -> usize
+    requires few { keys ≤ MAX_KEYS }
     requires from { from < keys }
     requires to { to < keys }
-    ensures value { result ≡ dependency_number keys (arrow from to kind) }
-    ensures below { result < dependency_total keys }
+    ensures value { result ≡ fact_number keys (Fact.Dependency from to kind) }
+    ensures within { result < dependency_total keys }
 {
-    (usize::from(from) * usize::from(keys) + usize::from(to)) * 4 + number_of(kind)
+    (usize::from(from) * usize::from(keys) + usize::from(to)) * 4 + kind_number(kind)
 }
 
-// The bit number of a mark.
-pub(crate) fn mark_bit(keys: u16, key: u16, mark: Mark) -> usize
-    requires keys { keys ≤ 256 }
+// The number of a mark's bit.
+fn mark_number(keys: u16, key: u16, mark: Mark) -> usize
+    requires few { keys ≤ MAX_KEYS }
     requires key { key < keys }
-    ensures value { result ≡ mark_number keys key mark }
-    ensures below { result < bit_total keys }
+    ensures value { result ≡ fact_number keys (Fact.Marked key mark) }
+    ensures within { result < bit_total keys }
 {
     let n = usize::from(keys);
-    n * n * 4 + (usize::from(key) * 9 + index_of(mark))
+    n * n * 4 + (usize::from(key) * 9 + mark_index(mark))
 }
 
-fn number_of(kind: Kind) -> usize
-    ensures value { result ≡ kind_number (is_s kind) (is_r kind) }
+// The place of a kind among the four of its keys.
+fn kind_number(kind: Kind) -> usize
+    ensures value { result ≡ kind_number kind }
     ensures below { result < 4 }
 {
     match kind {
@@ -48,41 +75,14 @@ fn number_of(kind: Kind) -> usize
     }
 }
 
-fn index_of(mark: Mark) -> usize
+// The place of a mark among the nine of its key.
+fn mark_index(mark: Mark) -> usize
     ensures value { result ≡ mark_index mark }
     ensures below { result < 9 }
 {
     match mark {
         Mark::Used => 0,
-        Mark::UsedIn {
-            irq: Irq::Hard,
-            read,
-        } => if read { 2 } else { 1 },
-        Mark::Enabled {
-            irq: Irq::Hard,
-            read,
-        } => if read { 4 } else { 3 },
-        Mark::UsedIn {
-            irq: Irq::Soft,
-            read,
-        } => if read { 6 } else { 5 },
-        Mark::Enabled {
-            irq: Irq::Soft,
-            read,
-        } => if read { 8 } else { 7 },
+        Mark::UsedIn { irq, read } => 1 + irq_number(irq) * 4 + usize::from(read),
+        Mark::Enabled { irq, read } => 3 + irq_number(irq) * 4 + usize::from(read),
     }
-}
-
-// Whether a kind's first letter is S.
-pub(crate) fn begins_with_s(kind: Kind) -> bool
-    ensures { result ≡ is_s kind }
-{
-    matches!(kind, Kind::Sr | Kind::Sn)
-}
-
-// Whether a kind's second letter is R.
-pub(crate) fn ends_in_r(kind: Kind) -> bool
-    ensures { result ≡ is_r kind }
-{
-    matches!(kind, Kind::Er | Kind::Sr)
 }

@@ -1,20 +1,28 @@
 //! Laws of the definitions, each carried by a function that does nothing.
 
-ghost use Rattle.ld_graph.specs.Laws.{AddingInTurnUnites, AddingOneMoreUnites, NewCirclesHaveNewMembers, NewDoublesHaveNewMarks, NewInversionsHaveNewParts};
+ghost use Rattle.ld_graph.specs.Laws.{DependenciesHaveOneNumber, TraceFactsAreTheChains, AddingInTurnUnites, NewCirclesHaveNewMembers, NewDoublesHaveNewMarks, NewInversionsHaveNewParts};
+
+/// The facts of a trace are those of its chains.
+pub fn trace_facts_are_the_chains()
+    ensures { TraceFactsAreTheChains }
+{
+    ld_task::dependencies_are_the_chains();
+    ld_task::marks_are_the_chains();
+}
+
+/// The dependencies of some traces have one number.
+pub fn dependencies_have_one_number()
+    ensures { DependenciesHaveOneNumber }
+{}
 
 /// Adding chains one after the other gives the union of their facts.
 pub fn adding_in_turn_unites()
     ensures { AddingInTurnUnites }
 {}
 
-/// Adding one chain more to the facts of some gives the facts of all of them.
-pub fn adding_one_more_unites()
-    ensures { AddingOneMoreUnites }
-{}
-
-/// What is new suffices to find what is wrong: a new circle can be turned to begin with a new dependency, a new double
-/// has a link with a new mark, and a new inversion has such a link, or a first part of its walk ends and a last part
-/// begins with a new dependency.
+/// What is new suffices to find what is wrong. A new closed walk has a new member, and can be turned to begin with it.
+/// The link of a new double has a new mark. The link of a new inversion has one, or its walk has a new member, where a
+/// first part ends and a last part begins.
 pub fn what_is_new_suffices()
     ensures circles { NewCirclesHaveNewMembers }
     ensures doubles { NewDoublesHaveNewMarks }

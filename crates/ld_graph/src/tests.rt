@@ -2,7 +2,7 @@
 
 use crate::{Facts, Graph, Kind, Mark};
 use ld_task::{Chain, TaskState};
-use ld_trace::{Event, Irq, KeyId, Mode};
+use ld_trace::{Event, Irq, KeyId, MAX_KEYS, Mode};
 use std::alloc::{AllocError, Global};
 use std::process::Abort;
 use std::test::Fail;
@@ -105,6 +105,21 @@ fn replay(rt: &impl Abort, graph: &mut Graph, events: &[Event]) -> Option<Chain>
     last
 }
 
+// The graph of these traces.
+fn graph_of(
+    rt: &impl Abort,
+    alloc: Global,
+    keys: u16,
+    traces: &[&[Event]],
+) -> Result<Graph, AllocError> {
+    assert!(rt; keys <= MAX_KEYS);
+    let mut graph = Graph::new(alloc, keys)?;
+    for trace in traces {
+        replay(rt, &mut graph, *trace);
+    }
+    Ok(graph)
+}
+
 #[test]
 fn two_locks_taken_in_both_orders_are_on_a_circle(rt: HostRuntime) -> Result<(), Fail> {
     let mut graph = Graph::new(rt.alloc(), 2)?;
@@ -149,30 +164,41 @@ fn a_recursive_reader_between_is_passed_over(rt: HostRuntime) -> Result<(), Fail
     Ok(())
 }
 
+// Whether the lock of key A, taken in the one mode and again in the other, is on a circle by itself.
+fn is_circle_alone(
+    rt: &impl Abort,
+    alloc: Global,
+    held: Event,
+    taken: Event,
+    kind: Kind,
+) -> Result<bool, AllocError> {
+    let mut graph = Graph::new(alloc, 1)?;
+    replay(rt, &mut graph, &[held, taken]);
+    assert!(rt; graph.facts().has_dep(A, A, kind));
+    assert_eq!(rt; graph.is_clean(), !graph.on_circle(A, A, kind));
+    Ok(graph.on_circle(A, A, kind))
+}
+
 #[test]
 fn one_lock_taken_twice_is_a_circle_but_for_two_recursive_readers(
     rt: HostRuntime,
 ) -> Result<(), Fail> {
-    let mut graph = Graph::new(rt.alloc(), 3)?;
-    replay(&rt, &mut graph, &[reread(A), reread(A)]);
-    assert!(rt; graph.is_clean());
-    replay(&rt, &mut graph, &[write(B), reread(B)]);
-    replay(&rt, &mut graph, &[read(C), read(C)]);
-    assert!(rt; graph.on_circle(B, B, Kind::Er) && graph.on_circle(C, C, Kind::Sn));
-    assert!(rt; !graph.on_circle(A, A, Kind::Sr));
+    let alloc = rt.alloc();
+    assert!(rt; !is_circle_alone(&rt, alloc, reread(A), reread(A), Kind::Sr)?);
+    assert!(rt; is_circle_alone(&rt, alloc, write(A), reread(A), Kind::Er)?);
+    assert!(rt; is_circle_alone(&rt, alloc, read(A), read(A), Kind::Sn)?);
     Ok(())
 }
 
 #[test]
 fn a_closed_walk_is_tested_where_its_last_meets_its_first(rt: HostRuntime) -> Result<(), Fail> {
-    let mut graph = Graph::new(rt.alloc(), 2)?;
-    replay(&rt, &mut graph, &[write(A), reread(B)]);
-    replay(&rt, &mut graph, &[reread(B), write(A)]);
+    let first = [write(A), reread(B)];
+    let graph = graph_of(&rt, rt.alloc(), 2, &[&first, &[reread(B), write(A)]])?;
     assert_eq!(rt; graph.facts().dependencies(), 2);
     assert!(rt; graph.is_clean());
-    replay(&rt, &mut graph, &[write(B), write(A)]);
+    let graph = graph_of(&rt, rt.alloc(), 2, &[&first, &[write(B), write(A)]])?;
     assert!(rt; graph.on_circle(A, B, Kind::Er) && graph.on_circle(B, A, Kind::En));
-    assert!(rt; !graph.on_circle(B, A, Kind::Sn));
+    assert!(rt; !graph.on_circle(B, A, Kind::Sn), "not among the facts");
     Ok(())
 }
 
@@ -210,6 +236,19 @@ fn a_key_used_in_hardirqs_and_with_them_on_is_a_double_but_for_readers(
     replay(&rt, &mut graph, &[write(B), give(B)]);
     assert!(rt; graph.is_double(Irq::Hard, B));
     assert!(rt; !graph.is_double(Irq::Soft, B) && !graph.is_double(Irq::Hard, A));
+    Ok(())
+}
+
+#[test]
+fn a_lock_taken_in_an_interrupt_depends_on_none_of_the_task(rt: HostRuntime) -> Result<(), Fail> {
+    let mut graph = Graph::new(rt.alloc(), 2)?;
+    replay(
+        &rt,
+        &mut graph,
+        &[write(A), enter(Irq::Hard), write(B), give(B), LEAVE],
+    );
+    assert_eq!(rt; graph.facts().dependencies(), 0);
+    assert!(rt; graph.is_clean());
     Ok(())
 }
 
@@ -284,46 +323,31 @@ fn three_orders(rt: HostRuntime) -> Result<(), Fail> {
     Ok(())
 }
 
+// Takes B while A is held with hardirqs off.
+fn under(a: Event, b: Event) -> [Event; 5] {
+    [turn_off(Irq::Hard), a, b, give(B), give(A)]
+}
+
 #[test]
 fn an_inversion_is_tested_where_its_walk_begins(rt: HostRuntime) -> Result<(), Fail> {
-    let mut graph = Graph::new(rt.alloc(), 2)?;
-    replay(
-        &rt,
-        &mut graph,
-        &[enter(Irq::Hard), read(A), give(A), LEAVE],
-    );
-    replay(
-        &rt,
-        &mut graph,
-        &[turn_off(Irq::Hard), read(A), write(B), give(B), give(A)],
-    );
-    replay(&rt, &mut graph, &[write(B), give(B)]);
+    let used = [enter(Irq::Hard), read(A), give(A), LEAVE];
+    let enabled = [write(B), give(B)];
+    let by_reader = under(read(A), write(B));
+    let graph = graph_of(&rt, rt.alloc(), 2, &[&used, &by_reader, &enabled])?;
     assert!(rt; graph.is_clean());
-    replay(
-        &rt,
-        &mut graph,
-        &[turn_off(Irq::Hard), write(A), write(B), give(B), give(A)],
-    );
-    assert!(rt; graph.is_inversion(Irq::Hard, A, B));
+    let by_writer = under(write(A), write(B));
+    let graph = graph_of(&rt, rt.alloc(), 2, &[&used, &by_writer, &enabled])?;
+    assert!(rt; graph.is_inversion(Irq::Hard, A, B) && !graph.is_clean());
     Ok(())
 }
 
 #[test]
 fn an_inversion_is_tested_where_its_walk_ends(rt: HostRuntime) -> Result<(), Fail> {
-    let mut graph = Graph::new(rt.alloc(), 2)?;
-    replay(
-        &rt,
-        &mut graph,
-        &[enter(Irq::Hard), write(A), give(A), LEAVE],
-    );
-    replay(
-        &rt,
-        &mut graph,
-        &[turn_off(Irq::Hard), write(A), reread(B), give(B), give(A)],
-    );
-    replay(&rt, &mut graph, &[reread(B), give(B)]);
-    assert!(rt; graph.is_clean());
-    assert!(rt; !graph.is_inversion(Irq::Hard, A, B));
+    let used = [enter(Irq::Hard), write(A), give(A), LEAVE];
+    let enabled = [reread(B), give(B)];
+    let to_reader = under(write(A), reread(B));
+    let graph = graph_of(&rt, rt.alloc(), 2, &[&used, &to_reader, &enabled])?;
+    assert!(rt; graph.is_clean() && !graph.is_inversion(Irq::Hard, A, B));
     Ok(())
 }
 

@@ -1,5 +1,6 @@
-pub mod Walking
-pub mod Sound
+pub mod BeforeFaults
 pub mod Tallies
+pub mod Walking
 pub mod Shares
 pub mod Settlements
+pub mod Counts

@@ -1,32 +1,30 @@
 -- A book settles exactly with tallies of the same facts.
 use Rattle.std.proofs.Common.{◌≡◌, ℕ, ◌≤◌, ◌↔◌, List, Result, Ok, Err, IfOk, IfErr, length, sym, subst, ◌∙◌}
 use Rattle.ld_trace.specs.declared.event.Event.{Event}
-use Rattle.ld_task.specs.declared.fault.StepAt.{StepAt}
-use Rattle.ld_task.specs.declared.mark.Mark.{Mark}
-use Rattle.ld_graph.specs.Arrows.{Arrow}
-use Rattle.ld_graph.specs.Facts.{FactWords, HasDep, HasMark, HaveSameFacts}
-use Rattle.ld_book.specs.Books.{BookParts, RecordsDependency, RecordsMark}
+use Rattle.ld_graph.specs.FactBits.{FactWords, HasFact}
+use Rattle.ld_graph.specs.Facts.{AreSame}
+use Rattle.ld_book.specs.Books.{BookParts, JournalHas}
 use Rattle.ld_run.specs.TraceFacts.{IsFirstRefused}
-use Rattle.ld_run.specs.Faults.{IsCrew, StopsRun}
-use Rattle.ld_run.specs.Runs.{CompletesRun, EndsRun}
+use Rattle.ld_run.specs.Runs.{CompletesRun, EndsRun, IsCrew, StopsRun}
 use Rattle.ld_run.specs.Settling.{Settles}
 use Rattle.ld_run.specs.declared.fault.RunFault.{RunFault}
 use Rattle.ld_run.specs.declared.fault.RunFault.TheVariants.{Unsettled, Refused}
+use Rattle.ld_run.specs.declared.runs.TheConstants.{MAX_TRACES}
+use Rattle.ld_run.specs.declared.worker.RefusedTrace.{RefusedTrace}
 
-pub settles-same : (book : BookParts) (facts tallies : FactWords) → facts.keys ≡ book.keys → ((d : Arrow) → HasDep facts d ↔ RecordsDependency book.journal d) → ((key : ℕ) (mark : Mark) → HasMark facts key mark ↔ RecordsMark book.journal key mark) → HaveSameFacts facts tallies ↔ Settles book tallies
-settles-same book facts tallies keys dependencies marks = (
-  λ same. record {
-    keys = sym keys ∙ same.keys;
-    facts = record {
-      dependencies = λ d. ((λ h. (dependencies d).0 ((same.dependencies d).1 h)), (λ r. (same.dependencies d).0 ((dependencies d).1 r)));
-      marks = λ key mark. ((λ h. (marks key mark).0 ((same.marks key mark).1 h)), (λ r. (same.marks key mark).0 ((marks key mark).1 r)));
-    };
+pub settles-same : (book : BookParts) (facts tallies : FactWords) → facts.keys ≡ book.keys → AreSame (HasFact facts) (JournalHas book.journal) → ((facts.keys ≡ tallies.keys) × AreSame (HasFact facts) (HasFact tallies)) ↔ Settles book tallies
+settles-same book facts tallies keys facts_are = (
+  λ (same_keys, same). record {
+    keys = sym keys ∙ same_keys;
+    facts = λ x. ((λ h. (facts_are x).0 ((same x).1 h)), (λ r. (same x).0 ((facts_are x).1 r)));
   },
-  λ settles. record {
-    keys = keys ∙ settles.keys;
-    dependencies = λ d. ((λ h. (settles.facts.dependencies d).1 ((dependencies d).0 h)), (λ h. (dependencies d).1 ((settles.facts.dependencies d).0 h)));
-    marks = λ key mark. ((λ h. (settles.facts.marks key mark).1 ((marks key mark).0 h)), (λ h. (marks key mark).1 ((settles.facts.marks key mark).0 h)));
-  },
+  λ settles. (
+    keys ∙ settles.keys,
+    λ x. (
+      (λ h. (settles.facts x).1 ((facts_are x).0 h)),
+      (λ h. (facts_are x).1 ((settles.facts x).0 h)),
+    ),
+  ),
 )
 
 -- settling with the tally of all traces ends the run
@@ -36,7 +34,7 @@ settled_ends traces workers facts (Err fault) none is completed =
     subst (StopsRun traces workers) (sym is) (completed.crew, completed.few, completed.well_formed)
 
 -- a trace that isn't well formed ends the run
-pub refused_ends : (traces : List (List Event)) (workers : ℕ) (found : ℕ × StepAt) (fault : RunFault) → fault ≡ Refused found.0 found.1.place found.1.fault → IsCrew workers → length traces ≤ 4096 → IsFirstRefused traces found.0 found.1 → StopsRun traces workers fault
+pub refused_ends : (traces : List (List Event)) (workers : ℕ) (found : RefusedTrace) (fault : RunFault) → fault ≡ Refused found.trace found.first.place found.first.fault → IsCrew workers → length traces ≤ MAX_TRACES → IsFirstRefused traces found.trace found.first → StopsRun traces workers fault
 refused_ends traces workers found fault is crew few first = subst (StopsRun traces workers) (sym is) (crew, few, first)
 
 -- what the end says of each outcome

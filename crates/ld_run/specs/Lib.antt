@@ -1,7 +1,7 @@
-pub mod TraceFacts
 pub mod Faults
+pub mod TraceFacts
 pub mod Runs
-pub mod Tallies
-pub mod Walks
-pub mod Shares
 pub mod Settling
+pub mod Tallies
+pub mod Shares
+pub mod Walks

@@ -1,27 +1,38 @@
--- What a completed run says. This project's own.
-use Rattle.std.specs.Prelude.{ℕ, ◌↔◌, ◌≤◌, List, All, length, Result, Ok, Err}
+-- How a run ends [this project's own].
+use Rattle.std.specs.Prelude.{ℕ, ◌<◌, ◌≤◌, List, All, length, Result, Ok, Err}
 use Rattle.ld_trace.specs.declared.event.Event.{Event}
-use Rattle.ld_task.specs.declared.mark.Mark.{Mark}
 use Rattle.ld_task.specs.WellFormed.{IsWellFormed}
-use Rattle.ld_graph.specs.Arrows.{Arrow}
-use Rattle.ld_graph.specs.Facts.{FactWords, HasDep, HasMark}
-use Rattle.ld_run.specs.TraceFacts.{HaveDependency, HaveMark}
-use Rattle.ld_run.specs.Faults.{IsCrew, StopsRun}
+use Rattle.ld_graph.specs.FactBits.{FactWords, HasFact}
+use Rattle.ld_graph.specs.Facts.{AreSame}
+use Rattle.ld_run.specs.TraceFacts.{TracesHave, IsFirstRefused}
 use Rattle.ld_run.specs.declared.fault.RunFault.{RunFault}
+use Rattle.ld_run.specs.declared.fault.RunFault.TheVariants.{BadWorkers, TooManyTraces, Unsettled, Memory, Refused}
+use Rattle.ld_run.specs.declared.runs.TheConstants.{MAX_TRACES, MAX_WORKERS}
 
--- the facts are exactly those of all the traces together
-pub record AreFactsOfAll (facts : FactWords) (traces : List (List Event)) : Type 0 where
-  pub dependencies : (d : Arrow) → HasDep facts d ↔ HaveDependency traces d
-  pub marks : (key : ℕ) (mark : Mark) → HasMark facts key mark ↔ HaveMark traces key mark
+-- there can be this many workers
+abbrev pub IsCrew : ℕ → Type 0
+IsCrew workers = (1 ≤ workers) × (workers ≤ MAX_WORKERS)
 
--- the run of so many workers over these traces is completed with these facts
+-- the run of this many workers over these traces is completed with these facts: exactly those of all the traces together
 pub record CompletesRun (traces : List (List Event)) (workers : ℕ) (facts : FactWords) : Type 0 where
   pub crew : IsCrew workers
-  pub few : length traces ≤ 4096
+  pub few : length traces ≤ MAX_TRACES
   pub well_formed : All IsWellFormed traces
-  pub facts_are : AreFactsOfAll facts traces
+  pub facts_are : AreSame (HasFact facts) (TracesHave traces)
 
--- the run ended so
+-- the run of this many workers over these traces was refused: for the number of workers; for the number of traces; by the
+-- first trace that isn't well formed, with its first event that isn't allowed; for want of memory; or because the facts
+-- differ, which they only do if all traces are well formed
+abbrev pub StopsRun : List (List Event) → ℕ → RunFault → Type 0
+StopsRun traces workers BadWorkers = ¬ IsCrew workers
+StopsRun traces workers TooManyTraces = IsCrew workers × (MAX_TRACES < length traces)
+StopsRun traces workers Unsettled = IsCrew workers × (length traces ≤ MAX_TRACES) × All IsWellFormed traces
+StopsRun traces workers Memory = IsCrew workers × (length traces ≤ MAX_TRACES)
+StopsRun traces workers (Refused trace place fault) =
+    IsCrew workers × (length traces ≤ MAX_TRACES) ×
+    IsFirstRefused traces trace (record { fault = fault; place = place })
+
+-- the run ended in this way
 abbrev pub EndsRun : List (List Event) → ℕ → Result FactWords RunFault → Type 0
 EndsRun traces workers (Ok facts) = CompletesRun traces workers facts
 EndsRun traces workers (Err fault) = StopsRun traces workers fault

@@ -10,20 +10,20 @@ use thiserror::Error;
 #[derive(Clone, Copy, PartialEq, Eq, Debug, Error)]
 pub enum RunFault {
     /// N1: the number of workers isn't 1 to 64.
-    #[error("N1 BadWorkers")]
+    #[error("the number of workers is not 1 to 64")]
     BadWorkers,
     /// N2: there are more than 4,096 traces.
-    #[error("N2 TooManyTraces")]
+    #[error("there are more than 4,096 traces")]
     TooManyTraces,
     /// N3: the book and the tallies don't have the same facts.
-    #[error("N3 Unsettled")]
+    #[error("the book and the workers do not agree on the facts")]
     Unsettled,
     /// N4: memory was refused.
-    #[error("N4 Memory")]
+    #[error("out of memory")]
     Memory,
     /// N5: a trace isn't well formed. The least such trace by its place in the list, the place of its first event that
     /// isn't allowed, both counted from 0, and why it isn't.
-    #[error("N5 Refused: trace {trace}, event {place}: {fault}")]
+    #[error("trace {trace} is not well formed at event {place}: {fault}")]
     Refused {
         trace: usize,
         place: usize,

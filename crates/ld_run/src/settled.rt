@@ -1,14 +1,18 @@
-//! The facts of a completed run, and what they mean.
+//! The facts of a completed run, when a book has them, and what they mean.
 
-ghost use Rattle.std.specs.Prelude.{◌≡◌, ◌↔◌, IsTrue};
+ghost use Rattle.std.specs.Prelude.{◌≡◌, ◌↔◌, IfErr, IfOk, IsOk, IsTrue};
 ghost use Rattle.ld_graph.specs.Arrows.{arrow};
 ghost use Rattle.ld_graph.specs.Counting.{IsNumberOf};
-ghost use Rattle.ld_graph.specs.Facts.{HasDep, HasMark};
-ghost use Rattle.ld_graph.specs.Graphs.{AreClean};
-ghost use Rattle.ld_graph.specs.Links.{IsDouble, IsInversion};
+ghost use Rattle.ld_graph.specs.FactBits.{HasFact};
+ghost use Rattle.ld_graph.specs.Facts.{DependenciesOf};
+ghost use Rattle.ld_graph.specs.Links.{IsClean, IsDouble, IsInversion};
 ghost use Rattle.ld_graph.specs.Walks.{OnCircle};
+ghost use Rattle.ld_graph.specs.declared.fact.Fact.{Fact};
+ghost use Rattle.ld_run.specs.Settling.{Settles};
 
-use ld_graph::{Graph, Kind, Mark};
+use crate::fault::RunFault;
+use ld_book::Book;
+use ld_graph::{Facts, Graph, Kind, Mark};
 use ld_trace::Irq;
 use std::marker::Model;
 
@@ -19,7 +23,7 @@ pub struct Settled {
 }
 
 impl Model for Settled {
-    ghost use Rattle.ld_graph.specs.Facts.{FactWords};
+    ghost use Rattle.ld_graph.specs.FactBits.{FactWords};
 
     ghost Value = { FactWords };
 
@@ -27,44 +31,37 @@ impl Model for Settled {
 }
 
 impl Settled {
-    // The facts of this graph.
-    pub(crate) fn of_graph(graph: Graph) -> Settled
-        ensures { result ≡ graph.facts }
-    {
-        Settled { graph }
-    }
-
     /// Whether the dependency is among the facts.
     pub fn has_dep(&self, from: u16, to: u16, kind: Kind) -> bool
-        ensures { IsTrue result ↔ HasDep self.now (arrow from to kind) }
+        ensures { IsTrue result ↔ HasFact self.now (Fact.Dependency from to kind) }
     {
         self.graph.facts().has_dep(from, to, kind)
     }
 
     /// Whether the key has the mark.
     pub fn has_mark(&self, key: u16, mark: Mark) -> bool
-        ensures { IsTrue result ↔ HasMark self.now key mark }
+        ensures { IsTrue result ↔ HasFact self.now (Fact.Marked key mark) }
     {
         self.graph.facts().has_mark(key, mark)
     }
 
     /// How many distinct dependencies there are, at most 262,144.
     pub fn dependencies(&self) -> u64
-        ensures { IsNumberOf (HasDep self.now) result }
+        ensures { IsNumberOf (DependenciesOf (HasFact self.now)) result }
     {
         self.graph.facts().dependencies()
     }
 
     /// Whether the dependency is on a circle. False where it isn't among the facts.
     pub fn on_circle(&self, from: u16, to: u16, kind: Kind) -> bool
-        ensures { IsTrue result ↔ OnCircle (HasDep self.now) (arrow from to kind) }
+        ensures { IsTrue result ↔ OnCircle (HasFact self.now) (arrow from to kind) }
     {
         self.graph.on_circle(from, to, kind)
     }
 
     /// Whether the key is a double of the state: used in it and used with it enabled, and not by readers alone.
     pub fn is_double(&self, irq: Irq, key: u16) -> bool
-        ensures { IsTrue result ↔ IsDouble (HasMark self.now) irq key }
+        ensures { IsTrue result ↔ IsDouble (HasFact self.now) irq key }
     {
         self.graph.is_double(irq, key)
     }
@@ -72,15 +69,31 @@ impl Settled {
     /// Whether `a` and `b` are an inversion of the state: a strong walk from `a` to `b` and an interrupt link from `b`
     /// to `a`, each of which may follow the other.
     pub fn is_inversion(&self, irq: Irq, a: u16, b: u16) -> bool
-        ensures { IsTrue result ↔ IsInversion (HasDep self.now) (HasMark self.now) irq a b }
+        ensures { IsTrue result ↔ IsInversion (HasFact self.now) irq a b }
     {
         self.graph.is_inversion(irq, a, b)
     }
 
     /// Whether no dependency is on a circle and there is no double and no inversion.
     pub fn is_clean(&self) -> bool
-        ensures { IsTrue result ↔ AreClean self.now }
+        ensures { IsTrue result ↔ IsClean (HasFact self.now) }
     {
         self.graph.is_clean()
+    }
+}
+
+/// The facts of the book, if they are those of the tallies. Takes no memory [this project's own].
+///
+/// N3 exactly if the book's keys or facts aren't those of the tallies. The book is consumed in every case.
+pub fn settle(book: Book, tallies: &Facts) -> Result<Settled, RunFault>
+    ensures exact { IsOk result ↔ Settles book tallies.now }
+    ensures facts { IfOk result (λ settled. settled ≡ tallies.now) }
+    ensures refused { IfErr result (λ fault. fault ≡ RunFault.Unsettled) }
+{
+    let graph = book.into_graph();
+    if graph.facts().same(tallies) {
+        Ok(Settled { graph })
+    } else {
+        Err(RunFault::Unsettled)
     }
 }

@@ -114,7 +114,7 @@ fn run_over<R: Threads + Wait + Sync + Abort, G: Gate + Sync>(
     workers: u16,
     gate: &G,
 ) -> Result<Settled, RunFault> {
-    assert!(rt; keys <= 256 && traces.iter().all(|trace| trace.keys_below(keys)));
+    assert!(rt; keys <= ld_trace::MAX_KEYS && traces.iter().all(|trace| trace.keys_below(keys)));
     run(rt, alloc, traces, keys, workers, gate)
 }
 
@@ -295,6 +295,51 @@ fn the_gate_is_called_once_for_each_chain(rt: HostRuntime) -> Result<(), Fail> {
             gate.calls.load(Ordering::SeqCst) == 4 && gate.numbers.load(Ordering::SeqCst) == 2
         );
     }
+    Ok(())
+}
+
+// A gate that fails unless the chains of the one trace come in turn.
+#[derive(Drop)]
+struct InTurn {
+    next: AtomicU64,
+    missed: AtomicBool,
+}
+
+impl Gate for InTurn {
+    fn before_record(&self, _trace: usize, number: u64) {
+        if self.next.fetch_add(1, Ordering::SeqCst) != number {
+            self.missed.store(true, Ordering::SeqCst);
+        }
+    }
+}
+
+#[test]
+fn chains_are_numbered_and_events_are_not(rt: HostRuntime) -> Result<(), Fail> {
+    let irq = ld_trace::Irq::Hard;
+    let off = Event::TurnOff { irq };
+    let events = [off, write(A), give(A), write(A), give(A), off, write(A)];
+    let mut traces = Vec::new(rt.alloc());
+    traces.push(trace_of(rt.alloc(), &events)?)?;
+    let gate = InTurn {
+        next: AtomicU64::new(0),
+        missed: AtomicBool::new(false),
+    };
+    run_over(&rt, rt.alloc(), &traces, 1, 1, &gate)?;
+    assert!(rt; gate.next.load(Ordering::SeqCst) == 3 && !gate.missed.load(Ordering::SeqCst));
+    Ok(())
+}
+
+#[test]
+fn a_trace_of_a_hundred_thousand_events(rt: HostRuntime) -> Result<(), Fail> {
+    let mut events = Vec::new(rt.alloc());
+    for _ in 0..50_000 {
+        events.push(write(A))?;
+        events.push(give(A))?;
+    }
+    let mut traces = Vec::new(rt.alloc());
+    traces.push(RawTrace::from_events(events).ok_or("too many events")?)?;
+    let settled = run_over(&rt, rt.alloc(), &traces, 1, 2, &OpenGate)?;
+    assert!(rt; settled.is_clean() && settled.has_mark(A, Mark::Used));
     Ok(())
 }
 

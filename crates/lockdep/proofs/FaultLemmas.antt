@@ -2,7 +2,8 @@
 use Rattle.std.proofs.Common.{◌≡◌, ◌<◌, ◌≤◌, ◌↔◌, ℕ, Bool, List, Option, Result, Ok, Err, OnOk, OnErr, IfErr, IsErrOf, length, refl, arith}
 use Rattle.ld_trace.specs.Names.{Name}
 use Rattle.ld_trace.specs.declared.event.Event.{Event}
-use Rattle.ld_run.specs.Faults.{IsCrew}
+use Rattle.ld_run.specs.Runs.{IsCrew}
+use Rattle.ld_run.specs.declared.runs.TheConstants.{MAX_TRACES}
 use Rattle.ld_run.specs.declared.fault.RunFault.TheVariants as run
 use Rattle.lockdep.specs.declared.fault.ReportFault.{ReportFault}
 use Rattle.lockdep.specs.declared.fault.ReportFault.TheVariants.{Step, Run, Out}
@@ -25,7 +26,7 @@ StopsWriting-same A B same old new Memory kept = kept
 
 module _ (traces : List (List Event)) (names : List Name) (workers : ℕ) (old new : Option (List ℕ)) where
   -- a report is refused for the number of workers exactly where there can't be so many
-  pub bad_workers_is : (r : Result Bool ReportFault) → OnOk r (IsCrew workers × (length traces ≤ 4096)) → IfErr r (StopsReport traces names workers old new) → IsErrOf r (Run run.BadWorkers) ↔ (¬ IsCrew workers)
+  pub bad_workers_is : (r : Result Bool ReportFault) → OnOk r (IsCrew workers × (length traces ≤ MAX_TRACES)) → IfErr r (StopsReport traces names workers old new) → IsErrOf r (Run run.BadWorkers) ↔ (¬ IsCrew workers)
   bad_workers_is (Ok x) crew stops = (λ e. absurd (cc), λ no. absurd (no crew.0))
   bad_workers_is (Err (Step trace at fault)) crew stops = (λ e. absurd (cc), λ no. absurd (no stops.1.0))
   bad_workers_is (Err (Run run.BadWorkers)) crew stops = (λ e. stops.0, λ no. refl)
@@ -36,7 +37,7 @@ module _ (traces : List (List Event)) (names : List Name) (workers : ℕ) (old n
   bad_workers_is (Err (Out fault)) crew stops = (λ e. absurd (cc), λ no. absurd (no stops.0))
 
   -- and for the number of traces exactly where there are too many for a crew
-  pub too_many_is : (r : Result Bool ReportFault) → OnOk r (IsCrew workers × (length traces ≤ 4096)) → IfErr r (StopsReport traces names workers old new) → IsErrOf r (Run run.TooManyTraces) ↔ (IsCrew workers × (4096 < length traces))
+  pub too_many_is : (r : Result Bool ReportFault) → OnOk r (IsCrew workers × (length traces ≤ MAX_TRACES)) → IfErr r (StopsReport traces names workers old new) → IsErrOf r (Run run.TooManyTraces) ↔ (IsCrew workers × (MAX_TRACES < length traces))
   too_many_is (Ok x) crew stops = (λ e. absurd (cc), λ more. absurd (omega (arith, crew.1, more.1)))
   too_many_is (Err (Step trace at fault)) crew stops = (λ e. absurd (cc), λ more. absurd (omega (arith, stops.1.1, more.1)))
   too_many_is (Err (Run run.BadWorkers)) crew stops = (λ e. absurd (cc), λ more. absurd (stops.0 more.0))

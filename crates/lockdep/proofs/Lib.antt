@@ -2,7 +2,6 @@ pub mod OutputLemmas
 pub mod OrderLemmas
 pub mod GroupLemmas
 pub mod StepLemmas
-pub mod PageLemmas
 pub mod ChainLemmas
 pub mod ReportLemmas
 pub mod FaultLemmas

@@ -13,7 +13,7 @@ use Rattle.ld_task.specs.Positions.{positions_below}
 use Rattle.ld_task.specs.EndState.{EndState}
 use Rattle.ld_task.specs.Steps.{GoesOn, IsStateAfter}
 use Rattle.ld_task.specs.WellFormed.{IsWellFormed}
-use Rattle.lockdep.specs.ChainLines.{chain_line, chains_text, lines_before, IsLineOf}
+use Rattle.lockdep.specs.ChainLines.{chain_line, chains_text, lines_before, IsLineAt}
 use Rattle.ld_task.proofs.ChainLists.{chains-snoc}
 use Rattle.ld_trace.specs.declared.event.Event.TheVariants.{Leave}
 use Rattle.lockdep.proofs.GroupLemmas.{flat_map-append}
@@ -29,16 +29,16 @@ goes_on-state t n state (Ok answer) well_formed on = on.0
 goes_on-state t n state (Err e) well_formed on = absurd (never_refused t n state e well_formed on)
 
 -- the line that one more event brings
-pub goes_on-line : (names : List Name) (t : List Event) (n : ℕ) (state : EndState) (r : Result (Option ChainParts) StepFault) (answer : Option ChainParts) → r ≡ Ok answer → GoesOn t n state r → IsLineOf names t n (flat_map (chain_line names) (option_to_list answer))
+pub goes_on-line : (names : List Name) (t : List Event) (n : ℕ) (state : EndState) (r : Result (Option ChainParts) StepFault) (answer : Option ChainParts) → r ≡ Ok answer → GoesOn t n state r → IsLineAt names t n (flat_map (chain_line names) (option_to_list answer))
 unfolding chains_text
 goes_on-line names t n state r answer is on =
     let after = subst (λ x. GoesOn t n state x) is on in
     record { adds = ap (flat_map (chain_line names)) after.1 ∙ flat_map-append (chain_line names) (chains (take n t)) (option_to_list answer) }
 
-pub one_line : (names : List Name) (t : List Event) (n : ℕ) (state : EndState) (r : Result (Option ChainParts) StepFault) (c : ChainParts) → r ≡ Ok (Some c) → GoesOn t n state r → IsLineOf names t n (chain_line names c)
-one_line names t n state r c is on = subst (λ text. IsLineOf names t n text) (append-nil (chain_line names c)) (goes_on-line names t n state r (Some c) is on)
+pub one_line : (names : List Name) (t : List Event) (n : ℕ) (state : EndState) (r : Result (Option ChainParts) StepFault) (c : ChainParts) → r ≡ Ok (Some c) → GoesOn t n state r → IsLineAt names t n (chain_line names c)
+one_line names t n state r c is on = subst (λ text. IsLineAt names t n text) (append-nil (chain_line names c)) (goes_on-line names t n state r (Some c) is on)
 
-pub no_line : (names : List Name) (t : List Event) (n : ℕ) (state : EndState) (r : Result (Option ChainParts) StepFault) → r ≡ Ok None → GoesOn t n state r → IsLineOf names t n []
+pub no_line : (names : List Name) (t : List Event) (n : ℕ) (state : EndState) (r : Result (Option ChainParts) StepFault) → r ≡ Ok None → GoesOn t n state r → IsLineAt names t n []
 no_line names t n state r is on = goes_on-line names t n state r None is on
 
 -- the chains of a longer beginning are those of the shorter one, and more

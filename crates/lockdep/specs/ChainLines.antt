@@ -1,47 +1,32 @@
--- The text of a trace's chains. This project's own.
-use Rattle.std.specs.Prelude.{◌≡◌, ℕ, ◌+◌, Bool, true, false, List, ◌++◌, length, take, codes, decimal, Option, Some, None}
+-- The text of a trace's chains [this project's own].
+use Rattle.std.specs.Prelude.{◌≡◌, ℕ, ◌+◌, List, ◌++◌, length, take, codes, decimal, Option, Some, None}
 use Rattle.std.specs.List.{flat_map}
 use Rattle.ld_trace.specs.Names.{Name}
 use Rattle.ld_trace.specs.declared.event.Event.{Event}
 use Rattle.ld_trace.specs.declared.event.Mode.{Mode}
-use Rattle.ld_trace.specs.declared.event.Mode.TheVariants.{Write, Read, RecRead}
+use Rattle.ld_trace.specs.declared.event.Irq.TheVariants.{Hard, Soft}
+use Rattle.ld_task.specs.declared.frame.Flags.{Flags}
 use Rattle.ld_task.specs.declared.frame.Frame.{Frame}
-use Rattle.ld_task.specs.declared.frame.Frame.TheVariants.{Task, Softirq, Hardirq}
+use Rattle.ld_task.specs.Flags.{is_on}
 use Rattle.ld_task.specs.declared.lock.Lock.{Lock}
 use Rattle.ld_task.specs.Chains.{ChainParts}
 use Rattle.ld_task.specs.TraceChains.{chains}
-use Rattle.lockdep.specs.Words.{name_at, key_text}
-
--- a mode's word
-abbrev pub mode_text : Mode → List ℕ
-mode_text Write = codes "w"
-mode_text Read = codes "r"
-mode_text RecRead = codes "rr"
-
--- a frame's word
-abbrev pub frame_text : Frame → List ℕ
-frame_text Task = codes "task"
-frame_text Softirq = codes "softirq"
-frame_text Hardirq = codes "hardirq"
-
--- a flag's word
-abbrev pub flag_text : Bool → List ℕ
-flag_text true = codes "on"
-flag_text false = codes "off"
+use Rattle.lockdep.specs.Words.{flag_text, frame_text, key_text, mode_text, name_at}
 
 -- a key and how it is taken
 abbrev pub taken_text : List Name → ℕ → Mode → List ℕ
 taken_text names key mode = key_text (name_at names key) ++ (codes " " ++ mode_text mode)
 
--- the two flags
-abbrev pub flags_text : (hard_on soft_on : Bool) → List ℕ
-flags_text hard_on soft_on = flag_text hard_on ++ (codes " " ++ flag_text soft_on)
+-- the flags: hardirq, softirq
+abbrev pub flags_text : Flags → List ℕ
+flags_text flags = flag_text (is_on Hard flags) ++ (codes " " ++ flag_text (is_on Soft flags))
 
 -- what a line says of the chain itself: an acquisition or an opening, and the flags
-abbrev pub head_text : List Name → Option (Lock × Frame) → (hard_on soft_on : Bool) → List ℕ
-head_text names (Some new) hard_on soft_on =
-    codes "acq " ++ (taken_text names new.0.key new.0.mode ++ (codes " " ++ (frame_text new.1 ++ (codes " " ++ flags_text hard_on soft_on))))
-head_text names None hard_on soft_on = codes "on " ++ flags_text hard_on soft_on
+abbrev pub head_text : List Name → Option (Lock × Frame) → Flags → List ℕ
+head_text names (Some new) flags =
+    codes "acq " ++ (taken_text names new.0.key new.0.mode
+    ++ (codes " " ++ (frame_text new.1 ++ (codes " " ++ flags_text flags))))
+head_text names None flags = codes "on " ++ flags_text flags
 
 -- a held lock
 abbrev pub lock_text : List Name → Lock → List ℕ
@@ -53,7 +38,8 @@ held_text names locks = codes " held " ++ (decimal (length locks) ++ flat_map (l
 
 -- the line of a chain
 unfoldable pub chain_line : List Name → ChainParts → List ℕ
-chain_line names c = head_text names c.new_lock c.hard_on c.soft_on ++ (held_text names c.held_locks ++ codes "\n")
+chain_line names c =
+    head_text names c.new_lock c.flags ++ (held_text names c.held_locks ++ codes "\n")
 
 -- the lines of the trace's chains, in order
 unfoldable pub chains_text : List Name → List Event → List ℕ
@@ -64,5 +50,5 @@ abbrev pub lines_before : List Name → List Event → ℕ → List ℕ
 lines_before names t n = chains_text names (take n t)
 
 -- the text is what the event at n of the well-formed trace adds to the lines before it
-pub record IsLineOf (names : List Name) (t : List Event) (n : ℕ) (text : List ℕ) : Type 0 where
+pub record IsLineAt (names : List Name) (t : List Event) (n : ℕ) (text : List ℕ) : Type 0 where
   pub adds : lines_before names t (n + 1) ≡ lines_before names t n ++ text

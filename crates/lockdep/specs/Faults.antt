@@ -1,4 +1,4 @@
--- The codes of refused writes, and what a refused report leaves. This project's own.
+-- The codes of refused writes, and what a refused report leaves [this project's own].
 use Rattle.std.specs.Prelude.{◌≡◌, ◌+◌, ◌≤◌, ℕ, List, Option, codes, All, length}
 use Rattle.std.specs.Io.KnownBytes.{Keeps}
 use Rattle.ld_trace.specs.Names.{Name}
@@ -8,7 +8,8 @@ use Rattle.lockdep.specs.Output.{AppendsBeginning}
 use Rattle.lockdep.specs.Report.{IsReportOf}
 use Rattle.lockdep.specs.declared.fault.WriteFault.{WriteFault}
 use Rattle.lockdep.specs.declared.fault.WriteFault.TheVariants.{Failed, Stuck, Memory}
-use Rattle.ld_run.specs.Faults.{IsCrew, StopsRun}
+use Rattle.ld_run.specs.Runs.{IsCrew, StopsRun}
+use Rattle.ld_run.specs.declared.runs.TheConstants.{MAX_TRACES}
 use Rattle.ld_run.specs.declared.fault.RunFault.{RunFault}
 use Rattle.lockdep.specs.declared.fault.ReportFault.{ReportFault}
 use Rattle.lockdep.specs.declared.fault.ReportFault.TheVariants.{Step, Run, Out}
@@ -38,4 +39,4 @@ StopsReport traces names workers old new (Step trace at fault) =
     (place : ℕ) × StopsRun traces workers (Refused trace place fault) × (at ≡ place + 2) × Keeps old new
 StopsReport traces names workers old new (Run fault) = StopsOtherwise traces workers fault × Keeps old new
 StopsReport traces names workers old new (Out fault) =
-    IsCrew workers × (length traces ≤ 4096) × All IsWellFormed traces × StopsWriting (IsReportOf traces names) old new fault
+    IsCrew workers × (length traces ≤ MAX_TRACES) × All IsWellFormed traces × StopsWriting (IsReportOf traces names) old new fault

@@ -1,14 +1,18 @@
--- Groups of lines: one text for each thing of a list, in the list's order. This project's own.
-use Rattle.std.specs.Prelude.{◌≡◌, ◌⊎◌, ℕ, List, [], ◌∷◌, ◌++◌}
+-- Groups of lines: one text behind the other [this project's own].
+use Rattle.std.specs.Prelude.{◌≡◌, ◌⊎◌, ℕ, List, [], ◌∷◌, ◌++◌, map}
 
--- the text is what R allows for each of the list in turn
-unfoldable pub InTurn : {X : Type 0} → (X → List ℕ → Type 0) → List X → List ℕ → Type 0
-InTurn R [] text = text ≡ []
-InTurn R (x ∷ xs) text = (first rest : List ℕ) × R x first × InTurn R xs rest × (text ≡ first ++ rest)
+-- the text is one text behind the other, each as said of it
+unfoldable pub InSequence : List (List ℕ → Type 0) → List ℕ → Type 0
+InSequence [] text = text ≡ []
+InSequence (P ∷ Ps) text = (first rest : List ℕ) × P first × InSequence Ps rest × (text ≡ first ++ rest)
 
--- the text is the line of x where P holds of it, and empty where it doesn't
-abbrev pub ShowsWhere : {X : Type 0} → (X → Type 0) → (X → List ℕ) → X → List ℕ → Type 0
-ShowsWhere P line x text = (P x × (text ≡ line x)) ⊎ (¬ P x × (text ≡ []))
+-- the text has what R allows for each of the list, in the list's order
+abbrev pub InTurn : {X : Type 0} → (X → List ℕ → Type 0) → List X → List ℕ → Type 0
+InTurn R xs = InSequence (map R xs)
+
+-- the text is the line where P holds, and empty where it doesn't
+abbrev pub ShowsWhere : (P : Type 0) (line text : List ℕ) → Type 0
+ShowsWhere P line text = (P × (text ≡ line)) ⊎ (¬ P × (text ≡ []))
 
 -- the text grew by a part that is as Q says
 pub record GrowsBy (Q : List ℕ → Type 0) (old new : List ℕ) : Type 0 where

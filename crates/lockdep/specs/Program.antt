@@ -6,13 +6,14 @@ use Rattle.ld_trace.specs.declared.event.Event.{Event}
 use Rattle.ld_trace.specs.Reading.{ReadsTo}
 use Rattle.ld_task.specs.WellFormed.{IsWellFormed}
 use Rattle.ld_graph.specs.Links.{IsClean}
-use Rattle.ld_run.specs.Faults.{IsCrew}
+use Rattle.ld_run.specs.Runs.{IsCrew}
+use Rattle.ld_run.specs.declared.runs.TheConstants.{MAX_TRACES}
 use Rattle.clap.specs.Words.{Text}
 use Rattle.lockdep.specs.ChainLines.{chains_text}
 use Rattle.lockdep.specs.CommandLine.{AskForHelp, IsLineOf}
 use Rattle.lockdep.specs.Output.{AppendsBeginning}
 use Rattle.lockdep.specs.Report.{IsReportOf}
-use Rattle.ld_run.specs.TraceFacts.{HaveDependency, HaveMark}
+use Rattle.ld_run.specs.TraceFacts.{TracesHave}
 use Rattle.lockdep.specs.declared.command_line.Line.{Line}
 use Rattle.lockdep.specs.declared.command_line.Line.TheVariants.{Check, Chains}
 use Rattle.lockdep.specs.declared.refusal.Refusal.{Refusal}
@@ -26,13 +27,13 @@ pub record AreTracesOf (files : List Text) (input : Option (List ℕ)) (names : 
 -- the report of the traces by so many workers was written, and the status says whether their facts are clean
 pub record WritesReport (workers : ℕ) (names : List Name) (traces : List (List Event)) (old new : Option (List ℕ)) (status : ℕ) : Type 0 where
   pub crew : IsCrew workers
-  pub few : length traces ≤ 4096
+  pub few : length traces ≤ MAX_TRACES
   pub well_formed : All IsWellFormed traces
   pub text : List ℕ
   pub is_report : IsReportOf traces names text
   pub wrote : Appends old new text
   pub range : status ≤ 1
-  pub clean : (status ≡ 0) ↔ IsClean (HaveDependency traces) (HaveMark traces)
+  pub clean : (status ≡ 0) ↔ IsClean (TracesHave traces)
 
 -- the same, of the traces of the files
 pub record ReportsOn (workers : ℕ) (files : List Text) (input old new : Option (List ℕ)) (status : ℕ) : Type 0 where

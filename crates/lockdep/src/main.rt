@@ -4,19 +4,18 @@
 use std::process::ExitCode;
 use std::{env, io};
 
-mod chains;
+mod chains_text;
 mod command_line;
 mod fault;
 mod order;
 mod output;
-mod page;
 mod program;
 mod refusal;
 mod report;
 mod session;
 #[cfg(test)]
 mod tests;
-mod text;
+mod words;
 
 use program::program;
 use refusal::{Refusal, refuse};

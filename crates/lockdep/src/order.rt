@@ -4,16 +4,10 @@ ghost use Rattle.std.specs.Prelude.{◌≡◌, IfOk, OnOk, length};
 ghost use Rattle.lockdep.specs.Order.{IsKeyOrder, name_cmp, numbers_below};
 ghost use Rattle.lockdep.specs.Words.{name_at};
 
+use crate::words::name_of;
 use ld_trace::{KeyId, KeyTable};
 use std::alloc::{AllocError, Global};
 use std::cmp::Ordering;
-
-/// The class's name and the subclass of a key; an empty name where there is no such key.
-pub(crate) fn name_of(keys: &KeyTable, key: KeyId) -> (&str, u8)
-    ensures { (result.0.now, result.1) ≡ name_at keys.now key }
-{
-    keys.name_of(key).unwrap_or(("", 0))
-}
 
 // By the bytes of the names, and then by subclass.
 fn compare(keys: &KeyTable, a: KeyId, b: KeyId) -> Ordering

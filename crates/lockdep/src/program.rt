@@ -16,7 +16,7 @@ ghost use Rattle.lockdep.specs.Program.{AreTracesOf, DoesLine, DoesWords, Leaves
 ghost use Rattle.lockdep.specs.Report.{IsReportOf};
 ghost use Rattle.lockdep.specs.declared.refusal.Refusal.{Refusal};
 
-use crate::chains::write_chains;
+use crate::chains_text::write_chains;
 use crate::command_line::{Line, LineFault, command_line};
 use crate::fault::{ReportFault, WriteFault};
 use crate::output::write_text;

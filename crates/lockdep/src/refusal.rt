@@ -7,8 +7,7 @@ ghost use Rattle.lockdep.specs.FaultLines.{fault_line, record_line};
 ghost use Rattle.lockdep.specs.Output.{AppendsBeginning, PutsBehind};
 
 use crate::fault::WriteFault;
-use crate::page::{Page, put_all, write_out};
-use crate::text::number_words;
+use crate::output::write_texts;
 use ld_run::RunFault;
 use ld_task::StepFault;
 use ld_trace::TraceFault;
@@ -45,61 +44,18 @@ pub(crate) enum Refusal<'a> {
     Run(RunFault),
 }
 
-// Puts the digits of a number onto the page.
-fn put_digits<W: Write>(w: &mut W, page: &mut Page, number: usize) -> Result<(), WriteFault>
-    ensures ok { OnOk result (PutsBehind (W.contents w.old) (W.contents w.new) page.old.bytes page.new.bytes
-        (decimal number)) }
-    ensures err { OnErr result (AppendsBeginning (W.contents w.old) (W.contents w.new)
-        (page.old.bytes ++ decimal number)) }
-{
-    if number < 10 {
-        return put_all(w, page, &number_words(number));
-    }
-    put_digits(w, page, number / 10)?;
-    put_all(w, page, &number_words(number % 10))
-}
-
-// Puts some texts onto the page and writes it out.
-fn finish<W: Write>(w: &mut W, page: &mut Page, texts: &[&str]) -> Result<(), WriteFault>
-    ensures ok { OnOk result (Appends (W.contents w.old) (W.contents w.new)
-        (page.old.bytes ++ flat_map (λ text. text.now) texts.now)) }
-    ensures err { OnErr result (AppendsBeginning (W.contents w.old) (W.contents w.new)
-        (page.old.bytes ++ flat_map (λ text. text.now) texts.now)) }
-{
-    put_all(w, page, texts)?;
-    write_out(w, page)
-}
-
-// Writes some texts.
-fn tell_texts<W: Write>(w: &mut W, texts: &[&str]) -> Result<(), WriteFault>
-    ensures ok { OnOk result (Appends (W.contents w.old) (W.contents w.new) (flat_map (λ text. text.now) texts.now)) }
-    ensures err { OnErr result (AppendsBeginning (W.contents w.old) (W.contents w.new)
-        (flat_map (λ text. text.now) texts.now)) }
-{
-    let mut page = Page::new();
-    finish(w, &mut page, texts)
-}
-
-// Puts a record's number onto the page, and writes out page and code.
-fn tell_place<W: Write>(w: &mut W, page: &mut Page, at: usize, code: &str) -> Result<(), WriteFault>
-    ensures ok { OnOk result (Appends (W.contents w.old) (W.contents w.new)
-        (page.old.bytes ++ (decimal at ++ (codes ": " ++ (code.now ++ codes "\n"))))) }
-    ensures err { OnErr result (AppendsBeginning (W.contents w.old) (W.contents w.new)
-        (page.old.bytes ++ (decimal at ++ (codes ": " ++ (code.now ++ codes "\n"))))) }
-{
-    put_digits(w, page, at)?;
-    finish(w, page, &[": ", code, "\n"])
-}
-
 // Writes the line of a refused record.
 fn tell_record<W: Write>(w: &mut W, file: &str, at: usize, code: &str) -> Result<(), WriteFault>
     ensures ok { OnOk result (Appends (W.contents w.old) (W.contents w.new) (record_line file.now at code.now)) }
     ensures err { OnErr result (AppendsBeginning (W.contents w.old) (W.contents w.new)
         (record_line file.now at code.now)) }
 {
-    let mut page = Page::new();
-    put_all(w, &mut page, &["lockdep: ", file, ": record "])?;
-    tell_place(w, &mut page, at, code)
+    let mut digits = itoa::Buffer::new();
+    let number = digits.format(at);
+    write_texts(
+        w,
+        &["lockdep: ", file, ": record ", number, ": ", code, "\n"],
+    )
 }
 
 // Writes the line of a refusal.
@@ -108,13 +64,13 @@ fn tell<W: Write>(w: &mut W, refusal: Refusal<'_>) -> Result<(), WriteFault>
     ensures err { OnErr result (AppendsBeginning (W.contents w.old) (W.contents w.new) (fault_line refusal.entry)) }
 {
     match refusal {
-        Refusal::BadCommandLine => tell_texts(w, &["lockdep: P1 BadCommandLine\n"]),
-        Refusal::CannotOpen { file } => tell_texts(w, &["lockdep: ", file, ": P2 CannotOpen\n"]),
-        Refusal::Output => tell_texts(w, &["lockdep: P3 Output\n"]),
-        Refusal::Memory => tell_texts(w, &["lockdep: P4 Memory\n"]),
+        Refusal::BadCommandLine => write_texts(w, &["lockdep: P1 BadCommandLine\n"]),
+        Refusal::CannotOpen { file } => write_texts(w, &["lockdep: ", file, ": P2 CannotOpen\n"]),
+        Refusal::Output => write_texts(w, &["lockdep: P3 Output\n"]),
+        Refusal::Memory => write_texts(w, &["lockdep: P4 Memory\n"]),
         Refusal::Reading { file, fault } => tell_record(w, file, fault.at, fault.code()),
         Refusal::Step { file, at, fault } => tell_record(w, file, at, fault.code()),
-        Refusal::Run(fault) => tell_texts(w, &["lockdep: ", fault.code(), "\n"]),
+        Refusal::Run(fault) => write_texts(w, &["lockdep: ", fault.code(), "\n"]),
     }
 }
 

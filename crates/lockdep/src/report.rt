@@ -1,21 +1,16 @@
 //! The text of a report.
 
-ghost use Rattle.std.specs.Prelude.{◌≡◌, ◌<◌, ◌↔◌, ◌++◌, List, ℕ, IsTrue, OnOk, IfOk, IfErr, length, string_bytes, map, sum_by};
-ghost use Rattle.std.specs.List.{flat_map};
+ghost use Rattle.std.specs.Prelude.{◌≡◌, ◌++◌, List, ℕ, OnOk, IfOk, IfErr, length, string_bytes, sum_by};
 ghost use Rattle.std.specs.Io.KnownBytes.{Appends};
-ghost use Rattle.ld_graph.specs.Arrows.{arrow};
-ghost use Rattle.ld_graph.specs.Walks.{OnCircle};
-ghost use Rattle.ld_graph.specs.Links.{IsDouble, IsInversion};
-ghost use Rattle.ld_graph.specs.Facts.{HasDep, HasMark};
+ghost use Rattle.ld_graph.specs.FactBits.{HasFact};
 ghost use Rattle.lockdep.specs.Faults.{StopsWriting};
 ghost use Rattle.lockdep.specs.Groups.{GrowsBy, InTurn};
-ghost use Rattle.lockdep.specs.Words.{name_at};
-ghost use Rattle.lockdep.specs.Report.{IsReport, IsUsageCharacter, IsUsageLine, ShowsCircle, ShowsDouble, ShowsInversion, circle_line, clean_line, dependencies_between, dependencies_from, double_line, inversion_line, kinds, pairs_of, pairs_with, states, total_line, total_lines, usage_character, usage_line, uses_of};
+ghost use Rattle.lockdep.specs.Report.{AreCircles, AreDoubles, AreInversions, AreTotals, IsReport, IsUsageCharacter, IsUsageLine, ShowsCircle, ShowsDouble, ShowsInversion, clean_line, forms, kinds, total_line, usage_character};
 
 use crate::fault::WriteFault;
-use crate::order::{name_of, sorted_keys};
+use crate::order::sorted_keys;
 use crate::output::write_text;
-use crate::text::{irq_word, kind_word};
+use crate::words::{irq_word, kind_word, name_of};
 use ld_graph::{Kind, Mark};
 use ld_run::Settled;
 use ld_trace::{Irq, KeyId, KeyTable, RawTrace};
@@ -28,91 +23,45 @@ const KINDS: [Kind; 4] = [Kind::Er, Kind::En, Kind::Sr, Kind::Sn];
 // The two states, in the report's order.
 const STATES: [Irq; 2] = [Irq::Hard, Irq::Soft];
 
-/// What a report is written from.
+// The four columns of a usage line: each state, not read and read.
+const FORMS: [(Irq, bool); 4] = [
+    (Irq::Hard, false),
+    (Irq::Hard, true),
+    (Irq::Soft, false),
+    (Irq::Soft, true),
+];
+
+// What a report is written from.
 #[derive(Clone, Copy)]
-struct Findings<'a> {
-    /// The facts, with what they mean.
+struct ReportView<'a> {
+    // The facts, with what they mean.
     settled: &'a Settled,
-    /// The names of the keys.
+    // The names of the keys.
     names: &'a KeyTable,
-    /// All keys, in the order of their names.
+    // All keys, in the order of their names.
     keys: &'a [KeyId],
 }
 
-impl Findings<'_> {
-    // Whether the dependency is on a circle.
-    fn on_circle(self, from: KeyId, to: KeyId, kind: Kind) -> bool
-        ensures { IsTrue result ↔ OnCircle (HasDep self.entry.settled.now) (arrow from to kind) }
-    {
-        self.settled.on_circle(from.get(), to.get(), kind)
-    }
-
-    // Whether the key is used both in the state and with it enabled.
-    fn is_double(self, irq: Irq, key: KeyId) -> bool
-        ensures { IsTrue result ↔ IsDouble (HasMark self.entry.settled.now) irq key }
-    {
-        self.settled.is_double(irq, key.get())
-    }
-
-    // Whether the two keys are in an inversion.
-    fn is_inversion(self, irq: Irq, a: KeyId, b: KeyId) -> bool
-        ensures { IsTrue result ↔ IsInversion (HasDep self.entry.settled.now)
-            (HasMark self.entry.settled.now) irq a b }
-    {
-        self.settled.is_inversion(irq, a.get(), b.get())
-    }
-
-    // Whether the key has the mark.
-    fn has_mark(self, key: KeyId, mark: Mark) -> bool
-        ensures { IsTrue result ↔ HasMark self.entry.settled.now key mark }
-    {
-        self.settled.has_mark(key.get(), mark)
-    }
-
-    // The line of a dependency on a circle.
-    fn add_circle_line(
-        self,
-        text: &mut String,
-        from: KeyId,
-        to: KeyId,
-        kind: Kind,
-    ) -> Result<(), AllocError>
-        ensures { OnOk result (string_bytes text.new ≡ string_bytes text.old
-            ++ circle_line self.entry.names.now (from, to, kind)) }
-    {
-        let (from_name, from_sub) = name_of(self.names, from);
-        let (to_name, to_sub) = name_of(self.names, to);
-        let kind = kind_word(kind);
-        writeln!(
-            text,
-            "circle {from_name}/{from_sub} {kind} {to_name}/{to_sub}"
-        )
-    }
-
-    // The same, where the dependency is on a circle.
-    fn add_circle(
-        self,
-        text: &mut String,
-        from: KeyId,
-        to: KeyId,
-        kind: Kind,
-    ) -> Result<(), AllocError>
+impl ReportView<'_> {
+    // The line of a dependency, where it is on a circle.
+    fn add_circle(self, text: &mut String, from: KeyId, to: KeyId, kind: Kind) -> Result<(), AllocError>
         ensures { OnOk result (GrowsBy
-            (ShowsCircle (HasDep self.entry.settled.now) self.entry.names.now (from, to, kind))
+            (ShowsCircle (HasFact self.entry.settled.now) self.entry.names.now from to kind)
             (string_bytes text.old) (string_bytes text.new)) }
     {
-        if self.on_circle(from, to, kind) {
-            self.add_circle_line(text, from, to, kind)
-        } else {
-            Ok(())
+        if self.settled.on_circle(from.get(), to.get(), kind) {
+            let (from_name, from_sub) = name_of(self.names, from);
+            let (to_name, to_sub) = name_of(self.names, to);
+            let kind = kind_word(kind);
+            writeln!(text, "circle {from_name}/{from_sub} {kind} {to_name}/{to_sub}")?;
         }
+        Ok(())
     }
 
     // The circle lines of the dependencies from the one key to the other.
     fn add_circles_to(self, text: &mut String, from: KeyId, to: KeyId) -> Result<(), AllocError>
         ensures { OnOk result (GrowsBy
-            (InTurn (ShowsCircle (HasDep self.entry.settled.now) self.entry.names.now)
-            (map (λ kind. (from, to, kind)) kinds))
+            (InTurn (ShowsCircle (HasFact self.entry.settled.now) self.entry.names.now from to) kinds)
             (string_bytes text.old) (string_bytes text.new)) }
     {
         for kind in KINDS {
@@ -124,8 +73,8 @@ impl Findings<'_> {
     // The circle lines of the dependencies from the key.
     fn add_circles_from(self, text: &mut String, from: KeyId) -> Result<(), AllocError>
         ensures { OnOk result (GrowsBy
-            (InTurn (ShowsCircle (HasDep self.entry.settled.now) self.entry.names.now)
-            (dependencies_from self.entry.keys.now from))
+            (InTurn (λ to. InTurn (ShowsCircle (HasFact self.entry.settled.now) self.entry.names.now from to) kinds)
+            self.entry.keys.now)
             (string_bytes text.old) (string_bytes text.new)) }
     {
         for to in self.keys {
@@ -137,8 +86,7 @@ impl Findings<'_> {
     // The circle lines.
     fn add_circles(self, text: &mut String) -> Result<(), AllocError>
         ensures { OnOk result (GrowsBy
-            (InTurn (ShowsCircle (HasDep self.entry.settled.now) self.entry.names.now)
-            (dependencies_between self.entry.keys.now))
+            (AreCircles (HasFact self.entry.settled.now) self.entry.names.now self.entry.keys.now)
             (string_bytes text.old) (string_bytes text.new)) }
     {
         for from in self.keys {
@@ -147,34 +95,24 @@ impl Findings<'_> {
         Ok(())
     }
 
-    // The line of a key that is used both in a state and with it enabled.
-    fn add_double_line(self, text: &mut String, irq: Irq, key: KeyId) -> Result<(), AllocError>
-        ensures { OnOk result (string_bytes text.new ≡ string_bytes text.old
-            ++ double_line self.entry.names.now (irq, key)) }
-    {
-        let (name, sub) = name_of(self.names, key);
-        let state = irq_word(irq);
-        writeln!(text, "double {state} {name}/{sub}")
-    }
-
-    // The same, where the key is used so.
+    // The line of a key, where it is used both in a state and with it enabled.
     fn add_double(self, text: &mut String, irq: Irq, key: KeyId) -> Result<(), AllocError>
         ensures { OnOk result (GrowsBy
-            (ShowsDouble (HasMark self.entry.settled.now) self.entry.names.now (irq, key))
+            (ShowsDouble (HasFact self.entry.settled.now) self.entry.names.now irq key)
             (string_bytes text.old) (string_bytes text.new)) }
     {
-        if self.is_double(irq, key) {
-            self.add_double_line(text, irq, key)
-        } else {
-            Ok(())
+        if self.settled.is_double(irq, key.get()) {
+            let (name, sub) = name_of(self.names, key);
+            let state = irq_word(irq);
+            writeln!(text, "double {state} {name}/{sub}")?;
         }
+        Ok(())
     }
 
     // The double lines of one state.
     fn add_doubles_of(self, text: &mut String, irq: Irq) -> Result<(), AllocError>
         ensures { OnOk result (GrowsBy
-            (InTurn (ShowsDouble (HasMark self.entry.settled.now) self.entry.names.now)
-            (map (λ key. (irq, key)) self.entry.keys.now))
+            (InTurn (ShowsDouble (HasFact self.entry.settled.now) self.entry.names.now irq) self.entry.keys.now)
             (string_bytes text.old) (string_bytes text.new)) }
     {
         for key in self.keys {
@@ -186,7 +124,7 @@ impl Findings<'_> {
     // The double lines.
     fn add_doubles(self, text: &mut String) -> Result<(), AllocError>
         ensures { OnOk result (GrowsBy
-            (InTurn (ShowsDouble (HasMark self.entry.settled.now) self.entry.names.now) (uses_of self.entry.keys.now))
+            (AreDoubles (HasFact self.entry.settled.now) self.entry.names.now self.entry.keys.now)
             (string_bytes text.old) (string_bytes text.new)) }
     {
         for irq in STATES {
@@ -195,49 +133,26 @@ impl Findings<'_> {
         Ok(())
     }
 
-    // The line of two keys in an inversion.
-    fn add_inversion_line(
-        self,
-        text: &mut String,
-        irq: Irq,
-        a: KeyId,
-        b: KeyId,
-    ) -> Result<(), AllocError>
-        ensures { OnOk result (string_bytes text.new ≡ string_bytes text.old
-            ++ inversion_line self.entry.names.now (irq, a, b)) }
-    {
-        let (a_name, a_sub) = name_of(self.names, a);
-        let (b_name, b_sub) = name_of(self.names, b);
-        let state = irq_word(irq);
-        writeln!(text, "inversion {state} {a_name}/{a_sub} {b_name}/{b_sub}")
-    }
-
-    // The same, where they are in one.
-    fn add_inversion(
-        self,
-        text: &mut String,
-        irq: Irq,
-        a: KeyId,
-        b: KeyId,
-    ) -> Result<(), AllocError>
+    // The line of two keys, where they are in an inversion.
+    fn add_inversion(self, text: &mut String, irq: Irq, a: KeyId, b: KeyId) -> Result<(), AllocError>
         ensures { OnOk result (GrowsBy
-            (ShowsInversion (HasDep self.entry.settled.now) (HasMark self.entry.settled.now) self.entry.names.now
-            (irq, a, b))
+            (ShowsInversion (HasFact self.entry.settled.now) self.entry.names.now irq a b)
             (string_bytes text.old) (string_bytes text.new)) }
     {
-        if self.is_inversion(irq, a, b) {
-            self.add_inversion_line(text, irq, a, b)
-        } else {
-            Ok(())
+        if self.settled.is_inversion(irq, a.get(), b.get()) {
+            let (a_name, a_sub) = name_of(self.names, a);
+            let (b_name, b_sub) = name_of(self.names, b);
+            let state = irq_word(irq);
+            writeln!(text, "inversion {state} {a_name}/{a_sub} {b_name}/{b_sub}")?;
         }
+        Ok(())
     }
 
     // The inversion lines of one state and one first key.
     fn add_inversions_from(self, text: &mut String, irq: Irq, a: KeyId) -> Result<(), AllocError>
         ensures { OnOk result (GrowsBy
-            (InTurn (ShowsInversion (HasDep self.entry.settled.now) (HasMark self.entry.settled.now)
-            self.entry.names.now)
-            (map (λ b. (irq, a, b)) self.entry.keys.now))
+            (InTurn (ShowsInversion (HasFact self.entry.settled.now)
+            self.entry.names.now irq a) self.entry.keys.now)
             (string_bytes text.old) (string_bytes text.new)) }
     {
         for b in self.keys {
@@ -249,9 +164,8 @@ impl Findings<'_> {
     // The inversion lines of one state.
     fn add_inversions_of(self, text: &mut String, irq: Irq) -> Result<(), AllocError>
         ensures { OnOk result (GrowsBy
-            (InTurn (ShowsInversion (HasDep self.entry.settled.now) (HasMark self.entry.settled.now)
-            self.entry.names.now)
-            (pairs_with self.entry.keys.now irq))
+            (InTurn (λ a. InTurn (ShowsInversion (HasFact self.entry.settled.now)
+            self.entry.names.now irq a) self.entry.keys.now) self.entry.keys.now)
             (string_bytes text.old) (string_bytes text.new)) }
     {
         for a in self.keys {
@@ -263,9 +177,8 @@ impl Findings<'_> {
     // The inversion lines.
     fn add_inversions(self, text: &mut String) -> Result<(), AllocError>
         ensures { OnOk result (GrowsBy
-            (InTurn (ShowsInversion (HasDep self.entry.settled.now) (HasMark self.entry.settled.now)
-            self.entry.names.now)
-            (pairs_of self.entry.keys.now))
+            (AreInversions (HasFact self.entry.settled.now)
+            self.entry.names.now self.entry.keys.now)
             (string_bytes text.old) (string_bytes text.new)) }
     {
         for irq in STATES {
@@ -276,56 +189,62 @@ impl Findings<'_> {
 
     // What the usage line says of one state and form.
     fn usage_character(self, key: KeyId, irq: Irq, read: bool) -> &'static str
-        ensures { IsUsageCharacter (HasMark self.entry.settled.now key) irq read result.now }
+        ensures { IsUsageCharacter (HasFact self.entry.settled.now) key irq read result.now }
     {
-        let enabled = self.has_mark(key, Mark::Enabled { irq, read });
-        let used_in = self.has_mark(key, Mark::UsedIn { irq, read });
+        let enabled = self.settled.has_mark(key.get(), Mark::Enabled { irq, read });
+        let used_in = self.settled.has_mark(key.get(), Mark::UsedIn { irq, read });
         character_of(enabled, used_in)
     }
 
-    // A key's usage line, with its four characters.
-    fn add_characters(
-        self,
-        text: &mut String,
-        key: KeyId,
-        hard: &str,
-        hard_read: &str,
-        soft: &str,
-        soft_read: &str,
-    ) -> Result<(), AllocError>
-        ensures { OnOk result (string_bytes text.new ≡ string_bytes text.old
-            ++ usage_line (name_at self.entry.names.now key) hard.now hard_read.now soft.now soft_read.now) }
+    // The four characters of a key's usage line.
+    fn add_characters(self, text: &mut String, key: KeyId) -> Result<(), AllocError>
+        ensures { OnOk result (GrowsBy
+            (InTurn (λ form. IsUsageCharacter (HasFact self.entry.settled.now) key form.0 form.1) forms)
+            (string_bytes text.old) (string_bytes text.new)) }
     {
-        let (name, sub) = name_of(self.names, key);
-        writeln!(
-            text,
-            "usage {name}/{sub} {{{hard}{hard_read}{soft}{soft_read}}}"
-        )
+        for form in FORMS {
+            text.push_str(self.usage_character(key, form.0, form.1))?;
+        }
+        Ok(())
     }
 
     // The usage line of a key.
     fn add_usage_line(self, text: &mut String, key: KeyId) -> Result<(), AllocError>
         ensures { OnOk result (GrowsBy
-            (IsUsageLine self.entry.names.now (HasMark self.entry.settled.now) key)
+            (IsUsageLine (HasFact self.entry.settled.now) self.entry.names.now key)
             (string_bytes text.old) (string_bytes text.new)) }
     {
-        let hard = self.usage_character(key, Irq::Hard, false);
-        let hard_read = self.usage_character(key, Irq::Hard, true);
-        let soft = self.usage_character(key, Irq::Soft, false);
-        let soft_read = self.usage_character(key, Irq::Soft, true);
-        self.add_characters(text, key, hard, hard_read, soft, soft_read)
+        let (name, sub) = name_of(self.names, key);
+        write!(text, "usage {name}/{sub} {{")?;
+        self.add_characters(text, key)?;
+        text.push_str("}\n")?;
+        Ok(())
     }
 
     // The usage lines.
     fn add_usage(self, text: &mut String) -> Result<(), AllocError>
         ensures { OnOk result (GrowsBy
-            (InTurn (IsUsageLine self.entry.names.now (HasMark self.entry.settled.now)) self.entry.keys.now)
+            (InTurn (IsUsageLine (HasFact self.entry.settled.now) self.entry.names.now) self.entry.keys.now)
             (string_bytes text.old) (string_bytes text.new)) }
     {
         for key in self.keys {
             self.add_usage_line(text, *key)?;
         }
         Ok(())
+    }
+
+    // The five lines that every report begins with.
+    fn add_totals(self, text: &mut String, traces: usize, events: u128) -> Result<(), AllocError>
+        ensures { OnOk result (GrowsBy
+            (AreTotals (HasFact self.entry.settled.now) traces events
+            (length self.entry.names.now))
+            (string_bytes text.old) (string_bytes text.new)) }
+    {
+        add_total(text, "traces", traces as u128)?;
+        add_total(text, "events", events)?;
+        add_total(text, "keys", self.names.len() as u128)?;
+        add_total(text, "dependencies", self.settled.dependencies() as u128)?;
+        add_clean(text, self.settled.is_clean())
     }
 }
 
@@ -337,48 +256,19 @@ fn report_text(
     traces: usize,
     events: u128,
 ) -> Result<String, AllocError>
-    ensures { IfOk result (λ text. IsReport (HasDep settled.now) (HasMark settled.now) traces events names.now
+    ensures { IfOk result (λ text. IsReport (HasFact settled.now) traces events names.now
         (string_bytes text)) }
 {
     let keys = sorted_keys(alloc, names)?;
-    let findings = Findings {
-        settled,
-        names,
-        keys: keys.as_slice(),
-    };
+    let keys = keys.as_slice();
+    let view = ReportView { settled, names, keys };
     let mut text = String::new(alloc);
-    add_total_lines(
-        &mut text,
-        traces,
-        events,
-        names.len(),
-        settled.dependencies(),
-        settled.is_clean(),
-    )?;
-    findings.add_usage(&mut text)?;
-    findings.add_circles(&mut text)?;
-    findings.add_doubles(&mut text)?;
-    findings.add_inversions(&mut text)?;
+    view.add_totals(&mut text, traces, events)?;
+    view.add_usage(&mut text)?;
+    view.add_circles(&mut text)?;
+    view.add_doubles(&mut text)?;
+    view.add_inversions(&mut text)?;
     Ok(text)
-}
-
-// The five lines of these totals.
-fn add_total_lines(
-    text: &mut String,
-    traces: usize,
-    events: u128,
-    keys: usize,
-    dependencies: u64,
-    clean: bool,
-) -> Result<(), AllocError>
-    ensures { OnOk result (string_bytes text.new ≡ string_bytes text.old
-        ++ total_lines traces events keys dependencies clean) }
-{
-    add_total(text, "traces", traces as u128)?;
-    add_total(text, "events", events)?;
-    add_total(text, "keys", keys as u128)?;
-    add_total(text, "dependencies", dependencies as u128)?;
-    add_clean(text, clean)
 }
 
 // The line of a word and its number.
@@ -419,11 +309,11 @@ pub fn write_report<W: Write>(
     names: &KeyTable,
 ) -> Result<(), WriteFault>
     ensures ok { OnOk result ((text : List ℕ)
-        × IsReport (HasDep settled.now) (HasMark settled.now) (length traces.now) (sum_by length traces.now)
+        × IsReport (HasFact settled.now) (length traces.now) (sum_by length traces.now)
         names.now text
         × Appends (W.contents w.old) (W.contents w.new) text) }
     ensures err { IfErr result (StopsWriting
-        (IsReport (HasDep settled.now) (HasMark settled.now) (length traces.now) (sum_by length traces.now) names.now)
+        (IsReport (HasFact settled.now) (length traces.now) (sum_by length traces.now) names.now)
         (W.contents w.old) (W.contents w.new)) }
 {
     let events = event_count(traces);

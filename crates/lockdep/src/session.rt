@@ -8,12 +8,14 @@ ghost use Rattle.ld_trace.specs.Events.{KeysBelow};
 ghost use Rattle.ld_trace.specs.Reading.{ReadsTo, StopsAt};
 ghost use Rattle.ld_task.specs.WellFormed.{IsWellFormed};
 ghost use Rattle.ld_graph.specs.Links.{IsClean};
-ghost use Rattle.ld_run.specs.Faults.{IsCrew, StopsRun};
-ghost use Rattle.ld_run.specs.Runs.{AreFactsOfAll};
+ghost use Rattle.ld_run.specs.Runs.{IsCrew, StopsRun};
+ghost use Rattle.ld_run.specs.declared.runs.TheConstants.{MAX_TRACES};
+ghost use Rattle.ld_graph.specs.FactBits.{HasFact};
+ghost use Rattle.ld_graph.specs.Facts.{AreSame};
 ghost use Rattle.lockdep.specs.Faults.{StopsReport, StopsWriting};
 ghost use Rattle.lockdep.specs.declared.fault.WriteFault.{WriteFault};
 ghost use Rattle.lockdep.specs.Report.{IsReportOf};
-ghost use Rattle.ld_run.specs.TraceFacts.{HaveDependency, HaveMark};
+ghost use Rattle.ld_run.specs.TraceFacts.{TracesHave};
 
 use crate::fault::ReportFault;
 use crate::report::write_report;
@@ -87,13 +89,13 @@ impl Session {
         w: &mut W,
     ) -> Result<bool, ReportFault>
         ensures ok { IfOk result (λ clean. All IsWellFormed self.traces
-            × (IsTrue clean ↔ IsClean (HaveDependency self.traces) (HaveMark self.traces))
+            × (IsTrue clean ↔ IsClean (TracesHave self.traces))
             × ((text : List ℕ) × IsReportOf self.traces self.names text
             × Appends (W.contents w.old) (W.contents w.new) text)) }
-        ensures crew { OnOk result (IsCrew workers × (length self.traces ≤ 4096)) }
+        ensures crew { OnOk result (IsCrew workers × (length self.traces ≤ MAX_TRACES)) }
         ensures bad_workers { IsErrOf result (ReportFault.Run RunFault.BadWorkers) ↔ (¬ IsCrew workers) }
         ensures too_many { IsErrOf result (ReportFault.Run RunFault.TooManyTraces)
-            ↔ (IsCrew workers × (4096 < length self.traces)) }
+            ↔ (IsCrew workers × (MAX_TRACES < length self.traces)) }
         ensures refused { IfErr result (StopsReport self.traces self.names workers
             (W.contents w.old) (W.contents w.new)) }
     {
@@ -157,10 +159,10 @@ fn report_traces<R: Threads + Wait + Sync, W: Write, G: Gate + Sync>(
 ) -> Result<bool, ReportFault>
     requires { All (KeysBelow (length keys.now)) traces.now }
     ensures ok { IfOk result (λ clean. All IsWellFormed traces.now
-        × (IsTrue clean ↔ IsClean (HaveDependency traces.now) (HaveMark traces.now))
+        × (IsTrue clean ↔ IsClean (TracesHave traces.now))
         × ((text : List ℕ) × IsReportOf traces.now keys.now text
         × Appends (W.contents w.old) (W.contents w.new) text)) }
-    ensures crew { OnOk result (IsCrew workers × (length traces.now ≤ 4096)) }
+    ensures crew { OnOk result (IsCrew workers × (length traces.now ≤ MAX_TRACES)) }
     ensures refused { IfErr result (StopsReport traces.now keys.now workers (W.contents w.old) (W.contents w.new)) }
 {
     match run(rt, alloc, traces, keys.len() as u16, workers, gate) {
@@ -208,8 +210,8 @@ fn write_settled<W: Write>(
     traces: &[RawTrace],
     keys: &KeyTable,
 ) -> Result<bool, ReportFault>
-    requires { AreFactsOfAll settled.now traces.now }
-    ensures ok { IfOk result (λ clean. (IsTrue clean ↔ IsClean (HaveDependency traces.now) (HaveMark traces.now))
+    requires { AreSame (HasFact settled.now) (TracesHave traces.now) }
+    ensures ok { IfOk result (λ clean. (IsTrue clean ↔ IsClean (TracesHave traces.now))
         × ((text : List ℕ) × IsReportOf traces.now keys.now text
         × Appends (W.contents w.old) (W.contents w.new) text)) }
     ensures refused { IfErr result (λ fault. (out : WriteFault) × (fault ≡ ReportFault.Out out)

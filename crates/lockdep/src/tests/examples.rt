@@ -1,6 +1,6 @@
 //! Traces as the tests write them, and what is made of them.
 
-use crate::chains::write_chains;
+use crate::chains_text::write_chains;
 use crate::session::Session;
 use ld_run::OpenGate;
 use ld_task::check;

@@ -1,6 +1,6 @@
 //! A writer that takes one byte a call and fails at one.
 
-use crate::chains::write_chains;
+use crate::chains_text::write_chains;
 use crate::fault::{ReportFault, WriteFault};
 use crate::tests::examples::{session_of, trace_text};
 use ld_run::OpenGate;

@@ -1,4 +1,5 @@
 use Rattle.std.proofs.Common.{◌≡◌, ◌<◌, ◌+◌, arith, refl}
+use Rattle.ld_graph.specs.declared.places.TheConstants.{PLACES}
 use Rattle.ld_graph.specs.Bits.{has_bit, count_below}
 use Rattle.ld_graph.proofs.BitLemmas.{count_below-one_more, count_below-room}
 use Rattle.ld_graph.proofs.Joining.{Joins-start, Joins-more, joined_all}
@@ -9,10 +10,10 @@ loop-p-init c = Joins-start c.args.rows.now c.args.chosen.now c.args.row.now
 
 pub loop-p-smaller : goal.loop-p-smaller
 loop-p-smaller c =
-    let within : c.in-Some.p < 512 = omega (arith, c.in-Some.ensures.some.0) in
-    let room : count_below (has_bit c.loop-p.taken) 512 < 512 = count_below-room (has_bit c.loop-p.taken) c.in-Some.p 512 within c.in-Some.ensures.some.2 in
-    let more : count_below (has_bit c.insert.new.words) 512 ≡ count_below (has_bit c.loop-p.taken) 512 + 1 =
-    count_below-one_more (has_bit c.loop-p.taken) (has_bit c.insert.new.words) c.in-Some.p 512 within c.in-Some.ensures.some.2 c.insert.ensures.set c.insert.ensures.others in
+    let within : c.in-Some.p < PLACES = omega (arith, c.in-Some.ensures.some.0) in
+    let room : count_below (has_bit c.loop-p.taken) PLACES < PLACES = count_below-room (has_bit c.loop-p.taken) c.in-Some.p PLACES within c.in-Some.ensures.some.2 in
+    let more : count_below (has_bit c.insert.new.words) PLACES ≡ count_below (has_bit c.loop-p.taken) PLACES + 1 =
+    count_below-one_more (has_bit c.loop-p.taken) (has_bit c.insert.new.words) c.in-Some.p PLACES within c.in-Some.ensures.some.2 c.insert.ensures.set c.insert.ensures.others in
     omega arith
 
 pub loop-p-preserved : goal.loop-p-preserved

@@ -1,5 +1,6 @@
 use Rattle.ld_graph.proofs.Joining.{Joins}
 use Rattle.std.proofs.Common.{◌-◌}
+use Rattle.ld_graph.specs.declared.places.TheConstants.{PLACES}
 use Rattle.ld_graph.specs.Bits.{has_bit, count_below}
 use Rattle.ld_graph.proofs.reach.join.Given as goal
 
@@ -7,4 +8,4 @@ abbrev pub invariant-loop-p : goal.invariant-loop-p
 invariant-loop-p l = Joins l.initial.rows l.rows l.chosen l.taken l.row
 
 abbrev pub decreases-loop-p : goal.decreases-loop-p
-decreases-loop-p l = 512 - count_below (has_bit l.taken) 512
+decreases-loop-p l = PLACES - count_below (has_bit l.taken) PLACES

@@ -1,13 +1,14 @@
 use Rattle.std.proofs.Common.{◌↔◌, subst}
 use Rattle.std.specs.Prelude.{IsTrue}
-use Rattle.ld_graph.specs.Arrows.{arrow}
-use Rattle.ld_graph.specs.Facts.{HasDep}
-use Rattle.ld_book.specs.Books.{RecordsDependency}
+use Rattle.ld_graph.specs.FactBits.{HasFact}
+use Rattle.ld_graph.specs.declared.fact.Fact.{Fact}
+use Rattle.ld_graph.specs.declared.fact.Fact.TheVariants.{Dependency}
+use Rattle.ld_book.specs.Books.{JournalHas}
 use Rattle.ld_book.proofs.book.Book.has_dep.Goals as goal
 
 pub returns : goal.returns
 returns c =
-    let at = arrow c.args.from c.args.to c.args.kind in
-    let facts = c.self.invariant.facts_are.dependencies at in
-    let has = subst (λ f. IsTrue c.has_dep.result ↔ HasDep f at) c.facts.ensures c.has_dep.ensures in
-    subst (λ v. IsTrue c.has_dep.result ↔ RecordsDependency v.journal at) c.self.view_is ((λ h. facts.0 (has.0 h)), (λ h. has.1 (facts.1 h)))
+    let fact : Fact = Dependency c.args.from c.args.to c.args.kind in
+    let are = c.self.invariant.facts_are fact in
+    let has = subst (λ f. IsTrue c.has_dep.result ↔ HasFact f fact) c.facts.ensures c.has_dep.ensures in
+    subst (λ v. IsTrue c.has_dep.result ↔ JournalHas v.journal fact) c.self.view_is ((λ h. are.0 (has.0 h)), (λ h. has.1 (are.1 h)))

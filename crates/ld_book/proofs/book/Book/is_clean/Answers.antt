@@ -1,14 +1,15 @@
 use Rattle.std.proofs.Common.{◌↔◌, subst}
 use Rattle.std.specs.Prelude.{IsTrue}
+use Rattle.ld_graph.specs.FactBits.{HasFact}
+use Rattle.ld_graph.specs.FactLaws.{IsClean-same}
 use Rattle.ld_graph.specs.Links.{IsClean}
-use Rattle.ld_book.specs.Books.{RecordsDependency, RecordsMark}
-use Rattle.ld_book.proofs.BookLemmas.{AreClean-iff}
+use Rattle.ld_book.specs.Books.{JournalHas}
 use Rattle.ld_book.proofs.book.Book.is_clean.Goals as goal
 
 pub returns : goal.returns
 returns c =
-    let clean = AreClean-iff c.self.inside.graph.facts c.self.inside.journal c.self.invariant.facts_are in
-    subst (λ v. IsTrue c.is_clean.result ↔ IsClean (RecordsDependency v.journal) (RecordsMark v.journal)) c.self.view_is (
+    let clean = IsClean-same (HasFact c.self.inside.graph.facts) (JournalHas c.self.inside.journal) c.self.invariant.facts_are in
+    subst (λ v. IsTrue c.is_clean.result ↔ IsClean (JournalHas v.journal)) c.self.view_is (
       (λ h. clean.0 (c.is_clean.ensures.0 h)),
       (λ h. c.is_clean.ensures.1 (clean.1 h)),
     )

@@ -1,8 +1,11 @@
 use Rattle.std.proofs.Common.{◌≡◌, ◌-◌, ◌∙◌, ap, length, sym, subst, arith}
 use Rattle.ld_graph.specs.Counting.{IsNumberOf}
-use Rattle.ld_graph.specs.Facts.{HasDep}
-use Rattle.ld_book.specs.Books.{BookParts, RecordsDependency, opening_count}
-use Rattle.ld_book.proofs.BookLemmas.{IsNumberOf-recorded, counts-length}
+use Rattle.ld_graph.specs.FactBits.{HasFact}
+use Rattle.ld_graph.specs.FactLaws.{IsNumberOf-same}
+use Rattle.ld_graph.specs.Facts.{DependenciesOf}
+use Rattle.ld_graph.specs.declared.fact.Fact.TheVariants.{Dependency}
+use Rattle.ld_book.specs.Books.{BookParts, JournalHas, opening_count}
+use Rattle.ld_book.proofs.BookLemmas.{counts-length}
 use Rattle.ld_book.proofs.book.Book.totals.Goals as goal
 
 pub returns-clause-openings : goal.returns-clause-openings
@@ -13,6 +16,8 @@ returns-clause-openings c =
 
 pub returns-clause-dependencies : goal.returns-clause-dependencies
 returns-clause-dependencies c =
-    let number = subst (λ f. IsNumberOf (HasDep f) c.dependencies.result) c.facts.ensures c.dependencies.ensures.number in
-    subst (λ v. IsNumberOf (RecordsDependency v.journal) c.dependencies.result) c.self.view_is
-    (IsNumberOf-recorded c.self.inside.graph.facts c.self.inside.journal c.self.invariant.facts_are c.dependencies.result number)
+    let facts = c.self.inside.graph.facts in
+    let journal = c.self.inside.journal in
+    let number = subst (λ f. IsNumberOf (DependenciesOf (HasFact f)) c.dependencies.result) c.facts.ensures c.dependencies.ensures.number in
+    subst (λ v. IsNumberOf (DependenciesOf (JournalHas v.journal)) c.dependencies.result) c.self.view_is
+    (IsNumberOf-same (DependenciesOf (HasFact facts)) (DependenciesOf (JournalHas journal)) (λ d. c.self.invariant.facts_are (Dependency d.start d.end d.kind)) c.dependencies.result number)

@@ -1,8 +1,9 @@
 use Rattle.std.proofs.Common.{length, subst}
-use Rattle.ld_book.specs.Books.{IsNumberOfChains}
-use Rattle.ld_book.proofs.JournalLemmas.{IsNumberOfChains-kept}
+use Rattle.ld_graph.specs.Counting.{IsNumberOf}
+use Rattle.ld_book.specs.Books.{StandsIn}
+use Rattle.ld_book.proofs.JournalLemmas.{IsNumberOf-kept}
 use Rattle.ld_book.proofs.journal.Journal.distinct.Goals as goal
 
 pub returns : goal.returns
-returns c = rw c.len.ensures.len (subst (λ v. IsNumberOfChains v (length c.self.inside.chains.keys)) c.self.view_is
-    (IsNumberOfChains-kept c.self.inside.chains.keys c.self.inside.entries.items c.self.invariant c.len.ensures.unique))
+returns c = rw c.len.ensures.len (subst (λ v. IsNumberOf (StandsIn v) (length c.self.inside.chains.keys)) c.self.view_is
+    (IsNumberOf-kept c.self.inside.chains.keys c.self.inside.entries.items c.self.invariant c.len.ensures.unique))

@@ -11,7 +11,7 @@ invariant_of-self-in-Ok c =
     let chains = c.self.inside.chains.keys in
     let (kept, at, same) = c.in-Ok.ensures.stored in
     let puts = PutsChain-inserted chains c.insert_full.new.self.keys c.in-Ok.number c.args.chain kept c.in-Ok.ensures.keys c.in-Ok.ensures.within at same in
-    rw (c.push_reserved.ensures.items, c.in_ok-reserve.ensures.items)
+    rw (c.push_reserved.ensures.items, c.in_ok-reserve.ensures.items, c.new.ensures)
     (IsJournal-push chains c.insert_full.new.self.keys c.self.inside.entries.items c.self.invariant c.args.trace c.in-Ok.number c.args.chain puts)
 
 pub returns-in-Ok-clause-pushed : goal.returns-in-Ok-clause-pushed
@@ -19,7 +19,7 @@ returns-in-Ok-clause-pushed c =
     let chains = c.self.inside.chains.keys in
     let (kept, at, same) = c.in-Ok.ensures.stored in
     let puts = PutsChain-inserted chains c.insert_full.new.self.keys c.in-Ok.number c.args.chain kept c.in-Ok.ensures.keys c.in-Ok.ensures.within at same in
-    rw (c.push_reserved.ensures.items, c.in_ok-reserve.ensures.items, ← c.self.view_is)
+    rw (c.push_reserved.ensures.items, c.in_ok-reserve.ensures.items, c.new.ensures, ← c.self.view_is)
     (journal_of-push chains c.insert_full.new.self.keys c.self.inside.entries.items c.self.invariant c.args.trace c.in-Ok.number c.args.chain puts)
 
 -- the answer is that the test did not find the chain

@@ -1,16 +1,17 @@
 use Rattle.std.proofs.Common.{ℕ, ◌↔◌, List, [], Result, Ok, Err}
 use Rattle.std.specs.Prelude.{IfOk, IsFalse}
 use Rattle.ld_task.specs.Chains.{ChainParts}
-use Rattle.ld_book.specs.Books.{AreRecorded}
+use Rattle.ld_graph.specs.Facts.{ChainHas, Holds}
+use Rattle.ld_book.specs.Books.{JournalHas}
 use Rattle.ld_book.specs.declared.book.News.{News}
 use Rattle.ld_book.specs.declared.fault.BookFault.{BookFault}
-use Rattle.ld_book.proofs.BookLemmas.{AreRecorded-none}
+use Rattle.ld_book.proofs.BookLemmas.{Holds-none}
 use Rattle.ld_book.proofs.locked.LockedBook.record.Goals as goal
 
 -- whatever the journal was
 never_fresh : (journal : List (ℕ × ChainParts)) (chain : ChainParts) (answer : Result News BookFault) →
-    IfOk answer (λ news. IsFalse news.fresh ↔ AreRecorded journal chain) → IfOk answer (λ news. AreRecorded [] chain → IsFalse news.fresh)
-never_fresh journal chain (Ok news) told = λ none. told.1 (AreRecorded-none journal chain none)
+    IfOk answer (λ news. IsFalse news.fresh ↔ Holds (JournalHas journal) (ChainHas chain)) → IfOk answer (λ news. Holds (JournalHas []) (ChainHas chain) → IsFalse news.fresh)
+never_fresh journal chain (Ok news) told = λ none. told.1 (Holds-none journal chain none)
 never_fresh journal chain (Err fault) told = tt
 
 pub returns-clause-fresh : goal.returns-clause-fresh

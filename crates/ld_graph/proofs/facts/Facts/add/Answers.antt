@@ -1,14 +1,18 @@
-use Rattle.std.proofs.Common.{sym, subst}
-use Rattle.ld_graph.specs.ChainFacts.{AddsFact}
-use Rattle.ld_graph.proofs.SingleFacts.{AddsFact-dependency, AddsFact-mark}
+use Rattle.std.proofs.Common.{◌≡◌, ◌∙◌, sym, ap}
+use Rattle.ld_graph.specs.Numbers.{fact_number}
+use Rattle.ld_graph.proofs.Adding.{Adds-set, rows_allowed-set}
 use Rattle.ld_graph.proofs.facts.Facts.add.Goals as goal
+use Rattle.ld_graph.proofs.facts.Facts.add.Goals.{After-add_bit}
 
-pub returns-in-Dependency-clause-adds : goal.returns-in-Dependency-clause-adds
-returns-in-Dependency-clause-adds c =
-    subst (AddsFact c.args.self.now c.add_dep.new.self) (sym c.in-Dependency.is)
-    (AddsFact-dependency c.args.self.now c.add_dep.new.self c.in-Dependency.from c.in-Dependency.to c.in-Dependency.kind c.add_dep.ensures.adds)
+at : (c : After-add_bit) → c.number-n.result ≡ fact_number c.args.self.now.keys c.args.fact
+at c = c.number-n.ensures.value ∙ ap (λ v. fact_number v.keys c.args.fact) c.self.view_is
 
-pub returns-in-Marked-clause-adds : goal.returns-in-Marked-clause-adds
-returns-in-Marked-clause-adds c =
-    subst (AddsFact c.args.self.now c.add_mark.new.self) (sym c.in-Marked.is)
-    (AddsFact-mark c.args.self.now c.add_mark.new.self c.in-Marked.key c.in-Marked.mark c.add_mark.ensures.adds)
+pub returns-clause-adds : goal.returns-clause-adds
+returns-clause-adds c =
+    Adds-set c.args.self.now c.add_bit.new.self c.number-n.result c.add_bit.ensures.sets c.args.fact c.requires
+    (at (goal.at.returns-clause-adds c).After-add_bit)
+
+pub returns-clause-allowed : goal.returns-clause-allowed
+returns-clause-allowed c = λ fresh.
+    rows_allowed-set c.args.self.now c.add_bit.new.self c.number-n.result c.add_bit.ensures.sets c.args.fact c.requires
+    (at (goal.at.returns-clause-allowed c).After-add_bit) (sym c.add_bit.ensures.fresh ∙ fresh)

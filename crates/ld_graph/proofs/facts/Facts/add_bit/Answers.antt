@@ -3,7 +3,7 @@ use Rattle.std.proofs.lemmas.List.{with_items_is}
 use Rattle.std.specs.Vec.{with_items}
 use Rattle.ld_graph.specs.Bits.{has_bit}
 use Rattle.ld_graph.specs.Numbers.{dependency_total, bit_total}
-use Rattle.ld_graph.specs.Facts.{FactWords, SetsBit}
+use Rattle.ld_graph.specs.FactBits.{FactWords, SetsBit}
 use Rattle.ld_graph.proofs.Adding.{dependency_count-le, mark_count-le, AreCounted-dependency, AreCounted-mark}
 use Rattle.ld_graph.proofs.facts.Facts.add_bit.Goals as goal
 use Rattle.ld_graph.proofs.facts.Facts.add_bit.Goals.{After-insert}

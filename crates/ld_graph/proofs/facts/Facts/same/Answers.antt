@@ -1,8 +1,9 @@
-use Rattle.std.proofs.Common.{◌≡◌, ◌+◌, ◌/◌, ◌∙◌, sym, ap, true, length}
+use Rattle.std.proofs.Common.{◌≡◌, ◌↔◌, ◌+◌, ◌/◌, ◌∙◌, sym, ap, subst, true, length}
 use Rattle.ld_graph.specs.Bits.{has_bit}
 use Rattle.ld_graph.specs.Numbers.{bit_total}
-use Rattle.ld_graph.specs.Facts.{FactWords, HaveSameFacts}
-use Rattle.ld_graph.proofs.Uniting.{HaveSameFacts-bits, HaveSameFacts-refl}
+use Rattle.ld_graph.specs.Facts.{AreSame}
+use Rattle.ld_graph.specs.FactBits.{FactWords, HasFact}
+use Rattle.ld_graph.proofs.Uniting.{AreSame-bits}
 use Rattle.ld_graph.proofs.facts.Facts.same.Goals as goal
 use Rattle.ld_graph.proofs.facts.Facts.same.Goals.{After-same}
 
@@ -20,11 +21,13 @@ equal c h =
 
 pub returns-then-self-other-clause-exact : goal.returns-then-self-other-clause-exact
 returns-then-self-other-clause-exact c = (
-  (λ h. HaveSameFacts-refl c.args.self.now c.args.other.now (equal (goal.at.returns-then-self-other-clause-exact c).After-same h)),
-  (λ same.
-      let inside : HaveSameFacts (record { keys = c.self.inside.keys; words = c.self.inside.bits.items }) (record { keys = c.other.inside.keys; words = c.other.inside.bits.items }) =
-      rw (c.self.view_is, c.other.view_is) same in
-      let bits = HaveSameFacts-bits (record { keys = c.self.inside.keys; words = c.self.inside.bits.items }) (record { keys = c.other.inside.keys; words = c.other.inside.bits.items })
-      c.self.invariant.are c.other.invariant.are inside in
+  (λ h. let e = equal (goal.at.returns-then-self-other-clause-exact c).After-same h in
+      (ap (λ (f : FactWords). f.keys) e, λ x. subst (λ f. HasFact c.args.self.now x ↔ HasFact f x) e ((λ y. y), (λ y. y)))),
+  (λ (keys, same).
+      let a : FactWords = record { keys = c.self.inside.keys; words = c.self.inside.bits.items } in
+      let b : FactWords = record { keys = c.other.inside.keys; words = c.other.inside.bits.items } in
+      let inside : AreSame (HasFact a) (HasFact b) =
+      subst (λ (f : FactWords). AreSame (HasFact a) (HasFact f)) (sym c.other.view_is) (subst (λ (f : FactWords). AreSame (HasFact f) (HasFact c.args.other.now)) (sym c.self.view_is) same) in
+      let bits = AreSame-bits a b c.self.invariant.are c.other.invariant.are c.if-self-other.true inside in
       c.same.ensures.bits (λ n. ap (λ ws. has_bit ws n) c.deref.ensures.value ∙ bits.1 n ∙ ap (λ ws. has_bit ws n) (sym c.deref-then-self-other.ensures.value))),
 )

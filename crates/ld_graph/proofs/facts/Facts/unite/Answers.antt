@@ -4,8 +4,9 @@ use Rattle.std.proofs.lemmas.List.{get_or_default}
 use Rattle.std.specs.Int.{bit_at}
 use Rattle.ld_graph.specs.Bits.{has_bit}
 use Rattle.ld_graph.specs.Numbers.{bit_total}
-use Rattle.ld_graph.specs.Facts.{IsUnion, UnitesWord}
-use Rattle.ld_graph.proofs.Uniting.{UnitesWords-start, UnitesWords-more, IsUnion-words, has_bit-at}
+use Rattle.ld_graph.specs.Facts.{Adds}
+use Rattle.ld_graph.specs.FactBits.{FactWords, HasFact, UnitesWord}
+use Rattle.ld_graph.proofs.Uniting.{UnitesWords-start, UnitesWords-more, Adds-words, has_bit-at}
 use Rattle.ld_graph.proofs.facts.Facts.unite.Goals as goal
 use Rattle.ld_graph.proofs.facts.Facts.unite.Goals.{After-index}
 
@@ -42,9 +43,9 @@ loop-i-preserved c =
     UnitesWords-more c.args.self.now c.loop-i.self c.unite_word.new.self c.other.inside.bits.items c.loop-i.i c.loop-i.invariant
     (subst (UnitesWord c.loop-i.self c.unite_word.new.self c.loop-i.i) (word_is d) c.unite_word.ensures)
 
-pub returns : goal.returns
-returns c =
-    subst (λ v. IsUnion c.args.self.now v c.loop-i.self) c.other.view_is
-    (IsUnion-words c.args.self.now (record { keys = c.other.inside.keys; words = c.other.inside.bits.items }) c.loop-i.self c.loop-i.i
+pub returns-clause-adds : goal.returns-clause-adds
+returns-clause-adds c =
+    subst (λ (v : FactWords). Adds (HasFact c.args.self.now) (HasFact c.loop-i.self) (HasFact v)) c.other.view_is
+    (Adds-words c.args.self.now (record { keys = c.other.inside.keys; words = c.other.inside.bits.items }) c.loop-i.self c.loop-i.i
     (c.requires ∙ ap (λ v. v.keys) (sym c.other.view_is))
     (let t = c.loop-i-test.false in let e = c.len-i-end.ensures in omega arith) c.loop-i.invariant)

@@ -1,6 +1,7 @@
 use Rattle.std.proofs.Common.{◌≡◌}
 use Rattle.std.specs.Prelude.{IsFalse}
-use Rattle.ld_graph.specs.Graphs.{AreClean}
+use Rattle.ld_graph.specs.FactBits.{HasFact}
+use Rattle.ld_graph.specs.Links.{IsClean}
 use Rattle.ld_graph.proofs.Growing.{Grown}
 use Rattle.ld_graph.proofs.graph.Graph.add_chain.Given as goal
 
@@ -8,5 +9,5 @@ abbrev pub invariant-loop-n : goal.invariant-loop-n
 invariant-loop-n l = record {
   grown : Grown l.initial.self.facts l.self.facts l.chain l.n l.fresh;
   known : IsFalse l.fresh → l.self ≡ l.initial.self;
-  not_clean : ¬ AreClean l.initial.self.facts → l.self.searched ≡ l.initial.self.searched;
+  not_clean : ¬ IsClean (HasFact l.initial.self.facts) → l.self.searched ≡ l.initial.self.searched;
 }

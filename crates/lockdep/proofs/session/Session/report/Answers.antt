@@ -5,15 +5,16 @@ use Rattle.ld_graph.specs.Links.{IsClean}
 use Rattle.lockdep.specs.Faults.{StopsReport}
 use Rattle.lockdep.specs.Report.{IsReportOf}
 use Rattle.lockdep.specs.Sessions.{SessionParts}
-use Rattle.ld_run.specs.TraceFacts.{HaveDependency, HaveMark}
-use Rattle.ld_run.specs.Faults.{IsCrew}
+use Rattle.ld_run.specs.TraceFacts.{TracesHave}
+use Rattle.ld_run.specs.Runs.{IsCrew}
+use Rattle.ld_run.specs.declared.runs.TheConstants.{MAX_TRACES}
 use Rattle.lockdep.proofs.FaultLemmas.{bad_workers_is, too_many_is}
 use Rattle.lockdep.proofs.session.Session.report.Goals as goal
 
 pub returns-clause-ok : goal.returns-clause-ok
 returns-clause-ok g c =
     subst (λ (s : SessionParts). IfOk c.report_traces.result (λ clean. All IsWellFormed s.traces
-    × (IsTrue clean ↔ IsClean (HaveDependency s.traces) (HaveMark s.traces))
+    × (IsTrue clean ↔ IsClean (TracesHave s.traces))
     × ((x : List ℕ) × IsReportOf s.traces s.names x × Appends (g.W.Write.contents c.args.w.now) (g.W.Write.contents c.report_traces.new.w) x)))
     c.self.view_is (rw c.as_slice.ensures.value at c.report_traces.ensures.ok)
 
@@ -24,7 +25,7 @@ returns-clause-refused g c =
 
 pub returns-clause-crew : goal.returns-clause-crew
 returns-clause-crew g c =
-    subst (λ (s : SessionParts). OnOk c.report_traces.result (IsCrew c.args.workers × (length s.traces ≤ 4096)))
+    subst (λ (s : SessionParts). OnOk c.report_traces.result (IsCrew c.args.workers × (length s.traces ≤ MAX_TRACES)))
     c.self.view_is (rw c.as_slice.ensures.value at c.report_traces.ensures.crew)
 
 pub returns-clause-bad_workers : goal.returns-clause-bad_workers

@@ -1,0 +1,14 @@
+use Rattle.std.proofs.Common.{◌↔◌, subst}
+use Rattle.std.specs.Prelude.{IsTrue}
+use Rattle.ld_graph.specs.FactBits.{HasFact}
+use Rattle.ld_graph.specs.declared.fact.Fact.{Fact}
+use Rattle.ld_graph.specs.declared.fact.Fact.TheVariants.{Marked}
+use Rattle.ld_book.specs.Books.{JournalHas}
+use Rattle.ld_book.proofs.book.Book.has_mark.Goals as goal
+
+pub returns : goal.returns
+returns c =
+    let fact : Fact = Marked c.args.key c.args.mark in
+    let are = c.self.invariant.facts_are fact in
+    let has = subst (λ f. IsTrue c.has_mark.result ↔ HasFact f fact) c.facts.ensures c.has_mark.ensures in
+    subst (λ v. IsTrue c.has_mark.result ↔ JournalHas v.journal fact) c.self.view_is ((λ h. are.0 (has.0 h)), (λ h. has.1 (are.1 h)))

@@ -1,0 +1,97 @@
+-- Laws of sets of facts that the proofs of the crates above cite.
+use Rattle.std.specs.Prelude.{ℕ, ◌⊎◌, ◌↔◌, List, [], ◌∷◌, ◌++◌, Any, Contains}
+use Rattle.std.proofs.Common.{sym, subst, inl, inr}
+use Rattle.std.proofs.lemmas.List.Elements.{Contains-push_cases, Contains-append_left, Contains-push}
+use Rattle.ld_trace.specs.declared.event.Irq.{Irq}
+use Rattle.ld_task.specs.declared.mark.Mark.TheVariants.{UsedIn, Enabled}
+use Rattle.ld_task.specs.Kinds.{is_s, is_r}
+use Rattle.ld_graph.specs.Arrows.{Arrow}
+use Rattle.ld_graph.specs.Counting.{IsNumberOf}
+use Rattle.ld_graph.specs.Facts.{AreSame, Holds, DependenciesOf}
+use Rattle.ld_graph.specs.Links.{IsLink, IsDouble, IsInversion, IsClean}
+use Rattle.ld_graph.specs.Walks.{StrongWalk, OnCircle}
+use Rattle.ld_graph.specs.declared.fact.Fact.{Fact}
+use Rattle.ld_graph.specs.declared.fact.Fact.TheVariants.{Dependency, Marked}
+
+-- ---- a larger set
+pub StrongWalk-more : (P Q : Arrow → Type 0) → ((x : Arrow) → P x → Q x) →
+    (a : Arrow) (rest : List Arrow) → StrongWalk P a rest → StrongWalk Q a rest
+StrongWalk-more P Q up a [] w = up a w
+StrongWalk-more P Q up a (b ∷ rest) w = (up a w.0, w.1, StrongWalk-more P Q up b rest w.2)
+
+module _ (P Q : Fact → Type 0) (up : Holds Q P) where
+  walk : (a : Arrow) (rest : List Arrow) → StrongWalk (DependenciesOf P) a rest → StrongWalk (DependenciesOf Q) a rest
+  walk = StrongWalk-more (DependenciesOf P) (DependenciesOf Q) (λ d. up (Dependency d.start d.end d.kind))
+
+  link : (irq : Irq) (l : Arrow) → IsLink P irq l → IsLink Q irq l
+  link irq l marks = (
+    up (Marked l.start (Enabled irq (is_s l.kind))) marks.0,
+    up (Marked l.end (UsedIn irq (is_r l.kind))) marks.1,
+  )
+
+  pub OnCircle-more : (d : Arrow) → OnCircle P d → OnCircle Q d
+  OnCircle-more d (a, rest, w, c) = (a, rest, (walk a rest w.0, w.1), c)
+
+  pub IsDouble-more : (irq : Irq) (a : ℕ) → IsDouble P irq a → IsDouble Q irq a
+  IsDouble-more irq a (l, by) = (l, (link irq l by.0, by.1, by.2, by.3))
+
+  pub IsInversion-more : (irq : Irq) (a b : ℕ) → IsInversion P irq a b → IsInversion Q irq a b
+  IsInversion-more irq a b (d, rest, l, with) =
+      (d, rest, l, ((walk d rest with.0.0, with.0.1, with.0.2), link irq l with.1, with.2, with.3, with.4, with.5))
+
+  -- clean facts have no unclean ones among them
+  pub IsClean-fewer : IsClean Q → IsClean P
+  IsClean-fewer clean = record {
+    circles = λ d on. clean.circles d (OnCircle-more d on);
+    doubles = λ irq a double. clean.doubles irq a (IsDouble-more irq a double);
+    inversions = λ irq a b inversion. clean.inversions irq a b (IsInversion-more irq a b inversion);
+  }
+
+-- ---- the same set
+module _ (P Q : Fact → Type 0) (same : AreSame P Q) where
+  there : Holds Q P
+  there x = (same x).0
+
+  back : Holds P Q
+  back x = (same x).1
+
+  pub OnCircle-same : (d : Arrow) → OnCircle P d ↔ OnCircle Q d
+  OnCircle-same d = (OnCircle-more P Q there d, OnCircle-more Q P back d)
+
+  pub IsDouble-same : (irq : Irq) (a : ℕ) → IsDouble P irq a ↔ IsDouble Q irq a
+  IsDouble-same irq a = (IsDouble-more P Q there irq a, IsDouble-more Q P back irq a)
+
+  pub IsInversion-same : (irq : Irq) (a b : ℕ) → IsInversion P irq a b ↔ IsInversion Q irq a b
+  IsInversion-same irq a b = (IsInversion-more P Q there irq a b, IsInversion-more Q P back irq a b)
+
+  pub IsClean-same : IsClean P ↔ IsClean Q
+  IsClean-same = (IsClean-fewer Q P back, IsClean-fewer P Q there)
+
+pub IsNumberOf-same : {A : Type 0} (P Q : A → Type 0) → ((x : A) → P x ↔ Q x) → (n : ℕ) →
+    IsNumberOf P n → IsNumberOf Q n
+IsNumberOf-same P Q same n number = record {
+  listed = number.listed;
+  once = number.once;
+  exact = λ x. ((λ h. (same x).0 ((number.exact x).0 h)), (λ h. (number.exact x).1 ((same x).1 h)));
+  count = number.count;
+}
+
+-- ---- one member more in a list
+Any-member : {X : Type 0} (P : X → Type 0) (xs : List X) → Any P xs ↔ ((x : X) × Contains xs x × P x)
+Any-member P xs = (
+  (λ (k, x, l, e, h). (x, (k, l, e), h)),
+  (λ (x, c, h). let (k, l, e) = c in (k, x, l, e, h)),
+)
+
+pub Any-push : {X : Type 0} (P : X → Type 0) (xs : List X) (y : X) → Any P (xs ++ y ∷ []) ↔ (Any P xs ⊎ P y)
+Any-push P xs y = (
+  (λ h. let (x, c, p) = (Any-member P (xs ++ y ∷ [])).0 h in
+      elim (Contains-push_cases xs y x c) [
+        | inl i ↦ inl ((Any-member P xs).1 (x, i, p))
+        | inr e ↦ inr (subst P (sym e) p)
+      ]),
+  (λ h. (Any-member P (xs ++ y ∷ [])).1 (elim h [
+    | inl a ↦ (let (x, c, p) = (Any-member P xs).0 a in (x, Contains-append_left xs (y ∷ []) x c, p))
+    | inr p ↦ (y, Contains-push xs y, p)
+  ])),
+)

@@ -1,0 +1,7 @@
+use Rattle.std.proofs.Common.{◌≡◌, ◌≤◌, count_by, take}
+use Rattle.ld_task.specs.Events.{makes_chain}
+use Rattle.ld_run.proofs.runs.chains_of.Given as goal
+
+-- the events so far were counted
+abbrev pub invariant-loop-place : goal.invariant-loop-place
+invariant-loop-place l = (l.count ≡ count_by makes_chain (take l.place l.trace)) × (l.count ≤ l.place)

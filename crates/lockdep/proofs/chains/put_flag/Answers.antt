@@ -1,7 +1,0 @@
-use Rattle.lockdep.proofs.chains.put_flag.Goals as goal
-
-pub returns-clause-ok : goal.returns-clause-ok
-returns-clause-ok g c = rw c.flag_word.ensures at c.put.ensures.ok
-
-pub returns-clause-err : goal.returns-clause-err
-returns-clause-err g c = rw c.flag_word.ensures at c.put.ensures.err

@@ -1,6 +1,0 @@
-use Rattle.lockdep.proofs.PageLemmas.{PutsLines}
-use Rattle.lockdep.proofs.chains.put_lines.Given as goal
-
--- the lines of the events so far
-abbrev pub invariant-loop-place : goal.invariant-loop-place
-invariant-loop-place g l = PutsLines (g.W.Write.contents l.initial.w) (g.W.Write.contents l.w) l.initial.page.bytes l.page.bytes l.names l.trace l.place l.state

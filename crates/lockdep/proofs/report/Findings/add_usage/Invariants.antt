@@ -1,9 +1,0 @@
-use Rattle.std.proofs.Common.{take, string_bytes}
-use Rattle.ld_graph.specs.Facts.{HasMark}
-use Rattle.lockdep.specs.Groups.{GrowsBy, InTurn}
-use Rattle.lockdep.specs.Report.{IsUsageLine}
-use Rattle.lockdep.proofs.report.Findings.add_usage.Given as goal
-
--- the lines of the keys so far
-abbrev pub invariant-loop-key : goal.invariant-loop-key
-invariant-loop-key l = GrowsBy (InTurn (IsUsageLine l.self.names.now (HasMark l.self.settled.now)) (take l.key-index l.key-items)) (string_bytes l.initial.text) (string_bytes l.text)

@@ -1,0 +1,11 @@
+use Rattle.std.proofs.Common.{take, string_bytes}
+use Rattle.ld_graph.specs.FactBits.{HasFact}
+use Rattle.lockdep.specs.Groups.{GrowsBy, InTurn}
+use Rattle.lockdep.specs.Report.{ShowsCircle, kinds}
+use Rattle.lockdep.proofs.report.ReportView.add_circles_from.Given as goal
+
+-- the lines to the keys so far
+abbrev pub invariant-loop-to : goal.invariant-loop-to
+invariant-loop-to l =
+    GrowsBy (InTurn (λ to. InTurn (ShowsCircle (HasFact l.self.settled.now) l.self.names.now l.from to) kinds) (take l.to-index l.to-items))
+    (string_bytes l.initial.text) (string_bytes l.text)

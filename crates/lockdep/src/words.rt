@@ -1,0 +1,70 @@
+//! Words of the program's texts.
+
+ghost use Rattle.std.specs.Prelude.{◌≡◌, ◌≤◌, length};
+ghost use Rattle.lockdep.specs.Words.{flag_text, frame_text, irq_text, kind_text, mode_text, name_at};
+
+use ld_graph::Kind;
+use ld_task::Frame;
+use ld_trace::{Irq, KeyId, KeyTable, MAX_NAME, Mode};
+
+/// The class's name and the subclass of a key; an empty name where there is no such key.
+pub(crate) fn name_of(keys: &KeyTable, key: KeyId) -> (&str, u8)
+    ensures name { (result.0.now, result.1) ≡ name_at keys.now key }
+    ensures short { length result.0.now ≤ MAX_NAME }
+{
+    keys.name_of(key).unwrap_or(("", 0))
+}
+
+/// The word for a kind of dependency.
+pub(crate) fn kind_word(kind: Kind) -> &'static str
+    ensures { result.now ≡ kind_text kind }
+{
+    match kind {
+        Kind::Er => "ER",
+        Kind::En => "EN",
+        Kind::Sr => "SR",
+        Kind::Sn => "SN",
+    }
+}
+
+/// The word for a state.
+pub(crate) fn irq_word(irq: Irq) -> &'static str
+    ensures { result.now ≡ irq_text irq }
+{
+    match irq {
+        Irq::Hard => "hardirq",
+        Irq::Soft => "softirq",
+    }
+}
+
+/// The word for a mode.
+pub(crate) fn mode_word(mode: Mode) -> &'static str
+    ensures word { result.now ≡ mode_text mode }
+    ensures short { length result.now ≤ 2 }
+{
+    match mode {
+        Mode::Write => "w",
+        Mode::Read => "r",
+        Mode::RecRead => "rr",
+    }
+}
+
+/// The word for a frame.
+pub(crate) fn frame_word(frame: Frame) -> &'static str
+    ensures word { result.now ≡ frame_text frame }
+    ensures short { length result.now ≤ 7 }
+{
+    match frame {
+        Frame::Task => "task",
+        Frame::Softirq => "softirq",
+        Frame::Hardirq => "hardirq",
+    }
+}
+
+/// The word for a flag.
+pub(crate) fn flag_word(on: bool) -> &'static str
+    ensures word { result.now ≡ flag_text on }
+    ensures short { length result.now ≤ 3 }
+{
+    if on { "on" } else { "off" }
+}

@@ -1,0 +1,16 @@
+/* A signal handler that locks is part of the thread that it interrupts. */
+#include "common.h"
+static pthread_mutex_t a = PTHREAD_MUTEX_INITIALIZER, b = PTHREAD_MUTEX_INITIALIZER;
+
+static void handle(int number) {
+    pthread_mutex_lock(&b);
+    pthread_mutex_unlock(&b);
+    (void)number;
+}
+
+int main(void) {
+    signal(SIGUSR1, handle);
+    pthread_mutex_lock(&a);
+    raise(SIGUSR1);
+    pthread_mutex_unlock(&a);
+}

@@ -1,0 +1,9 @@
+/* Nothing is lost of a process that ends by raise(SIGKILL). */
+#include "common.h"
+static pthread_mutex_t a = PTHREAD_MUTEX_INITIALIZER, b = PTHREAD_MUTEX_INITIALIZER;
+int main(void) {
+    pthread_mutex_lock(&a);
+    pthread_mutex_lock(&b);
+    pthread_mutex_unlock(&b);
+    raise(SIGKILL);
+}

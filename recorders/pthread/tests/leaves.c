@@ -1,0 +1,9 @@
+/* Nothing is lost of a process that ends by _exit(7). */
+#include "common.h"
+static pthread_mutex_t a = PTHREAD_MUTEX_INITIALIZER, b = PTHREAD_MUTEX_INITIALIZER;
+int main(void) {
+    pthread_mutex_lock(&a);
+    pthread_mutex_lock(&b);
+    pthread_mutex_unlock(&b);
+    _exit(7);
+}

@@ -1,0 +1,15 @@
+/* A million operations that bring nothing new leave what was new of them. */
+#include "common.h"
+static pthread_mutex_t a = PTHREAD_MUTEX_INITIALIZER, b = PTHREAD_MUTEX_INITIALIZER, c = PTHREAD_MUTEX_INITIALIZER;
+int main(void) {
+    for (int i = 0; i < 250000; i++) {
+        pthread_mutex_lock(&a);
+        pthread_mutex_lock(&b);
+        pthread_mutex_unlock(&b);
+        if (i == 125000) {
+            pthread_mutex_lock(&c);
+            pthread_mutex_unlock(&c);
+        }
+        pthread_mutex_unlock(&a);
+    }
+}
