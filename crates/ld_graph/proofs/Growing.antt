@@ -5,7 +5,7 @@ use Rattle.std.proofs.lemmas.Option.{same_Some}
 use Rattle.ld_task.specs.Chains.{ChainParts}
 use Rattle.ld_graph.specs.Facts.{ChainHas, Holds, Adds}
 use Rattle.ld_graph.specs.FactBits.{FactWords, HasFact}
-use Rattle.ld_graph.specs.ChainFacts.{chain_fact, fact_slots}
+use Rattle.ld_graph.specs.Inside.ChainFacts.{chain_fact, fact_slots}
 use Rattle.ld_graph.specs.declared.fact.Fact.{Fact}
 use Rattle.ld_graph.proofs.ChainFacts.{StandsIn, chain_fact-sound, chain_fact-complete}
 

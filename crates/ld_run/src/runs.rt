@@ -7,7 +7,7 @@ ghost use Rattle.ld_task.specs.Events.{makes_chain};
 ghost use Rattle.ld_graph.specs.FactBits.{HasFact};
 ghost use Rattle.ld_graph.specs.declared.fact.Fact.{Fact};
 ghost use Rattle.ld_run.specs.Runs.{CompletesRun, EndsRun, IsCrew, StopsRun};
-ghost use Rattle.ld_run.specs.Shares.{BringShares, BringsShare, earlier_refused};
+ghost use Rattle.ld_run.specs.Inside.Shares.{BringShares, BringsShare, earlier_refused};
 ghost use Rattle.ld_run.specs.Tallies.{BelongsToFirst, IsTally};
 
 use crate::fault::RunFault;

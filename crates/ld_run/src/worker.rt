@@ -7,7 +7,7 @@ ghost use Rattle.ld_task.specs.Chains.{ChainKeysBelow};
 ghost use Rattle.ld_graph.specs.FactBits.{FactWords, HasFact};
 ghost use Rattle.ld_graph.specs.Facts.{Adds, ChainHas};
 ghost use Rattle.ld_run.specs.Tallies.{BelongsTo, HasBeforeFault, IsTally};
-ghost use Rattle.ld_run.specs.Walks.{ComesNext, FirstFaultIs, WalksOn, first_refused_of};
+ghost use Rattle.ld_run.specs.Inside.Walks.{ComesNext, FirstFaultIs, WalksOn, first_refused_of};
 
 use crate::gate::Gate;
 use crate::runs::MAX_TRACES;

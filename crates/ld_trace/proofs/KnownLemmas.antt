@@ -10,7 +10,7 @@ use Rattle.ld_trace.specs.declared.event.Event.TheVariants.{Acquire, Release}
 use Rattle.ld_trace.specs.declared.event.Mode.{Mode}
 use Rattle.ld_trace.specs.declared.key_table.TheConstants.{MAX_SUB}
 use Rattle.ld_trace.specs.Lines.{acquire_line, gives_back, mode_of, name_of_fields, release_line, sub_of, takes}
-use Rattle.ld_trace.specs.Progress.{IsEventOf}
+use Rattle.ld_trace.specs.Inside.Progress.{IsEventOf}
 use Rattle.ld_trace.specs.Names.{AreNumbered, Name, is_class_name, is_known, is_name, is_same, place_of, with_name}
 
 is_same-itself : (name : Name) → is_same name name ≡ true

@@ -7,13 +7,13 @@ use Rattle.ld_task.specs.declared.mark.Mark.TheVariants.{Used, UsedIn, Enabled}
 use Rattle.ld_task.specs.Kinds.{is_r}
 use Rattle.ld_trace.specs.declared.key_id.TheConstants.{MAX_KEYS}
 use Rattle.ld_graph.specs.Arrows.{Arrow, MayFollow, arrow}
-use Rattle.ld_graph.specs.Bits.{has_bit}
+use Rattle.ld_graph.specs.Inside.Bits.{has_bit}
 use Rattle.ld_graph.specs.Facts.{DependenciesOf}
 use Rattle.ld_graph.specs.FactBits.{FactWords, HasFact, rows_allowed}
 use Rattle.ld_graph.specs.Links.{IsLink, IsClean}
 use Rattle.ld_graph.specs.Numbers.{irq_number}
-use Rattle.ld_graph.specs.Places.{LeavesFrom, Leads, Way, LinkArrives, LinkLeaves}
-use Rattle.ld_graph.specs.Tables.{reaches, IsSource, IsTarget}
+use Rattle.ld_graph.specs.Inside.Places.{LeavesFrom, Leads, Way, LinkArrives, LinkLeaves}
+use Rattle.ld_graph.specs.Inside.Tables.{reaches, IsSource, IsTarget}
 use Rattle.ld_graph.specs.Walks.{StrongWalk, last}
 use Rattle.ld_graph.specs.declared.ends.Ends.{Ends}
 use Rattle.ld_graph.specs.declared.fact.Fact.{Fact}

@@ -3,8 +3,8 @@ use Rattle.std.specs.Prelude.{◌≡◌, ℕ, ◌⊎◌, Bool, ◌↔◌, IsTrue
 use Rattle.ld_task.specs.Kinds.{is_s, is_r}
 use Rattle.ld_graph.specs.declared.places.TheConstants.{PLACES}
 use Rattle.ld_graph.specs.Arrows.{Arrow}
-use Rattle.ld_graph.specs.Bits.{has_bit}
-use Rattle.ld_graph.specs.Places.{place, LeavesFrom}
+use Rattle.ld_graph.specs.Inside.Bits.{has_bit}
+use Rattle.ld_graph.specs.Inside.Places.{place, LeavesFrom}
 
 -- the place q is in row p
 abbrev pub reaches : List (List ℕ) → ℕ → ℕ → Bool
