@@ -54,7 +54,8 @@ LeavesTarget targets key by_s = (q : ℕ) × LeavesFrom key by_s q × IsTrue (ha
 
 -- a new dependency from the key makes no fault: it leaves none of its targets and joins no link to another
 abbrev pub StaysClean : List ℕ → List ℕ → Ends → ℕ → Bool → Type 0
-StaysClean sources targets ends key by_s = ¬ LeavesTarget targets key by_s × ¬ JoinsLinks sources targets ends
+StaysClean sources targets ends key by_s = ¬ LeavesTarget targets key by_s ×
+    ¬ JoinsLinks sources targets ends
 
 -- a link by the mark, and what is reached, lead back to it
 abbrev pub MarkTurnsBack : List (List ℕ) → Ends → ℕ → Mark → Type 0
@@ -78,7 +79,8 @@ IsInversionBy Has irq a b read = (kind : Kind) × (is_r kind ≡ read) ×
 -- rows were taken up than may be
 pub record IsGraph (facts : FactWords) (table : List (List ℕ)) (ends : Ends) (clean : Bool) (searched : ℕ) : Type 0 where
   pub few : facts.keys ≤ MAX_KEYS
-  pub ways : (p q : ℕ) → IsTrue (reaches table p q) ↔ Way (Leads (DependenciesOf (HasFact facts))) p q
+  pub ways : (p q : ℕ) → IsTrue (reaches table p q) ↔
+      Way (Leads (DependenciesOf (HasFact facts))) p q
   pub ends_are : AreEnds (HasFact facts) ends
   pub flag : IsTrue clean ↔ IsClean (HasFact facts)
   pub bound : searched ≤ rows_allowed facts
