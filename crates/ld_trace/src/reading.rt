@@ -124,7 +124,7 @@ fn take_event<R: Read>(
         → (known : Option (List ℕ)) (old : List Name)
         → HasTaken R.remaining known source.old old keys.old events.old.items
         → AreRead known old keys.new events.new.items
-            × KeysBelow (length keys.new) events.new.items) }
+        × KeysBelow (length keys.new) events.new.items) }
     ensures refused { IfErr result (λ kind. (known : Option (List ℕ)) (old : List Name)
         → HasTaken R.remaining known source.old old keys.old events.old.items
         → AreRefused known old keys.new kind (length events.old.items + 2)) }
