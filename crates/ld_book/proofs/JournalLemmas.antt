@@ -11,11 +11,11 @@ use Rattle.std.proofs.lemmas.Option.{get_or_from_slice_get}
 use Rattle.indexmap.specs.IndexSet.{insert_key}
 use Rattle.ld_task.specs.Chains.{ChainParts}
 use Rattle.ld_task.specs.ChainEquality.{chain_eq}
-use Rattle.ld_task.specs.ChainEqualityLaws.{chain_eq-decides, chain_eq-equivalence}
+use Rattle.ld_task.specs.Inside.ChainEqualityLaws.{chain_eq-decides, chain_eq-equivalence}
 use Rattle.ld_graph.specs.Counting.{IsNumberOf}
 use Rattle.ld_graph.specs.FactLaws.{Any-push}
 use Rattle.ld_book.specs.Books.{StandsIn}
-use Rattle.ld_book.specs.Journals.{EntryParts, no_chain, entry_of, journal_of, IsJournal}
+use Rattle.ld_book.specs.Inside.Journals.{EntryParts, no_chain, entry_of, journal_of, IsJournal}
 
 -- the entries mean the same where more chains follow
 journal_of-more : (chains more : List ChainParts) (entries : List EntryParts) → All (λ (e : EntryParts). e.number < length chains) entries →

@@ -29,7 +29,8 @@ opening_count journal = count_by (λ e. is_none e.1.new_lock) journal
 
 -- what a book keeps: its facts are those of its journal, its acquisitions are counted, and the limit isn't passed. Its
 -- flag and the number of its dependencies are its graph's
-pub record IsLawful (facts : FactWords) (journal : List (ℕ × ChainParts)) (acquisitions limit : ℕ) : Type 0 where
+pub record IsLawful (facts : FactWords) (journal : List (ℕ ×
+    ChainParts)) (acquisitions limit : ℕ) : Type 0 where
   pub facts_are : AreSame (HasFact facts) (JournalHas journal)
   pub counted : acquisitions ≡ acquisition_count journal
   pub within : length journal ≤ limit

@@ -1,3 +1,3 @@
+pub mod Inside
 pub mod Faults
 pub mod Books
-pub mod Journals

@@ -178,7 +178,8 @@ impl Book {
         ensures entries { result.entries ≡ length self.now.journal }
         ensures acquisitions { result.acquisitions ≡ acquisition_count self.now.journal }
         ensures openings { result.openings ≡ opening_count self.now.journal }
-        ensures dependencies { IsNumberOf (DependenciesOf (JournalHas self.now.journal)) result.dependencies }
+        ensures dependencies { IsNumberOf (DependenciesOf (JournalHas self.now.journal))
+            result.dependencies }
     {
         let entries = self.len() as u64;
         Totals {

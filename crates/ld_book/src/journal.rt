@@ -23,7 +23,7 @@ struct Entry {
 
 impl Model for Entry {
     ghost use Rattle.std.specs.Prelude.{◌+◌, ◌*◌};
-    ghost use Rattle.ld_book.specs.Journals.{EntryParts};
+    ghost use Rattle.ld_book.specs.Inside.Journals.{EntryParts};
 
     ghost Value = { EntryParts };
 
@@ -64,7 +64,7 @@ pub(crate) struct Journal {
 impl Model for Journal {
     ghost use Rattle.std.specs.Prelude.{ℕ, List};
     ghost use Rattle.ld_task.specs.Chains.{ChainParts};
-    ghost use Rattle.ld_book.specs.Journals.{journal_of, IsJournal};
+    ghost use Rattle.ld_book.specs.Inside.Journals.{journal_of, IsJournal};
 
     ghost Value = { List (ℕ × ChainParts) };
 

@@ -17,7 +17,7 @@ use Rattle.ld_task.specs.Flags.{is_enabled}
 use Rattle.ld_task.specs.Marks.{is_read, is_in, same_form, marks_taken, marks_opened}
 use Rattle.ld_graph.specs.Facts.{ChainHas}
 use Rattle.ld_graph.specs.FactBits.{FactBelow}
-use Rattle.ld_graph.specs.ChainFacts.{chain_fact, fact_by, fact_slots, mark_if, mark_of_held, mark_by_taking, mark_by_opening}
+use Rattle.ld_graph.specs.Inside.ChainFacts.{chain_fact, fact_by, fact_slots, mark_if, mark_of_held, mark_by_taking, mark_by_opening}
 use Rattle.ld_graph.specs.declared.fact.Fact.{Fact}
 use Rattle.ld_graph.specs.declared.fact.Fact.TheVariants.{Dependency, Marked}
 

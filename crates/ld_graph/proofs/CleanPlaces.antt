@@ -13,7 +13,7 @@ use Rattle.ld_graph.specs.FactBits.{FactBelow}
 use Rattle.ld_graph.specs.FactLaws.{StrongWalk-more}
 use Rattle.ld_graph.specs.Walks.{OnCircle}
 use Rattle.ld_graph.specs.Links.{IsLink, IsClean}
-use Rattle.ld_graph.specs.Places.{place, arrival, Leaves, LeavesFrom, Leads, Path, none, Way, LinkArrives, LinkLeaves}
+use Rattle.ld_graph.specs.Inside.Places.{place, arrival, Leaves, LeavesFrom, Leads, Path, none, Way, LinkArrives, LinkLeaves}
 use Rattle.ld_graph.specs.declared.fact.Fact.{Fact}
 use Rattle.ld_graph.specs.declared.fact.Fact.TheVariants.{Dependency, Marked}
 use Rattle.ld_graph.proofs.Circles.{OnCircle-new}

@@ -10,7 +10,7 @@ use Rattle.ld_task.specs.declared.kind.Kind.TheVariants.{Er}
 use Rattle.ld_task.specs.declared.mark.Mark.{Mark}
 use Rattle.ld_task.specs.declared.mark.Mark.TheVariants.{Used}
 use Rattle.ld_graph.specs.Arrows.{Arrow, arrow}
-use Rattle.ld_graph.specs.Bits.{has_bit, count_below}
+use Rattle.ld_graph.specs.Inside.Bits.{has_bit, count_below}
 use Rattle.ld_graph.specs.Numbers.{fact_number, mark_index, dependency_total, mark_total}
 use Rattle.ld_graph.specs.Facts.{DependenciesOf, MarksOf}
 use Rattle.ld_graph.specs.FactBits.{FactWords, HasFact, dependency_count, mark_count}

@@ -2,7 +2,7 @@
 use Rattle.std.proofs.Common.{◌≡◌, ℕ, ◌+◌, ◌*◌, ◌/◌, ◌≤◌, length, get_or, replicate, ap, sym, ◌∙◌, subst, false}
 use Rattle.std.proofs.lemmas.List.{length-replicate}
 use Rattle.ld_trace.specs.declared.key_id.TheConstants.{MAX_KEYS}
-use Rattle.ld_graph.specs.Bits.{has_bit}
+use Rattle.ld_graph.specs.Inside.Bits.{has_bit}
 use Rattle.ld_graph.specs.Numbers.{dependency_total, bit_total}
 use Rattle.ld_graph.specs.FactBits.{FactWords, AreCounted, dependency_count, mark_count}
 use Rattle.ld_graph.proofs.BitLemmas.{has_bit-zeros, zeros_at, count_below-none}

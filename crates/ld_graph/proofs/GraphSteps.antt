@@ -6,15 +6,15 @@ use Rattle.ld_task.specs.declared.mark.Mark.TheVariants.{Used, UsedIn, Enabled}
 use Rattle.ld_task.specs.Kinds.{is_s}
 use Rattle.ld_trace.specs.declared.key_id.TheConstants.{MAX_KEYS}
 use Rattle.ld_graph.specs.Arrows.{Arrow}
-use Rattle.ld_graph.specs.Bits.{has_bit}
+use Rattle.ld_graph.specs.Inside.Bits.{has_bit}
 use Rattle.ld_graph.specs.Facts.{Holds, Adds, DependenciesOf}
 use Rattle.ld_graph.specs.FactBits.{FactWords, FactBelow, HasFact, rows_allowed}
 use Rattle.ld_graph.specs.FactLaws.{IsClean-fewer}
 use Rattle.ld_graph.specs.Walks.{OnCircle}
 use Rattle.ld_graph.specs.Links.{IsClean}
-use Rattle.ld_graph.specs.Places.{arrival, Leads, Path, Way}
-use Rattle.ld_graph.specs.Tables.{reaches, Comes, AreSpan, TakesArrow}
-use Rattle.ld_graph.specs.Kept.{IsGraph, TakesMark, JoinsLinks, LeavesTarget, StaysClean, MarkTurnsBack, arrives_at, departs_from}
+use Rattle.ld_graph.specs.Inside.Places.{arrival, Leads, Path, Way}
+use Rattle.ld_graph.specs.Inside.Tables.{reaches, Comes, AreSpan, TakesArrow}
+use Rattle.ld_graph.specs.Inside.Kept.{IsGraph, TakesMark, JoinsLinks, LeavesTarget, StaysClean, MarkTurnsBack, arrives_at, departs_from}
 use Rattle.ld_graph.specs.declared.ends.Ends.{Ends}
 use Rattle.ld_graph.specs.declared.fact.Fact.{Fact}
 use Rattle.ld_graph.specs.declared.fact.Fact.TheVariants.{Dependency, Marked}

@@ -1,11 +1,11 @@
 -- The facts of a chain are added one after the other.
-use Rattle.std.proofs.Common.{◌≡◌, ℕ, ◌+◌, ◌⊎◌, ◌↔◌, refl, ap, sym, ◌∙◌, subst, inl, inr, arith, Bool, true, false, Some, None}
-use Rattle.std.proofs.lemmas.Bool.{cases_eq, cases_Bool}
-use Rattle.std.proofs.lemmas.Option.{same_Some, none-some}
+use Rattle.std.proofs.Common.{◌≡◌, ℕ, ◌+◌, ◌⊎◌, ◌↔◌, refl, ap, sym, ◌∙◌, subst, inl, inr, arith, Bool, true, false, ◌||◌, Some}
+use Rattle.std.proofs.lemmas.Bool.{cases_eq, cases_Bool, or_cases}
+use Rattle.std.proofs.lemmas.Option.{same_Some}
 use Rattle.ld_task.specs.Chains.{ChainParts}
 use Rattle.ld_graph.specs.Facts.{ChainHas, Holds, Adds}
 use Rattle.ld_graph.specs.FactBits.{FactWords, HasFact}
-use Rattle.ld_graph.specs.ChainFacts.{chain_fact, fact_slots}
+use Rattle.ld_graph.specs.Inside.ChainFacts.{chain_fact, fact_slots}
 use Rattle.ld_graph.specs.declared.fact.Fact.{Fact}
 use Rattle.ld_graph.proofs.ChainFacts.{StandsIn, chain_fact-sound, chain_fact-complete}
 
@@ -23,6 +23,10 @@ Grown-start first c = record {
   known = λ h. refl;
   news = λ h. absurd (let e : false ≡ true = h in cc);
 }
+
+pub neither : (a b : Bool) → (a || b) ≡ false → (a ≡ false) × (b ≡ false)
+neither false b h = (refl, h)
+neither true b h = absurd (let e : true ≡ false = h in cc)
 
 -- one slot more
 StandsIn-later : (c : ChainParts) (x : Fact) (n : ℕ) → StandsIn c x n → StandsIn c x (n + 1)
@@ -61,16 +65,20 @@ module _ (first now : FactWords) (c : ChainParts) (n : ℕ) (fresh : Bool) (was 
     news = later;
   }
 
-  pub Grown-fresh : (new : FactWords) (x : Fact) → chain_fact c n ≡ Some x → ¬ HasFact now x → new.keys ≡ now.keys →
-      Adds (HasFact now) (HasFact new) (λ y. y ≡ x) → Grown first new c (n + 1) true
-  Grown-fresh new x at fresh_fact keys adds = record {
+  pub Grown-add : (new : FactWords) (x : Fact) (added : Bool) → chain_fact c n ≡ Some x → new.keys ≡ now.keys →
+      Adds (HasFact now) (HasFact new) (λ y. y ≡ x) → (added ≡ false) ↔ HasFact now x → (added ≡ false → new ≡ now) →
+      Grown first new c (n + 1) (fresh || added)
+  Grown-add new x added at keys adds known unchanged = record {
     keys = keys ∙ was.keys;
     facts = step new (λ y. (
       (λ h. elim ((adds y).0 h) [ inl m ↦ inl m | inr e ↦ inr (at ∙ ap Some (sym e)) ]),
       (λ h. (adds y).1 (elim h [ inl m ↦ inl m | inr e ↦ inr (sym (same_Some x y (sym at ∙ e))) ])),
     ));
-    known = λ h. absurd (let e : true ≡ false = h in cc);
-    news = λ h. (x, (n, omega arith, at), λ o. fresh_fact ((was.facts x).1 (inl o)));
+    known = λ h. let (before, here) = neither fresh added h in unchanged here ∙ was.known before;
+    news = λ h. elim (or_cases fresh added h) [
+      | inl before ↦ later before
+      | inr here ↦ (x, (n, omega arith, at), λ o. let off = known.1 ((was.facts x).1 (inl o)) in cc)
+    ];
   }
 
 -- ---- all slots

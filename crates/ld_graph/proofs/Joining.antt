@@ -3,8 +3,8 @@ use Rattle.std.proofs.Common.{◌≡◌, ◌≢◌, ℕ, ◌+◌, ◌-◌, ◌*�
 use Rattle.std.specs.Cmp.{both_ways}
 use Rattle.std.proofs.lemmas.Bool.{cases_eq}
 use Rattle.ld_graph.specs.declared.places.TheConstants.{ROW_WORDS}
-use Rattle.ld_graph.specs.Bits.{has_bit}
-use Rattle.ld_graph.specs.Tables.{reaches}
+use Rattle.ld_graph.specs.Inside.Bits.{has_bit}
+use Rattle.ld_graph.specs.Inside.Tables.{reaches}
 use Rattle.ld_graph.proofs.BitLemmas.{has_bit-zeros, zeros_at}
 
 abbrev pub zero_row : List ℕ

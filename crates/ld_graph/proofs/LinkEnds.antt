@@ -5,11 +5,11 @@ use Rattle.ld_trace.specs.declared.event.Irq.{Irq}
 use Rattle.ld_trace.specs.declared.event.Irq.TheVariants.{Hard, Soft}
 use Rattle.ld_task.specs.declared.mark.Mark.{Mark}
 use Rattle.ld_task.specs.declared.mark.Mark.TheVariants.{Used, UsedIn, Enabled}
-use Rattle.ld_graph.specs.Bits.{has_bit}
+use Rattle.ld_graph.specs.Inside.Bits.{has_bit}
 use Rattle.ld_graph.specs.Numbers.{irq_number}
-use Rattle.ld_graph.specs.Places.{LeavesFrom, LinkArrives, LinkLeaves}
-use Rattle.ld_graph.specs.Tables.{reaches}
-use Rattle.ld_graph.specs.Kept.{TakesMark}
+use Rattle.ld_graph.specs.Inside.Places.{LeavesFrom, LinkArrives, LinkLeaves}
+use Rattle.ld_graph.specs.Inside.Tables.{reaches}
+use Rattle.ld_graph.specs.Inside.Kept.{TakesMark}
 use Rattle.ld_graph.specs.declared.ends.Ends.{Ends}
 use Rattle.ld_graph.specs.declared.fact.Fact.{Fact}
 use Rattle.ld_graph.specs.declared.fact.Fact.TheVariants.{Dependency, Marked}

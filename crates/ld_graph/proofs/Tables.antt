@@ -6,9 +6,9 @@ use Rattle.std.proofs.lemmas.List.{get_or_past, get_or-replicate, length-replica
 use Rattle.ld_task.specs.Kinds.{is_s, is_r}
 use Rattle.ld_graph.specs.declared.places.TheConstants.{PLACES, ROW_WORDS}
 use Rattle.ld_graph.specs.Arrows.{Arrow}
-use Rattle.ld_graph.specs.Bits.{has_bit}
-use Rattle.ld_graph.specs.Places.{place, arrival, Leaves}
-use Rattle.ld_graph.specs.Tables.{reaches, Comes, IsSource, IsTarget, AreSpan, IsTransitive, TakesArrow, AreTables}
+use Rattle.ld_graph.specs.Inside.Bits.{has_bit}
+use Rattle.ld_graph.specs.Inside.Places.{place, arrival, Leaves}
+use Rattle.ld_graph.specs.Inside.Tables.{reaches, Comes, IsSource, IsTarget, AreSpan, IsTransitive, TakesArrow, AreTables}
 use Rattle.ld_graph.proofs.BitLemmas.{has_bit-zeros, zeros_at}
 use Rattle.ld_graph.proofs.Joining.{zero_row}
 

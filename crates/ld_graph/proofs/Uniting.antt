@@ -5,7 +5,7 @@ use Rattle.std.specs.Int.{bit_at}
 use Rattle.std.proofs.lemmas.Bool.{cases_eq, cases_lt, or_cases, or_left, or_right}
 use Rattle.std.proofs.lemmas.List.{get_or_past}
 use Rattle.std.proofs.lemmas.Nat.Bits.{bit_at-zero}
-use Rattle.ld_graph.specs.Bits.{has_bit}
+use Rattle.ld_graph.specs.Inside.Bits.{has_bit}
 use Rattle.ld_graph.specs.Numbers.{fact_number, bit_total}
 use Rattle.ld_graph.specs.Facts.{AreSame, Adds}
 use Rattle.ld_graph.specs.FactBits.{FactWords, FactBelow, HasFact, AreFacts, SetsBit, UnitesWord}

@@ -24,13 +24,15 @@ TraceFactsAreTheChains = (t : List Event) → AreSame (TraceHas t) (ChainsHave (
 abbrev pub AddsInTurn : FactWords → List ChainParts → FactWords → Type 0
 AddsInTurn old [] new = new ≡ old
 AddsInTurn old (chain ∷ chains) new =
-    (next : FactWords) × (next.keys ≡ old.keys) × Adds (HasFact old) (HasFact next) (ChainHas chain) ×
+    (next : FactWords) × (next.keys ≡ old.keys) ×
+    Adds (HasFact old) (HasFact next) (ChainHas chain) ×
     AddsInTurn next chains new
 
 -- adding chains one after the other gives the union of their facts
 abbrev pub AddingInTurnUnites : Type 0
 AddingInTurnUnites = (old new : FactWords) (chains : List ChainParts) →
-    AddsInTurn old chains new → (new.keys ≡ old.keys) × Adds (HasFact old) (HasFact new) (ChainsHave chains)
+    AddsInTurn old chains new → (new.keys ≡ old.keys) ×
+    Adds (HasFact old) (HasFact new) (ChainsHave chains)
 
 -- the dependencies of some traces have one number, so that to tell one is to tell how many there are
 abbrev pub DependenciesHaveOneNumber : Type 0
@@ -66,7 +68,8 @@ abbrev pub NewCirclesHaveNewMembers : Type 0
 NewCirclesHaveNewMembers = (old new : Fact → Bool) (a : Arrow) (rest : List Arrow) →
     ClosedWalk (DependenciesOf (In new)) a rest →
     ClosedWalk (DependenciesOf (In old)) a rest ⊎
-    ((m : HasNewMember old new (a ∷ rest)) × ClosedWalk (DependenciesOf (In new)) m.d (m.last ++ m.first))
+    ((m : HasNewMember old new (a ∷ rest)) ×
+    ClosedWalk (DependenciesOf (In new)) m.d (m.last ++ m.first))
 
 -- a double is one by the earlier facts, or its link has a new mark
 abbrev pub NewDoublesHaveNewMarks : Type 0
@@ -76,6 +79,8 @@ NewDoublesHaveNewMarks = (old new : Fact → Bool) (irq : Irq) (a : ℕ) (l : Ar
 -- an inversion is one by the earlier facts, or its link has a new mark, or its walk a new member: then a first part of
 -- the walk ends before it and a last part begins behind it
 abbrev pub NewInversionsHaveNewParts : Type 0
-NewInversionsHaveNewParts = (old new : Fact → Bool) (irq : Irq) (a b : ℕ) (d : Arrow) (rest : List Arrow) (l : Arrow) →
+NewInversionsHaveNewParts =
+    (old new : Fact → Bool) (irq : Irq) (a b : ℕ) (d : Arrow) (rest : List Arrow) (l : Arrow) →
     IsInversionWith (In new) irq a b d rest l →
-    IsInversionWith (In old) irq a b d rest l ⊎ HasNewEnd old new irq l ⊎ HasNewMember old new (d ∷ rest)
+    IsInversionWith (In old) irq a b d rest l ⊎ HasNewEnd old new irq l ⊎
+    HasNewMember old new (d ∷ rest)

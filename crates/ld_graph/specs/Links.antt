@@ -30,7 +30,8 @@ IsInversionWith Has irq a b d rest l =
     MayFollow (last d rest) l × MayFollow l d
 
 abbrev pub IsInversion : (Fact → Type 0) → Irq → ℕ → ℕ → Type 0
-IsInversion Has irq a b = (d : Arrow) × (rest : List Arrow) × (l : Arrow) × IsInversionWith Has irq a b d rest l
+IsInversion Has irq a b = (d : Arrow) × (rest : List Arrow) × (l : Arrow) ×
+    IsInversionWith Has irq a b d rest l
 
 -- no dependency on a circle, no double and no inversion
 pub record IsClean (Has : Fact → Type 0) : Type 0 where

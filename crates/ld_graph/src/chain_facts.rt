@@ -2,7 +2,7 @@
 
 ghost use Rattle.std.specs.Prelude.{◌≡◌, ◌+◌, ◌-◌, ◌*◌, ◌/◌, ◌%◌, ◌<◌, ◌≤◌, slice_get, if◌then◌else◌, length};
 ghost use Rattle.ld_task.specs.Marks.{is_read, marks_taken, marks_opened};
-ghost use Rattle.ld_graph.specs.ChainFacts.{chain_fact, dependency_from, fact_slots, mark_if, mark_of_held, mark_by_taking, mark_by_opening};
+ghost use Rattle.ld_graph.specs.Inside.ChainFacts.{chain_fact, dependency_from, fact_slots, mark_if, mark_of_held, mark_by_taking, mark_by_opening};
 
 use crate::fact::Fact;
 use ld_task::{Chain, Frame, Kind, Mark};

@@ -2,10 +2,10 @@
 
 ghost use Rattle.std.specs.Prelude.{◌≡◌, ℕ, ◌<◌, ◌↔◌, ◌⊎◌, IsTrue, IsFalse};
 ghost use Rattle.ld_trace.specs.declared.event.Irq.{Irq};
-ghost use Rattle.ld_graph.specs.Bits.{has_bit};
+ghost use Rattle.ld_graph.specs.Inside.Bits.{has_bit};
 ghost use Rattle.ld_graph.specs.Numbers.{irq_number};
-ghost use Rattle.ld_graph.specs.Places.{LeavesFrom};
-ghost use Rattle.ld_graph.specs.Kept.{arrives_at, departs_from, TakesMark, JoinsLinks, MarkTurnsBack};
+ghost use Rattle.ld_graph.specs.Inside.Places.{LeavesFrom};
+ghost use Rattle.ld_graph.specs.Inside.Kept.{arrives_at, departs_from, TakesMark, JoinsLinks, MarkTurnsBack};
 ghost use Rattle.ld_trace.specs.declared.key_id.TheConstants.{MAX_KEYS};
 
 use crate::bits;

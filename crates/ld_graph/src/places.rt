@@ -2,7 +2,7 @@
 //! of bits.
 
 ghost use Rattle.std.specs.Prelude.{◌≡◌, ◌<◌};
-ghost use Rattle.ld_graph.specs.Places.{place};
+ghost use Rattle.ld_graph.specs.Inside.Places.{place};
 
 use ld_trace::MAX_KEYS;
 

@@ -2,9 +2,9 @@
 
 ghost use Rattle.std.specs.Prelude.{◌≡◌, ℕ, ◌+◌, ◌*◌, ◌<◌, ◌≤◌, ◌↔◌, ◌⊎◌, ◌||◌, ◌&&◌, length, IsTrue, IsFalse, IfOk};
 ghost use Rattle.ld_graph.specs.Arrows.{arrow};
-ghost use Rattle.ld_graph.specs.Bits.{has_bit};
-ghost use Rattle.ld_graph.specs.Places.{place, LeavesFrom};
-ghost use Rattle.ld_graph.specs.Tables.{reaches, IsSource, IsTarget, AreSpan, IsTransitive, TakesArrow};
+ghost use Rattle.ld_graph.specs.Inside.Bits.{has_bit};
+ghost use Rattle.ld_graph.specs.Inside.Places.{place, LeavesFrom};
+ghost use Rattle.ld_graph.specs.Inside.Tables.{reaches, IsSource, IsTarget, AreSpan, IsTransitive, TakesArrow};
 ghost use Rattle.ld_trace.specs.declared.key_id.TheConstants.{MAX_KEYS};
 
 use crate::bits;
@@ -22,7 +22,7 @@ pub(crate) struct Reach {
 
 impl Model for Reach {
     ghost use Rattle.std.specs.Prelude.{List, ℕ};
-    ghost use Rattle.ld_graph.specs.Tables.{AreTables};
+    ghost use Rattle.ld_graph.specs.Inside.Tables.{AreTables};
 
     ghost Value = { List (List ℕ) };
 

@@ -7,9 +7,9 @@ use Rattle.ld_task.specs.declared.fault.StepAt.{StepAt}
 use Rattle.ld_graph.specs.FactBits.{FactWords, HasFact}
 use Rattle.ld_graph.specs.Facts.{Adds}
 use Rattle.ld_graph.specs.declared.fact.Fact.{Fact}
-use Rattle.ld_run.specs.Shares.{BringsShare, BringShares, earlier_refused}
+use Rattle.ld_run.specs.Inside.Shares.{BringsShare, BringShares, earlier_refused}
 use Rattle.ld_run.specs.Tallies.{HasBeforeFault, IsTally, BelongsTo, BelongsToFirst}
-use Rattle.ld_run.specs.Walks.{FirstFaultIs, first_refused_of}
+use Rattle.ld_run.specs.Inside.Walks.{FirstFaultIs, first_refused_of}
 use Rattle.ld_run.specs.declared.worker.RefusedTrace.{RefusedTrace}
 use Rattle.ld_run.specs.declared.worker.Tally.{Tally}
 use Rattle.ld_run.specs.declared.worker.Lost.{Lost}

@@ -13,9 +13,9 @@ use Rattle.ld_graph.specs.Laws.{TraceFactsAreTheChains}
 use Rattle.ld_graph.specs.declared.fact.Fact.{Fact}
 use Rattle.ld_run.specs.TraceFacts.{IsFirstRefused, TracesHave}
 use Rattle.ld_run.specs.Runs.{CompletesRun, IsCrew}
-use Rattle.ld_run.specs.Shares.{earlier_refused}
+use Rattle.ld_run.specs.Inside.Shares.{earlier_refused}
 use Rattle.ld_run.specs.Tallies.{HasBeforeFault, OfSome, AreWellFormed, IsLeastRefused, LeastRefusedIs, IsTally, BelongsToFirst}
-use Rattle.ld_run.specs.Walks.{FirstFaultIs, first_refused_of}
+use Rattle.ld_run.specs.Inside.Walks.{FirstFaultIs, first_refused_of}
 use Rattle.ld_run.specs.declared.runs.TheConstants.{MAX_TRACES}
 use Rattle.ld_run.specs.declared.worker.RefusedTrace.{RefusedTrace}
 use Rattle.ld_run.proofs.BeforeFaults.{before_fault-all, slice_get-take}

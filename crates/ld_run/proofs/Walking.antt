@@ -15,7 +15,7 @@ use Rattle.ld_graph.specs.FactBits.{FactWords, HasFact}
 use Rattle.ld_graph.specs.FactLaws.{Any-push}
 use Rattle.ld_graph.specs.Facts.{Adds, AreSame, ChainHas, ChainsHave}
 use Rattle.ld_graph.specs.declared.fact.Fact.{Fact}
-use Rattle.ld_run.specs.Walks.{ComesNext, HasGathered, WalksOn}
+use Rattle.ld_run.specs.Inside.Walks.{ComesNext, HasGathered, WalksOn}
 
 -- the chain of an event of a trace has the trace's keys
 pub chain_below : ChainKeysAreTheTraces → (keys : ℕ) (t : List Event) (n : ℕ) (state : EndState) (r : Result (Option ChainParts) StepFault) (c : ChainParts) → r ≡ Ok (Some c) → GoesOn t n state r → KeysBelow keys t → ChainKeysBelow keys c

@@ -1,7 +1,6 @@
+pub mod Inside
 pub mod Faults
 pub mod TraceFacts
 pub mod Runs
 pub mod Settling
 pub mod Tallies
-pub mod Shares
-pub mod Walks

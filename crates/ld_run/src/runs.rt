@@ -7,13 +7,13 @@ ghost use Rattle.ld_task.specs.Events.{makes_chain};
 ghost use Rattle.ld_graph.specs.FactBits.{HasFact};
 ghost use Rattle.ld_graph.specs.declared.fact.Fact.{Fact};
 ghost use Rattle.ld_run.specs.Runs.{CompletesRun, EndsRun, IsCrew, StopsRun};
-ghost use Rattle.ld_run.specs.Shares.{BringShares, BringsShare, earlier_refused};
+ghost use Rattle.ld_run.specs.Inside.Shares.{BringShares, BringsShare, earlier_refused};
 ghost use Rattle.ld_run.specs.Tallies.{BelongsToFirst, IsTally};
 
 use crate::fault::RunFault;
 use crate::gate::Gate;
 use crate::settled::{Settled, settle};
-use crate::worker::{Lost, RefusedTrace, Tally, walk_share};
+use crate::worker::{Lost, RefusedTrace, Tally, Walk, walk_share};
 use ld_book::{Book, LockedBook};
 use ld_graph::Facts;
 use ld_trace::{Event, MAX_EVENTS, MAX_KEYS, RawTrace};
@@ -88,7 +88,12 @@ fn complete<R: Threads + Wait + Sync, G: Gate + Sync>(
         return Err(RunFault::Memory);
     };
     let book = LockedBook::new(book);
-    match gather(rt, alloc, &book, gate, traces, keys, workers, &mut together) {
+    let walk = Walk {
+        rt,
+        book: &book,
+        gate,
+    };
+    match gather(&walk, alloc, traces, keys, workers, &mut together) {
         Ok(refused) => conclude(book.into_book(), &together, refused),
         Err(_) => Err(RunFault::Memory),
     }
@@ -126,10 +131,8 @@ fn refused_by(found: RefusedTrace) -> RunFault
 
 // Gathers the facts of all traces, and returns the first that isn't well formed.
 fn gather<R: Threads + Wait + Sync, G: Gate + Sync>(
-    rt: &R,
+    walk: &Walk<R, G>,
     alloc: Global,
-    book: &LockedBook,
-    gate: &G,
     traces: &[RawTrace],
     keys: u16,
     workers: usize,
@@ -145,7 +148,7 @@ fn gather<R: Threads + Wait + Sync, G: Gate + Sync>(
     ensures tally { IfOk result (λ refused.
         IsTally traces.now (BelongsToFirst workers workers) together.new refused) }
 {
-    let Ok(brought) = walk_all(rt, alloc, book, gate, traces, keys, workers) else {
+    let Ok(brought) = walk_all(walk, alloc, traces, keys, workers) else {
         return Err(Lost);
     };
     add_up(together, &brought)
@@ -153,10 +156,8 @@ fn gather<R: Threads + Wait + Sync, G: Gate + Sync>(
 
 // Each worker walks its share, in a thread of its own where one can be made.
 fn walk_all<R: Threads + Wait + Sync, G: Gate + Sync>(
-    rt: &R,
+    walk: &Walk<R, G>,
     alloc: Global,
-    book: &LockedBook,
-    gate: &G,
     traces: &[RawTrace],
     keys: u16,
     workers: usize,
@@ -169,13 +170,13 @@ fn walk_all<R: Threads + Wait + Sync, G: Gate + Sync>(
     ensures each { IfOk result (λ brought. BringShares traces.now keys workers brought.items) }
 {
     thread::map_indices(
-        rt,
+        walk.rt,
         alloc,
         workers,
         &|worker: usize| -> Result<Tally, Lost>
             requires { (keys ≤ MAX_KEYS) × All (KeysBelow keys) traces.now × (0 < workers) × (length traces.now ≤ MAX_TRACES) }
             ensures { BringsShare traces.entry.now keys workers worker result }
-        { walk_share(rt, alloc, book, gate, traces, keys, workers, worker) },
+        { walk_share(walk, alloc, traces, keys, workers, worker) },
     )
 }
 

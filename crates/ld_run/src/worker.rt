@@ -7,7 +7,7 @@ ghost use Rattle.ld_task.specs.Chains.{ChainKeysBelow};
 ghost use Rattle.ld_graph.specs.FactBits.{FactWords, HasFact};
 ghost use Rattle.ld_graph.specs.Facts.{Adds, ChainHas};
 ghost use Rattle.ld_run.specs.Tallies.{BelongsTo, HasBeforeFault, IsTally};
-ghost use Rattle.ld_run.specs.Walks.{ComesNext, FirstFaultIs, WalksOn, first_refused_of};
+ghost use Rattle.ld_run.specs.Inside.Walks.{ComesNext, FirstFaultIs, WalksOn, first_refused_of};
 
 use crate::gate::Gate;
 use crate::runs::MAX_TRACES;
@@ -17,6 +17,14 @@ use ld_task::{Chain, StepAt, StepFault, TaskState};
 use ld_trace::{Event, MAX_EVENTS, MAX_KEYS, RawTrace};
 use std::alloc::Global;
 use std::sync::Wait;
+
+/// What the workers of a run share: how they wait, the book that they record in, and the gate that they call.
+#[derive(Clone, Copy)]
+pub(crate) struct Walk<'a, R, G> {
+    pub rt: &'a R,
+    pub book: &'a LockedBook,
+    pub gate: &'a G,
+}
 
 /// A trace that isn't well formed, by its place among all traces, with its first event that isn't allowed.
 #[derive(Clone, Copy, Debug)]
@@ -41,9 +49,7 @@ pub(crate) struct Lost;
 // Adds the facts of a chain, calls the gate, and records the chain. A book that is full or doesn't know a key is passed
 // over: settling finds what that lost.
 fn record_chain<R: Wait, G: Gate>(
-    rt: &R,
-    book: &LockedBook,
-    gate: &G,
+    walk: &Walk<R, G>,
     facts: &mut Facts,
     trace: usize,
     number: u64,
@@ -55,8 +61,8 @@ fn record_chain<R: Wait, G: Gate>(
     ensures adds { Adds (HasFact facts.old) (HasFact facts.new) (ChainHas chain) }
 {
     facts.add_chain(&chain);
-    gate.before_record(trace, number);
-    match book.record(rt, trace as u32, chain) {
+    walk.gate.before_record(trace, number);
+    match walk.book.record(walk.rt, trace as u32, chain) {
         Err(BookFault::Memory) => Err(Lost),
         _ => Ok(()),
     }
@@ -65,9 +71,7 @@ fn record_chain<R: Wait, G: Gate>(
 // Goes on by one event of a trace, and returns why it isn't allowed, if it isn't. The number is that of the trace's next
 // chain: the events of a trace that make a chain are counted.
 fn walk_event<R: Wait, G: Gate>(
-    rt: &R,
-    book: &LockedBook,
-    gate: &G,
+    walk: &Walk<R, G>,
     facts: &mut Facts,
     state: &mut TaskState,
     trace: usize,
@@ -87,7 +91,7 @@ fn walk_event<R: Wait, G: Gate>(
     match state.step(event) {
         Ok(answer) => {
             if let Some(chain) = answer {
-                record_chain(rt, book, gate, facts, trace, *number, chain)?;
+                record_chain(walk, facts, trace, *number, chain)?;
                 *number += 1;
             }
             Ok(None)
@@ -98,9 +102,7 @@ fn walk_event<R: Wait, G: Gate>(
 
 // Walks a trace up to its first event that isn't allowed, and returns that one, if there is one.
 fn walk_trace<R: Wait, G: Gate>(
-    rt: &R,
-    book: &LockedBook,
-    gate: &G,
+    walk: &Walk<R, G>,
     facts: &mut Facts,
     trace: usize,
     events: &RawTrace,
@@ -120,7 +122,7 @@ fn walk_trace<R: Wait, G: Gate>(
         let Some(event) = events.event(place) else {
             unreachable!();
         };
-        let refused = walk_event(rt, book, gate, facts, &mut state, trace, &mut number, event)?;
+        let refused = walk_event(walk, facts, &mut state, trace, &mut number, event)?;
         if let Some(fault) = refused {
             return Ok(Some(StepAt { fault, place }));
         }
@@ -130,10 +132,8 @@ fn walk_trace<R: Wait, G: Gate>(
 
 /// Walks the traces whose places, modulo `workers`, are the worker's number.
 pub(crate) fn walk_share<R: Wait, G: Gate>(
-    rt: &R,
+    walk: &Walk<R, G>,
     alloc: Global,
-    book: &LockedBook,
-    gate: &G,
     traces: &[RawTrace],
     keys: u16,
     workers: usize,
@@ -154,7 +154,7 @@ pub(crate) fn walk_share<R: Wait, G: Gate>(
         if trace % workers != worker {
             continue;
         }
-        let found = walk_trace(rt, book, gate, &mut facts, trace, events)?;
+        let found = walk_trace(walk, &mut facts, trace, events)?;
         refused = first_of(refused, trace, found);
     }
     Ok(Tally { facts, refused })

@@ -3,7 +3,7 @@ use Rattle.std.specs.Prelude.{ℕ, List, ◌≡◌, IsTrue}
 use Rattle.ld_task.specs.Events.{event, is_acquire, mode_taken}
 use Rattle.ld_task.specs.Held.{key_at, is_held}
 use Rattle.ld_task.specs.declared.kind.Kind.{Kind}
-pub use Rattle.ld_task.specs.Kinds.{kind_between}
+use Rattle.ld_task.specs.Kinds.{kind_between}
 use Rattle.ld_trace.specs.declared.event.Event.{Event}
 
 -- the trace has a dependency of this kind between these keys: one is held where the other is taken

@@ -27,7 +27,7 @@ unfoldable pub is_kept : List Event → ℕ → ℕ → Bool
 is_kept t i j =
     nat_lt i j && is_acquire (event t i)
     && all_between i (suc j) (λ k.
-        nat_le (depth t i) (depth t k) && nat_le (releases_since t i k) (acquisitions_since t i k))
+    nat_le (depth t i) (depth t k) && nat_le (releases_since t i k) (acquisitions_since t i k))
 
 -- acquisition i is held at j: it is kept there, and was taken in j's frame
 unfoldable pub is_held : List Event → ℕ → ℕ → Bool

@@ -133,7 +133,7 @@ impl Chain {
 impl PartialEq for Chain {
     ghost use Rattle.std.specs.Cmp.{partial_equiv_from_equiv};
     ghost use Rattle.ld_task.specs.ChainEquality.{chain_eq};
-    ghost use Rattle.ld_task.specs.ChainEqualityLaws.{chain_eq-equivalence};
+    ghost use Rattle.ld_task.specs.Inside.ChainEqualityLaws.{chain_eq-equivalence};
 
     ghost eq = { chain_eq };
 
@@ -147,7 +147,7 @@ impl PartialEq for Chain {
 }
 
 impl Eq for Chain {
-    ghost use Rattle.ld_task.specs.ChainEqualityLaws.{chain_eq-equivalence};
+    ghost use Rattle.ld_task.specs.Inside.ChainEqualityLaws.{chain_eq-equivalence};
 
     ghost laws = { chain_eq-equivalence };
 }
@@ -156,7 +156,7 @@ impl Hash for Chain {
     ghost use Rattle.std.specs.Prelude.{◌++◌};
     ghost use Rattle.std.specs.Hash as fed;
     ghost use Rattle.std.specs.Hash.{same_Alike};
-    ghost use Rattle.ld_task.specs.ChainEqualityLaws.{chain_eq-decides};
+    ghost use Rattle.ld_task.specs.Inside.ChainEqualityLaws.{chain_eq-decides};
 
     ghost hash_input = { λ c. fed.slice ⟦<Lock as Hash>⟧.hash_input c.held_locks
         ++ ⟦<Option<(Lock, Frame)> as Hash>⟧.hash_input c.new_lock

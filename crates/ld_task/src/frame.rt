@@ -120,7 +120,7 @@ pub struct OpenFrame {
 impl Default for OpenFrame {
     ghost use Rattle.std.specs.Prelude.{◌≡◌};
     ghost use Rattle.ld_task.specs.declared.frame.Frame.TheVariants.{Task};
-    ghost use Rattle.ld_task.specs.OpenFrames.{fresh};
+    ghost use Rattle.ld_task.specs.Inside.OpenFrames.{fresh};
 
     // The task frame at its start.
     fn default() -> Self
@@ -133,7 +133,7 @@ impl Default for OpenFrame {
 impl OpenFrame {
     ghost use Rattle.std.specs.Prelude.{◌≡◌};
     ghost use Rattle.ld_task.specs.Flags.{may_enter};
-    ghost use Rattle.ld_task.specs.OpenFrames.{fresh, fresh_frame, turned};
+    ghost use Rattle.ld_task.specs.Inside.OpenFrames.{fresh, fresh_frame, turned};
 
     // A frame of this kind at its start.
     fn fresh(kind: Frame) -> OpenFrame

@@ -3,7 +3,7 @@
 
 ghost use Rattle.std.specs.Prelude.{◌≡◌, ◌<◌, filter, IfSome, length, map};
 ghost use Rattle.std.specs.List.{list_any};
-ghost use Rattle.ld_task.specs.Machine.{is_at, is_of, last_place, lock_of};
+ghost use Rattle.ld_task.specs.Inside.Machine.{is_at, is_of, last_place, lock_of};
 
 use crate::lock::{KeptLock, Lock, MAX_HELD};
 use arrayvec::ArrayVec;

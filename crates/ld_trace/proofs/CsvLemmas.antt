@@ -9,7 +9,7 @@ use Rattle.csv.specs.declared.parser.State.TheVariants as st
 use Rattle.csv.specs.declared.reader.Reader.{Reader}
 use Rattle.csv.proofs.ReadFacts.{rows-end, rows-more}
 use Rattle.ld_trace.specs.Lines.{Record}
-use Rattle.ld_trace.specs.Progress.{HasGiven, ReadsPlain}
+use Rattle.ld_trace.specs.Inside.Progress.{HasGiven, ReadsPlain}
 use Rattle.ld_trace.specs.Reading.{records_of}
 
 -- a record takes a byte, or it is the one that the end of the text ended

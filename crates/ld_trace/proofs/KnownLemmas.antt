@@ -1,17 +1,16 @@
 -- A name that stands in a table, and the record that names it.
-use Rattle.std.proofs.Common.{◌≡◌, ℕ, zero, suc, ◌+◌, ◌&&◌, ◌==◌, Bool, true, false, cond, not, List, [], ◌∷◌, length, slice_get, nat_le, Option, Some, None, Ok, codes, refl, sym, ap, ◌∙◌, arith, true≢false}
-use Rattle.std.specs.Bool.{Decides}
-use Rattle.std.specs.List.{AllByRecursion, IsDistinct, list_all, list_any, position_or_len}
+use Rattle.std.proofs.Common.{◌≡◌, ℕ, zero, suc, ◌==◌, Bool, true, false, List, [], ◌∷◌, slice_get, nat_le, Some, codes, refl, sym, ap, ◌∙◌, arith, true≢false}
+use Rattle.std.specs.List.{AllByRecursion, IsDistinct, list_all}
 use Rattle.std.specs.Str.{bytes_eq}
-use Rattle.std.proofs.lemmas.Bool.{and_from, and_parts, cases_Bool}
+use Rattle.std.proofs.lemmas.Bool.{and_from, and_parts}
 use Rattle.std.proofs.lemmas.Bool.Decides.{Decides-eqb}
 use Rattle.std.proofs.lemmas.Slice.Eq.{bytes_eq-Decides}
 use Rattle.ld_trace.specs.declared.event.Event.TheVariants.{Acquire, Release}
 use Rattle.ld_trace.specs.declared.event.Mode.{Mode}
 use Rattle.ld_trace.specs.declared.key_table.TheConstants.{MAX_SUB}
 use Rattle.ld_trace.specs.Lines.{acquire_line, gives_back, mode_of, name_of_fields, release_line, sub_of, takes}
-use Rattle.ld_trace.specs.Progress.{IsEventOf}
-use Rattle.ld_trace.specs.Names.{AreNumbered, Name, is_class_name, is_known, is_name, is_same, place_of, with_name}
+use Rattle.ld_trace.specs.Inside.Progress.{IsEventOf}
+use Rattle.ld_trace.specs.Names.{AreNumbered, Name, is_class_name, is_known, is_name, is_same, place_of}
 
 is_same-itself : (name : Name) → is_same name name ≡ true
 is_same-itself name = and_from (bytes_eq name.0 name.0) (name.1 == name.1) ((bytes_eq-Decides name.0 name.0).1 refl) ((Decides-eqb name.1 name.1).1 refl)

@@ -15,7 +15,7 @@ use Rattle.ld_trace.specs.declared.trace_fault.TraceFaultKind.TheVariants.{BadRe
 use Rattle.ld_trace.specs.Events.{KeyIsBelow, KeysBelow}
 use Rattle.ld_trace.specs.Lines.{Record, is_header, line_of_record}
 use Rattle.ld_trace.specs.Names.{Name}
-use Rattle.ld_trace.specs.Progress.{AreRead, AreRefused, AreTaken, HasGiven, HasTaken, ReadsPlain, TakesLine}
+use Rattle.ld_trace.specs.Inside.Progress.{AreRead, AreRefused, AreTaken, HasGiven, HasTaken, ReadsPlain, TakesLine}
 use Rattle.ld_trace.specs.Reading.{ReadsTo, StopsAt, fault_at, names_after, record_fault, records_of}
 use Rattle.ld_trace.specs.TraceFaults.{is_of_text}
 use Rattle.ld_trace.proofs.CsvLemmas.{given-all, given-begin, given-more}

@@ -3,7 +3,7 @@ use Rattle.std.proofs.Common.{◌≡◌, ℕ, refl, Some, position, ◌∙◌}
 use Rattle.std.specs.List.{IsDistinct, list_any, position_or_len}
 use Rattle.indexmap.specs.IndexSet.{IndexSet, IsUnique, insert_key}
 use Rattle.ld_trace.specs.Names.{is_known, is_same, place_of, with_name}
-use Rattle.ld_trace.specs.Stored.{name_of, names_of}
+use Rattle.ld_trace.specs.Inside.Stored.{name_of, names_of}
 use Rattle.ld_trace.specs.contracts.stored_name.StoredNamePartialEq.TheImpl.{eq-value}
 use Rattle.ld_trace.specs.declared.stored_name.StoredName.{StoredName}
 use Rattle.ld_trace.proofs.NameLemmas.{position-found, known-map, place-map, with_name-map, distinct-map}

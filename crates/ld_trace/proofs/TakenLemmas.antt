@@ -15,7 +15,7 @@ use Rattle.ld_trace.specs.declared.event.Event.TheVariants.{Acquire, Release, En
 use Rattle.ld_trace.specs.Events.{KeyIsBelow, KeysBelow}
 use Rattle.ld_trace.specs.Lines.{Line, takes, gives_back, enters, leaves, turns_on, turns_off, Record, event_of, line_of_record, with_line}
 use Rattle.ld_trace.specs.Names.{Name, is_known, is_same, place_of, with_name}
-use Rattle.ld_trace.specs.Progress.{AreTaken, TakesLine}
+use Rattle.ld_trace.specs.Inside.Progress.{AreTaken, TakesLine}
 use Rattle.ld_trace.specs.Reading.{event_at, fault_at, header_fault, names_after, names_before, record_fault, line_event, with_read}
 
 -- places in a longer list

@@ -1,9 +1,7 @@
+pub mod Inside
 pub mod Events
 pub mod KeyFaults
 pub mod Lines
 pub mod Names
-pub mod Progress
-pub mod ReadLines
 pub mod Reading
-pub mod Stored
 pub mod TraceFaults

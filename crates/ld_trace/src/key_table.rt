@@ -2,7 +2,7 @@
 
 ghost use Rattle.std.specs.Prelude.{◌≡◌, ◌≤◌, ◌<◌, ◌↔◌, [], IsOk, IsOkAnd, IfOk, IfErr, OnErr, IsErrOf, IfSome, length, slice_get, option_map, true, false, ◌⊎◌};
 ghost use Rattle.ld_trace.specs.Names.{AreNumbered, is_class_name, is_known, is_name, is_one_too_many, is_same, place_of, with_name};
-ghost use Rattle.ld_trace.specs.Stored.{name_of, names_of};
+ghost use Rattle.ld_trace.specs.Inside.Stored.{name_of, names_of};
 ghost use Rattle.std.specs.List.{IsDistinct};
 
 use crate::stored_name::{SLOTS, StoredName, is_class_name, slot_of};
@@ -28,7 +28,7 @@ pub struct KeyTable {
 impl Model for KeyTable {
     ghost use Rattle.std.specs.Prelude.{List};
     ghost use Rattle.ld_trace.specs.Names.{AreNumbered, Name};
-    ghost use Rattle.ld_trace.specs.Stored.{names_of};
+    ghost use Rattle.ld_trace.specs.Inside.Stored.{names_of};
 
     ghost Value = { List Name };
 

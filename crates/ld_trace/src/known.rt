@@ -6,7 +6,7 @@
 ghost use Rattle.std.specs.Prelude.{IfSome};
 ghost use Rattle.csv.specs.Records.{fields_of};
 ghost use Rattle.ld_trace.specs.Lines.{acquire_line, mode_of, name_of_fields, release_line, line_of_record, sub_of};
-ghost use Rattle.ld_trace.specs.Progress.{IsEventOf};
+ghost use Rattle.ld_trace.specs.Inside.Progress.{IsEventOf};
 
 use crate::record::{field, is_word, mode_of, sub_of};
 use crate::{Event, KeyTable};

@@ -27,7 +27,7 @@ pub(crate) enum Line<'r> {
 impl Line<'_> {
     ghost use Rattle.std.specs.Prelude.{false, ◌⊎◌, IfOk, IfErr, IsErrOf, OnErr};
     ghost use Rattle.ld_trace.specs.Lines.{event_of, is_over, with_line};
-    ghost use Rattle.ld_trace.specs.ReadLines.{line_read};
+    ghost use Rattle.ld_trace.specs.Inside.ReadLines.{line_read};
     ghost use Rattle.ld_trace.specs.TraceFaults.{is_of_text};
 
     // Its event, with the number of its key in the table.
@@ -66,7 +66,7 @@ impl Line<'_> {
 impl LineName<'_> {
     ghost use Rattle.std.specs.Prelude.{false, ◌⊎◌, IfOk, IfErr, IsErrOf, OnErr};
     ghost use Rattle.ld_trace.specs.Names.{is_one_too_many, place_of, with_name};
-    ghost use Rattle.ld_trace.specs.ReadLines.{name_read};
+    ghost use Rattle.ld_trace.specs.Inside.ReadLines.{name_read};
     ghost use Rattle.ld_trace.specs.TraceFaults.{is_of_text};
 
     // The number of its key in the table. Refusals as above.

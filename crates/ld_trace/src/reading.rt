@@ -6,7 +6,7 @@ ghost use Rattle.csv.specs.Records.{fields_of};
 ghost use Rattle.ld_trace.specs.Events.{KeysBelow};
 ghost use Rattle.ld_trace.specs.Lines.{line_of_record};
 ghost use Rattle.ld_trace.specs.Names.{Name};
-ghost use Rattle.ld_trace.specs.Progress.{AreRead, AreRefused, HasGiven, HasTaken, ReadsPlain, TakesLine, read_fault};
+ghost use Rattle.ld_trace.specs.Inside.Progress.{AreRead, AreRefused, HasGiven, HasTaken, ReadsPlain, TakesLine, read_fault};
 ghost use Rattle.ld_trace.specs.Reading.{ReadsTo, StopsAt, line_fault};
 ghost use Rattle.ld_trace.specs.TraceFaults.{is_of_text};
 
@@ -124,7 +124,7 @@ fn take_event<R: Read>(
         → (known : Option (List ℕ)) (old : List Name)
         → HasTaken R.remaining known source.old old keys.old events.old.items
         → AreRead known old keys.new events.new.items
-            × KeysBelow (length keys.new) events.new.items) }
+        × KeysBelow (length keys.new) events.new.items) }
     ensures refused { IfErr result (λ kind. (known : Option (List ℕ)) (old : List Name)
         → HasTaken R.remaining known source.old old keys.old events.old.items
         → AreRefused known old keys.new kind (length events.old.items + 2)) }

@@ -5,7 +5,7 @@ ghost use Rattle.std.specs.Str.{bytes_eq};
 ghost use Rattle.csv.specs.Records.{field_at, fields_of};
 ghost use Rattle.ld_trace.specs.Lines.{acquire_line, irq_of, is_header, leave_line, mode_of, name_of_fields, release_line, line_of_record, irq_line, sub_of};
 ghost use Rattle.ld_trace.specs.Names.{is_class_name};
-ghost use Rattle.ld_trace.specs.ReadLines.{Says, SaysName};
+ghost use Rattle.ld_trace.specs.Inside.ReadLines.{Says, SaysName};
 ghost use Rattle.ld_trace.specs.TraceFaults.{is_of_text};
 
 use crate::line::{Line, LineName};

@@ -1,7 +1,7 @@
 //! A key's name as the table holds it.
 
 ghost use Rattle.std.specs.Prelude.{◌≡◌, ◌+◌, ◌<◌, ◌≤◌, ◌↔◌, IsTrue, length};
-ghost use Rattle.ld_trace.specs.Stored.{name_of};
+ghost use Rattle.ld_trace.specs.Inside.Stored.{name_of};
 ghost use Rattle.ld_trace.specs.Names.{are_visible, is_class_name};
 
 use arrayvec::ArrayString;

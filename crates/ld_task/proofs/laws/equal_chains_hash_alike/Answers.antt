@@ -1,5 +1,5 @@
 use Rattle.std.specs.Hash.{same_Alike}
-use Rattle.ld_task.specs.ChainEqualityLaws.{chain_eq-decides}
+use Rattle.ld_task.specs.Inside.ChainEqualityLaws.{chain_eq-decides}
 use Rattle.ld_task.proofs.laws.equal_chains_hash_alike.Goals as goal
 
 pub returns : goal.returns

@@ -1,7 +1,7 @@
 use Rattle.std.proofs.Common.{◌≡◌, ◌≤◌, ◌+◌, ◌-◌, ◌++◌, ℕ, Option, List, [], length}
 use Rattle.ld_trace.specs.declared.raw_trace.TheConstants.{MAX_EVENTS}
 use Rattle.ld_trace.specs.Names.{Name}
-use Rattle.ld_trace.specs.Progress.{HasGiven, HasTaken, ReadsPlain}
+use Rattle.ld_trace.specs.Inside.Progress.{HasGiven, HasTaken, ReadsPlain}
 use Rattle.ld_trace.proofs.reading.read_records.Given as goal
 
 abbrev pub invariant-records : goal.invariant-records

@@ -1,5 +1,5 @@
 use Rattle.std.proofs.Common.{ℕ, ◌<◌}
-use Rattle.ld_graph.specs.Kept.{Joined}
+use Rattle.ld_graph.specs.Inside.Kept.{Joined}
 use Rattle.ld_graph.proofs.ends.Ends.are_joined.Given as goal
 
 -- none of the states so far

@@ -1,7 +1,7 @@
 use Rattle.std.proofs.Common.{rules, ◌≡◌, ◌<◌, ◌≤◌, ◌∙◌, sym, ap, subst, refl, length, false}
 use Rattle.std.proofs.lemmas.List.{with_items_is}
 use Rattle.std.specs.Vec.{with_items}
-use Rattle.ld_graph.specs.Bits.{has_bit}
+use Rattle.ld_graph.specs.Inside.Bits.{has_bit}
 use Rattle.ld_graph.specs.Numbers.{dependency_total, bit_total}
 use Rattle.ld_graph.specs.FactBits.{FactWords, SetsBit}
 use Rattle.ld_graph.proofs.Adding.{dependency_count-le, mark_count-le, AreCounted-dependency, AreCounted-mark}

@@ -1,5 +1,5 @@
 use Rattle.std.proofs.Common.{◌≡◌, ◌↔◌, ◌+◌, ◌/◌, ◌∙◌, sym, ap, subst, true, length}
-use Rattle.ld_graph.specs.Bits.{has_bit}
+use Rattle.ld_graph.specs.Inside.Bits.{has_bit}
 use Rattle.ld_graph.specs.Numbers.{bit_total}
 use Rattle.ld_graph.specs.Facts.{AreSame}
 use Rattle.ld_graph.specs.FactBits.{FactWords, HasFact}

@@ -2,12 +2,12 @@ use Rattle.std.proofs.Common.{rules, not, ◌≡◌, ◌+◌, ◌≤◌, ◌↔�
 use Rattle.ld_task.specs.Kinds.{is_s}
 use Rattle.ld_trace.specs.declared.key_id.TheConstants.{MAX_KEYS}
 use Rattle.ld_graph.specs.Arrows.{Arrow, arrow}
-use Rattle.ld_graph.specs.Bits.{has_bit}
+use Rattle.ld_graph.specs.Inside.Bits.{has_bit}
 use Rattle.ld_graph.specs.Facts.{Adds, DependenciesOf}
 use Rattle.ld_graph.specs.FactBits.{FactWords, HasFact, rows_allowed, rows_for}
-use Rattle.ld_graph.specs.Places.{Leads}
-use Rattle.ld_graph.specs.Tables.{IsSource, IsTarget, AreSpan}
-use Rattle.ld_graph.specs.Kept.{IsGraph, StaysClean, MarkTurnsBack}
+use Rattle.ld_graph.specs.Inside.Places.{Leads}
+use Rattle.ld_graph.specs.Inside.Tables.{IsSource, IsTarget, AreSpan}
+use Rattle.ld_graph.specs.Inside.Kept.{IsGraph, StaysClean, MarkTurnsBack}
 use Rattle.ld_graph.specs.Graphs.{GraphParts}
 use Rattle.ld_graph.proofs.Adding.{rows_allowed-le}
 use Rattle.ld_graph.proofs.Ways.{IsTransitive-ways}

@@ -1,6 +1,6 @@
 use Rattle.std.proofs.Common.{arith}
 use Rattle.std.proofs.lemmas.List.{length-map}
-use Rattle.ld_trace.specs.Stored.{name_of, names_of}
+use Rattle.ld_trace.specs.Inside.Stored.{name_of, names_of}
 use Rattle.ld_trace.proofs.NameLemmas.{named-with_name}
 use Rattle.ld_trace.proofs.key_table.KeyTable.number_name.Goals as goal
 

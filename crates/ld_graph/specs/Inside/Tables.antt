@@ -3,8 +3,8 @@ use Rattle.std.specs.Prelude.{◌≡◌, ℕ, ◌⊎◌, Bool, ◌↔◌, IsTrue
 use Rattle.ld_task.specs.Kinds.{is_s, is_r}
 use Rattle.ld_graph.specs.declared.places.TheConstants.{PLACES}
 use Rattle.ld_graph.specs.Arrows.{Arrow}
-use Rattle.ld_graph.specs.Bits.{has_bit}
-use Rattle.ld_graph.specs.Places.{place, LeavesFrom}
+use Rattle.ld_graph.specs.Inside.Bits.{has_bit}
+use Rattle.ld_graph.specs.Inside.Places.{place, LeavesFrom}
 
 -- the place q is in row p
 abbrev pub reaches : List (List ℕ) → ℕ → ℕ → Bool
@@ -30,12 +30,14 @@ pub record AreSpan (table : List (List ℕ)) (d : Arrow) (sources targets : List
 -- what is reached from what is reached is reached
 abbrev pub IsTransitive : List (List ℕ) → Type 0
 IsTransitive table =
-    (p q r : ℕ) → IsTrue (reaches table p q) → IsTrue (reaches table q r) → IsTrue (reaches table p r)
+    (p q r : ℕ) → IsTrue (reaches table p q) → IsTrue (reaches table q r) →
+    IsTrue (reaches table p r)
 
 -- the arrow's sources come to reach its targets
 abbrev pub TakesArrow : (old new : List (List ℕ)) → Arrow → Type 0
 TakesArrow old new d = (p q : ℕ) → IsTrue (reaches new p q) ↔
-    (IsTrue (reaches old p q) ⊎ (IsSource old d.start (is_s d.kind) p × IsTarget old d.end (is_r d.kind) q))
+    (IsTrue (reaches old p q) ⊎ (IsSource old d.start (is_s d.kind) p ×
+    IsTarget old d.end (is_r d.kind) q))
 
 -- the second table is the first, read backwards
 pub record AreTables (ahead behind : List (List ℕ)) : Type 0 where

@@ -7,13 +7,13 @@ use Rattle.ld_task.specs.declared.mark.Mark.TheVariants.{Used, UsedIn, Enabled}
 use Rattle.ld_task.specs.Kinds.{is_r}
 use Rattle.ld_trace.specs.declared.key_id.TheConstants.{MAX_KEYS}
 use Rattle.ld_graph.specs.Arrows.{Arrow, MayFollow, arrow}
-use Rattle.ld_graph.specs.Bits.{has_bit}
+use Rattle.ld_graph.specs.Inside.Bits.{has_bit}
 use Rattle.ld_graph.specs.Facts.{DependenciesOf}
 use Rattle.ld_graph.specs.FactBits.{FactWords, HasFact, rows_allowed}
 use Rattle.ld_graph.specs.Links.{IsLink, IsClean}
 use Rattle.ld_graph.specs.Numbers.{irq_number}
-use Rattle.ld_graph.specs.Places.{LeavesFrom, Leads, Way, LinkArrives, LinkLeaves}
-use Rattle.ld_graph.specs.Tables.{reaches, IsSource, IsTarget}
+use Rattle.ld_graph.specs.Inside.Places.{LeavesFrom, Leads, Way, LinkArrives, LinkLeaves}
+use Rattle.ld_graph.specs.Inside.Tables.{reaches, IsSource, IsTarget}
 use Rattle.ld_graph.specs.Walks.{StrongWalk, last}
 use Rattle.ld_graph.specs.declared.ends.Ends.{Ends}
 use Rattle.ld_graph.specs.declared.fact.Fact.{Fact}
@@ -54,7 +54,8 @@ LeavesTarget targets key by_s = (q : ℕ) × LeavesFrom key by_s q × IsTrue (ha
 
 -- a new dependency from the key makes no fault: it leaves none of its targets and joins no link to another
 abbrev pub StaysClean : List ℕ → List ℕ → Ends → ℕ → Bool → Type 0
-StaysClean sources targets ends key by_s = ¬ LeavesTarget targets key by_s × ¬ JoinsLinks sources targets ends
+StaysClean sources targets ends key by_s = ¬ LeavesTarget targets key by_s ×
+    ¬ JoinsLinks sources targets ends
 
 -- a link by the mark, and what is reached, lead back to it
 abbrev pub MarkTurnsBack : List (List ℕ) → Ends → ℕ → Mark → Type 0
@@ -78,7 +79,8 @@ IsInversionBy Has irq a b read = (kind : Kind) × (is_r kind ≡ read) ×
 -- rows were taken up than may be
 pub record IsGraph (facts : FactWords) (table : List (List ℕ)) (ends : Ends) (clean : Bool) (searched : ℕ) : Type 0 where
   pub few : facts.keys ≤ MAX_KEYS
-  pub ways : (p q : ℕ) → IsTrue (reaches table p q) ↔ Way (Leads (DependenciesOf (HasFact facts))) p q
+  pub ways : (p q : ℕ) → IsTrue (reaches table p q) ↔
+      Way (Leads (DependenciesOf (HasFact facts))) p q
   pub ends_are : AreEnds (HasFact facts) ends
   pub flag : IsTrue clean ↔ IsClean (HasFact facts)
   pub bound : searched ≤ rows_allowed facts

@@ -1,0 +1,5 @@
+pub mod Bits
+pub mod ChainFacts
+pub mod Kept
+pub mod Places
+pub mod Tables
