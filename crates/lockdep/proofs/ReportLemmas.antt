@@ -75,9 +75,29 @@ module _ (P Q : Fact → Type 0) (same : AreSame P Q) where
       record {
         keys = r.keys;
         keys_are = r.keys_are;
-        text_is = (totals, after_totals, totals-same traces events (length names) totals totals_are,
-          (usage, after_usage, InTurn-same _ _ (line-same names) r.keys usage usage_is,
-          (circles, after_circles, circles-same names r.keys circles circles_are,
-          (doubles, after_doubles, doubles-same names r.keys doubles doubles_are,
-          (inversions, end, inversions-same names r.keys inversions inversions_are, at_end, e5), e4), e3), e2), e1);
+        text_is = (
+          totals,
+          after_totals,
+          totals-same traces events (length names) totals totals_are,
+          (
+            usage,
+            after_usage,
+            InTurn-same _ _ (line-same names) r.keys usage usage_is,
+            (
+              circles,
+              after_circles,
+              circles-same names r.keys circles circles_are,
+              (
+                doubles,
+                after_doubles,
+                doubles-same names r.keys doubles doubles_are,
+                (inversions, end, inversions-same names r.keys inversions inversions_are, at_end, e5),
+                e4,
+              ),
+              e3,
+            ),
+            e2,
+          ),
+          e1,
+        );
       }

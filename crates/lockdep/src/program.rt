@@ -61,7 +61,7 @@ pub fn program<R: Files + Threads + Wait + Sync, I: Read + Drop, O: Write, E: Wr
     ensures quiet { result < 2 → err.new ≡ err.old }
     ensures refused { result ≡ 2 → (refusal : Refusal)
         × RefusesWords (map (λ word. word.now) words.entry.now) (I.remaining input)
-            (O.contents out.old) (O.contents out.new) refusal
+        (O.contents out.old) (O.contents out.new) refusal
         × AppendsBeginning (E.contents err.old) (E.contents err.new) (fault_line refusal) }
 {
     match answer(rt, alloc, words, input, out) {

@@ -54,7 +54,15 @@ fn tell_record<W: Write>(w: &mut W, file: &str, at: usize, code: &str) -> Result
     let number = digits_of(at);
     write_texts(
         w,
-        &["lockdep: ", file, ": record ", number.as_str(), ": ", code, "\n"],
+        &[
+            "lockdep: ",
+            file,
+            ": record ",
+            number.as_str(),
+            ": ",
+            code,
+            "\n",
+        ],
     )
 }
 

@@ -44,7 +44,13 @@ struct ReportView<'a> {
 
 impl ReportView<'_> {
     // The line of a dependency, where it is on a circle.
-    fn add_circle(self, text: &mut String, from: KeyId, to: KeyId, kind: Kind) -> Result<(), AllocError>
+    fn add_circle(
+        self,
+        text: &mut String,
+        from: KeyId,
+        to: KeyId,
+        kind: Kind,
+    ) -> Result<(), AllocError>
         ensures { OnOk result (GrowsBy
             (ShowsCircle (HasFact self.entry.settled.now) self.entry.names.now from to kind)
             (string_bytes text.old) (string_bytes text.new)) }
@@ -53,7 +59,10 @@ impl ReportView<'_> {
             let (from_name, from_sub) = name_of(self.names, from);
             let (to_name, to_sub) = name_of(self.names, to);
             let kind = kind_word(kind);
-            writeln!(text, "circle {from_name}/{from_sub} {kind} {to_name}/{to_sub}")?;
+            writeln!(
+                text,
+                "circle {from_name}/{from_sub} {kind} {to_name}/{to_sub}"
+            )?;
         }
         Ok(())
     }
@@ -134,7 +143,13 @@ impl ReportView<'_> {
     }
 
     // The line of two keys, where they are in an inversion.
-    fn add_inversion(self, text: &mut String, irq: Irq, a: KeyId, b: KeyId) -> Result<(), AllocError>
+    fn add_inversion(
+        self,
+        text: &mut String,
+        irq: Irq,
+        a: KeyId,
+        b: KeyId,
+    ) -> Result<(), AllocError>
         ensures { OnOk result (GrowsBy
             (ShowsInversion (HasFact self.entry.settled.now) self.entry.names.now irq a b)
             (string_bytes text.old) (string_bytes text.new)) }
@@ -191,7 +206,9 @@ impl ReportView<'_> {
     fn usage_character(self, key: KeyId, irq: Irq, read: bool) -> &'static str
         ensures { IsUsageCharacter (HasFact self.entry.settled.now) key irq read result.now }
     {
-        let enabled = self.settled.has_mark(key.get(), Mark::Enabled { irq, read });
+        let enabled = self
+            .settled
+            .has_mark(key.get(), Mark::Enabled { irq, read });
         let used_in = self.settled.has_mark(key.get(), Mark::UsedIn { irq, read });
         character_of(enabled, used_in)
     }
@@ -261,7 +278,11 @@ fn report_text(
 {
     let keys = sorted_keys(alloc, names)?;
     let keys = keys.as_slice();
-    let view = ReportView { settled, names, keys };
+    let view = ReportView {
+        settled,
+        names,
+        keys,
+    };
     let mut text = String::new(alloc);
     view.add_totals(&mut text, traces, events)?;
     view.add_usage(&mut text)?;

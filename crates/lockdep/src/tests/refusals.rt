@@ -145,10 +145,7 @@ fn lines_of_refusals(rt: HostRuntime) -> Result<(), Fail> {
             },
             "lockdep: : record 1000001: S2 TooDeep\n",
         ),
-        (
-            Refusal::Run(RunFault::Unsettled),
-            "lockdep: N3 Unsettled\n",
-        ),
+        (Refusal::Run(RunFault::Unsettled), "lockdep: N3 Unsettled\n"),
         (Refusal::Run(RunFault::Memory), "lockdep: N4 Memory\n"),
     ];
     for (refusal, line) in examples {

@@ -20,6 +20,6 @@ returns-in-Err-clause-refused g c =
       c.in-Err.fault,
       refl,
       StopsWriting-same _ (IsReportOf traces c.args.keys.now)
-      (IsReport-same (HasFact c.args.settled.now) (TracesHave traces) c.requires (length traces) (sum_by length traces) c.args.keys.now)
-      _ _ c.in-Err.fault c.in-Err.ensures.err,
+          (IsReport-same (HasFact c.args.settled.now) (TracesHave traces) c.requires (length traces) (sum_by length traces) c.args.keys.now)
+          _ _ c.in-Err.fault c.in-Err.ensures.err,
     )
