@@ -149,7 +149,8 @@ fn more_than_4096_files(rt: HostRuntime) -> Result<(), Fail> {
     let folder = folder_with(&rt, &[("none", "lockdep,1\n")])?;
     let path = path_in(&rt, folder.as_str(), "none")?;
     let mut words = Vec::new(rt.alloc());
-    words.extend_from_slice(&["lockdep", "check"])?;
+    words.push("lockdep")?;
+    words.push("check")?;
     for _ in 0..4096 {
         words.push(path.as_str())?;
     }
