@@ -5,7 +5,7 @@ use Rattle.std.specs.Int.{from_bool}
 use Rattle.std.proofs.lemmas.List.Sums.{sum_by_push, sum_by-cons}
 use Rattle.ld_task.specs.Chains.{ChainParts}
 use Rattle.ld_graph.specs.Counting.{IsNumberOf}
-use Rattle.ld_graph.specs.FactBits.{FactWords, HasFact}
+use Rattle.ld_graph.specs.FactBits.{FactParts, HasFact}
 use Rattle.ld_graph.specs.FactLaws.{Any-push}
 use Rattle.ld_graph.specs.Facts.{Adds, AreSame, ChainHas, Holds}
 use Rattle.ld_graph.specs.declared.fact.Fact.{Fact}
@@ -13,12 +13,12 @@ use Rattle.ld_book.specs.Books.{JournalHas, StandsIn, IsLawful, acquisition_coun
 
 -- ---- facts
 -- no facts are those of a journal without entries
-pub AreSame-none : (facts : FactWords) → ((x : Fact) → ¬ HasFact facts x) → AreSame (HasFact facts) (JournalHas [])
+pub AreSame-none : (facts : FactParts) → ((x : Fact) → ¬ HasFact facts x) → AreSame (HasFact facts) (JournalHas [])
 AreSame-none facts none x = ((λ h. absurd (none x h)), (λ h. absurd (let l = h.2 in omega arith)))
 
-module _ (facts : FactWords) (journal : List (ℕ × ChainParts)) (are : AreSame (HasFact facts) (JournalHas journal)) where
+module _ (facts : FactParts) (journal : List (ℕ × ChainParts)) (are : AreSame (HasFact facts) (JournalHas journal)) where
   -- with the facts of one entry more
-  pub AreSame-adds : (new : FactWords) (trace : ℕ) (chain : ChainParts) →
+  pub AreSame-adds : (new : FactParts) (trace : ℕ) (chain : ChainParts) →
       Adds (HasFact facts) (HasFact new) (ChainHas chain) → AreSame (HasFact new) (JournalHas (journal ++ (trace, chain) ∷ []))
   AreSame-adds new trace chain adds x =
       let more = Any-push (λ e. ChainHas e.1 x) journal (trace, chain) in (
@@ -90,7 +90,7 @@ pub has_room : (place count limit : ℕ) → place ≡ count → ¬ (place ≡ l
 has_room place count limit is differs = λ e. differs (is ∙ e)
 
 -- ---- a lawful book with one entry more
-pub IsLawful-entered : (old new : FactWords) (journal entered : List (ℕ × ChainParts)) (acquisitions limit trace : ℕ) (chain : ChainParts) →
+pub IsLawful-entered : (old new : FactParts) (journal entered : List (ℕ × ChainParts)) (acquisitions limit trace : ℕ) (chain : ChainParts) →
     IsLawful old journal acquisitions limit → ¬ (length journal ≡ limit) → entered ≡ journal ++ (trace, chain) ∷ [] →
     AreSame (HasFact new) (JournalHas (journal ++ (trace, chain) ∷ [])) →
     IsLawful new entered (acquisitions + from_bool (is_some chain.new_lock)) limit

@@ -1,7 +1,7 @@
 -- What a book tells: all of it is read off the journal [this project's own].
 use Rattle.std.specs.Prelude.{◌≡◌, ℕ, ◌≤◌, List, length, Any, count_by, is_none, is_some}
 use Rattle.ld_task.specs.Chains.{ChainParts}
-use Rattle.ld_graph.specs.FactBits.{FactWords, HasFact}
+use Rattle.ld_graph.specs.FactBits.{FactParts, HasFact}
 use Rattle.ld_graph.specs.Facts.{AreSame, ChainHas}
 use Rattle.ld_graph.specs.declared.fact.Fact.{Fact}
 
@@ -29,7 +29,7 @@ opening_count journal = count_by (λ e. is_none e.1.new_lock) journal
 
 -- what a book keeps: its facts are those of its journal, its acquisitions are counted, and the limit isn't passed. Its
 -- flag and the number of its dependencies are its graph's
-pub record IsLawful (facts : FactWords) (journal : List (ℕ ×
+pub record IsLawful (facts : FactParts) (journal : List (ℕ ×
     ChainParts)) (acquisitions limit : ℕ) : Type 0 where
   pub facts_are : AreSame (HasFact facts) (JournalHas journal)
   pub counted : acquisitions ≡ acquisition_count journal

@@ -7,26 +7,26 @@ use Rattle.ld_graph.specs.declared.places.TheConstants.{PLACES}
 use Rattle.ld_graph.specs.Inside.Bits.{has_bit, count_below}
 use Rattle.ld_graph.specs.Numbers.{fact_number, dependency_total, mark_total, bit_total}
 use Rattle.ld_graph.specs.Facts.{Adds}
-use Rattle.ld_graph.specs.FactBits.{FactWords, FactBelow, HasFact, AreFacts, AreCounted, SetsBit, dependency_count, mark_count, rows_allowed, rows_for}
+use Rattle.ld_graph.specs.FactBits.{FactParts, FactBelow, HasFact, AreFacts, AreCounted, SetsBit, dependency_count, mark_count, rows_allowed, rows_for}
 use Rattle.ld_graph.specs.declared.fact.Fact.{Fact}
 use Rattle.ld_graph.specs.declared.fact.Fact.TheVariants.{Dependency, Marked}
 use Rattle.ld_graph.proofs.BitLemmas.{count_below-le, count_below-same, count_below-set}
 use Rattle.ld_graph.proofs.Numbers.{dependency-lt, mark-lt, fact_number-same}
 
 -- ---- how many there can be
-pub dependency_count-le : (facts : FactWords) → facts.keys ≤ MAX_KEYS → dependency_count facts ≤ dependency_total MAX_KEYS
+pub dependency_count-le : (facts : FactParts) → facts.keys ≤ MAX_KEYS → dependency_count facts ≤ dependency_total MAX_KEYS
 dependency_count-le facts few =
     let squares : facts.keys * facts.keys ≤ MAX_KEYS * 256 = mul-le facts.keys facts.keys MAX_KEYS MAX_KEYS few few in
     omega (arith, count_below-le (has_bit facts.words) (dependency_total facts.keys))
 
-pub mark_count-le : (facts : FactWords) → facts.keys ≤ MAX_KEYS → mark_count facts ≤ mark_total MAX_KEYS
+pub mark_count-le : (facts : FactParts) → facts.keys ≤ MAX_KEYS → mark_count facts ≤ mark_total MAX_KEYS
 mark_count-le facts few = omega (arith, count_below-le (λ n. has_bit facts.words (dependency_total facts.keys + n)) (mark_total facts.keys))
 
-pub rows_allowed-le : (facts : FactWords) → facts.keys ≤ MAX_KEYS → rows_allowed facts ≤ 2 * PLACES * dependency_total MAX_KEYS + PLACES * mark_total MAX_KEYS
+pub rows_allowed-le : (facts : FactParts) → facts.keys ≤ MAX_KEYS → rows_allowed facts ≤ 2 * PLACES * dependency_total MAX_KEYS + PLACES * mark_total MAX_KEYS
 rows_allowed-le facts few = omega (arith, dependency_count-le facts few, mark_count-le facts few)
 
 -- ---- the counts when a bit is set
-module _ (old new : FactWords) (n : ℕ) (sets : SetsBit old new n) where
+module _ (old new : FactParts) (n : ℕ) (sets : SetsBit old new n) where
   total_same : dependency_total new.keys ≡ dependency_total old.keys
   total_same = ap dependency_total sets.keys
 

@@ -13,7 +13,7 @@ use Rattle.ld_graph.specs.Arrows.{Arrow, arrow}
 use Rattle.ld_graph.specs.Inside.Bits.{has_bit, count_below}
 use Rattle.ld_graph.specs.Numbers.{fact_number, mark_index, dependency_total, mark_total}
 use Rattle.ld_graph.specs.Facts.{DependenciesOf, MarksOf}
-use Rattle.ld_graph.specs.FactBits.{FactWords, HasFact, dependency_count, mark_count}
+use Rattle.ld_graph.specs.FactBits.{FactParts, HasFact, dependency_count, mark_count}
 use Rattle.ld_graph.specs.Counting.{IsNumberOf}
 use Rattle.ld_graph.specs.declared.fact.Fact.{Fact}
 use Rattle.ld_graph.specs.declared.fact.Fact.TheVariants.{Dependency, Marked}
@@ -98,7 +98,7 @@ abbrev mark_in : Fact → ℕ × Mark
 mark_in (Dependency from to kind) = (from, Used)
 mark_in (Marked key mark) = (key, mark)
 
-module _ (facts : FactWords) where
+module _ (facts : FactParts) where
   abbrev arrow_of : ℕ → Arrow
   arrow_of n = record { start = n / 4 / facts.keys; end = n / 4 % facts.keys; kind = kind_of (n % 4) }
 

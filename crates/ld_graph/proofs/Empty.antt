@@ -4,10 +4,10 @@ use Rattle.std.proofs.lemmas.List.{length-replicate}
 use Rattle.ld_trace.specs.declared.key_id.TheConstants.{MAX_KEYS}
 use Rattle.ld_graph.specs.Inside.Bits.{has_bit}
 use Rattle.ld_graph.specs.Numbers.{dependency_total, bit_total}
-use Rattle.ld_graph.specs.FactBits.{FactWords, AreCounted, dependency_count, mark_count}
+use Rattle.ld_graph.specs.FactBits.{FactParts, AreCounted, dependency_count, mark_count}
 use Rattle.ld_graph.proofs.BitLemmas.{has_bit-zeros, zeros_at, count_below-none}
 
-module _ (facts : FactWords) (n : ℕ) (zeros : facts.words ≡ replicate n 0) where
+module _ (facts : FactParts) (n : ℕ) (zeros : facts.words ≡ replicate n 0) where
   pub none_set : (k : ℕ) → has_bit facts.words k ≡ false
   none_set k = has_bit-zeros facts.words k (λ i. subst (λ ws. ◌≡◌ {A = ℕ} (get_or ws i 0) 0) (sym zeros) (zeros_at n i))
 

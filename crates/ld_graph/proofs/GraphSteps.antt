@@ -8,7 +8,7 @@ use Rattle.ld_trace.specs.declared.key_id.TheConstants.{MAX_KEYS}
 use Rattle.ld_graph.specs.Arrows.{Arrow}
 use Rattle.ld_graph.specs.Inside.Bits.{has_bit}
 use Rattle.ld_graph.specs.Facts.{Holds, Adds, DependenciesOf}
-use Rattle.ld_graph.specs.FactBits.{FactWords, FactBelow, HasFact, rows_allowed}
+use Rattle.ld_graph.specs.FactBits.{FactParts, FactBelow, HasFact, rows_allowed}
 use Rattle.ld_graph.specs.FactLaws.{IsClean-fewer}
 use Rattle.ld_graph.specs.Walks.{OnCircle}
 use Rattle.ld_graph.specs.Links.{IsClean}
@@ -23,7 +23,7 @@ use Rattle.ld_graph.proofs.Paths.{OnCircle-iff, Path-more}
 use Rattle.ld_graph.proofs.Ways.{Comes-path, ways_taken}
 use Rattle.ld_graph.proofs.CleanPlaces.{CleanPlaces-from, IsClean-from_places, CleanPlaces-dependency, CleanPlaces-mark, ComesBack, Joins, TurnsBackBy, arrows_within, arrows_added, Leads-kept, LinkArrives-adds, LinkLeaves-adds, LinkArrives-kept, LinkLeaves-kept}
 
-pub facts_within : (facts : FactWords) → facts.keys ≤ MAX_KEYS → Holds (FactBelow MAX_KEYS) (HasFact facts)
+pub facts_within : (facts : FactParts) → facts.keys ≤ MAX_KEYS → Holds (FactBelow MAX_KEYS) (HasFact facts)
 facts_within facts few (Dependency from to kind) h = let l = h.0 in (omega arith, omega arith)
 facts_within facts few (Marked key mark) h = let l = h.0 in omega arith
 
@@ -31,7 +31,7 @@ off_on : {A : Type 0} (b : Bool) → b ≡ false → b ≡ true → A
 off_on b off on = absurd (let e : false ≡ true = sym off ∙ on in cc)
 
 -- ---- a new graph
-pub IsGraph-new : (facts : FactWords) (table : List (List ℕ)) (ends : Ends) → facts.keys ≤ MAX_KEYS → ((x : Fact) → ¬ HasFact facts x) →
+pub IsGraph-new : (facts : FactParts) (table : List (List ℕ)) (ends : Ends) → facts.keys ≤ MAX_KEYS → ((x : Fact) → ¬ HasFact facts x) →
     ((p q : ℕ) → reaches table p q ≡ false) →
     ((irq : Irq) (p : ℕ) → arrives_at ends irq p ≡ false) → ((irq : Irq) (q : ℕ) → departs_from ends irq q ≡ false) →
     IsGraph facts table ends true 0
@@ -57,7 +57,7 @@ IsGraph-new facts table ends few free empty arrivals departures = record {
 }
 
 -- ---- look-ups
-pub OnCircle-by_table : (facts : FactWords) (table : List (List ℕ)) → facts.keys ≤ MAX_KEYS →
+pub OnCircle-by_table : (facts : FactParts) (table : List (List ℕ)) → facts.keys ≤ MAX_KEYS →
     ((p q : ℕ) → (reaches table p q ≡ true) ↔ Way (Leads (DependenciesOf (HasFact facts))) p q) → (d : Arrow) → DependenciesOf (HasFact facts) d →
     (targets : List ℕ) → ((q : ℕ) → (has_bit targets q ≡ true) ↔ Comes table (arrival d) q) →
     OnCircle (HasFact facts) d ↔ LeavesTarget targets d.start (is_s d.kind)
@@ -69,7 +69,7 @@ OnCircle-by_table facts table few ways d has targets are =
     )
 
 -- ---- a dependency is added
-module _ (old new : FactWords) (d : Arrow) (keys : new.keys ≡ old.keys)
+module _ (old new : FactParts) (d : Arrow) (keys : new.keys ≡ old.keys)
     (adds : Adds (HasFact old) (HasFact new) (λ x. x ≡ Dependency d.start d.end d.kind))
     (table table' : List (List ℕ)) (takes : TakesArrow table table' d) (sources targets : List ℕ) (span : AreSpan table d sources targets)
     (ends : Ends) (clean : Bool) (searched : ℕ) (was : IsGraph old table ends clean searched) where
@@ -138,7 +138,7 @@ module _ (old new : FactWords) (d : Arrow) (keys : new.keys ≡ old.keys)
 Way-more : (E F : ℕ → ℕ → Type 0) → ((a b : ℕ) → E a b → F a b) → (p q : ℕ) → Way E p q → Way F p q
 Way-more E F up p q (m, e, path) = (m, up p m e, Path-more E F up path)
 
-module _ (old new : FactWords) (key : ℕ) (mark : Mark) (keys : new.keys ≡ old.keys)
+module _ (old new : FactParts) (key : ℕ) (mark : Mark) (keys : new.keys ≡ old.keys)
     (adds : Adds (HasFact old) (HasFact new) (λ x. x ≡ Marked key mark)) (table : List (List ℕ))
     (ends ends' : Ends) (takes : TakesMark ends ends' key mark)
     (clean : Bool) (searched : ℕ) (was : IsGraph old table ends clean searched) where

@@ -4,19 +4,19 @@ use Rattle.std.proofs.lemmas.Bool.{cases_eq, cases_Bool, or_cases}
 use Rattle.std.proofs.lemmas.Option.{same_Some}
 use Rattle.ld_task.specs.Chains.{ChainParts}
 use Rattle.ld_graph.specs.Facts.{ChainHas, Holds, Adds}
-use Rattle.ld_graph.specs.FactBits.{FactWords, HasFact}
+use Rattle.ld_graph.specs.FactBits.{FactParts, HasFact}
 use Rattle.ld_graph.specs.Inside.ChainFacts.{chain_fact, fact_slots}
 use Rattle.ld_graph.specs.declared.fact.Fact.{Fact}
 use Rattle.ld_graph.proofs.ChainFacts.{StandsIn, chain_fact-sound, chain_fact-complete}
 
 -- the facts at the chain's first n slots have been added, and `fresh` says whether one was new
-pub record Grown (first now : FactWords) (c : ChainParts) (n : ℕ) (fresh : Bool) : Type 0 where
+pub record Grown (first now : FactParts) (c : ChainParts) (n : ℕ) (fresh : Bool) : Type 0 where
   pub keys : now.keys ≡ first.keys
   pub facts : (x : Fact) → HasFact now x ↔ (HasFact first x ⊎ StandsIn c x n)
   pub known : fresh ≡ false → now ≡ first
   pub news : fresh ≡ true → (x : Fact) × StandsIn c x n × ¬ HasFact first x
 
-pub Grown-start : (first : FactWords) (c : ChainParts) → Grown first first c 0 false
+pub Grown-start : (first : FactParts) (c : ChainParts) → Grown first first c 0 false
 Grown-start first c = record {
   keys = refl;
   facts = λ x. ((λ h. inl h), (λ h. elim h [ inl o ↦ o | inr s ↦ absurd (let l = s.1 in omega arith) ]));
@@ -39,12 +39,12 @@ StandsIn-cases c x n (k, l, e) =
       | inr ne ↦ inl (k, omega arith, e)
     ]
 
-module _ (first now : FactWords) (c : ChainParts) (n : ℕ) (fresh : Bool) (was : Grown first now c n fresh) where
+module _ (first now : FactParts) (c : ChainParts) (n : ℕ) (fresh : Bool) (was : Grown first now c n fresh) where
   later : fresh ≡ true → (x : Fact) × StandsIn c x (n + 1) × ¬ HasFact first x
   later h = let (x, s, ne) = was.news h in (x, StandsIn-later c x n s, ne)
 
   -- the facts with that of one slot more
-  step : (new : FactWords) → ((x : Fact) → HasFact new x ↔ (HasFact now x ⊎ (chain_fact c n ≡ Some x))) →
+  step : (new : FactParts) → ((x : Fact) → HasFact new x ↔ (HasFact now x ⊎ (chain_fact c n ≡ Some x))) →
       (x : Fact) → HasFact new x ↔ (HasFact first x ⊎ StandsIn c x (n + 1))
   step new one x = (
     (λ h. elim ((one x).0 h) [
@@ -65,7 +65,7 @@ module _ (first now : FactWords) (c : ChainParts) (n : ℕ) (fresh : Bool) (was 
     news = later;
   }
 
-  pub Grown-add : (new : FactWords) (x : Fact) (added : Bool) → chain_fact c n ≡ Some x → new.keys ≡ now.keys →
+  pub Grown-add : (new : FactParts) (x : Fact) (added : Bool) → chain_fact c n ≡ Some x → new.keys ≡ now.keys →
       Adds (HasFact now) (HasFact new) (λ y. y ≡ x) → (added ≡ false) ↔ HasFact now x → (added ≡ false → new ≡ now) →
       Grown first new c (n + 1) (fresh || added)
   Grown-add new x added at keys adds known unchanged = record {
@@ -82,7 +82,7 @@ module _ (first now : FactWords) (c : ChainParts) (n : ℕ) (fresh : Bool) (was 
   }
 
 -- ---- all slots
-module _ (first now : FactWords) (c : ChainParts) (n : ℕ) (fresh : Bool) (n_is : n ≡ fact_slots c) (was : Grown first now c n fresh) where
+module _ (first now : FactParts) (c : ChainParts) (n : ℕ) (fresh : Bool) (n_is : n ≡ fact_slots c) (was : Grown first now c n fresh) where
   all : Grown first now c (fact_slots c) fresh
   all = subst (λ m. Grown first now c m fresh) n_is was
 

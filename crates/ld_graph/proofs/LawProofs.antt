@@ -8,7 +8,7 @@ use Rattle.ld_task.specs.declared.mark.Mark.TheVariants.{UsedIn, Enabled}
 use Rattle.ld_task.specs.Kinds.{is_s, is_r}
 use Rattle.ld_graph.specs.Arrows.{Arrow}
 use Rattle.ld_graph.specs.Facts.{ChainHas, ChainsHave, Adds, DependenciesOf}
-use Rattle.ld_graph.specs.FactBits.{FactWords, HasFact}
+use Rattle.ld_graph.specs.FactBits.{FactParts, HasFact}
 use Rattle.ld_graph.specs.Walks.{StrongWalk, ClosedWalk}
 use Rattle.ld_graph.specs.Links.{IsLink}
 use Rattle.ld_graph.specs.Laws.{AddingInTurnUnites, In, HasNewEnd, HasNewMember, NewCirclesHaveNewMembers, NewDoublesHaveNewMarks, NewInversionsHaveNewParts}
@@ -25,7 +25,7 @@ Any-cases {X} P x xs (k, y, l, e, h) = go k l e
     go (suc k) l e = inr (k, y, omega arith, e, h)
 
 pub adding_in_turn_unites : AddingInTurnUnites
-adding_in_turn_unites old new [] e = subst (λ (f : FactWords). (f.keys ≡ old.keys) × Adds (HasFact old) (HasFact f) (ChainsHave [])) (sym e)
+adding_in_turn_unites old new [] e = subst (λ (f : FactParts). (f.keys ≡ old.keys) × Adds (HasFact old) (HasFact f) (ChainsHave [])) (sym e)
     (refl, λ x. ((λ h. inl h), (λ h. elim h [ inl o ↦ o | inr a ↦ absurd (let l = a.2 in omega arith) ])))
 adding_in_turn_unites old new (chain ∷ chains) (next, keys, first, rest) =
     let (later_keys, later) = adding_in_turn_unites next new chains rest in (

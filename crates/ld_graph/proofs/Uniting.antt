@@ -8,7 +8,7 @@ use Rattle.std.proofs.lemmas.Nat.Bits.{bit_at-zero}
 use Rattle.ld_graph.specs.Inside.Bits.{has_bit}
 use Rattle.ld_graph.specs.Numbers.{fact_number, bit_total}
 use Rattle.ld_graph.specs.Facts.{AreSame, Adds}
-use Rattle.ld_graph.specs.FactBits.{FactWords, FactBelow, HasFact, AreFacts, SetsBit, UnitesWord}
+use Rattle.ld_graph.specs.FactBits.{FactParts, FactBelow, HasFact, AreFacts, SetsBit, UnitesWord}
 use Rattle.ld_graph.proofs.Numbers.{fact_of}
 
 -- a bit of a word
@@ -24,7 +24,7 @@ or_known false false h = refl
 or_known false true h = h refl
 
 -- a word whose bits are all there changes nothing
-pub UnitesWord-known : (facts : FactWords) (i word : ℕ) →
+pub UnitesWord-known : (facts : FactParts) (i word : ℕ) →
     ((k : ℕ) → k < 64 → bit_at word k ≡ 1 → bit_at (get_or facts.words i 0) k ≡ 1) → UnitesWord facts facts i word
 UnitesWord-known facts i word held = record {
   keys = refl;
@@ -34,19 +34,19 @@ UnitesWord-known facts i word held = record {
 }
 
 -- the first k bits of the word have been added
-pub record UnitesBits (first now : FactWords) (i word k : ℕ) : Type 0 where
+pub record UnitesBits (first now : FactParts) (i word k : ℕ) : Type 0 where
   pub keys : now.keys ≡ first.keys
   pub done : (j : ℕ) → j < k → has_bit now.words (i * 64 + j) ≡ (has_bit first.words (i * 64 + j) || eqb (bit_at word j) 1)
   pub rest : (j : ℕ) → k ≤ j → j < 64 → has_bit now.words (i * 64 + j) ≡ has_bit first.words (i * 64 + j)
   pub others : (j : ℕ) → ¬ (j / 64 ≡ i) → has_bit now.words j ≡ has_bit first.words j
 
-pub UnitesBits-start : (first : FactWords) (i word : ℕ) → UnitesBits first first i word 0
+pub UnitesBits-start : (first : FactParts) (i word : ℕ) → UnitesBits first first i word 0
 UnitesBits-start first i word = record { keys = refl; done = λ j l. absurd (omega arith); rest = λ j l m. refl; others = λ j ne. refl }
 
 or_off : (a b : Bool) → b ≡ false → a ≡ (a || b)
 or_off a b e = or_known a b (λ t. absurd (let f : b ≡ true = t in cc))
 
-module _ (first now : FactWords) (i word k : ℕ) (below : k < 64) (was : UnitesBits first now i word k) where
+module _ (first now : FactParts) (i word k : ℕ) (below : k < 64) (was : UnitesBits first now i word k) where
   pub UnitesBits-off : eqb (bit_at word k) 1 ≡ false → UnitesBits first now i word (k + 1)
   UnitesBits-off off = record {
     keys = was.keys;
@@ -58,7 +58,7 @@ module _ (first now : FactWords) (i word k : ℕ) (below : k < 64) (was : Unites
     others = was.others;
   }
 
-  pub UnitesBits-on : (new : FactWords) → eqb (bit_at word k) 1 ≡ true → SetsBit now new (i * 64 + k) → UnitesBits first new i word (k + 1)
+  pub UnitesBits-on : (new : FactParts) → eqb (bit_at word k) 1 ≡ true → SetsBit now new (i * 64 + k) → UnitesBits first new i word (k + 1)
   UnitesBits-on new on sets = record {
     keys = sets.keys ∙ was.keys;
     done = λ j l. elim (cases_eq j k) [
@@ -70,7 +70,7 @@ module _ (first now : FactWords) (i word k : ℕ) (below : k < 64) (was : Unites
     others = λ j ne. sets.others j (λ e. ne (omega arith)) ∙ was.others j ne;
   }
 
-pub UnitesWord-bits : (first now : FactWords) (i word k : ℕ) → 64 ≤ k → UnitesBits first now i word k → UnitesWord first now i word
+pub UnitesWord-bits : (first now : FactParts) (i word k : ℕ) → 64 ≤ k → UnitesBits first now i word k → UnitesWord first now i word
 UnitesWord-bits first now i word k all was = record {
   keys = was.keys;
   within = λ j l. was.done j (omega arith);
@@ -78,15 +78,15 @@ UnitesWord-bits first now i word k all was = record {
 }
 
 -- ---- the first n words of the other facts have been added
-pub record UnitesWords (first now : FactWords) (words : List ℕ) (n : ℕ) : Type 0 where
+pub record UnitesWords (first now : FactParts) (words : List ℕ) (n : ℕ) : Type 0 where
   pub keys : now.keys ≡ first.keys
   pub done : (k : ℕ) → k / 64 < n → has_bit now.words k ≡ (has_bit first.words k || has_bit words k)
   pub rest : (k : ℕ) → n ≤ k / 64 → has_bit now.words k ≡ has_bit first.words k
 
-pub UnitesWords-start : (first : FactWords) (words : List ℕ) → UnitesWords first first words 0
+pub UnitesWords-start : (first : FactParts) (words : List ℕ) → UnitesWords first first words 0
 UnitesWords-start first words = record { keys = refl; done = λ k l. absurd (omega arith); rest = λ k l. refl }
 
-pub UnitesWords-more : (first now new : FactWords) (words : List ℕ) (n : ℕ) → UnitesWords first now words n →
+pub UnitesWords-more : (first now new : FactParts) (words : List ℕ) (n : ℕ) → UnitesWords first now words n →
     UnitesWord now new n (get_or words n 0) → UnitesWords first new words (n + 1)
 UnitesWords-more first now new words n was unites = record {
   keys = unites.keys ∙ was.keys;
@@ -107,7 +107,7 @@ UnitesWords-more first now new words n was unites = record {
         (λ t. was.rest (n * 64 + j) (omega arith) t || eqb (bit_at (get_or words n 0) j) 1) ∙
         ap (λ b. has_bit first.words (n * 64 + j) || b) (sym (has_bit-at words n j l)))
 
-pub Adds-words : (a b now : FactWords) (n : ℕ) → a.keys ≡ b.keys → length b.words ≤ n → UnitesWords a now b.words n →
+pub Adds-words : (a b now : FactParts) (n : ℕ) → a.keys ≡ b.keys → length b.words ≤ n → UnitesWords a now b.words n →
     Adds (HasFact a) (HasFact now) (HasFact b)
 Adds-words a b now n same all was x =
     let bit : ℕ = fact_number a.keys x in (
@@ -121,10 +121,10 @@ Adds-words a b now n same all was x =
       ])),
     )
   where
-    at : (f : FactWords) → f.keys ≡ a.keys → HasFact f x → FactBelow a.keys x × (has_bit f.words (fact_number a.keys x) ≡ true)
+    at : (f : FactParts) → f.keys ≡ a.keys → HasFact f x → FactBelow a.keys x × (has_bit f.words (fact_number a.keys x) ≡ true)
     at f e h = subst (λ k. FactBelow k x × (has_bit f.words (fact_number k x) ≡ true)) e h
 
-    from : (f : FactWords) → f.keys ≡ a.keys → FactBelow a.keys x × (has_bit f.words (fact_number a.keys x) ≡ true) → HasFact f x
+    from : (f : FactParts) → f.keys ≡ a.keys → FactBelow a.keys x × (has_bit f.words (fact_number a.keys x) ≡ true) → HasFact f x
     from f e h = subst (λ k. FactBelow k x × (has_bit f.words (fact_number k x) ≡ true)) (sym e) h
 
     past : (k : ℕ) → n ≤ k / 64 → has_bit b.words k ≡ false
@@ -139,7 +139,7 @@ Adds-words a b now n same all was x =
     ]
 
 -- ---- the same facts are the same words
-pub AreSame-bits : (a b : FactWords) → AreFacts a → AreFacts b → a.keys ≡ b.keys → AreSame (HasFact a) (HasFact b) →
+pub AreSame-bits : (a b : FactParts) → AreFacts a → AreFacts b → a.keys ≡ b.keys → AreSame (HasFact a) (HasFact b) →
     (length a.words ≡ length b.words) × ((n : ℕ) → has_bit a.words n ≡ has_bit b.words n)
 AreSame-bits a b fa fb keys same = (
   fa.words ∙ ap (λ k. (bit_total k + 63) / 64) keys ∙ sym fb.words,

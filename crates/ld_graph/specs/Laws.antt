@@ -9,7 +9,7 @@ use Rattle.ld_task.specs.Kinds.{is_s, is_r}
 use Rattle.ld_graph.specs.Arrows.{Arrow}
 use Rattle.ld_graph.specs.Counting.{IsNumberOf}
 use Rattle.ld_graph.specs.Facts.{TraceHas, ChainHas, ChainsHave, AreSame, Adds, DependenciesOf}
-use Rattle.ld_graph.specs.FactBits.{FactWords, HasFact}
+use Rattle.ld_graph.specs.FactBits.{FactParts, HasFact}
 use Rattle.ld_graph.specs.Links.{IsDoubleBy, IsInversionWith}
 use Rattle.ld_graph.specs.Walks.{ClosedWalk}
 use Rattle.ld_graph.specs.declared.fact.Fact.{Fact}
@@ -21,16 +21,16 @@ abbrev pub TraceFactsAreTheChains : Type 0
 TraceFactsAreTheChains = (t : List Event) → AreSame (TraceHas t) (ChainsHave (chains t))
 
 -- the chains' facts are added in turn, and the later facts are those after the last
-abbrev pub AddsInTurn : FactWords → List ChainParts → FactWords → Type 0
+abbrev pub AddsInTurn : FactParts → List ChainParts → FactParts → Type 0
 AddsInTurn old [] new = new ≡ old
 AddsInTurn old (chain ∷ chains) new =
-    (next : FactWords) × (next.keys ≡ old.keys) ×
+    (next : FactParts) × (next.keys ≡ old.keys) ×
     Adds (HasFact old) (HasFact next) (ChainHas chain) ×
     AddsInTurn next chains new
 
 -- adding chains one after the other gives the union of their facts
 abbrev pub AddingInTurnUnites : Type 0
-AddingInTurnUnites = (old new : FactWords) (chains : List ChainParts) →
+AddingInTurnUnites = (old new : FactParts) (chains : List ChainParts) →
     AddsInTurn old chains new → (new.keys ≡ old.keys) ×
     Adds (HasFact old) (HasFact new) (ChainsHave chains)
 

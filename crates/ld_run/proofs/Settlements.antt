@@ -1,7 +1,7 @@
 -- A book settles exactly with tallies of the same facts.
 use Rattle.std.proofs.Common.{◌≡◌, ℕ, ◌≤◌, ◌↔◌, List, Result, Ok, Err, IfOk, IfErr, length, sym, subst, ◌∙◌}
 use Rattle.ld_trace.specs.declared.event.Event.{Event}
-use Rattle.ld_graph.specs.FactBits.{FactWords, HasFact}
+use Rattle.ld_graph.specs.FactBits.{FactParts, HasFact}
 use Rattle.ld_graph.specs.Facts.{AreSame}
 use Rattle.ld_book.specs.Books.{BookParts, JournalHas}
 use Rattle.ld_run.specs.TraceFacts.{IsFirstRefused}
@@ -12,7 +12,7 @@ use Rattle.ld_run.specs.declared.fault.RunFault.TheVariants.{Unsettled, Refused}
 use Rattle.ld_run.specs.declared.runs.TheConstants.{MAX_TRACES}
 use Rattle.ld_run.specs.declared.worker.RefusedTrace.{RefusedTrace}
 
-pub settles-same : (book : BookParts) (facts tallies : FactWords) → facts.keys ≡ book.keys → AreSame (HasFact facts) (JournalHas book.journal) → ((facts.keys ≡ tallies.keys) × AreSame (HasFact facts) (HasFact tallies)) ↔ Settles book tallies
+pub settles-same : (book : BookParts) (facts tallies : FactParts) → facts.keys ≡ book.keys → AreSame (HasFact facts) (JournalHas book.journal) → ((facts.keys ≡ tallies.keys) × AreSame (HasFact facts) (HasFact tallies)) ↔ Settles book tallies
 settles-same book facts tallies keys facts_are = (
   λ (same_keys, same). record {
     keys = sym keys ∙ same_keys;
@@ -28,7 +28,7 @@ settles-same book facts tallies keys facts_are = (
 )
 
 -- settling with the tally of all traces ends the run
-pub settled_ends : (traces : List (List Event)) (workers : ℕ) (facts : FactWords) (r : Result FactWords RunFault) → IfOk r (λ settled. settled ≡ facts) → IfErr r (λ fault. fault ≡ Unsettled) → CompletesRun traces workers facts → EndsRun traces workers r
+pub settled_ends : (traces : List (List Event)) (workers : ℕ) (facts : FactParts) (r : Result FactParts RunFault) → IfOk r (λ settled. settled ≡ facts) → IfErr r (λ fault. fault ≡ Unsettled) → CompletesRun traces workers facts → EndsRun traces workers r
 settled_ends traces workers facts (Ok settled) same none completed = subst (CompletesRun traces workers) (sym same) completed
 settled_ends traces workers facts (Err fault) none is completed =
     subst (StopsRun traces workers) (sym is) (completed.crew, completed.few, completed.well_formed)
@@ -38,10 +38,10 @@ pub refused_ends : (traces : List (List Event)) (workers : ℕ) (found : Refused
 refused_ends traces workers found fault is crew few first = subst (StopsRun traces workers) (sym is) (crew, few, first)
 
 -- what the end says of each outcome
-pub ends_ok : (traces : List (List Event)) (workers : ℕ) (r : Result FactWords RunFault) → EndsRun traces workers r → IfOk r (CompletesRun traces workers)
+pub ends_ok : (traces : List (List Event)) (workers : ℕ) (r : Result FactParts RunFault) → EndsRun traces workers r → IfOk r (CompletesRun traces workers)
 ends_ok traces workers (Ok facts) ends = ends
 ends_ok traces workers (Err fault) ends = tt
 
-pub ends_err : (traces : List (List Event)) (workers : ℕ) (r : Result FactWords RunFault) → EndsRun traces workers r → IfErr r (StopsRun traces workers)
+pub ends_err : (traces : List (List Event)) (workers : ℕ) (r : Result FactParts RunFault) → EndsRun traces workers r → IfErr r (StopsRun traces workers)
 ends_err traces workers (Ok facts) ends = tt
 ends_err traces workers (Err fault) ends = ends

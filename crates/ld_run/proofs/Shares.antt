@@ -4,7 +4,7 @@ use Rattle.std.proofs.lemmas.Bool.{cases_eq}
 use Rattle.std.proofs.lemmas.Option.{slice_get_read}
 use Rattle.ld_trace.specs.declared.event.Event.{Event}
 use Rattle.ld_task.specs.declared.fault.StepAt.{StepAt}
-use Rattle.ld_graph.specs.FactBits.{FactWords, HasFact}
+use Rattle.ld_graph.specs.FactBits.{FactParts, HasFact}
 use Rattle.ld_graph.specs.Facts.{Adds}
 use Rattle.ld_graph.specs.declared.fact.Fact.{Fact}
 use Rattle.ld_run.specs.Inside.Shares.{BringsShare, BringShares, earlier_refused}
@@ -20,18 +20,18 @@ abbrev Walked : (workers worker n : ℕ) → ℕ → Type 0
 Walked workers worker n i = BelongsTo workers worker i × (i < n)
 
 -- of the first n traces the worker's were walked
-pub record HasWalked (traces : List (List Event)) (keys workers worker n : ℕ) (facts : FactWords) (refused : Option RefusedTrace) : Type 0 where
+pub record HasWalked (traces : List (List Event)) (keys workers worker n : ℕ) (facts : FactParts) (refused : Option RefusedTrace) : Type 0 where
   pub keys_are : facts.keys ≡ keys
   pub tally : IsTally traces (Walked workers worker n) facts refused
 
-pub HasWalked-none : (traces : List (List Event)) (keys workers worker : ℕ) (facts : FactWords) → facts.keys ≡ keys → ((x : Fact) → ¬ HasFact facts x) → HasWalked traces keys workers worker 0 facts None
+pub HasWalked-none : (traces : List (List Event)) (keys workers worker : ℕ) (facts : FactParts) → facts.keys ≡ keys → ((x : Fact) → ¬ HasFact facts x) → HasWalked traces keys workers worker 0 facts None
 HasWalked-none traces keys workers worker facts same none = record {
   keys_are = same;
   tally = IsTally-none traces (Walked workers worker 0) facts (λ i mine. let l = mine.1 in omega (arith, l)) none;
 }
 
 -- a trace of the worker's own
-pub HasWalked-mine : (traces : List (List Event)) (keys workers worker n : ℕ) (t : List Event) (old new : FactWords) (refused : Option RefusedTrace) (found : Option StepAt) → t ≡ slice_index_or traces n t → n < length traces → n % workers ≡ worker → HasWalked traces keys workers worker n old refused → new.keys ≡ old.keys → Adds (HasFact old) (HasFact new) (HasBeforeFault t) → FirstFaultIs t found → HasWalked traces keys workers worker (n + 1) new (first_refused_of refused n found)
+pub HasWalked-mine : (traces : List (List Event)) (keys workers worker n : ℕ) (t : List Event) (old new : FactParts) (refused : Option RefusedTrace) (found : Option StepAt) → t ≡ slice_index_or traces n t → n < length traces → n % workers ≡ worker → HasWalked traces keys workers worker n old refused → new.keys ≡ old.keys → Adds (HasFact old) (HasFact new) (HasBeforeFault t) → FirstFaultIs t found → HasWalked traces keys workers worker (n + 1) new (first_refused_of refused n found)
 HasWalked-mine traces keys workers worker n t old new refused found is within mine before keys_same adds fault = record {
   keys_are = keys_same ∙ before.keys_are;
   tally =
@@ -46,7 +46,7 @@ HasWalked-mine traces keys workers worker n t old new refused found is within mi
 }
 
 -- a trace of another's
-pub HasWalked-other : (traces : List (List Event)) (keys workers worker n : ℕ) (facts : FactWords) (refused : Option RefusedTrace) → ¬ (n % workers ≡ worker) → HasWalked traces keys workers worker n facts refused → HasWalked traces keys workers worker (n + 1) facts refused
+pub HasWalked-other : (traces : List (List Event)) (keys workers worker n : ℕ) (facts : FactParts) (refused : Option RefusedTrace) → ¬ (n % workers ≡ worker) → HasWalked traces keys workers worker n facts refused → HasWalked traces keys workers worker (n + 1) facts refused
 HasWalked-other traces keys workers worker n facts refused other before = record {
   keys_are = before.keys_are;
   tally = IsTally-same traces (Walked workers worker n) (Walked workers worker (n + 1))
@@ -58,17 +58,17 @@ HasWalked-other traces keys workers worker n facts refused other before = record
 }
 
 -- all traces were gone through
-pub HasWalked-all : (traces : List (List Event)) (keys workers worker n : ℕ) (facts : FactWords) (refused : Option RefusedTrace) → length traces ≤ n → HasWalked traces keys workers worker n facts refused → IsTally traces (BelongsTo workers worker) facts refused
+pub HasWalked-all : (traces : List (List Event)) (keys workers worker n : ℕ) (facts : FactParts) (refused : Option RefusedTrace) → length traces ≤ n → HasWalked traces keys workers worker n facts refused → IsTally traces (BelongsTo workers worker) facts refused
 HasWalked-all traces keys workers worker n facts refused end walked =
     IsTally-same traces (Walked workers worker n) (BelongsTo workers worker)
     (λ i l. ((λ h. h.0), (λ h. (h, omega (arith, l, end))))) facts refused walked.tally
 
 -- what the first n workers brought was put together
-pub record HaveUnited (old new : FactWords) (brought : List (Result Tally Lost)) (n : ℕ) (refused : Option RefusedTrace) : Type 0 where
+pub record HaveUnited (old new : FactParts) (brought : List (Result Tally Lost)) (n : ℕ) (refused : Option RefusedTrace) : Type 0 where
   pub keys : new.keys ≡ old.keys
   pub united : (traces : List (List Event)) → BringShares traces old.keys (length brought) brought → ((x : Fact) → ¬ HasFact old x) → IsTally traces (BelongsToFirst (length brought) n) new refused
 
-pub HaveUnited-none : (facts : FactWords) (brought : List (Result Tally Lost)) → HaveUnited facts facts brought 0 None
+pub HaveUnited-none : (facts : FactParts) (brought : List (Result Tally Lost)) → HaveUnited facts facts brought 0 None
 HaveUnited-none facts brought = record {
   keys = refl;
   united = λ traces bring none. IsTally-none traces (BelongsToFirst (length brought) 0) facts (λ i l. omega (arith, l)) none;
@@ -80,7 +80,7 @@ brings_at traces keys brought n tally l is bring =
     let at = slice_get_read brought (length brought) n (Ok tally) refl l is in
     subst (λ o. IfSome o (BringsShare traces keys (length brought) n)) at (bring n l)
 
-pub HaveUnited-next : (old mid new : FactWords) (brought : List (Result Tally Lost)) (n : ℕ) (tally : Tally) (refused : Option RefusedTrace) → n < length brought → Ok tally ≡ slice_index_or brought n (Ok tally) → HaveUnited old mid brought n refused → new.keys ≡ mid.keys → Adds (HasFact mid) (HasFact new) (HasFact tally.facts) → HaveUnited old new brought (n + 1) (earlier_refused refused tally.refused)
+pub HaveUnited-next : (old mid new : FactParts) (brought : List (Result Tally Lost)) (n : ℕ) (tally : Tally) (refused : Option RefusedTrace) → n < length brought → Ok tally ≡ slice_index_or brought n (Ok tally) → HaveUnited old mid brought n refused → new.keys ≡ mid.keys → Adds (HasFact mid) (HasFact new) (HasFact tally.facts) → HaveUnited old new brought (n + 1) (earlier_refused refused tally.refused)
 HaveUnited-next old mid new brought n tally refused l is before keys_same adds = record {
   keys = keys_same ∙ before.keys;
   united = λ traces bring none.

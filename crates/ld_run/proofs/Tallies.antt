@@ -7,7 +7,7 @@ use Rattle.ld_trace.specs.declared.event.Event.{Event}
 use Rattle.ld_task.specs.declared.fault.StepAt.{StepAt}
 use Rattle.ld_task.specs.Laws.{BeginningsKeepTheirChains}
 use Rattle.ld_task.specs.WellFormed.{IsWellFormed}
-use Rattle.ld_graph.specs.FactBits.{FactWords, HasFact}
+use Rattle.ld_graph.specs.FactBits.{FactParts, HasFact}
 use Rattle.ld_graph.specs.Facts.{Adds, AreSame, TraceHas}
 use Rattle.ld_graph.specs.Laws.{TraceFactsAreTheChains}
 use Rattle.ld_graph.specs.declared.fact.Fact.{Fact}
@@ -21,7 +21,7 @@ use Rattle.ld_run.specs.declared.worker.RefusedTrace.{RefusedTrace}
 use Rattle.ld_run.proofs.BeforeFaults.{before_fault-all, slice_get-take}
 
 -- nothing was gathered from no trace
-pub IsTally-none : (traces : List (List Event)) (IsMine : ℕ → Type 0) (facts : FactWords) → ((i : ℕ) → IsMine i → ⊥) → ((x : Fact) → ¬ HasFact facts x) → IsTally traces IsMine facts None
+pub IsTally-none : (traces : List (List Event)) (IsMine : ℕ → Type 0) (facts : FactParts) → ((i : ℕ) → IsMine i → ⊥) → ((x : Fact) → ¬ HasFact facts x) → IsTally traces IsMine facts None
 IsTally-none traces IsMine facts none empty = record {
   facts_are = λ x. ((λ h. absurd (empty x h)), (λ (i, t, mine, at, has). absurd (none i mine)));
   refused_is = λ i t mine at. absurd (none i mine);
@@ -48,7 +48,7 @@ module _ (traces : List (List Event)) (IsMine IsOther : ℕ → Type 0) (same : 
     before = λ i t (mine, less) at. least.before i t ((same_one i t at).1 mine, less) at;
   }
 
-  pub IsTally-same : (facts : FactWords) (refused : Option RefusedTrace) → IsTally traces IsMine facts refused → IsTally traces IsOther facts refused
+  pub IsTally-same : (facts : FactParts) (refused : Option RefusedTrace) → IsTally traces IsMine facts refused → IsTally traces IsOther facts refused
   IsTally-same facts refused tally = record {
     facts_are = λ x. let of = OfSome-same (λ t. HasBeforeFault t x) in
         ((λ h. of.0 ((tally.facts_are x).0 h)), (λ h. (tally.facts_are x).1 (of.1 h)));
@@ -92,7 +92,7 @@ module _ (traces : List (List Event)) (IsMine : ℕ → Type 0) (n : ℕ) (t : L
   }
   least-more None None well whole = λ i u mine at. elim mine [ inl m ↦ well i u m at | inr is ↦ subst IsWellFormed (this_one u i is at) whole ]
 
-  pub IsTally-more : (old new : FactWords) (refused : Option RefusedTrace) (found : Option StepAt) → IsTally traces IsMine old refused → Adds (HasFact old) (HasFact new) (HasBeforeFault t) → FirstFaultIs t found → IsTally traces Longer new (first_refused_of refused n found)
+  pub IsTally-more : (old new : FactParts) (refused : Option RefusedTrace) (found : Option StepAt) → IsTally traces IsMine old refused → Adds (HasFact old) (HasFact new) (HasBeforeFault t) → FirstFaultIs t found → IsTally traces Longer new (first_refused_of refused n found)
   IsTally-more old new refused found tally adds fault = record {
     facts_are = λ x. let of = OfSome-more (λ u. HasBeforeFault u x) in (
       (λ h. of.0 (elim ((adds x).0 h) [ inl o ↦ inl ((tally.facts_are x).0 o) | inr s ↦ inr s ])),
@@ -145,7 +145,7 @@ module _ (traces : List (List Event)) (IsMine IsOther : ℕ → Type 0) where
     })
   ]
 
-  pub IsTally-both : (a b union : FactWords) (refused refused' : Option RefusedTrace) → IsTally traces IsMine a refused → IsTally traces IsOther b refused' → Adds (HasFact a) (HasFact union) (HasFact b) → IsTally traces Both union (earlier_refused refused refused')
+  pub IsTally-both : (a b union : FactParts) (refused refused' : Option RefusedTrace) → IsTally traces IsMine a refused → IsTally traces IsOther b refused' → Adds (HasFact a) (HasFact union) (HasFact b) → IsTally traces Both union (earlier_refused refused refused')
   IsTally-both a b union refused refused' tally tally' adds = record {
     facts_are = λ x. let of = OfSome-both (λ u. HasBeforeFault u x) in (
       (λ h. of.0 (elim ((adds x).0 h) [ inl o ↦ inl ((tally.facts_are x).0 o) | inr s ↦ inr ((tally'.facts_are x).0 s) ])),
@@ -155,7 +155,7 @@ module _ (traces : List (List Event)) (IsMine IsOther : ℕ → Type 0) where
   }
 
 -- the tally of all traces
-module _ (traces : List (List Event)) (workers : ℕ) (facts : FactWords) (some : 0 < workers) where
+module _ (traces : List (List Event)) (workers : ℕ) (facts : FactParts) (some : 0 < workers) where
   abbrev IsAny : ℕ → Type 0
   IsAny = BelongsToFirst workers workers
 

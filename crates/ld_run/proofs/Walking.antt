@@ -11,7 +11,7 @@ use Rattle.ld_task.specs.Positions.{positions_below}
 use Rattle.ld_task.specs.EndState.{EndState}
 use Rattle.ld_task.specs.Steps.{GoesOn, IsStateAfter}
 use Rattle.ld_task.specs.TraceChains.{chains}
-use Rattle.ld_graph.specs.FactBits.{FactWords, HasFact}
+use Rattle.ld_graph.specs.FactBits.{FactParts, HasFact}
 use Rattle.ld_graph.specs.FactLaws.{Any-push}
 use Rattle.ld_graph.specs.Facts.{Adds, AreSame, ChainHas, ChainsHave}
 use Rattle.ld_graph.specs.declared.fact.Fact.{Fact}
@@ -43,7 +43,7 @@ Adds-more First Old New cs c before adds x =
     )
 
 -- an allowed event with a chain
-pub walks_on-chain : (start old new : FactWords) (t : List Event) (n : ℕ) (state : EndState) (r : Result (Option ChainParts) StepFault) (c : ChainParts) → r ≡ Ok (Some c) → GoesOn t n state r → new.keys ≡ old.keys → Adds (HasFact old) (HasFact new) (ChainHas c) → HasGathered start old t n → WalksOn start new state t n None
+pub walks_on-chain : (start old new : FactParts) (t : List Event) (n : ℕ) (state : EndState) (r : Result (Option ChainParts) StepFault) (c : ChainParts) → r ≡ Ok (Some c) → GoesOn t n state r → new.keys ≡ old.keys → Adds (HasFact old) (HasFact new) (ChainHas c) → HasGathered start old t n → WalksOn start new state t n None
 walks_on-chain start old new t n state r c is on keys adds gathered =
     let after = subst (λ x. GoesOn t n state x) is on in (
       after.0,
@@ -55,7 +55,7 @@ walks_on-chain start old new t n state r c is on keys adds gathered =
     )
 
 -- an allowed event without one
-pub walks_on-none : (start facts : FactWords) (t : List Event) (n : ℕ) (state : EndState) (r : Result (Option ChainParts) StepFault) → r ≡ Ok None → GoesOn t n state r → HasGathered start facts t n → WalksOn start facts state t n None
+pub walks_on-none : (start facts : FactParts) (t : List Event) (n : ℕ) (state : EndState) (r : Result (Option ChainParts) StepFault) → r ≡ Ok None → GoesOn t n state r → HasGathered start facts t n → WalksOn start facts state t n None
 walks_on-none start facts t n state r is on gathered =
     let after = subst (λ x. GoesOn t n state x) is on in (
       after.0,
@@ -67,17 +67,17 @@ walks_on-none start facts t n state r is on gathered =
 
 -- the first n events of the trace were allowed, this is the state after them, and the facts of their chains, of which there
 -- were no more than events, were gathered
-pub record IsWalking (start facts : FactWords) (t : List Event) (n : ℕ) (state : EndState) (number : ℕ) : Type 0 where
+pub record IsWalking (start facts : FactParts) (t : List Event) (n : ℕ) (state : EndState) (number : ℕ) : Type 0 where
   pub after : IsStateAfter t n state
   pub gathered : HasGathered start facts t n
   pub few : number ≤ n
 
-pub IsWalking-none : (facts : FactWords) (t : List Event) (state : EndState) → IsStateAfter t 0 state → IsWalking facts facts t 0 state 0
+pub IsWalking-none : (facts : FactParts) (t : List Event) (state : EndState) → IsStateAfter t 0 state → IsWalking facts facts t 0 state 0
 unfolding chains positions_below
 IsWalking-none facts t state after = record { after = after; gathered = record { keys = refl; adds = Adds-none (HasFact facts) }; few = omega arith }
 
 -- one more event
-pub IsWalking-next : (start old new : FactWords) (t : List Event) (n : ℕ) (state next : EndState) (number number' : ℕ) → IsWalking start old t n state number → number' ≤ number + 1 → WalksOn start new next t n None → IsWalking start new t (n + 1) next number'
+pub IsWalking-next : (start old new : FactParts) (t : List Event) (n : ℕ) (state next : EndState) (number number' : ℕ) → IsWalking start old t n state number → number' ≤ number + 1 → WalksOn start new next t n None → IsWalking start new t (n + 1) next number'
 IsWalking-next start old new t n state next number number' before few on = record {
   after = on.0;
   gathered = on.1;
@@ -91,7 +91,7 @@ never_past (x ∷ xs) zero l e = cc
 never_past (x ∷ xs) (suc i) l e = never_past xs i (omega (arith, l)) e
 
 -- the event that is read next
-pub comes_next : (start facts : FactWords) (t : List Event) (n : ℕ) (state : EndState) (number : ℕ) (r : Option Event) (event : Event) → IsWalking start facts t n state number → r ≡ slice_get t n → r ≡ Some event → KeysBelow start.keys t → ComesNext start facts state event t n
+pub comes_next : (start facts : FactParts) (t : List Event) (n : ℕ) (state : EndState) (number : ℕ) (r : Option Event) (event : Event) → IsWalking start facts t n state number → r ≡ slice_get t n → r ≡ Some event → KeysBelow start.keys t → ComesNext start facts state event t n
 comes_next start facts t n state number r event walking read is below = record {
   after = walking.after;
   here = sym read ∙ is;

@@ -2,7 +2,7 @@
 use Rattle.std.specs.Prelude.{ℕ, ◌<◌, ◌≤◌, List, All, length, Result, Ok, Err}
 use Rattle.ld_trace.specs.declared.event.Event.{Event}
 use Rattle.ld_task.specs.WellFormed.{IsWellFormed}
-use Rattle.ld_graph.specs.FactBits.{FactWords, HasFact}
+use Rattle.ld_graph.specs.FactBits.{FactParts, HasFact}
 use Rattle.ld_graph.specs.Facts.{AreSame}
 use Rattle.ld_run.specs.TraceFacts.{TracesHave, IsFirstRefused}
 use Rattle.ld_run.specs.declared.fault.RunFault.{RunFault}
@@ -14,7 +14,7 @@ abbrev pub IsCrew : ℕ → Type 0
 IsCrew workers = (1 ≤ workers) × (workers ≤ MAX_WORKERS)
 
 -- the run of this many workers over these traces is completed with these facts: exactly those of all the traces together
-pub record CompletesRun (traces : List (List Event)) (workers : ℕ) (facts : FactWords) : Type 0 where
+pub record CompletesRun (traces : List (List Event)) (workers : ℕ) (facts : FactParts) : Type 0 where
   pub crew : IsCrew workers
   pub few : length traces ≤ MAX_TRACES
   pub well_formed : All IsWellFormed traces
@@ -33,6 +33,6 @@ StopsRun traces workers (Refused trace place fault) =
     IsFirstRefused traces trace (record { fault = fault; place = place })
 
 -- the run ended in this way
-abbrev pub EndsRun : List (List Event) → ℕ → Result FactWords RunFault → Type 0
+abbrev pub EndsRun : List (List Event) → ℕ → Result FactParts RunFault → Type 0
 EndsRun traces workers (Ok facts) = CompletesRun traces workers facts
 EndsRun traces workers (Err fault) = StopsRun traces workers fault

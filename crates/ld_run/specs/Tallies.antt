@@ -2,7 +2,7 @@
 use Rattle.std.specs.Prelude.{◌≡◌, ◌<◌, ◌%◌, ℕ, List, Option, Some, None, take, slice_get}
 use Rattle.ld_trace.specs.declared.event.Event.{Event}
 use Rattle.ld_task.specs.WellFormed.{IsWellFormed, IsFirstFault}
-use Rattle.ld_graph.specs.FactBits.{FactWords, HasFact}
+use Rattle.ld_graph.specs.FactBits.{FactParts, HasFact}
 use Rattle.ld_graph.specs.Facts.{AreSame, TraceHas}
 use Rattle.ld_graph.specs.declared.fact.Fact.{Fact}
 use Rattle.ld_run.specs.declared.worker.RefusedTrace.{RefusedTrace}
@@ -34,7 +34,7 @@ LeastRefusedIs traces IsMine (Some found) = IsLeastRefused traces IsMine found
 
 -- what was gathered from the traces whose places are mine: exactly their facts before their first events that aren't
 -- allowed, and the first of them that isn't well formed
-pub record IsTally (traces : List (List Event)) (IsMine : ℕ → Type 0) (facts : FactWords)
+pub record IsTally (traces : List (List Event)) (IsMine : ℕ → Type 0) (facts : FactParts)
     (refused : Option RefusedTrace) : Type 0 where
   pub facts_are : AreSame (HasFact facts) (λ x. OfSome traces IsMine (λ t. HasBeforeFault t x))
   pub refused_is : LeastRefusedIs traces IsMine refused

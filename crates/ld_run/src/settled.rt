@@ -23,9 +23,9 @@ pub struct Settled {
 }
 
 impl Model for Settled {
-    ghost use Rattle.ld_graph.specs.FactBits.{FactWords};
+    ghost use Rattle.ld_graph.specs.FactBits.{FactParts};
 
-    ghost Value = { FactWords };
+    ghost Value = { FactParts };
 
     ghost view = { λ s. s.graph.facts };
 }

@@ -4,7 +4,7 @@ ghost use Rattle.std.specs.Prelude.{◌≡◌, ◌<◌, ◌≤◌, ◌+◌, ℕ,
 ghost use Rattle.ld_trace.specs.declared.event.Event.{Event};
 ghost use Rattle.ld_trace.specs.Events.{KeysBelow};
 ghost use Rattle.ld_task.specs.Chains.{ChainKeysBelow};
-ghost use Rattle.ld_graph.specs.FactBits.{FactWords, HasFact};
+ghost use Rattle.ld_graph.specs.FactBits.{FactParts, HasFact};
 ghost use Rattle.ld_graph.specs.Facts.{Adds, ChainHas};
 ghost use Rattle.ld_run.specs.Tallies.{BelongsTo, HasBeforeFault, IsTally};
 ghost use Rattle.ld_run.specs.Inside.Walks.{ComesNext, FirstFaultIs, WalksOn, first_refused_of};
@@ -78,13 +78,13 @@ fn walk_event<R: Wait, G: Gate>(
     number: &mut u64,
     event: Event,
 ) -> Result<Option<StepFault>, Lost>
-    requires next { (start : FactWords) × (t : List Event) × (n : ℕ)
+    requires next { (start : FactParts) × (t : List Event) × (n : ℕ)
         × ComesNext start facts.old state.old event t n }
     requires number { number.old < MAX_EVENTS }
     requires trace { trace < MAX_TRACES }
     ensures keys { facts.new.keys ≡ facts.old.keys }
     ensures number { number.new ≤ number.old + 1 }
-    ensures walks_on { IfOk result (λ fault. (start : FactWords) (t : List Event) (n : ℕ)
+    ensures walks_on { IfOk result (λ fault. (start : FactParts) (t : List Event) (n : ℕ)
         → ComesNext start facts.old state.old event t n → WalksOn start facts.new state.new t n fault) }
 {
     ld_task::chain_keys_are_the_traces();

@@ -9,7 +9,7 @@ use Rattle.ld_trace.specs.declared.key_id.TheConstants.{MAX_KEYS}
 use Rattle.ld_graph.specs.Arrows.{Arrow, MayFollow, arrow}
 use Rattle.ld_graph.specs.Inside.Bits.{has_bit}
 use Rattle.ld_graph.specs.Facts.{DependenciesOf}
-use Rattle.ld_graph.specs.FactBits.{FactWords, HasFact, rows_allowed}
+use Rattle.ld_graph.specs.FactBits.{FactParts, HasFact, rows_allowed}
 use Rattle.ld_graph.specs.Links.{IsLink, IsClean}
 use Rattle.ld_graph.specs.Numbers.{irq_number}
 use Rattle.ld_graph.specs.Inside.Places.{LeavesFrom, Leads, Way, LinkArrives, LinkLeaves}
@@ -77,7 +77,7 @@ IsInversionBy Has irq a b read = (kind : Kind) × (is_r kind ≡ read) ×
 
 -- the table is that of the ways, the ends are those of the links, the flag says that the facts are clean, and no more
 -- rows were taken up than may be
-pub record IsGraph (facts : FactWords) (table : List (List ℕ)) (ends : Ends) (clean : Bool) (searched : ℕ) : Type 0 where
+pub record IsGraph (facts : FactParts) (table : List (List ℕ)) (ends : Ends) (clean : Bool) (searched : ℕ) : Type 0 where
   pub few : facts.keys ≤ MAX_KEYS
   pub ways : (p q : ℕ) → IsTrue (reaches table p q) ↔
       Way (Leads (DependenciesOf (HasFact facts))) p q

@@ -8,18 +8,18 @@ use Rattle.ld_task.specs.EndState.{EndState}
 use Rattle.ld_task.specs.Steps.{IsStateAfter}
 use Rattle.ld_task.specs.TraceChains.{chains}
 use Rattle.ld_task.specs.WellFormed.{IsWellFormed, IsFirstFault}
-use Rattle.ld_graph.specs.FactBits.{FactWords, HasFact}
+use Rattle.ld_graph.specs.FactBits.{FactParts, HasFact}
 use Rattle.ld_graph.specs.Facts.{Adds, ChainsHave}
 use Rattle.ld_run.specs.declared.worker.RefusedTrace.{RefusedTrace}
 
 -- the facts are those at the start and those of the chains of the trace's first n events
-pub record HasGathered (start facts : FactWords) (t : List Event) (n : ℕ) : Type 0 where
+pub record HasGathered (start facts : FactParts) (t : List Event) (n : ℕ) : Type 0 where
   pub keys : facts.keys ≡ start.keys
   pub adds : Adds (HasFact start) (HasFact facts) (ChainsHave (chains (take n t)))
 
 -- the event comes at n in the trace, whose keys are below the bound; this is the state before it, and the facts were
 -- gathered up to it
-pub record ComesNext (start facts : FactWords) (state : EndState) (event : Event) (t : List Event) (n : ℕ) : Type 0 where
+pub record ComesNext (start facts : FactParts) (state : EndState) (event : Event) (t : List Event) (n : ℕ) : Type 0 where
   pub after : IsStateAfter t n state
   pub here : slice_get t n ≡ Some event
   pub below : KeysBelow start.keys t
@@ -27,7 +27,7 @@ pub record ComesNext (start facts : FactWords) (state : EndState) (event : Event
 
 -- the event at n was allowed, this is the state after it, and the facts were gathered behind it; or it is the first that
 -- isn't allowed, and they were gathered up to it
-abbrev pub WalksOn : (start facts : FactWords) → EndState → List Event → ℕ → Option StepFault → Type 0
+abbrev pub WalksOn : (start facts : FactParts) → EndState → List Event → ℕ → Option StepFault → Type 0
 WalksOn start facts state t n None = IsStateAfter t (n + 1) state × HasGathered start facts t (n + 1)
 WalksOn start facts state t n (Some fault) =
     IsFirstFault t (record { fault = fault; place = n }) × HasGathered start facts t n

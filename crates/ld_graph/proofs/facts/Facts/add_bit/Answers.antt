@@ -3,15 +3,15 @@ use Rattle.std.proofs.lemmas.List.{with_items_is}
 use Rattle.std.specs.Vec.{with_items}
 use Rattle.ld_graph.specs.Inside.Bits.{has_bit}
 use Rattle.ld_graph.specs.Numbers.{dependency_total, bit_total}
-use Rattle.ld_graph.specs.FactBits.{FactWords, SetsBit}
+use Rattle.ld_graph.specs.FactBits.{FactParts, SetsBit}
 use Rattle.ld_graph.proofs.Adding.{dependency_count-le, mark_count-le, AreCounted-dependency, AreCounted-mark}
 use Rattle.ld_graph.proofs.facts.Facts.add_bit.Goals as goal
 use Rattle.ld_graph.proofs.facts.Facts.add_bit.Goals.{After-insert}
 
-abbrev before : After-insert → FactWords
+abbrev before : After-insert → FactParts
 before c = record { keys = c.self.inside.keys; words = c.self.inside.bits.items }
 
-abbrev after : After-insert → FactWords
+abbrev after : After-insert → FactParts
 after c = record { keys = c.self.inside.keys; words = (with_items c.self.inside.bits c.insert.new.words).items }
 
 words_are : (c : After-insert) → (with_items c.self.inside.bits c.insert.new.words).items ≡ c.insert.new.words

@@ -5,7 +5,7 @@ use Rattle.std.specs.Int.{bit_at}
 use Rattle.ld_graph.specs.Inside.Bits.{has_bit}
 use Rattle.ld_graph.specs.Numbers.{bit_total}
 use Rattle.ld_graph.specs.Facts.{Adds}
-use Rattle.ld_graph.specs.FactBits.{FactWords, HasFact, UnitesWord}
+use Rattle.ld_graph.specs.FactBits.{FactParts, HasFact, UnitesWord}
 use Rattle.ld_graph.proofs.Uniting.{UnitesWords-start, UnitesWords-more, Adds-words, has_bit-at}
 use Rattle.ld_graph.proofs.facts.Facts.unite.Goals as goal
 use Rattle.ld_graph.proofs.facts.Facts.unite.Goals.{After-index}
@@ -45,7 +45,7 @@ loop-i-preserved c =
 
 pub returns-clause-adds : goal.returns-clause-adds
 returns-clause-adds c =
-    subst (λ (v : FactWords). Adds (HasFact c.args.self.now) (HasFact c.loop-i.self) (HasFact v)) c.other.view_is
+    subst (λ (v : FactParts). Adds (HasFact c.args.self.now) (HasFact c.loop-i.self) (HasFact v)) c.other.view_is
     (Adds-words c.args.self.now (record { keys = c.other.inside.keys; words = c.other.inside.bits.items }) c.loop-i.self c.loop-i.i
     (c.requires ∙ ap (λ v. v.keys) (sym c.other.view_is))
     (let t = c.loop-i-test.false in let e = c.len-i-end.ensures in omega arith) c.loop-i.invariant)

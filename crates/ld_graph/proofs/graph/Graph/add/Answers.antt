@@ -4,7 +4,7 @@ use Rattle.ld_trace.specs.declared.key_id.TheConstants.{MAX_KEYS}
 use Rattle.ld_graph.specs.Arrows.{Arrow, arrow}
 use Rattle.ld_graph.specs.Inside.Bits.{has_bit}
 use Rattle.ld_graph.specs.Facts.{Adds, DependenciesOf}
-use Rattle.ld_graph.specs.FactBits.{FactWords, HasFact, rows_allowed, rows_for}
+use Rattle.ld_graph.specs.FactBits.{FactParts, HasFact, rows_allowed, rows_for}
 use Rattle.ld_graph.specs.Inside.Places.{Leads}
 use Rattle.ld_graph.specs.Inside.Tables.{IsSource, IsTarget, AreSpan}
 use Rattle.ld_graph.specs.Inside.Kept.{IsGraph, StaysClean, MarkTurnsBack}
@@ -114,7 +114,7 @@ invariant_of-self-2 c = elim c.match-fact.branch [
 
 pub returns-clause-adds : goal.returns-clause-adds
 returns-clause-adds c =
-    subst (λ (f : FactWords). Adds (HasFact c.args.self.now.facts) (HasFact f) (λ x. x ≡ c.args.fact)) facts_are
+    subst (λ (f : FactParts). Adds (HasFact c.args.self.now.facts) (HasFact f) (λ x. x ≡ c.args.fact)) facts_are
     (subst (λ (g : GraphParts). Adds (HasFact g.facts) (HasFact c.add.new.self) (λ x. x ≡ c.args.fact)) c.self.view_is c.add.ensures.adds)
   where
     facts_are : c.add.new.self ≡ c.match-fact.self-inside.facts
