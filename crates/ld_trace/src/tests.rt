@@ -190,7 +190,11 @@ fn tries_are_modes_of_version_2_alone(rt: HostRuntime) -> Result<(), Fail> {
     ];
     assert_eq!(rt; trace.len(), modes.len());
     for (i, mode) in modes.iter().enumerate() {
-        assert_eq!(rt; trace.event(i), Some(Event::Acquire { key, mode: *mode }), "at {i}");
+        assert_eq!(rt;
+            trace.event(i),
+            Some(Event::Acquire { key, mode: *mode }),
+            "at {i}"
+        );
     }
     for text in [
         b"lockdep,1\nacq,A,0,tw\n".as_slice(),
@@ -199,7 +203,10 @@ fn tries_are_modes_of_version_2_alone(rt: HostRuntime) -> Result<(), Fail> {
         b"lockdep,2\nacq,A,0,t\n".as_slice(),
         b"lockdep,2\nacq,A,0,twr\n".as_slice(),
     ] {
-        assert_eq!(rt; events_of(rt.alloc(), text), refused(TraceFaultKind::BadMode, 2));
+        assert_eq!(rt;
+            events_of(rt.alloc(), text),
+            refused(TraceFaultKind::BadMode, 2)
+        );
     }
     assert_eq!(rt;
         events_of(rt.alloc(), b"lockdep,2\nlockdep,2\n".as_slice()),
