@@ -18,7 +18,7 @@ use Rattle.ld_task.specs.Flags.{is_enabled}
 use Rattle.ld_task.specs.Marks.{is_in, same_form, marks_taken, marks_opened}
 use Rattle.ld_graph.specs.Facts.{ChainHas}
 use Rattle.ld_graph.specs.FactBits.{FactBelow}
-use Rattle.ld_graph.specs.Inside.ChainFacts.{chain_fact, fact_by, fact_slots, mark_if, mark_of_held, mark_by_taking, mark_by_opening}
+use Rattle.ld_graph.specs.Inside.ChainFacts.{chain_fact, fact_by, fact_slots, mark_if, mark_of_held, mark_by_taking, mark_by_opening, StandsIn}
 use Rattle.ld_graph.specs.declared.fact.Fact.{Fact}
 use Rattle.ld_graph.specs.declared.fact.Fact.TheVariants.{Dependency, Marked}
 
@@ -128,9 +128,6 @@ chain_fact-sound c n x e = pick c.new_lock refl e
     pick (Some new) is h = fact_by-taking c new.0 new.1 n x is h
 
 -- ---- each fact of the chain stands at a place
-abbrev pub StandsIn : ChainParts → Fact → ℕ → Type 0
-StandsIn c x bound = (n : ℕ) × (n < bound) × (chain_fact c n ≡ Some x)
-
 pub chain_fact-complete : (c : ChainParts) (x : Fact) → ChainHas c x → StandsIn c x (fact_slots c)
 chain_fact-complete c (Dependency from to kind) h =
     let (k, l, at) = h.is_held in

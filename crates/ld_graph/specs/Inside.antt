@@ -3,3 +3,4 @@ pub mod ChainFacts
 pub mod Kept
 pub mod Places
 pub mod Tables
+pub mod WordTable

@@ -9,14 +9,21 @@ use crate::fact::Fact;
 use ld_task::{Chain, Frame, Kind, Mark};
 use ld_trace::{Irq, KeyId, Mode};
 
+// How many marks an acquisition may give: that the key is used, and for each state that it is used in it or with it
+// enabled.
+pub(crate) const MARKS_TAKEN: usize = 5;
+
+// How many marks an opening may give a held lock: one for each state.
+pub(crate) const MARKS_OPENED: usize = 2;
+
 // How many slots the chain has for facts. Some of them are empty.
 pub(crate) fn slots(chain: &Chain) -> usize
     ensures value { result ≡ fact_slots chain.now }
     ensures few { result ≤ 96 }
 {
     match chain.taken() {
-        Some(_) => chain.held_len() + 5,
-        None => chain.held_len() * 2,
+        Some(_) => chain.held_len() + MARKS_TAKEN,
+        None => chain.held_len() * MARKS_OPENED,
     }
 }
 
@@ -34,12 +41,12 @@ pub(crate) fn fact_at(chain: &Chain, n: usize) -> Option<Fact>
                 mark_of_new(chain, n - held, key, mode, frame)
             }
         }
-        None => mark_of_old(chain, n / 2, n % 2),
+        None => mark_of_old(chain, n / MARKS_OPENED, n % MARKS_OPENED),
     }
 }
 
 // The dependency from the held lock `i`, if there is one, to the new lock, if that may be waited for.
-fn dependency_of(chain: &Chain, i: usize, key: KeyId, mode: Mode) -> Option<Fact>
+pub(crate) fn dependency_of(chain: &Chain, i: usize, key: KeyId, mode: Mode) -> Option<Fact>
     ensures { result ≡ dependency_from (slice_get chain.now.held_locks i)
         (record { key = key; mode = mode }) }
 {
@@ -56,7 +63,13 @@ fn dependency_of(chain: &Chain, i: usize, key: KeyId, mode: Mode) -> Option<Fact
 }
 
 // The mark of number `n` below 5 on the new lock, if the acquisition gives it.
-fn mark_of_new(chain: &Chain, n: usize, key: KeyId, mode: Mode, frame: Frame) -> Option<Fact>
+pub(crate) fn mark_of_new(
+    chain: &Chain,
+    n: usize,
+    key: KeyId,
+    mode: Mode,
+    frame: Frame,
+) -> Option<Fact>
     ensures { result ≡ mark_if (marks_taken mode frame chain.now.flags) key
         (mark_by_taking (is_read mode) n) }
 {
@@ -74,7 +87,7 @@ fn mark_of_new(chain: &Chain, n: usize, key: KeyId, mode: Mode, frame: Frame) ->
 }
 
 // The mark of number `n` below 2 on the held lock `i`, if there is one and the opening gives it.
-fn mark_of_old(chain: &Chain, i: usize, n: usize) -> Option<Fact>
+pub(crate) fn mark_of_old(chain: &Chain, i: usize, n: usize) -> Option<Fact>
     ensures { result ≡ mark_of_held (slice_get chain.now.held_locks i) chain.now.flags n }
 {
     let (key, mode) = chain.held(i)?;

@@ -1,5 +1,5 @@
 -- The facts of a chain one after the other.
-use Rattle.std.specs.Prelude.{ℕ, ◌+◌, ◌-◌, ◌*◌, ◌/◌, ◌%◌, ◌==◌, nat_lt, Bool, if◌then◌else◌, length, Option, Some, None, slice_get}
+use Rattle.std.specs.Prelude.{◌≡◌, ℕ, ◌+◌, ◌-◌, ◌*◌, ◌/◌, ◌%◌, ◌<◌, ◌==◌, nat_lt, Bool, if◌then◌else◌, length, Option, Some, None, slice_get}
 use Rattle.ld_trace.specs.declared.event.Irq.TheVariants.{Hard, Soft}
 use Rattle.ld_trace.specs.Modes.{is_read, may_wait}
 use Rattle.ld_task.specs.declared.frame.Flags.{Flags}
@@ -58,3 +58,7 @@ slots_by None c = length c.held_locks * 2
 
 abbrev pub fact_slots : ChainParts → ℕ
 fact_slots c = slots_by c.new_lock c
+
+-- the fact is in one of the first slots
+abbrev pub StandsIn : ChainParts → Fact → ℕ → Type 0
+StandsIn c x bound = (n : ℕ) × (n < bound) × (chain_fact c n ≡ Some x)
