@@ -6,7 +6,8 @@ use Rattle.std.specs.Int.{bit_at, trailing_zeros}
 use Rattle.std.proofs.lemmas.Bool.{lt-ltb, le-ltb}
 use Rattle.std.proofs.lemmas.Nat.Bits.{bit_at-zero, bit_at-trailing_zeros}
 use Rattle.ld_task.specs.Chains.{ChainParts, ChainKeysBelow}
-use Rattle.ld_task.specs.Marks.{is_read, marks_taken}
+use Rattle.ld_task.specs.Marks.{marks_taken}
+use Rattle.ld_trace.specs.Modes.{is_read}
 use Rattle.ld_task.specs.declared.frame.Frame.{Frame}
 use Rattle.ld_task.specs.declared.lock.Lock.{Lock}
 use Rattle.ld_graph.specs.Facts.{AreSame, ChainHas}
