@@ -4,3 +4,8 @@ pub mod Walking
 pub mod Shares
 pub mod Settlements
 pub mod Counts
+pub mod Gather
+pub mod WordLists
+pub mod Moves
+pub mod SeatLists
+pub mod SeatFacts
