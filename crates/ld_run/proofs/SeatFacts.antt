@@ -14,6 +14,7 @@ use Rattle.ld_graph.specs.WordPairs.{bits_of, Within, PairsHave, AreWordsOf}
 use Rattle.ld_graph.specs.declared.fact.Fact.{Fact}
 use Rattle.ld_run.specs.Views.{newcomer, times, once_below, PutHas, SeenHas, ShareWord}
 use Rattle.ld_run.specs.Seats.{view, claims_of}
+use Rattle.ld_run.specs.Work.{PutsOnly}
 use Rattle.ld_run.specs.Inside.BoardRule.{joined, Knows}
 use Rattle.ld_run.specs.Inside.Gathered.{joined_onto, gathered}
 use Rattle.ld_run.specs.declared.view.View.{View}
@@ -63,13 +64,13 @@ module _ (keys : ℕ) (chain : ChainParts) (words : List (ℕ × ℕ)) (are : Ar
 pub none_has : (keys : ℕ) (x : Fact) → PairsHave keys [] x → ⊥
 none_has keys x (below, on) = let z = bit_at-zero (fact_number keys x % 64) in omega (arith, z, on)
 
-Any-here : {X : Type 0} (P : X → Type 0) (x : X) (xs : List X) → P x → Any P (x ∷ xs)
+pub Any-here : {X : Type 0} (P : X → Type 0) (x : X) (xs : List X) → P x → Any P (x ∷ xs)
 Any-here P x xs h = (0, x, omega arith, refl, h)
 
-Any-later : {X : Type 0} (P : X → Type 0) (x : X) (xs : List X) → Any P xs → Any P (x ∷ xs)
+pub Any-later : {X : Type 0} (P : X → Type 0) (x : X) (xs : List X) → Any P xs → Any P (x ∷ xs)
 Any-later P x xs (k, y, l, e, h) = (suc k, y, omega (arith, l), e, h)
 
-Any-cases : {X : Type 0} (P : X → Type 0) (x : X) (xs : List X) → Any P (x ∷ xs) → P x ⊎ Any P xs
+pub Any-cases : {X : Type 0} (P : X → Type 0) (x : X) (xs : List X) → Any P (x ∷ xs) → P x ⊎ Any P xs
 Any-cases P x xs (zero, y, l, e, h) = inl (subst P (sym e) h)
 Any-cases P x xs (suc k, y, l, e, h) = inr (k, y, omega (arith, l), e, h)
 
@@ -158,3 +159,24 @@ module _ (keys : ℕ) (ss : List Seat) (ws : List ℕ) (knows : Knows keys (gath
 
   pub closed_claims : (n : ℕ) × ((x : ℕ) → times x (claims_of ss) ≡ once_below x n)
   closed_claims = (slice_index ws 0, λ x. ap (times x) (sym (gathered_claims ss)) ∙ knows.once x)
+
+-- ---- a chain that is put unless it is covered
+module _ (keys : ℕ) (old mid : View) (same : mid.put ≡ old.put) (seen : Holds (SeenHas keys mid) (SeenHas keys old)) where
+  pub keeps_put : (x : Fact) → PutHas keys old x ↔ PutHas keys mid x
+  keeps_put x = ((λ h. subst (λ ps. PairsHave keys ps x) (sym same) h), (λ h. subst (λ ps. PairsHave keys ps x) same h))
+
+  -- it was looked at alone
+  pub looked_only : (P : Fact → Type 0) → PutsOnly keys old mid P
+  looked_only P = record {
+    keeps = λ x h. (keeps_put x).0 h;
+    only = λ x h. inl ((keeps_put x).1 h);
+    knows = λ x h. elim h [ inl p ↦ inl ((keeps_put x).0 p) | inr s ↦ inr (seen x s) ];
+  }
+
+  -- then it was put
+  pub looked_and_put : (new : View) (P : Fact → Type 0) → Adds (PutHas keys mid) (PutHas keys new) P → Holds (SeenHas keys new) (SeenHas keys mid) → PutsOnly keys old new P
+  looked_and_put new P adds more = record {
+    keeps = λ x h. (adds x).1 (inl ((keeps_put x).0 h));
+    only = λ x h. elim ((adds x).0 h) [ inl o ↦ inl ((keeps_put x).1 o) | inr p ↦ inr p ];
+    knows = λ x h. elim h [ inl p ↦ inl ((adds x).1 (inl ((keeps_put x).0 p))) | inr s ↦ inr (more x (seen x s)) ];
+  }

@@ -7,3 +7,4 @@ pub mod Tallies
 pub mod Views
 pub mod Seats
 pub mod Boards
+pub mod Work

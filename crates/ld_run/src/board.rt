@@ -1,6 +1,6 @@
 //! A board: a word that numbers are claimed from, and words of facts, which threads share without waiting for one another.
 
-ghost use Rattle.std.specs.Prelude.{◌≡◌, ◌≢◌, ◌⊎◌, ◌↔◌, ◌+◌, ◌/◌, ◌%◌, ◌<◌, ◌≤◌, ◌∷◌, ℕ, length, All, AllPairs, Any, IsTrue, IfOk, IsErrOf, vec_len, bit_or, slice_index};
+ghost use Rattle.std.specs.Prelude.{◌≡◌, ◌≢◌, ◌⊎◌, ◌↔◌, ◌+◌, ◌/◌, ◌%◌, ◌<◌, ◌≤◌, ◌∷◌, ℕ, length, All, AllPairs, Any, IsFalse, IsTrue, IfOk, IsErrOf, vec_len, bit_or, slice_index};
 ghost use Rattle.std.specs.Int.{bit_at};
 ghost use Rattle.std.specs.Mem.Slots.{slots_items, slots_len, IsFull};
 ghost use Rattle.ld_trace.specs.declared.key_id.TheConstants.{MAX_KEYS};
@@ -12,6 +12,7 @@ ghost use Rattle.ld_graph.specs.WordPairs.{bits_of, word_total, NonePast, PairsH
 ghost use Rattle.ld_graph.specs.declared.fact.Fact.{Fact};
 ghost use Rattle.ld_run.specs.Views.{newcomer, once_below, times, with_claim, PutHas, SeenHas, ShareWord};
 ghost use Rattle.ld_run.specs.Seats.{view, claims_of};
+ghost use Rattle.ld_run.specs.Work.{PutsOnly};
 ghost use Rattle.ld_run.specs.Inside.BoardRule.{with_look, with_put};
 ghost use Rattle.ld_run.specs.Inside.Gathered.{gathered, joined_onto};
 ghost use Rattle.ld_run.specs.declared.seat.TheConstants.{MAX_CLAIMS};
@@ -123,6 +124,26 @@ impl Board {
         ld_graph::facts_are_bits();
         seat.words.set_to(chain, self.keys);
         self.covers_words(seat)
+    }
+
+    // Puts the facts of a chain on the board unless it covers them, and answers whether it has put them: what `covers` and then
+    // `put` do, with the chain's words found once.
+    pub(crate) fn put_unless_covered(&self, seat: &mut Seat, chain: &Chain) -> bool
+        requires seat { IsSeatOf self.now seat.old }
+        requires below { ChainKeysBelow (keys_of self.now) chain.now }
+        ensures seat { IsSeatOf self.now seat.new }
+        ensures claimed { (view seat.new).claimed ≡ (view seat.old).claimed }
+        ensures puts { PutsOnly (keys_of self.now) (view seat.old) (view seat.new) (ChainHas chain.now) }
+        ensures covered { IsFalse result → Holds (SeenHas (keys_of self.now) (view seat.new)) (ChainHas chain.now) }
+        ensures put { IsTrue result → Holds (PutHas (keys_of self.now) (view seat.new)) (ChainHas chain.now) }
+    {
+        ld_graph::facts_are_bits();
+        seat.words.set_to(chain, self.keys);
+        if self.covers_words(seat) {
+            return false;
+        }
+        self.put_words(seat);
+        true
     }
 
     /// The facts that are on the board at the end, where the list holds each of its seats once: exactly those that the seats have

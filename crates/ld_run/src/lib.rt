@@ -21,3 +21,4 @@ pub use runs::{MAX_TRACES, MAX_WORKERS, run};
 pub use seat::{MAX_CLAIMS, Seat};
 pub use settled::{Settled, settle};
 pub use view::View;
+pub use worker::{Worked, work};
