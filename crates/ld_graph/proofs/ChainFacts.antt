@@ -22,7 +22,7 @@ use Rattle.ld_graph.specs.declared.fact.Fact.{Fact}
 use Rattle.ld_graph.specs.declared.fact.Fact.TheVariants.{Dependency, Marked}
 
 -- ---- marks
-mark_if-some : (gives : Mark → Bool) (key : ℕ) (mark : Mark) (x : Fact) → mark_if gives key mark ≡ Some x → (gives mark ≡ true) × (Marked key mark ≡ x)
+pub mark_if-some : (gives : Mark → Bool) (key : ℕ) (mark : Mark) (x : Fact) → mark_if gives key mark ≡ Some x → (gives mark ≡ true) × (Marked key mark ≡ x)
 mark_if-some gives key mark x e =
     elim (cases_Bool (gives mark)) [
       | inl t ↦ (t, same_Some (Marked key mark) x (rw t at e))

@@ -1,23 +1,28 @@
 -- The facts of a chain are gathered in words, slot by slot.
-use Rattle.std.proofs.Common.{◌≡◌, ◌≢◌, ℕ, zero, suc, ◌∷◌, ◌+◌, ◌-◌, ◌*◌, ◌/◌, ◌%◌, ◌^◌, ◌<◌, ◌≤◌, List, [], length, get_or, refl, ap, sym, ◌∙◌, subst, inl, inr, arith, Option, Some, None, bit_or, w64}
+use Rattle.std.proofs.Common.{◌≡◌, ◌≢◌, ℕ, zero, suc, ◌∷◌, ◌+◌, ◌-◌, ◌*◌, ◌/◌, ◌%◌, ◌^◌, ◌<◌, ◌≤◌, List, [], length, get_or, refl, ap, sym, ◌∙◌, subst, inl, inr, arith, Bool, Option, Some, None, bit_or, w64}
 use Rattle.std.specs.Prelude.{slice_get, All}
-use Rattle.std.specs.Option.{ForSome}
+use Rattle.std.specs.Option.{ForSome, option_map}
+use Rattle.std.proofs.lemmas.Option.{same_Some, none-some}
 use Rattle.std.specs.Int.{bit_at, trailing_zeros}
-use Rattle.std.proofs.lemmas.Bool.{lt-ltb, le-ltb}
+use Rattle.std.proofs.lemmas.Bool.{lt-ltb, le-ltb, cases_lt, cases_eq}
 use Rattle.std.proofs.lemmas.Nat.Bits.{bit_at-zero, bit_at-trailing_zeros}
-use Rattle.ld_task.specs.Chains.{ChainParts, ChainKeysBelow}
-use Rattle.ld_task.specs.Marks.{is_read, marks_taken}
+use Rattle.ld_task.specs.Chains.{ChainParts, ChainKeysBelow, key_and_mode}
+use Rattle.ld_task.specs.Marks.{is_read, marks_taken, marks_opened}
+use Rattle.ld_trace.specs.declared.event.Mode.{Mode}
+use Rattle.ld_task.specs.declared.frame.Flags.{Flags}
 use Rattle.ld_task.specs.declared.frame.Frame.{Frame}
 use Rattle.ld_task.specs.declared.lock.Lock.{Lock}
 use Rattle.ld_graph.specs.Facts.{AreSame, ChainHas}
 use Rattle.ld_graph.specs.FactBits.{FactBelow}
-use Rattle.ld_graph.specs.Inside.ChainFacts.{chain_fact, fact_slots, StandsIn, dependency_from, mark_if, mark_of_held, mark_by_taking}
-use Rattle.ld_graph.specs.Inside.WordTable.{AreWords, HasBit, TakesFact, Gathered}
-use Rattle.ld_graph.specs.Numbers.{bit_total, fact_number}
+use Rattle.ld_graph.specs.Inside.ChainFacts.{chain_fact, fact_slots, StandsIn, dependency_from, mark_if, mark_of_held, mark_by_taking, mark_by_opening}
+use Rattle.ld_graph.specs.Inside.WordTable.{AreWords, HasBit, TakesFact, TakesRun, TakesMarkBit, IsRunOf, Gathered}
+use Rattle.ld_graph.specs.Numbers.{dependency_total, bit_total, fact_number, mark_index}
 use Rattle.ld_graph.specs.WordLaws.{bits_if, bits_if-same, bit_or-bits}
 use Rattle.ld_graph.specs.WordPairs.{bits_of, word_total, NonePast, PairsHave, AreWordsOf}
+use Rattle.ld_task.specs.declared.mark.Mark.{Mark}
 use Rattle.ld_graph.specs.declared.fact.Fact.{Fact}
-use Rattle.ld_graph.proofs.ChainFacts.{FactBelow-chain, chain_fact-sound, chain_fact-complete}
+use Rattle.ld_graph.specs.declared.fact.Fact.TheVariants.{Marked}
+use Rattle.ld_graph.proofs.ChainFacts.{mark_if-some, FactBelow-chain, chain_fact-sound, chain_fact-complete}
 use Rattle.ld_graph.proofs.Growing.{StandsIn-later, StandsIn-cases}
 use Rattle.ld_graph.proofs.Numbers.{fact_number-lt, fact_number-same}
 
@@ -75,6 +80,81 @@ Gathered-more keys c pairs new n fact was at takes = record {
     (λ (x, s, is). (takes.bits m).1 (elim (StandsIn-cases c x n s) [
       | inl t ↦ inl ((was.bits m).1 (x, t, is))
       | inr e ↦ inr (x, sym at ∙ e, is)
+    ])),
+  );
+}
+
+-- ---- a run of marks
+pub IsRunOf-start : (c : ChainParts) (key first : ℕ) → IsRunOf c key first first 0
+IsRunOf-start c key first = record {
+  only = λ n x l m. absurd (omega arith);
+  bits = λ k. ((λ on. absurd (omega (arith, bit_at-zero k))), (λ (mark, n, l, m, at, is). absurd (omega arith)));
+}
+
+-- the fact is a mark of the key, if there is one
+abbrev pub IsMarkOf : ℕ → Option Fact → Type 0
+IsMarkOf key fact = ForSome fact (λ x. (mark : Mark) × (x ≡ Marked key mark))
+
+pub IsMarkOf-if : (gives : Mark → Bool) (key : ℕ) (mark : Mark) → IsMarkOf key (mark_if gives key mark)
+IsMarkOf-if gives key mark x e = (mark, sym (mark_if-some gives key mark x e).1)
+
+pub IsRunOf-more : (c : ChainParts) (key first n run new : ℕ) (fact : Option Fact) → first ≤ n → IsRunOf c key first n run →
+    chain_fact c n ≡ fact → IsMarkOf key fact → TakesMarkBit run new fact → IsRunOf c key first (n + 1) new
+IsRunOf-more c key first n run new fact from was at mark takes = record {
+  only = λ m x l lm e. elim (cases_eq m n) [
+    | inl same ↦ mark x (sym at ∙ subst (λ j. chain_fact c j ≡ Some x) same e)
+    | inr ne ↦ was.only m x l (omega arith) e
+  ];
+  bits = λ k. (
+    (λ on. elim ((takes k).0 on) [
+      | inl o ↦ let (mark, m, l, lm, e, is) = (was.bits k).0 o in (mark, m, l, omega arith, e, is)
+      | inr (of, m, e, is) ↦
+          let (_, same) = mark (Marked of m) e in
+          let key_is : of ≡ key = cc in
+          (m, n, from, omega arith, at ∙ e ∙ ap (λ j. Some (Marked j m)) key_is, is)
+    ]),
+    (λ (m, j, l, lj, e, is). (takes k).1 (elim (cases_eq j n) [
+      | inl same ↦ inr (key, m, sym at ∙ subst (λ i. chain_fact c i ≡ Some (Marked key m)) same e, is)
+      | inr ne ↦ inl ((was.bits k).1 (m, j, l, omega arith, e, is))
+    ])),
+  );
+}
+
+-- the marks of a held lock
+pub chain_fact-held : (c : ChainParts) (i n : ℕ) → n < 2 → c.new_lock ≡ None →
+    chain_fact c (i * 2 + n) ≡ mark_of_held (slice_get c.held_locks i) c.flags n
+chain_fact-held c i n l is =
+    let half : (i * 2 + n) / 2 ≡ i = omega arith in
+    let odd : (i * 2 + n) % 2 ≡ n = omega arith in
+    chain_fact-mark_of_held c (i * 2 + n) is ∙ (λ j. mark_of_held (slice_get c.held_locks (half j)) c.flags (odd j))
+
+pub IsMarkOf-held : (o : Option Lock) (flags : Flags) (n key : ℕ) (mode : Mode) → option_map key_and_mode o ≡ Some (key, mode) →
+    IsMarkOf key (mark_of_held o flags n)
+IsMarkOf-held None flags n key mode e = absurd (none-some (key, mode) e)
+IsMarkOf-held (Some old) flags n key mode e =
+    let same = same_Some (old.key, old.mode) (key, mode) e in
+    let key_is : old.key ≡ key = ap (λ (p : ℕ × Mode). p.0) same in
+    subst (λ k. IsMarkOf k (mark_of_held (Some old) flags n)) key_is (IsMarkOf-if (marks_opened old.mode flags) old.key (mark_by_opening (is_read old.mode) n))
+
+pub Gathered-run : (keys : ℕ) (c : ChainParts) (pairs new : List (ℕ × ℕ)) (key first last run : ℕ) → first + 2 ≤ last →
+    Gathered keys c pairs first → IsRunOf c key first last run → TakesRun pairs new (dependency_total keys + key * 9) run →
+    Gathered keys c new last
+Gathered-run keys c pairs new key first last run more was of takes = record {
+  words = takes.words;
+  few = let a = takes.few in let b = was.few in omega arith;
+  bits = λ m. (
+    (λ h. elim ((takes.bits m).0 h) [
+      | inl o ↦ let (x, (n, l, e), is) = (was.bits m).0 o in (x, (n, omega arith, e), is)
+      | inr (k, on, is) ↦
+          let (mark, n, l, ln, e, place) = (of.bits k).0 on in
+          (Marked key mark, (n, ln, e), omega arith)
+    ]),
+    (λ (x, (n, l, e), is). (takes.bits m).1 (elim (cases_lt n first) [
+      | inl before ↦ inl ((was.bits m).1 (x, (n, before, e), is))
+      | inr from ↦
+          let (mark, same) = of.only n x from l e in
+          let at : fact_number keys (Marked key mark) ≡ m = ap (fact_number keys) (sym same) ∙ is in
+          inr (mark_index mark, (of.bits (mark_index mark)).1 (mark, n, from, l, e ∙ ap Some same, refl), omega arith)
     ])),
   );
 }

@@ -1,15 +1,17 @@
 -- The table that words of facts are kept in, and the pairs that it stands for.
-use Rattle.std.proofs.Common.{◌≡◌, ◌≢◌, ℕ, zero, suc, ◌+◌, ◌*◌, ◌/◌, ◌%◌, ◌^◌, ◌<◌, ◌≤◌, ◌⊎◌, ◌↔◌, List, [], ◌∷◌, ◌++◌, length, get_or, set, take, refl, ap, sym, ◌∙◌, subst, inl, inr, arith, Bool, true, false, replicate, bit_or, cond, eqb, get_or-set_same, get_or-set_other, add-one}
+use Rattle.std.proofs.Common.{◌≡◌, ◌≢◌, ℕ, zero, suc, ◌+◌, ◌-◌, ◌*◌, ◌/◌, ◌%◌, ◌^◌, ◌<◌, ◌≤◌, ◌⊎◌, ◌↔◌, List, [], ◌∷◌, ◌++◌, length, get_or, set, take, refl, ap, sym, ◌∙◌, subst, inl, inr, arith, Bool, true, false, replicate, bit_or, cond, eqb, get_or-set_same, get_or-set_other, add-one}
 use Rattle.std.specs.Prelude.{AllPairs, All, Any, IsTrue}
 use Rattle.std.specs.Int.{bit_at}
 use Rattle.std.specs.List.{zip}
-use Rattle.std.proofs.lemmas.Bool.{cases_eq}
+use Rattle.std.proofs.lemmas.Bool.{cases_eq, cases_lt}
 use Rattle.std.proofs.lemmas.List.{length-take-le, get_or-take, take_more, take_more_same, get_or_default}
-use Rattle.std.proofs.lemmas.Nat.{le_or_l, or_comm, or_lt}
-use Rattle.std.proofs.lemmas.Nat.Bits.{same_from_bits, bit_at-zero, bit_at_or, bit_at-pow_same, bit_at-pow_other}
+use Rattle.std.proofs.lemmas.Nat.{le_or_l, or_comm, or_lt, pow_pos, div-add-mod'}
+use Rattle.std.proofs.lemmas.Nat.Bits.{same_from_bits, bit_at-zero, bit_at_or, bit_at-pow_same, bit_at-pow_other, bit_at_above, bit_at_cat_low, bit_at_cat_high}
+use Rattle.std.proofs.Math.Nat.{mod-lt, mod-eq_of_lt}
+use Rattle.std.proofs.Math.Pow.{pow-lt}
 use Rattle.std.proofs.lemmas.Slice.Zip.{length-zip, get_or-zip}
 use Rattle.ld_graph.specs.Inside.Bits.{has_bit}
-use Rattle.ld_graph.specs.Inside.WordTable.{IsAmong, IsTable, HasWord, StandsAt, AreWords, UnitesPair, HasBit}
+use Rattle.ld_graph.specs.Inside.WordTable.{IsAmong, IsTable, HasWord, StandsAt, AreWords, UnitesPair, HasBit, TakesRun}
 use Rattle.ld_graph.specs.WordLaws.{bits_if, bits_if-same, bits_if-other, bits_of-append, or_zero, or_assoc, bit_or-bits}
 use Rattle.ld_graph.specs.WordPairs.{bits_of}
 use Rattle.ld_graph.proofs.BitLemmas.{has_bit-zeros, zeros_at}
@@ -312,3 +314,134 @@ has_bit-cleared seen word n l h = elim (cases_eq (n / 64) word) [
       let off : has_bit (set seen word 0) n ≡ false = ap (λ w. eqb (bit_at w (n % 64)) 1) zero ∙ ap (λ b. eqb b 1) (bit_at-zero (n % 64)) in cc)
   | inr ne ↦ (ne, subst (λ w. eqb (bit_at w (n % 64)) 1 ≡ true) (get_or-set_other seen word (n / 64) 0 0 ne) h)
 ]
+
+-- ---- a run of bits
+pub HasBit-word : (old new : List (ℕ × ℕ)) (word bits : ℕ) → UnitesPair old new word bits →
+    (n : ℕ) → HasBit new n ↔ (HasBit old n ⊎ ((n / 64 ≡ word) × (bit_at bits (n % 64) ≡ 1)))
+HasBit-word old new word bits unites n =
+    let mine : ℕ = bits_if (n / 64) (word, bits) in
+    let both = bit_or-bits (bits_of (n / 64) old) mine (n % 64) in
+    let is : bit_at (bits_of (n / 64) new) (n % 64) ≡ bit_at (bit_or (bits_of (n / 64) old) mine) (n % 64) = ap (λ b. bit_at b (n % 64)) (unites (n / 64)) in (
+      (λ h. elim (both.0 (sym is ∙ h)) [
+        | inl o ↦ inl o
+        | inr m ↦ elim (cases_eq (n / 64) word) [
+          | inl e ↦ inr (e, ap (λ b. bit_at b (n % 64)) (sym (bits_if-same (n / 64) (word, bits) e)) ∙ m)
+          | inr ne ↦ absurd (let z : bit_at (bits_if (n / 64) (word, bits)) (n % 64) ≡ 0 =
+              ap (λ b. bit_at b (n % 64)) (bits_if-other (n / 64) (word, bits) ne) ∙ bit_at-zero (n % 64) in omega arith)
+        ]
+      ]),
+      (λ h. is ∙ both.1 (elim h [
+        | inl o ↦ inl o
+        | inr (e, on) ↦ inr (ap (λ b. bit_at b (n % 64)) (bits_if-same (n / 64) (word, bits) e) ∙ on)
+      ])),
+    )
+
+-- the bits of a word that is shifted to the left, of which those past the last are lost, and to the right
+bit_at-low : (x k i : ℕ) → i < k → bit_at (x % 2 ^ k) i ≡ bit_at x i
+bit_at-low x k i l = sym (bit_at_cat_low (x / 2 ^ k) k (x % 2 ^ k) i l) ∙ ap (λ y. bit_at y i) (div-add-mod' x (2 ^ k))
+
+pub bit_at-shl : (x s i : ℕ) → i < 64 → s ≤ i → bit_at (x * 2 ^ s % 2 ^ 64) i ≡ bit_at x (i - s)
+bit_at-shl x s i l from =
+    bit_at-low (x * 2 ^ s) 64 i l ∙ ap (λ y. bit_at y i) (let e : x * 2 ^ s ≡ x * 2 ^ s + 0 = omega arith in e) ∙
+    bit_at_cat_high x s 0 i (pow_pos s) from
+
+pub bit_at-shl_below : (x s i : ℕ) → i < 64 → i < s → bit_at (x * 2 ^ s % 2 ^ 64) i ≡ 0
+bit_at-shl_below x s i l below =
+    bit_at-low (x * 2 ^ s) 64 i l ∙ ap (λ y. bit_at y i) (let e : x * 2 ^ s ≡ x * 2 ^ s + 0 = omega arith in e) ∙
+    bit_at_cat_low x s 0 i below ∙ bit_at-zero i
+
+pub bit_at-shr : (x t i : ℕ) → bit_at (x / 2 ^ t) i ≡ bit_at x (i + t)
+bit_at-shr x t i =
+    ap (bit_at (x / 2 ^ t)) (let e : i ≡ i + t - t = omega arith in e) ∙
+    sym (bit_at_cat_high (x / 2 ^ t) t (x % 2 ^ t) (i + t) (mod-lt x (pow_pos t)) (omega arith)) ∙
+    ap (λ y. bit_at y (i + t)) (div-add-mod' x (2 ^ t))
+
+-- a bit of a short run
+short_bit : (run k : ℕ) → run < 2 ^ 9 → bit_at run k ≡ 1 → k < 9
+short_bit run k short on = elim (cases_lt k 9) [
+  | inl l ↦ l
+  | inr past ↦ absurd (let z = bit_at_above run 9 k short past in omega arith)
+]
+
+-- the bits of a run in its first word
+low_bit : (first run n : ℕ) → n / 64 ≡ first / 64 → bit_at (run * 2 ^ (first % 64) % 2 ^ 64) (n % 64) ≡ 1 →
+    (k : ℕ) × (bit_at run k ≡ 1) × (n ≡ first + k)
+low_bit first run n e on = elim (cases_lt (n % 64) (first % 64)) [
+  | inl below ↦ absurd (let z = bit_at-shl_below run (first % 64) (n % 64) (omega arith) below in omega arith)
+  | inr from ↦ (n % 64 - first % 64, sym (bit_at-shl run (first % 64) (n % 64) (omega arith) from) ∙ on, omega arith)
+]
+
+bit_low : (first run n k : ℕ) → bit_at run k ≡ 1 → n ≡ first + k → first % 64 + k < 64 →
+    (n / 64 ≡ first / 64) × (bit_at (run * 2 ^ (first % 64) % 2 ^ 64) (n % 64) ≡ 1)
+bit_low first run n k on is l =
+    let place : n % 64 - first % 64 ≡ k = omega arith in
+    (omega arith, bit_at-shl run (first % 64) (n % 64) (omega arith) (omega arith) ∙ ap (bit_at run) place ∙ on)
+
+-- a run that stays in its word
+pub TakesRun-one : (old new : List (ℕ × ℕ)) (first run : ℕ) → run < 2 ^ 9 → first % 64 ≤ 55 → AreWords new →
+    length new ≤ length old + 1 → UnitesPair old new (first / 64) (run * 2 ^ (first % 64) % 2 ^ 64) → TakesRun old new first run
+TakesRun-one old new first run short inside words few unites = record {
+  words = words;
+  few = omega arith;
+  bits = λ n. (
+    (λ h. elim ((HasBit-word old new (first / 64) (run * 2 ^ (first % 64) % 2 ^ 64) unites n).0 h) [
+      | inl o ↦ inl o
+      | inr (e, on) ↦ inr (low_bit first run n e on)
+    ]),
+    (λ h. (HasBit-word old new (first / 64) (run * 2 ^ (first % 64) % 2 ^ 64) unites n).1 (elim h [
+      | inl o ↦ inl o
+      | inr (k, on, is) ↦ inr (bit_low first run n k on is (let l = short_bit run k short on in omega arith))
+    ])),
+  );
+}
+
+-- a run that goes on in the next word
+pub TakesRun-two : (old mid new : List (ℕ × ℕ)) (first run : ℕ) → run < 2 ^ 9 → 55 < first % 64 → AreWords new →
+    length mid ≤ length old + 1 → length new ≤ length mid + 1 → UnitesPair old mid (first / 64) (run * 2 ^ (first % 64) % 2 ^ 64) →
+    UnitesPair mid new (first / 64 + 1) (run / 2 ^ (64 - first % 64)) → TakesRun old new first run
+TakesRun-two old mid new first run short past words few_mid few low high = record {
+  words = words;
+  few = omega arith;
+  bits = λ n.
+      let one = HasBit-word old mid (first / 64) (run * 2 ^ (first % 64) % 2 ^ 64) low n in
+      let two = HasBit-word mid new (first / 64 + 1) (run / 2 ^ (64 - first % 64)) high n in (
+        (λ h. elim (two.0 h) [
+          | inl m ↦ elim (one.0 m) [ inl o ↦ inl o | inr (e, on) ↦ inr (low_bit first run n e on) ]
+          | inr (e, on) ↦ inr (n % 64 + (64 - first % 64), sym (bit_at-shr run (64 - first % 64) (n % 64)) ∙ on, omega arith)
+        ]),
+        (λ h. elim h [
+          | inl o ↦ two.1 (inl (one.1 (inl o)))
+          | inr (k, on, is) ↦ elim (cases_lt (first % 64 + k) 64) [
+            | inl l ↦ two.1 (inl (one.1 (inr (bit_low first run n k on is l))))
+            | inr g ↦
+                let l = short_bit run k short on in
+                let place : n % 64 + (64 - first % 64) ≡ k = omega arith in
+                two.1 (inr (omega arith, bit_at-shr run (64 - first % 64) (n % 64) ∙ ap (bit_at run) place ∙ on))
+          ]
+        ]),
+      );
+}
+
+pub one_shl : (k : ℕ) → k < 64 → 1 * 2 ^ k % 2 ^ 64 ≡ 2 ^ k
+one_shl k l = let small : 2 ^ k < 2 ^ 64 = pow-lt l in let one : 1 * 2 ^ k ≡ 2 ^ k = omega arith in ap (λ x. x % 2 ^ 64) one ∙ mod-eq_of_lt small
+
+-- one bit more
+pub bit_or-pow : (run place k : ℕ) → (bit_at (bit_or run (2 ^ place)) k ≡ 1) ↔ ((bit_at run k ≡ 1) ⊎ (place ≡ k))
+bit_or-pow run place k = (
+  (λ h. elim ((bit_or-bits run (2 ^ place) k).0 h) [
+    | inl o ↦ inl o
+    | inr m ↦ elim (cases_eq k place) [ inl e ↦ inr (sym e) | inr ne ↦ absurd (let z = bit_at-pow_other place k ne in omega arith) ]
+  ]),
+  (λ h. (bit_or-bits run (2 ^ place) k).1 (elim h [
+    | inl o ↦ inl o
+    | inr e ↦ inr (ap (bit_at (2 ^ place)) (sym e) ∙ bit_at-pow_same place)
+  ])),
+)
+
+-- no bits change nothing
+pub UnitesPair-none : (pairs : List (ℕ × ℕ)) (word bits : ℕ) → bits ≡ 0 → UnitesPair pairs pairs word bits
+UnitesPair-none pairs word bits none n =
+    sym (ap (bit_or (bits_of n pairs)) (elim (cases_eq n word) [
+      | inl e ↦ bits_if-same n (word, bits) e ∙ none
+      | inr ne ↦ bits_if-other n (word, bits) ne
+    ]) ∙ or_zero (bits_of n pairs))

@@ -5,13 +5,13 @@ ghost use Rattle.std.specs.Option.{ForSome};
 ghost use Rattle.ld_task.specs.Chains.{ChainKeysBelow};
 ghost use Rattle.ld_graph.specs.FactBits.{FactBelow};
 ghost use Rattle.ld_graph.specs.Inside.ChainFacts.{fact_slots};
-ghost use Rattle.ld_graph.specs.Inside.WordTable.{AreWords, HasWord, StandsAt, UnitesPair, TakesFact, Gathered};
+ghost use Rattle.ld_graph.specs.Inside.WordTable.{AreWords, HasWord, StandsAt, UnitesPair, TakesFact, TakesRun, TakesMarkBit, Gathered};
 ghost use Rattle.ld_graph.specs.WordPairs.{AreWordsOf};
 ghost use Rattle.ld_task.specs.declared.lock.TheConstants.{MAX_HELD};
 ghost use Rattle.ld_trace.specs.declared.key_id.TheConstants.{MAX_KEYS};
 
-use crate::chain_facts::{MARKS_OPENED, MARKS_TAKEN};
-use crate::fact::Fact;
+use crate::chain_facts::MARKS_TAKEN;
+use crate::fact::{Fact, first_mark, mark_index};
 use crate::{bits, chain_facts};
 use ld_task::{Chain, Frame};
 use ld_trace::{KeyId, Mode};
@@ -19,6 +19,9 @@ use std::marker::Model;
 
 // The most words that hold a chain's facts: those of the two marks that an opening gives each of 48 held locks.
 const MAX_WORDS: usize = 96;
+
+// How long the run of a key's marks is.
+const RUN_LEN: usize = 9;
 
 // How many words a bit for each word of facts takes: there are at most 4,132.
 const SEEN_WORDS: usize = 65;
@@ -129,9 +132,11 @@ impl FactWords {
         requires before { Gathered keys chain.now self.old (length chain.now.held_locks) }
         ensures { Gathered keys chain.now self.new (fact_slots chain.now) }
     {
+        let mut run = 0;
         for n in 0..MARKS_TAKEN {
-            self.add_if(chain_facts::mark_of_new(chain, n, key, mode, frame), keys);
+            run = with_mark(run, chain_facts::mark_of_new(chain, n, key, mode, frame));
         }
+        self.add_run(first_mark(keys, key.get()), run);
     }
 
     // Adds the marks that an opening gives.
@@ -142,15 +147,17 @@ impl FactWords {
         requires none { self.old ≡ [] }
         ensures { Gathered keys chain.now self.new (fact_slots chain.now) }
     {
-        for n in 0..chain.held_len() * MARKS_OPENED {
-            self.add_if(
-                chain_facts::mark_of_old(chain, n / MARKS_OPENED, n % MARKS_OPENED),
-                keys,
-            );
+        for i in 0..chain.held_len() {
+            if let Some((key, _)) = chain.held(i) {
+                let run = with_mark(0, chain_facts::mark_of_old(chain, i, 0));
+                let run = with_mark(run, chain_facts::mark_of_old(chain, i, 1));
+                self.add_run(first_mark(keys, key.get()), run);
+            }
         }
     }
 
     // Adds a fact's bit, where there is a fact.
+    #[inline(always)]
     fn add_if(&mut self, fact: Option<Fact>, keys: u16)
         requires room { length self.old < MAX_WORDS }
         requires few { keys ≤ MAX_KEYS }
@@ -164,19 +171,52 @@ impl FactWords {
     }
 
     // Sets bit `n`.
+    #[inline(always)]
     fn add(&mut self, n: usize)
         requires room { length self.old < MAX_WORDS }
         requires low { n < 64 * (64 * SEEN_WORDS) }
+        requires words { AreWords self.old }
         ensures bits { UnitesPair self.old self.new (n / 64) (2 ^ (n % 64)) }
         ensures words { AreWords self.new }
         ensures few { length self.new ≤ length self.old + 1 }
     {
-        let word = n / 64;
-        let bit = 1 << (n % 64);
+        self.add_bits(n / 64, 1 << (n % 64));
+    }
+
+    // Adds the nine bits of a run, from bit `first` on.
+    #[inline(always)]
+    fn add_run(&mut self, first: usize, run: u64)
+        requires room { length self.old + 2 ≤ MAX_WORDS }
+        requires low { first + RUN_LEN ≤ 64 * (64 * SEEN_WORDS) }
+        requires short { run < 2 ^ RUN_LEN }
+        requires words { AreWords self.old }
+        ensures { TakesRun self.old self.new first run }
+    {
+        let word = first / 64;
+        let shift = first % 64;
+        self.add_bits(word, run << shift);
+        if shift > 64 - RUN_LEN {
+            self.add_bits(word + 1, run >> (64 - shift));
+        }
+    }
+
+    // Adds bits of a word.
+    #[inline(always)]
+    fn add_bits(&mut self, word: usize, bits: u64)
+        requires room { length self.old < MAX_WORDS }
+        requires low { word < 64 * SEEN_WORDS }
+        requires words { AreWords self.old }
+        ensures bits { UnitesPair self.old self.new word bits }
+        ensures words { AreWords self.new }
+        ensures few { length self.new ≤ length self.old + 1 }
+    {
+        if bits == 0 {
+            return;
+        }
         if bits::has(&self.seen, word) {
-            self.unite(word as u16, bit);
+            self.unite(word as u16, bits);
         } else {
-            self.push(word as u16, bit);
+            self.push(word as u16, bits);
         }
     }
 
@@ -217,6 +257,18 @@ impl FactWords {
             i -= 1;
         }
         i
+    }
+}
+
+// The run of a key's marks with that of a fact, where there is one and it is a mark. Each mark has its place among the nine.
+fn with_mark(run: u64, fact: Option<Fact>) -> u64
+    requires short { run < 2 ^ RUN_LEN }
+    ensures short { result < 2 ^ RUN_LEN }
+    ensures bits { TakesMarkBit run result fact }
+{
+    match fact {
+        Some(Fact::Marked { mark, .. }) => run | 1 << mark_index(mark),
+        _ => run,
     }
 }
 

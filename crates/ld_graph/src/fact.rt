@@ -1,6 +1,6 @@
 //! Single facts, and their numbers as bits.
 
-ghost use Rattle.std.specs.Prelude.{◌≡◌, ◌<◌, ◌≤◌, ◌↔◌, IsTrue};
+ghost use Rattle.std.specs.Prelude.{◌≡◌, ◌+◌, ◌*◌, ◌<◌, ◌≤◌, ◌↔◌, IsTrue};
 ghost use Rattle.ld_graph.specs.Numbers.{kind_number, mark_index, fact_number, dependency_total, bit_total};
 ghost use Rattle.ld_graph.specs.FactBits.{FactBelow};
 ghost use Rattle.ld_trace.specs.declared.key_id.TheConstants.{MAX_KEYS};
@@ -58,8 +58,18 @@ fn mark_number(keys: u16, key: u16, mark: Mark) -> usize
     ensures value { result ≡ fact_number keys (Fact.Marked key mark) }
     ensures within { result < bit_total keys }
 {
+    first_mark(keys, key) + mark_index(mark)
+}
+
+// The number of the bit of a key's first mark. The nine marks of a key stand in a row.
+pub(crate) fn first_mark(keys: u16, key: u16) -> usize
+    requires few { keys ≤ MAX_KEYS }
+    requires key { key < keys }
+    ensures value { result ≡ dependency_total keys + key * 9 }
+    ensures within { result + 9 ≤ bit_total keys }
+{
     let n = usize::from(keys);
-    n * n * 4 + (usize::from(key) * 9 + mark_index(mark))
+    n * n * 4 + usize::from(key) * 9
 }
 
 // The place of a kind among the four of its keys.
@@ -76,7 +86,7 @@ fn kind_number(kind: Kind) -> usize
 }
 
 // The place of a mark among the nine of its key.
-fn mark_index(mark: Mark) -> usize
+pub(crate) fn mark_index(mark: Mark) -> usize
     ensures value { result ≡ mark_index mark }
     ensures below { result < 9 }
 {

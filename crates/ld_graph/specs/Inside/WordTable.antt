@@ -4,10 +4,12 @@ use Rattle.ld_graph.specs.declared.chain_words.TheConstants.{MAX_WORDS, SEEN_WOR
 use Rattle.ld_graph.specs.Inside.Bits.{has_bit}
 use Rattle.std.specs.Int.{bit_at}
 use Rattle.ld_task.specs.Chains.{ChainParts}
-use Rattle.ld_graph.specs.Inside.ChainFacts.{StandsIn}
-use Rattle.ld_graph.specs.Numbers.{fact_number}
+use Rattle.ld_graph.specs.Inside.ChainFacts.{chain_fact, StandsIn}
+use Rattle.ld_graph.specs.Numbers.{fact_number, mark_index}
 use Rattle.ld_graph.specs.WordPairs.{bits_of}
+use Rattle.ld_task.specs.declared.mark.Mark.{Mark}
 use Rattle.ld_graph.specs.declared.fact.Fact.{Fact}
+use Rattle.ld_graph.specs.declared.fact.Fact.TheVariants.{Marked}
 
 -- word n is among the first `len` places
 abbrev pub IsAmong : List ℕ → ℕ → ℕ → Type 0
@@ -52,6 +54,23 @@ pub record TakesFact (keys : ℕ) (old new : List (ℕ × ℕ)) (fact : Option F
   pub words : AreWords new
   pub few : length new ≤ length old + 1
   pub bits : (n : ℕ) → HasBit new n ↔ (HasBit old n ⊎ ((x : Fact) × (fact ≡ Some x) × (fact_number keys x ≡ n)))
+
+-- the bits of the run are added, from that bit on
+pub record TakesRun (old new : List (ℕ × ℕ)) (first run : ℕ) : Type 0 where
+  pub words : AreWords new
+  pub few : length new ≤ length old + 2
+  pub bits : (n : ℕ) → HasBit new n ↔ (HasBit old n ⊎ ((k : ℕ) × (bit_at run k ≡ 1) × (n ≡ first + k)))
+
+-- the run gets the bit of the fact's mark, if there is a fact and it is a mark
+abbrev pub TakesMarkBit : (old new : ℕ) → Option Fact → Type 0
+TakesMarkBit old new fact = (k : ℕ) → (bit_at new k ≡ 1) ↔
+    ((bit_at old k ≡ 1) ⊎ ((key : ℕ) × (mark : Mark) × (fact ≡ Some (Marked key mark)) × (mark_index mark ≡ k)))
+
+-- the run has the bits of the facts in the chain's slots from the first to before the last, which are marks of the key
+pub record IsRunOf (c : ChainParts) (key first last run : ℕ) : Type 0 where
+  pub only : (n : ℕ) (x : Fact) → first ≤ n → n < last → chain_fact c n ≡ Some x → (mark : Mark) × (x ≡ Marked key mark)
+  pub bits : (k : ℕ) → (bit_at run k ≡ 1) ↔
+      ((mark : Mark) × (n : ℕ) × (first ≤ n) × (n < last) × (chain_fact c n ≡ Some (Marked key mark)) × (mark_index mark ≡ k))
 
 -- the pairs have the bits of the facts in the chain's first slots, and no others
 pub record Gathered (keys : ℕ) (c : ChainParts) (pairs : List (ℕ × ℕ)) (slots : ℕ) : Type 0 where
