@@ -7,7 +7,8 @@ use Rattle.std.specs.Int.{bit_at, trailing_zeros}
 use Rattle.std.proofs.lemmas.Bool.{lt-ltb, le-ltb, cases_lt, cases_eq}
 use Rattle.std.proofs.lemmas.Nat.Bits.{bit_at-zero, bit_at-trailing_zeros}
 use Rattle.ld_task.specs.Chains.{ChainParts, ChainKeysBelow, key_and_mode}
-use Rattle.ld_task.specs.Marks.{is_read, marks_taken, marks_opened}
+use Rattle.ld_task.specs.Marks.{marks_taken, marks_opened}
+use Rattle.ld_trace.specs.Modes.{is_read}
 use Rattle.ld_trace.specs.declared.event.Mode.{Mode}
 use Rattle.ld_task.specs.declared.frame.Flags.{Flags}
 use Rattle.ld_task.specs.declared.frame.Frame.{Frame}

@@ -1,7 +1,8 @@
 use Rattle.std.proofs.Common.{arith, ◌≡◌, ◌+◌, ◌*◌, ◌<◌, ◌∙◌, ap, sym, subst, length}
 use Rattle.std.specs.Prelude.{IfSome}
 use Rattle.ld_task.specs.declared.lock.Lock.{Lock}
-use Rattle.ld_task.specs.Marks.{is_read, marks_taken}
+use Rattle.ld_task.specs.Marks.{marks_taken}
+use Rattle.ld_trace.specs.Modes.{is_read}
 use Rattle.ld_graph.specs.Inside.ChainFacts.{chain_fact, mark_by_taking}
 use Rattle.ld_graph.specs.Inside.WordTable.{Gathered, IsRunOf, TakesRun}
 use Rattle.ld_graph.specs.Numbers.{dependency_total}
