@@ -3,6 +3,8 @@
 
 mod board;
 mod board_fault;
+#[cfg(test)]
+mod board_tests;
 mod fault;
 mod gate;
 mod runs;
