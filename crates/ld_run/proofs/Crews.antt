@@ -62,9 +62,6 @@ least-push traces ws w refused so_far its =
     (λ i l. let p = Any-push (λ v. HasDrawn v i) ws w in (p.1, p.0))
     (earlier_refused refused w.refused) (least-both traces (SomeHasDrawn ws) (HasDrawn w) refused w.refused so_far its)
 
-pub least-nobody : (traces : List (List Event)) → LeastRefusedIs traces (SomeHasDrawn []) None
-least-nobody traces = λ i t (k, w, l, e, h) at. absurd (omega (arith, l))
-
 -- ---- who has claimed a number
 Contains-from_times : (x : ℕ) (xs : List ℕ) → 0 < times x xs → Contains xs x
 Contains-from_times x [] h = absurd (omega (arith, h))
@@ -115,10 +112,6 @@ Any-map f P (x ∷ xs) any = elim (Any-cases (λ z. P (f z)) x xs any) [
   | inl here ↦ Any-here P (f x) (map f xs) here
   | inr others ↦ Any-later P (f x) (map f xs) (Any-map f P xs others)
 ]
-
--- of some worker what holds of all
-Any-all : {X : Type 0} (P Q R : X → Type 0) → ((x : X) → P x → Q x → R x) → (xs : List X) → Any P xs → All Q xs → Any R xs
-Any-all P Q R both xs (k, x, l, e, h) all = (k, x, l, e, both x h (subst Q e (all k x l)))
 
 -- ---- what one worker of a run has done
 abbrev pub IsDone : (keys : ℕ) → List (List Event) → Worked → Type 0

@@ -35,23 +35,3 @@ pub read_is : (xs : List ℕ) (i a : ℕ) → get_elem? xs i ≡ some a → get_
 read_is [] i a e = absurd (some-ne-none a (sym e))
 read_is (x ∷ xs) zero a e = some-injective x a e
 read_is (x ∷ xs) (suc i) a e = read_is xs i a e
-
--- what a seat claimed is among what all claimed
-pub claims_in : (v : View) (ss : List Seat) (x k : ℕ) (d : Seat) → k < length ss → times x (view (get_or ss k d)).claimed ≤ times x (joined_onto v ss).claimed
-claims_in v [] x k d l = absurd (omega arith)
-claims_in v (s ∷ ss) x zero d l = let e = times_append x (joined_onto v ss).claimed (view s).claimed in omega arith
-claims_in v (s ∷ ss) x (suc k) d l = let e = times_append x (joined_onto v ss).claimed (view s).claimed in let h = claims_in v ss x k d (omega arith) in omega arith
-
-once_positive : (x n : ℕ) → 0 < once_below x n → x < n
-once_positive x n h = grind (arith, nat_tests)
-
--- a number that a seat claimed is below a count of all
-pub claimed_below : (ss : List Seat) (k n count : ℕ) (d : Seat) (before : List ℕ) → k < length ss → (view (get_or ss k d)).claimed ≡ n ∷ before
-    → ((x : ℕ) → times x (gathered ss).claimed ≡ once_below x count) → n < count
-claimed_below ss k n count d before l is all =
-    let g : ℕ = times n (gathered ss).claimed in
-    let t : ℕ = times n (view (get_or ss k d)).claimed in
-    let h : t ≤ g = claims_in (newcomer 0) ss n k d l in
-    let e : g ≡ once_below n count = all n in
-    let one : t ≡ 1 + times n before = ap (times n) is ∙ ap (λ (b : Bool). cond b 1 0 + times n before) (eq-eqb n n refl) in
-    once_positive n count (omega arith)

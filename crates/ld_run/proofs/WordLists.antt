@@ -114,24 +114,7 @@ all_from_pairs (x ∷ xs) s each n = within_both (cond (eqb n x.0) x.1 0) (bits_
 pub pairs_from_all : (facts s : List (ℕ × ℕ)) → ((n : ℕ) → Within (bits_of n facts) (bits_of n s)) → (k : ℕ) (d : ℕ × ℕ) → k < length facts → Within (get_or facts k d).1 (bits_of (get_or facts k d).0 s)
 pairs_from_all facts s all k d l = within_through (get_or facts k d).1 (bits_of (get_or facts k d).0 facts) (bits_of (get_or facts k d).0 s) (pair_in facts k d l) (all (get_or facts k d).0)
 
--- a bit of a word stands there only where some pair has it
-pub bit_from : (n b : ℕ) (ps : List (ℕ × ℕ)) (d : ℕ × ℕ) → bit_at (bits_of n ps) b ≡ 1 → (k : ℕ) × (k < length ps) × (n ≡ (get_or ps k d).0) × (bit_at (get_or ps k d).1 b ≡ 1)
-bit_from n b [] d h = absurd (omega (arith, bit_at-zero b))
-bit_from n b (p ∷ ps) d h = dite (ℕ_discrete n p.0)
-    (λ same. dite (ℕ_discrete (bit_at p.1 b) 1) (λ one. (0, omega arith, same, one))
-    (λ other. later (ap (λ (t : Bool). bit_at (cond t p.1 0) b) (eq-eqb n p.0 same)) other (bit_from n b ps d)))
-    (λ other. later (ap (λ (t : Bool). bit_at (cond t p.1 0) b) (ne_eqb n p.0 other) ∙ bit_at-zero b) (λ e. omega arith) (bit_from n b ps d))
-  where
-    later : {m : ℕ} → bit_at (cond (eqb n p.0) p.1 0) b ≡ m → m ≢ 1 → (bit_at (bits_of n ps) b ≡ 1 → (k : ℕ) × (k < length ps) × (n ≡ (get_or ps k d).0) × (bit_at (get_or ps k d).1 b ≡ 1))
-        → (k : ℕ) × (k < length (p ∷ ps)) × (n ≡ (get_or (p ∷ ps) k d).0) × (bit_at (get_or (p ∷ ps) k d).1 b ≡ 1)
-    later {m} e other rest =
-        let s = bit_at_or (cond (eqb n p.0) p.1 0) (bits_of n ps) b in
-        let small = bit_at-lt (bits_of n ps) b in
-        let r = rest (grind arith) in
-        let l = r.1 in
-        (suc r.0, omega arith, r.2, r.3)
-
--- and wherever one has it
+-- a bit of a word stands there wherever some pair has it
 pub bit_into : (n b : ℕ) (ps : List (ℕ × ℕ)) (k : ℕ) (d : ℕ × ℕ) → k < length ps → n ≡ (get_or ps k d).0 → bit_at (get_or ps k d).1 b ≡ 1 → bit_at (bits_of n ps) b ≡ 1
 bit_into n b [] k d l same one = absurd (omega arith)
 bit_into n b (p ∷ ps) zero d l same one =

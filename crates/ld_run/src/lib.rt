@@ -22,5 +22,4 @@ pub use gate::{Gate, OpenGate};
 pub use runs::{MAX_TRACES, MAX_WORKERS, run};
 pub use seat::{MAX_CLAIMS, Seat};
 pub use settled::{Settled, settle};
-pub use view::View;
 pub use worker::{Worked, work};

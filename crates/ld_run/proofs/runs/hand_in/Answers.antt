@@ -4,7 +4,7 @@ use Rattle.ld_run.specs.Tallies.{LeastRefusedIs}
 use Rattle.ld_run.specs.Inside.Crews.{HasDrawn, SomeHasDrawn}
 use Rattle.ld_run.specs.declared.seat.Seat.{Seat}
 use Rattle.ld_run.specs.declared.worker.Worked.{Worked}
-use Rattle.ld_run.proofs.Crews.{least-nobody, least-push}
+use Rattle.ld_run.proofs.Crews.{least-push}
 use Rattle.ld_run.proofs.SeatLists.{all_last}
 use Rattle.ld_run.proofs.runs.hand_in.Goals as goal
 
