@@ -2,4 +2,5 @@ pub mod Bits
 pub mod ChainFacts
 pub mod Kept
 pub mod Places
+pub mod Searching
 pub mod Tables
