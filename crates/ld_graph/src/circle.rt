@@ -1,12 +1,12 @@
 //! Circles: closed strong walks.
 
-ghost use Rattle.std.specs.Prelude.{◌≡◌, ◌+◌, ◌*◌, ◌<◌, ◌≤◌, ◌↔◌, [], ◌∷◌, IsTrue, length, option_map, slice_get};
+ghost use Rattle.std.specs.Prelude.{◌≡◌, ◌+◌, ◌*◌, ◌<◌, ◌≤◌, ◌↔◌, [], ◌∷◌, IfSome, IsTrue, length, option_map, slice_get};
 ghost use Rattle.ld_task.specs.Kinds.{is_s};
 ghost use Rattle.ld_trace.specs.declared.key_id.TheConstants.{MAX_KEYS};
 ghost use Rattle.ld_graph.specs.Circles.{arrow_of, arrow_parts};
 ghost use Rattle.ld_graph.specs.Numbers.{kind_number};
 ghost use Rattle.ld_graph.specs.Inside.Places.{arrival, LeavesFrom};
-ghost use Rattle.ld_graph.specs.Inside.Searching.{row_place};
+ghost use Rattle.ld_graph.specs.Inside.Searching.{IsOfKeys, row_place};
 ghost use Rattle.ld_graph.specs.declared.places.TheConstants.{PLACES};
 
 use crate::fact::kind_number;
@@ -40,7 +40,7 @@ impl Dependency {
     // One that arrives at the place.
     pub(crate) fn into_place(place: usize) -> Dependency
         requires { place < PLACES }
-        ensures below { result.to < MAX_KEYS }
+        ensures keys { IsOfKeys result }
         ensures arrives { arrival (arrow_of result) ≡ place }
     {
         let keys = usize::from(MAX_KEYS);
@@ -75,9 +75,10 @@ impl Dependency {
 
     // The one from the key at that place of its row.
     pub(crate) fn at(from: u16, n: usize) -> Dependency
-        requires { n < MAX_KEYS * 4 }
+        requires from { from < MAX_KEYS }
+        requires at { n < MAX_KEYS * 4 }
+        ensures keys { IsOfKeys result }
         ensures from { result.from ≡ from }
-        ensures to { result.to < MAX_KEYS }
         ensures at { row_place result.to result.kind ≡ n }
     {
         Dependency {
@@ -119,16 +120,16 @@ pub struct Circle {
 }
 
 impl Model for Circle {
-    ghost use Rattle.std.specs.Prelude.{List, ◌≤◌, length};
+    ghost use Rattle.std.specs.Prelude.{List};
     ghost use Rattle.ld_graph.specs.Arrows.{Arrow};
     ghost use Rattle.ld_graph.specs.Circles.{forwards};
-    ghost use Rattle.ld_graph.specs.declared.circle.TheConstants.{MAX_CIRCLE};
+    ghost use Rattle.ld_graph.specs.Inside.Searching.{AreMembers};
 
     ghost Value = { List Arrow };
 
     ghost view = { λ c. forwards c.backwards.items };
 
-    ghost invariant = { λ c. length c.backwards.items ≤ MAX_CIRCLE };
+    ghost invariant = { λ c. AreMembers c.backwards.items };
 }
 
 impl Circle {
@@ -143,7 +144,8 @@ impl Circle {
 
     // Puts a dependency before the others.
     pub(crate) fn put_first(&mut self, dependency: Dependency)
-        requires { length self.old < MAX_CIRCLE }
+        requires room { length self.old < MAX_CIRCLE }
+        requires keys { IsOfKeys dependency }
         ensures { self.new ≡ arrow_of dependency ∷ self.old }
     {
         self.backwards.push(dependency);
@@ -158,9 +160,10 @@ impl Circle {
     }
 
     /// The dependency at place `i`, counted from 0: the key that it leads from, the key that it leads to, and its kind.
-    /// None where there is none.
+    /// None where there is none. Both keys are below 256.
     pub fn get(&self, i: usize) -> Option<(u16, u16, Kind)>
-        ensures { result ≡ option_map arrow_parts (slice_get self.now i) }
+        ensures value { result ≡ option_map arrow_parts (slice_get self.now i) }
+        ensures below { IfSome result (λ d. (d.0 < MAX_KEYS) × (d.1 < MAX_KEYS)) }
     {
         let len = self.backwards.len();
         if i >= len {

@@ -7,8 +7,7 @@ ghost use Rattle.ld_graph.specs.FactBits.{FactParts, HasFact};
 ghost use Rattle.ld_graph.specs.Facts.{DependenciesOf};
 ghost use Rattle.ld_graph.specs.Inside.Bits.{has_bit};
 ghost use Rattle.ld_graph.specs.Inside.Places.{arrival, Leaves};
-ghost use Rattle.ld_graph.specs.Inside.Searching.{AreSteps, FindsGoal, GoesTo, Hits, LeadsBack, Misses, NoGoalBy, SeesAllFrom, StandsAt, Takes, Visits};
-ghost use Rattle.ld_trace.specs.declared.key_id.TheConstants.{MAX_KEYS};
+ghost use Rattle.ld_graph.specs.Inside.Searching.{AreSteps, FindsGoal, GoesTo, Hits, IsOfKeys, LeadsBack, Misses, NoGoalBy, SeesAllFrom, StandsAt, Takes, Visits};
 ghost use Rattle.ld_graph.specs.declared.circle.TheConstants.{MAX_CIRCLE};
 
 use crate::bits;
@@ -67,7 +66,7 @@ impl Search {
 
     // Begins again, where the dependency arrives.
     fn restart(&mut self, start: Dependency)
-        requires { start.to < MAX_KEYS }
+        requires { IsOfKeys start }
         ensures steps { self.new.steps ≡ record { dependency = start; before = 0 } ∷ [] }
         ensures seen { (q : ℕ) → IsFalse (has_bit self.new.seen q) }
     {
@@ -81,7 +80,7 @@ impl Search {
 
     // Takes a step, where it arrives at a place within that was not seen, and answers whether that is a goal.
     fn visit(&mut self, within: &Row, goal: &Row, step: Step) -> bool
-        requires to { step.dependency.to < MAX_KEYS }
+        requires { IsOfKeys step.dependency }
         ensures { Visits within.now goal.now step self.old self.new result }
     {
         let place = step.dependency.arrival();
@@ -145,7 +144,7 @@ impl Search {
         start: Dependency,
         bound: usize,
     ) -> Option<usize>
-        requires { start.to < MAX_KEYS }
+        requires { IsOfKeys start }
         ensures none { IsNone result → (n : ℕ) → n < bound
             → NoGoalBy facts.now within.now goal.now (arrival (arrow_of start)) n }
         ensures some { IfSome result (λ n. (0 < n) × (n < bound)

@@ -8,6 +8,7 @@ use Rattle.ld_graph.specs.Facts.{DependenciesOf}
 use Rattle.ld_graph.specs.FactBits.{FactParts, HasFact}
 use Rattle.ld_graph.specs.Numbers.{kind_number}
 use Rattle.ld_graph.specs.Inside.Bits.{has_bit, count_below}
+use Rattle.ld_graph.specs.declared.circle.TheConstants.{MAX_CIRCLE}
 use Rattle.ld_graph.specs.declared.places.TheConstants.{PLACES, ROW_WORDS}
 use Rattle.ld_trace.specs.declared.key_id.TheConstants.{MAX_KEYS}
 use Rattle.ld_graph.specs.Inside.Places.{arrival, Leaves, Leads}
@@ -15,6 +16,15 @@ use Rattle.ld_graph.specs.Walks.{ClosedWalk}
 use Rattle.ld_graph.specs.declared.fact.Fact.TheVariants.{Dependency as Depends}
 use Rattle.ld_graph.specs.declared.circle.Dependency.{Dependency}
 use Rattle.ld_graph.specs.declared.search.Step.{Step}
+
+-- both its keys are such as there can be
+abbrev pub IsOfKeys : Dependency → Type 0
+IsOfKeys d = (d.from < MAX_KEYS) × (d.to < MAX_KEYS)
+
+-- the members of a circle: as many as there can be keys, or fewer
+pub record AreMembers (members : List Dependency) : Type 0 where
+  pub few : length members ≤ MAX_CIRCLE
+  pub below : (i : ℕ) (d : Dependency) → slice_get members i ≡ Some d → IsOfKeys d
 
 -- ---- the dependencies from one key, in a row
 -- the place of a dependency to that key among those from its start
@@ -24,7 +34,7 @@ row_place to kind = to * 4 + kind_number kind
 -- the first dependency from the key that stands at the place n or later
 pub record IsNextFrom (facts : FactParts) (key n : ℕ) (d : Dependency) : Type 0 where
   pub from_is : d.from ≡ key
-  pub to_below : d.to < MAX_KEYS
+  pub below : IsOfKeys d
   pub has : HasFact facts (Depends d.from d.to d.kind)
   pub onwards : n ≤ row_place d.to d.kind
   pub first : (to : ℕ) (kind : Kind) → n ≤ row_place to kind → row_place to kind < row_place d.to d.kind →
@@ -56,7 +66,7 @@ pub record SearchParts : Type 0 where
 pub record HasRoom (steps : List Step) (seen : List ℕ) : Type 0 where
   pub words : length seen ≡ ROW_WORDS
   pub room : length steps ≤ count_below (has_bit seen) PLACES + 1
-  pub below : (i : ℕ) (step : Step) → slice_get steps i ≡ Some step → step.dependency.to < MAX_KEYS
+  pub below : (i : ℕ) (step : Step) → slice_get steps i ≡ Some step → IsOfKeys step.dependency
 
 -- where a step arrives
 abbrev pub stands_at : Step → ℕ

@@ -39,7 +39,7 @@ loop-dependency-preserved c =
                 c.loop-dependency.invariant.scans c.in-Some.dependency next
                 (λ after. let t : c.may_go_on.result ≡ true = c.may_go_on.ensures.1 after in let f = w.if-may_go_on.false in cc))
           ]);
-      few = let l = row_place-lt c.in-Some.dependency.to c.in-Some.dependency.kind next.to_below in let e = c.row_place-n.ensures in omega arith;
+      few = let l = row_place-lt c.in-Some.dependency.to c.in-Some.dependency.kind next.below.1 in let e = c.row_place-n.ensures in omega arith;
     }
 
 pub returns-clause-missed : goal.returns-clause-missed
@@ -50,7 +50,7 @@ returns-clause-missed c =
       c.loop-dependency.invariant.scans.missed,
       SeesAll-scanned c.args.facts.now c.args.within.now c.args.goal.now c.args.i (get_or c.as_slice.result.now c.args.i blank).dependency c.loop-dependency.n c.args.self.now c.loop-dependency.self
           c.loop-dependency.invariant.scans c.in_default.ensures.few
-          (c.self.invariant.below c.args.i (get_or c.as_slice.result.now c.args.i blank) (step_read c.as_slice.result.now c.self.inside.steps.items c.args.i c.as_slice.ensures.value within))
+          (c.self.invariant.below c.args.i (get_or c.as_slice.result.now c.args.i blank) (step_read c.as_slice.result.now c.self.inside.steps.items c.args.i c.as_slice.ensures.value within)).1
           (λ step is. ap (λ s. s.dependency) (same_Some step (get_or c.as_slice.result.now c.args.i blank) (sym is ∙ read)))
           (c.in_default.ensures.none refl),
     )

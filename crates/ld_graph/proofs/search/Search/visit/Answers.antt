@@ -1,5 +1,5 @@
 use Rattle.std.proofs.Common.{◌≡◌, ◌<◌, ◌∙◌, sym, ap, length, inl, inr, subst, false, arith, slice_get}
-use Rattle.ld_trace.specs.declared.key_id.TheConstants.{MAX_KEYS}
+use Rattle.ld_graph.specs.Inside.Searching.{IsOfKeys}
 use Rattle.ld_graph.specs.declared.places.TheConstants.{PLACES}
 use Rattle.ld_graph.specs.Inside.Bits.{has_bit, count_below}
 use Rattle.ld_graph.proofs.BitLemmas.{count_below-room, count_below-one_more}
@@ -27,6 +27,6 @@ invariant_of-self c =
       room = let l = c.push.ensures.len in let before = c.self.invariant.room in omega arith;
       below = λ i step h. elim (slice_get_push_cases c.self.inside.steps.items c.args.step i step (sym (ap (λ items. slice_get items i) c.push.ensures.items) ∙ h)) [
         | inl before ↦ c.self.invariant.below i step before
-        | inr (at, same) ↦ subst (λ s. s.dependency.to < MAX_KEYS) same c.requires.to
+        | inr (at, same) ↦ subst (λ s. IsOfKeys s.dependency) same c.requires
       ];
     }

@@ -36,3 +36,10 @@ loop-done-preserved c = record {
       (GoesBack-step facts c.args.self.now.steps (c.args.count - (c.loop-done.done + 1)) c.loop-done.i q c.loop-done.way (get_or c.as_slice.result.now c.loop-done.i blank) read
       (subst (λ k. GoesBack facts c.args.self.now.steps k c.loop-done.i c.loop-done.way q) left (c.loop-done.invariant.back facts q leads)));
 }
+
+pub put_first-requires-clause-keys : goal.put_first-requires-clause-keys
+put_first-requires-clause-keys c =
+    let l : c.loop-done.i < length c.args.self.now.steps = inside (goal.at.put_first-requires-clause-keys c).After-as_slice in
+    let within : c.loop-done.i < length c.self.inside.steps.items = let f = ap length (ap (λ v. v.steps) c.self.view_is) in omega arith in
+    c.self.invariant.below c.loop-done.i (get_or c.as_slice.result.now c.loop-done.i blank)
+    (step_read c.as_slice.result.now c.self.inside.steps.items c.loop-done.i c.as_slice.ensures.value within)
