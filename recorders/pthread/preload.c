@@ -440,8 +440,12 @@ struct held {
     uint8_t mode;
     bool written;        /* there is a record of it */
     uint64_t hash;       /* of the locks up to this one */
-    uint64_t start;      /* how many records there were when it was taken */
-    uint64_t start_hash; /* of the locks that were held then */
+};
+
+/* The last time that a lock was taken on top of so many others. */
+struct level {
+    uint64_t start; /* how many records there were before it */
+    uint64_t hash;  /* of the locks that were held then */
 };
 
 struct thread {
@@ -450,13 +454,13 @@ struct thread {
     size_t bytes;
     int fd;
     uint32_t depth;
-    uint64_t fresh_end;   /* behind the last record of something new */
-    uint64_t empty_start; /* how many records there were when nothing was held last */
-    uint64_t *seen;       /* a set of the ways in which a class was taken under others */
+    uint64_t fresh_end; /* behind the last record of something new */
+    uint64_t *seen;     /* a set of the ways in which a class was taken under others */
     size_t seen_mask, seen_used;
     uint32_t epoch;
     int destructor_rounds;
     struct held held[RAW_HELD];
+    struct level levels[RAW_HELD];
 };
 
 static __thread struct thread *own __attribute__((tls_model("initial-exec")));
@@ -657,14 +661,11 @@ static void release_at(struct thread *t, uint32_t i, const struct stack *stack) 
     memmove(&t->held[i], &t->held[i + 1], (t->depth - i - 1) * sizeof t->held[0]);
     t->depth--;
     rehash_from(t, i);
-    if (was_newest && hash_of_held(t) == gone.start_hash && take_back(t, gone.start))
-        return;
-    if (t->depth == 0 && take_back(t, t->empty_start))
+    const struct level *last = &t->levels[t->depth];
+    if (was_newest && hash_of_held(t) == last->hash && take_back(t, last->start))
         return;
     if (gone.written && make_room(t))
         put_record(t, raw_what(gone.class, MODE_RELEASE), place_of(stack));
-    if (t->depth == 0)
-        t->empty_start = t->header->count;
 }
 
 /* Drops the locks that another thread released meanwhile. */
@@ -691,8 +692,9 @@ static void push_held(struct thread *t, uintptr_t lock, uint8_t mode, struct slo
     uint32_t class = slot->value;
     struct held *h = &t->held[t->depth];
     uint64_t before = hash_of_held(t), start = t->header->count;
-    *h = (struct held){.lock = lock, .class = class, .foreign = slot->foreign, .mode = mode, .start = start,
-                       .start_hash = before, .hash = hash_with(before, class, mode)};
+    *h = (struct held){.lock = lock, .class = class, .foreign = slot->foreign, .mode = mode,
+                       .hash = hash_with(before, class, mode)};
+    t->levels[t->depth] = (struct level){.start = start, .hash = before};
     bool fresh = is_fresh(t, mixed(h->hash));
     if (start >= RAW_LIMIT)
         t->header->left_out.full++;

@@ -1,11 +1,12 @@
 -- The facts at a chain's places are those of the chain.
-use Rattle.std.proofs.Common.{◌≡◌, ℕ, ◌+◌, ◌-◌, ◌*◌, ◌/◌, ◌%◌, ◌<◌, List, length, get_or, refl, ap, sym, ◌∙◌, subst, inl, inr, arith, Bool, true, false, Option, Some, None}
+use Rattle.std.proofs.Common.{◌≡◌, ℕ, ◌+◌, ◌-◌, ◌*◌, ◌/◌, ◌%◌, ◌<◌, List, length, get_or, refl, ap, sym, ◌∙◌, subst, inl, inr, arith, Bool, true, false, ◌&&◌, Option, Some, None, if◌then◌else◌}
 use Rattle.std.specs.Prelude.{Contains, IfSome, slice_get}
 use Rattle.std.proofs.lemmas.Bool.{cases_lt, cases_Bool, lt-ltb, le-ltb, and_parts}
 use Rattle.std.proofs.lemmas.List.Elements.{All-contains}
 use Rattle.std.proofs.lemmas.Option.{slice_get-get_or, slice_get_past, same_Some, none-some}
 use Rattle.ld_trace.specs.declared.event.Irq.TheVariants.{Hard, Soft}
 use Rattle.ld_trace.specs.declared.event.Mode.{Mode}
+use Rattle.ld_trace.specs.Modes.{is_read, may_wait}
 use Rattle.ld_task.specs.declared.frame.Flags.{Flags}
 use Rattle.ld_task.specs.declared.frame.Frame.{Frame}
 use Rattle.ld_task.specs.declared.lock.Lock.{Lock}
@@ -14,10 +15,10 @@ use Rattle.ld_task.specs.declared.mark.Mark.TheVariants.{Used, UsedIn, Enabled}
 use Rattle.ld_task.specs.Chains.{ChainParts, ChainKeysBelow}
 use Rattle.ld_task.specs.Kinds.{kind_between}
 use Rattle.ld_task.specs.Flags.{is_enabled}
-use Rattle.ld_task.specs.Marks.{is_read, is_in, same_form, marks_taken, marks_opened}
+use Rattle.ld_task.specs.Marks.{is_in, same_form, marks_taken, marks_opened}
 use Rattle.ld_graph.specs.Facts.{ChainHas}
 use Rattle.ld_graph.specs.FactBits.{FactBelow}
-use Rattle.ld_graph.specs.Inside.ChainFacts.{chain_fact, fact_by, fact_slots, mark_if, mark_of_held, mark_by_taking, mark_by_opening}
+use Rattle.ld_graph.specs.Inside.ChainFacts.{chain_fact, fact_by, fact_slots, mark_if, mark_of_held, mark_by_taking, mark_by_opening, StandsIn}
 use Rattle.ld_graph.specs.declared.fact.Fact.{Fact}
 use Rattle.ld_graph.specs.declared.fact.Fact.TheVariants.{Dependency, Marked}
 
@@ -55,8 +56,8 @@ taking_place-lt (Enabled Soft read) = omega arith
 mark_by_taking-place : (mode : Mode) (frame : Frame) (flags : Flags) (m : Mark) → marks_taken mode frame flags m ≡ true →
     mark_by_taking (is_read mode) (taking_place m) ≡ m
 mark_by_taking-place mode frame flags Used h = refl
-mark_by_taking-place mode frame flags (UsedIn Hard read) h = ap (UsedIn Hard) (sym (same_form-same read (is_read mode) (and_parts (is_in Hard frame) (same_form read (is_read mode)) h).1))
-mark_by_taking-place mode frame flags (UsedIn Soft read) h = ap (UsedIn Soft) (sym (same_form-same read (is_read mode) (and_parts (is_in Soft frame) (same_form read (is_read mode)) h).1))
+mark_by_taking-place mode frame flags (UsedIn Hard read) h = ap (UsedIn Hard) (sym (same_form-same read (is_read mode) (and_parts (may_wait mode && is_in Hard frame) (same_form read (is_read mode)) h).1))
+mark_by_taking-place mode frame flags (UsedIn Soft read) h = ap (UsedIn Soft) (sym (same_form-same read (is_read mode) (and_parts (may_wait mode && is_in Soft frame) (same_form read (is_read mode)) h).1))
 mark_by_taking-place mode frame flags (Enabled Hard read) h = ap (Enabled Hard) (sym (same_form-same read (is_read mode) (and_parts (is_enabled Hard flags) (same_form read (is_read mode)) h).1))
 mark_by_taking-place mode frame flags (Enabled Soft read) h = ap (Enabled Soft) (sym (same_form-same read (is_read mode) (and_parts (is_enabled Soft flags) (same_form read (is_read mode)) h).1))
 
@@ -79,6 +80,11 @@ mark_by_opening-place mode flags (UsedIn irq read) h = absurd (let f : false ≡
 mark_by_opening-place mode flags (Enabled Hard read) h = ap (Enabled Hard) (sym (same_form-same read (is_read mode) (and_parts (is_enabled Hard flags) (same_form read (is_read mode)) h).1))
 mark_by_opening-place mode flags (Enabled Soft read) h = ap (Enabled Soft) (sym (same_form-same read (is_read mode) (and_parts (is_enabled Soft flags) (same_form read (is_read mode)) h).1))
 
+-- what is there only where a test passes
+some-if : (test : Bool) (y x : Fact) → (if test then Some y else None) ≡ Some x → (test ≡ true) × (y ≡ x)
+some-if true y x e = (refl, same_Some y x e)
+some-if false y x e = absurd (none-some x e)
+
 -- ---- what stands at a place is a fact of the chain
 held_at : (locks : List Lock) (i : ℕ) (d : Lock) → i < length locks → Contains locks (get_or locks i d)
 held_at locks i d l = (i, l, Rattle.std.proofs.lemmas.List.get_or_default locks i (get_or locks i d) d l)
@@ -88,10 +94,12 @@ fact_by-taking c new frame n x is e =
     elim (cases_lt n (length c.held_locks)) [
       | inl l ↦
           let old : Lock = get_or c.held_locks n new in
-          let at : fact_by (Some (new, frame)) c n ≡ Some (Dependency old.key new.key (kind_between old.mode new.mode)) =
+          let d : Fact = Dependency old.key new.key (kind_between old.mode new.mode) in
+          let at : fact_by (Some (new, frame)) c n ≡ (if may_wait new.mode then Some d else None) =
           rw (lt-ltb n (length c.held_locks) l, slice_get-get_or c.held_locks n new l) refl in
-          subst (ChainHas c) (same_Some (Dependency old.key new.key (kind_between old.mode new.mode)) x (sym at ∙ e))
-          (record { old = old; new = new; frame = frame; is_held = held_at c.held_locks n new l; is_new = is; from_is = refl; to_is = refl; how = refl })
+          let got = some-if (may_wait new.mode) d x (sym at ∙ e) in
+          subst (ChainHas c) got.1
+          (record { old = old; new = new; frame = frame; is_held = held_at c.held_locks n new l; is_new = is; waits = got.0; from_is = refl; to_is = refl; how = refl })
       | inr g ↦
           let m : Mark = mark_by_taking (is_read new.mode) (n - length c.held_locks) in
           let at : fact_by (Some (new, frame)) c n ≡ mark_if (marks_taken new.mode frame c.flags) new.key m = rw (le-ltb n (length c.held_locks) g) refl in
@@ -120,15 +128,12 @@ chain_fact-sound c n x e = pick c.new_lock refl e
     pick (Some new) is h = fact_by-taking c new.0 new.1 n x is h
 
 -- ---- each fact of the chain stands at a place
-abbrev pub StandsIn : ChainParts → Fact → ℕ → Type 0
-StandsIn c x bound = (n : ℕ) × (n < bound) × (chain_fact c n ≡ Some x)
-
 pub chain_fact-complete : (c : ChainParts) (x : Fact) → ChainHas c x → StandsIn c x (fact_slots c)
 chain_fact-complete c (Dependency from to kind) h =
     let (k, l, at) = h.is_held in
     let slots : fact_slots c ≡ length c.held_locks + 5 = rw h.is_new refl in
     let here : chain_fact c k ≡ Some (Dependency h.old.key h.new.key (kind_between h.old.mode h.new.mode)) =
-    rw (h.is_new, lt-ltb k (length c.held_locks) l, slice_get-get_or c.held_locks k h.old l, at) refl in
+    rw (h.is_new, lt-ltb k (length c.held_locks) l, slice_get-get_or c.held_locks k h.old l, at, h.waits) refl in
     (k, omega arith, here ∙ rw (h.from_is, h.to_is, h.how) refl)
 chain_fact-complete c (Marked key mark) (inl h) =
     let n : ℕ = length c.held_locks + taking_place mark in

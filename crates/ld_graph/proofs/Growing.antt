@@ -5,9 +5,9 @@ use Rattle.std.proofs.lemmas.Option.{same_Some}
 use Rattle.ld_task.specs.Chains.{ChainParts}
 use Rattle.ld_graph.specs.Facts.{ChainHas, Holds, Adds}
 use Rattle.ld_graph.specs.FactBits.{FactParts, HasFact}
-use Rattle.ld_graph.specs.Inside.ChainFacts.{chain_fact, fact_slots}
+use Rattle.ld_graph.specs.Inside.ChainFacts.{chain_fact, fact_slots, StandsIn}
 use Rattle.ld_graph.specs.declared.fact.Fact.{Fact}
-use Rattle.ld_graph.proofs.ChainFacts.{StandsIn, chain_fact-sound, chain_fact-complete}
+use Rattle.ld_graph.proofs.ChainFacts.{chain_fact-sound, chain_fact-complete}
 
 -- the facts at the chain's first n slots have been added, and `fresh` says whether one was new
 pub record Grown (first now : FactParts) (c : ChainParts) (n : ℕ) (fresh : Bool) : Type 0 where
@@ -29,10 +29,10 @@ neither false b h = (refl, h)
 neither true b h = absurd (let e : true ≡ false = h in cc)
 
 -- one slot more
-StandsIn-later : (c : ChainParts) (x : Fact) (n : ℕ) → StandsIn c x n → StandsIn c x (n + 1)
+pub StandsIn-later : (c : ChainParts) (x : Fact) (n : ℕ) → StandsIn c x n → StandsIn c x (n + 1)
 StandsIn-later c x n (k, l, e) = (k, omega arith, e)
 
-StandsIn-cases : (c : ChainParts) (x : Fact) (n : ℕ) → StandsIn c x (n + 1) → StandsIn c x n ⊎ (chain_fact c n ≡ Some x)
+pub StandsIn-cases : (c : ChainParts) (x : Fact) (n : ℕ) → StandsIn c x (n + 1) → StandsIn c x n ⊎ (chain_fact c n ≡ Some x)
 StandsIn-cases c x n (k, l, e) =
     elim (cases_eq k n) [
       | inl same ↦ inr (subst (λ m. chain_fact c m ≡ Some x) same e)

@@ -99,6 +99,10 @@ dependency-lt keys from to kind lf lt = grow (from * keys + to) (keys * keys) (m
 pub mark-lt : (keys key : ℕ) (mark : Mark) → key < keys → key * 9 + mark_index mark < mark_total keys
 mark-lt keys key mark l = let p = mul-add-lt key 9 (mark_index mark) keys l (mark_index-lt mark) in omega arith
 
+pub fact_number-lt : (keys : ℕ) (x : Fact) → FactBelow keys x → fact_number keys x < bit_total keys
+fact_number-lt keys (Dependency from to kind) (lf, lt) = omega (arith, dependency-lt keys from to kind lf lt)
+fact_number-lt keys (Marked key mark) l = omega (arith, mark-lt keys key mark l)
+
 -- ---- a number is that of one fact
 pub fact_number-same : (keys : ℕ) (x y : Fact) → FactBelow keys x → FactBelow keys y → fact_number keys x ≡ fact_number keys y → x ≡ y
 fact_number-same keys (Dependency a b k) (Dependency c d m) (la, lb) (lc, ld) e =

@@ -1,5 +1,5 @@
 -- Facts word by word.
-use Rattle.std.proofs.Common.{◌≡◌, ℕ, ◌+◌, ◌*◌, ◌/◌, ◌%◌, ◌<◌, ◌≤◌, ◌||◌, List, length, get_or, refl, ap, sym, ◌∙◌, subst, inl, inr, arith, Bool, true, false, eqb, eq-eqb, eqb-true}
+use Rattle.std.proofs.Common.{◌≡◌, ℕ, ◌+◌, ◌*◌, ◌/◌, ◌%◌, ◌<◌, ◌≤◌, ◌||◌, List, [], ◌∷◌, length, get_or, ◌↔◌, refl, ap, sym, ◌∙◌, subst, inl, inr, arith, Bool, true, false, eqb, eq-eqb, eqb-true}
 use Rattle.std.specs.Cmp.{both_ways}
 use Rattle.std.specs.Int.{bit_at}
 use Rattle.std.proofs.lemmas.Bool.{cases_eq, cases_lt, or_cases, or_left, or_right}
@@ -9,6 +9,8 @@ use Rattle.ld_graph.specs.Inside.Bits.{has_bit}
 use Rattle.ld_graph.specs.Numbers.{fact_number, bit_total}
 use Rattle.ld_graph.specs.Facts.{AreSame, Adds}
 use Rattle.ld_graph.specs.FactBits.{FactParts, FactBelow, HasFact, AreFacts, SetsBit, UnitesWord}
+use Rattle.ld_graph.specs.WordLaws.{bits_if, bits_if-same, bits_if-other, or_zero}
+use Rattle.ld_graph.specs.WordPairs.{bits_of, PairsHave}
 use Rattle.ld_graph.proofs.Numbers.{fact_of}
 
 -- a bit of a word
@@ -152,3 +154,35 @@ AreSame-bits a b fa fb keys same = (
     | inr past ↦ fa.none_past n past ∙ sym (fb.none_past n (subst (λ k. bit_total k ≤ n) keys past))
   ],
 )
+
+-- ---- what the bits of a word stand for
+pub Adds-word : (old new : FactParts) (n bits : ℕ) → UnitesWord old new n bits →
+    Adds (HasFact old) (HasFact new) (PairsHave old.keys ((n, bits) ∷ []))
+Adds-word old new n bits unites x =
+    let b : ℕ = fact_number old.keys x in
+    let mine : bits_of (b / 64) ((n, bits) ∷ []) ≡ bits_if (b / 64) (n, bits) = or_zero (bits_if (b / 64) (n, bits)) in
+    let now : HasFact new x ↔ (FactBelow old.keys x × (has_bit new.words b ≡ true)) = (
+      (λ h. subst (λ k. FactBelow k x × (has_bit new.words (fact_number k x) ≡ true)) unites.keys h),
+      (λ h. subst (λ k. FactBelow k x × (has_bit new.words (fact_number k x) ≡ true)) (sym unites.keys) h),
+    ) in
+    elim (cases_eq (b / 64) n) [
+      | inr ne ↦
+          let none : bit_at (bits_of (b / 64) ((n, bits) ∷ [])) (b % 64) ≡ 0 = ap (λ w. bit_at w (b % 64)) (mine ∙ bits_if-other (b / 64) (n, bits) ne) ∙ bit_at-zero (b % 64) in (
+            (λ h. let o = now.0 h in inl (o.0, sym (unites.others b ne) ∙ o.1)),
+            (λ h. elim h [ inl o ↦ now.1 (o.0, unites.others b ne ∙ o.1) | inr o ↦ absurd (omega (arith, o.1, none)) ]),
+          )
+      | inl e ↦
+          let is : bit_at (bits_of (b / 64) ((n, bits) ∷ [])) (b % 64) ≡ bit_at bits (b % 64) = ap (λ w. bit_at w (b % 64)) (mine ∙ bits_if-same (b / 64) (n, bits) e) in
+          let at : n * 64 + b % 64 ≡ b = omega arith in
+          let set : has_bit new.words b ≡ (has_bit old.words b || eqb (bit_at bits (b % 64)) 1) =
+          subst (λ m. has_bit new.words m ≡ (has_bit old.words m || eqb (bit_at bits (b % 64)) 1)) at (unites.within (b % 64) (omega arith)) in (
+            (λ h. let o = now.0 h in elim (or_cases (has_bit old.words b) (eqb (bit_at bits (b % 64)) 1) (sym set ∙ o.1)) [
+              | inl y ↦ inl (o.0, y)
+              | inr y ↦ inr (o.0, is ∙ eqb-true (bit_at bits (b % 64)) 1 y)
+            ]),
+            (λ h. now.1 (elim h [
+              | inl o ↦ (o.0, set ∙ or_left (has_bit old.words b) (eqb (bit_at bits (b % 64)) 1) o.1)
+              | inr o ↦ (o.0, set ∙ or_right (has_bit old.words b) (eqb (bit_at bits (b % 64)) 1) (eq-eqb (bit_at bits (b % 64)) 1 (sym is ∙ o.1)))
+            ])),
+          )
+    ]

@@ -4,3 +4,4 @@ pub mod Kept
 pub mod Places
 pub mod Searching
 pub mod Tables
+pub mod WordTable

@@ -1,5 +1,5 @@
 -- What holds of all facts: the laws that this crate proves of its definitions. A set of facts is a test in some of them.
-use Rattle.std.specs.Prelude.{◌≡◌, ℕ, ◌⊎◌, Bool, IsTrue, IsFalse, List, [], ◌∷◌, ◌++◌, Any}
+use Rattle.std.specs.Prelude.{◌≡◌, ℕ, ◌<◌, ◌⊎◌, Bool, IsTrue, IsFalse, List, [], ◌∷◌, ◌++◌, Any}
 use Rattle.ld_trace.specs.declared.event.Event.{Event}
 use Rattle.ld_trace.specs.declared.event.Irq.{Irq}
 use Rattle.ld_task.specs.declared.mark.Mark.TheVariants.{UsedIn, Enabled}
@@ -9,8 +9,9 @@ use Rattle.ld_task.specs.Kinds.{is_s, is_r}
 use Rattle.ld_graph.specs.Arrows.{Arrow}
 use Rattle.ld_graph.specs.Counting.{IsNumberOf}
 use Rattle.ld_graph.specs.Facts.{TraceHas, ChainHas, ChainsHave, AreSame, Adds, DependenciesOf}
-use Rattle.ld_graph.specs.FactBits.{FactParts, HasFact}
+use Rattle.ld_graph.specs.FactBits.{FactParts, FactBelow, HasFact}
 use Rattle.ld_graph.specs.Links.{IsDoubleBy, IsInversionWith}
+use Rattle.ld_graph.specs.Numbers.{bit_total, fact_number}
 use Rattle.ld_graph.specs.Walks.{ClosedWalk, IsShortestCircle}
 use Rattle.ld_graph.specs.declared.fact.Fact.{Fact}
 use Rattle.ld_graph.specs.declared.fact.Fact.TheVariants.{Dependency, Marked}
@@ -39,6 +40,20 @@ abbrev pub DependenciesHaveOneNumber : Type 0
 DependenciesHaveOneNumber = (traces : List (List Event)) (m n : ℕ) →
     IsNumberOf (DependenciesOf (λ x. Any (λ t. TraceHas t x) traces)) m →
     IsNumberOf (DependenciesOf (λ x. Any (λ t. TraceHas t x) traces)) n → m ≡ n
+
+-- ---- facts and bits
+-- a fact about keys below the bound has one of the bits
+abbrev pub FactsHaveBits : Type 0
+FactsHaveBits = (keys : ℕ) (x : Fact) → FactBelow keys x → fact_number keys x < bit_total keys
+
+-- each of the bits is a fact's
+abbrev pub EachBitIsAFacts : Type 0
+EachBitIsAFacts = (keys n : ℕ) → n < bit_total keys → (x : Fact) × FactBelow keys x × (fact_number keys x ≡ n)
+
+-- no two facts have one bit
+abbrev pub FactsHaveDifferentBits : Type 0
+FactsHaveDifferentBits = (keys : ℕ) (x y : Fact) → FactBelow keys x → FactBelow keys y →
+    fact_number keys x ≡ fact_number keys y → x ≡ y
 
 -- ---- what is new suffices
 -- the set of a test

@@ -1,12 +1,20 @@
 //! The facts of a chain, one after the other.
 
 ghost use Rattle.std.specs.Prelude.{◌≡◌, ◌+◌, ◌-◌, ◌*◌, ◌/◌, ◌%◌, ◌<◌, ◌≤◌, slice_get, if◌then◌else◌, length};
-ghost use Rattle.ld_task.specs.Marks.{is_read, marks_taken, marks_opened};
+ghost use Rattle.ld_task.specs.Marks.{marks_taken, marks_opened};
+ghost use Rattle.ld_trace.specs.Modes.{is_read};
 ghost use Rattle.ld_graph.specs.Inside.ChainFacts.{chain_fact, dependency_from, fact_slots, mark_if, mark_of_held, mark_by_taking, mark_by_opening};
 
 use crate::fact::Fact;
 use ld_task::{Chain, Frame, Kind, Mark};
 use ld_trace::{Irq, KeyId, Mode};
+
+// How many marks an acquisition may give: that the key is used, and for each state that it is used in it or with it
+// enabled.
+pub(crate) const MARKS_TAKEN: usize = 5;
+
+// How many marks an opening may give a held lock: one for each state.
+pub(crate) const MARKS_OPENED: usize = 2;
 
 // How many slots the chain has for facts. Some of them are empty.
 pub(crate) fn slots(chain: &Chain) -> usize
@@ -14,8 +22,8 @@ pub(crate) fn slots(chain: &Chain) -> usize
     ensures few { result ≤ 96 }
 {
     match chain.taken() {
-        Some(_) => chain.held_len() + 5,
-        None => chain.held_len() * 2,
+        Some(_) => chain.held_len() + MARKS_TAKEN,
+        None => chain.held_len() * MARKS_OPENED,
     }
 }
 
@@ -33,42 +41,53 @@ pub(crate) fn fact_at(chain: &Chain, n: usize) -> Option<Fact>
                 mark_of_new(chain, n - held, key, mode, frame)
             }
         }
-        None => mark_of_old(chain, n / 2, n % 2),
+        None => mark_of_old(chain, n / MARKS_OPENED, n % MARKS_OPENED),
     }
 }
 
-// The dependency from the held lock `i`, if there is one, to the new lock.
-fn dependency_of(chain: &Chain, i: usize, key: KeyId, mode: Mode) -> Option<Fact>
+// The dependency from the held lock `i`, if there is one, to the new lock, if that may be waited for.
+pub(crate) fn dependency_of(chain: &Chain, i: usize, key: KeyId, mode: Mode) -> Option<Fact>
     ensures { result ≡ dependency_from (slice_get chain.now.held_locks i)
         (record { key = key; mode = mode }) }
 {
     let (from, old) = chain.held(i)?;
-    Some(Fact::Dependency {
-        from: from.get(),
-        to: key.get(),
-        kind: Kind::between(old, mode),
-    })
+    if mode.may_wait() {
+        Some(Fact::Dependency {
+            from: from.get(),
+            to: key.get(),
+            kind: Kind::between(old, mode),
+        })
+    } else {
+        None
+    }
 }
 
 // The mark of number `n` below 5 on the new lock, if the acquisition gives it.
-fn mark_of_new(chain: &Chain, n: usize, key: KeyId, mode: Mode, frame: Frame) -> Option<Fact>
+pub(crate) fn mark_of_new(
+    chain: &Chain,
+    n: usize,
+    key: KeyId,
+    mode: Mode,
+    frame: Frame,
+) -> Option<Fact>
     ensures { result ≡ mark_if (marks_taken mode frame chain.now.flags) key
         (mark_by_taking (is_read mode) n) }
 {
-    let read = reads(mode);
+    let read = mode.is_read();
+    let waits = mode.may_wait();
     let flags = chain.flags();
     let (given, mark) = match n {
         0 => (true, Mark::Used),
-        1 => (frame == Frame::Hardirq, used_in(Irq::Hard, read)),
+        1 => (waits && frame == Frame::Hardirq, used_in(Irq::Hard, read)),
         2 => (flags.is_enabled(Irq::Hard), enabled(Irq::Hard, read)),
-        3 => (frame == Frame::Softirq, used_in(Irq::Soft, read)),
+        3 => (waits && frame == Frame::Softirq, used_in(Irq::Soft, read)),
         _ => (flags.is_enabled(Irq::Soft), enabled(Irq::Soft, read)),
     };
     mark_where(given, key, mark)
 }
 
 // The mark of number `n` below 2 on the held lock `i`, if there is one and the opening gives it.
-fn mark_of_old(chain: &Chain, i: usize, n: usize) -> Option<Fact>
+pub(crate) fn mark_of_old(chain: &Chain, i: usize, n: usize) -> Option<Fact>
     ensures { result ≡ mark_of_held (slice_get chain.now.held_locks i) chain.now.flags n }
 {
     let (key, mode) = chain.held(i)?;
@@ -76,7 +95,7 @@ fn mark_of_old(chain: &Chain, i: usize, n: usize) -> Option<Fact>
     mark_where(
         chain.flags().is_enabled(irq),
         key,
-        enabled(irq, reads(mode)),
+        enabled(irq, mode.is_read()),
     )
 }
 
@@ -106,11 +125,4 @@ fn mark_where(given: bool, key: KeyId, mark: Mark) -> Option<Fact>
     } else {
         None
     }
-}
-
-// Whether a lock taken in the mode is taken by a reader of either kind.
-fn reads(mode: Mode) -> bool
-    ensures { result ≡ is_read mode }
-{
-    matches!(mode, Mode::Read | Mode::RecRead)
 }

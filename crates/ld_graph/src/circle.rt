@@ -165,7 +165,7 @@ impl Circle {
         ensures value { result ≡ option_map arrow_parts (slice_get self.now i) }
         ensures below { IfSome result (λ d. (d.0 < MAX_KEYS) × (d.1 < MAX_KEYS)) }
     {
-        let len = self.backwards.len();
+        let len = self.len();
         if i >= len {
             return None;
         }

@@ -1,6 +1,6 @@
 //! Laws of the definitions, each carried by a function that does nothing.
 
-ghost use Rattle.ld_graph.specs.Laws.{DependenciesHaveOneNumber, ShortestCirclesTurn, TraceFactsAreTheChains, AddingInTurnUnites, NewCirclesHaveNewMembers, NewDoublesHaveNewMarks, NewInversionsHaveNewParts};
+ghost use Rattle.ld_graph.specs.Laws.{DependenciesHaveOneNumber, ShortestCirclesTurn, TraceFactsAreTheChains, AddingInTurnUnites, FactsHaveBits, EachBitIsAFacts, FactsHaveDifferentBits, NewCirclesHaveNewMembers, NewDoublesHaveNewMarks, NewInversionsHaveNewParts};
 
 /// The facts of a trace are those of its chains.
 pub fn trace_facts_are_the_chains()
@@ -18,6 +18,14 @@ pub fn dependencies_have_one_number()
 /// Adding chains one after the other gives the union of their facts.
 pub fn adding_in_turn_unites()
     ensures { AddingInTurnUnites }
+{}
+
+/// A fact about keys below a bound has one of the bits for that bound, each bit is a fact's, and no two facts have one
+/// bit.
+pub fn facts_are_bits()
+    ensures below { FactsHaveBits }
+    ensures each { EachBitIsAFacts }
+    ensures different { FactsHaveDifferentBits }
 {}
 
 /// What is new suffices to find what is wrong. A new closed walk has a new member, and can be turned to begin with it.

@@ -1,6 +1,8 @@
 //! What graphs say of small traces.
 
-use crate::{Facts, Graph, Kind, Mark};
+ghost use Rattle.ld_task.specs.Chains.{ChainKeysBelow};
+
+use crate::{Circle, FactWords, Facts, Graph, Kind, Mark, fact_words};
 use ld_task::{Chain, TaskState};
 use ld_trace::{Event, Irq, KeyId, MAX_KEYS, Mode};
 use std::alloc::{AllocError, Global};
@@ -384,5 +386,222 @@ fn facts_of_a_chain_are_added_and_united(rt: HostRuntime) -> Result<(), Fail> {
     assert!(rt; united.keys() == facts.keys());
     united.unite(&facts);
     assert!(rt; united.same(&facts));
+    Ok(())
+}
+
+// The chain of the last event that gives one.
+fn last_chain(events: &[Event]) -> Option<Chain> {
+    let mut state = TaskState::new();
+    let mut last = None;
+    for event in events {
+        if let Ok(Some(chain)) = state.step(*event) {
+            last = Some(chain);
+        }
+    }
+    last
+}
+
+// Unites the words of a chain with the facts, one by one.
+fn unite_words(facts: &mut Facts, chain: &Chain)
+    requires { ChainKeysBelow facts.old.keys chain.now }
+{
+    let words = fact_words(chain, facts.keys());
+    for i in 0..words.len() {
+        if let Some((n, bits)) = words.get(i) {
+            facts.unite_word(n, bits);
+        }
+    }
+}
+
+#[test]
+fn the_facts_of_a_chain_are_bits_of_one_word(rt: HostRuntime) -> Result<(), Fail> {
+    let chain = last_chain(&[write(A), write(B)]).ok_or("a chain")?;
+    assert!(rt; chain.keys_below(2));
+    let mut words = FactWords::new();
+    assert_eq!(rt; words.len(), 0);
+    words.set_to(&chain, 2);
+    assert_eq!(rt; words.len(), 1);
+    let bits = 1 << 5 | 1 << 25 | 1 << 28 | 1 << 32;
+    assert!(rt; words.get(0) == Some((0, bits)) && words.get(1).is_none());
+
+    let alone = last_chain(&[write(A)]).ok_or("a chain")?;
+    assert!(rt; alone.keys_below(2));
+    words.set_to(&alone, 2);
+    assert!(rt;
+        words.len() == 1 && words.get(0) == Some((0, 1 << 16 | 1 << 19 | 1 << 23)),
+        "nothing of the last chain is left"
+    );
+    Ok(())
+}
+
+#[test]
+fn words_hold_the_bits_of_the_facts(rt: HostRuntime) -> Result<(), Fail> {
+    let chain = last_chain(&[write(A), write(B)]).ok_or("a chain")?;
+    assert!(rt; chain.keys_below(2));
+    let mut facts = Facts::new(rt.alloc(), 2)?;
+    assert!(rt; facts.words() == 1 && facts.word(0) == Some(0) && facts.word(1).is_none());
+    facts.add_chain(&chain);
+    assert!(rt; facts.word(0) == Some(1 << 5 | 1 << 25 | 1 << 28 | 1 << 32));
+
+    let largest = Facts::new(rt.alloc(), MAX_KEYS)?;
+    assert_eq!(rt; largest.words(), 4132);
+    assert!(rt; largest.word(4131) == Some(0) && largest.word(4132).is_none());
+    Ok(())
+}
+
+#[test]
+fn words_are_united_one_by_one(rt: HostRuntime) -> Result<(), Fail> {
+    let mut facts = Facts::new(rt.alloc(), 3)?;
+    let mut united = Facts::new(rt.alloc(), 3)?;
+    let inner = last_chain(&[write(A), reread(C), read(B)]).ok_or("a chain")?;
+    let opening = last_chain(&[turn_off(Irq::Soft), read(C), write(A), turn_on(Irq::Soft)]).ok_or(
+        "a chain",
+    )?;
+    for chain in [&inner, &opening] {
+        assert!(rt; chain.keys_below(facts.keys()) && chain.keys_below(united.keys()));
+        facts.add_chain(chain);
+        assert!(rt; !united.same(&facts));
+        unite_words(&mut united, chain);
+        assert!(rt; united.same(&facts));
+    }
+    Ok(())
+}
+
+#[test]
+fn an_opening_marks_forty_eight_held_locks(rt: HostRuntime) -> Result<(), Fail> {
+    let mut events = vec![in rt.alloc(); turn_off(Irq::Hard)]?;
+    for i in 0..48u16 {
+        events.push(write(i * 5))?;
+    }
+    events.push(turn_on(Irq::Hard))?;
+    let chain = last_chain(&events).ok_or("a chain")?;
+    assert!(rt; chain.keys_below(MAX_KEYS));
+    let words = fact_words(&chain, MAX_KEYS);
+    // The marks stand from bit 262,144 on, nine a key: those of key 0 at 3 and 7, of key 5 at 48 and 52, and of key 235,
+    // the last, at 2,118 and 2,122.
+    assert_eq!(rt; words.len(), 34);
+    assert!(rt; words.get(0) == Some((4096, 1 << 3 | 1 << 7 | 1 << 48 | 1 << 52)));
+    assert!(rt; words.get(33) == Some((4129, 1 << 6 | 1 << 10)));
+    let mut facts = Facts::new(rt.alloc(), MAX_KEYS)?;
+    assert!(rt; chain.keys_below(facts.keys()));
+    unite_words(&mut facts, &chain);
+    assert!(rt; facts.marks() == 96 && facts.dependencies() == 0);
+    Ok(())
+}
+
+// Whether the circle has these members and no other, wherever it begins.
+fn has_members(circle: Option<Circle>, members: &[(u16, u16, Kind)]) -> bool {
+    let Some(circle) = circle else {
+        return false;
+    };
+    for member in members {
+        if !(0..circle.len()).any(|i| circle.get(i) == Some(*member)) {
+            return false;
+        }
+    }
+    circle.len() == members.len() && circle.get(members.len()) == None
+}
+
+#[test]
+fn a_shortest_circle_is_told(rt: HostRuntime) -> Result<(), Fail> {
+    let alloc = rt.alloc();
+    let both: [&[Event]; 2] = [&[write(A), write(B)], &[write(B), write(A)]];
+    let graph = graph_of(&rt, alloc, 2, &both)?;
+    assert!(rt;
+        has_members(
+            graph.shortest_circle(),
+            &[(A, B, Kind::En), (B, A, Kind::En)]
+        )
+    );
+    let beside: [&[Event]; 2] = [&[write(A), reread(B), write(C)], &[write(C), write(A)]];
+    let graph = graph_of(&rt, alloc, 3, &beside)?;
+    assert!(rt;
+        has_members(
+            graph.shortest_circle(),
+            &[(A, C, Kind::En), (C, A, Kind::En)]
+        )
+    );
+    let reader: [&[Event]; 2] = [&[write(A), reread(B)], &[write(B), write(A)]];
+    let graph = graph_of(&rt, alloc, 2, &reader)?;
+    assert!(rt;
+        has_members(
+            graph.shortest_circle(),
+            &[(A, B, Kind::Er), (B, A, Kind::En)]
+        )
+    );
+    let eight: [&[Event]; 4] = [
+        &[write(A), reread(B)],
+        &[read(B), write(A)],
+        &[write(B), write(C)],
+        &[write(C), write(B)],
+    ];
+    let graph = graph_of(&rt, alloc, 3, &eight)?;
+    assert!(rt;
+        has_members(
+            graph.shortest_circle(),
+            &[(B, C, Kind::En), (C, B, Kind::En)]
+        )
+    );
+    Ok(())
+}
+
+#[test]
+fn a_circle_of_one(rt: HostRuntime) -> Result<(), Fail> {
+    let alloc = rt.alloc();
+    let graph = graph_of(&rt, alloc, 1, &[&[write(A), reread(A)]])?;
+    assert!(rt; has_members(graph.shortest_circle(), &[(A, A, Kind::Er)]));
+    let graph = graph_of(&rt, alloc, 1, &[&[read(A), read(A)]])?;
+    assert!(rt; has_members(graph.shortest_circle(), &[(A, A, Kind::Sn)]));
+    let graph = graph_of(&rt, alloc, 1, &[&[reread(A), reread(A)]])?;
+    assert!(rt; graph.shortest_circle().is_none());
+    Ok(())
+}
+
+#[test]
+fn where_no_dependency_is_on_a_circle_there_is_no_shortest(rt: HostRuntime) -> Result<(), Fail> {
+    let alloc = rt.alloc();
+    assert!(rt; Graph::new(alloc, 2)?.shortest_circle().is_none());
+    let graph = graph_of(&rt, alloc, 3, &[&[write(A), write(B), give(A), write(C)]])?;
+    assert!(rt; graph.shortest_circle().is_none());
+    let half: [&[Event]; 2] = [&[write(A), reread(B)], &[read(B), write(A)]];
+    let graph = graph_of(&rt, alloc, 2, &half)?;
+    assert!(rt; graph.shortest_circle().is_none());
+    Ok(())
+}
+
+#[test]
+fn a_shorter_circle_is_told_before_a_longer(rt: HostRuntime) -> Result<(), Fail> {
+    let mut graph = Graph::new(rt.alloc(), 6)?;
+    replay(&rt, &mut graph, &[write(A), write(B)]);
+    replay(&rt, &mut graph, &[write(B), write(C)]);
+    replay(&rt, &mut graph, &[write(C), write(A)]);
+    replay(&rt, &mut graph, &[write(A), write(3)]);
+    let three = [(A, B, Kind::En), (B, C, Kind::En), (C, A, Kind::En)];
+    assert!(rt; has_members(graph.shortest_circle(), &three));
+    replay(&rt, &mut graph, &[write(4), write(5)]);
+    replay(&rt, &mut graph, &[write(5), write(4)]);
+    let two = [(4, 5, Kind::En), (5, 4, Kind::En)];
+    assert!(rt; has_members(graph.shortest_circle(), &two));
+    Ok(())
+}
+
+#[test]
+fn a_ring_of_all_keys_is_a_circle_of_as_many(rt: HostRuntime) -> Result<(), Fail> {
+    let mut graph = Graph::new(rt.alloc(), MAX_KEYS)?;
+    for number in 0..MAX_KEYS {
+        let mut state = TaskState::new();
+        for event in [write(number), write((number + 1) % MAX_KEYS)] {
+            if let Ok(Some(chain)) = state.step(event) {
+                assert!(rt; chain.keys_below(MAX_KEYS));
+                graph.add_chain(&chain);
+            }
+        }
+    }
+    let circle = graph.shortest_circle().ok_or("a circle")?;
+    assert_eq!(rt; circle.len(), 256);
+    for i in 0..256 {
+        let (from, to, kind) = circle.get(i).ok_or("a member")?;
+        assert!(rt; to == (from + 1) % MAX_KEYS && kind == Kind::En);
+    }
     Ok(())
 }

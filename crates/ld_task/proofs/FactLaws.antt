@@ -15,6 +15,7 @@ use Rattle.ld_task.specs.Frames.{kind}
 use Rattle.ld_task.specs.Flags.{flags_at}
 use Rattle.ld_task.specs.Held.{is_held}
 use Rattle.ld_task.specs.Dependencies.{IsDependency}
+use Rattle.ld_trace.specs.Modes.{may_wait}
 use Rattle.ld_task.specs.Kinds.{kind_between}
 use Rattle.ld_task.specs.Marks.{IsMarked, IsMarkedTaking, IsMarkedOpening, marks_taken, marks_opened}
 use Rattle.ld_task.specs.Chains.{ChainParts, ChainHasDependency, ChainHasMark, ChainMarksNew, ChainMarksHeld}
@@ -85,6 +86,7 @@ module _ (t : List Event) where
           frame = kind t d.j;
           is_held = is_held-among d.i d.j d.is_held;
           is_new = refl;
+          waits = subst (λ o. may_wait (mode_taken o) ≡ true) a.is_event d.waits;
           from_is = d.from_is;
           to_is = d.to_is ∙ ap key_taken a.is_event;
           how = d.how ∙ ap (λ o. kind_between (mode_taken (event t d.i)) (mode_taken o)) a.is_event;
@@ -100,6 +102,7 @@ module _ (t : List Event) where
           j = j;
           is_taken = ap is_acquire a.is_event;
           is_held = r.passes;
+          waits = subst (λ o. may_wait (mode_taken o) ≡ true) (sym a.is_event) (subst (λ (l : Lock). may_wait l.mode ≡ true) (sym taken) d.waits);
           from_is = d.from_is ∙ sym (ap (λ (l : Lock). l.key) r.gives);
           to_is = d.to_is ∙ sym (ap (λ (l : Lock). l.key) taken) ∙ sym (ap key_taken a.is_event);
           how =

@@ -8,6 +8,7 @@ use Rattle.ld_task.specs.declared.mark.Mark.{Mark}
 use Rattle.ld_task.specs.declared.lock.Lock.{Lock}
 use Rattle.ld_task.specs.Kinds.{kind_between}
 use Rattle.ld_task.specs.Marks.{marks_taken, marks_opened}
+use Rattle.ld_trace.specs.Modes.{may_wait}
 
 -- a chain: the locks held in the frame, oldest first; for an acquisition the new lock and the frame's kind;
 -- and the flags, just before an acquisition or just after an opening
@@ -24,13 +25,15 @@ key_and_mode lock = (lock.key, lock.mode)
 abbrev pub key_mode_and_frame : Lock × Frame → ℕ × Mode × Frame
 key_mode_and_frame new = (new.0.key, new.0.mode, new.1)
 
--- the chain has a dependency of this kind between these keys: from one of its held locks to its new one
+-- the chain has a dependency of this kind between these keys: from one of its held locks to its new one, where that may be
+-- waited for
 pub record ChainHasDependency (c : ChainParts) (from to : ℕ) (kind : Kind) : Type 0 where
   pub old : Lock
   pub new : Lock
   pub frame : Frame
   pub is_held : Contains c.held_locks old
   pub is_new : c.new_lock ≡ Some (new, frame)
+  pub waits : IsTrue (may_wait new.mode)
   pub from_is : from ≡ old.key
   pub to_is : to ≡ new.key
   pub how : kind ≡ kind_between old.mode new.mode

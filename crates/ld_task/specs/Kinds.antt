@@ -1,10 +1,9 @@
 -- The four kinds of dependencies and their two letters ["Dependency types and strong dependency paths"].
 use Rattle.std.specs.Prelude.{◌≡◌, Bool, true, false, refl}
 use Rattle.ld_trace.specs.declared.event.Mode.{Mode}
-use Rattle.ld_trace.specs.declared.event.Mode.TheVariants.{Write, Read, RecRead}
+use Rattle.ld_trace.specs.Modes.{is_read, is_recursive}
 use Rattle.ld_task.specs.declared.kind.Kind.{Kind}
 use Rattle.ld_task.specs.declared.kind.Kind.TheVariants.{Er, En, Sr, Sn}
-use Rattle.ld_task.specs.Marks.{is_read}
 
 -- whether a kind's first letter is S
 abbrev pub is_s : Kind → Bool
@@ -26,12 +25,6 @@ kind_of_letters false true = Er
 kind_of_letters false false = En
 kind_of_letters true true = Sr
 kind_of_letters true false = Sn
-
--- a lock in this mode is taken by a recursive reader
-abbrev pub is_recursive : Mode → Bool
-is_recursive Write = false
-is_recursive Read = false
-is_recursive RecRead = true
 
 -- the kind of a dependency from a lock held in the first mode to one taken in the second: the first letter is S where the
 -- held lock was taken by a reader of either kind, the second R where the new one is taken by a recursive reader

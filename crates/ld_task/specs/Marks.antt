@@ -11,15 +11,9 @@ use Rattle.ld_task.specs.declared.frame.Frame.TheVariants.{Task, Softirq, Hardir
 use Rattle.ld_task.specs.declared.mark.Mark.TheVariants.{Used, UsedIn, Enabled}
 use Rattle.ld_trace.specs.declared.event.Event.{Event}
 use Rattle.ld_trace.specs.declared.event.Mode.{Mode}
-use Rattle.ld_trace.specs.declared.event.Mode.TheVariants.{Write, Read, RecRead}
+use Rattle.ld_trace.specs.Modes.{is_read, may_wait}
 use Rattle.ld_trace.specs.declared.event.Irq.{Irq}
 use Rattle.ld_trace.specs.declared.event.Irq.TheVariants.{Hard, Soft}
-
--- a mark that a lock taken in this mode gets is in its read form
-abbrev pub is_read : Mode → Bool
-is_read Write = false
-is_read Read = true
-is_read RecRead = true
 
 -- used in this state in a frame of this kind
 abbrev pub is_in : Irq → Frame → Bool
@@ -35,10 +29,12 @@ abbrev pub same_form : Bool → Bool → Bool
 same_form true read = read
 same_form false read = not read
 
--- an acquisition in this mode, with the frame's kind and the flags just before it, gives this mark
+-- an acquisition in this mode, with the frame's kind and the flags just before it, gives this mark: a key is used in a
+-- state where it may be waited for
 abbrev pub marks_taken : Mode → Frame → Flags → Mark → Bool
 marks_taken mode frame flags Used = true
-marks_taken mode frame flags (UsedIn irq read) = is_in irq frame && same_form read (is_read mode)
+marks_taken mode frame flags (UsedIn irq read) =
+    may_wait mode && is_in irq frame && same_form read (is_read mode)
 marks_taken mode frame flags (Enabled irq read) =
     is_enabled irq flags && same_form read (is_read mode)
 

@@ -33,8 +33,7 @@ impl Kind {
     pub fn between(held: Mode, taken: Mode) -> Kind
         ensures { result ≡ kind_between held taken }
     {
-        let held_by_reader = matches!(held, Mode::Read | Mode::RecRead);
-        Kind::of_letters(held_by_reader, matches!(taken, Mode::RecRead))
+        Kind::of_letters(held.is_read(), taken.is_recursive())
     }
 
     /// Whether its first letter is S.

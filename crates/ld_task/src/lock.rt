@@ -67,6 +67,9 @@ impl Lock {
             0 => Mode::Write,
             1 => Mode::Read,
             2 => Mode::RecRead,
+            3 => Mode::TryWrite,
+            4 => Mode::TryRead,
+            5 => Mode::TryRecRead,
             _ => unreachable!(),
         }
     }
@@ -80,6 +83,9 @@ fn number_of(mode: Mode) -> u16
         Mode::Write => 0,
         Mode::Read => 1,
         Mode::RecRead => 2,
+        Mode::TryWrite => 3,
+        Mode::TryRead => 4,
+        Mode::TryRecRead => 5,
     }
 }
 

@@ -1,5 +1,5 @@
 -- The fields of a record by their places, and what the record then says.
-use Rattle.std.proofs.Common.{◌≡◌, ◌≢◌, ℕ, zero, suc, ◌<◌, ◌&&◌, Bool, true, false, List, [], ◌∷◌, length, Some, None, Err, refl, arith, codes, nat_le, All, get_or}
+use Rattle.std.proofs.Common.{◌≡◌, ◌≢◌, ℕ, zero, suc, ◌<◌, ◌&&◌, Bool, true, false, List, [], ◌∷◌, length, Some, None, Err, refl, arith, codes, nat_le, All, get_or, if◌then◌else◌}
 use Rattle.std.specs.Str.{IsUtf8, bytes_eq}
 use Rattle.std.proofs.lemmas.Str.{IsUtf8-from_ascii}
 use Rattle.std.proofs.lemmas.Str.Ascii.{IsAscii-from_all}
@@ -8,7 +8,8 @@ use Rattle.std.proofs.lemmas.Bool.Decides.{nat_tests}
 use Rattle.ld_trace.specs.declared.stored_name.TheConstants.{MAX_NAME}
 use Rattle.csv.specs.Records.{field_at}
 use Rattle.ld_trace.specs.declared.trace_fault.TraceFaultKind.TheVariants.{BadRecord}
-use Rattle.ld_trace.specs.Lines.{Record, acquire_line, irq_of, is_header, leave_line, mode_of, name_of_fields, release_line, line_of_record, irq_line, sub_of}
+use Rattle.ld_trace.specs.Lines.{Record, acquire_line, irq_of, leave_line, mode_of, name_of_fields, release_line, line_of_record, irq_line, sub_of, version_named, version_of}
+use Rattle.ld_trace.specs.declared.version.Version.{Version}
 use Rattle.ld_trace.specs.Names.{are_visible, is_class_name}
 
 -- a field within the record is there
@@ -40,44 +41,44 @@ four-fields [] a b d f n h i j k = absurd (omega arith)
 four-fields (x ∷ r) a b d f n h i j k = let e : r ≡ b ∷ d ∷ f ∷ [] = three-fields r b d f (omega arith) i j k in cc
 
 -- what a record of so many fields says
-pub line_of_record-one : (fs : Record) (a : List ℕ) → length fs ≡ 1 → field_at fs 0 ≡ Some a → line_of_record fs ≡ leave_line a
+pub line_of_record-one : (version : Version) (fs : Record) (a : List ℕ) → length fs ≡ 1 → field_at fs 0 ≡ Some a → line_of_record version fs ≡ leave_line a
 unfolding line_of_record
-line_of_record-one fs a n h = rw (one-field fs a n h)
+line_of_record-one version fs a n h = rw (one-field fs a n h)
 
-pub line_of_record-two : (fs : Record) (a b : List ℕ) → length fs ≡ 2 → field_at fs 0 ≡ Some a → field_at fs 1 ≡ Some b → line_of_record fs ≡ irq_line a (irq_of b)
+pub line_of_record-two : (version : Version) (fs : Record) (a b : List ℕ) → length fs ≡ 2 → field_at fs 0 ≡ Some a → field_at fs 1 ≡ Some b → line_of_record version fs ≡ irq_line a (irq_of b)
 unfolding line_of_record
-line_of_record-two fs a b n h i = rw (two-fields fs a b n h i)
+line_of_record-two version fs a b n h i = rw (two-fields fs a b n h i)
 
-pub line_of_record-three : (fs : Record) (a b d : List ℕ) → length fs ≡ 3 → field_at fs 0 ≡ Some a → field_at fs 1 ≡ Some b → field_at fs 2 ≡ Some d → line_of_record fs ≡ release_line a (name_of_fields b (sub_of d))
+pub line_of_record-three : (version : Version) (fs : Record) (a b d : List ℕ) → length fs ≡ 3 → field_at fs 0 ≡ Some a → field_at fs 1 ≡ Some b → field_at fs 2 ≡ Some d → line_of_record version fs ≡ release_line a (name_of_fields b (sub_of d))
 unfolding line_of_record
-line_of_record-three fs a b d n h i j = rw (three-fields fs a b d n h i j)
+line_of_record-three version fs a b d n h i j = rw (three-fields fs a b d n h i j)
 
-pub line_of_record-four : (fs : Record) (a b d f : List ℕ) → length fs ≡ 4 → field_at fs 0 ≡ Some a → field_at fs 1 ≡ Some b → field_at fs 2 ≡ Some d → field_at fs 3 ≡ Some f
-    → line_of_record fs ≡ acquire_line a (name_of_fields b (sub_of d)) (mode_of f)
+pub line_of_record-four : (version : Version) (fs : Record) (a b d f : List ℕ) → length fs ≡ 4 → field_at fs 0 ≡ Some a → field_at fs 1 ≡ Some b → field_at fs 2 ≡ Some d → field_at fs 3 ≡ Some f
+    → line_of_record version fs ≡ acquire_line a (name_of_fields b (sub_of d)) (mode_of version f)
 unfolding line_of_record
-line_of_record-four fs a b d f n h i j k = rw (four-fields fs a b d f n h i j k)
+line_of_record-four version fs a b d f n h i j k = rw (four-fields fs a b d f n h i j k)
 
-pub line_of_record-others : (fs : Record) → length fs ≢ 1 → length fs ≢ 2 → length fs ≢ 3 → length fs ≢ 4 → line_of_record fs ≡ Err BadRecord
+pub line_of_record-others : (version : Version) (fs : Record) → length fs ≢ 1 → length fs ≢ 2 → length fs ≢ 3 → length fs ≢ 4 → line_of_record version fs ≡ Err BadRecord
 unfolding line_of_record
-line_of_record-others [] n1 n2 n3 n4 = refl
-line_of_record-others (a ∷ []) n1 n2 n3 n4 = absurd (n1 refl)
-line_of_record-others (a ∷ b ∷ []) n1 n2 n3 n4 = absurd (n2 refl)
-line_of_record-others (a ∷ b ∷ d ∷ []) n1 n2 n3 n4 = absurd (n3 refl)
-line_of_record-others (a ∷ b ∷ d ∷ f ∷ []) n1 n2 n3 n4 = absurd (n4 refl)
-line_of_record-others (a ∷ b ∷ d ∷ f ∷ g ∷ rest) n1 n2 n3 n4 = refl
+line_of_record-others version [] n1 n2 n3 n4 = refl
+line_of_record-others version (a ∷ []) n1 n2 n3 n4 = absurd (n1 refl)
+line_of_record-others version (a ∷ b ∷ []) n1 n2 n3 n4 = absurd (n2 refl)
+line_of_record-others version (a ∷ b ∷ d ∷ []) n1 n2 n3 n4 = absurd (n3 refl)
+line_of_record-others version (a ∷ b ∷ d ∷ f ∷ []) n1 n2 n3 n4 = absurd (n4 refl)
+line_of_record-others version (a ∷ b ∷ d ∷ f ∷ g ∷ rest) n1 n2 n3 n4 = refl
 
--- whether a record is the header
-pub header-two : (fs : Record) (a b : List ℕ) → length fs ≡ 2 → field_at fs 0 ≡ Some a → field_at fs 1 ≡ Some b
-    → is_header fs ≡ (bytes_eq a (codes "lockdep") && bytes_eq b (codes "1"))
-unfolding is_header
-header-two fs a b n h i = rw (two-fields fs a b n h i)
+-- the version that a record names
+pub version-two : (fs : Record) (a b : List ℕ) → length fs ≡ 2 → field_at fs 0 ≡ Some a → field_at fs 1 ≡ Some b
+    → version_of fs ≡ (if bytes_eq a (codes "lockdep") then version_named b else None)
+unfolding version_of
+version-two fs a b n h i = rw (two-fields fs a b n h i)
 
-pub header-others : (fs : Record) → length fs ≢ 2 → is_header fs ≡ false
-unfolding is_header
-header-others [] n = refl
-header-others (a ∷ []) n = refl
-header-others (a ∷ b ∷ []) n = absurd (n refl)
-header-others (a ∷ b ∷ d ∷ rest) n = refl
+pub version-others : (fs : Record) → length fs ≢ 2 → version_of fs ≡ None
+unfolding version_of
+version-others [] n = refl
+version-others (a ∷ []) n = refl
+version-others (a ∷ b ∷ []) n = absurd (n refl)
+version-others (a ∷ b ∷ d ∷ rest) n = refl
 
 -- visible bytes are text
 visible-below : (b : ℕ) → (nat_le 0x21 b && nat_le b 0x7E) ≡ true → b < 128

@@ -8,6 +8,7 @@ use Rattle.std.proofs.lemmas.Slice.Eq.{bytes_eq-Decides}
 use Rattle.ld_trace.specs.declared.event.Event.TheVariants.{Acquire, Release}
 use Rattle.ld_trace.specs.declared.event.Mode.{Mode}
 use Rattle.ld_trace.specs.declared.key_table.TheConstants.{MAX_SUB}
+use Rattle.ld_trace.specs.declared.version.Version.{Version}
 use Rattle.ld_trace.specs.Lines.{acquire_line, gives_back, mode_of, name_of_fields, release_line, sub_of, takes}
 use Rattle.ld_trace.specs.Inside.Progress.{IsEventOf}
 use Rattle.ld_trace.specs.Names.{AreNumbered, Name, is_class_name, is_known, is_name, is_same, place_of}
@@ -66,8 +67,8 @@ module _ (names : List Name) (class digits : List ℕ) (sub key : ℕ) (numbered
   }
 
   -- a record that takes one
-  pub acquire-known : (verb word : List ℕ) (mode : Mode) → bytes_eq verb (codes "acq") ≡ true → mode_of word ≡ Some mode → IsEventOf names (acquire_line verb (name_of_fields class (sub_of digits)) (mode_of word)) (Acquire mode key)
-  acquire-known verb word mode acq is = record {
+  pub acquire-known : (version : Version) (verb word : List ℕ) (mode : Mode) → bytes_eq verb (codes "acq") ≡ true → mode_of version word ≡ Some mode → IsEventOf names (acquire_line verb (name_of_fields class (sub_of digits)) (mode_of version word)) (Acquire mode key)
+  acquire-known version verb word mode acq is = record {
     line = takes (class, sub) mode;
     says = rw (acq, digit, good, is) refl;
     fits = rw there.1 refl;

@@ -1,5 +1,5 @@
 -- What a trace that was read, or refused, says of its bytes.
-use Rattle.std.proofs.Common.{◌≡◌, ◌⊎◌, inl, inr, ℕ, suc, ◌+◌, ◌≤◌, ◌<◌, true, false, List, [], ◌∷◌, ◌++◌, length, Option, Some, None, Err, IfSome, nat_lt, codes, refl, sym, ap, ◌∙◌, arith, append_assoc, true≢false}
+use Rattle.std.proofs.Common.{◌≡◌, ◌⊎◌, inl, inr, ℕ, suc, ◌+◌, ◌≤◌, ◌<◌, Bool, true, false, List, [], ◌∷◌, ◌++◌, length, Option, Some, None, Err, IfSome, nat_lt, codes, refl, sym, ap, ◌∙◌, arith, append_assoc, true≢false}
 use Rattle.std.proofs.lemmas.Bool.{cases_lt}
 use Rattle.std.proofs.lemmas.Bool.Decides.{nat_tests}
 use Rattle.std.proofs.lemmas.List.{append-nil}
@@ -13,71 +13,82 @@ use Rattle.ld_trace.specs.declared.event.Event.{Event}
 use Rattle.ld_trace.specs.declared.trace_fault.TraceFaultKind.{TraceFaultKind}
 use Rattle.ld_trace.specs.declared.trace_fault.TraceFaultKind.TheVariants.{BadRecord, NoHeader}
 use Rattle.ld_trace.specs.Events.{KeyIsBelow, KeysBelow}
-use Rattle.ld_trace.specs.Lines.{Record, is_header, line_of_record}
+use Rattle.ld_trace.specs.declared.version.Version.{Version}
+use Rattle.ld_trace.specs.Lines.{Record, irq_line, irq_of, line_of_record, version_of}
+use Rattle.ld_trace.specs.declared.event.Irq.{Irq}
 use Rattle.ld_trace.specs.Names.{Name}
 use Rattle.ld_trace.specs.Inside.Progress.{AreRead, AreRefused, AreTaken, HasGiven, HasTaken, ReadsPlain, TakesLine}
-use Rattle.ld_trace.specs.Reading.{ReadsTo, StopsAt, fault_at, names_after, record_fault, records_of}
+use Rattle.ld_trace.specs.Reading.{ReadsTo, StopsAt, fault_at, names_after, record_fault, records_of, version_in}
 use Rattle.ld_trace.specs.TraceFaults.{is_of_text}
 use Rattle.ld_trace.proofs.CsvLemmas.{given-all, given-begin, given-more}
-use Rattle.ld_trace.proofs.TakenLemmas.{event_at-past, fault_at-front, fault_at-next, fault_at-past, names_before-all, taken-more}
+use Rattle.ld_trace.proofs.TakenLemmas.{event_at-past, fault_at-front, fault_at-next, fault_at-past, names_before-all, taken-more, version_in-front}
 
 -- a header says nothing
-header-says : (h : Record) → is_header h ≡ true → line_of_record h ≡ Err BadRecord
-unfolding is_header line_of_record
-header-says [] e = refl
-header-says (w ∷ []) e = absurd (true≢false (sym e))
-header-says (w ∷ v ∷ []) e =
-    let both : bytes_eq v (codes "1") ≡ true = grind arith in
-    let is : v ≡ codes "1" = (bytes_eq-Decides v (codes "1")).0 both in
-    rw is refl
-header-says (w ∷ v ∷ x ∷ rest) e = absurd (true≢false (sym e))
+lockdep-says : (irq : Option Irq) → irq_line (codes "lockdep") irq ≡ Err BadRecord
+lockdep-says None = refl
+lockdep-says (Some irq) = refl
+
+header-says : (version : Version) (h : Record) (named : Version) → version_of h ≡ Some named → line_of_record version h ≡ Err BadRecord
+unfolding version_of line_of_record
+header-says version [] named e = absurd (cc)
+header-says version (w ∷ []) named e = absurd (cc)
+header-says version (w ∷ v ∷ []) named e = by (bytes_eq w (codes "lockdep")) refl
+  where
+    by : (b : Bool) → bytes_eq w (codes "lockdep") ≡ b → line_of_record version (w ∷ v ∷ []) ≡ Err BadRecord
+    by true is = rw ((bytes_eq-Decides w (codes "lockdep")).0 is) (lockdep-says (irq_of v))
+    by false is = absurd (let none : version_of (w ∷ v ∷ []) ≡ None = rw is refl in cc)
+header-says version (w ∷ v ∷ x ∷ rest) named e = absurd (cc)
 
 -- the header alone was taken
-pub taken-header : (old : List Name) (h : Record) → is_header h ≡ true → AreTaken old (h ∷ []) old []
+pub taken-header : (version : Version) (old : List Name) (h : Record) → version_of h ≡ Some version → AreTaken version old (h ∷ []) old []
 unfolding fault_at names_after
-taken-header old h e = record {
+taken-header version old h e = record {
+  version_is = rw e refl;
   count = refl;
   faultless = λ i lt. let z : i ≡ 0 = omega arith in rw (z, e) refl;
-  each = λ i. sym (event_at-past old (h ∷ []) (suc i) (omega arith));
-  names = rw (header-says h e) refl;
+  each = λ i. sym (event_at-past version old (h ∷ []) (suc i) (omega arith));
+  names = rw (header-says version h version e) refl;
   below = All-nil (KeyIsBelow (length old));
   added = ([], sym (append-nil old));
 }
 
 -- the records that were taken are all: the trace was read
-reads-to : (old : List Name) (bytes : List ℕ) (rows : List Record) (now : List Name) (events : List Event) → records_of bytes ≡ rows → AreTaken old rows now events → ReadsTo old bytes now events
-reads-to old bytes rows now events e a = record {
-  faultless = λ place. rw e (by place (cases_lt place (length rows)));
+reads-to : (version : Version) (old : List Name) (bytes : List ℕ) (rows : List Record) (now : List Name) (events : List Event) → records_of bytes ≡ rows → AreTaken version old rows now events → ReadsTo old bytes now events
+reads-to version old bytes rows now events e a = record {
+  faultless = λ place. rw (e, a.version_is) (by place (cases_lt place (length rows)));
   count = rw e a.count;
-  each = λ i. rw e (a.each i);
-  names = rw e a.names;
+  each = λ i. rw (e, a.version_is) (a.each i);
+  names = rw (e, a.version_is) a.names;
 }
   where
-    by : (place : ℕ) → (place < length rows) ⊎ (length rows ≤ place) → fault_at old rows place ≡ None
+    by : (place : ℕ) → (place < length rows) ⊎ (length rows ≤ place) → fault_at version old rows place ≡ None
     by place (inl lt) = a.faultless place lt
-    by place (inr ge) = fault_at-past old rows place (omega (arith, a.count)) ge
+    by place (inr ge) = fault_at-past version old rows place (omega (arith, a.count)) ge
 
 -- reading stopped after the records that were taken
-stops-at : (old : List Name) (bytes : List ℕ) (rows rest : List Record) (now : List Name) (events : List Event) (kind : TraceFaultKind) → records_of bytes ≡ rows ++ rest → AreTaken old rows now events
-    → (is_of_text kind ≡ true → fault_at old (rows ++ rest) (length rows) ≡ Some kind) → StopsAt old bytes now (record { kind = kind; at = length events + 2 })
-stops-at old bytes rows rest now events kind e a here = record {
+stops-at : (version : Version) (old : List Name) (bytes : List ℕ) (rows rest : List Record) (now : List Name) (events : List Event) (kind : TraceFaultKind) → records_of bytes ≡ rows ++ rest → AreTaken version old rows now events
+    → (is_of_text kind ≡ true → fault_at version old (rows ++ rest) (length rows) ≡ Some kind) → StopsAt old bytes now (record { kind = kind; at = length events + 2 })
+stops-at version old bytes rows rest now events kind e a here = record {
   place = length rows;
   number = omega (arith, a.count);
-  here = λ own. rw e (here own);
-  before = λ i lt. rw e (fault_at-front old rows rest i lt ∙ a.faultless i lt);
-  names = rw e (a.names ∙ sym (names_before-all old rows rest));
+  here = λ own. rw (e, named) (here own);
+  before = λ i lt. rw (e, named) (fault_at-front version old rows rest i lt ∙ a.faultless i lt);
+  names = rw (e, named) (a.names ∙ sym (names_before-all version old rows rest));
 }
+  where
+    named : version_in (rows ++ rest) ≡ version
+    named = version_in-front rows rest (omega (arith, a.count)) ∙ a.version_is
 
 -- reading stopped at the first record
 stops-first : (old : List Name) (bytes : List ℕ) (rows : List Record) (kind : TraceFaultKind) → records_of bytes ≡ rows
-    → (is_of_text kind ≡ true → fault_at old rows 0 ≡ Some kind) → StopsAt old bytes old (record { kind = kind; at = 1 })
+    → (is_of_text kind ≡ true → fault_at (version_in rows) old rows 0 ≡ Some kind) → StopsAt old bytes old (record { kind = kind; at = 1 })
 unfolding names_after
 stops-first old bytes rows kind e here = record {
   place = 0;
   number = refl;
   here = λ own. rw e (here own);
   before = λ i lt. absurd (omega arith);
-  names = sym (names_before-all old [] (records_of bytes));
+  names = sym (names_before-all (version_in (records_of bytes)) old [] (records_of bytes));
 }
 
 if-some : {X : Type 0} (known : Option X) (P Q : X → Type 0) → ((x : X) → P x → Q x) → IfSome known P → IfSome known Q
@@ -86,10 +97,10 @@ if-some (Some x) P Q f h = f x h
 
 module _ {R : Type 0} (rem : R → Option (List ℕ)) (known : Option (List ℕ)) (old : List Name) (a : Reader R) where
   -- the first read: the header, another record, no record, or a failure
-  pub header-taken : (b : Reader R) (h : Record) → ReadsPlain a → HasGiven rem known a [] → ReadRecord rem a b true h → is_header h ≡ true → HasTaken rem known b old old []
-  header-taken b h p given read e = (h ∷ [], given-more rem known a b [] h p given read, taken-header old h e)
+  pub header-taken : (version : Version) (b : Reader R) (h : Record) → ReadsPlain a → HasGiven rem known a [] → ReadRecord rem a b true h → version_of h ≡ Some version → HasTaken rem known b version old old []
+  header-taken version b h p given read e = (h ∷ [], given-more rem known a b [] h p given read, taken-header version old h e)
 
-  pub header-refused : (b : Reader R) (h : Record) → ReadsPlain a → HasGiven rem known a [] → ReadRecord rem a b true h → is_header h ≡ false → AreRefused known old old NoHeader 1
+  pub header-refused : (b : Reader R) (h : Record) → ReadsPlain a → HasGiven rem known a [] → ReadRecord rem a b true h → version_of h ≡ None → AreRefused known old old NoHeader 1
   unfolding fault_at
   header-refused b h p given read e =
       if-some known _ _ (λ bytes begins. stops-first old bytes (h ∷ begins.0) NoHeader begins.1 (λ own. rw e refl))
@@ -105,29 +116,29 @@ module _ {R : Type 0} (rem : R → Option (List ℕ)) (known : Option (List ℕ)
       (given-begin rem known a [] given)
 
   -- a later read: an event, a record that is refused, no record, or a failure
-  module _ (now : List Name) (events : List Event) where
-    pub event-taken : (b : Reader R) (r : Record) (new : List Name) (after : List Event) → ReadsPlain a → ReadRecord rem a b true r → TakesLine now new events after r
-        → length events < MAX_EVENTS → HasTaken rem known a old now events → HasTaken rem known b old new after
+  module _ (version : Version) (now : List Name) (events : List Event) where
+    pub event-taken : (b : Reader R) (r : Record) (new : List Name) (after : List Event) → ReadsPlain a → ReadRecord rem a b true r → TakesLine version now new events after r
+        → length events < MAX_EVENTS → HasTaken rem known a version old now events → HasTaken rem known b version old new after
     event-taken b r new after p read t few h =
-        (h.0 ++ r ∷ [], given-more rem known a b h.0 r p h.1 read, taken-more old h.0 now new events after r h.2 t few)
+        (h.0 ++ r ∷ [], given-more rem known a b h.0 r p h.1 read, taken-more version old h.0 now new events after r h.2 t few)
 
     pub event-refused : (b : Reader R) (r : Record) (kind : TraceFaultKind) → ReadsPlain a → ReadRecord rem a b true r
-        → (is_of_text kind ≡ true → record_fault now (suc (length events)) (Some r) ≡ Some kind) → HasTaken rem known a old now events
+        → (is_of_text kind ≡ true → record_fault version now (suc (length events)) (Some r) ≡ Some kind) → HasTaken rem known a version old now events
         → AreRefused known old now kind (length events + 2)
     event-refused b r kind p read here h =
         if-some known _ _
-        (λ bytes begins. stops-at old bytes h.0 (r ∷ begins.0) now events kind (begins.1 ∙ append_assoc h.0 (r ∷ []) begins.0) h.2 (λ own.
+        (λ bytes begins. stops-at version old bytes h.0 (r ∷ begins.0) now events kind (begins.1 ∙ append_assoc h.0 (r ∷ []) begins.0) h.2 (λ own.
         let at : length h.0 ≡ suc (length events) = h.2.count in
-        rw at (fault_at-next old h.0 begins.0 r (length events) at ∙ ap (λ names. record_fault names (suc (length events)) (Some r)) (sym h.2.names) ∙ here own)))
+        rw at (fault_at-next version old h.0 begins.0 r (length events) at ∙ ap (λ names. record_fault version names (suc (length events)) (Some r)) (sym h.2.names) ∙ here own)))
         (given-begin rem known b (h.0 ++ r ∷ []) (given-more rem known a b h.0 r p h.1 read))
 
-    pub events-ended : (b : Reader R) (f : Record) → ReadsPlain a → ReadRecord rem a b false f → HasTaken rem known a old now events
+    pub events-ended : (b : Reader R) (f : Record) → ReadsPlain a → ReadRecord rem a b false f → HasTaken rem known a version old now events
         → AreRead known old now events × KeysBelow (length now) events
-    events-ended b f p read h = (if-some known _ _ (λ bytes all. reads-to old bytes h.0 now events all h.2) (given-all rem known a b h.0 f p h.1 read), h.2.below)
+    events-ended b f p read h = (if-some known _ _ (λ bytes all. reads-to version old bytes h.0 now events all h.2) (given-all rem known a b h.0 f p h.1 read), h.2.below)
 
-    pub events-failed : (kind : TraceFaultKind) → is_of_text kind ≡ false → HasTaken rem known a old now events → AreRefused known old now kind (length events + 2)
+    pub events-failed : (kind : TraceFaultKind) → is_of_text kind ≡ false → HasTaken rem known a version old now events → AreRefused known old now kind (length events + 2)
     events-failed kind e h =
-        if-some known _ _ (λ bytes begins. stops-at old bytes h.0 begins.0 now events kind begins.1 h.2 (λ own. absurd (true≢false (sym own ∙ e))))
+        if-some known _ _ (λ bytes begins. stops-at version old bytes h.0 begins.0 now events kind begins.1 h.2 (λ own. absurd (true≢false (sym own ∙ e))))
         (given-begin rem known a h.0 h.1)
 
 -- whether a place is past the last that may hold an event's record

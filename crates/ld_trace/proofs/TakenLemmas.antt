@@ -14,9 +14,10 @@ use Rattle.ld_trace.specs.declared.event.Event.{Event}
 use Rattle.ld_trace.specs.declared.event.Event.TheVariants.{Acquire, Release, Enter, Leave, TurnOn, TurnOff}
 use Rattle.ld_trace.specs.Events.{KeyIsBelow, KeysBelow}
 use Rattle.ld_trace.specs.Lines.{Line, takes, gives_back, enters, leaves, turns_on, turns_off, Record, event_of, line_of_record, with_line}
+use Rattle.ld_trace.specs.declared.version.Version.{Version}
 use Rattle.ld_trace.specs.Names.{Name, is_known, is_same, place_of, with_name}
 use Rattle.ld_trace.specs.Inside.Progress.{AreTaken, TakesLine}
-use Rattle.ld_trace.specs.Reading.{event_at, fault_at, header_fault, names_after, names_before, record_fault, line_event, with_read}
+use Rattle.ld_trace.specs.Reading.{event_at, fault_at, header_fault, names_after, names_before, record_fault, line_event, version_in, with_read}
 
 -- places in a longer list
 pub slice_get-front : {X : Type 0} (xs ys : List X) (i : ℕ) → i < length xs → slice_get (xs ++ ys) i ≡ slice_get xs i
@@ -28,60 +29,65 @@ pub slice_get-seam : {X : Type 0} (xs : List X) (x : X) (ys : List X) → slice_
 slice_get-seam [] x ys = refl
 slice_get-seam (y ∷ xs) x ys = slice_get-seam xs x ys
 
+-- the version is that of the first record
+pub version_in-front : (rows rest : List Record) → 0 < length rows → version_in (rows ++ rest) ≡ version_in rows
+version_in-front [] rest h = absurd (omega arith)
+version_in-front (r ∷ rows) rest h = refl
+
 -- the names after one more record
-pub names_after-push : (old : List Name) (rows : List Record) (r : Record) → names_after old (rows ++ r ∷ []) ≡ with_read (names_after old rows) (line_of_record r)
+pub names_after-push : (version : Version) (old : List Name) (rows : List Record) (r : Record) → names_after version old (rows ++ r ∷ []) ≡ with_read (names_after version old rows) (line_of_record version r)
 unfolding names_after
-names_after-push old [] r = refl
-names_after-push old (q ∷ rows) r = names_after-push (with_read old (line_of_record q)) rows r
+names_after-push version old [] r = refl
+names_after-push version old (q ∷ rows) r = names_after-push version (with_read old (line_of_record version q)) rows r
 
 -- what stands in front doesn't look at what follows
-pub names_before-front : (old : List Name) (rows rest : List Record) (i : ℕ) → i ≤ length rows → names_before old (rows ++ rest) i ≡ names_before old rows i
-names_before-front old rows rest i h = ap (names_after old) (take-append-le i rows rest h)
+pub names_before-front : (version : Version) (old : List Name) (rows rest : List Record) (i : ℕ) → i ≤ length rows → names_before version old (rows ++ rest) i ≡ names_before version old rows i
+names_before-front version old rows rest i h = ap (names_after version old) (take-append-le i rows rest h)
 
-pub names_before-all : (old : List Name) (rows rest : List Record) → names_before old (rows ++ rest) (length rows) ≡ names_after old rows
-names_before-all old rows rest = ap (names_after old) (take-append_seam rows rest)
+pub names_before-all : (version : Version) (old : List Name) (rows rest : List Record) → names_before version old (rows ++ rest) (length rows) ≡ names_after version old rows
+names_before-all version old rows rest = ap (names_after version old) (take-append_seam rows rest)
 
-pub fault_at-front : (old : List Name) (rows rest : List Record) (i : ℕ) → i < length rows → fault_at old (rows ++ rest) i ≡ fault_at old rows i
+pub fault_at-front : (version : Version) (old : List Name) (rows rest : List Record) (i : ℕ) → i < length rows → fault_at version old (rows ++ rest) i ≡ fault_at version old rows i
 unfolding fault_at
-fault_at-front old rows rest zero h = ap header_fault (slice_get-front rows rest 0 h)
-fault_at-front old rows rest (suc i) h = rw (names_before-front old rows rest (suc i) (omega arith), slice_get-front rows rest (suc i) h)
+fault_at-front version old rows rest zero h = ap header_fault (slice_get-front rows rest 0 h)
+fault_at-front version old rows rest (suc i) h = rw (names_before-front version old rows rest (suc i) (omega arith), slice_get-front rows rest (suc i) h)
 
-pub event_at-front : (old : List Name) (rows rest : List Record) (i : ℕ) → i < length rows → event_at old (rows ++ rest) i ≡ event_at old rows i
+pub event_at-front : (version : Version) (old : List Name) (rows rest : List Record) (i : ℕ) → i < length rows → event_at version old (rows ++ rest) i ≡ event_at version old rows i
 unfolding event_at
-event_at-front old rows rest i h = rw (names_before-front old rows rest i (omega arith), slice_get-front rows rest i h)
+event_at-front version old rows rest i h = rw (names_before-front version old rows rest i (omega arith), slice_get-front rows rest i h)
 
 -- past the end there is neither a fault nor an event
-pub fault_at-past : (old : List Name) (rows : List Record) (i : ℕ) → 0 < length rows → length rows ≤ i → fault_at old rows i ≡ None
+pub fault_at-past : (version : Version) (old : List Name) (rows : List Record) (i : ℕ) → 0 < length rows → length rows ≤ i → fault_at version old rows i ≡ None
 unfolding fault_at
-fault_at-past old rows zero some h = absurd (omega arith)
-fault_at-past old rows (suc i) some h = rw (slice_get_past rows (suc i) h)
+fault_at-past version old rows zero some h = absurd (omega arith)
+fault_at-past version old rows (suc i) some h = rw (slice_get_past rows (suc i) h)
 
-pub event_at-past : (old : List Name) (rows : List Record) (i : ℕ) → length rows ≤ i → event_at old rows i ≡ None
+pub event_at-past : (version : Version) (old : List Name) (rows : List Record) (i : ℕ) → length rows ≤ i → event_at version old rows i ≡ None
 unfolding event_at
-event_at-past old rows i h = rw (slice_get_past rows i h)
+event_at-past version old rows i h = rw (slice_get_past rows i h)
 
 -- the record after those that were taken
-pub fault_at-next : (old : List Name) (rows rest : List Record) (r : Record) (n : ℕ) → length rows ≡ suc n
-    → fault_at old (rows ++ r ∷ rest) (suc n) ≡ record_fault (names_after old rows) (suc n) (Some r)
+pub fault_at-next : (version : Version) (old : List Name) (rows rest : List Record) (r : Record) (n : ℕ) → length rows ≡ suc n
+    → fault_at version old (rows ++ r ∷ rest) (suc n) ≡ record_fault version (names_after version old rows) (suc n) (Some r)
 unfolding fault_at
-fault_at-next old rows rest r n e = rw (← e, names_before-all old rows (r ∷ rest), slice_get-seam rows r rest)
+fault_at-next version old rows rest r n e = rw (← e, names_before-all version old rows (r ∷ rest), slice_get-seam rows r rest)
 
-pub event_at-next : (old : List Name) (rows rest : List Record) (r : Record) (n : ℕ) → length rows ≡ suc n
-    → event_at old (rows ++ r ∷ rest) (suc n) ≡ line_event (names_after old rows) (line_of_record r)
+pub event_at-next : (version : Version) (old : List Name) (rows rest : List Record) (r : Record) (n : ℕ) → length rows ≡ suc n
+    → event_at version old (rows ++ r ∷ rest) (suc n) ≡ line_event (names_after version old rows) (line_of_record version r)
 unfolding event_at
-event_at-next old rows rest r n e = rw (← e, names_before-all old rows (r ∷ rest), slice_get-seam rows r rest)
+event_at-next version old rows rest r n e = rw (← e, names_before-all version old rows (r ∷ rest), slice_get-seam rows r rest)
 
 -- a record that was taken has no fault
-taken-faultless : (now new : List Name) (before after : List Event) (r : Record) (place : ℕ) → TakesLine now new before after r → place ≤ MAX_EVENTS
-    → record_fault now place (Some r) ≡ None
-taken-faultless now new before after r place t few = rw (few-places place few, t.says, t.fits)
+taken-faultless : (version : Version) (now new : List Name) (before after : List Event) (r : Record) (place : ℕ) → TakesLine version now new before after r → place ≤ MAX_EVENTS
+    → record_fault version now place (Some r) ≡ None
+taken-faultless version now new before after r place t few = rw (few-places place few, t.says, t.fits)
   where
     few-places : (p : ℕ) → p ≤ MAX_EVENTS → nat_lt MAX_EVENTS p ≡ false
     few-places p h = grind (arith, nat_tests)
 
 -- and stands for its event
-taken-event : (now new : List Name) (before after : List Event) (r : Record) (t : TakesLine now new before after r) → line_event now (line_of_record r) ≡ Some (event_of now t.line)
-taken-event now new before after r t = rw t.says refl
+taken-event : (version : Version) (now new : List Name) (before after : List Event) (r : Record) (t : TakesLine version now new before after r) → line_event now (line_of_record version r) ≡ Some (event_of now t.line)
+taken-event version now new before after r t = rw t.says refl
 
 -- a known name stands within the names
 first-below : {X : Type 0} (p : X → Bool) (xs : List X) → list_any p xs ≡ true → position_or_len p xs < length xs
@@ -138,43 +144,44 @@ KeysBelow-mono : (m n : ℕ) (events : List Event) → m ≤ n → KeysBelow m e
 KeysBelow-mono m n events h below = λ k d lt. KeyIsBelow-mono m n (get_or events k d) h (below k d lt)
 
 -- one more record was taken
-module _ (old : List Name) (rows : List Record) (now new : List Name) (before after : List Event) (r : Record)
-    (a : AreTaken old rows now before) (t : TakesLine now new before after r) (few : length before < MAX_EVENTS) where
-  more-faultless : (i : ℕ) → i < length (rows ++ r ∷ []) → fault_at old (rows ++ r ∷ []) i ≡ None
+module _ (version : Version) (old : List Name) (rows : List Record) (now new : List Name) (before after : List Event) (r : Record)
+    (a : AreTaken version old rows now before) (t : TakesLine version now new before after r) (few : length before < MAX_EVENTS) where
+  more-faultless : (i : ℕ) → i < length (rows ++ r ∷ []) → fault_at version old (rows ++ r ∷ []) i ≡ None
   more-faultless i h = by (cases_lt i (length rows))
     where
-      by : (i < length rows) ⊎ (length rows ≤ i) → fault_at old (rows ++ r ∷ []) i ≡ None
-      by (inl lt) = fault_at-front old rows (r ∷ []) i lt ∙ a.faultless i lt
+      by : (i < length rows) ⊎ (length rows ≤ i) → fault_at version old (rows ++ r ∷ []) i ≡ None
+      by (inl lt) = fault_at-front version old rows (r ∷ []) i lt ∙ a.faultless i lt
       by (inr ge) =
           let e : i ≡ suc (length before) = omega (arith, a.count, length-append rows (r ∷ [])) in
           rw e
-          (fault_at-next old rows [] r (length before) a.count
-          ∙ ap (λ names. record_fault names (suc (length before)) (Some r)) (sym a.names)
-          ∙ taken-faultless now new before after r (suc (length before)) t few)
+          (fault_at-next version old rows [] r (length before) a.count
+          ∙ ap (λ names. record_fault version names (suc (length before)) (Some r)) (sym a.names)
+          ∙ taken-faultless version now new before after r (suc (length before)) t few)
 
-  more-each : (i : ℕ) → slice_get after i ≡ event_at old (rows ++ r ∷ []) (suc i)
+  more-each : (i : ℕ) → slice_get after i ≡ event_at version old (rows ++ r ∷ []) (suc i)
   more-each i = rw t.events (by (cases_lt i (length before)))
     where
-      later : (length before ≡ i) ⊎ (length before < i) → slice_get (before ++ event_of now t.line ∷ []) i ≡ event_at old (rows ++ r ∷ []) (suc i)
+      later : (length before ≡ i) ⊎ (length before < i) → slice_get (before ++ event_of now t.line ∷ []) i ≡ event_at version old (rows ++ r ∷ []) (suc i)
       later (inl e) =
           rw (← e)
           (slice_get-seam before (event_of now t.line) []
-          ∙ sym (event_at-next old rows [] r (length before) a.count ∙ ap (λ names. line_event names (line_of_record r)) (sym a.names) ∙ taken-event now new before after r t))
+          ∙ sym (event_at-next version old rows [] r (length before) a.count ∙ ap (λ names. line_event names (line_of_record version r)) (sym a.names) ∙ taken-event version now new before after r t))
       later (inr gt) =
           slice_get_past (before ++ event_of now t.line ∷ []) i (omega (arith, length-append before (event_of now t.line ∷ [])))
-          ∙ sym (event_at-past old (rows ++ r ∷ []) (suc i) (omega (arith, a.count, length-append rows (r ∷ []))))
+          ∙ sym (event_at-past version old (rows ++ r ∷ []) (suc i) (omega (arith, a.count, length-append rows (r ∷ []))))
 
-      by : (i < length before) ⊎ (length before ≤ i) → slice_get (before ++ event_of now t.line ∷ []) i ≡ event_at old (rows ++ r ∷ []) (suc i)
+      by : (i < length before) ⊎ (length before ≤ i) → slice_get (before ++ event_of now t.line ∷ []) i ≡ event_at version old (rows ++ r ∷ []) (suc i)
       by (inl lt) =
-          slice_get-front before (event_of now t.line ∷ []) i lt ∙ a.each i ∙ sym (event_at-front old rows (r ∷ []) (suc i) (omega (arith, a.count)))
+          slice_get-front before (event_of now t.line ∷ []) i lt ∙ a.each i ∙ sym (event_at-front version old rows (r ∷ []) (suc i) (omega (arith, a.count)))
       by (inr ge) = later (eq-or-lt_of_le ge)
 
-  pub taken-more : AreTaken old (rows ++ r ∷ []) new after
+  pub taken-more : AreTaken version old (rows ++ r ∷ []) new after
   taken-more = record {
+    version_is = version_in-front rows (r ∷ []) (omega (arith, a.count)) ∙ a.version_is;
     count = rw t.events (omega (arith, a.count, length-append rows (r ∷ []), length-append before (event_of now t.line ∷ [])));
     faultless = more-faultless;
     each = more-each;
-    names = t.names ∙ rw (names_after-push old rows r, ← a.names, t.says);
+    names = t.names ∙ rw (names_after-push version old rows r, ← a.names, t.says);
     below =
         rw (t.events, t.names)
         (All-push (KeyIsBelow (length (with_line now t.line))) before (event_of now t.line) (KeysBelow-mono _ _ before (length-with_line now t.line) a.below) (event-below now t.line));

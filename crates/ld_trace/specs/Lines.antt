@@ -6,9 +6,11 @@ use Rattle.ld_trace.specs.declared.event.Event.TheVariants.{Acquire, Release, En
 use Rattle.ld_trace.specs.declared.event.Irq.{Irq}
 use Rattle.ld_trace.specs.declared.event.Irq.TheVariants.{Hard, Soft}
 use Rattle.ld_trace.specs.declared.event.Mode.{Mode}
-use Rattle.ld_trace.specs.declared.event.Mode.TheVariants.{Write, Read, RecRead}
+use Rattle.ld_trace.specs.declared.event.Mode.TheVariants.{Write, Read, RecRead, TryWrite, TryRead, TryRecRead}
 use Rattle.ld_trace.specs.declared.trace_fault.TraceFaultKind.{TraceFaultKind}
 use Rattle.ld_trace.specs.declared.trace_fault.TraceFaultKind.TheVariants.{BadRecord, BadName, BadSub, BadMode}
+use Rattle.ld_trace.specs.declared.version.Version.{Version}
+use Rattle.ld_trace.specs.declared.version.Version.TheVariants.{One, Two}
 use Rattle.ld_trace.specs.Names.{Name, is_class_name, is_one_too_many, place_of, with_name}
 
 -- a record: the bytes of each of its fields
@@ -24,12 +26,20 @@ pub data Line : Type 0 where
   turns_on : Irq → Line
   turns_off : Irq → Line
 
--- the mode of these words: `w`, `r` or `rr`
-abbrev pub mode_of : List ℕ → Option Mode
-mode_of word = if bytes_eq word (codes "w") then Some Write
+-- the mode of a try: `tw`, `tr` or `trr`, which version 1 has not
+abbrev pub try_mode_of : Version → List ℕ → Option Mode
+try_mode_of One word = None
+try_mode_of Two word = if bytes_eq word (codes "tw") then Some TryWrite
+    else if bytes_eq word (codes "tr") then Some TryRead
+    else if bytes_eq word (codes "trr") then Some TryRecRead
+    else None
+
+-- the mode of this word: `w`, `r` or `rr`, or that of a try
+abbrev pub mode_of : Version → List ℕ → Option Mode
+mode_of version word = if bytes_eq word (codes "w") then Some Write
     else if bytes_eq word (codes "r") then Some Read
     else if bytes_eq word (codes "rr") then Some RecRead
-    else None
+    else try_mode_of version word
 
 -- the state of these words: `hardirq` or `softirq`
 abbrev pub irq_of : List ℕ → Option Irq
@@ -79,22 +89,29 @@ abbrev pub acquire_line : List ℕ → Result Name TraceFaultKind → Option Mod
 acquire_line verb name mode =
     if bytes_eq verb (codes "acq") then taking name mode else Err BadRecord
 
--- what a record says, or its fault
-unfoldable pub line_of_record : Record → Result Line TraceFaultKind
-line_of_record [] = Err BadRecord
-line_of_record (verb ∷ []) = leave_line verb
-line_of_record (verb ∷ irq ∷ []) = irq_line verb (irq_of irq)
-line_of_record (verb ∷ class ∷ sub ∷ []) = release_line verb (name_of_fields class (sub_of sub))
-line_of_record (verb ∷ class ∷ sub ∷ mode ∷ []) =
-    acquire_line verb (name_of_fields class (sub_of sub)) (mode_of mode)
-line_of_record (verb ∷ class ∷ sub ∷ mode ∷ more ∷ rest) = Err BadRecord
+-- what a record of a trace of this version says, or its fault
+unfoldable pub line_of_record : Version → Record → Result Line TraceFaultKind
+line_of_record version [] = Err BadRecord
+line_of_record version (verb ∷ []) = leave_line verb
+line_of_record version (verb ∷ irq ∷ []) = irq_line verb (irq_of irq)
+line_of_record version (verb ∷ class ∷ sub ∷ []) = release_line verb (name_of_fields class (sub_of sub))
+line_of_record version (verb ∷ class ∷ sub ∷ mode ∷ []) =
+    acquire_line verb (name_of_fields class (sub_of sub)) (mode_of version mode)
+line_of_record version (verb ∷ class ∷ sub ∷ mode ∷ more ∷ rest) = Err BadRecord
 
--- whether a record is the header of a trace of version 1
-unfoldable pub is_header : Record → Bool
-is_header [] = false
-is_header (word ∷ []) = false
-is_header (word ∷ version ∷ []) = bytes_eq word (codes "lockdep") && bytes_eq version (codes "1")
-is_header (word ∷ version ∷ more ∷ rest) = false
+-- the version of this word: `1` or `2`
+abbrev pub version_named : List ℕ → Option Version
+version_named word = if bytes_eq word (codes "1") then Some One
+    else if bytes_eq word (codes "2") then Some Two
+    else None
+
+-- the version that a record names, if it is a header
+unfoldable pub version_of : Record → Option Version
+version_of [] = None
+version_of (word ∷ []) = None
+version_of (word ∷ version ∷ []) =
+    if bytes_eq word (codes "lockdep") then version_named version else None
+version_of (word ∷ version ∷ more ∷ rest) = None
 
 -- the names with that of a line among them
 abbrev pub with_line : List Name → Line → List Name

@@ -11,6 +11,38 @@ pub enum Mode {
     Read,
     /// By a recursive reader.
     RecRead,
+    /// By a writer that doesn't wait for it.
+    TryWrite,
+    /// By a non-recursive reader that doesn't wait for it.
+    TryRead,
+    /// By a recursive reader that doesn't wait for it.
+    TryRecRead,
+}
+
+impl Mode {
+    ghost use Rattle.std.specs.Prelude.{◌≡◌};
+    ghost use Rattle.ld_trace.specs.Modes.{is_read, is_recursive, may_wait};
+
+    /// Whether a lock in this mode is taken by a reader of either kind.
+    pub fn is_read(self) -> bool
+        ensures { result ≡ is_read self }
+    {
+        !matches!(self, Mode::Write | Mode::TryWrite)
+    }
+
+    /// Whether a lock in this mode is taken by a recursive reader.
+    pub fn is_recursive(self) -> bool
+        ensures { result ≡ is_recursive self }
+    {
+        matches!(self, Mode::RecRead | Mode::TryRecRead)
+    }
+
+    /// Whether whoever takes a lock in this mode may wait for it: a try never waits.
+    pub fn may_wait(self) -> bool
+        ensures { result ≡ may_wait self }
+    {
+        matches!(self, Mode::Write | Mode::Read | Mode::RecRead)
+    }
 }
 
 impl Default for Mode {

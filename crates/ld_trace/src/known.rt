@@ -9,16 +9,18 @@ ghost use Rattle.ld_trace.specs.Lines.{acquire_line, mode_of, name_of_fields, re
 ghost use Rattle.ld_trace.specs.Inside.Progress.{IsEventOf};
 
 use crate::record::{field, is_word, mode_of, sub_of};
+use crate::version::Version;
 use crate::{Event, KeyTable};
 use csv::ByteRecord;
 
 // The event of a record whose name the table found lately. None says nothing.
-pub(crate) fn known_event(row: &ByteRecord, keys: &KeyTable) -> Option<Event>
-    ensures { IfSome result (IsEventOf keys.now (line_of_record (fields_of row.now))) }
+pub(crate) fn known_event(version: Version, row: &ByteRecord, keys: &KeyTable) -> Option<Event>
+    ensures { IfSome result (IsEventOf keys.now (line_of_record version (fields_of row.now))) }
 {
     match row.len() {
         3 => known_release(keys, field(row, 0), field(row, 1), field(row, 2)),
         4 => known_acquisition(
+            version,
             keys,
             field(row, 0),
             field(row, 1),
@@ -43,6 +45,7 @@ fn known_release(keys: &KeyTable, verb: &[u8], class: &[u8], sub: &[u8]) -> Opti
 
 // The event of `acq`, a name that the table found lately and a mode.
 fn known_acquisition(
+    version: Version,
     keys: &KeyTable,
     verb: &[u8],
     class: &[u8],
@@ -50,12 +53,12 @@ fn known_acquisition(
     mode: &[u8],
 ) -> Option<Event>
     ensures { IfSome result (IsEventOf keys.now
-        (acquire_line verb.now (name_of_fields class.now (sub_of sub.now)) (mode_of mode.now))) }
+        (acquire_line verb.now (name_of_fields class.now (sub_of sub.now)) (mode_of version mode.now))) }
 {
     if !is_word(verb, b"acq") {
         return None;
     }
     let key = keys.known(class, sub_of(sub)?)?;
-    let mode = mode_of(mode)?;
+    let mode = mode_of(version, mode)?;
     Some(Event::Acquire { mode, key })
 }

@@ -11,18 +11,19 @@ ghost use Rattle.ld_trace.specs.Reading.{ReadsTo, StopsAt, line_fault};
 ghost use Rattle.ld_trace.specs.TraceFaults.{is_of_text};
 
 use crate::known::known_event;
-use crate::record::{is_header, line_of};
+use crate::record::{line_of, version_of};
+use crate::version::Version;
 use crate::{Event, KeyTable, MAX_EVENTS, RawTrace, TraceFault, TraceFaultKind};
 use csv::{ByteRecord, ErrorKind, Reader, ReaderBuilder};
 use std::alloc::Global;
 use std::io::Read;
 
-/// Reads a trace in the text format of version 1, and numbers its keys in the table.
+/// Reads a trace in the text format of version 1 or 2, and numbers its keys in the table.
 ///
 /// The records are those of CSV with the comma and the double quote, without a header row of CSV's own, of any length and
-/// untrimmed. The first is `lockdep,1`. Each of the others is an event: `acq,NAME,SUB,MODE`, `rel,NAME,SUB`,
+/// untrimmed. The first is `lockdep,1` or `lockdep,2`. Each of the others is an event: `acq,NAME,SUB,MODE`, `rel,NAME,SUB`,
 /// `enter,STATE`, `leave`, `on,STATE` or `off,STATE`, where a name is 1 to 64 bytes of 0x21 to 0x7E, a subclass is a digit
-/// 0 to 7, a mode is `w`, `r` or `rr`, and a state is `hardirq` or `softirq`.
+/// 0 to 7, a mode is `w`, `r` or `rr`, or in version 2 also `tw`, `tr` or `trr`, and a state is `hardirq` or `softirq`.
 ///
 /// The least faulty record is refused, by the first of its faults in this order: T8 or T9 in getting it, T1, T7, T2, T3,
 /// T4, T5, T9 for the event's room, T6, T9 for the key. Keys that had numbers keep them. After a refusal the keys of the
@@ -64,12 +65,13 @@ fn read_records<R: Read>(
     ensures kept { (added : List Name) × (keys.new ≡ keys.old ++ added) }
 {
     let mut row = ByteRecord::new(alloc);
-    if let Err(kind) = take_header(source, &mut row) {
-        return Err(TraceFault { kind, at: 1 });
-    }
+    let version = match take_header(source, &mut row) {
+        Ok(version) => version,
+        Err(kind) => return Err(TraceFault { kind, at: 1 }),
+    };
     let mut events = Vec::new(alloc);
     'records: loop {
-        match take_event(source, &mut row, &mut events, keys) {
+        match take_event(version, source, &mut row, &mut events, keys) {
             Ok(true) => {}
             Ok(false) => return Ok(RawTrace::of_few(events)),
             Err(kind) => {
@@ -80,13 +82,16 @@ fn read_records<R: Read>(
     }
 }
 
-// Takes the first record, which has to be the header.
-fn take_header<R: Read>(source: &mut Reader<R>, row: &mut ByteRecord) -> Result<(), TraceFaultKind>
+// Takes the first record, which has to be the header, and returns the version that it names.
+fn take_header<R: Read>(
+    source: &mut Reader<R>,
+    row: &mut ByteRecord,
+) -> Result<Version, TraceFaultKind>
     requires { ReadsPlain source.old }
     ensures plain { OnOk result (ReadsPlain source.new) }
-    ensures taken { OnOk result ((known : Option (List ℕ)) (old : List Name)
+    ensures taken { IfOk result (λ version. (known : Option (List ℕ)) (old : List Name)
         → HasGiven R.remaining known source.old []
-        → HasTaken R.remaining known source.new old old []) }
+        → HasTaken R.remaining known source.new version old old []) }
     ensures refused { IfErr result (λ kind. (known : Option (List ℕ)) (old : List Name)
         → HasGiven R.remaining known source.old []
         → AreRefused known old old kind 1) }
@@ -94,14 +99,15 @@ fn take_header<R: Read>(source: &mut Reader<R>, row: &mut ByteRecord) -> Result<
     if !get_record(source, row)? {
         return Err(TraceFaultKind::NoHeader);
     }
-    if !is_header(row) {
-        return Err(TraceFaultKind::NoHeader);
+    match version_of(row) {
+        Some(version) => Ok(version),
+        None => Err(TraceFaultKind::NoHeader),
     }
-    Ok(())
 }
 
 // Takes the next record as an event, and says whether there was one.
 fn take_event<R: Read>(
+    version: Version,
     source: &mut Reader<R>,
     row: &mut ByteRecord,
     events: &mut Vec<Event>,
@@ -118,15 +124,15 @@ fn take_event<R: Read>(
     ensures kept_names { (added : List Name) × (keys.new ≡ keys.old ++ added) }
 
     ensures taken { IfOk result (λ found. found ≡ true → (known : Option (List ℕ)) (old : List Name)
-        → HasTaken R.remaining known source.old old keys.old events.old.items
-        → HasTaken R.remaining known source.new old keys.new events.new.items) }
+        → HasTaken R.remaining known source.old version old keys.old events.old.items
+        → HasTaken R.remaining known source.new version old keys.new events.new.items) }
     ensures ended { IfOk result (λ found. found ≡ false
         → (known : Option (List ℕ)) (old : List Name)
-        → HasTaken R.remaining known source.old old keys.old events.old.items
+        → HasTaken R.remaining known source.old version old keys.old events.old.items
         → AreRead known old keys.new events.new.items
         × KeysBelow (length keys.new) events.new.items) }
     ensures refused { IfErr result (λ kind. (known : Option (List ℕ)) (old : List Name)
-        → HasTaken R.remaining known source.old old keys.old events.old.items
+        → HasTaken R.remaining known source.old version old keys.old events.old.items
         → AreRefused known old keys.new kind (length events.old.items + 2)) }
 {
     if !get_record(source, row)? {
@@ -135,7 +141,7 @@ fn take_event<R: Read>(
     if events.len() == MAX_EVENTS {
         return Err(TraceFaultKind::TooManyRecords);
     }
-    take_record(row, events, keys)?;
+    take_record(version, row, events, keys)?;
     Ok(true)
 }
 
@@ -166,22 +172,23 @@ fn fault_of(error: &csv::Error) -> TraceFaultKind
 
 // Takes a record as an event, and numbers its key. After a refusal nothing is changed.
 fn take_record(
+    version: Version,
     row: &ByteRecord,
     events: &mut Vec<Event>,
     keys: &mut KeyTable,
 ) -> Result<(), TraceFaultKind>
-    ensures taken { OnOk result (TakesLine keys.old keys.new events.old.items events.new.items
+    ensures taken { OnOk result (TakesLine version keys.old keys.new events.old.items events.new.items
         (fields_of row.now)) }
     ensures fault { IfErr result (λ kind. is_of_text kind ≡ true
-        → line_fault keys.old (line_of_record (fields_of row.now)) ≡ Some kind) }
+        → line_fault keys.old (line_of_record version (fields_of row.now)) ≡ Some kind) }
     ensures either { IfErr result (λ kind. (is_of_text kind ≡ true)
         ⊎ (kind ≡ TraceFaultKind.Memory)) }
     ensures refused { OnErr result ((keys.new ≡ keys.old) × (events.new.items ≡ events.old.items)) }
 {
-    if let Some(event) = known_event(row, keys) {
+    if let Some(event) = known_event(version, row, keys) {
         return events.push(event).map_err(|_| TraceFaultKind::Memory);
     }
-    let line = line_of(row)?;
+    let line = line_of(version, row)?;
     if events.reserve(1).is_err() {
         return Err(TraceFaultKind::Memory);
     }

@@ -3,39 +3,63 @@
 ghost use Rattle.std.specs.Prelude.{◌≡◌, ◌<◌, length, true, Ok, Err, IfErr, Some, option_map, if◌then◌else◌};
 ghost use Rattle.std.specs.Str.{bytes_eq};
 ghost use Rattle.csv.specs.Records.{field_at, fields_of};
-ghost use Rattle.ld_trace.specs.Lines.{acquire_line, irq_of, is_header, leave_line, mode_of, name_of_fields, release_line, line_of_record, irq_line, sub_of};
+ghost use Rattle.ld_trace.specs.Lines.{acquire_line, irq_of, leave_line, mode_of, name_of_fields, release_line, line_of_record, irq_line, sub_of, try_mode_of, version_named, version_of};
 ghost use Rattle.ld_trace.specs.Names.{is_class_name};
 ghost use Rattle.ld_trace.specs.Inside.ReadLines.{Says, SaysName};
 ghost use Rattle.ld_trace.specs.TraceFaults.{is_of_text};
 
 use crate::line::{Line, LineName};
 use crate::stored_name::is_class_name;
+use crate::version::Version;
 use crate::{Irq, Mode, TraceFaultKind};
 use csv::ByteRecord;
 use std::str;
 
-// Whether a record is the header of a trace of version 1.
-pub(crate) fn is_header(row: &ByteRecord) -> bool
-    ensures { result ≡ is_header (fields_of row.now) }
+// The version that a record names, if it is a header.
+pub(crate) fn version_of(row: &ByteRecord) -> Option<Version>
+    ensures { result ≡ version_of (fields_of row.now) }
 {
     if row.len() != 2 {
-        return false;
+        return None;
     }
     let word = field(row, 0);
     let version = field(row, 1);
-    is_word(word, b"lockdep") && is_word(version, b"1")
+    if is_word(word, b"lockdep") {
+        version_named(version)
+    } else {
+        None
+    }
 }
 
-// What a record says, or its fault.
-pub(crate) fn line_of(row: &ByteRecord) -> Result<Line<'_>, TraceFaultKind>
-    ensures says { Says (line_of_record (fields_of row.now)) result }
+// The version of this word.
+fn version_named(word: &[u8]) -> Option<Version>
+    ensures { result ≡ version_named word.now }
+{
+    if is_word(word, b"1") {
+        Some(Version::One)
+    } else if is_word(word, b"2") {
+        Some(Version::Two)
+    } else {
+        None
+    }
+}
+
+// What a record of a trace of this version says, or its fault.
+pub(crate) fn line_of(version: Version, row: &ByteRecord) -> Result<Line<'_>, TraceFaultKind>
+    ensures says { Says (line_of_record version (fields_of row.now)) result }
     ensures text { IfErr result (λ kind. is_of_text kind ≡ true) }
 {
     match row.len() {
         1 => leave_line(field(row, 0)),
         2 => irq_line(field(row, 0), field(row, 1)),
         3 => release_line(field(row, 0), field(row, 1), field(row, 2)),
-        4 => acquire_line(field(row, 0), field(row, 1), field(row, 2), field(row, 3)),
+        4 => acquire_line(
+            version,
+            field(row, 0),
+            field(row, 1),
+            field(row, 2),
+            field(row, 3),
+        ),
         _ => Err(TraceFaultKind::BadRecord),
     }
 }
@@ -84,20 +108,21 @@ fn release_line<'r>(verb: &[u8], class: &'r [u8], sub: &[u8]) -> Result<Line<'r>
 
 // What `acq`, a name and a mode say.
 fn acquire_line<'r>(
+    version: Version,
     verb: &[u8],
     class: &'r [u8],
     sub: &[u8],
     mode: &[u8],
 ) -> Result<Line<'r>, TraceFaultKind>
     ensures says { Says (acquire_line verb.now (name_of_fields class.now (sub_of sub.now))
-        (mode_of mode.now)) result }
+        (mode_of version mode.now)) result }
     ensures text { IfErr result (λ kind. is_of_text kind ≡ true) }
 {
     if !is_word(verb, b"acq") {
         return Err(TraceFaultKind::BadRecord);
     }
     let name = name_of(class, sub)?;
-    match mode_of(mode) {
+    match mode_of(version, mode) {
         Some(mode) => Ok(Line::Takes(name, mode)),
         None => Err(TraceFaultKind::BadMode),
     }
@@ -140,8 +165,8 @@ pub(crate) fn sub_of(sub: &[u8]) -> Option<u8>
 }
 
 // The mode of this field.
-pub(crate) fn mode_of(word: &[u8]) -> Option<Mode>
-    ensures { result ≡ mode_of word.now }
+pub(crate) fn mode_of(version: Version, word: &[u8]) -> Option<Mode>
+    ensures { result ≡ mode_of version word.now }
 {
     if is_word(word, b"w") {
         Some(Mode::Write)
@@ -149,6 +174,24 @@ pub(crate) fn mode_of(word: &[u8]) -> Option<Mode>
         Some(Mode::Read)
     } else if is_word(word, b"rr") {
         Some(Mode::RecRead)
+    } else {
+        try_mode_of(version, word)
+    }
+}
+
+// The mode of a try, which version 1 has not.
+fn try_mode_of(version: Version, word: &[u8]) -> Option<Mode>
+    ensures { result ≡ try_mode_of version word.now }
+{
+    if version == Version::One {
+        return None;
+    }
+    if is_word(word, b"tw") {
+        Some(Mode::TryWrite)
+    } else if is_word(word, b"tr") {
+        Some(Mode::TryRead)
+    } else if is_word(word, b"trr") {
+        Some(Mode::TryRecRead)
     } else {
         None
     }

@@ -176,6 +176,46 @@ fn a_first_record_that_is_no_header(rt: HostRuntime) {
 }
 
 #[test]
+fn tries_are_modes_of_version_2_alone(rt: HostRuntime) -> Result<(), Fail> {
+    let mut keys = KeyTable::new(rt.alloc())?;
+    let text = b"lockdep,2\nacq,A,0,tw\nacq,A,0,tr\nacq,A,0,trr\nacq,A,0,w\nacq,A,0,rr\n";
+    let trace = read_trace(rt.alloc(), text.as_slice(), &mut keys)?;
+    let key = KeyId::new(0).ok_or("no key")?;
+    let modes = [
+        Mode::TryWrite,
+        Mode::TryRead,
+        Mode::TryRecRead,
+        Mode::Write,
+        Mode::RecRead,
+    ];
+    assert_eq!(rt; trace.len(), modes.len());
+    for (i, mode) in modes.iter().enumerate() {
+        assert_eq!(rt;
+            trace.event(i),
+            Some(Event::Acquire { key, mode: *mode }),
+            "at {i}"
+        );
+    }
+    for text in [
+        b"lockdep,1\nacq,A,0,tw\n".as_slice(),
+        b"lockdep,1\nacq,A,0,tr\n".as_slice(),
+        b"lockdep,1\nacq,A,0,trr\n".as_slice(),
+        b"lockdep,2\nacq,A,0,t\n".as_slice(),
+        b"lockdep,2\nacq,A,0,twr\n".as_slice(),
+    ] {
+        assert_eq!(rt;
+            events_of(rt.alloc(), text),
+            refused(TraceFaultKind::BadMode, 2)
+        );
+    }
+    assert_eq!(rt;
+        events_of(rt.alloc(), b"lockdep,2\nlockdep,2\n".as_slice()),
+        refused(TraceFaultKind::BadRecord, 2)
+    );
+    Ok(())
+}
+
+#[test]
 fn a_refused_record_leaves_its_key_out(rt: HostRuntime) -> Result<(), Fail> {
     let mut keys = KeyTable::new(rt.alloc())?;
     let text = b"lockdep,1\nacq,A,0,w\nacq,B,0,w\nacq,C,0,x\nacq,D,0,w\n";

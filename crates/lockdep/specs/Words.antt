@@ -4,7 +4,7 @@ use Rattle.ld_trace.specs.Names.{Name}
 use Rattle.ld_trace.specs.declared.event.Irq.{Irq}
 use Rattle.ld_trace.specs.declared.event.Irq.TheVariants.{Hard, Soft}
 use Rattle.ld_trace.specs.declared.event.Mode.{Mode}
-use Rattle.ld_trace.specs.declared.event.Mode.TheVariants.{Write, Read, RecRead}
+use Rattle.ld_trace.specs.declared.event.Mode.TheVariants.{Write, Read, RecRead, TryWrite, TryRead, TryRecRead}
 use Rattle.ld_task.specs.declared.frame.Frame.{Frame}
 use Rattle.ld_task.specs.declared.frame.Frame.TheVariants.{Task, Softirq, Hardirq}
 use Rattle.ld_task.specs.declared.kind.Kind.{Kind}
@@ -35,6 +35,9 @@ abbrev pub mode_text : Mode → List ℕ
 mode_text Write = codes "w"
 mode_text Read = codes "r"
 mode_text RecRead = codes "rr"
+mode_text TryWrite = codes "tw"
+mode_text TryRead = codes "tr"
+mode_text TryRecRead = codes "trr"
 
 -- a frame's word
 abbrev pub frame_text : Frame → List ℕ

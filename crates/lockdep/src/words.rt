@@ -41,12 +41,15 @@ pub(crate) fn irq_word(irq: Irq) -> &'static str
 /// The word for a mode.
 pub(crate) fn mode_word(mode: Mode) -> &'static str
     ensures word { result.now ≡ mode_text mode }
-    ensures short { length result.now ≤ 2 }
+    ensures short { length result.now ≤ 3 }
 {
     match mode {
         Mode::Write => "w",
         Mode::Read => "r",
         Mode::RecRead => "rr",
+        Mode::TryWrite => "tw",
+        Mode::TryRead => "tr",
+        Mode::TryRecRead => "trr",
     }
 }
 

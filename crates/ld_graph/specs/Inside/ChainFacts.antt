@@ -1,6 +1,7 @@
 -- The facts of a chain one after the other.
-use Rattle.std.specs.Prelude.{ℕ, ◌+◌, ◌-◌, ◌*◌, ◌/◌, ◌%◌, ◌==◌, nat_lt, Bool, if◌then◌else◌, length, Option, Some, None, slice_get}
+use Rattle.std.specs.Prelude.{◌≡◌, ℕ, ◌+◌, ◌-◌, ◌*◌, ◌/◌, ◌%◌, ◌<◌, ◌==◌, nat_lt, Bool, if◌then◌else◌, length, Option, Some, None, slice_get}
 use Rattle.ld_trace.specs.declared.event.Irq.TheVariants.{Hard, Soft}
+use Rattle.ld_trace.specs.Modes.{is_read, may_wait}
 use Rattle.ld_task.specs.declared.frame.Flags.{Flags}
 use Rattle.ld_task.specs.declared.frame.Frame.{Frame}
 use Rattle.ld_task.specs.declared.lock.Lock.{Lock}
@@ -8,7 +9,7 @@ use Rattle.ld_task.specs.declared.mark.Mark.{Mark}
 use Rattle.ld_task.specs.declared.mark.Mark.TheVariants.{Used, UsedIn, Enabled}
 use Rattle.ld_task.specs.Chains.{ChainParts}
 use Rattle.ld_task.specs.Kinds.{kind_between}
-use Rattle.ld_task.specs.Marks.{is_read, marks_taken, marks_opened}
+use Rattle.ld_task.specs.Marks.{marks_taken, marks_opened}
 use Rattle.ld_graph.specs.declared.fact.Fact.{Fact}
 use Rattle.ld_graph.specs.declared.fact.Fact.TheVariants.{Dependency, Marked}
 
@@ -26,10 +27,11 @@ mark_by_opening read n = if n == 0 then Enabled Hard read else Enabled Soft read
 abbrev pub mark_if : (Mark → Bool) → ℕ → Mark → Option Fact
 mark_if gives key mark = if gives mark then Some (Marked key mark) else None
 
--- the dependency from a held lock, if there is one, to the new lock
+-- the dependency from a held lock, if there is one, to the new lock, if that may be waited for
 abbrev pub dependency_from : Option Lock → Lock → Option Fact
 dependency_from None new = None
-dependency_from (Some old) new = Some (Dependency old.key new.key (kind_between old.mode new.mode))
+dependency_from (Some old) new = if may_wait new.mode
+    then Some (Dependency old.key new.key (kind_between old.mode new.mode)) else None
 
 -- the mark of that number on a held lock, if there is one
 abbrev pub mark_of_held : Option Lock → Flags → ℕ → Option Fact
@@ -56,3 +58,7 @@ slots_by None c = length c.held_locks * 2
 
 abbrev pub fact_slots : ChainParts → ℕ
 fact_slots c = slots_by c.new_lock c
+
+-- the fact is in one of the first slots
+abbrev pub StandsIn : ChainParts → Fact → ℕ → Type 0
+StandsIn c x bound = (n : ℕ) × (n < bound) × (chain_fact c n ≡ Some x)

@@ -12,7 +12,8 @@ use Rattle.ld_trace.specs.declared.trace_fault.TraceFaultKind.{TraceFaultKind}
 use Rattle.ld_trace.specs.declared.trace_fault.TraceFaultKind.TheVariants.{Source, Memory}
 use Rattle.ld_trace.specs.Lines.{Line, Record, event_of, is_over, line_of_record, with_line}
 use Rattle.ld_trace.specs.Names.{Name}
-use Rattle.ld_trace.specs.Reading.{ReadsTo, StopsAt, event_at, fault_at, names_after}
+use Rattle.ld_trace.specs.Reading.{ReadsTo, StopsAt, event_at, fault_at, names_after, version_in}
+use Rattle.ld_trace.specs.declared.version.Version.{Version}
 
 -- a reader of records as the format has them: no field is trimmed, and the next read is of one record
 pub record ReadsPlain {R : Type 0} (source : Reader R) : Type 0 where
@@ -27,20 +28,21 @@ HasGiven rem known source rows =
     IfSome known (λ bytes. (left : List ℕ) × (source_of rem source ≡ Some left)
     × Reached default_config st.StartRecord (strip_bom bytes) rows (reader_state source) left)
 
--- the header and these records after it were taken, and stand for these events
-pub record AreTaken (old : List Name) (rows : List Record) (now : List Name) (events : List Event) : Type 0 where
+-- the header, which names this version, and these records after it were taken, and stand for these events
+pub record AreTaken (version : Version) (old : List Name) (rows : List Record) (now : List Name) (events : List Event) : Type 0 where
+  pub version_is : version_in rows ≡ version
   pub count : length rows ≡ suc (length events)
-  pub faultless : (i : ℕ) → i < length rows → fault_at old rows i ≡ None
-  pub each : (i : ℕ) → slice_get events i ≡ event_at old rows (suc i)
-  pub names : now ≡ names_after old rows
+  pub faultless : (i : ℕ) → i < length rows → fault_at version old rows i ≡ None
+  pub each : (i : ℕ) → slice_get events i ≡ event_at version old rows (suc i)
+  pub names : now ≡ names_after version old rows
   pub below : KeysBelow (length now) events
   pub added : (more : List Name) × (now ≡ old ++ more)
 
 -- what the loop over the records keeps: some records were taken, the first ones of the bytes
 abbrev pub HasTaken : {R : Type 0} → (R → Option (List ℕ)) → Option (List ℕ) → Reader R
-    → List Name → List Name → List Event → Type 0
-HasTaken rem known source old now events =
-    (rows : List Record) × HasGiven rem known source rows × AreTaken old rows now events
+    → Version → List Name → List Name → List Event → Type 0
+HasTaken rem known source version old now events =
+    (rows : List Record) × HasGiven rem known source rows × AreTaken version old rows now events
 
 -- what a record says is no fault, its name is known to the table, and this is its event
 pub record IsEventOf (names : List Name) (what : Result Line TraceFaultKind) (event : Event) : Type 0 where
@@ -51,9 +53,9 @@ pub record IsEventOf (names : List Name) (what : Result Line TraceFaultKind) (ev
   pub is_event : event ≡ event_of names line
 
 -- a record was taken as what it says
-pub record TakesLine (old new : List Name) (before after : List Event) (r : Record) : Type 0 where
+pub record TakesLine (version : Version) (old new : List Name) (before after : List Event) (r : Record) : Type 0 where
   pub line : Line
-  pub says : line_of_record r ≡ Ok line
+  pub says : line_of_record version r ≡ Ok line
   pub fits : is_over old line ≡ false
   pub names : new ≡ with_line old line
   pub events : after ≡ before ++ event_of old line ∷ []

@@ -13,10 +13,21 @@ use std::sync::Wait;
 use std::test::Fail;
 use std::thread::Threads;
 
-/// The text of a trace whose records stand in one line, with spaces between them.
+/// The text of a trace of version 1 whose records stand in one line, with spaces between them.
 pub(crate) fn trace_text(alloc: Global, records: &str) -> Result<Vec<u8>, AllocError> {
+    text_of(alloc, "lockdep,1", records)
+}
+
+/// The text of a trace of version 2, which has try acquisitions.
+pub(crate) fn tries_text(alloc: Global, records: &str) -> Result<Vec<u8>, AllocError> {
+    text_of(alloc, "lockdep,2", records)
+}
+
+// The text of a trace with this header.
+fn text_of(alloc: Global, header: &str, records: &str) -> Result<Vec<u8>, AllocError> {
     let mut text = Vec::new(alloc);
-    text.extend_from_slice(b"lockdep,1\n")?;
+    text.extend_from_slice(header.as_bytes())?;
+    text.push(b'\n')?;
     for byte in records.as_bytes() {
         text.push(if *byte == b' ' { b'\n' } else { *byte })?;
     }
@@ -57,15 +68,20 @@ pub(crate) fn assert_reports(
 ) -> Result<(), Fail> {
     for example in examples {
         let session = session_of(rt.alloc(), example.traces)?;
-        let mut text = Vec::new(rt.alloc());
-        let clean = session.report(rt, rt.alloc(), 4, &OpenGate, &mut text)?;
-        assert_eq!(rt; str::from_utf8(text.as_slice())?, example.report);
-        assert_eq!(rt;
-            clean,
-            example.report.contains("clean yes"),
-            "{}",
-            example.report
-        );
+        assert_report(rt, session, example.report)?;
     }
+    Ok(())
+}
+
+/// Asserts that the session has this report.
+pub(crate) fn assert_report(
+    rt: &(impl Threads + Wait + Sync + Abort + AllocGlobal),
+    session: Session,
+    report: &str,
+) -> Result<(), Fail> {
+    let mut text = Vec::new(rt.alloc());
+    let clean = session.report(rt, rt.alloc(), 4, &OpenGate, &mut text)?;
+    assert_eq!(rt; str::from_utf8(text.as_slice())?, report);
+    assert_eq!(rt; clean, report.contains("clean yes"), "{report}");
     Ok(())
 }

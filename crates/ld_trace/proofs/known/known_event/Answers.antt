@@ -5,10 +5,10 @@ use Rattle.ld_trace.proofs.known.known_event.Goals as goal
 
 pub returns-in-3 : goal.returns-in-3
 returns-in-3 c =
-    rw (line_of_record-three (fields_of c.args.row.now) c.field.result.now c.field-in-3.result.now c.field-in-3-2.result.now (sym c.len.ensures ∙ c.in-3.is) c.field.ensures c.field-in-3.ensures c.field-in-3-2.ensures)
+    rw (line_of_record-three c.args.version (fields_of c.args.row.now) c.field.result.now c.field-in-3.result.now c.field-in-3-2.result.now (sym c.len.ensures ∙ c.in-3.is) c.field.ensures c.field-in-3.ensures c.field-in-3-2.ensures)
     c.known_release.ensures
 
 pub returns-in-4 : goal.returns-in-4
 returns-in-4 c =
-    rw (line_of_record-four (fields_of c.args.row.now) c.field-in-4.result.now c.field-in-4-2.result.now c.field-in-4-3.result.now c.field-in-4-4.result.now (sym c.len.ensures ∙ c.in-4.is) c.field-in-4.ensures c.field-in-4-2.ensures c.field-in-4-3.ensures c.field-in-4-4.ensures)
+    rw (line_of_record-four c.args.version (fields_of c.args.row.now) c.field-in-4.result.now c.field-in-4-2.result.now c.field-in-4-3.result.now c.field-in-4-4.result.now (sym c.len.ensures ∙ c.in-4.is) c.field-in-4.ensures c.field-in-4-2.ensures c.field-in-4-3.ensures c.field-in-4-4.ensures)
     c.known_acquisition.ensures

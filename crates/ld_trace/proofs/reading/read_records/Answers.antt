@@ -4,7 +4,7 @@ use Rattle.ld_trace.proofs.reading.read_records.Goals as goal
 
 pub records-init : goal.records-init
 records-init g c =
-    (c.in_default.ensures.plain, rw c.new-events.ensures.items (omega arith), λ known given. rw c.new-events.ensures.items (c.in_default.ensures.taken known c.args.keys.now given), ([], sym (append-nil c.args.keys.now)))
+    (c.in-Ok.ensures.plain, rw c.new-events.ensures.items (omega arith), λ known given. rw c.new-events.ensures.items (c.in-Ok.ensures.taken known c.args.keys.now given), ([], sym (append-nil c.args.keys.now)))
 
 pub returns-in-Ok-false-clause-numbered : goal.returns-in-Ok-false-clause-numbered
 returns-in-Ok-false-clause-numbered g c =

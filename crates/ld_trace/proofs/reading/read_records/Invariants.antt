@@ -6,7 +6,7 @@ use Rattle.ld_trace.proofs.reading.read_records.Given as goal
 
 abbrev pub invariant-records : goal.invariant-records
 invariant-records g l = ReadsPlain l.source × (length l.events.items ≤ MAX_EVENTS)
-    × ((known : Option (List ℕ)) → HasGiven g.R.Read.remaining known l.fn.source [] → HasTaken g.R.Read.remaining known l.source l.fn.keys l.keys l.events.items)
+    × ((known : Option (List ℕ)) → HasGiven g.R.Read.remaining known l.fn.source [] → HasTaken g.R.Read.remaining known l.source l.version l.fn.keys l.keys l.events.items)
     × ((added : List Name) × (l.keys ≡ l.fn.keys ++ added))
 
 abbrev pub decreases-records : goal.decreases-records

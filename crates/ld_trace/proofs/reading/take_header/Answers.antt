@@ -13,12 +13,12 @@ pub returns-then-not-branch-clause-refused : goal.returns-then-not-branch-clause
 returns-then-not-branch-clause-refused g c =
     λ known old given. header-missing g.R.Read.remaining known old c.args.source.now c.get_record.new.source (fields_of c.get_record.new.row) c.requires given (rw c.if-not-branch.true at c.in_ok-get_record.ensures.reads)
 
-pub returns-then-not-is_header-clause-refused : goal.returns-then-not-is_header-clause-refused
-returns-then-not-is_header-clause-refused g c =
+pub returns-in-None-clause-refused : goal.returns-in-None-clause-refused
+returns-in-None-clause-refused g c =
     λ known old given. header-refused g.R.Read.remaining known old c.args.source.now c.get_record.new.source (fields_of c.get_record.new.row) c.requires given (rw c.if-not-branch.false at c.in_ok-get_record.ensures.reads)
-    (sym c.is_header.ensures ∙ c.if-not-is_header.true)
+    (sym c.version_of.ensures ∙ c.in-None.is)
 
-pub returns-clause-taken : goal.returns-clause-taken
-returns-clause-taken g c =
-    λ known old given. header-taken g.R.Read.remaining known old c.args.source.now c.get_record.new.source (fields_of c.get_record.new.row) c.requires given (rw c.if-not-branch.false at c.in_ok-get_record.ensures.reads)
-    (sym c.is_header.ensures ∙ c.if-not-is_header.false)
+pub returns-in-Some-clause-taken : goal.returns-in-Some-clause-taken
+returns-in-Some-clause-taken g c =
+    λ known old given. header-taken g.R.Read.remaining known old c.args.source.now c.in-Some.version c.get_record.new.source (fields_of c.get_record.new.row) c.requires given (rw c.if-not-branch.false at c.in_ok-get_record.ensures.reads)
+    (sym c.version_of.ensures ∙ c.in-Some.is)

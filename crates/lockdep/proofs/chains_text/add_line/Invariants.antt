@@ -9,7 +9,7 @@ use Rattle.lockdep.proofs.chains_text.add_line.Given as goal
 pub record IsLineUpTo (names : List Name) (c : ChainParts) (n : ℕ) (line : List ℕ) : Type 0 where
   pub text : line ≡ head_text names c.new_lock c.flags
       ++ (codes " held " ++ (decimal (length c.held_locks) ++ flat_map (lock_text names) (take n c.held_locks)))
-  pub short : length line ≤ 100 + 72 * n
+  pub short : length line ≤ 101 + 73 * n
 
 abbrev pub invariant-loop-place : goal.invariant-loop-place
 invariant-loop-place l = IsLineUpTo l.names l.chain l.place l.line.bytes

@@ -26,7 +26,7 @@ unite_word-requires c =
     record {
       below = subst (λ k. c.loop-i.i < (bit_total k + 63) / 64) (keys_are d)
           (let t = c.loop-i-test.true in let e = c.len-i-end.ensures in let w = c.other.invariant.are.words in omega arith);
-      within = λ k l h. subst (λ keys. c.loop-i.i * 64 + k < bit_total keys) (keys_are d)
+      none_past = λ k l h. subst (λ keys. c.loop-i.i * 64 + k < bit_total keys) (keys_are d)
           (elim (cases_lt (c.loop-i.i * 64 + k) (bit_total c.other.inside.keys)) [
             | inl m ↦ m
             | inr past ↦ absurd
@@ -41,7 +41,7 @@ pub loop-i-preserved : goal.loop-i-preserved
 loop-i-preserved c =
     let d = (goal.at.loop-i-preserved c).After-index in
     UnitesWords-more c.args.self.now c.loop-i.self c.unite_word.new.self c.other.inside.bits.items c.loop-i.i c.loop-i.invariant
-    (subst (UnitesWord c.loop-i.self c.unite_word.new.self c.loop-i.i) (word_is d) c.unite_word.ensures)
+    (subst (UnitesWord c.loop-i.self c.unite_word.new.self c.loop-i.i) (word_is d) c.unite_word.ensures.unites)
 
 pub returns-clause-adds : goal.returns-clause-adds
 returns-clause-adds c =

@@ -1,0 +1,22 @@
+use Rattle.std.proofs.Common.{arith, subst, sym, ◌∙◌, ◌/◌, ◌%◌}
+use Rattle.ld_graph.specs.Inside.WordTable.{HasWord}
+use Rattle.ld_graph.proofs.WordTables.{room_for, HasWord-among}
+use Rattle.ld_graph.proofs.chain_words.FactWords.add.Goals as goal
+
+pub unite-requires : goal.unite-requires
+unite-requires c =
+    let room = room_for c.self.inside.places c.self.inside.bits c.self.inside.seen c.self.inside.len c.self.told.0 c.self.told.1 c.self.invariant in
+    record {
+      known = subst (λ pairs. HasWord pairs (c.args.n / 64)) c.self.view_is
+          ((HasWord-among c.self.inside.places c.self.inside.bits c.self.inside.seen c.self.inside.len room c.self.invariant (c.args.n / 64)).1
+          ((c.self.invariant.among (c.args.n / 64)).0 (sym c.has.ensures ∙ c.if-has.true)));
+    }
+
+pub push-requires-clause-fresh : goal.push-requires-clause-fresh
+push-requires-clause-fresh c = λ has.
+    let room = room_for c.self.inside.places c.self.inside.bits c.self.inside.seen c.self.inside.len c.self.told.0 c.self.told.1 c.self.invariant in
+    let among = (HasWord-among c.self.inside.places c.self.inside.bits c.self.inside.seen c.self.inside.len room c.self.invariant (c.args.n / 64)).0
+    (subst (λ pairs. HasWord pairs (c.args.n / 64)) (sym c.self.view_is) has) in
+    let on = (c.self.invariant.among (c.args.n / 64)).1 among in
+    let off = sym c.has.ensures ∙ c.if-has.false in
+    cc

@@ -1,0 +1,10 @@
+//! The versions of the trace format.
+
+/// The version of the text format that a trace's header names.
+#[derive(Clone, Copy, PartialEq, Eq, Debug)]
+pub(crate) enum Version {
+    /// Without try acquisitions.
+    One,
+    /// With them.
+    Two,
+}
