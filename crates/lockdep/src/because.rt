@@ -79,5 +79,6 @@ pub(crate) fn add_line(
     write!(text, "because {name}/{sub}")?;
     add_members(text, names, circle, least, circle.len())?;
     add_members(text, names, circle, 0, least)?;
-    text.push_str("\n")
+    text.push_str("\n")?;
+    Ok(())
 }
