@@ -15,6 +15,7 @@ returns c = record {
       (GrowsBy-then _ _ _ _ _ c.in_ok-add_totals.ensures
       (GrowsBy-then _ _ _ _ _ c.in_ok-add_usage.ensures
       (GrowsBy-then _ _ _ _ _ c.in_ok-add_circles.ensures
+      (GrowsBy-then _ _ _ _ _ c.in_ok-add_because.ensures
       (GrowsBy-then _ _ _ _ _ c.in_ok-add_doubles.ensures
-      (GrowsBy-then _ _ _ _ _ c.in_ok-add_inversions.ensures (GrowsBy-none _)))))));
+      (GrowsBy-then _ _ _ _ _ c.in_ok-add_inversions.ensures (GrowsBy-none _))))))));
 }
