@@ -15,25 +15,22 @@ fn table(alloc: Global) -> Result<KeyTable, Fail> {
     }
 }
 
-// Reads a text of this many events. Where that is refused, the table has the names before the refused record, which
-// `names_before` tells, and the same text is then read.
+// Reads a text of this many events. Where that is refused at a record, the table has as many names as `before` says for it, or
+// `all` of them behind the last record, and the same text is then read.
 fn reads(
     rt: &(impl Abort + AllocGlobal + Print),
     keys: &mut KeyTable,
     (text, events): (&[u8], usize),
-    names_before: fn(usize) -> usize,
+    (before, all): (&[usize], usize),
 ) -> Result<(), Fail> {
     if let Err(fault) = read_trace(rt.alloc(), text, keys) {
         println!(rt; "refused: {} at record {}", fault.code(), fault.at)?;
+        let names = before.get(fault.at).copied().unwrap_or(all);
         assert_eq!(rt; fault.code(), "T9 Memory");
-        assert_eq!(rt;
-            keys.len(),
-            names_before(fault.at),
-            "at record {}",
-            fault.at
-        );
+        assert_eq!(rt; keys.len(), names, "at record {}", fault.at);
         assert_eq!(rt; read_trace(rt.alloc(), text, keys)?.len(), events);
     }
+    assert_eq!(rt; keys.len(), all);
     Ok(())
 }
 
@@ -41,31 +38,28 @@ fn reads(
 fn want_of_memory_in_reading_three_locks(rt: HostRuntime) -> Result<(), Fail> {
     let mut keys = table(rt.alloc())?;
     let text = b"lockdep,1\nacq,A,0,w\nacq,B,0,w\nrel,A,0\nacq,C,0,w\n";
-    reads(&rt, &mut keys, (text.as_slice(), 4), |at| match at {
-        0..=2 => 0,
-        3 => 1,
-        4 | 5 => 2,
-        _ => 3,
-    })?;
-    assert_eq!(rt; keys.len(), 3);
-    Ok(())
+    reads(
+        &rt,
+        &mut keys,
+        (text.as_slice(), 4),
+        (&[0, 0, 0, 1, 2, 2], 3),
+    )
 }
 
 #[test]
 fn want_of_memory_in_reading_three_traces(rt: HostRuntime) -> Result<(), Fail> {
     let mut keys = table(rt.alloc())?;
     let first = b"lockdep,1\nenter,softirq\nacq,A,0,w\nrel,A,0\nleave\n";
-    reads(&rt, &mut keys, (first.as_slice(), 4), |at| {
-        if at <= 3 { 0 } else { 1 }
-    })?;
+    reads(&rt, &mut keys, (first.as_slice(), 4), (&[0, 0, 0, 0], 1))?;
     let second = b"lockdep,1\noff,softirq\nacq,A,0,w\nacq,B,0,w\nrel,B,0\nrel,A,0\non,softirq\n";
-    reads(&rt, &mut keys, (second.as_slice(), 6), |at| {
-        if at <= 4 { 1 } else { 2 }
-    })?;
+    reads(
+        &rt,
+        &mut keys,
+        (second.as_slice(), 6),
+        (&[1, 1, 1, 1, 1], 2),
+    )?;
     let third = b"lockdep,1\nacq,B,0,w\nrel,B,0\n";
-    reads(&rt, &mut keys, (third.as_slice(), 2), |_| 2)?;
-    assert_eq!(rt; keys.len(), 2);
-    Ok(())
+    reads(&rt, &mut keys, (third.as_slice(), 2), (&[], 2))
 }
 
 #[test]
