@@ -2,6 +2,8 @@
 
 ghost use Rattle.ld_task.specs.Chains.{ChainKeysBelow};
 
+mod want_of_memory;
+
 use crate::{Circle, FactWords, Facts, Graph, Kind, Mark, fact_words};
 use ld_task::{Chain, TaskState};
 use ld_trace::{Event, Irq, KeyId, MAX_KEYS, Mode};

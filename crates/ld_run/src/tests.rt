@@ -1,5 +1,7 @@
 //! Runs over small traces.
 
+mod want_of_memory;
+
 use crate::{Gate, OpenGate, RunFault, Settled, run, settle};
 use ld_book::{Book, LockedBook};
 use ld_graph::{Facts, Kind, Mark};
