@@ -20,7 +20,7 @@ const TRACES: [&[u8]; 2] = [
 ];
 
 const REPORT: &[u8] =
-    b"traces 2\nevents 8\nkeys 2\ndependencies 2\nclean no\nusage A/0 {+.+.}\nusage B/0 {+.+.}\ncircle A/0 EN B/0\ncircle B/0 EN A/0\n";
+    b"traces 2\nevents 8\nkeys 2\ndependencies 2\nclean no\nusage A/0 {+.+.}\nusage B/0 {+.+.}\ncircle A/0 EN B/0\ncircle B/0 EN A/0\nbecause A/0 EN B/0 EN A/0\n";
 
 // A writer that takes no memory: it has room for any text of these tests.
 #[derive(Clone, Copy)]
