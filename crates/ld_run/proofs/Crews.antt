@@ -1,27 +1,26 @@
 -- What all workers of a board bring back together.
-use Rattle.std.proofs.Common.{◌≡◌, ◌≢◌, ◌⊎◌, ◌↔◌, ℕ, zero, suc, ◌+◌, ◌<◌, ◌≤◌, cond, eqb, Bool, List, [], ◌∷◌, ◌++◌, Option, Some, None, All, Any, Contains, IsFalse, map, slice_get, slice_index_or, get_or, length, refl, sym, ap, ◌∙◌, subst, inl, inr, arith, eq-eqb, ne_eqb}
+use Rattle.std.proofs.Common.{◌≡◌, ◌⊎◌, ℕ, ◌+◌, ◌<◌, ◌≤◌, cond, Bool, List, [], ◌∷◌, ◌++◌, Option, Some, None, All, Any, Contains, IsFalse, map, slice_get, slice_index_or, length, sym, ap, ◌∙◌, subst, inl, inr, arith, eq-eqb, ne_eqb}
 use Rattle.std.proofs.lemmas.List.{append-nil}
 use Rattle.std.proofs.lemmas.Bool.{cases_eq, cases_lt, lt-ltb, le-ltb}
 use Rattle.std.proofs.lemmas.Bool.Decides.{nat_tests}
-use Rattle.std.proofs.lemmas.Option.{slice_get_within, slice_get-get_or}
+use Rattle.std.proofs.lemmas.Option.{slice_get_within}
 use Rattle.ld_trace.specs.declared.event.Event.{Event}
 use Rattle.ld_task.specs.declared.fault.StepAt.{StepAt}
-use Rattle.ld_task.specs.WellFormed.{IsWellFormed}
 use Rattle.ld_graph.specs.FactBits.{FactParts, HasFact}
 use Rattle.ld_graph.specs.Facts.{AreSame, Holds}
 use Rattle.ld_graph.specs.FactLaws.{Any-push}
 use Rattle.ld_graph.specs.declared.fact.Fact.{Fact}
 use Rattle.ld_run.specs.Seats.{view, claims_of}
 use Rattle.ld_run.specs.Views.{newcomer, times, once_below, PutHas, SeenHas, KnowsFact}
-use Rattle.ld_run.specs.Tallies.{AreWellFormed, Every, HasBeforeFault, IsRefused, IsTally, LeastRefusedIs, OfSome}
-use Rattle.ld_run.specs.Work.{DrawnHave, HasFinished, HasWorked}
+use Rattle.ld_run.specs.Tallies.{Every, HasBeforeFault, IsRefused, IsTally, LeastRefusedIs, OfSome}
+use Rattle.ld_run.specs.Work.{HasWorked}
 use Rattle.ld_run.specs.Inside.Crews.{HasDrawn, SomeHasDrawn, earlier_refused}
 use Rattle.ld_run.specs.declared.view.View.{View}
 use Rattle.ld_run.specs.declared.seat.Seat.{Seat}
 use Rattle.ld_run.specs.declared.worker.Worked.{Worked}
 use Rattle.ld_run.proofs.SeatFacts.{Any-cases, Any-here, Any-later, none_has}
 use Rattle.ld_run.proofs.WordLists.{times_append}
-use Rattle.ld_run.proofs.Working.{Contains-cases, Contains-here, Contains-later, least-same, no_member, refused-same}
+use Rattle.ld_run.proofs.Working.{Contains-cases, Contains-here, Contains-later, least-same, no_member}
 
 -- ---- the first refused of two parts of the traces
 module _ (traces : List (List Event)) (IsMine IsOther : ℕ → Type 0) where

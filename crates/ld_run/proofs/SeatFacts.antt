@@ -16,7 +16,7 @@ use Rattle.ld_run.specs.Views.{newcomer, times, once_below, PutHas, SeenHas, Sha
 use Rattle.ld_run.specs.Seats.{view, claims_of}
 use Rattle.ld_run.specs.Work.{PutsOnly}
 use Rattle.ld_run.specs.Inside.BoardRule.{joined, Knows}
-use Rattle.ld_run.specs.Inside.Gathered.{joined_onto, gathered}
+use Rattle.ld_run.specs.Inside.Gathered.{gathered}
 use Rattle.ld_run.specs.declared.view.View.{View}
 use Rattle.ld_run.specs.declared.seat.Seat.{Seat}
 use Rattle.ld_run.proofs.WordLists.{bit_into}

@@ -1,15 +1,12 @@
 -- The last seat of a list.
-use Rattle.std.proofs.Common.{◌≡◌, ℕ, ◌+◌, ◌<◌, List, [], ◌∷◌, ◌++◌, length, get_or, All, refl, sym, ap, ◌∙◌, subst, arith, length-append, zero-add, zero, suc, cond, eq-eqb, Bool, ◌≤◌, map}
+use Rattle.std.proofs.Common.{◌≡◌, ℕ, List, [], ◌∷◌, ◌++◌, length, get_or, All, refl, sym, ap, ◌∙◌, subst, arith, length-append, zero-add, zero, suc}
 use Rattle.std.proofs.lemmas.List.{get_or_append_left, get_or_push}
 use mathlib.Core.Option.{some, some-injective, some-ne-none}
 use lib.ListN.{get_elem?}
 use Rattle.ld_run.specs.declared.view.View.{View}
 use Rattle.ld_run.specs.declared.seat.Seat.{Seat}
-use Rattle.std.proofs.lemmas.List.Elements.{All-cons, All-nil}
-use Rattle.std.proofs.lemmas.Bool.Decides.{nat_tests}
 use Rattle.ld_run.specs.Inside.BoardRule.{joined}
-use Rattle.ld_run.specs.Views.{newcomer, times, once_below}
-use Rattle.ld_run.proofs.WordLists.{times_append}
+use Rattle.ld_run.specs.Views.{newcomer}
 use Rattle.ld_run.specs.Seats.{view}
 use Rattle.ld_run.specs.Inside.Gathered.{joined_onto, gathered}
 

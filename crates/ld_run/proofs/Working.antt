@@ -1,18 +1,17 @@
 -- What a worker has drawn, put and found.
-use Rattle.std.proofs.Common.{◌≡◌, ◌⊎◌, ◌↔◌, ℕ, zero, suc, ◌+◌, ◌<◌, ◌≤◌, List, [], ◌∷◌, ◌++◌, Option, Some, None, All, Contains, IfSome, slice_get, length, refl, sym, ap, ◌∙◌, subst, inl, inr, arith}
-use Rattle.std.specs.Prelude.{slice_index_or}
-use Rattle.std.proofs.lemmas.Option.{slice_get_within, slice_get_read}
+use Rattle.std.proofs.Common.{◌≡◌, ◌⊎◌, ◌↔◌, ℕ, zero, suc, ◌<◌, ◌≤◌, List, [], ◌∷◌, ◌++◌, Option, Some, None, All, Contains, IfSome, slice_get, length, refl, sym, ap, ◌∙◌, subst, inl, inr, arith}
+use Rattle.std.proofs.lemmas.Option.{slice_get_within}
 use Rattle.ld_trace.specs.declared.event.Event.{Event}
 use Rattle.ld_task.specs.declared.fault.StepAt.{StepAt}
 use Rattle.ld_task.specs.WellFormed.{IsWellFormed}
 use Rattle.ld_graph.specs.Facts.{Holds}
 use Rattle.ld_graph.specs.declared.fact.Fact.{Fact}
 use Rattle.ld_run.specs.Views.{KnowsFact, with_claim}
-use Rattle.ld_run.specs.Tallies.{AreWellFormed, HasBeforeFault, IsRefused, LeastRefusedIs, OfSome}
+use Rattle.ld_run.specs.Tallies.{HasBeforeFault, IsRefused, LeastRefusedIs, OfSome}
 use Rattle.ld_run.specs.Work.{DrawnHave, HasFinished, PutsOnly}
 use Rattle.ld_run.specs.Inside.Walks.{FirstFaultIs, first_refused_of}
 use Rattle.ld_run.specs.declared.view.View.{View}
-use Rattle.ld_run.proofs.Walking.{PutsOnly-more, PutsOnly-none, PutsOnly-then}
+use Rattle.ld_run.proofs.Walking.{PutsOnly-more, PutsOnly-then}
 
 -- ---- members of a longer list
 pub Contains-here : {X : Type 0} (x : X) (xs : List X) → Contains (x ∷ xs) x

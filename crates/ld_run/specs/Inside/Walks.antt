@@ -1,5 +1,5 @@
 -- Going along one trace, and putting the facts of its chains on a board [this project's own].
-use Rattle.std.specs.Prelude.{◌≡◌, ℕ, ◌+◌, List, ◌∷◌, ◌++◌, Option, Some, None, Result, Ok, Err, Contains, take, slice_get}
+use Rattle.std.specs.Prelude.{◌≡◌, ℕ, ◌+◌, List, Option, Some, None, Result, Ok, Err, take, slice_get}
 use Rattle.ld_trace.specs.declared.event.Event.{Event}
 use Rattle.ld_trace.specs.Events.{KeysBelow}
 use Rattle.ld_task.specs.declared.fault.StepAt.{StepAt}

@@ -2,7 +2,6 @@ use Rattle.std.proofs.Common.{◌≡◌, ◌+◌, ◌∷◌, [], ℕ, refl, sym,
 use Rattle.std.specs.Mem.Slots.{slots_items}
 use Rattle.ld_graph.specs.FactBits.{HasFact}
 use Rattle.ld_graph.specs.Facts.{Adds}
-use Rattle.ld_graph.specs.Numbers.{bit_total, fact_number}
 use Rattle.ld_graph.specs.WordPairs.{NonePast, PairsHave, word_total}
 use Rattle.ld_run.proofs.SeatFacts.{words_more}
 use Rattle.ld_run.proofs.SeatLists.{read_is}

@@ -1,4 +1,3 @@
-use Rattle.std.proofs.Common.{◌∙◌}
 use Rattle.ld_run.specs.Boards.{IsSeatOf}
 use Rattle.ld_run.specs.declared.board_tests.Claimed.{Claimed}
 use Rattle.ld_run.proofs.SeatLists.{all_last}

@@ -1,4 +1,4 @@
-use Rattle.std.proofs.Common.{◌≡◌, ◌∷◌, ◌++◌, [], List, All, IsFalse, append_assoc, map, refl, sym, ap, ◌∙◌, subst}
+use Rattle.std.proofs.Common.{◌≡◌, ◌∷◌, ◌++◌, [], List, IsFalse, append_assoc, map, refl, sym, ap, ◌∙◌, subst}
 use Rattle.std.proofs.lemmas.List.Elements.{All-append, All-cons, All-nil}
 use Rattle.ld_run.specs.Tallies.{LeastRefusedIs}
 use Rattle.ld_run.specs.Inside.Crews.{HasDrawn, SomeHasDrawn}

@@ -1,5 +1,4 @@
-use Rattle.std.proofs.Common.{ap, ◌∙◌, sym, subst, Ok, Some, None}
-use Rattle.ld_task.specs.Chains.{ChainParts}
+use Rattle.std.proofs.Common.{ap, ◌∙◌, sym, subst, Ok}
 use Rattle.ld_graph.specs.Facts.{ChainHas}
 use Rattle.ld_run.specs.Boards.{keys_of}
 use Rattle.ld_run.specs.Seats.{view}

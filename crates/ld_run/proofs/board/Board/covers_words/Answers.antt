@@ -1,4 +1,4 @@
-use Rattle.std.proofs.Common.{rules, ◌≡◌, ◌∷◌, ◌+◌, ◌<◌, ℕ, List, get_or, bit_or, IsTrue, refl, sym, ap, ◌∙◌, subst, arith}
+use Rattle.std.proofs.Common.{rules, ◌≡◌, ◌∷◌, ◌+◌, ◌<◌, ℕ, List, get_or, bit_or, refl, sym, ap, ◌∙◌, subst, arith}
 use Rattle.ld_graph.specs.WordPairs.{bits_of, Within, word_total}
 use Rattle.ld_run.specs.Boards.{keys_of}
 use Rattle.ld_run.specs.Seats.{view}

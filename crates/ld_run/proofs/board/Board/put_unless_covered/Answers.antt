@@ -1,6 +1,5 @@
 use Rattle.std.proofs.Common.{inr, refl, sym, subst}
-use Rattle.ld_task.specs.Chains.{ChainParts}
-use Rattle.ld_graph.specs.Facts.{Adds, ChainHas, Holds}
+use Rattle.ld_graph.specs.Facts.{Adds, ChainHas}
 use Rattle.ld_graph.specs.WordLaws.{PairsHave-within}
 use Rattle.ld_graph.specs.WordPairs.{AreWordsOf}
 use Rattle.ld_run.specs.Boards.{keys_of}
