@@ -14,7 +14,7 @@ use Rattle.ld_graph.specs.Inside.Bits.{has_bit}
 use Rattle.ld_graph.specs.Inside.Places.{place, arrival, Leaves, LeavesFrom}
 use Rattle.ld_graph.specs.Inside.Searching.{row_place, IsNextFrom, SearchParts, stands_at, StandsAt, IsTakenFrom, Pushes, Visits, Takes, Misses, Hits, SeesAllFrom}
 use Rattle.ld_graph.specs.declared.fact.Fact.TheVariants.{Dependency as Depends}
-use Rattle.ld_graph.specs.declared.circle.Dependency.{Dependency}
+use Rattle.ld_graph.specs.declared.dependency.Dependency.{Dependency}
 use Rattle.ld_graph.specs.declared.search.Step.{Step}
 use Rattle.ld_graph.proofs.Numbers.{kind_of, kind_of-number, kind_number-lt}
 use Rattle.ld_graph.proofs.Paths.{place_parts}

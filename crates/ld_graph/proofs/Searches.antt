@@ -9,7 +9,7 @@ use Rattle.ld_graph.specs.FactBits.{FactParts, HasFact}
 use Rattle.ld_graph.specs.Inside.Bits.{has_bit}
 use Rattle.ld_graph.specs.Inside.Places.{arrival}
 use Rattle.ld_graph.specs.Inside.Searching.{Edge, Reached, GoesTo, SearchParts, stands_at, StandsAt, LeadsBack, Takes, Misses, Hits, SeesAllFrom, AreSteps, FindsGoal, NoGoalBy}
-use Rattle.ld_graph.specs.declared.circle.Dependency.{Dependency}
+use Rattle.ld_graph.specs.declared.dependency.Dependency.{Dependency}
 use Rattle.ld_graph.specs.declared.search.Step.{Step}
 
 -- ---- where steps stand

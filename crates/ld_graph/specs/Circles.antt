@@ -2,7 +2,7 @@
 use Rattle.std.specs.Prelude.{ℕ, List, map, reverse}
 use Rattle.ld_task.specs.declared.kind.Kind.{Kind}
 use Rattle.ld_graph.specs.Arrows.{Arrow, arrow}
-use Rattle.ld_graph.specs.declared.circle.Dependency.{Dependency}
+use Rattle.ld_graph.specs.declared.dependency.Dependency.{Dependency}
 
 -- a dependency as an arrow
 abbrev pub arrow_of : Dependency → Arrow

@@ -11,7 +11,8 @@ ghost use Rattle.ld_graph.specs.Inside.Searching.{AreSteps, FindsGoal, GoesTo, H
 ghost use Rattle.ld_graph.specs.declared.circle.TheConstants.{MAX_CIRCLE};
 
 use crate::bits;
-use crate::circle::{Circle, Dependency};
+use crate::circle::Circle;
+use crate::dependency::Dependency;
 use crate::facts::Facts;
 use crate::places::{PLACES, ROW_WORDS, Row, place_of};
 use arrayvec::ArrayVec;

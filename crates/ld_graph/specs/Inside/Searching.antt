@@ -14,7 +14,7 @@ use Rattle.ld_trace.specs.declared.key_id.TheConstants.{MAX_KEYS}
 use Rattle.ld_graph.specs.Inside.Places.{arrival, Leaves, Leads}
 use Rattle.ld_graph.specs.Walks.{ClosedWalk}
 use Rattle.ld_graph.specs.declared.fact.Fact.TheVariants.{Dependency as Depends}
-use Rattle.ld_graph.specs.declared.circle.Dependency.{Dependency}
+use Rattle.ld_graph.specs.declared.dependency.Dependency.{Dependency}
 use Rattle.ld_graph.specs.declared.search.Step.{Step}
 
 -- both its keys are such as there can be
