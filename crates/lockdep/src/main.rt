@@ -17,6 +17,7 @@ mod program;
 mod refusal;
 mod report;
 mod session;
+mod source;
 #[cfg(test)]
 mod tests;
 mod words;
