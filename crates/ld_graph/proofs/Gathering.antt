@@ -1,6 +1,6 @@
 -- The facts of a chain are gathered in words, slot by slot.
-use Rattle.std.proofs.Common.{◌≡◌, ◌≢◌, ℕ, zero, suc, ◌∷◌, ◌+◌, ◌-◌, ◌*◌, ◌/◌, ◌%◌, ◌^◌, ◌<◌, ◌≤◌, List, [], length, get_or, refl, ap, sym, ◌∙◌, subst, inl, inr, arith, Bool, Option, Some, None, bit_or, w64}
-use Rattle.std.specs.Prelude.{slice_get, All}
+use Rattle.std.proofs.Common.{◌≡◌, ℕ, zero, suc, ◌∷◌, ◌+◌, ◌-◌, ◌*◌, ◌/◌, ◌%◌, ◌<◌, ◌≤◌, List, [], length, get_or, refl, ap, sym, ◌∙◌, subst, inl, inr, arith, Bool, Option, Some, None, w64}
+use Rattle.std.specs.Prelude.{slice_get}
 use Rattle.std.specs.Option.{ForSome, option_map}
 use Rattle.std.proofs.lemmas.Option.{same_Some, none-some}
 use Rattle.std.specs.Int.{bit_at, trailing_zeros}
@@ -13,13 +13,13 @@ use Rattle.ld_trace.specs.declared.event.Mode.{Mode}
 use Rattle.ld_task.specs.declared.frame.Flags.{Flags}
 use Rattle.ld_task.specs.declared.frame.Frame.{Frame}
 use Rattle.ld_task.specs.declared.lock.Lock.{Lock}
-use Rattle.ld_graph.specs.Facts.{AreSame, ChainHas}
+use Rattle.ld_graph.specs.Facts.{ChainHas}
 use Rattle.ld_graph.specs.FactBits.{FactBelow}
-use Rattle.ld_graph.specs.Inside.ChainFacts.{chain_fact, fact_slots, StandsIn, dependency_from, mark_if, mark_of_held, mark_by_taking, mark_by_opening}
-use Rattle.ld_graph.specs.Inside.WordTable.{AreWords, HasBit, TakesFact, TakesRun, TakesMarkBit, IsRunOf, Gathered}
+use Rattle.ld_graph.specs.Inside.ChainFacts.{chain_fact, fact_slots, dependency_from, mark_if, mark_of_held, mark_by_taking, mark_by_opening}
+use Rattle.ld_graph.specs.Inside.WordTable.{HasBit, TakesFact, TakesRun, TakesMarkBit, IsRunOf, Gathered}
 use Rattle.ld_graph.specs.Numbers.{dependency_total, bit_total, fact_number, mark_index}
 use Rattle.ld_graph.specs.WordLaws.{bits_if, bits_if-same, bit_or-bits}
-use Rattle.ld_graph.specs.WordPairs.{bits_of, word_total, NonePast, PairsHave, AreWordsOf}
+use Rattle.ld_graph.specs.WordPairs.{bits_of, word_total, AreWordsOf}
 use Rattle.ld_task.specs.declared.mark.Mark.{Mark}
 use Rattle.ld_graph.specs.declared.fact.Fact.{Fact}
 use Rattle.ld_graph.specs.declared.fact.Fact.TheVariants.{Marked}

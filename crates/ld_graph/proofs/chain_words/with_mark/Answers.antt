@@ -1,10 +1,9 @@
-use Rattle.std.proofs.Common.{arith, rules, ◌≡◌, ◌∙◌, ◌+◌, ◌*◌, ◌%◌, ◌^◌, ◌<◌, ap, sym, subst, inl, inr, bit_or, Some, ◌↔◌, ◌⊎◌}
+use Rattle.std.proofs.Common.{arith, rules, ◌≡◌, ◌∙◌, ◌*◌, ◌%◌, ◌^◌, ◌<◌, ap, sym, subst, inl, inr, bit_or, Some, ◌↔◌, ◌⊎◌}
 use Rattle.std.proofs.lemmas.Nat.{or_lt}
 use Rattle.std.proofs.lemmas.Option.{same_Some}
 use Rattle.std.proofs.Math.Pow.{pow-lt}
 use Rattle.std.specs.Int.{bit_at}
 use Rattle.ld_graph.specs.Numbers.{mark_index}
-use Rattle.ld_graph.specs.declared.fact.Fact.{Fact}
 use Rattle.ld_graph.specs.declared.fact.Fact.TheVariants.{Marked}
 use Rattle.ld_graph.proofs.WordTables.{one_shl, bit_or-pow}
 use Rattle.ld_graph.proofs.chain_words.with_mark.Goals as goal

@@ -1,4 +1,4 @@
-use Rattle.std.proofs.Common.{arith, subst, sym, ◌∙◌}
+use Rattle.std.proofs.Common.{subst, sym, ◌∙◌}
 use Rattle.ld_graph.specs.Inside.WordTable.{HasWord}
 use Rattle.ld_graph.proofs.WordTables.{room_for, HasWord-among, UnitesPair-none}
 use Rattle.ld_graph.proofs.chain_words.FactWords.add_bits.Goals as goal

@@ -1,4 +1,4 @@
-use Rattle.std.proofs.Common.{arith, ◌≡◌, ◌∙◌, sym, subst, length}
+use Rattle.std.proofs.Common.{arith, ◌≡◌, ◌∙◌, sym, subst}
 use Rattle.ld_graph.specs.Inside.ChainFacts.{chain_fact}
 use Rattle.ld_graph.specs.Inside.WordTable.{Gathered}
 use Rattle.ld_graph.proofs.Gathering.{Gathered-more, FactBelow-slot, chain_fact-dependency}

@@ -1,4 +1,3 @@
-use Rattle.std.proofs.Common.{◌+◌, length}
 use Rattle.ld_graph.specs.Inside.WordTable.{Gathered}
 use Rattle.ld_graph.proofs.chain_words.FactWords.add_dependencies.Given as goal
 

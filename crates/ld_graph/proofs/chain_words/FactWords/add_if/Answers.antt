@@ -1,6 +1,5 @@
-use Rattle.std.proofs.Common.{◌≡◌, ◌∙◌, ap, sym, subst, inl, inr, ◌/◌, ◌%◌, ◌^◌, Some}
+use Rattle.std.proofs.Common.{◌∙◌, ap, sym, inl, inr}
 use Rattle.std.proofs.lemmas.Option.{same_Some}
-use Rattle.ld_graph.specs.Inside.WordTable.{UnitesPair}
 use Rattle.ld_graph.specs.Numbers.{fact_number}
 use Rattle.ld_graph.proofs.WordTables.{HasBit-unites}
 use Rattle.ld_graph.proofs.chain_words.FactWords.add_if.Goals as goal

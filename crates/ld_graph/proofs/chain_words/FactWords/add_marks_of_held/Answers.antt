@@ -5,7 +5,7 @@ use Rattle.std.specs.Prelude.{slice_get}
 use Rattle.std.specs.Option.{option_map}
 use Rattle.ld_task.specs.Chains.{key_and_mode}
 use Rattle.ld_graph.specs.Inside.ChainFacts.{chain_fact}
-use Rattle.ld_graph.specs.Inside.WordTable.{Gathered, IsRunOf, TakesRun}
+use Rattle.ld_graph.specs.Inside.WordTable.{Gathered, TakesRun}
 use Rattle.ld_graph.specs.Numbers.{dependency_total}
 use Rattle.ld_graph.proofs.Gathering.{Gathered-run, IsRunOf-start, IsRunOf-more, IsMarkOf, IsMarkOf-held, chain_fact-held, fact_slots-opening}
 use Rattle.ld_graph.proofs.chain_words.FactWords.add_marks_of_held.Goals as goal

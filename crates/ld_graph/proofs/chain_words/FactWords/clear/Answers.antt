@@ -1,4 +1,4 @@
-use Rattle.std.proofs.Common.{arith, ap, sym, subst, ◌∙◌, ◌≡◌, ℕ, inl, inr, ◌<◌, ◌/◌, get_or, length}
+use Rattle.std.proofs.Common.{arith, ap, sym, ◌∙◌, ◌≡◌, inl, inr, ◌<◌, ◌/◌, get_or, length}
 use Rattle.std.proofs.lemmas.Bool.{cases_eq}
 use Rattle.std.proofs.lemmas.List.{length-set}
 use Rattle.ld_graph.proofs.WordTables.{IsTable-empty, has_bit-cleared}

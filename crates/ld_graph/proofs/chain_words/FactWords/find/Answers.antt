@@ -1,4 +1,4 @@
-use Rattle.std.proofs.Common.{arith, subst, sym, ◌≡◌, ◌<◌, ◌-◌, get_or}
+use Rattle.std.proofs.Common.{arith, subst, sym}
 use Rattle.ld_graph.specs.Inside.WordTable.{HasWord, IsAmong, StandsAt}
 use Rattle.ld_graph.proofs.WordTables.{room_for, HasWord-among, StandsAt-place}
 use Rattle.ld_graph.proofs.chain_words.FactWords.find.Goals as goal

@@ -1,8 +1,8 @@
-use Rattle.std.proofs.Common.{arith, ap, sym, subst, ◌∙◌, length, ℕ, ◌≡◌, ◌≢◌, ◌+◌, ◌<◌, ◌^◌, set, get_or, List, [], ◌∷◌, ◌++◌}
+use Rattle.std.proofs.Common.{arith, ap, subst, ◌∙◌, length, ◌≡◌, ◌+◌, ◌<◌, set, [], ◌∷◌, ◌++◌}
 use Rattle.std.proofs.lemmas.List.{length-append}
 use Rattle.std.specs.Prelude.{IsTrue}
 use Rattle.ld_graph.specs.Inside.Bits.{has_bit}
-use Rattle.ld_graph.specs.Inside.WordTable.{HasWord, IsAmong, UnitesPair, IsTable}
+use Rattle.ld_graph.specs.Inside.WordTable.{HasWord, IsAmong, IsTable}
 use Rattle.ld_graph.specs.WordPairs.{bits_of}
 use Rattle.ld_graph.specs.declared.chain_words.TheConstants.{MAX_WORDS}
 use Rattle.ld_graph.proofs.WordTables.{HaveRoom, pairs_at, room_for, room_for_more, length-value, pairs_at-push, set_room, IsTable-push, HasWord-among, UnitesPair-push, AreWords-table}

@@ -1,6 +1,5 @@
-use Rattle.std.proofs.Common.{arith, ap, sym, subst, ◌∙◌, ◌≡◌, ◌<◌, ℕ, List, length, get_or, bit_or}
+use Rattle.std.proofs.Common.{ap, sym, subst, ◌∙◌, ◌≡◌, ◌<◌, length, get_or}
 use Rattle.ld_graph.specs.Inside.WordTable.{IsTable, StandsAt, UnitesPair}
-use Rattle.ld_graph.specs.WordPairs.{bits_of}
 use Rattle.ld_graph.proofs.WordTables.{HaveRoom, pairs_at, with_more, more_room, room_for, length-pairs_at, place-StandsAt, IsTable-unite, UnitesPair-unite, AreWords-table}
 use Rattle.ld_graph.proofs.chain_words.FactWords.unite.Goals as goal
 use Rattle.ld_graph.proofs.chain_words.FactWords.unite.Goals.{After-find-i}
