@@ -2,7 +2,8 @@
 //! these tests with its first request refused, its second, and so on, and counts the lines that they print.
 
 use crate::tests::{A, B, give, is_both_orders, run_over, write};
-use crate::{OpenGate, RunFault};
+use crate::{Board, BoardFault, OpenGate, RunFault};
+use ld_graph::Facts;
 use ld_trace::RawTrace;
 use std::alloc::Global;
 use std::io::Print;
@@ -53,4 +54,24 @@ fn want_of_memory_in_a_run_of_one_worker(rt: HostRuntime) -> Result<(), Fail> {
 #[test]
 fn want_of_memory_in_a_run_of_four_workers(rt: HostRuntime) -> Result<(), Fail> {
     runs(&rt, 4)
+}
+
+// What is on a board that is opened and closed.
+fn opened_and_closed(alloc: Global) -> Result<Facts, BoardFault> {
+    let (board, seats) = Board::open(alloc, 2, 2)?;
+    board.close(seats)
+}
+
+#[test]
+fn want_of_memory_for_a_board(rt: HostRuntime) -> Result<(), Fail> {
+    let facts = match opened_and_closed(rt.alloc()) {
+        Ok(facts) => facts,
+        Err(fault) => {
+            println!(&rt; "refused: {}", fault.code())?;
+            assert_eq!(rt; fault.code(), "C2 Memory");
+            opened_and_closed(rt.alloc())?
+        }
+    };
+    assert!(rt; facts.keys() == 2 && facts.dependencies() == 0 && facts.marks() == 0);
+    Ok(())
 }
