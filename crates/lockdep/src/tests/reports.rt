@@ -366,7 +366,10 @@ fn a_report_of_a_hundred_thousand_bytes(rt: HostRuntime) -> Result<(), Fail> {
                 writeln!(circles, "circle {name}{a}/0 EN {name}{b}/0")?;
             }
             if a < b {
-                writeln!(shortest, "because {name}{a}/0 EN {name}{b}/0 EN {name}{a}/0")?;
+                writeln!(
+                    shortest,
+                    "because {name}{a}/0 EN {name}{b}/0 EN {name}{a}/0"
+                )?;
             }
         }
     }
@@ -380,7 +383,10 @@ fn a_report_of_a_hundred_thousand_bytes(rt: HostRuntime) -> Result<(), Fail> {
     let because = str::from_utf8(text.as_slice())?
         .strip_prefix(report.as_str())
         .ok_or("the lines before")?;
-    assert!(rt; shortest.contains(because), "one of the shortest: {because}");
+    assert!(rt;
+        shortest.contains(because),
+        "one of the shortest: {because}"
+    );
     assert_eq!(rt; because.lines().count(), 1);
     Ok(())
 }
@@ -390,7 +396,11 @@ fn a_circle_begins_at_its_least_key(rt: HostRuntime) -> Result<(), Fail> {
     assert_reports(
         &rt,
         &[Example {
-            traces: &["acq,c,0,w acq,a,1,r", "acq,a,1,w acq,b,0,w", "acq,b,0,w acq,c,0,w"],
+            traces: &[
+                "acq,c,0,w acq,a,1,r",
+                "acq,a,1,w acq,b,0,w",
+                "acq,b,0,w acq,c,0,w",
+            ],
             report: "traces 3\nevents 6\nkeys 3\ndependencies 3\nclean no\nusage a/1 {++++}\nusage b/0 {+.+.}\nusage c/0 {+.+.}\ncircle a/1 EN b/0\ncircle b/0 EN c/0\ncircle c/0 EN a/1\nbecause a/1 EN b/0 EN c/0 EN a/1\n",
         }],
     )
