@@ -1,8 +1,7 @@
 -- The line of a circle that is turned.
-use Rattle.std.proofs.Common.{◌≡◌, ℕ, suc, ◌+◌, ◌-◌, ◌<◌, ◌≤◌, List, [], ◌∷◌, ◌++◌, Some, take, drop, length, get_or, slice_get, refl, sym, ap, ◌∙◌, subst, inl, inr, arith, Bool, true, false, codes}
+use Rattle.std.proofs.Common.{◌≡◌, ℕ, suc, ◌+◌, ◌-◌, ◌<◌, ◌≤◌, List, ◌∷◌, ◌++◌, Some, take, drop, length, get_or, slice_get, sym, ap, ◌∙◌, subst, inl, inr, arith, false, codes}
 use Rattle.std.specs.List.{Contains, IsFirstBest, flat_map}
 use Rattle.std.specs.Ordering.{is_lt}
-use Rattle.std.specs.declared.cmp.Ordering.TheVariants.{Less}
 use Rattle.std.specs.Cmp.{IsStrictWeakOrder}
 use Rattle.std.proofs.Math.Seq.{drop-cons}
 use Rattle.std.proofs.lemmas.List.{append_assoc, get_or-drop, take_all, take-append-drop, length-drop}
@@ -12,8 +11,7 @@ use Rattle.std.proofs.lemmas.Option.{get_or_from_slice_get}
 use Rattle.ld_trace.specs.Names.{Name}
 use Rattle.ld_graph.specs.Arrows.{Arrow}
 use Rattle.lockdep.specs.Inside.Turning.{TellsTurned, starts_before}
-use Rattle.lockdep.specs.Order.{name_cmp}
-use Rattle.lockdep.specs.Report.{because_line, member_text}
+use Rattle.lockdep.specs.Report.{member_text}
 use Rattle.lockdep.specs.Words.{key_text, name_at}
 use Rattle.lockdep.proofs.GroupLemmas.{flat_map-append, flat_map-next}
 use Rattle.lockdep.proofs.OrderLemmas.{name_cmp_total}

@@ -1,4 +1,4 @@
-use Rattle.std.proofs.Common.{◌≡◌, ◌-◌, ◌++◌, arith, codes, drop, length, subst, string_bytes, take}
+use Rattle.std.proofs.Common.{◌≡◌, ◌-◌, ◌++◌, arith, codes, drop, subst, string_bytes, take}
 use Rattle.std.specs.List.{flat_map}
 use Rattle.std.proofs.lemmas.Grind.{common_steps}
 use Rattle.ld_graph.specs.Arrows.{Arrow, arrow}

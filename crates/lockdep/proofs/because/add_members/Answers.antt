@@ -1,10 +1,9 @@
-use Rattle.std.proofs.Common.{◌≡◌, ◌∙◌, ◌<◌, ◌≤◌, ◌-◌, ◌++◌, sym, ap, arith, length, codes, drop, take, string_bytes}
+use Rattle.std.proofs.Common.{◌≡◌, ◌∙◌, ◌<◌, ◌≤◌, ◌-◌, ◌++◌, sym, ap, arith, length, drop, take, string_bytes}
 use Rattle.std.specs.List.{flat_map}
 use Rattle.std.proofs.lemmas.Grind.{common_steps}
 use Rattle.std.proofs.lemmas.List.{append_assoc}
 use Rattle.ld_graph.specs.Arrows.{Arrow, arrow}
 use Rattle.lockdep.specs.Report.{member_text}
-use Rattle.lockdep.specs.Words.{key_text, kind_text, name_at}
 use Rattle.lockdep.proofs.BecauseLemmas.{members_next}
 use Rattle.lockdep.proofs.because.add_members.Goals as goal
 

@@ -1,4 +1,3 @@
-use Rattle.std.proofs.Common.{◌<◌, length}
 use Rattle.std.specs.List.{IsFirstBest}
 use Rattle.lockdep.specs.Inside.Turning.{starts_before}
 use Rattle.lockdep.proofs.because.least_start.Given as goal

@@ -1,4 +1,4 @@
-use Rattle.std.proofs.Common.{◌≡◌, ◌∙◌, ◌++◌, List, ℕ, [], ap, sym, subst, string_bytes}
+use Rattle.std.proofs.Common.{◌≡◌, ◌∙◌, ◌++◌, List, ℕ, [], ap, sym, subst}
 use Rattle.lockdep.specs.Groups.{GrowsBy}
 use Rattle.lockdep.proofs.GroupLemmas.{GrowsBy-none, GrowsBy-then}
 use Rattle.lockdep.proofs.report.report_text.Goals as goal
