@@ -6,7 +6,6 @@ ghost use Rattle.ld_graph.specs.Circles.{arrow_of, arrow_parts};
 ghost use Rattle.ld_graph.specs.Inside.Searching.{IsOfKeys};
 
 use crate::dependency::Dependency;
-use arrayvec::ArrayVec;
 use ld_task::Kind;
 use ld_trace::MAX_KEYS;
 use std::marker::Model;
@@ -17,21 +16,23 @@ pub(crate) const MAX_CIRCLE: usize = MAX_KEYS as usize;
 /// A walk of at most 256 dependencies, as `Graph::shortest_circle` answers it.
 #[derive(Drop, Debug)]
 pub struct Circle {
-    // The last first.
-    backwards: ArrayVec<Dependency, MAX_CIRCLE>,
+    // The last first, so many of them as there are.
+    backwards: [Dependency; MAX_CIRCLE],
+    len: usize,
 }
 
 impl Model for Circle {
-    ghost use Rattle.std.specs.Prelude.{List};
+    ghost use Rattle.std.specs.Prelude.{◌≡◌, ◌≤◌, List, length, take};
+    ghost use Rattle.ld_graph.specs.declared.circle.TheConstants.{MAX_CIRCLE};
     ghost use Rattle.ld_graph.specs.Arrows.{Arrow};
     ghost use Rattle.ld_graph.specs.Circles.{forwards};
     ghost use Rattle.ld_graph.specs.Inside.Searching.{AreMembers};
 
     ghost Value = { List Arrow };
 
-    ghost view = { λ c. forwards c.backwards.items };
+    ghost view = { λ c. forwards (take c.len c.backwards) };
 
-    ghost invariant = { λ c. AreMembers c.backwards.items };
+    ghost invariant = { λ c. (c.len ≤ MAX_CIRCLE) × (length c.backwards ≡ MAX_CIRCLE) × AreMembers (take c.len c.backwards) };
 }
 
 impl Circle {
@@ -40,7 +41,8 @@ impl Circle {
         ensures { result ≡ [] }
     {
         Circle {
-            backwards: ArrayVec::new(),
+            backwards: [Dependency::default(); MAX_CIRCLE],
+            len: 0,
         }
     }
 
@@ -50,7 +52,8 @@ impl Circle {
         requires keys { IsOfKeys dependency }
         ensures { self.new ≡ arrow_of dependency ∷ self.old }
     {
-        self.backwards.push(dependency);
+        self.backwards[self.len] = dependency;
+        self.len += 1;
     }
 
     /// How many dependencies it has, at most 256.
@@ -58,7 +61,7 @@ impl Circle {
         ensures exact { result ≡ length self.now }
         ensures at_most { result ≤ MAX_CIRCLE }
     {
-        self.backwards.len()
+        self.len
     }
 
     /// The dependency at place `i`, counted from 0: the key that it leads from, the key that it leads to, and its kind.
@@ -67,11 +70,10 @@ impl Circle {
         ensures value { result ≡ option_map arrow_parts (slice_get self.now i) }
         ensures below { IfSome result (λ d. (d.0 < MAX_KEYS) × (d.1 < MAX_KEYS)) }
     {
-        let len = self.len();
-        if i >= len {
+        if i >= self.len {
             return None;
         }
-        let Dependency { from, to, kind } = self.backwards.as_slice()[len - 1 - i];
+        let Dependency { from, to, kind } = self.backwards[self.len - 1 - i];
         Some((from, to, kind))
     }
 }

@@ -14,13 +14,10 @@ use crate::bits;
 use crate::circle::Circle;
 use crate::dependency::Dependency;
 use crate::facts::Facts;
-use crate::places::{PLACES, ROW_WORDS, Row, place_of};
-use arrayvec::ArrayVec;
+use crate::places::{ROW_WORDS, Row, place_of};
+use crate::steps::Steps;
 use ld_task::Kind;
 use std::marker::Model;
-
-// The most steps of a search: the first, and one to each place.
-const MAX_STEPS: usize = PLACES + 1;
 
 // A dependency, and the number of the step that it was taken from.
 #[derive(Clone, Copy, Debug)]
@@ -42,7 +39,7 @@ impl Default for Step {
 // step stands for the start, which has not been seen before some step comes back to it.
 #[derive(Drop)]
 pub(crate) struct Search {
-    steps: ArrayVec<Step, MAX_STEPS>,
+    steps: Steps,
     seen: Row,
 }
 
@@ -60,7 +57,7 @@ impl Search {
     // No steps yet.
     pub(crate) fn new() -> Search {
         Search {
-            steps: ArrayVec::new(),
+            steps: Steps::new(),
             seen: [0; ROW_WORDS],
         }
     }
