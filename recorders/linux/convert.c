@@ -510,7 +510,7 @@ struct held {
     int key; /* LEFT_OUT: it isn't written */
     enum mode mode;
     int level;      /* the number of its frame, from the outermost */
-    int references; /* how often it was taken under a nest_lock, beyond the first time */
+    int references; /* 0, or how many locks of its class stand for it, taken under a nest_lock: lockdep counts so */
     uint64_t class_key;
 };
 
@@ -855,7 +855,8 @@ static void acquire(struct task *task, const struct lr_record *record) {
     struct held held = held_of(record);
     counts.acquisitions++;
     if (is_counted_only(task, record, &held)) {
-        task->book[task->held - 1].references++;
+        struct held *newest = &task->book[task->held - 1];
+        newest->references += newest->references ? 1 : 2;
         return;
     }
     if (task->held >= MAX_HELD) {
@@ -884,7 +885,7 @@ static void release(struct task *task, const struct lr_record *record) {
     if (place < 0) {
         counts.unknown_releases++;
         mismatch(task);
-    } else if (task->book[place].references) {
+    } else if (task->book[place].references > 1) {
         task->book[place].references--;
     } else if (task->book[place].level != task->level) {
         mismatch(task); /* an interrupt gave back what was taken outside: no trace can say that */
