@@ -14,7 +14,7 @@
 #include <string.h>
 #include <sys/stat.h>
 
-#define MAX_KEYS 256       /* of a run of `lockdep check` */
+#define DEFAULT_KEYS 256   /* of a run of `lockdep check` */
 #define MAX_HELD 48        /* kept locks of one task, in the kernel and in a trace */
 #define MAX_NAME 64        /* bytes of a class's name in a trace */
 #define MAX_EVENTS 1000000 /* of one trace */
@@ -28,12 +28,13 @@ _Static_assert(sizeof(struct lr_record) == 40, "a record has 40 bytes");
 struct options {
     const char *raw, *folder, *symbols;
     int version;
+    unsigned long keys;
     bool repeats;
     bool is_only;
     regex_t only;
 };
 
-static struct options options = {.folder = "traces", .version = 2};
+static struct options options = {.folder = "traces", .version = 2, .keys = DEFAULT_KEYS};
 
 /* What is told at the end. */
 struct counts {
@@ -472,7 +473,7 @@ static void count_uses(void) {
 
 static size_t keys_wanted, keys_chosen;
 
-/* The keys whose class is asked for, the most used MAX_KEYS of them. */
+/* The keys whose class is asked for, the most used of them. */
 static void choose_keys(void) {
     count_uses();
     size_t *keys = NULL, count = 0;
@@ -484,7 +485,7 @@ static void choose_keys(void) {
     if (count)
         qsort(keys, count, sizeof *keys, by_uses);
     keys_wanted = count;
-    keys_chosen = count < MAX_KEYS ? count : MAX_KEYS;
+    keys_chosen = count < options.keys ? count : options.keys;
     for (size_t number = 0; number < keys_chosen; number++)
         writtens[keys[number] / SUBCLASSES].is_chosen[keys[number] % SUBCLASSES] = true;
     free(keys);
@@ -514,15 +515,18 @@ struct held {
     uint64_t class_key;
 };
 
+/* What came last in a frame. */
+enum last { NOTHING, TOOK, GAVE };
+
 /* An open frame. `difference`: how many locks lockdep had more than the book at its first record. */
 struct level {
     enum frame frame;
     bool is_on[3]; /* by SOFTIRQ and HARDIRQ */
     int difference;
+    enum last last;
+    bool is_taking, is_giving; /* in flight: `taking`, or what was given back last */
+    struct held taking;
 };
-
-/* What came last in the task frame. */
-enum last { NOTHING, TOOK, GAVE };
 
 struct task {
     uint64_t address;
@@ -534,9 +538,6 @@ struct task {
     struct held book[MAX_HELD + 1];
     int held;
     bool is_new, is_blind, is_full, is_after_gap;
-    enum last last;
-    bool is_taking, is_giving; /* in flight */
-    struct held taking;
     struct event *events;
     size_t event_count;
     uint64_t *states; /* the sum of the state before each event, and of the one after the last */
@@ -547,6 +548,7 @@ struct task {
     struct stretch *stretches; /* where a state was met since the barrier, by hash */
     size_t stretch_room, stretch_count;
     unsigned long acquisitions;
+    size_t order; /* in which it was met */
 };
 
 struct stretch {
@@ -718,7 +720,7 @@ static void enter(struct task *task, enum frame irq, int depth) {
         set_flag(task, SOFTIRQ, true);
     set_flag(task, HARDIRQ, true);
     task->level++;
-    *top(task) = (struct level){irq, {false, false, irq == SOFTIRQ}, depth - task->held};
+    *top(task) = (struct level){.frame = irq, .is_on = {false, false, irq == SOFTIRQ}, .difference = depth - task->held};
     add_event(task, (struct event){ENTER, (uint8_t)irq, 0}, false);
 }
 
@@ -732,8 +734,9 @@ static void drop_all(struct task *task) {
         leave(task);
     }
     task->held = 0;
-    task->is_taking = task->is_giving = false;
-    task->last = NOTHING;
+    struct level *level = top(task);
+    level->is_taking = level->is_giving = false;
+    level->last = NOTHING;
 }
 
 /* What the task holds isn't known: nothing is written until it is. */
@@ -786,22 +789,23 @@ static void set_flags(struct task *task, int state) {
         set_flag(task, HARDIRQ, true);
 }
 
-/* An acquisition or a release is recorded a moment before lockdep's own book has it, and an interrupt may switch to another
-   task in between. False: the difference is something else. */
+/* An acquisition or a release is recorded a moment before lockdep's own book has it, and an interrupt may come in between, or
+   another task. False: the difference is something else. */
 static bool is_in_flight(struct task *task, int difference) {
-    if (task->is_taking && difference == 1) {
-        task->is_taking = false;
-        take(task, task->taking);
-    } else if (task->is_giving && difference == 1) {
+    struct level *level = top(task);
+    if (level->is_taking && difference == 1) {
+        level->is_taking = false;
+        take(task, level->taking);
+    } else if (level->is_giving && difference == 1) {
         return true;
-    } else if (difference == -1 && task->last == TOOK && task->held) {
+    } else if (difference == -1 && level->last == TOOK && held_in_frame(task)) {
         counts.taken_in_flight++;
-        task->taking = task->book[task->held - 1];
-        task->is_taking = true;
+        level->taking = task->book[task->held - 1];
+        level->is_taking = true;
         give(task, task->held - 1);
-    } else if (difference == 1 && task->last == GAVE) {
+    } else if (difference == 1 && level->last == GAVE) {
         counts.given_in_flight++;
-        task->is_giving = true;
+        level->is_giving = true;
     } else {
         return false;
     }
@@ -810,11 +814,9 @@ static bool is_in_flight(struct task *task, int difference) {
 
 /* Whether the book has as many locks as lockdep has. */
 static bool does_agree(struct task *task, int depth) {
-    int difference = depth - task->held;
-    if (task->level > 0)
-        return difference == top(task)->difference;
+    int difference = depth - task->held - top(task)->difference;
     if (difference == 0) {
-        task->is_giving = false;
+        top(task)->is_giving = false;
         return true;
     }
     return is_in_flight(task, difference);
@@ -879,12 +881,20 @@ static int place_of(const struct task *task, uint64_t instance) {
     return -1;
 }
 
+/* A CPU that isn't online says nothing: its idle task may have taken a lock meanwhile, and lockdep has one more. */
+static void release_unknown(struct task *task, const struct lr_record *record) {
+    counts.unknown_releases++;
+    if (task->pid == 0 && task->level == 0 && record->depth == task->held + 1)
+        top(task)->is_giving = false;
+    else
+        mismatch(task);
+}
+
 static void release(struct task *task, const struct lr_record *record) {
     counts.releases++;
     int place = place_of(task, record->instance);
     if (place < 0) {
-        counts.unknown_releases++;
-        mismatch(task);
+        release_unknown(task, record);
     } else if (task->book[place].references > 1) {
         task->book[place].references--;
     } else if (task->book[place].level != task->level) {
@@ -938,8 +948,8 @@ static void step(struct task *task, const struct lr_record *record) {
         release(task, record);
         last = GAVE;
     }
-    if (task->level == 0 && !task->is_blind)
-        task->last = last;
+    if (!task->is_blind)
+        top(task)->last = last;
 }
 
 static struct task *new_task(const struct lr_record *record, uint64_t address) {
@@ -948,7 +958,7 @@ static struct task *new_task(const struct lr_record *record, uint64_t address) {
     task->pid = record->pid;
     task->is_reader = record->flags & LR_READER;
     task->is_new = true;
-    task->levels[0] = (struct level){TASK, {true, true, true}, 0};
+    task->levels[0] = (struct level){.frame = TASK, .is_on = {true, true, true}};
     uint64_t state = sum_of_state(task);
     push_state(task, state + !state);
     take_back_repeat(task, state + !state);
@@ -1012,7 +1022,7 @@ static void end_switch(struct cpu *cpu) {
     if (is_first) {
         take_list(task, cpu);
     } else if (!leave_frames(task, record->state) || !does_agree(task, record->depth) ||
-               (!task->is_giving && !does_list_agree(task, cpu))) {
+               (!top(task)->is_giving && !does_list_agree(task, cpu))) {
         mismatch(task);
         take_list(task, cpu);
     }
@@ -1169,13 +1179,13 @@ static int by_pid(const void *a, const void *b) {
     if (first->pid != second->pid)
         return first->pid < second->pid ? -1 : 1;
     int order = first->pid ? 0 : strverscmp(first->comm, second->comm);
-    return order ? order : first->levels[0].difference - second->levels[0].difference;
+    return order ? order : (first->order < second->order ? -1 : 1);
 }
 
 static void write_traces(void) {
     FILE *list = open_file("tasks");
     for (size_t number = 0; number < task_count; number++)
-        tasks[number]->levels[0].difference = (int)number;
+        tasks[number]->order = number;
     if (task_count)
         qsort(tasks, task_count, sizeof *tasks, by_pid);
     for (size_t number = 0; number < task_count; number++)
@@ -1216,7 +1226,7 @@ static void tell_summary(FILE *file) {
     tell(file, counts.unchecked, "left out: acquisitions that lockdep doesn't check", false);
     tell(file, counts.tries, "left out: try acquisitions, which version 1 can't say", false);
     tell(file, acquired - keys_wanted, "left out: keys that --only doesn't ask for", false);
-    tell(file, keys_wanted - keys_chosen, "left out: keys beyond 256, those that were used least", false);
+    tell(file, keys_wanted - keys_chosen, "left out: the least used of too many keys", false);
     tell(file, counts.not_chosen, "left out: acquisitions of keys that were left out", false);
     tell(file, counts.not_looked_at, "left out: events that lockdep didn't look at", false);
     tell(file, counts.readers, "left out: records of tasks that read the recording", false);
@@ -1249,7 +1259,7 @@ static int tell_faults(void) {
 
 /* ---- The command line. */
 
-static const char usage[] = "usage: convert [-o FOLDER] [--version-1] [--repeats] [--only RE] [--symbols FILE] RAW";
+static const char usage[] = "usage: convert [-o FOLDER] [--version-1] [--repeats] [--only RE] [--keys N] [--symbols FILE] RAW";
 
 static void set_only(const char *expression) {
     char why[256];
@@ -1261,16 +1271,25 @@ static void set_only(const char *expression) {
     options.is_only = true;
 }
 
+static void set_keys(const char *number) {
+    char *end;
+    options.keys = strtoul(number, &end, 10);
+    if (*end || !options.keys)
+        refuse("--keys", "needs a number");
+}
+
 static void read_options(int count, char **words) {
     for (int number = 1; number < count; number++) {
         const char *word = words[number], *next = words[number + 1];
-        bool has_value = !strcmp(word, "-o") || !strcmp(word, "--only") || !strcmp(word, "--symbols");
+        bool has_value = !strcmp(word, "-o") || !strcmp(word, "--only") || !strcmp(word, "--symbols") || !strcmp(word, "--keys");
         if (has_value && !next)
             refuse(word, "needs a value");
         if (!strcmp(word, "-o"))
             options.folder = next;
         else if (!strcmp(word, "--only"))
             set_only(next);
+        else if (!strcmp(word, "--keys"))
+            set_keys(next);
         else if (!strcmp(word, "--symbols"))
             options.symbols = next;
         else if (!strcmp(word, "--version-1"))

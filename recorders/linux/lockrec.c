@@ -40,7 +40,8 @@ MODULE_PARM_DESC(lock_classes_at, "the address of lock_classes in /proc/kallsyms
 #define SEEN 4096        /* keys whose names a CPU remembers having written, a power of two */
 #define EVENT_ROOM 256   /* slots that one event may need: its task, the locks this holds, and all their names */
 #define RESUME_ROOM 4096 /* slots that have to be free before recording goes on after a loss */
-#define READ_PAUSE 20    /* milliseconds */
+#define READ_PART 8      /* a reader waits until such a part of the buffer is full, */
+#define READ_PAUSE 20    /* and looks after so many milliseconds */
 
 struct seen {
 	u64 key;
@@ -56,7 +57,10 @@ struct buffer {
 	pid_t pid;
 	int generation;
 	bool is_busy, is_fresh;
-	struct task_struct *reader;
+	struct task_struct *reader; /* who has the file open */
+	struct task_struct *asked;  /* of whom it was asked last whether it is a reader, */
+	int asked_generation;       /* when, */
+	bool is_reader;             /* and the answer */
 	unsigned int seen_count;
 	struct seen seen[SEEN];
 };
@@ -106,6 +110,37 @@ static struct class_info info_of_held(const struct held_lock *held)
 	if (classes)
 		info = info_of_class(&classes[held->class_idx]);
 	return info.key && info.name ? info : info_of_map(held->instance, 0);
+}
+
+/* ---- Who reads. */
+
+static bool has_file_open(const struct task_struct *task)
+{
+	unsigned int cpu;
+
+	for_each_possible_cpu(cpu)
+		if (READ_ONCE(buffers[cpu]->reader) == task)
+			return true;
+	return false;
+}
+
+/* Whether this CPU's task reads the recording. */
+static bool is_reader(struct buffer *buffer)
+{
+	int generation = READ_ONCE(reader_generation);
+
+	if (buffer->asked != current || buffer->asked_generation != generation) {
+		buffer->asked = current;
+		buffer->asked_generation = generation;
+		buffer->is_reader = has_file_open(current);
+	}
+	return buffer->is_reader;
+}
+
+/* A reader's own locks aren't recorded: each record would make more of them. Interrupts that come to it are. */
+static bool is_left_out(struct buffer *buffer)
+{
+	return !lockdep_hardirq_context() && !current->softirq_context && is_reader(buffer);
 }
 
 /* ---- Writing. All of it with interrupts off, on the buffer's own CPU. */
@@ -210,16 +245,6 @@ static void put_held(struct buffer *buffer)
 	}
 }
 
-static bool is_reader(const struct task_struct *task)
-{
-	unsigned int cpu;
-
-	for_each_possible_cpu(cpu)
-		if (READ_ONCE(buffers[cpu]->reader) == task)
-			return true;
-	return false;
-}
-
 /* Says which task this CPU runs where it isn't the one of the last record. */
 static void tell_task(struct buffer *buffer, u8 state)
 {
@@ -236,7 +261,7 @@ static void tell_task(struct buffer *buffer, u8 state)
 	buffer->generation = generation;
 	memcpy(&record.instance, current->comm, 8);
 	memcpy(&record.key, current->comm + 8, 8);
-	record.flags = is_reader(current) ? LR_READER : 0;
+	record.flags = is_reader(buffer) ? LR_READER : 0;
 	put(buffer, &record);
 	put_held(buffer);
 }
@@ -275,7 +300,7 @@ static struct buffer *begin_event(unsigned long *irqs)
 	if (READ_ONCE(phase) == RUNNING && !buffer->is_busy) {
 		buffer->is_busy = true;
 		barrier();
-		if (has_room(buffer))
+		if (!is_left_out(buffer) && has_room(buffer))
 			return buffer;
 		buffer->is_busy = false;
 	} else if (buffer->is_busy) {
@@ -444,7 +469,7 @@ static int release_cpu(struct inode *inode, struct file *file)
 	return 0;
 }
 
-/* Whole slots, as many as are there in one piece. Nothing is said only after the end. */
+/* Whole slots, as many as are there in one piece. Nothing is answered only after the end. */
 static ssize_t read_cpu(struct file *file, char __user *bytes, size_t size, loff_t *at)
 {
 	struct buffer *buffer = file->private_data;
@@ -454,7 +479,7 @@ static ssize_t read_cpu(struct file *file, char __user *bytes, size_t size, loff
 	for (;;) {
 		now = smp_load_acquire(&phase);
 		count = smp_load_acquire(&buffer->head) - buffer->tail;
-		if (count || now == STOPPED)
+		if (count >= slots / READ_PART || now == STOPPED)
 			break;
 		if (msleep_interruptible(READ_PAUSE) || signal_pending(current))
 			return -EINTR;
