@@ -856,6 +856,8 @@ static bool is_counted_only(const struct task *task, const struct lr_record *rec
 static void acquire(struct task *task, const struct lr_record *record) {
     struct held held = held_of(record);
     counts.acquisitions++;
+    if (top(task)->taking.instance == record->instance)
+        top(task)->is_taking = false; /* taken anew: the one in flight was given back where nobody saw it */
     if (is_counted_only(task, record, &held)) {
         struct held *newest = &task->book[task->held - 1];
         newest->references += newest->references ? 1 : 2;
@@ -1250,6 +1252,8 @@ static int tell_faults(void) {
         fputs("convert: a file of the recording ends within a record\n", stderr);
     if (counts.lost || counts.gaps || counts.mismatches || counts.cut_files)
         status = 1;
+    if (!counts.traces)
+        fputs("convert: no task took a lock that is asked for: there are no traces\n", stderr);
     if (counts.beyond_limit)
         fprintf(stderr, "convert: traces end at %d events\n", MAX_EVENTS);
     if (counts.traces > MAX_TRACES)

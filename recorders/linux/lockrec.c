@@ -553,7 +553,7 @@ static ssize_t write_control(struct file *file, const char __user *bytes, size_t
 	mutex_lock(&control_mutex);
 	if (!strcmp(strim(word), "start") && phase == IDLE)
 		start();
-	else if (!strcmp(strim(word), "stop") && phase == RUNNING)
+	else if (!strcmp(strim(word), "stop") && phase != STOPPED)
 		stop();
 	else
 		answer = -EINVAL;
