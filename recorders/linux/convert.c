@@ -1019,7 +1019,8 @@ static void end_switch(struct cpu *cpu) {
     if (task->is_reader || task->is_full)
         return;
     if (is_interrupt) {
-        task->is_blind = task->is_blind || (task->is_new && record->depth > 0);
+        if (record->depth > 0 && (task->is_new || task->is_after_gap))
+            go_blind(task);
         return;
     }
     cpu->switched = record;
