@@ -29,7 +29,7 @@ struct options {
     const char *raw, *folder, *symbols;
     int version;
     unsigned long keys;
-    bool repeats;
+    bool repeats, full_names;
     bool is_only;
     regex_t only;
 };
@@ -371,10 +371,12 @@ static size_t class_of_record(const struct lr_record *record) {
    field, as `lock` often is. */
 static bool is_ambiguous(const struct class *class) {
     const struct name *name = &names[class->name];
-    return class->is_percpu || (class->is_in_image && name->image_keys + name->other_keys > 1);
+    bool is_several = options.full_names || name->image_keys + name->other_keys > 1;
+    return class->is_percpu || (class->is_in_image && is_several);
 }
 
-/* Puts the symbol behind a name, or the distance from the kernel's start where the symbol says nothing. */
+/* Puts the symbol behind a name, or the distance from the kernel's start where the symbol says nothing. A lock that is called
+   as its symbol is has its name. */
 static void tell_apart(const struct class *class, char *text, size_t room) {
     const struct symbol *symbol = symbol_of(class->key);
     if (!symbol)
@@ -382,7 +384,7 @@ static void tell_apart(const struct class *class, char *text, size_t room) {
     size_t length = strlen(text);
     if (!strcmp(symbol->name, "__key") || !strncmp(symbol->name, "__key.", 6))
         snprintf(text + length, room - length, "@%llx", (unsigned long long)(class->key - image_start));
-    else
+    else if (strcmp(symbol->name, text))
         snprintf(text + length, room - length, "@%s", symbol->name);
 }
 
@@ -1266,7 +1268,7 @@ static int tell_faults(void) {
 
 /* ---- The command line. */
 
-static const char usage[] = "usage: convert [-o FOLDER] [--version-1] [--repeats] [--only RE] [--keys N] [--symbols FILE] RAW";
+static const char usage[] = "usage: convert [-o FOLDER] [--version-1] [--repeats] [--full-names] [--only RE] [--keys N] [--symbols FILE] RAW";
 
 static void set_only(const char *expression) {
     char why[256];
@@ -1301,6 +1303,8 @@ static void read_options(int count, char **words) {
             options.symbols = next;
         else if (!strcmp(word, "--version-1"))
             options.version = 1;
+        else if (!strcmp(word, "--full-names"))
+            options.full_names = true;
         else if (!strcmp(word, "--repeats"))
             options.repeats = true;
         else if (*word == '-' || options.raw)
