@@ -1,5 +1,7 @@
 //! What books say of small traces.
 
+mod want_of_memory;
+
 use crate::{Book, BookFault, LockedBook, News, Totals};
 use ld_graph::{Kind, Mark};
 use ld_task::{Chain, TaskState};
@@ -183,33 +185,5 @@ fn a_refused_chain_changes_nothing(rt: HostRuntime) -> Result<(), Fail> {
     refused(&rt, &mut book, &[write(A), write(B)], "B1 Full")?;
     refused(&rt, &mut book, &[write(C)], "B1 Full")?;
     assert!(rt; !book.has_dep(A, B, Kind::En) && !book.has_mark(B, Mark::Used));
-    Ok(())
-}
-
-// Where memory is refused the book stands as it was, and the same call then goes through.
-fn record_anyway(rt: &impl Abort, book: &mut Book, place: usize) -> Result<(), Fail> {
-    let before = (told(&*book), facts_told(&*book));
-    if let Err(fault) = book.record(0, chain_at(place)?) {
-        assert_eq!(rt; fault.code(), "B2 Memory");
-        assert!(rt; (told(&*book), facts_told(&*book)) == before);
-        book.record(0, chain_at(place)?)?;
-    }
-    Ok(())
-}
-
-// To be tried with each allocation refused in turn.
-#[test]
-fn want_of_memory_changes_nothing(rt: HostRuntime) -> Result<(), Fail> {
-    let mut book = match Book::new(rt.alloc(), 2, 100) {
-        Ok(book) => book,
-        Err(fault) => {
-            assert_eq!(rt; fault.code(), "B2 Memory");
-            return Ok(());
-        }
-    };
-    for place in 0..50usize {
-        record_anyway(&rt, &mut book, place % 4)?;
-    }
-    assert!(rt; told(&book) == (are(50, 50, 0, 2), 4, 50));
     Ok(())
 }

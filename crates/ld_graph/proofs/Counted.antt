@@ -17,6 +17,7 @@ use Rattle.ld_graph.specs.FactBits.{FactParts, HasFact, dependency_count, mark_c
 use Rattle.ld_graph.specs.Counting.{IsNumberOf}
 use Rattle.ld_graph.specs.declared.fact.Fact.{Fact}
 use Rattle.ld_graph.specs.declared.fact.Fact.TheVariants.{Dependency, Marked}
+use Rattle.ld_graph.proofs.BitLemmas.{count_below-le}
 use Rattle.ld_graph.proofs.Numbers.{kind_of, mark_of, dependency_of, marked_of, dependency_of-is, marked_of-is, dependency-lt, mark-lt, fact_number-same}
 
 -- ---- the numbers below n that pass, each read as a member
@@ -163,3 +164,9 @@ IsNumberOf-unique In m n a b =
     let up : length a.listed ≤ length b.listed = no_longer a.listed b.listed a.once (λ d h. (b.exact d).1 ((a.exact d).0 h)) in
     let down : length b.listed ≤ length a.listed = no_longer b.listed a.listed b.once (λ d h. (a.exact d).1 ((b.exact d).0 h)) in
     omega (arith, a.count, b.count)
+
+-- numbers below n of which none is there twice are no more than n
+pub distinct-few : (xs : List ℕ) (n : ℕ) → AllPairs (λ x y. ¬ (x ≡ y)) xs → ((x : ℕ) → Contains xs x → x < n) → length xs ≤ n
+distinct-few xs n once below =
+    let few : length xs ≤ length (listed (λ _. true) (λ k. k) n) = no_longer xs (listed (λ _. true) (λ k. k) n) once (λ x h. listed-has (λ _. true) (λ k. k) n x (below x h) refl) in
+    omega (arith, listed-length (λ _. true) (λ k. k) n, count_below-le (λ _. true) n)

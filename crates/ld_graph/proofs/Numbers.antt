@@ -20,14 +20,14 @@ kind_of (suc zero) = En
 kind_of (suc (suc zero)) = Sr
 kind_of (suc (suc (suc n))) = Sn
 
-kind_of-number : (kind : Kind) → kind_of (kind_number kind) ≡ kind
+pub kind_of-number : (kind : Kind) → kind_of (kind_number kind) ≡ kind
 unfolding kind_of
 kind_of-number Er = refl
 kind_of-number En = refl
 kind_of-number Sr = refl
 kind_of-number Sn = refl
 
-kind_number-lt : (kind : Kind) → kind_number kind < 4
+pub kind_number-lt : (kind : Kind) → kind_number kind < 4
 kind_number-lt Er = omega arith
 kind_number-lt En = omega arith
 kind_number-lt Sr = omega arith

@@ -9,7 +9,7 @@ use Rattle.ld_graph.specs.Arrows.{Arrow}
 use Rattle.ld_graph.specs.Counting.{IsNumberOf}
 use Rattle.ld_graph.specs.Facts.{AreSame, Holds, DependenciesOf}
 use Rattle.ld_graph.specs.Links.{IsLink, IsDouble, IsInversion, IsClean}
-use Rattle.ld_graph.specs.Walks.{StrongWalk, OnCircle}
+use Rattle.ld_graph.specs.Walks.{StrongWalk, OnCircle, IsCircle, IsShortestCircle}
 use Rattle.ld_graph.specs.declared.fact.Fact.{Fact}
 use Rattle.ld_graph.specs.declared.fact.Fact.TheVariants.{Dependency, Marked}
 
@@ -22,6 +22,10 @@ StrongWalk-more P Q up a (b ∷ rest) w = (up a w.0, w.1, StrongWalk-more P Q up
 module _ (P Q : Fact → Type 0) (up : Holds Q P) where
   walk : (a : Arrow) (rest : List Arrow) → StrongWalk (DependenciesOf P) a rest → StrongWalk (DependenciesOf Q) a rest
   walk = StrongWalk-more (DependenciesOf P) (DependenciesOf Q) (λ d. up (Dependency d.start d.end d.kind))
+
+  pub IsCircle-more : (circle : List Arrow) → IsCircle P circle → IsCircle Q circle
+  IsCircle-more [] no_walk = no_walk
+  IsCircle-more (a ∷ rest) closed = (walk a rest closed.0, closed.1)
 
   link : (irq : Irq) (l : Arrow) → IsLink P irq l → IsLink Q irq l
   link irq l marks = (
@@ -57,6 +61,13 @@ module _ (P Q : Fact → Type 0) (same : AreSame P Q) where
 
   pub OnCircle-same : (d : Arrow) → OnCircle P d ↔ OnCircle Q d
   OnCircle-same d = (OnCircle-more P Q there d, OnCircle-more Q P back d)
+
+  pub IsShortestCircle-same : (circle : List Arrow) → IsShortestCircle P circle → IsShortestCircle Q circle
+  IsShortestCircle-same circle shortest = record {
+    closed = IsCircle-more P Q there circle shortest.closed;
+    least = λ other is. shortest.least other (IsCircle-more Q P back other is);
+    once = shortest.once;
+  }
 
   pub IsDouble-same : (irq : Irq) (a : ℕ) → IsDouble P irq a ↔ IsDouble Q irq a
   IsDouble-same irq a = (IsDouble-more P Q there irq a, IsDouble-more Q P back irq a)

@@ -2,5 +2,6 @@ pub mod Bits
 pub mod ChainFacts
 pub mod Kept
 pub mod Places
+pub mod Searching
 pub mod Tables
 pub mod WordTable

@@ -12,7 +12,7 @@ use Rattle.ld_graph.specs.Facts.{TraceHas, ChainHas, ChainsHave, AreSame, Adds, 
 use Rattle.ld_graph.specs.FactBits.{FactParts, FactBelow, HasFact}
 use Rattle.ld_graph.specs.Links.{IsDoubleBy, IsInversionWith}
 use Rattle.ld_graph.specs.Numbers.{bit_total, fact_number}
-use Rattle.ld_graph.specs.Walks.{ClosedWalk}
+use Rattle.ld_graph.specs.Walks.{ClosedWalk, IsShortestCircle}
 use Rattle.ld_graph.specs.declared.fact.Fact.{Fact}
 use Rattle.ld_graph.specs.declared.fact.Fact.TheVariants.{Dependency, Marked}
 
@@ -99,3 +99,9 @@ NewInversionsHaveNewParts =
     IsInversionWith (In new) irq a b d rest l →
     IsInversionWith (In old) irq a b d rest l ⊎ HasNewEnd old new irq l ⊎
     HasNewMember old new (d ∷ rest)
+
+-- ---- circles turn
+-- a shortest circle may begin with each of its members
+abbrev pub ShortestCirclesTurn : Type 0
+ShortestCirclesTurn = (facts : FactParts) (front back : List Arrow) →
+    IsShortestCircle (HasFact facts) (front ++ back) → IsShortestCircle (HasFact facts) (back ++ front)

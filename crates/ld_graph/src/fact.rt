@@ -73,7 +73,7 @@ pub(crate) fn first_mark(keys: u16, key: u16) -> usize
 }
 
 // The place of a kind among the four of its keys.
-fn kind_number(kind: Kind) -> usize
+pub(crate) fn kind_number(kind: Kind) -> usize
     ensures value { result ≡ kind_number kind }
     ensures below { result < 4 }
 {

@@ -1,6 +1,6 @@
 //! Laws of the definitions, each carried by a function that does nothing.
 
-ghost use Rattle.ld_graph.specs.Laws.{DependenciesHaveOneNumber, TraceFactsAreTheChains, AddingInTurnUnites, FactsHaveBits, EachBitIsAFacts, FactsHaveDifferentBits, NewCirclesHaveNewMembers, NewDoublesHaveNewMarks, NewInversionsHaveNewParts};
+ghost use Rattle.ld_graph.specs.Laws.{DependenciesHaveOneNumber, ShortestCirclesTurn, TraceFactsAreTheChains, AddingInTurnUnites, FactsHaveBits, EachBitIsAFacts, FactsHaveDifferentBits, NewCirclesHaveNewMembers, NewDoublesHaveNewMarks, NewInversionsHaveNewParts};
 
 /// The facts of a trace are those of its chains.
 pub fn trace_facts_are_the_chains()
@@ -35,4 +35,9 @@ pub fn what_is_new_suffices()
     ensures circles { NewCirclesHaveNewMembers }
     ensures doubles { NewDoublesHaveNewMarks }
     ensures inversions { NewInversionsHaveNewParts }
+{}
+
+/// A shortest circle may begin with each of its members.
+pub fn shortest_circles_turn()
+    ensures { ShortestCirclesTurn }
 {}

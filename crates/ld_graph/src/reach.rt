@@ -49,8 +49,8 @@ impl Reach {
         self.ahead[p]
     }
 
-    /// The places from which `q` is reached.
-    fn to(&self, q: usize) -> Row
+    // The places from which `q` is reached.
+    pub(crate) fn to(&self, q: usize) -> Row
         requires { q < PLACES }
         ensures { (p : ℕ) → has_bit result p ≡ reaches self.now p q }
     {

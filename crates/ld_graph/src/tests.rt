@@ -2,7 +2,9 @@
 
 ghost use Rattle.ld_task.specs.Chains.{ChainKeysBelow};
 
-use crate::{FactWords, Facts, Graph, Kind, Mark, fact_words};
+mod want_of_memory;
+
+use crate::{Circle, FactWords, Facts, Graph, Kind, Mark, fact_words};
 use ld_task::{Chain, TaskState};
 use ld_trace::{Event, Irq, KeyId, MAX_KEYS, Mode};
 use std::alloc::{AllocError, Global};
@@ -486,5 +488,122 @@ fn an_opening_marks_forty_eight_held_locks(rt: HostRuntime) -> Result<(), Fail> 
     assert!(rt; chain.keys_below(facts.keys()));
     unite_words(&mut facts, &chain);
     assert!(rt; facts.marks() == 96 && facts.dependencies() == 0);
+    Ok(())
+}
+
+// Whether the circle has these members and no other, wherever it begins.
+fn has_members(circle: Option<Circle>, members: &[(u16, u16, Kind)]) -> bool {
+    let Some(circle) = circle else {
+        return false;
+    };
+    for member in members {
+        if !(0..circle.len()).any(|i| circle.get(i) == Some(*member)) {
+            return false;
+        }
+    }
+    circle.len() == members.len() && circle.get(members.len()) == None
+}
+
+#[test]
+fn a_shortest_circle_is_told(rt: HostRuntime) -> Result<(), Fail> {
+    let alloc = rt.alloc();
+    let both: [&[Event]; 2] = [&[write(A), write(B)], &[write(B), write(A)]];
+    let graph = graph_of(&rt, alloc, 2, &both)?;
+    assert!(rt;
+        has_members(
+            graph.shortest_circle(),
+            &[(A, B, Kind::En), (B, A, Kind::En)]
+        )
+    );
+    let beside: [&[Event]; 2] = [&[write(A), reread(B), write(C)], &[write(C), write(A)]];
+    let graph = graph_of(&rt, alloc, 3, &beside)?;
+    assert!(rt;
+        has_members(
+            graph.shortest_circle(),
+            &[(A, C, Kind::En), (C, A, Kind::En)]
+        )
+    );
+    let reader: [&[Event]; 2] = [&[write(A), reread(B)], &[write(B), write(A)]];
+    let graph = graph_of(&rt, alloc, 2, &reader)?;
+    assert!(rt;
+        has_members(
+            graph.shortest_circle(),
+            &[(A, B, Kind::Er), (B, A, Kind::En)]
+        )
+    );
+    let eight: [&[Event]; 4] = [
+        &[write(A), reread(B)],
+        &[read(B), write(A)],
+        &[write(B), write(C)],
+        &[write(C), write(B)],
+    ];
+    let graph = graph_of(&rt, alloc, 3, &eight)?;
+    assert!(rt;
+        has_members(
+            graph.shortest_circle(),
+            &[(B, C, Kind::En), (C, B, Kind::En)]
+        )
+    );
+    Ok(())
+}
+
+#[test]
+fn a_circle_of_one(rt: HostRuntime) -> Result<(), Fail> {
+    let alloc = rt.alloc();
+    let graph = graph_of(&rt, alloc, 1, &[&[write(A), reread(A)]])?;
+    assert!(rt; has_members(graph.shortest_circle(), &[(A, A, Kind::Er)]));
+    let graph = graph_of(&rt, alloc, 1, &[&[read(A), read(A)]])?;
+    assert!(rt; has_members(graph.shortest_circle(), &[(A, A, Kind::Sn)]));
+    let graph = graph_of(&rt, alloc, 1, &[&[reread(A), reread(A)]])?;
+    assert!(rt; graph.shortest_circle().is_none());
+    Ok(())
+}
+
+#[test]
+fn where_no_dependency_is_on_a_circle_there_is_no_shortest(rt: HostRuntime) -> Result<(), Fail> {
+    let alloc = rt.alloc();
+    assert!(rt; Graph::new(alloc, 2)?.shortest_circle().is_none());
+    let graph = graph_of(&rt, alloc, 3, &[&[write(A), write(B), give(A), write(C)]])?;
+    assert!(rt; graph.shortest_circle().is_none());
+    let half: [&[Event]; 2] = [&[write(A), reread(B)], &[read(B), write(A)]];
+    let graph = graph_of(&rt, alloc, 2, &half)?;
+    assert!(rt; graph.shortest_circle().is_none());
+    Ok(())
+}
+
+#[test]
+fn a_shorter_circle_is_told_before_a_longer(rt: HostRuntime) -> Result<(), Fail> {
+    let mut graph = Graph::new(rt.alloc(), 6)?;
+    replay(&rt, &mut graph, &[write(A), write(B)]);
+    replay(&rt, &mut graph, &[write(B), write(C)]);
+    replay(&rt, &mut graph, &[write(C), write(A)]);
+    replay(&rt, &mut graph, &[write(A), write(3)]);
+    let three = [(A, B, Kind::En), (B, C, Kind::En), (C, A, Kind::En)];
+    assert!(rt; has_members(graph.shortest_circle(), &three));
+    replay(&rt, &mut graph, &[write(4), write(5)]);
+    replay(&rt, &mut graph, &[write(5), write(4)]);
+    let two = [(4, 5, Kind::En), (5, 4, Kind::En)];
+    assert!(rt; has_members(graph.shortest_circle(), &two));
+    Ok(())
+}
+
+#[test]
+fn a_ring_of_all_keys_is_a_circle_of_as_many(rt: HostRuntime) -> Result<(), Fail> {
+    let mut graph = Graph::new(rt.alloc(), MAX_KEYS)?;
+    for number in 0..MAX_KEYS {
+        let mut state = TaskState::new();
+        for event in [write(number), write((number + 1) % MAX_KEYS)] {
+            if let Ok(Some(chain)) = state.step(event) {
+                assert!(rt; chain.keys_below(graph.facts().keys()));
+                graph.add_chain(&chain);
+            }
+        }
+    }
+    let circle = graph.shortest_circle().ok_or("a circle")?;
+    assert_eq!(rt; circle.len(), 256);
+    for i in 0..256 {
+        let (from, to, kind) = circle.get(i).ok_or("a member")?;
+        assert!(rt; to == (from + 1) % MAX_KEYS && kind == Kind::En);
+    }
     Ok(())
 }

@@ -1,14 +1,13 @@
 -- The facts of a trace before its first event that isn't allowed.
-use Rattle.std.proofs.Common.{◌≡◌, ℕ, zero, suc, ◌<◌, ◌≤◌, ◌⊎◌, ◌↔◌, List, [], ◌∷◌, take, slice_get, length, Some, None, Contains, refl, sym, ◌∙◌, subst, inl, inr, arith}
+use Rattle.std.proofs.Common.{◌≡◌, ℕ, zero, suc, ◌<◌, ◌≤◌, ◌⊎◌, List, [], ◌∷◌, take, slice_get, length, Some, None, refl, sym, ◌∙◌, subst, inl, inr, arith}
 use Rattle.std.proofs.lemmas.Bool.{cases_lt}
 use Rattle.std.proofs.lemmas.List.{take_all}
 use Rattle.ld_trace.specs.declared.event.Event.{Event}
 use Rattle.ld_task.specs.declared.fault.StepFault.{StepFault}
-use Rattle.ld_task.specs.Chains.{ChainParts}
 use Rattle.ld_task.specs.Laws.{BeginningsKeepTheirChains, BeginningsKeepTheirFaults}
 use Rattle.ld_task.specs.TraceChains.{chains}
 use Rattle.ld_task.specs.WellFormed.{IsWellFormed, IsFirstFault}
-use Rattle.ld_graph.specs.Facts.{TraceHas, ChainsHave, AreSame}
+use Rattle.ld_graph.specs.Facts.{TraceHas, ChainsHave, AreSame, Holds}
 use Rattle.ld_graph.specs.Laws.{TraceFactsAreTheChains}
 use Rattle.ld_graph.specs.declared.fact.Fact.{Fact}
 use Rattle.ld_run.specs.Tallies.{HasBeforeFault}
@@ -84,3 +83,7 @@ before_fault-all chain_facts keep t well x =
       (λ h. subst (λ u. TraceHas u x) all ((chain_facts (take (length t) t) x).1 (same.1 h))),
       (λ h. (length t, beginning, subst (λ u. TraceHas u x) (sym all) h)),
     )
+
+-- a well-formed beginning's chains have no others
+pub beginning_has : TraceFactsAreTheChains → (t : List Event) (n : ℕ) → IsWellFormed (take n t) → Holds (HasBeforeFault t) (ChainsHave (chains (take n t)))
+beginning_has chain_facts t n well x any = (n, well, (chain_facts (take n t) x).1 any)

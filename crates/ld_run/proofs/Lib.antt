@@ -1,6 +1,12 @@
 pub mod BeforeFaults
 pub mod Tallies
 pub mod Walking
-pub mod Shares
 pub mod Settlements
 pub mod Counts
+pub mod Gather
+pub mod WordLists
+pub mod Moves
+pub mod SeatLists
+pub mod SeatFacts
+pub mod Working
+pub mod Crews

@@ -4,13 +4,13 @@ use Rattle.ld_trace.specs.declared.event.Event.{Event}
 use Rattle.ld_graph.specs.FactBits.{FactParts, HasFact}
 use Rattle.ld_graph.specs.Facts.{AreSame}
 use Rattle.ld_book.specs.Books.{BookParts, JournalHas}
+use Rattle.ld_task.specs.declared.fault.StepAt.{StepAt}
 use Rattle.ld_run.specs.TraceFacts.{IsFirstRefused}
 use Rattle.ld_run.specs.Runs.{CompletesRun, EndsRun, IsCrew, StopsRun}
 use Rattle.ld_run.specs.Settling.{Settles}
 use Rattle.ld_run.specs.declared.fault.RunFault.{RunFault}
 use Rattle.ld_run.specs.declared.fault.RunFault.TheVariants.{Unsettled, Refused}
 use Rattle.ld_run.specs.declared.runs.TheConstants.{MAX_TRACES}
-use Rattle.ld_run.specs.declared.worker.RefusedTrace.{RefusedTrace}
 
 pub settles-same : (book : BookParts) (facts tallies : FactParts) → facts.keys ≡ book.keys → AreSame (HasFact facts) (JournalHas book.journal) → ((facts.keys ≡ tallies.keys) × AreSame (HasFact facts) (HasFact tallies)) ↔ Settles book tallies
 settles-same book facts tallies keys facts_are = (
@@ -34,8 +34,8 @@ settled_ends traces workers facts (Err fault) none is completed =
     subst (StopsRun traces workers) (sym is) (completed.crew, completed.few, completed.well_formed)
 
 -- a trace that isn't well formed ends the run
-pub refused_ends : (traces : List (List Event)) (workers : ℕ) (found : RefusedTrace) (fault : RunFault) → fault ≡ Refused found.trace found.first.place found.first.fault → IsCrew workers → length traces ≤ MAX_TRACES → IsFirstRefused traces found.trace found.first → StopsRun traces workers fault
-refused_ends traces workers found fault is crew few first = subst (StopsRun traces workers) (sym is) (crew, few, first)
+pub refused_ends : (traces : List (List Event)) (workers : ℕ) (trace : ℕ) (first : StepAt) (fault : RunFault) → fault ≡ Refused trace first.place first.fault → IsCrew workers → length traces ≤ MAX_TRACES → IsFirstRefused traces trace first → StopsRun traces workers fault
+refused_ends traces workers trace first fault is crew few refused = subst (StopsRun traces workers) (sym is) (crew, few, refused)
 
 -- what the end says of each outcome
 pub ends_ok : (traces : List (List Event)) (workers : ℕ) (r : Result FactParts RunFault) → EndsRun traces workers r → IfOk r (CompletesRun traces workers)

@@ -1,5 +1,5 @@
--- Going along a trace, and what is gathered on the way.
-use Rattle.std.proofs.Common.{◌≡◌, ℕ, zero, suc, ◌+◌, ◌<◌, ◌≤◌, List, [], ◌∷◌, ◌++◌, Option, Some, None, Result, Ok, take, slice_get, length, refl, sym, ◌∙◌, subst, inl, inr, arith}
+-- Going along a trace, and what is put on a board and known on the way.
+use Rattle.std.proofs.Common.{◌≡◌, ◌⊎◌, ◌↔◌, ℕ, zero, suc, ◌+◌, ◌<◌, ◌≤◌, List, [], ◌∷◌, ◌++◌, Option, Some, None, Result, Ok, Err, Bool, true, false, true≢false, IsFalse, IsTrue, IsErr, take, slice_get, length, refl, sym, ◌∙◌, subst, inl, inr, arith}
 use Rattle.std.proofs.lemmas.List.{append-nil}
 use Rattle.std.proofs.lemmas.List.Elements.{All-take, All-pop}
 use Rattle.ld_trace.specs.Events.{KeysBelow, KeyIsBelow}
@@ -11,11 +11,14 @@ use Rattle.ld_task.specs.Positions.{positions_below}
 use Rattle.ld_task.specs.EndState.{EndState}
 use Rattle.ld_task.specs.Steps.{GoesOn, IsStateAfter}
 use Rattle.ld_task.specs.TraceChains.{chains}
-use Rattle.ld_graph.specs.FactBits.{FactParts, HasFact}
 use Rattle.ld_graph.specs.FactLaws.{Any-push}
-use Rattle.ld_graph.specs.Facts.{Adds, AreSame, ChainHas, ChainsHave}
+use Rattle.ld_graph.specs.Facts.{AreSame, ChainHas, ChainsHave, Holds}
 use Rattle.ld_graph.specs.declared.fact.Fact.{Fact}
-use Rattle.ld_run.specs.Inside.Walks.{ComesNext, HasGathered, WalksOn}
+use Rattle.ld_run.specs.Views.{PutHas, SeenHas, KnowsFact}
+use Rattle.ld_run.specs.Work.{PutsOnly}
+use Rattle.ld_run.specs.Inside.Walks.{ComesNext, HasGathered, WalksOn, fault_in}
+use Rattle.ld_run.specs.declared.view.View.{View}
+use Rattle.ld_run.specs.declared.worker.Lost.{Lost}
 
 -- the chain of an event of a trace has the trace's keys
 pub chain_below : ChainKeysAreTheTraces → (keys : ℕ) (t : List Event) (n : ℕ) (state : EndState) (r : Result (Option ChainParts) StepFault) (c : ChainParts) → r ≡ Ok (Some c) → GoesOn t n state r → KeysBelow keys t → ChainKeysBelow keys c
@@ -24,61 +27,81 @@ chain_below law keys t n state r c is on below =
     let all = law (take (n + 1) t) keys (All-take (KeyIsBelow keys) (n + 1) t below) in
     (All-pop (ChainKeysBelow keys) (chains (take (n + 1) t)) (chains (take n t)) (Some c) after.1 all).1
 
--- no chains add nothing
-Adds-none : (P : Fact → Type 0) → Adds P P (ChainsHave [])
-Adds-none P x = ((λ h. inl h), (λ h. elim h [ inl o ↦ o | inr a ↦ absurd (let l = a.2 in omega arith) ]))
+-- ---- what is put and known
+-- nothing is put
+pub PutsOnly-none : (keys : ℕ) (v : View) (P : Fact → Type 0) → PutsOnly keys v v P
+PutsOnly-none keys v P = record { keeps = λ x h. h; only = λ x h. inl h; knows = λ x h. h }
 
--- one chain more
-Adds-more : (First Old New : Fact → Type 0) (cs : List ChainParts) (c : ChainParts) → Adds First Old (ChainsHave cs) → Adds Old New (ChainHas c) → Adds First New (ChainsHave (cs ++ c ∷ []))
-Adds-more First Old New cs c before adds x =
-    let more = Any-push (λ y. ChainHas y x) cs c in (
-      (λ h. elim ((adds x).0 h) [
-        | inl o ↦ elim ((before x).0 o) [ inl f ↦ inl f | inr a ↦ inr (more.1 (inl a)) ]
-        | inr y ↦ inr (more.1 (inr y))
-      ]),
-      (λ h. (adds x).1 (elim h [
-        | inl f ↦ inl ((before x).1 (inl f))
-        | inr a ↦ elim (more.0 a) [ inl b ↦ inl ((before x).1 (inr b)) | inr y ↦ inr y ]
-      ])),
-    )
+-- first the one, then the other
+pub PutsOnly-then : (keys : ℕ) (old mid new : View) (P Q R : Fact → Type 0) → Holds R P → Holds R Q → PutsOnly keys old mid P → PutsOnly keys mid new Q → PutsOnly keys old new R
+PutsOnly-then keys old mid new P Q R p q first then = record {
+  keeps = λ x h. then.keeps x (first.keeps x h);
+  only = λ x h. elim (then.only x h) [
+    | inr b ↦ inr (q x b)
+    | inl m ↦ elim (first.only x m) [ inl o ↦ inl o | inr a ↦ inr (p x a) ]
+  ];
+  knows = λ x h. then.knows x (first.knows x h);
+}
+
+-- only facts of a larger set
+pub PutsOnly-more : (keys : ℕ) (old new : View) (P Q : Fact → Type 0) → Holds Q P → PutsOnly keys old new P → PutsOnly keys old new Q
+PutsOnly-more keys old new P Q up puts = record {
+  keeps = puts.keeps;
+  only = λ x h. elim (puts.only x h) [ inl o ↦ inl o | inr p ↦ inr (up x p) ];
+  knows = puts.knows;
+}
+
+-- ---- along a trace
+no_chains : (x : Fact) → ChainsHave [] x → ⊥
+no_chains x any = let l = any.2 in omega (arith, l)
 
 -- an allowed event with a chain
-pub walks_on-chain : (start old new : FactParts) (t : List Event) (n : ℕ) (state : EndState) (r : Result (Option ChainParts) StepFault) (c : ChainParts) → r ≡ Ok (Some c) → GoesOn t n state r → new.keys ≡ old.keys → Adds (HasFact old) (HasFact new) (ChainHas c) → HasGathered start old t n → WalksOn start new state t n None
-walks_on-chain start old new t n state r c is on keys adds gathered =
-    let after = subst (λ x. GoesOn t n state x) is on in (
+pub walks_on-chain : (keys : ℕ) (start old new : View) (t : List Event) (n : ℕ) (state : EndState) (r : Result (Option ChainParts) StepFault) (c : ChainParts) → r ≡ Ok (Some c) → GoesOn t n state r → new.claimed ≡ old.claimed → PutsOnly keys old new (ChainHas c) → Holds (KnowsFact keys new) (ChainHas c) → HasGathered keys start old t n → WalksOn keys start new state t n None
+walks_on-chain keys start old new t n state r c is on claimed puts knows gathered =
+    let after = subst (λ x. GoesOn t n state x) is on in
+    let cs : List ChainParts = chains (take n t) in
+    let more : (x : Fact) → ChainsHave (cs ++ c ∷ []) x ↔ (ChainsHave cs x ⊎ ChainHas c x) = λ x. Any-push (λ y. ChainHas y x) cs c in (
       after.0,
       record {
-        keys = keys ∙ gathered.keys;
-        adds = subst (λ cs. Adds (HasFact start) (HasFact new) (ChainsHave cs)) (sym after.1)
-            (Adds-more (HasFact start) (HasFact old) (HasFact new) (chains (take n t)) c gathered.adds adds);
+        claimed = claimed ∙ gathered.claimed;
+        puts = subst (λ ds. PutsOnly keys start new (ChainsHave ds)) (sym after.1)
+            (PutsOnly-then keys start old new (ChainsHave cs) (ChainHas c) (ChainsHave (cs ++ c ∷ [])) (λ x h. (more x).1 (inl h)) (λ x h. (more x).1 (inr h)) gathered.puts puts);
+        knows = subst (λ ds. Holds (KnowsFact keys new) (ChainsHave ds)) (sym after.1)
+            (λ x h. elim ((more x).0 h) [ inl b ↦ puts.knows x (gathered.knows x b) | inr y ↦ knows x y ]);
       },
     )
 
 -- an allowed event without one
-pub walks_on-none : (start facts : FactParts) (t : List Event) (n : ℕ) (state : EndState) (r : Result (Option ChainParts) StepFault) → r ≡ Ok None → GoesOn t n state r → HasGathered start facts t n → WalksOn start facts state t n None
-walks_on-none start facts t n state r is on gathered =
-    let after = subst (λ x. GoesOn t n state x) is on in (
+pub walks_on-none : (keys : ℕ) (start now : View) (t : List Event) (n : ℕ) (state : EndState) (r : Result (Option ChainParts) StepFault) → r ≡ Ok None → GoesOn t n state r → HasGathered keys start now t n → WalksOn keys start now state t n None
+walks_on-none keys start now t n state r is on gathered =
+    let after = subst (λ x. GoesOn t n state x) is on in
+    let same = sym (after.1 ∙ append-nil (chains (take n t))) in (
       after.0,
       record {
-        keys = gathered.keys;
-        adds = subst (λ cs. Adds (HasFact start) (HasFact facts) (ChainsHave cs)) (sym (after.1 ∙ append-nil (chains (take n t)))) gathered.adds;
+        claimed = gathered.claimed;
+        puts = subst (λ cs. PutsOnly keys start now (ChainsHave cs)) same gathered.puts;
+        knows = subst (λ cs. Holds (KnowsFact keys now) (ChainsHave cs)) same gathered.knows;
       },
     )
 
 -- the first n events of the trace were allowed, this is the state after them, and the facts of their chains, of which there
 -- were no more than events, were gathered
-pub record IsWalking (start facts : FactParts) (t : List Event) (n : ℕ) (state : EndState) (number : ℕ) : Type 0 where
+pub record IsWalking (keys : ℕ) (start now : View) (t : List Event) (n : ℕ) (state : EndState) (number : ℕ) : Type 0 where
   pub after : IsStateAfter t n state
-  pub gathered : HasGathered start facts t n
+  pub gathered : HasGathered keys start now t n
   pub few : number ≤ n
 
-pub IsWalking-none : (facts : FactParts) (t : List Event) (state : EndState) → IsStateAfter t 0 state → IsWalking facts facts t 0 state 0
+pub IsWalking-none : (keys : ℕ) (v : View) (t : List Event) (state : EndState) → IsStateAfter t 0 state → IsWalking keys v v t 0 state 0
 unfolding chains positions_below
-IsWalking-none facts t state after = record { after = after; gathered = record { keys = refl; adds = Adds-none (HasFact facts) }; few = omega arith }
+IsWalking-none keys v t state after = record {
+  after = after;
+  gathered = record { claimed = refl; puts = PutsOnly-none keys v (ChainsHave []); knows = λ x h. absurd (no_chains x h) };
+  few = omega arith;
+}
 
 -- one more event
-pub IsWalking-next : (start old new : FactParts) (t : List Event) (n : ℕ) (state next : EndState) (number number' : ℕ) → IsWalking start old t n state number → number' ≤ number + 1 → WalksOn start new next t n None → IsWalking start new t (n + 1) next number'
-IsWalking-next start old new t n state next number number' before few on = record {
+pub IsWalking-next : (keys : ℕ) (start old new : View) (t : List Event) (n : ℕ) (state next : EndState) (number number' : ℕ) → IsWalking keys start old t n state number → number' ≤ number + 1 → WalksOn keys start new next t n None → IsWalking keys start new t (n + 1) next number'
+IsWalking-next keys start old new t n state next number number' before few on = record {
   after = on.0;
   gathered = on.1;
   few = (let l = before.few in omega (arith, few, l));
@@ -91,8 +114,8 @@ never_past (x ∷ xs) zero l e = cc
 never_past (x ∷ xs) (suc i) l e = never_past xs i (omega (arith, l)) e
 
 -- the event that is read next
-pub comes_next : (start facts : FactParts) (t : List Event) (n : ℕ) (state : EndState) (number : ℕ) (r : Option Event) (event : Event) → IsWalking start facts t n state number → r ≡ slice_get t n → r ≡ Some event → KeysBelow start.keys t → ComesNext start facts state event t n
-comes_next start facts t n state number r event walking read is below = record {
+pub comes_next : (keys : ℕ) (start now : View) (t : List Event) (n : ℕ) (state : EndState) (number : ℕ) (r : Option Event) (event : Event) → IsWalking keys start now t n state number → r ≡ slice_get t n → r ≡ Some event → KeysBelow keys t → ComesNext keys start now state event t n
+comes_next keys start now t n state number r event walking read is below = record {
   after = walking.after;
   here = sym read ∙ is;
   below = below;
@@ -100,8 +123,18 @@ comes_next start facts t n state number r event walking read is below = record {
 }
 
 -- what was gathered of a trace, by another name
-pub Adds-same : (Old New P Q : Fact → Type 0) → AreSame P Q → Adds Old New P → Adds Old New Q
-Adds-same Old New P Q same adds x = (
-  (λ h. elim ((adds x).0 h) [ inl o ↦ inl o | inr p ↦ inr ((same x).0 p) ]),
-  (λ h. (adds x).1 (elim h [ inl o ↦ inl o | inr q ↦ inr ((same x).1 q) ])),
-)
+pub gathered_puts : (keys : ℕ) (start now : View) (t : List Event) (n : ℕ) (Q : Fact → Type 0) → AreSame (ChainsHave (chains (take n t))) Q → HasGathered keys start now t n → PutsOnly keys start now Q
+gathered_puts keys start now t n Q same gathered = PutsOnly-more keys start now (ChainsHave (chains (take n t))) Q (λ x h. (same x).0 h) gathered.puts
+
+pub gathered_knows : (keys : ℕ) (start now : View) (t : List Event) (n : ℕ) (Q : Fact → Type 0) → AreSame (ChainsHave (chains (take n t))) Q → HasGathered keys start now t n → Holds (KnowsFact keys now) Q
+gathered_knows keys start now t n Q same gathered x h = gathered.knows x ((same x).1 h)
+
+-- a fact that was seen, or else put, is known
+pub known_either : (keys : ℕ) (v : View) (b : Bool) (P : Fact → Type 0) → (IsFalse b → Holds (SeenHas keys v) P) → (IsTrue b → Holds (PutHas keys v) P) → Holds (KnowsFact keys v) P
+known_either keys v false P covered put x h = inr (covered refl x h)
+known_either keys v true P covered put x h = inl (put refl x h)
+
+-- nothing is refused where the worker was lost
+pub none_in : (r : Result (Option StepFault) Lost) → IsErr r → fault_in r ≡ None
+none_in (Ok fault) is = absurd (true≢false (sym is))
+none_in (Err lost) is = refl

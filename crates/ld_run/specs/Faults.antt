@@ -1,5 +1,7 @@
 -- The codes of refused runs [this project's own].
 use Rattle.std.specs.Prelude.{ℕ, List, codes}
+use Rattle.ld_run.specs.declared.board_fault.BoardFault.{BoardFault}
+use Rattle.ld_run.specs.declared.board_fault.BoardFault.TheVariants as C
 use Rattle.ld_run.specs.declared.fault.RunFault.{RunFault}
 use Rattle.ld_run.specs.declared.fault.RunFault.TheVariants.{BadWorkers, TooManyTraces, Unsettled, Memory, Refused}
 
@@ -10,3 +12,8 @@ run_code_of TooManyTraces = codes "N2 TooManyTraces"
 run_code_of Unsettled = codes "N3 Unsettled"
 run_code_of Memory = codes "N4 Memory"
 run_code_of (Refused trace place fault) = codes "N5 Refused"
+
+-- the number and name of a board's fault
+abbrev pub board_code_of : BoardFault → List ℕ
+board_code_of C.Seats = codes "C1 Seats"
+board_code_of C.Memory = codes "C2 Memory"

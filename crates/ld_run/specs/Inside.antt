@@ -1,2 +1,4 @@
-pub mod Shares
+pub mod Crews
 pub mod Walks
+pub mod BoardRule
+pub mod Gathered

@@ -4,3 +4,7 @@ pub mod TraceFacts
 pub mod Runs
 pub mod Settling
 pub mod Tallies
+pub mod Views
+pub mod Seats
+pub mod Boards
+pub mod Work

@@ -15,7 +15,7 @@ pub enum RunFault {
     /// N2: there are more than 4,096 traces.
     #[error("there are more than 4,096 traces")]
     TooManyTraces,
-    /// N3: the book and the tallies don't have the same facts.
+    /// N3: the book and the board don't have the same facts.
     #[error("the book and the workers do not agree on the facts")]
     Unsettled,
     /// N4: memory was refused.

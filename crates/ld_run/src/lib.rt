@@ -1,15 +1,25 @@
 //! Runs over many traces: workers that walk them in threads, and the facts of all traces together.
 #![tactic(auto)]
 
+mod board;
+mod board_fault;
+#[cfg(test)]
+mod board_tests;
 mod fault;
 mod gate;
 mod runs;
+mod seat;
 mod settled;
 #[cfg(test)]
 mod tests;
+mod view;
 mod worker;
 
+pub use board::{Board, MAX_SEATS};
+pub use board_fault::BoardFault;
 pub use fault::RunFault;
 pub use gate::{Gate, OpenGate};
 pub use runs::{MAX_TRACES, MAX_WORKERS, run};
+pub use seat::{MAX_CLAIMS, Seat};
 pub use settled::{Settled, settle};
+pub use worker::{Worked, work};

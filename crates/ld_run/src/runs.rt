@@ -1,21 +1,26 @@
 //! A run: workers over many traces.
 
-ghost use Rattle.std.specs.Prelude.{◌≡◌, ◌≤◌, ◌<◌, ◌↔◌, ℕ, List, All, IfOk, IfErr, IsErrOf, count_by, length, sum_by, take, vec_len};
+ghost use Rattle.std.specs.Prelude.{◌≡◌, ◌+◌, ◌≤◌, ◌<◌, ◌↔◌, ◌++◌, ℕ, List, All, IfOk, IfErr, IsErrOf, IsFalse, count_by, length, map, sum_by, vec_capacity, vec_len};
 ghost use Rattle.ld_trace.specs.declared.event.Event.{Event};
 ghost use Rattle.ld_trace.specs.Events.{KeysBelow};
 ghost use Rattle.ld_task.specs.Events.{makes_chain};
-ghost use Rattle.ld_graph.specs.FactBits.{HasFact};
-ghost use Rattle.ld_graph.specs.declared.fact.Fact.{Fact};
 ghost use Rattle.ld_run.specs.Runs.{CompletesRun, EndsRun, IsCrew, StopsRun};
-ghost use Rattle.ld_run.specs.Inside.Shares.{BringShares, BringsShare, earlier_refused};
-ghost use Rattle.ld_run.specs.Tallies.{BelongsToFirst, IsTally};
+ghost use Rattle.ld_run.specs.Boards.{keys_of, IsSeatOf};
+ghost use Rattle.ld_run.specs.Seats.{view};
+ghost use Rattle.ld_run.specs.Views.{newcomer};
+ghost use Rattle.ld_run.specs.Work.{HasWorked};
+ghost use Rattle.ld_run.specs.Inside.Crews.{HasDrawn, SomeHasDrawn, earlier_refused};
+ghost use Rattle.ld_run.specs.Tallies.{IsTally, LeastRefusedIs};
 
+use crate::board::Board;
 use crate::fault::RunFault;
 use crate::gate::Gate;
+use crate::seat::Seat;
 use crate::settled::{Settled, settle};
-use crate::worker::{Lost, RefusedTrace, Tally, Walk, walk_share};
+use crate::worker::{Lost, Worked, work};
 use ld_book::{Book, LockedBook};
 use ld_graph::Facts;
+use ld_task::StepAt;
 use ld_trace::{Event, MAX_EVENTS, MAX_KEYS, RawTrace};
 use std::alloc::{AllocError, Global};
 use std::sync::Wait;
@@ -28,16 +33,26 @@ pub const MAX_TRACES: usize = 4096;
 /// The most workers of a run.
 pub const MAX_WORKERS: u16 = 64;
 
-/// Walks the traces, whose keys are below `keys`, with `workers` workers, each in a thread of its own: trace i belongs to worker i
-/// modulo `workers`. Each worker gathers the facts of its traces, calls the gate just before it records a chain, and records it in
-/// one book that all share. The answer is the facts of all traces together, where the book and the workers agree on them. Where a
-/// thread can't be made the calling thread does its work.
+// What the workers of a run share beside the board, and how many they are.
+#[derive(Clone, Copy)]
+struct Crew<'a, R, G> {
+    rt: &'a R,
+    alloc: Global,
+    workers: usize,
+    book: &'a LockedBook,
+    gate: &'a G,
+}
+
+/// Walks the traces, whose keys are below `keys`, with `workers` workers, each in a thread of its own. The workers claim the traces
+/// from one board and put the facts of their chains on it; a chain that brings something new is recorded in one book that all
+/// share, and the gate is called just before (see `work`). The answer is the facts of all traces together, where the book and the
+/// board agree on them. Where a thread can't be made the calling thread does its work.
 ///
 /// That all keys of the traces are below `keys`, and that `keys` is at most 256, are the caller's conditions.
 ///
 /// Refusals, in this order: N1 where `workers` isn't 1 to 64; N2 where there are more than 4,096 traces; N4 where memory was
 /// refused; N5 where a trace isn't well formed, with the least such trace and its first event that isn't allowed; N3 where the
-/// book and the workers don't agree. The traces are only lent.
+/// book and the board don't agree. The traces are only lent.
 pub fn run<R: Threads + Wait + Sync, G: Gate + Sync>(
     rt: &R,
     alloc: Global,
@@ -84,17 +99,16 @@ fn complete<R: Threads + Wait + Sync, G: Gate + Sync>(
     let Ok(book) = Book::new(alloc, keys, chain_count(traces)) else {
         return Err(RunFault::Memory);
     };
-    let Ok(mut together) = Facts::new(alloc, keys) else {
-        return Err(RunFault::Memory);
-    };
     let book = LockedBook::new(book);
-    let walk = Walk {
+    let crew = Crew {
         rt,
+        alloc,
+        workers,
         book: &book,
         gate,
     };
-    match gather(&walk, alloc, traces, keys, workers, &mut together) {
-        Ok(refused) => conclude(book.into_book(), &together, refused),
+    match gather(&crew, traces, keys) {
+        Ok((facts, refused)) => conclude(book.into_book(), &facts, refused),
         Err(_) => Err(RunFault::Memory),
     }
 }
@@ -103,10 +117,10 @@ fn complete<R: Threads + Wait + Sync, G: Gate + Sync>(
 fn conclude(
     book: Book,
     together: &Facts,
-    refused: Option<RefusedTrace>,
+    refused: Option<(usize, StepAt)>,
 ) -> Result<Settled, RunFault>
     ensures ends { (traces : List (List Event)) (workers : ℕ) → IsCrew workers → length traces ≤ MAX_TRACES
-        → IsTally traces (BelongsToFirst workers workers) together.now refused → EndsRun traces workers result }
+        → IsTally traces together.now refused → EndsRun traces workers result }
     ensures keys { IfOk result (λ settled. settled.keys ≡ together.now.keys) }
     ensures allowed { ¬ IsErrOf result RunFault.BadWorkers × ¬ IsErrOf result RunFault.TooManyTraces }
 {
@@ -114,101 +128,112 @@ fn conclude(
     ld_task::beginnings_keep_their_chains();
     match refused {
         None => settle(book, together),
-        Some(found) => Err(refused_by(found)),
+        Some((trace, first)) => Err(refused_by(trace, first)),
     }
 }
 
 // The fault of a trace that isn't well formed.
-fn refused_by(found: RefusedTrace) -> RunFault
-    ensures { result ≡ RunFault.Refused found.trace found.first.place found.first.fault }
+fn refused_by(trace: usize, first: StepAt) -> RunFault
+    ensures { result ≡ RunFault.Refused trace first.place first.fault }
 {
     RunFault::Refused {
-        trace: found.trace,
-        place: found.first.place,
-        fault: found.first.fault,
+        trace,
+        place: first.place,
+        fault: first.fault,
     }
 }
 
-// Gathers the facts of all traces, and returns the first that isn't well formed.
+// Gathers the facts of all traces on a board, and returns them with the first trace that isn't well formed. The board has a seat
+// for each worker, and one that stays here.
 fn gather<R: Threads + Wait + Sync, G: Gate + Sync>(
-    walk: &Walk<R, G>,
-    alloc: Global,
+    crew: &Crew<R, G>,
     traces: &[RawTrace],
     keys: u16,
-    workers: usize,
-    together: &mut Facts,
-) -> Result<Option<RefusedTrace>, Lost>
+) -> Result<(Facts, Option<(usize, StepAt)>), Lost>
     requires few { keys ≤ MAX_KEYS }
     requires below { All (KeysBelow keys) traces.now }
-    requires workers { 0 < workers }
+    requires crew { IsCrew crew.now.workers }
     requires traces { length traces.now ≤ MAX_TRACES }
-    requires keys { together.old.keys ≡ keys }
-    requires none { (x : Fact) → ¬ HasFact together.old x }
-    ensures keys { together.new.keys ≡ keys }
-    ensures tally { IfOk result (λ refused.
-        IsTally traces.now (BelongsToFirst workers workers) together.new refused) }
+    ensures keys { IfOk result (λ gathered. gathered.0.keys ≡ keys) }
+    ensures tally { IfOk result (λ gathered. IsTally traces.now gathered.0 gathered.1) }
 {
-    let Ok(brought) = walk_all(walk, alloc, traces, keys, workers) else {
+    let Ok((board, mut seats)) = Board::open(crew.alloc, keys, crew.workers + 1) else {
         return Err(Lost);
     };
-    add_up(together, &brought)
+    let Some(mine) = seats.pop() else {
+        return Err(Lost);
+    };
+    let Ok(mut back) = Vec::with_capacity(crew.alloc, crew.workers + 1) else {
+        return Err(Lost);
+    };
+    back.push_reserved(mine);
+    let Ok(done) = work_in_threads(crew, &board, seats, traces) else {
+        return Err(Lost);
+    };
+    let (back, refused) = hand_in(back, done)?;
+    match board.close(back) {
+        Ok(facts) => Ok((facts, refused)),
+        Err(_) => Err(Lost),
+    }
 }
 
-// Each worker walks its share, in a thread of its own where one can be made.
-fn walk_all<R: Threads + Wait + Sync, G: Gate + Sync>(
-    walk: &Walk<R, G>,
-    alloc: Global,
+// Each seat goes to a worker in a thread of its own, or in this one where none can be made.
+fn work_in_threads<R: Threads + Wait + Sync, G: Gate + Sync>(
+    crew: &Crew<R, G>,
+    board: &Board,
+    seats: Vec<Seat>,
     traces: &[RawTrace],
-    keys: u16,
-    workers: usize,
-) -> Result<Vec<Result<Tally, Lost>>, AllocError>
-    requires few { keys ≤ MAX_KEYS }
-    requires below { All (KeysBelow keys) traces.now }
-    requires workers { 0 < workers }
+) -> Result<Vec<Worked>, AllocError>
+    requires seats { All (λ s. IsSeatOf board.now s × (view s ≡ newcomer 1)) seats.items }
+    requires below { All (KeysBelow (keys_of board.now)) traces.now }
     requires traces { length traces.now ≤ MAX_TRACES }
-    ensures len { IfOk result (λ brought. vec_len brought ≡ workers) }
-    ensures each { IfOk result (λ brought. BringShares traces.now keys workers brought.items) }
+    ensures len { IfOk result (λ done. vec_len done ≡ vec_len seats) }
+    ensures each { IfOk result (λ done. All (λ w. IsSeatOf board.now w.seat × HasWorked (keys_of board.now) traces.now (newcomer 1) w) done.items) }
 {
-    thread::map_indices(
-        walk.rt,
-        alloc,
-        workers,
-        &|worker: usize| -> Result<Tally, Lost>
-            requires { (keys ≤ MAX_KEYS) × All (KeysBelow keys) traces.now × (0 < workers) × (length traces.now ≤ MAX_TRACES) }
-            ensures { BringsShare traces.entry.now keys workers worker result }
-        { walk_share(walk, alloc, traces, keys, workers, worker) },
+    thread::map_vec(
+        crew.rt,
+        seats,
+        &|seat: Seat| -> Worked
+            requires { IsSeatOf board.now seat × (view seat ≡ newcomer 1) × (length traces.now ≤ MAX_TRACES) × All (KeysBelow (keys_of board.now)) traces.now }
+            ensures { IsSeatOf board.entry.now result.seat × HasWorked (keys_of board.entry.now) traces.entry.now (newcomer 1) result }
+        { work(crew.rt, board, seat, crew.book, traces, crew.gate) },
     )
 }
 
-// Adds the facts that all workers brought, and returns the first trace that one of them refused.
-fn add_up(
-    together: &mut Facts,
-    brought: &[Result<Tally, Lost>],
-) -> Result<Option<RefusedTrace>, Lost>
-    requires { (traces : List (List Event)) × BringShares traces together.old.keys (length brought.now) brought.now }
-    ensures keys { together.new.keys ≡ together.old.keys }
-    ensures united { IfOk result (λ refused. (traces : List (List Event))
-        → BringShares traces together.old.keys (length brought.now) brought.now
-        → ((x : Fact) → ¬ HasFact together.old x)
-        → IsTally traces (BelongsToFirst (length brought.now) (length brought.now)) together.new refused) }
+// Puts the workers' seats behind the others, and finds the first trace that one of them refused. None of them was lost.
+fn hand_in(
+    mut back: Vec<Seat>,
+    done: Vec<Worked>,
+) -> Result<(Vec<Seat>, Option<(usize, StepAt)>), Lost>
+    requires { vec_len back + vec_len done ≤ vec_capacity back }
+    ensures seats { IfOk result (λ r. r.0.items ≡ back.items ++ map (λ w. w.seat) done.items) }
+    ensures none_lost { IfOk result (λ r. All (λ w. IsFalse w.lost) done.items) }
+    ensures refused { IfOk result (λ r. (traces : List (List Event))
+        → All (λ w. LeastRefusedIs traces (HasDrawn w) w.refused) done.items
+        → LeastRefusedIs traces (SomeHasDrawn done.items) r.1) }
 {
     let mut refused = None;
-    for share in brought {
-        let Ok(tally) = share else {
+    for worked in done {
+        let Worked {
+            seat,
+            refused: found,
+            lost,
+        } = worked;
+        if lost {
             return Err(Lost);
-        };
-        together.unite(&tally.facts);
-        refused = earlier(refused, tally.refused);
+        }
+        back.push_reserved(seat);
+        refused = earlier(refused, found);
     }
-    Ok(refused)
+    Ok((back, refused))
 }
 
 // The earlier of two traces.
-fn earlier(a: Option<RefusedTrace>, b: Option<RefusedTrace>) -> Option<RefusedTrace>
+fn earlier(a: Option<(usize, StepAt)>, b: Option<(usize, StepAt)>) -> Option<(usize, StepAt)>
     ensures { result ≡ earlier_refused a b }
 {
     match (a, b) {
-        (Some(a), Some(b)) => Some(if b.trace < a.trace { b } else { a }),
+        (Some(a), Some(b)) => Some(if b.0 < a.0 { b } else { a }),
         (Some(a), None) => Some(a),
         (None, b) => b,
     }

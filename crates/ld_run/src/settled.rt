@@ -1,18 +1,18 @@
 //! The facts of a completed run, when a book has them, and what they mean.
 
-ghost use Rattle.std.specs.Prelude.{◌≡◌, ◌↔◌, IfErr, IfOk, IsOk, IsTrue};
-ghost use Rattle.ld_graph.specs.Arrows.{arrow};
+ghost use Rattle.std.specs.Prelude.{◌≡◌, ◌≤◌, ◌↔◌, IfErr, IfOk, IfSome, IsNone, IsOk, IsTrue, length};
+ghost use Rattle.ld_graph.specs.Arrows.{Arrow, arrow};
 ghost use Rattle.ld_graph.specs.Counting.{IsNumberOf};
 ghost use Rattle.ld_graph.specs.FactBits.{HasFact};
 ghost use Rattle.ld_graph.specs.Facts.{DependenciesOf};
 ghost use Rattle.ld_graph.specs.Links.{IsClean, IsDouble, IsInversion};
-ghost use Rattle.ld_graph.specs.Walks.{OnCircle};
+ghost use Rattle.ld_graph.specs.Walks.{IsShortestCircle, OnCircle};
 ghost use Rattle.ld_graph.specs.declared.fact.Fact.{Fact};
 ghost use Rattle.ld_run.specs.Settling.{Settles};
 
 use crate::fault::RunFault;
 use ld_book::Book;
-use ld_graph::{Facts, Graph, Kind, Mark};
+use ld_graph::{Circle, Facts, Graph, Kind, Mark};
 use ld_trace::Irq;
 use std::marker::Model;
 
@@ -57,6 +57,17 @@ impl Settled {
         ensures { IsTrue result ↔ OnCircle (HasFact self.now) (arrow from to kind) }
     {
         self.graph.on_circle(from, to, kind)
+    }
+
+    /// A shortest circle: a closed strong walk of the dependencies such that none has fewer members and no key is the
+    /// start of two. None exactly where no dependency is on a circle. Which one it is where several are shortest is
+    /// left open.
+    pub fn shortest_circle(&self) -> Option<Circle>
+        ensures none { IsNone result ↔ ((d : Arrow) → ¬ OnCircle (HasFact self.now) d) }
+        ensures some { IfSome result (λ circle. IsShortestCircle (HasFact self.now) circle) }
+        ensures few { IfSome result (λ circle. length circle ≤ self.now.keys) }
+    {
+        self.graph.shortest_circle()
     }
 
     /// Whether the key is a double of the state: used in it and used with it enabled, and not by readers alone.

@@ -1,116 +1,109 @@
-//! A worker: it walks the traces of its share, gathers their facts and records their chains.
+//! A worker: it claims traces from a board, walks them, puts what is new in them on the board, and records it.
 
 ghost use Rattle.std.specs.Prelude.{◌≡◌, ◌<◌, ◌≤◌, ◌+◌, ℕ, List, All, IfOk, OnOk, length};
 ghost use Rattle.ld_trace.specs.declared.event.Event.{Event};
 ghost use Rattle.ld_trace.specs.Events.{KeysBelow};
-ghost use Rattle.ld_task.specs.Chains.{ChainKeysBelow};
-ghost use Rattle.ld_graph.specs.FactBits.{FactParts, HasFact};
-ghost use Rattle.ld_graph.specs.Facts.{Adds, ChainHas};
-ghost use Rattle.ld_run.specs.Tallies.{BelongsTo, HasBeforeFault, IsTally};
-ghost use Rattle.ld_run.specs.Inside.Walks.{ComesNext, FirstFaultIs, WalksOn, first_refused_of};
+ghost use Rattle.ld_graph.specs.Facts.{Holds};
+ghost use Rattle.ld_run.specs.Boards.{keys_of, IsSeatOf};
+ghost use Rattle.ld_run.specs.Seats.{view};
+ghost use Rattle.ld_run.specs.Views.{KnowsFact};
+ghost use Rattle.ld_run.specs.Tallies.{HasBeforeFault};
+ghost use Rattle.ld_run.specs.Work.{HasWorked, PutsOnly};
+ghost use Rattle.ld_run.specs.Inside.Walks.{ComesNext, FirstFaultIs, WalksOn, fault_in, first_refused_of};
+ghost use Rattle.ld_run.specs.declared.seat.TheConstants.{MAX_CLAIMS};
+ghost use Rattle.ld_run.specs.declared.view.View.{View};
 
+use crate::board::Board;
 use crate::gate::Gate;
-use crate::runs::MAX_TRACES;
+use crate::seat::Seat;
 use ld_book::{BookFault, LockedBook};
-use ld_graph::Facts;
 use ld_task::{Chain, StepAt, StepFault, TaskState};
-use ld_trace::{Event, MAX_EVENTS, MAX_KEYS, RawTrace};
-use std::alloc::Global;
+use ld_trace::{Event, MAX_EVENTS, RawTrace};
 use std::sync::Wait;
-
-/// What the workers of a run share: how they wait, the book that they record in, and the gate that they call.
-#[derive(Clone, Copy)]
-pub(crate) struct Walk<'a, R, G> {
-    pub rt: &'a R,
-    pub book: &'a LockedBook,
-    pub gate: &'a G,
-}
-
-/// A trace that isn't well formed, by its place among all traces, with its first event that isn't allowed.
-#[derive(Clone, Copy, Debug)]
-pub(crate) struct RefusedTrace {
-    pub trace: usize,
-    pub first: StepAt,
-}
 
 /// What a worker brings back.
 #[derive(Drop)]
-pub(crate) struct Tally {
-    /// The facts of its traces before their first events that aren't allowed.
-    pub facts: Facts,
-    /// The first of its traces that isn't well formed.
-    pub refused: Option<RefusedTrace>,
+pub struct Worked {
+    /// The seat that it worked with.
+    pub seat: Seat,
+    /// The first of the traces that it claimed that isn't well formed: its place in the list, and its first event that isn't
+    /// allowed.
+    pub refused: Option<(usize, StepAt)>,
+    /// Whether memory was refused when it recorded a chain, so that it ended there.
+    pub lost: bool,
+}
+
+// What the workers of a run share beside the board: how they wait, the book that they record in, and the gate that they call.
+#[derive(Clone, Copy)]
+struct Walk<'a, R, G> {
+    rt: &'a R,
+    book: &'a LockedBook,
+    gate: &'a G,
 }
 
 /// The worker ended because memory was refused.
 #[derive(Clone, Copy, Debug)]
 pub(crate) struct Lost;
 
-// Adds the facts of a chain, calls the gate, and records the chain. A book that is full or doesn't know a key is passed
-// over: settling finds what that lost.
-fn record_chain<R: Wait, G: Gate>(
-    walk: &Walk<R, G>,
-    facts: &mut Facts,
-    trace: usize,
-    number: u64,
-    chain: Chain,
-) -> Result<(), Lost>
-    requires below { ChainKeysBelow facts.old.keys chain }
-    requires trace { trace < MAX_TRACES }
-    ensures keys { facts.new.keys ≡ facts.old.keys }
-    ensures adds { Adds (HasFact facts.old) (HasFact facts.new) (ChainHas chain) }
+/// Claims traces by the seat until it gets a number that is no trace's place, and walks each up to its first event that isn't
+/// allowed. A chain that the board covers isn't recorded. Of any other the facts are put on the board; then the gate is called
+/// with the trace's place and the chain's number in its trace, and the chain is recorded. Several threads may each make such a
+/// call, with seats of one board, for the same traces.
+///
+/// That the seat is one of the board, that the traces' keys are below the board's, and that the seat's `claims_left` is greater
+/// than the number of traces are the caller's conditions. A book that is full or doesn't know a key is passed over. Where it has
+/// no memory the worker ends, and is `lost`.
+pub fn work<R: Wait, G: Gate>(
+    rt: &R,
+    board: &Board,
+    mut seat: Seat,
+    book: &LockedBook,
+    traces: &[RawTrace],
+    gate: &G,
+) -> Worked
+    requires seat { IsSeatOf board.now seat }
+    requires below { All (KeysBelow (keys_of board.now)) traces.now }
+    requires left { length (view seat).claimed + length traces.now < MAX_CLAIMS }
+    ensures seat { IsSeatOf board.now result.seat }
+    ensures worked { HasWorked (keys_of board.now) traces.now (view seat) result }
 {
-    facts.add_chain(&chain);
-    walk.gate.before_record(trace, number);
-    match walk.book.record(walk.rt, trace as u32, chain) {
-        Err(BookFault::Memory) => Err(Lost),
-        _ => Ok(()),
+    let walk = Walk { rt, book, gate };
+    let mut refused = None;
+    let mut number = board.claim(&mut seat);
+    while number < traces.len() as u64 {
+        let trace = number as usize;
+        let Ok(found) = walk_trace(&walk, board, &mut seat, trace, &traces[trace]) else {
+            return Worked {
+                seat,
+                refused,
+                lost: true,
+            };
+        };
+        refused = first_of(refused, trace, found);
+        number = board.claim(&mut seat);
     }
-}
-
-// Goes on by one event of a trace, and returns why it isn't allowed, if it isn't. The number is that of the trace's next
-// chain: the events of a trace that make a chain are counted.
-fn walk_event<R: Wait, G: Gate>(
-    walk: &Walk<R, G>,
-    facts: &mut Facts,
-    state: &mut TaskState,
-    trace: usize,
-    number: &mut u64,
-    event: Event,
-) -> Result<Option<StepFault>, Lost>
-    requires next { (start : FactParts) × (t : List Event) × (n : ℕ)
-        × ComesNext start facts.old state.old event t n }
-    requires number { number.old < MAX_EVENTS }
-    requires trace { trace < MAX_TRACES }
-    ensures keys { facts.new.keys ≡ facts.old.keys }
-    ensures number { number.new ≤ number.old + 1 }
-    ensures walks_on { IfOk result (λ fault. (start : FactParts) (t : List Event) (n : ℕ)
-        → ComesNext start facts.old state.old event t n → WalksOn start facts.new state.new t n fault) }
-{
-    ld_task::chain_keys_are_the_traces();
-    match state.step(event) {
-        Ok(answer) => {
-            if let Some(chain) = answer {
-                record_chain(walk, facts, trace, *number, chain)?;
-                *number += 1;
-            }
-            Ok(None)
-        }
-        Err(fault) => Ok(Some(fault)),
+    Worked {
+        seat,
+        refused,
+        lost: false,
     }
 }
 
 // Walks a trace up to its first event that isn't allowed, and returns that one, if there is one.
 fn walk_trace<R: Wait, G: Gate>(
     walk: &Walk<R, G>,
-    facts: &mut Facts,
+    board: &Board,
+    seat: &mut Seat,
     trace: usize,
     events: &RawTrace,
 ) -> Result<Option<StepAt>, Lost>
-    requires below { KeysBelow facts.old.keys events.now }
-    requires trace { trace < MAX_TRACES }
-    ensures keys { facts.new.keys ≡ facts.old.keys }
-    ensures adds { OnOk result (Adds (HasFact facts.old) (HasFact facts.new) (HasBeforeFault events.now)) }
+    requires seat { IsSeatOf board.now seat.old }
+    requires below { KeysBelow (keys_of board.now) events.now }
+    requires trace { trace < MAX_CLAIMS }
+    ensures seat { IsSeatOf board.now seat.new }
+    ensures claimed { (view seat.new).claimed ≡ (view seat.old).claimed }
+    ensures puts { PutsOnly (keys_of board.now) (view seat.old) (view seat.new) (HasBeforeFault events.now) }
+    ensures knows { OnOk result (Holds (KnowsFact (keys_of board.now) (view seat.new)) (HasBeforeFault events.now)) }
     ensures found { IfOk result (FirstFaultIs events.now) }
 {
     ld_graph::trace_facts_are_the_chains();
@@ -122,7 +115,7 @@ fn walk_trace<R: Wait, G: Gate>(
         let Some(event) = events.event(place) else {
             unreachable!();
         };
-        let refused = walk_event(walk, facts, &mut state, trace, &mut number, event)?;
+        let refused = walk_event(walk, board, seat, &mut state, trace, &mut number, event)?;
         if let Some(fault) = refused {
             return Ok(Some(StepAt { fault, place }));
         }
@@ -130,47 +123,71 @@ fn walk_trace<R: Wait, G: Gate>(
     Ok(None)
 }
 
-/// Walks the traces whose places, modulo `workers`, are the worker's number.
-pub(crate) fn walk_share<R: Wait, G: Gate>(
+// Goes on by one event of a trace, and returns why it isn't allowed, if it isn't. The number is that of the trace's next
+// chain: the events of a trace that make a chain are counted.
+fn walk_event<R: Wait, G: Gate>(
     walk: &Walk<R, G>,
-    alloc: Global,
-    traces: &[RawTrace],
-    keys: u16,
-    workers: usize,
-    worker: usize,
-) -> Result<Tally, Lost>
-    requires few { keys ≤ MAX_KEYS }
-    requires below { All (KeysBelow keys) traces.now }
-    requires workers { 0 < workers }
-    requires traces { length traces.now ≤ MAX_TRACES }
-    ensures keys { IfOk result (λ tally. tally.facts.keys ≡ keys) }
-    ensures tally { IfOk result (λ tally. IsTally traces.now (BelongsTo workers worker) tally.facts tally.refused) }
+    board: &Board,
+    seat: &mut Seat,
+    state: &mut TaskState,
+    trace: usize,
+    number: &mut u64,
+    event: Event,
+) -> Result<Option<StepFault>, Lost>
+    requires seat { IsSeatOf board.now seat.old }
+    requires next { (start : View) × (t : List Event) × (n : ℕ)
+        × ComesNext (keys_of board.now) start (view seat.old) state.old event t n }
+    requires number { number.old < MAX_EVENTS }
+    requires trace { trace < MAX_CLAIMS }
+    ensures seat { IsSeatOf board.now seat.new }
+    ensures number { number.new ≤ number.old + 1 }
+    ensures walks_on { (start : View) (t : List Event) (n : ℕ)
+        → ComesNext (keys_of board.now) start (view seat.old) state.old event t n
+        → WalksOn (keys_of board.now) start (view seat.new) state.new t n (fault_in result) }
 {
-    let Ok(mut facts) = Facts::new(alloc, keys) else {
-        return Err(Lost);
-    };
-    let mut refused = None;
-    for (trace, events) in traces.iter().enumerate() {
-        if trace % workers != worker {
-            continue;
+    ld_task::chain_keys_are_the_traces();
+    match state.step(event) {
+        Ok(answer) => {
+            if let Some(chain) = answer {
+                if board.put_unless_covered(seat, &chain) {
+                    record_chain(walk, trace, *number, chain)?;
+                }
+                *number += 1;
+            }
+            Ok(None)
         }
-        let found = walk_trace(walk, &mut facts, trace, events)?;
-        refused = first_of(refused, trace, found);
+        Err(fault) => Ok(Some(fault)),
     }
-    Ok(Tally { facts, refused })
+}
+
+// Calls the gate, and records the chain. A book that is full or doesn't know a key is passed over: settling finds what that
+// lost.
+fn record_chain<R: Wait, G: Gate>(
+    walk: &Walk<R, G>,
+    trace: usize,
+    number: u64,
+    chain: Chain,
+) -> Result<(), Lost>
+    requires trace { trace < MAX_CLAIMS }
+{
+    walk.gate.before_record(trace, number);
+    match walk.book.record(walk.rt, trace as u32, chain) {
+        Err(BookFault::Memory) => Err(Lost),
+        _ => Ok(()),
+    }
 }
 
 // The trace that was refused before, or else this one, if it is.
 fn first_of(
-    before: Option<RefusedTrace>,
+    before: Option<(usize, StepAt)>,
     trace: usize,
     found: Option<StepAt>,
-) -> Option<RefusedTrace>
+) -> Option<(usize, StepAt)>
     ensures { result ≡ first_refused_of before trace found }
 {
     match (before, found) {
         (Some(before), _) => Some(before),
-        (None, Some(first)) => Some(RefusedTrace { trace, first }),
+        (None, Some(first)) => Some((trace, first)),
         (None, None) => None,
     }
 }

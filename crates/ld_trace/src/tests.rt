@@ -1,5 +1,7 @@
 //! What no clause says: that calls succeed, worked examples, the format's tables, and readers that are slow or fail.
 
+mod want_of_memory;
+
 use crate::{
     Event, Irq, KeyFault, KeyId, KeyTable, Mode, RawTrace, TraceFault, TraceFaultKind, read_trace,
 };
@@ -322,42 +324,5 @@ fn events_make_a_trace(rt: HostRuntime) -> Result<(), Fail> {
     let trace = RawTrace::from_events(events).ok_or("too many")?;
     assert_eq!(rt; trace.event(0), Some(Event::Leave));
     assert!(rt; trace.keys_below(0));
-    Ok(())
-}
-
-// To be run under `rt try --test --fail-alloc N` too, for each N: in an ordinary run no growth is refused.
-#[test]
-fn a_refused_growth_leaves_what_was_read(rt: HostRuntime) -> Result<(), Fail> {
-    let text = b"lockdep,1\nacq,A,0,w\nacq,B,0,w\nrel,A,0\nacq,C,0,w\n";
-    let mut keys = KeyTable::new(rt.alloc())?;
-    if let Err(fault) = read_trace(rt.alloc(), text.as_slice(), &mut keys) {
-        let names = match fault.at {
-            0..=2 => 0,
-            3 => 1,
-            4 | 5 => 2,
-            _ => 3,
-        };
-        assert_eq!(rt; fault.code(), "T9 Memory");
-        assert_eq!(rt; keys.len(), names, "at record {}", fault.at);
-        assert_eq!(rt;
-            read_trace(rt.alloc(), text.as_slice(), &mut keys)?.len(),
-            4
-        );
-    }
-    assert_eq!(rt; keys.len(), 3);
-    Ok(())
-}
-
-// The same.
-#[test]
-fn a_refused_growth_leaves_the_table(rt: HostRuntime) -> Result<(), Fail> {
-    let mut keys = KeyTable::new(rt.alloc())?;
-    for (number, name) in ["A", "B", "C", "D", "E"].iter().enumerate() {
-        if let Err(fault) = keys.number(name, 0) {
-            assert_eq!(rt; fault.code(), "K4 Memory");
-            assert_eq!(rt; keys.len(), number);
-        }
-        assert_eq!(rt; keys.number(name, 0)?.get() as usize, number);
-    }
     Ok(())
 }

@@ -1,6 +1,7 @@
 pub mod OutputLemmas
 pub mod OrderLemmas
 pub mod GroupLemmas
+pub mod BecauseLemmas
 pub mod ChainLemmas
 pub mod ReportLemmas
 pub mod FaultLemmas

@@ -5,12 +5,12 @@ use Rattle.ld_trace.specs.declared.event.Irq.{Irq}
 use Rattle.ld_task.specs.declared.mark.Mark.TheVariants.{UsedIn, Enabled}
 use Rattle.ld_graph.specs.Arrows.{arrow}
 use Rattle.ld_graph.specs.Facts.{AreSame, DependenciesOf}
-use Rattle.ld_graph.specs.FactLaws.{IsClean-same, IsDouble-same, IsInversion-same, IsNumberOf-same, OnCircle-same}
+use Rattle.ld_graph.specs.FactLaws.{IsClean-same, IsDouble-same, IsInversion-same, IsNumberOf-same, IsShortestCircle-same, OnCircle-same}
 use Rattle.ld_graph.specs.Links.{IsClean}
 use Rattle.ld_graph.specs.declared.fact.Fact.{Fact}
 use Rattle.ld_graph.specs.declared.fact.Fact.TheVariants.{Dependency, Marked}
 use Rattle.lockdep.specs.Groups.{InSequence, InTurn, ShowsWhere}
-use Rattle.lockdep.specs.Report.{AreCircles, AreDoubles, AreInversions, AreTotals, IsReport, IsUsageCharacter, IsUsageLine, circle_line, double_line, forms, inversion_line, kinds, states}
+use Rattle.lockdep.specs.Report.{AreCircles, AreDoubles, AreInversions, AreTotals, IsReport, ShowsBecause, IsUsageCharacter, IsUsageLine, circle_line, double_line, forms, inversion_line, kinds, states}
 
 -- groups whose parts mean the same
 pub InTurn-same : {X : Type 0} (R S : X → List ℕ → Type 0) → ((x : X) (text : List ℕ) → R x text → S x text) → (xs : List X) (text : List ℕ) → InTurn R xs text → InTurn S xs text
@@ -55,6 +55,16 @@ module _ (P Q : Fact → Type 0) (same : AreSame P Q) where
   circles-same names keys text = InTurn-same _ _ (λ from. InTurn-same _ _ (λ to. InTurn-same _ _
       (λ kind. ShowsWhere-same _ _ (circle_line names from to kind) (OnCircle-same P Q same (arrow from to kind))) kinds) keys) keys text
 
+  because-same : (names : List Name) (text : List ℕ) → ShowsBecause P names text → ShowsBecause Q names text
+  because-same names text (inl line) = inl (record {
+    first = line.first;
+    rest = line.rest;
+    shortest = IsShortestCircle-same P Q same (line.first ∷ line.rest) line.shortest;
+    least = line.least;
+    line_is = line.line_is;
+  })
+  because-same names text (inr (off, is)) = inr (λ d on. off d ((OnCircle-same P Q same d).1 on), is)
+
   doubles-same : (names : List Name) (keys : List ℕ) (text : List ℕ) → AreDoubles P names keys text → AreDoubles Q names keys text
   doubles-same names keys text = InTurn-same _ _ (λ irq. InTurn-same _ _
       (λ key. ShowsWhere-same _ _ (double_line names irq key) (IsDouble-same P Q same irq key)) keys) states text
@@ -71,7 +81,7 @@ module _ (P Q : Fact → Type 0) (same : AreSame P Q) where
   pub IsReport-same : (traces events : ℕ) (names : List Name) (text : List ℕ) → IsReport P traces events names text → IsReport Q traces events names text
   unfolding InSequence
   IsReport-same traces events names text r =
-      let (totals, after_totals, totals_are, (usage, after_usage, usage_is, (circles, after_circles, circles_are, (doubles, after_doubles, doubles_are, (inversions, end, inversions_are, at_end, e5), e4), e3), e2), e1) = r.text_is in
+      let (totals, after_totals, totals_are, (usage, after_usage, usage_is, (circles, after_circles, circles_are, (because, after_because, because_is, (doubles, after_doubles, doubles_are, (inversions, end, inversions_are, at_end, e6), e5), e4), e3), e2), e1) = r.text_is in
       record {
         keys = r.keys;
         keys_are = r.keys_are;
@@ -88,10 +98,16 @@ module _ (P Q : Fact → Type 0) (same : AreSame P Q) where
               after_circles,
               circles-same names r.keys circles circles_are,
               (
-                doubles,
-                after_doubles,
-                doubles-same names r.keys doubles doubles_are,
-                (inversions, end, inversions-same names r.keys inversions inversions_are, at_end, e5),
+                because,
+                after_because,
+                because-same names because because_is,
+                (
+                  doubles,
+                  after_doubles,
+                  doubles-same names r.keys doubles doubles_are,
+                  (inversions, end, inversions-same names r.keys inversions inversions_are, at_end, e6),
+                  e5,
+                ),
                 e4,
               ),
               e3,

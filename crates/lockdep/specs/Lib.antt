@@ -1,3 +1,4 @@
+pub mod Inside
 pub mod Output
 pub mod Words
 pub mod Order

@@ -1,5 +1,6 @@
 -- The report of facts: its lines and their order [this project's own; the usage characters are those of "State"].
-use Rattle.std.specs.Prelude.{◌≡◌, ◌↔◌, ℕ, Bool, true, false, IsTrue, List, [], ◌∷◌, ◌++◌, length, sum_by, codes, decimal}
+use Rattle.std.specs.Prelude.{◌≡◌, ◌⊎◌, ◌↔◌, ℕ, Bool, true, false, IsTrue, List, [], ◌∷◌, ◌++◌, length, sum_by, flat_map, Contains, codes, decimal}
+use Rattle.std.specs.declared.cmp.Ordering.TheVariants.{Less}
 use Rattle.ld_trace.specs.Names.{Name}
 use Rattle.ld_trace.specs.declared.event.Event.{Event}
 use Rattle.ld_trace.specs.declared.event.Irq.{Irq}
@@ -7,16 +8,16 @@ use Rattle.ld_trace.specs.declared.event.Irq.TheVariants.{Hard, Soft}
 use Rattle.ld_task.specs.declared.kind.Kind.{Kind}
 use Rattle.ld_task.specs.declared.kind.Kind.TheVariants.{Er, En, Sr, Sn}
 use Rattle.ld_task.specs.declared.mark.Mark.TheVariants.{UsedIn, Enabled}
-use Rattle.ld_graph.specs.Arrows.{arrow}
+use Rattle.ld_graph.specs.Arrows.{Arrow, arrow}
 use Rattle.ld_graph.specs.Facts.{DependenciesOf}
 use Rattle.ld_graph.specs.declared.fact.Fact.{Fact}
 use Rattle.ld_graph.specs.declared.fact.Fact.TheVariants.{Marked}
-use Rattle.ld_graph.specs.Walks.{OnCircle}
+use Rattle.ld_graph.specs.Walks.{IsShortestCircle, OnCircle}
 use Rattle.ld_graph.specs.Links.{IsDouble, IsInversion, IsClean}
 use Rattle.ld_graph.specs.Counting.{IsNumberOf}
 use Rattle.ld_run.specs.TraceFacts.{TracesHave}
 use Rattle.lockdep.specs.Words.{irq_text, key_text, kind_text, name_at}
-use Rattle.lockdep.specs.Order.{IsKeyOrder}
+use Rattle.lockdep.specs.Order.{IsKeyOrder, name_cmp}
 use Rattle.lockdep.specs.Groups.{InSequence, InTurn, ShowsWhere}
 
 -- the four kinds, in the report's order
@@ -94,6 +95,31 @@ abbrev pub AreCircles : (Fact → Type 0) → List Name → (keys : List ℕ) �
 AreCircles Has names keys =
     InTurn (λ from. InTurn (λ to. InTurn (ShowsCircle Has names from to) kinds) keys) keys
 
+-- A shortest circle.
+
+-- a member, after the key that it starts at: its kind, and the key that it leads to
+abbrev pub member_text : List Name → Arrow → List ℕ
+member_text names d = codes " " ++ kind_text d.kind ++ codes " " ++ key_text (name_at names d.end)
+
+-- a circle's line, from the key that its first member starts at
+abbrev pub because_line : List Name → (first : Arrow) (rest : List Arrow) → List ℕ
+because_line names first rest = codes "because " ++ key_text (name_at names first.start)
+    ++ flat_map (member_text names) (first ∷ rest) ++ codes "\n"
+
+-- the line is that of a shortest circle of these facts, and no member starts at a key that stands before the first's
+pub record IsBecause (Has : Fact → Type 0) (names : List Name) (line : List ℕ) : Type 0 where
+  pub first : Arrow
+  pub rest : List Arrow
+  pub shortest : IsShortestCircle Has (first ∷ rest)
+  pub least : (d : Arrow) → Contains rest d →
+      ¬ (name_cmp (name_at names d.start) (name_at names first.start) ≡ Less)
+  pub line_is : line ≡ because_line names first rest
+
+-- such a line where some dependency is on a circle, and nothing where none is
+abbrev pub ShowsBecause : (Fact → Type 0) → List Name → List ℕ → Type 0
+ShowsBecause Has names text =
+    IsBecause Has names text ⊎ (((d : Arrow) → ¬ OnCircle Has d) × (text ≡ []))
+
 -- Doubles.
 
 abbrev pub double_line : List Name → Irq → (key : ℕ) → List ℕ
@@ -134,6 +160,7 @@ pub record IsReport (Has : Fact → Type 0) (traces events : ℕ) (names : List 
       AreTotals Has traces events (length names)
       ∷ InTurn (IsUsageLine Has names) keys
       ∷ AreCircles Has names keys
+      ∷ ShowsBecause Has names
       ∷ AreDoubles Has names keys
       ∷ AreInversions Has names keys
       ∷ []) text

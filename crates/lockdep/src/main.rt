@@ -7,6 +7,7 @@ use std::alloc::{AllocError, Global};
 use std::process::ExitCode;
 use std::{env, io};
 
+mod because;
 mod chains_text;
 mod command_line;
 mod fault;
@@ -16,6 +17,7 @@ mod program;
 mod refusal;
 mod report;
 mod session;
+mod source;
 #[cfg(test)]
 mod tests;
 mod words;

@@ -9,8 +9,8 @@ use ld_trace::{KeyId, KeyTable};
 use std::alloc::{AllocError, Global};
 use std::cmp::Ordering;
 
-// By the bytes of the names, and then by subclass.
-fn compare(keys: &KeyTable, a: KeyId, b: KeyId) -> Ordering
+/// By the bytes of the names, and then by subclass.
+pub(crate) fn compare(keys: &KeyTable, a: KeyId, b: KeyId) -> Ordering
     ensures { result ≡ name_cmp (name_at keys.now a) (name_at keys.now b) }
 {
     name_of(keys, a).cmp(&name_of(keys, b))

@@ -7,6 +7,7 @@ ghost use Rattle.ld_trace.specs.Reading.{ReadsTo};
 ghost use Rattle.ld_trace.specs.declared.event.Event.{Event};
 ghost use Rattle.ld_task.specs.WellFormed.{IsFirstFault, IsWellFormed};
 ghost use Rattle.ld_trace.specs.declared.raw_trace.TheConstants.{MAX_EVENTS};
+ghost use Rattle.lockdep.specs.Inside.Sources.{remaining_in};
 ghost use Rattle.lockdep.specs.ChainLines.{chains_text};
 ghost use Rattle.lockdep.specs.CommandLine.{IsLineFault};
 ghost use Rattle.lockdep.specs.FaultLines.{fault_line};
@@ -20,6 +21,7 @@ use crate::fault::{ReportFault, WriteFault};
 use crate::output::write_text;
 use crate::refusal::{Refusal, refuse};
 use crate::session::Session;
+use crate::source::Source;
 use ld_run::OpenGate;
 use ld_task::{StepAt, check};
 use ld_trace::{KeyTable, RawTrace, read_trace};
@@ -205,13 +207,13 @@ fn add_traces<'a, R: Files, I: Read + Drop>(
     ensures err { IfErr result (StopsReading (map (λ file. file.now) files.entry.now) (I.remaining input)) }
 {
     if files.is_empty() {
-        return add_trace(session, STDIN, input);
+        return add_trace::<I, R::File>(session, STDIN, Source::Input(input));
     }
-    add_files(rt, session, files)
+    add_files::<R, I>(rt, session, files)
 }
 
 // Opens and reads each file in turn.
-fn add_files<'a, R: Files>(
+fn add_files<'a, R: Files, I: Read + Drop>(
     rt: &R,
     session: &mut Session,
     files: &[&'a str],
@@ -222,33 +224,38 @@ fn add_files<'a, R: Files>(
     ensures err { (input : Option (List ℕ)) → IfErr result (StopsReading (map (λ file. file.now) files.entry.now) input) }
 {
     for file in files {
-        add_file(rt, session, file)?;
+        add_file::<R, I>(rt, session, file)?;
     }
     Ok(())
 }
 
 // Opens a file and reads its trace.
-fn add_file<'a, R: Files>(rt: &R, session: &mut Session, file: &'a str) -> Result<(), Refusal<'a>>
+fn add_file<'a, R: Files, I: Read + Drop>(
+    rt: &R,
+    session: &mut Session,
+    file: &'a str,
+) -> Result<(), Refusal<'a>>
     ensures ok { OnOk result (length session.new.traces ≡ length session.old.traces + 1) }
     ensures below { OnOk result (All (KeysBelow (length session.new.names)) session.new.traces) }
     ensures err { IfErr result (StopsReading (file.entry.now ∷ []) None) }
 {
     match File::open(rt, file) {
-        Ok(opened) => add_trace(session, file, opened),
+        Ok(opened) => add_trace::<I, R::File>(session, file, Source::File(opened)),
         Err(_) => Err(Refusal::CannotOpen { file }),
     }
 }
 
 // Reads the trace of a file that is open.
-fn add_trace<'a, I: Read + Drop>(
+fn add_trace<'a, I: Read + Drop, F: Read + Drop>(
     session: &mut Session,
     file: &'a str,
-    opened: I,
+    opened: Source<I, F>,
 ) -> Result<(), Refusal<'a>>
     ensures ok { OnOk result ((trace : List Event) × (session.new.traces ≡ session.old.traces ++ trace ∷ [])
-        × IfSome (I.remaining opened) (λ bytes. ReadsTo session.old.names bytes session.new.names trace)) }
+        × IfSome (remaining_in I.remaining F.remaining opened) (λ bytes. ReadsTo session.old.names bytes session.new.names trace)) }
     ensures below { All (KeysBelow (length session.new.names)) session.new.traces }
-    ensures err { IfErr result (IsReadingRefusal file.entry.now session.old.names (I.remaining opened)) }
+    ensures err { IfErr result (IsReadingRefusal file.entry.now session.old.names
+        (remaining_in I.remaining F.remaining opened)) }
 {
     match session.add(opened) {
         Ok(()) => Ok(()),
@@ -270,23 +277,24 @@ fn answer_chains<'a, R: Files, I: Read + Drop, O: Write>(
         (O.contents out.old) (O.contents out.new)) }
 {
     let Some(file) = file else {
-        return answer_chains_of(alloc, STDIN, input, out);
+        return answer_chains_of::<I, R::File, O>(alloc, STDIN, Source::Input(input), out);
     };
     match File::open(rt, file) {
-        Ok(opened) => answer_chains_of(alloc, file, opened, out),
+        Ok(opened) => answer_chains_of::<I, R::File, O>(alloc, file, Source::File(opened), out),
         Err(_) => Err(Refusal::CannotOpen { file }),
     }
 }
 
 // Writes the chains of the trace of a file that is open.
-fn answer_chains_of<'a, I: Read + Drop, O: Write>(
+fn answer_chains_of<'a, I: Read + Drop, F: Read + Drop, O: Write>(
     alloc: Global,
     file: &'a str,
-    opened: I,
+    opened: Source<I, F>,
     out: &mut O,
 ) -> Result<u8, Refusal<'a>>
-    ensures ok { IfOk result (WritesChains (I.remaining opened) (O.contents out.old) (O.contents out.new)) }
-    ensures err { IfErr result (RefusesOpened file.entry.now (I.remaining opened)
+    ensures ok { IfOk result (WritesChains (remaining_in I.remaining F.remaining opened)
+        (O.contents out.old) (O.contents out.new)) }
+    ensures err { IfErr result (RefusesOpened file.entry.now (remaining_in I.remaining F.remaining opened)
         (O.contents out.old) (O.contents out.new)) }
 {
     let Ok(mut keys) = KeyTable::new(alloc) else {

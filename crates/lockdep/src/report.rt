@@ -5,8 +5,9 @@ ghost use Rattle.std.specs.Io.KnownBytes.{Appends};
 ghost use Rattle.ld_graph.specs.FactBits.{HasFact};
 ghost use Rattle.lockdep.specs.Faults.{StopsWriting};
 ghost use Rattle.lockdep.specs.Groups.{GrowsBy, InTurn};
-ghost use Rattle.lockdep.specs.Report.{AreCircles, AreDoubles, AreInversions, AreTotals, IsReport, IsUsageCharacter, IsUsageLine, ShowsCircle, ShowsDouble, ShowsInversion, clean_line, forms, kinds, total_line, usage_character};
+ghost use Rattle.lockdep.specs.Report.{AreCircles, AreDoubles, AreInversions, AreTotals, IsReport, IsUsageCharacter, IsUsageLine, ShowsBecause, ShowsCircle, ShowsDouble, ShowsInversion, clean_line, forms, kinds, total_line, usage_character};
 
+use crate::because;
 use crate::fault::WriteFault;
 use crate::order::sorted_keys;
 use crate::output::write_text;
@@ -102,6 +103,19 @@ impl ReportView<'_> {
             self.add_circles_from(text, *from)?;
         }
         Ok(())
+    }
+
+    // The line of a shortest circle, where there is one.
+    fn add_because(self, text: &mut String) -> Result<(), AllocError>
+        ensures { OnOk result (GrowsBy
+            (ShowsBecause (HasFact self.entry.settled.now) self.entry.names.now)
+            (string_bytes text.old) (string_bytes text.new)) }
+    {
+        ld_graph::shortest_circles_turn();
+        match self.settled.shortest_circle() {
+            Some(circle) => because::add_line(text, self.names, &circle),
+            None => Ok(()),
+        }
     }
 
     // The line of a key, where it is used both in a state and with it enabled.
@@ -287,6 +301,7 @@ fn report_text(
     view.add_totals(&mut text, traces, events)?;
     view.add_usage(&mut text)?;
     view.add_circles(&mut text)?;
+    view.add_because(&mut text)?;
     view.add_doubles(&mut text)?;
     view.add_inversions(&mut text)?;
     Ok(text)

@@ -9,4 +9,5 @@ mod programs;
 mod refusals;
 mod reports;
 mod tries;
+mod want_of_memory;
 mod writers;

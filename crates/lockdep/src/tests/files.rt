@@ -15,7 +15,7 @@ const FORTH: &str = "lockdep,1\nacq,A,0,w\nacq,B,0,w\nrel,B,0\nrel,A,0\n";
 const BACK: &str = "lockdep,1\nacq,B,0,w\nacq,A,0,w\nrel,A,0\nrel,B,0\n";
 
 const BOTH_ORDERS: &str =
-    "traces 2\nevents 8\nkeys 2\ndependencies 2\nclean no\nusage A/0 {+.+.}\nusage B/0 {+.+.}\ncircle A/0 EN B/0\ncircle B/0 EN A/0\n";
+    "traces 2\nevents 8\nkeys 2\ndependencies 2\nclean no\nusage A/0 {+.+.}\nusage B/0 {+.+.}\ncircle A/0 EN B/0\ncircle B/0 EN A/0\nbecause A/0 EN B/0 EN A/0\n";
 
 // A new folder with these files.
 fn folder_with(

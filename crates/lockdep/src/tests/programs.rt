@@ -50,7 +50,7 @@ fn check_writes_a_report_and_its_status(rt: HostRuntime) -> Result<(), Fail> {
         "lockdep,1\nacq,A,0,w\nacq,A,0,rr\n",
         (
             1,
-            "traces 1\nevents 2\nkeys 1\ndependencies 1\nclean no\nusage A/0 {++++}\ncircle A/0 ER A/0\n",
+            "traces 1\nevents 2\nkeys 1\ndependencies 1\nclean no\nusage A/0 {++++}\ncircle A/0 ER A/0\nbecause A/0 ER A/0\n",
             "",
         ),
     )
@@ -197,7 +197,7 @@ fn help_that_is_asked_for(rt: HostRuntime) -> Result<(), Fail> {
 #[test]
 fn the_version_that_is_asked_for(rt: HostRuntime) -> Result<(), Fail> {
     for word in ["--version", "-V"] {
-        assert_output(&rt, &["lockdep", word], "", (0, "lockdep 0.2.0\n", ""))?;
+        assert_output(&rt, &["lockdep", word], "", (0, "lockdep 0.3.0\n", ""))?;
     }
     Ok(())
 }

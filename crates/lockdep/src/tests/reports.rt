@@ -8,7 +8,7 @@ use std::test::Fail;
 #[test]
 fn two_locks_in_both_orders_are_a_circle(rt: HostRuntime) -> Result<(), Fail> {
     let report =
-        "traces 2\nevents 8\nkeys 2\ndependencies 2\nclean no\nusage A/0 {+.+.}\nusage B/0 {+.+.}\ncircle A/0 EN B/0\ncircle B/0 EN A/0\n";
+        "traces 2\nevents 8\nkeys 2\ndependencies 2\nclean no\nusage A/0 {+.+.}\nusage B/0 {+.+.}\ncircle A/0 EN B/0\ncircle B/0 EN A/0\nbecause A/0 EN B/0 EN A/0\n";
     let (forth, back) = (
         "acq,A,0,w acq,B,0,w rel,B,0 rel,A,0",
         "acq,B,0,w acq,A,0,w rel,A,0 rel,B,0",
@@ -39,7 +39,7 @@ fn a_dependency_off_the_circle_has_no_line(rt: HostRuntime) -> Result<(), Fail> 
                 "acq,C,0,w acq,A,0,w",
                 "acq,A,0,w acq,D,0,w",
             ],
-            report: "traces 4\nevents 8\nkeys 4\ndependencies 4\nclean no\nusage A/0 {+.+.}\nusage B/0 {+.+.}\nusage C/0 {+.+.}\nusage D/0 {+.+.}\ncircle A/0 EN B/0\ncircle B/0 EN C/0\ncircle C/0 EN A/0\n",
+            report: "traces 4\nevents 8\nkeys 4\ndependencies 4\nclean no\nusage A/0 {+.+.}\nusage B/0 {+.+.}\nusage C/0 {+.+.}\nusage D/0 {+.+.}\ncircle A/0 EN B/0\ncircle B/0 EN C/0\ncircle C/0 EN A/0\nbecause A/0 EN B/0 EN C/0 EN A/0\n",
         }],
     )
 }
@@ -51,7 +51,7 @@ fn a_recursive_reader_breaks_a_circle(rt: HostRuntime) -> Result<(), Fail> {
         &[
             Example {
                 traces: &["acq,A,0,w acq,B,0,rr acq,C,0,w", "acq,C,0,w acq,A,0,w"],
-                report: "traces 2\nevents 5\nkeys 3\ndependencies 4\nclean no\nusage A/0 {+.+.}\nusage B/0 {.+.+}\nusage C/0 {+.+.}\ncircle A/0 EN C/0\ncircle C/0 EN A/0\n",
+                report: "traces 2\nevents 5\nkeys 3\ndependencies 4\nclean no\nusage A/0 {+.+.}\nusage B/0 {.+.+}\nusage C/0 {+.+.}\ncircle A/0 EN C/0\ncircle C/0 EN A/0\nbecause A/0 EN C/0 EN A/0\n",
             },
             Example {
                 traces: &["acq,A,0,w acq,B,0,rr", "acq,B,0,rr acq,A,0,w"],
@@ -59,7 +59,7 @@ fn a_recursive_reader_breaks_a_circle(rt: HostRuntime) -> Result<(), Fail> {
             },
             Example {
                 traces: &["acq,A,0,w acq,B,0,rr", "acq,B,0,w acq,A,0,w"],
-                report: "traces 2\nevents 4\nkeys 2\ndependencies 2\nclean no\nusage A/0 {+.+.}\nusage B/0 {++++}\ncircle A/0 ER B/0\ncircle B/0 EN A/0\n",
+                report: "traces 2\nevents 4\nkeys 2\ndependencies 2\nclean no\nusage A/0 {+.+.}\nusage B/0 {++++}\ncircle A/0 ER B/0\ncircle B/0 EN A/0\nbecause A/0 ER B/0 EN A/0\n",
             },
         ],
     )
@@ -76,11 +76,11 @@ fn a_lock_taken_twice_by_one_task(rt: HostRuntime) -> Result<(), Fail> {
             },
             Example {
                 traces: &["acq,A,0,w acq,A,0,rr"],
-                report: "traces 1\nevents 2\nkeys 1\ndependencies 1\nclean no\nusage A/0 {++++}\ncircle A/0 ER A/0\n",
+                report: "traces 1\nevents 2\nkeys 1\ndependencies 1\nclean no\nusage A/0 {++++}\ncircle A/0 ER A/0\nbecause A/0 ER A/0\n",
             },
             Example {
                 traces: &["acq,A,0,r acq,A,0,r"],
-                report: "traces 1\nevents 2\nkeys 1\ndependencies 1\nclean no\nusage A/0 {.+.+}\ncircle A/0 SN A/0\n",
+                report: "traces 1\nevents 2\nkeys 1\ndependencies 1\nclean no\nusage A/0 {.+.+}\ncircle A/0 SN A/0\nbecause A/0 SN A/0\n",
             },
             Example {
                 traces: &["acq,m,0,w acq,m,1,w"],
@@ -101,7 +101,7 @@ fn releases_out_of_order(rt: HostRuntime) -> Result<(), Fail> {
             },
             Example {
                 traces: &["acq,A,0,rr acq,A,0,w rel,A,0 acq,B,0,w"],
-                report: "traces 1\nevents 4\nkeys 2\ndependencies 2\nclean no\nusage A/0 {++++}\nusage B/0 {+.+.}\ncircle A/0 SN A/0\n",
+                report: "traces 1\nevents 4\nkeys 2\ndependencies 2\nclean no\nusage A/0 {++++}\nusage B/0 {+.+.}\ncircle A/0 SN A/0\nbecause A/0 SN A/0\n",
             },
         ],
     )
@@ -215,7 +215,7 @@ fn a_circle_that_meets_a_key_twice(rt: HostRuntime) -> Result<(), Fail> {
         &[
             Example {
                 traces: &[first, second, "acq,Y,0,w acq,Z,0,w", "acq,Z,0,w acq,Y,0,w"],
-                report: "traces 4\nevents 8\nkeys 3\ndependencies 4\nclean no\nusage X/0 {+.+.}\nusage Y/0 {++++}\nusage Z/0 {+.+.}\ncircle X/0 ER Y/0\ncircle Y/0 SN X/0\ncircle Y/0 EN Z/0\ncircle Z/0 EN Y/0\n",
+                report: "traces 4\nevents 8\nkeys 3\ndependencies 4\nclean no\nusage X/0 {+.+.}\nusage Y/0 {++++}\nusage Z/0 {+.+.}\ncircle X/0 ER Y/0\ncircle Y/0 SN X/0\ncircle Y/0 EN Z/0\ncircle Z/0 EN Y/0\nbecause Y/0 EN Z/0 EN Y/0\n",
             },
             Example {
                 traces: &[first, second],
@@ -237,7 +237,7 @@ fn a_key_reached_by_two_letters_is_gone_on_from_by_both(rt: HostRuntime) -> Resu
                 "acq,B,0,r acq,D,0,w",
                 "acq,D,0,w acq,A,0,w",
             ],
-            report: "traces 5\nevents 10\nkeys 4\ndependencies 5\nclean no\nusage A/0 {+.+.}\nusage B/0 {++++}\nusage C/0 {+.+.}\nusage D/0 {+.+.}\ncircle A/0 EN C/0\ncircle B/0 SN D/0\ncircle C/0 EN B/0\ncircle D/0 EN A/0\n",
+            report: "traces 5\nevents 10\nkeys 4\ndependencies 5\nclean no\nusage A/0 {+.+.}\nusage B/0 {++++}\nusage C/0 {+.+.}\nusage D/0 {+.+.}\ncircle A/0 EN C/0\ncircle B/0 SN D/0\ncircle C/0 EN B/0\ncircle D/0 EN A/0\nbecause A/0 EN C/0 EN B/0 SN D/0 EN A/0\n",
         }],
     )
 }
@@ -303,7 +303,7 @@ fn circles_apart_are_all_named(rt: HostRuntime) -> Result<(), Fail> {
                 "acq,C,0,w acq,A,0,w",
                 "acq,A,0,w acq,D,0,w",
             ],
-            report: "traces 6\nevents 16\nkeys 6\ndependencies 6\nclean no\nusage A/0 {+.+.}\nusage B/0 {+.+.}\nusage C/0 {+.+.}\nusage D/0 {+.+.}\nusage X/0 {+.+.}\nusage Y/0 {+.+.}\ncircle A/0 EN B/0\ncircle B/0 EN C/0\ncircle C/0 EN A/0\ncircle X/0 EN Y/0\ncircle Y/0 EN X/0\n",
+            report: "traces 6\nevents 16\nkeys 6\ndependencies 6\nclean no\nusage A/0 {+.+.}\nusage B/0 {+.+.}\nusage C/0 {+.+.}\nusage D/0 {+.+.}\nusage X/0 {+.+.}\nusage Y/0 {+.+.}\ncircle A/0 EN B/0\ncircle B/0 EN C/0\ncircle C/0 EN A/0\ncircle X/0 EN Y/0\ncircle Y/0 EN X/0\nbecause X/0 EN Y/0 EN X/0\n",
         }],
     )
 }
@@ -315,8 +315,8 @@ fn the_number_of_workers_does_not_show(rt: HostRuntime) -> Result<(), Fail> {
         "acq,B,0,w acq,A,0,w rel,A,0 rel,B,0",
     ];
     let report =
-        "traces 2\nevents 8\nkeys 2\ndependencies 2\nclean no\nusage A/0 {+.+.}\nusage B/0 {+.+.}\ncircle A/0 EN B/0\ncircle B/0 EN A/0\n";
-    for workers in [1, 2, 4, 64] {
+        "traces 2\nevents 8\nkeys 2\ndependencies 2\nclean no\nusage A/0 {+.+.}\nusage B/0 {+.+.}\ncircle A/0 EN B/0\ncircle B/0 EN A/0\nbecause A/0 EN B/0 EN A/0\n";
+    for workers in [1, 2, 4, 8, 64] {
         let session = session_of(rt.alloc(), &traces)?;
         let mut text = Vec::new(rt.alloc());
         let clean = session.report(&rt, rt.alloc(), workers, &OpenGate, &mut text)?;
@@ -356,6 +356,7 @@ fn a_report_of_a_hundred_thousand_bytes(rt: HostRuntime) -> Result<(), Fail> {
     let mut trace = String::from_str(rt.alloc(), "lockdep,1\n")?;
     let mut usage = String::new(rt.alloc());
     let mut circles = String::new(rt.alloc());
+    let mut shortest = String::new(rt.alloc());
     for a in 10..60 {
         writeln!(usage, "usage {name}{a}/0 {{+.+.}}")?;
         for b in 10..60 {
@@ -363,6 +364,12 @@ fn a_report_of_a_hundred_thousand_bytes(rt: HostRuntime) -> Result<(), Fail> {
                 writeln!(trace, "acq,{name}{a},0,w\nacq,{name}{b},0,w")?;
                 writeln!(trace, "rel,{name}{b},0\nrel,{name}{a},0")?;
                 writeln!(circles, "circle {name}{a}/0 EN {name}{b}/0")?;
+            }
+            if a < b {
+                writeln!(
+                    shortest,
+                    "because {name}{a}/0 EN {name}{b}/0 EN {name}{a}/0"
+                )?;
             }
         }
     }
@@ -373,6 +380,28 @@ fn a_report_of_a_hundred_thousand_bytes(rt: HostRuntime) -> Result<(), Fail> {
     session.add(trace.as_str().as_bytes())?;
     let mut text = Vec::new(rt.alloc());
     assert!(rt; !session.report(&rt, rt.alloc(), 4, &OpenGate, &mut text)?);
-    assert_eq!(rt; str::from_utf8(text.as_slice())?, report.as_str());
+    let because = str::from_utf8(text.as_slice())?
+        .strip_prefix(report.as_str())
+        .ok_or("the lines before")?;
+    assert!(rt;
+        shortest.contains(because),
+        "one of the shortest: {because}"
+    );
+    assert_eq!(rt; because.lines().count(), 1);
     Ok(())
+}
+
+#[test]
+fn a_circle_begins_at_its_least_key(rt: HostRuntime) -> Result<(), Fail> {
+    assert_reports(
+        &rt,
+        &[Example {
+            traces: &[
+                "acq,c,0,w acq,a,1,r",
+                "acq,a,1,w acq,b,0,w",
+                "acq,b,0,w acq,c,0,w",
+            ],
+            report: "traces 3\nevents 6\nkeys 3\ndependencies 3\nclean no\nusage a/1 {++++}\nusage b/0 {+.+.}\nusage c/0 {+.+.}\ncircle a/1 EN b/0\ncircle b/0 EN c/0\ncircle c/0 EN a/1\nbecause a/1 EN b/0 EN c/0 EN a/1\n",
+        }],
+    )
 }

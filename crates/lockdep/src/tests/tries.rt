@@ -14,7 +14,7 @@ const EXAMPLES: [Example<'static>; 6] = [
     },
     Example {
         traces: &["acq,A,0,tw acq,B,0,w", "acq,B,0,w acq,A,0,w"],
-        report: "traces 2\nevents 4\nkeys 2\ndependencies 2\nclean no\nusage A/0 {+.+.}\nusage B/0 {+.+.}\ncircle A/0 EN B/0\ncircle B/0 EN A/0\n",
+        report: "traces 2\nevents 4\nkeys 2\ndependencies 2\nclean no\nusage A/0 {+.+.}\nusage B/0 {+.+.}\ncircle A/0 EN B/0\ncircle B/0 EN A/0\nbecause A/0 EN B/0 EN A/0\n",
     },
     Example {
         traces: &["acq,A,0,w acq,A,0,tw"],
@@ -63,7 +63,7 @@ fn traces_of_both_versions_stand_in_one_run(rt: HostRuntime) -> Result<(), Fail>
     assert_report(
         &rt,
         session,
-        "traces 2\nevents 4\nkeys 2\ndependencies 2\nclean no\nusage A/0 {+.+.}\nusage B/0 {+.+.}\ncircle A/0 EN B/0\ncircle B/0 EN A/0\n",
+        "traces 2\nevents 4\nkeys 2\ndependencies 2\nclean no\nusage A/0 {+.+.}\nusage B/0 {+.+.}\ncircle A/0 EN B/0\ncircle B/0 EN A/0\nbecause A/0 EN B/0 EN A/0\n",
     )
 }
 

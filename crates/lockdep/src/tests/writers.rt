@@ -66,7 +66,7 @@ fn a_report_on_a_writer_that_fails_at_each_call(rt: HostRuntime) -> Result<(), F
         "acq,B,0,w acq,A,0,w rel,A,0 rel,B,0",
     ];
     let report =
-        b"traces 2\nevents 8\nkeys 2\ndependencies 2\nclean no\nusage A/0 {+.+.}\nusage B/0 {+.+.}\ncircle A/0 EN B/0\ncircle B/0 EN A/0\n".as_slice();
+        b"traces 2\nevents 8\nkeys 2\ndependencies 2\nclean no\nusage A/0 {+.+.}\nusage B/0 {+.+.}\ncircle A/0 EN B/0\ncircle B/0 EN A/0\nbecause A/0 EN B/0 EN A/0\n".as_slice();
     for done in 0..report.len() {
         for (failure, fault) in FAILURES {
             let session = session_of(rt.alloc(), &traces)?;

@@ -1,4 +1,4 @@
-use Rattle.std.proofs.Common.{◌≡◌, ◌≤◌, ◌∙◌, Bool, true, false, ap, sym, arith}
+use Rattle.std.proofs.Common.{◌≤◌, ◌∙◌, Bool, true, false, ap, sym, arith}
 use Rattle.std.specs.Int.{from_bool}
 use Rattle.ld_run.proofs.Counts.{count_more}
 use Rattle.ld_run.proofs.runs.chains_of.Goals as goal

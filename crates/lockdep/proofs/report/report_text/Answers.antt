@@ -1,4 +1,4 @@
-use Rattle.std.proofs.Common.{◌≡◌, ◌∙◌, ◌++◌, List, ℕ, [], ap, sym, subst, string_bytes}
+use Rattle.std.proofs.Common.{◌≡◌, ◌∙◌, ◌++◌, List, ℕ, [], ap, sym, subst}
 use Rattle.lockdep.specs.Groups.{GrowsBy}
 use Rattle.lockdep.proofs.GroupLemmas.{GrowsBy-none, GrowsBy-then}
 use Rattle.lockdep.proofs.report.report_text.Goals as goal
@@ -15,6 +15,7 @@ returns c = record {
       (GrowsBy-then _ _ _ _ _ c.in_ok-add_totals.ensures
       (GrowsBy-then _ _ _ _ _ c.in_ok-add_usage.ensures
       (GrowsBy-then _ _ _ _ _ c.in_ok-add_circles.ensures
+      (GrowsBy-then _ _ _ _ _ c.in_ok-add_because.ensures
       (GrowsBy-then _ _ _ _ _ c.in_ok-add_doubles.ensures
-      (GrowsBy-then _ _ _ _ _ c.in_ok-add_inversions.ensures (GrowsBy-none _)))))));
+      (GrowsBy-then _ _ _ _ _ c.in_ok-add_inversions.ensures (GrowsBy-none _))))))));
 }

@@ -1,0 +1,12 @@
+use Rattle.std.proofs.Common.{◌-◌, ◌<◌, ◌≤◌, length}
+use Rattle.ld_graph.specs.Circles.{arrow_of}
+use Rattle.ld_graph.specs.Inside.Places.{arrival}
+use Rattle.ld_graph.specs.Inside.Searching.{AreSteps}
+use Rattle.ld_graph.proofs.search.Search.find.Given as goal
+
+abbrev pub invariant-loop-length : goal.invariant-loop-length
+invariant-loop-length l = record {
+  steps : AreSteps l.facts l.within l.goal (arrival (arrow_of l.fn.start)) (l.length - 1) l.first (length l.self.steps) l.first l.self;
+  order : l.first ≤ length l.self.steps;
+  some : 0 < length l.self.steps;
+}

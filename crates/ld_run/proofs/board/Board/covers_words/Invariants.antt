@@ -1,0 +1,19 @@
+use Rattle.std.proofs.Common.{◌≡◌, ◌↔◌, ◌<◌, ℕ, IsTrue, slice_index_or}
+use Rattle.ld_graph.specs.WordPairs.{bits_of, Within}
+use Rattle.ld_run.specs.Boards.{IsSeatOf}
+use Rattle.ld_run.specs.Seats.{view}
+use Rattle.ld_run.proofs.board.Board.covers_words.Given as goal
+
+-- the words so far were loaded
+abbrev pub invariant-loop-n : goal.invariant-loop-n
+invariant-loop-n l =
+    let words = l.initial.seat.words in
+    let now = view l.seat in
+    let was = view l.initial.seat in
+    IsSeatOf l.self l.seat
+    × (l.seat.words ≡ words)
+    × (now.put ≡ was.put)
+    × (now.claimed ≡ was.claimed)
+    × ((n : ℕ) → Within (bits_of n was.seen) (bits_of n now.seen))
+    × (IsTrue l.all ↔ ((k : ℕ) (d : ℕ × ℕ) → k < l.n → Within (slice_index_or words k d).1 (bits_of (slice_index_or words k d).0 now.seen)))
+    × ((k : ℕ) (d : ℕ × ℕ) → k < l.n → Within (bits_of (slice_index_or words k d).0 was.put) (bits_of (slice_index_or words k d).0 now.seen))

@@ -1,0 +1,38 @@
+-- What a seat of a board has claimed, put and seen [this project's own].
+use Rattle.std.specs.Prelude.{◌≡◌, ℕ, ◌+◌, ◌/◌, ◌⊎◌, ◌==◌, if◌then◌else◌, nat_lt, List, [], ◌∷◌}
+use Rattle.ld_graph.specs.Numbers.{fact_number}
+use Rattle.ld_graph.specs.WordPairs.{PairsHave}
+use Rattle.ld_graph.specs.declared.fact.Fact.{Fact}
+use Rattle.ld_run.specs.declared.view.View.{View}
+
+-- a view that has done nothing
+abbrev pub newcomer : ℕ → View
+newcomer parts = record { parts = parts; claimed = []; put = []; seen = [] }
+
+-- one number more is claimed
+abbrev pub with_claim : View → ℕ → View
+with_claim v n = record v { claimed = n ∷ v.claimed }
+
+-- the fact was put, and was seen, on a board about keys below `keys`
+abbrev pub PutHas : (keys : ℕ) → View → Fact → Type 0
+PutHas keys v x = PairsHave keys v.put x
+
+abbrev pub SeenHas : (keys : ℕ) → View → Fact → Type 0
+SeenHas keys v x = PairsHave keys v.seen x
+
+-- one or the other
+abbrev pub KnowsFact : (keys : ℕ) → View → Fact → Type 0
+KnowsFact keys v x = PutHas keys v x ⊎ SeenHas keys v x
+
+-- the facts' bits stand in one word
+abbrev pub ShareWord : (keys : ℕ) → Fact → Fact → Type 0
+ShareWord keys x y = fact_number keys x / 64 ≡ fact_number keys y / 64
+
+-- how often x stands in the list
+abbrev pub times : ℕ → List ℕ → ℕ
+times x [] = 0
+times x (y ∷ ys) = (if x == y then 1 else 0) + times x ys
+
+-- 1 where x is below n
+abbrev pub once_below : ℕ → ℕ → ℕ
+once_below x n = if nat_lt x n then 1 else 0
