@@ -43,16 +43,16 @@ impl Sheet {
 }
 
 impl Write for Sheet {
+    // One byte a call.
     fn write(&mut self, buf: &[u8]) -> io::Result<usize> {
-        let mut taken = 0usize;
-        for byte in buf {
-            if let Some(place) = self.bytes.get_mut(self.len) {
+        match (buf.first(), self.bytes.get_mut(self.len)) {
+            (Some(byte), Some(place)) => {
                 *place = *byte;
                 self.len = self.len.saturating_add(1);
-                taken = taken.saturating_add(1);
+                Ok(1)
             }
+            _ => Ok(0),
         }
-        Ok(taken)
     }
 
     fn flush(&mut self) -> io::Result<()> {
