@@ -4,7 +4,6 @@ use Rattle.std.specs.Prelude.{is_none, option_map, slice_get}
 use Rattle.std.specs.Int.{from_bool}
 use Rattle.std.proofs.lemmas.List.Sums.{sum_by_push, sum_by-cons}
 use Rattle.ld_task.specs.Chains.{ChainParts}
-use Rattle.ld_graph.specs.Counting.{IsNumberOf}
 use Rattle.ld_graph.specs.FactBits.{FactParts, HasFact}
 use Rattle.ld_graph.specs.FactLaws.{Any-push}
 use Rattle.ld_graph.specs.Facts.{Adds, AreSame, ChainHas, Holds}

@@ -36,7 +36,7 @@ arrows_within Has within = record {
 }
 
 -- the link of two marks
-link_of : (Has : Fact → Type 0) (irq : Irq) (a b : ℕ) (s r : Bool) → Has (Marked a (UsedIn irq r)) → Has (Marked b (Enabled irq s)) →
+pub link_of : (Has : Fact → Type 0) (irq : Irq) (a b : ℕ) (s r : Bool) → Has (Marked a (UsedIn irq r)) → Has (Marked b (Enabled irq s)) →
     (kind : Kind) × IsLink Has irq (arrow b a kind) × (is_s kind ≡ s) × (is_r kind ≡ r)
 link_of Has irq a b false true used enabled = (Er, (enabled, used), refl, refl)
 link_of Has irq a b false false used enabled = (En, (enabled, used), refl, refl)

@@ -15,7 +15,7 @@ use Rattle.ld_task.specs.declared.frame.Frame.{Frame}
 use Rattle.ld_task.specs.declared.lock.Lock.{Lock}
 use Rattle.ld_graph.specs.Facts.{ChainHas}
 use Rattle.ld_graph.specs.FactBits.{FactBelow}
-use Rattle.ld_graph.specs.Inside.ChainFacts.{chain_fact, fact_slots, dependency_from, mark_if, mark_of_held, mark_by_taking, mark_by_opening}
+use Rattle.ld_graph.specs.ChainFacts.{chain_fact, fact_slots, dependency_from, mark_if, mark_of_held, mark_by_taking, mark_by_opening}
 use Rattle.ld_graph.specs.Inside.WordTable.{HasBit, TakesFact, TakesRun, TakesMarkBit, IsRunOf, Gathered}
 use Rattle.ld_graph.specs.Numbers.{dependency_total, bit_total, fact_number, mark_index}
 use Rattle.ld_graph.specs.WordLaws.{bits_if, bits_if-same, bit_or-bits}

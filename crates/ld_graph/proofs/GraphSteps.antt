@@ -14,7 +14,7 @@ use Rattle.ld_graph.specs.Walks.{OnCircle}
 use Rattle.ld_graph.specs.Links.{IsClean}
 use Rattle.ld_graph.specs.Inside.Places.{arrival, Leads, Path, Way}
 use Rattle.ld_graph.specs.Inside.Tables.{reaches, Comes, AreSpan, TakesArrow}
-use Rattle.ld_graph.specs.Inside.Kept.{IsGraph, TakesMark, JoinsLinks, LeavesTarget, StaysClean, MarkTurnsBack, arrives_at, departs_from}
+use Rattle.ld_graph.specs.Inside.Kept.{IsGraph, AreEnds, TakesMark, JoinsLinks, LeavesTarget, StaysClean, MarkTurnsBack, arrives_at, departs_from}
 use Rattle.ld_graph.specs.declared.ends.Ends.{Ends}
 use Rattle.ld_graph.specs.declared.fact.Fact.{Fact}
 use Rattle.ld_graph.specs.declared.fact.Fact.TheVariants.{Dependency, Marked}
@@ -68,6 +68,32 @@ OnCircle-by_table facts table few ways d has targets are =
       (λ (q, leaves, target). iff.1 (q, (comes q).0 ((are q).0 target), leaves)),
     )
 
+-- links that a dependency joins, told by the rows of its sources and targets
+pub JoinsLinks-iff : (facts : FactParts) (table : List (List ℕ)) (ends : Ends) →
+    ((p q : ℕ) → (reaches table p q ≡ true) ↔ Way (Leads (DependenciesOf (HasFact facts))) p q) → AreEnds (HasFact facts) ends →
+    (d : Arrow) (sources targets : List ℕ) → AreSpan table d sources targets →
+    JoinsLinks sources targets ends ↔ ((irq : Irq) × Joins (HasFact facts) d irq)
+JoinsLinks-iff facts table ends ways ends_are d sources targets span = (
+  (λ (irq, ((p, source, arrives), (q, target, leaves))).
+      let (l, left, to) = (span.sources_are p).0 source in (
+        irq,
+        (
+          (p, (l, left, (comes p l).0 to), (ends_are.arrives irq p).0 arrives),
+          (q, (comes (arrival d) q).0 ((span.targets_are q).0 target), (ends_are.leaves irq q).0 leaves),
+        ),
+      )),
+  (λ (irq, ((p, (l, left, to), arrives), (q, target, leaves))). (
+    irq,
+    (
+      (p, (span.sources_are p).1 (l, left, (comes p l).1 to), (ends_are.arrives irq p).1 arrives),
+      (q, (span.targets_are q).1 ((comes (arrival d) q).1 target), (ends_are.leaves irq q).1 leaves),
+    ),
+  )),
+)
+  where
+    comes : (p q : ℕ) → Comes table p q ↔ Path (Leads (DependenciesOf (HasFact facts))) p q
+    comes p q = Comes-path (Leads (DependenciesOf (HasFact facts))) table ways p q
+
 -- ---- a dependency is added
 module _ (old new : FactParts) (d : Arrow) (keys : new.keys ≡ old.keys)
     (adds : Adds (HasFact old) (HasFact new) (λ x. x ≡ Dependency d.start d.end d.kind))
@@ -86,23 +112,7 @@ module _ (old new : FactParts) (d : Arrow) (keys : new.keys ≡ old.keys)
   )
 
   joins : JoinsLinks sources targets ends ↔ ((irq : Irq) × Joins (HasFact old) d irq)
-  joins = (
-    (λ (irq, ((p, source, arrives), (q, target, leaves))).
-        let (l, left, to) = (span.sources_are p).0 source in (
-          irq,
-          (
-            (p, (l, left, (comes p l).0 to), (was.ends_are.arrives irq p).0 arrives),
-            (q, (comes (arrival d) q).0 ((span.targets_are q).0 target), (was.ends_are.leaves irq q).0 leaves),
-          ),
-        )),
-    (λ (irq, ((p, (l, left, to), arrives), (q, target, leaves))). (
-      irq,
-      (
-        (p, (span.sources_are p).1 (l, left, (comes p l).1 to), (was.ends_are.arrives irq p).1 arrives),
-        (q, (span.targets_are q).1 ((comes (arrival d) q).1 target), (was.ends_are.leaves irq q).1 leaves),
-      ),
-    )),
-  )
+  joins = JoinsLinks-iff old table ends was.ways was.ends_are d sources targets span
 
   clean_new : IsClean (HasFact old) → IsClean (HasFact new) ↔ StaysClean sources targets ends d.start (is_s d.kind)
   clean_new clean_old =

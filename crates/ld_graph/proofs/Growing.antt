@@ -5,7 +5,7 @@ use Rattle.std.proofs.lemmas.Option.{same_Some}
 use Rattle.ld_task.specs.Chains.{ChainParts}
 use Rattle.ld_graph.specs.Facts.{ChainHas, Holds, Adds}
 use Rattle.ld_graph.specs.FactBits.{FactParts, HasFact}
-use Rattle.ld_graph.specs.Inside.ChainFacts.{chain_fact, fact_slots, StandsIn}
+use Rattle.ld_graph.specs.ChainFacts.{chain_fact, fact_slots, StandsIn}
 use Rattle.ld_graph.specs.declared.fact.Fact.{Fact}
 use Rattle.ld_graph.proofs.ChainFacts.{chain_fact-sound, chain_fact-complete}
 

@@ -20,7 +20,7 @@ use Rattle.ld_graph.proofs.Paths.{IsWithin, Leaves-from_MayFollow, MayFollow-fro
 use Rattle.ld_graph.proofs.Ways.{Path-cases, Way-then_path}
 
 -- ---- a way over places is a walk
-GoesTo-walk : (In : Arrow → Type 0) → IsWithin In → (p q : ℕ) (a : Arrow) (rest : List Arrow) → GoesTo In p (a ∷ rest) q →
+pub GoesTo-walk : (In : Arrow → Type 0) → IsWithin In → (p q : ℕ) (a : Arrow) (rest : List Arrow) → GoesTo In p (a ∷ rest) q →
     StrongWalk In a rest × (arrival (last a rest) ≡ q)
 GoesTo-walk In within p q a [] (has, leaves, e) = (has, e)
 GoesTo-walk In within p q a (b ∷ rest) (has, leaves, goes) =

@@ -27,6 +27,9 @@ kind_of-number En = refl
 kind_of-number Sr = refl
 kind_of-number Sn = refl
 
+pub kind_number-same : (a b : Kind) → kind_number a ≡ kind_number b → a ≡ b
+kind_number-same a b e = sym (kind_of-number a) ∙ ap kind_of e ∙ kind_of-number b
+
 pub kind_number-lt : (kind : Kind) → kind_number kind < 4
 kind_number-lt Er = omega arith
 kind_number-lt En = omega arith

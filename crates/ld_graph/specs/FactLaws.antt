@@ -1,6 +1,6 @@
 -- Laws of sets of facts that the proofs of the crates above cite.
-use Rattle.std.specs.Prelude.{ℕ, ◌⊎◌, ◌↔◌, List, [], ◌∷◌, ◌++◌, Any, Contains}
-use Rattle.std.proofs.Common.{sym, subst, inl, inr}
+use Rattle.std.specs.Prelude.{ℕ, zero, suc, ◌⊎◌, ◌↔◌, List, [], ◌∷◌, ◌++◌, All, Any, Contains}
+use Rattle.std.proofs.Common.{sym, subst, inl, inr, arith}
 use Rattle.std.proofs.lemmas.List.Elements.{Contains-push_cases, Contains-append_left, Contains-push}
 use Rattle.ld_trace.specs.declared.event.Irq.{Irq}
 use Rattle.ld_task.specs.declared.mark.Mark.TheVariants.{UsedIn, Enabled}
@@ -8,10 +8,19 @@ use Rattle.ld_task.specs.Kinds.{is_s, is_r}
 use Rattle.ld_graph.specs.Arrows.{Arrow}
 use Rattle.ld_graph.specs.Counting.{IsNumberOf}
 use Rattle.ld_graph.specs.Facts.{AreSame, Holds, DependenciesOf}
-use Rattle.ld_graph.specs.Links.{IsLink, IsDouble, IsInversion, IsClean}
-use Rattle.ld_graph.specs.Walks.{StrongWalk, OnCircle, IsCircle, IsShortestCircle}
+use Rattle.ld_graph.specs.Links.{IsLink, IsDouble, IsDoubleBy, IsInversion, IsInversionWith, InInversion, IsShortestInversion, IsClean}
+use Rattle.ld_graph.specs.Walks.{StrongWalk, OnCircle, IsCircle, IsShortestCircle, IsShortestFrom}
 use Rattle.ld_graph.specs.declared.fact.Fact.{Fact}
 use Rattle.ld_graph.specs.declared.fact.Fact.TheVariants.{Dependency, Marked}
+
+-- ---- the members of a strong walk
+-- each is one of the arrows
+pub StrongWalk-members : (In : Arrow → Type 0) (a : Arrow) (rest : List Arrow) → StrongWalk In a rest →
+    All In (a ∷ rest)
+StrongWalk-members In a [] w zero d l = w
+StrongWalk-members In a [] w (suc i) d l = absurd (omega arith)
+StrongWalk-members In a (b ∷ rest) w zero d l = w.0
+StrongWalk-members In a (b ∷ rest) w (suc i) d l = StrongWalk-members In b rest w.2 i d (omega arith)
 
 -- ---- a larger set
 pub StrongWalk-more : (P Q : Arrow → Type 0) → ((x : Arrow) → P x → Q x) →
@@ -36,12 +45,23 @@ module _ (P Q : Fact → Type 0) (up : Holds Q P) where
   pub OnCircle-more : (d : Arrow) → OnCircle P d → OnCircle Q d
   OnCircle-more d (a, rest, w, c) = (a, rest, (walk a rest w.0, w.1), c)
 
+  pub IsDoubleBy-more : (irq : Irq) (a : ℕ) (l : Arrow) → IsDoubleBy P irq a l → IsDoubleBy Q irq a l
+  IsDoubleBy-more irq a l by = (link irq l by.0, by.1, by.2, by.3)
+
   pub IsDouble-more : (irq : Irq) (a : ℕ) → IsDouble P irq a → IsDouble Q irq a
-  IsDouble-more irq a (l, by) = (l, (link irq l by.0, by.1, by.2, by.3))
+  IsDouble-more irq a (l, by) = (l, IsDoubleBy-more irq a l by)
+
+  pub IsInversionWith-more : (irq : Irq) (a b : ℕ) (d : Arrow) (rest : List Arrow) (l : Arrow) →
+      IsInversionWith P irq a b d rest l → IsInversionWith Q irq a b d rest l
+  IsInversionWith-more irq a b d rest l with =
+      ((walk d rest with.0.0, with.0.1, with.0.2), link irq l with.1, with.2, with.3, with.4, with.5)
 
   pub IsInversion-more : (irq : Irq) (a b : ℕ) → IsInversion P irq a b → IsInversion Q irq a b
-  IsInversion-more irq a b (d, rest, l, with) =
-      (d, rest, l, ((walk d rest with.0.0, with.0.1, with.0.2), link irq l with.1, with.2, with.3, with.4, with.5))
+  IsInversion-more irq a b (d, rest, l, with) = (d, rest, l, IsInversionWith-more irq a b d rest l with)
+
+  pub InInversion-more : (d : Arrow) → InInversion P d → InInversion Q d
+  InInversion-more d (irq, a, b, first, rest, l, with, met) =
+      (irq, a, b, first, rest, l, IsInversionWith-more irq a b first rest l with, met)
 
   -- clean facts have no unclean ones among them
   pub IsClean-fewer : IsClean Q → IsClean P
@@ -74,6 +94,31 @@ module _ (P Q : Fact → Type 0) (same : AreSame P Q) where
 
   pub IsInversion-same : (irq : Irq) (a b : ℕ) → IsInversion P irq a b ↔ IsInversion Q irq a b
   IsInversion-same irq a b = (IsInversion-more P Q there irq a b, IsInversion-more Q P back irq a b)
+
+  pub IsShortestFrom-same : (d : Arrow) (members : List Arrow) →
+      IsShortestFrom P d members → IsShortestFrom Q d members
+  IsShortestFrom-same d members shortest = record {
+    rest = shortest.rest;
+    walk_is = shortest.walk_is;
+    closed = (walk P Q there d shortest.rest shortest.closed.0, shortest.closed.1);
+    least = λ other is. shortest.least other (walk Q P back d other is.0, is.1);
+  }
+
+  pub IsDoubleBy-same : (irq : Irq) (a : ℕ) (l : Arrow) → IsDoubleBy P irq a l ↔ IsDoubleBy Q irq a l
+  IsDoubleBy-same irq a l = (IsDoubleBy-more P Q there irq a l, IsDoubleBy-more Q P back irq a l)
+
+  pub InInversion-same : (d : Arrow) → InInversion P d ↔ InInversion Q d
+  InInversion-same d = (InInversion-more P Q there d, InInversion-more Q P back d)
+
+  pub IsShortestInversion-same : (irq : Irq) (a b : ℕ) (l : Arrow) (members : List Arrow) →
+      IsShortestInversion P irq a b l members → IsShortestInversion Q irq a b l members
+  IsShortestInversion-same irq a b l members shortest = record {
+    first = shortest.first;
+    rest = shortest.rest;
+    walk_is = shortest.walk_is;
+    closed = IsInversionWith-more P Q there irq a b shortest.first shortest.rest l shortest.closed;
+    least = λ d other m with. shortest.least d other m (IsInversionWith-more Q P back irq a b d other m with);
+  }
 
   pub IsClean-same : IsClean P ↔ IsClean Q
   IsClean-same = (IsClean-fewer Q P back, IsClean-fewer P Q there)

@@ -1,5 +1,4 @@
 pub mod Bits
-pub mod ChainFacts
 pub mod Kept
 pub mod Places
 pub mod Searching

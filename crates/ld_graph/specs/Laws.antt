@@ -1,5 +1,5 @@
 -- What holds of all facts: the laws that this crate proves of its definitions. A set of facts is a test in some of them.
-use Rattle.std.specs.Prelude.{◌≡◌, ℕ, ◌<◌, ◌⊎◌, Bool, IsTrue, IsFalse, List, [], ◌∷◌, ◌++◌, Any}
+use Rattle.std.specs.Prelude.{◌≡◌, ℕ, ◌<◌, ◌≤◌, ◌⊎◌, ◌↔◌, Bool, Option, IfSome, IsTrue, IsFalse, List, [], ◌∷◌, ◌++◌, Any}
 use Rattle.ld_trace.specs.declared.event.Event.{Event}
 use Rattle.ld_trace.specs.declared.event.Irq.{Irq}
 use Rattle.ld_task.specs.declared.mark.Mark.TheVariants.{UsedIn, Enabled}
@@ -8,6 +8,7 @@ use Rattle.ld_task.specs.TraceChains.{chains}
 use Rattle.ld_task.specs.Kinds.{is_s, is_r}
 use Rattle.ld_graph.specs.Arrows.{Arrow}
 use Rattle.ld_graph.specs.Counting.{IsNumberOf}
+use Rattle.ld_graph.specs.ChainFacts.{GivenBy, StandsBy, slot_held}
 use Rattle.ld_graph.specs.Facts.{TraceHas, ChainHas, ChainsHave, AreSame, Adds, DependenciesOf}
 use Rattle.ld_graph.specs.FactBits.{FactParts, FactBelow, HasFact}
 use Rattle.ld_graph.specs.Links.{IsDoubleBy, IsInversionWith}
@@ -20,6 +21,19 @@ use Rattle.ld_graph.specs.declared.fact.Fact.TheVariants.{Dependency, Marked}
 -- the facts of a trace are those of its chains
 abbrev pub TraceFactsAreTheChains : Type 0
 TraceFactsAreTheChains = (t : List Event) → AreSame (TraceHas t) (ChainsHave (chains t))
+
+-- the slots of a chain have exactly the facts that it gives, each by the lock that gives it
+abbrev pub SlotsHaveWhatIsGiven : Type 0
+SlotsHaveWhatIsGiven = (c : ChainParts) (x : Fact) (held : Option ℕ) → GivenBy c x held ↔ StandsBy c x held
+
+-- what a chain has is what it gives by one of its locks
+abbrev pub ChainsGiveWhatTheyHave : Type 0
+ChainsGiveWhatTheyHave = (c : ChainParts) (x : Fact) → ChainHas c x ↔ ((held : Option ℕ) × GivenBy c x held)
+
+-- a later slot is that of a held lock that is as new, where both are of held locks
+abbrev pub LaterSlotsAreOfNewerLocks : Type 0
+LaterSlotsAreOfNewerLocks = (c : ChainParts) (m n : ℕ) → m ≤ n →
+    IfSome (slot_held c n) (λ k. IfSome (slot_held c m) (λ i. i ≤ k))
 
 -- the chains' facts are added in turn, and the later facts are those after the last
 abbrev pub AddsInTurn : FactParts → List ChainParts → FactParts → Type 0

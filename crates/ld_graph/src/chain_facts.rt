@@ -3,7 +3,7 @@
 ghost use Rattle.std.specs.Prelude.{◌≡◌, ◌+◌, ◌-◌, ◌*◌, ◌/◌, ◌%◌, ◌<◌, ◌≤◌, slice_get, if◌then◌else◌, length};
 ghost use Rattle.ld_task.specs.Marks.{marks_taken, marks_opened};
 ghost use Rattle.ld_trace.specs.Modes.{is_read};
-ghost use Rattle.ld_graph.specs.Inside.ChainFacts.{chain_fact, dependency_from, fact_slots, mark_if, mark_of_held, mark_by_taking, mark_by_opening};
+ghost use Rattle.ld_graph.specs.ChainFacts.{chain_fact, dependency_from, fact_slots, slot_held, mark_if, mark_of_held, mark_by_taking, mark_by_opening};
 
 use crate::fact::Fact;
 use ld_task::{Chain, Frame, Kind, Mark};
@@ -16,8 +16,8 @@ pub(crate) const MARKS_TAKEN: usize = 5;
 // How many marks an opening may give a held lock: one for each state.
 pub(crate) const MARKS_OPENED: usize = 2;
 
-// How many slots the chain has for facts. Some of them are empty.
-pub(crate) fn slots(chain: &Chain) -> usize
+/// How many slots the chain has for facts, at most 96. Some of them are empty.
+pub fn slots(chain: &Chain) -> usize
     ensures value { result ≡ fact_slots chain.now }
     ensures few { result ≤ 96 }
 {
@@ -27,9 +27,9 @@ pub(crate) fn slots(chain: &Chain) -> usize
     }
 }
 
-// The fact in a slot, if there is one: of an acquisition the dependencies, oldest first, and then the marks of the new
-// lock; of an opening the marks of the held locks.
-pub(crate) fn fact_at(chain: &Chain, n: usize) -> Option<Fact>
+/// The fact in slot `n` of a chain, if there is one: of an acquisition the dependencies, oldest first, and then the marks of
+/// the new lock; of an opening the marks of the held locks, oldest first.
+pub fn fact_at(chain: &Chain, n: usize) -> Option<Fact>
     ensures { result ≡ chain_fact chain.now n }
 {
     match chain.taken() {
@@ -42,6 +42,17 @@ pub(crate) fn fact_at(chain: &Chain, n: usize) -> Option<Fact>
             }
         }
         None => mark_of_old(chain, n / MARKS_OPENED, n % MARKS_OPENED),
+    }
+}
+
+/// The place of the held lock by which the fact in slot `n` of a chain is given, counted from the oldest; None where it is the
+/// lock that the chain takes.
+pub fn held_of(chain: &Chain, n: usize) -> Option<usize>
+    ensures { result ≡ slot_held chain.now n }
+{
+    match chain.taken() {
+        Some(_) => { if n < chain.held_len() { Some(n) } else { None } }
+        None => Some(n / MARKS_OPENED),
     }
 }
 

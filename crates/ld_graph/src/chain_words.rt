@@ -4,7 +4,7 @@ ghost use Rattle.std.specs.Prelude.{◌≡◌, ◌≢◌, ℕ, ◌+◌, ◌*◌,
 ghost use Rattle.std.specs.Option.{ForSome};
 ghost use Rattle.ld_task.specs.Chains.{ChainKeysBelow};
 ghost use Rattle.ld_graph.specs.FactBits.{FactBelow};
-ghost use Rattle.ld_graph.specs.Inside.ChainFacts.{fact_slots};
+ghost use Rattle.ld_graph.specs.ChainFacts.{fact_slots};
 ghost use Rattle.ld_graph.specs.Inside.WordTable.{AreWords, HasWord, StandsAt, UnitesPair, TakesFact, TakesRun, TakesMarkBit, Gathered};
 ghost use Rattle.ld_graph.specs.WordPairs.{AreWordsOf};
 ghost use Rattle.ld_task.specs.declared.lock.TheConstants.{MAX_HELD};

@@ -1,11 +1,10 @@
-//! Circles: closed strong walks.
+//! Circles: closed strong walks of no more members than there can be keys.
 
-ghost use Rattle.std.specs.Prelude.{◌≡◌, ◌<◌, ◌≤◌, [], ◌∷◌, IfSome, length, option_map, slice_get};
+ghost use Rattle.std.specs.Prelude.{◌≡◌, ◌<◌, ◌≤◌, IfSome, length, option_map, slice_get};
 ghost use Rattle.ld_trace.specs.declared.key_id.TheConstants.{MAX_KEYS};
-ghost use Rattle.ld_graph.specs.Circles.{arrow_of, arrow_parts};
-ghost use Rattle.ld_graph.specs.Inside.Searching.{IsOfKeys};
+ghost use Rattle.ld_graph.specs.Circles.{arrow_parts};
 
-use crate::dependency::Dependency;
+use crate::walk::Walk;
 use ld_task::Kind;
 use ld_trace::MAX_KEYS;
 use std::marker::Model;
@@ -16,44 +15,28 @@ pub(crate) const MAX_CIRCLE: usize = MAX_KEYS as usize;
 /// A walk of at most 256 dependencies, as `Graph::shortest_circle` answers it.
 #[derive(Drop, Debug)]
 pub struct Circle {
-    // The last first, so many of them as there are.
-    backwards: [Dependency; MAX_CIRCLE],
-    len: usize,
+    walk: Walk,
 }
 
 impl Model for Circle {
-    ghost use Rattle.std.specs.Prelude.{◌≡◌, ◌≤◌, List, length, take};
+    ghost use Rattle.std.specs.Prelude.{◌≤◌, List, length};
     ghost use Rattle.ld_graph.specs.declared.circle.TheConstants.{MAX_CIRCLE};
     ghost use Rattle.ld_graph.specs.Arrows.{Arrow};
-    ghost use Rattle.ld_graph.specs.Circles.{forwards};
-    ghost use Rattle.ld_graph.specs.Inside.Searching.{AreMembers};
 
     ghost Value = { List Arrow };
 
-    ghost view = { λ c. forwards (take c.len c.backwards) };
+    ghost view = { λ c. c.walk };
 
-    ghost invariant = { λ c. (c.len ≤ MAX_CIRCLE) × (length c.backwards ≡ MAX_CIRCLE) × AreMembers (take c.len c.backwards) };
+    ghost invariant = { λ c. length c.walk ≤ MAX_CIRCLE };
 }
 
 impl Circle {
-    // No dependencies yet.
-    pub(crate) fn new() -> Circle
-        ensures { result ≡ [] }
+    // The circle of a walk that has no more members.
+    pub(crate) fn of(walk: Walk) -> Circle
+        requires { length walk ≤ MAX_CIRCLE }
+        ensures { result ≡ walk }
     {
-        Circle {
-            backwards: [Dependency::default(); MAX_CIRCLE],
-            len: 0,
-        }
-    }
-
-    // Puts a dependency before the others.
-    pub(crate) fn put_first(&mut self, dependency: Dependency)
-        requires room { length self.old < MAX_CIRCLE }
-        requires keys { IsOfKeys dependency }
-        ensures { self.new ≡ arrow_of dependency ∷ self.old }
-    {
-        self.backwards[self.len] = dependency;
-        self.len += 1;
+        Circle { walk }
     }
 
     /// How many dependencies it has, at most 256.
@@ -61,7 +44,7 @@ impl Circle {
         ensures exact { result ≡ length self.now }
         ensures at_most { result ≤ MAX_CIRCLE }
     {
-        self.len
+        self.walk.len()
     }
 
     /// The dependency at place `i`, counted from 0: the key that it leads from, the key that it leads to, and its kind.
@@ -70,10 +53,6 @@ impl Circle {
         ensures value { result ≡ option_map arrow_parts (slice_get self.now i) }
         ensures below { IfSome result (λ d. (d.0 < MAX_KEYS) × (d.1 < MAX_KEYS)) }
     {
-        if i >= self.len {
-            return None;
-        }
-        let Dependency { from, to, kind } = self.backwards[self.len - 1 - i];
-        Some((from, to, kind))
+        self.walk.get(i)
     }
 }

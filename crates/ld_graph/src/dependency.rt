@@ -3,6 +3,7 @@
 ghost use Rattle.std.specs.Prelude.{◌≡◌, ◌*◌, ◌<◌, ◌↔◌, IsTrue};
 ghost use Rattle.ld_task.specs.Kinds.{is_s};
 ghost use Rattle.ld_trace.specs.declared.key_id.TheConstants.{MAX_KEYS};
+ghost use Rattle.ld_graph.specs.Arrows.{MayFollow};
 ghost use Rattle.ld_graph.specs.Circles.{arrow_of};
 ghost use Rattle.ld_graph.specs.Numbers.{kind_number};
 ghost use Rattle.ld_graph.specs.Inside.Places.{arrival, LeavesFrom};
@@ -61,6 +62,13 @@ impl Dependency {
         !(self.kind.ends_in_r() && next.kind.begins_with_s())
     }
 
+    // Whether it may follow itself.
+    pub(crate) fn may_follow_itself(self) -> bool
+        ensures { IsTrue result ↔ MayFollow (arrow_of self) (arrow_of self) }
+    {
+        self.from == self.to && !(self.kind.ends_in_r() && self.kind.begins_with_s())
+    }
+
     // Its place in the row of those from its start, four for each key that they lead to.
     pub(crate) fn row_place(self) -> usize
         ensures { result ≡ row_place self.to self.kind }
@@ -95,7 +103,7 @@ impl Default for Dependency {
 }
 
 // The kind with that number.
-fn kind_at(n: usize) -> Kind
+pub(crate) fn kind_at(n: usize) -> Kind
     requires { n < 4 }
     ensures { kind_number result ≡ n }
 {

@@ -94,7 +94,7 @@ pub(crate) fn irq_number(irq: Irq) -> usize
 }
 
 // Adds the places that an arrow from the key leaves, by its first letter.
-fn insert_left(row: &mut Row, key: u16, by_s: bool)
+pub(crate) fn insert_left(row: &mut Row, key: u16, by_s: bool)
     requires { key < MAX_KEYS }
     ensures { (q : ℕ) → IsTrue (has_bit row.new q)
         ↔ (IsTrue (has_bit row.old q) ⊎ LeavesFrom key by_s q) }

@@ -16,8 +16,8 @@ pub enum Fact {
 }
 
 impl Fact {
-    // Whether the keys of the fact are below the bound.
-    pub(crate) fn is_below(self, keys: u16) -> bool
+    /// Whether the keys of the fact are below the bound.
+    pub fn is_below(self, keys: u16) -> bool
         ensures { IsTrue result ↔ FactBelow keys self }
     {
         match self {
@@ -26,8 +26,9 @@ impl Fact {
         }
     }
 
-    // The number of the fact's bit. Marks stand after the dependencies.
-    pub(crate) fn number(self, keys: u16) -> usize
+    /// The number of the fact among all those about keys below `keys`, which is at most 256: below 264,448. The dependencies
+    /// come first. That the fact's keys are below `keys` is the caller's condition.
+    pub fn number(self, keys: u16) -> usize
         requires few { keys ≤ MAX_KEYS }
         requires below { FactBelow keys self }
         ensures value { result ≡ fact_number keys self }

@@ -1,6 +1,6 @@
 //! Laws of the definitions, each carried by a function that does nothing.
 
-ghost use Rattle.ld_graph.specs.Laws.{DependenciesHaveOneNumber, ShortestCirclesTurn, TraceFactsAreTheChains, AddingInTurnUnites, FactsHaveBits, EachBitIsAFacts, FactsHaveDifferentBits, NewCirclesHaveNewMembers, NewDoublesHaveNewMarks, NewInversionsHaveNewParts};
+ghost use Rattle.ld_graph.specs.Laws.{ChainsGiveWhatTheyHave, DependenciesHaveOneNumber, ShortestCirclesTurn, TraceFactsAreTheChains, AddingInTurnUnites, FactsHaveBits, EachBitIsAFacts, FactsHaveDifferentBits, LaterSlotsAreOfNewerLocks, NewCirclesHaveNewMembers, NewDoublesHaveNewMarks, NewInversionsHaveNewParts, SlotsHaveWhatIsGiven};
 
 /// The facts of a trace are those of its chains.
 pub fn trace_facts_are_the_chains()
@@ -9,6 +9,14 @@ pub fn trace_facts_are_the_chains()
     ld_task::dependencies_are_the_chains();
     ld_task::marks_are_the_chains();
 }
+
+/// What a chain has is what it gives by one of its locks. Its slots have exactly these facts, each by the lock that gives it,
+/// and later slots are of newer held locks.
+pub fn slots_have_what_is_given()
+    ensures given { ChainsGiveWhatTheyHave }
+    ensures exact { SlotsHaveWhatIsGiven }
+    ensures newer { LaterSlotsAreOfNewerLocks }
+{}
 
 /// The dependencies of some traces have one number.
 pub fn dependencies_have_one_number()

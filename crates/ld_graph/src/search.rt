@@ -8,14 +8,14 @@ ghost use Rattle.ld_graph.specs.Facts.{DependenciesOf};
 ghost use Rattle.ld_graph.specs.Inside.Bits.{has_bit};
 ghost use Rattle.ld_graph.specs.Inside.Places.{arrival, Leaves};
 ghost use Rattle.ld_graph.specs.Inside.Searching.{AreSteps, FindsGoal, GoesTo, Hits, IsOfKeys, LeadsBack, Misses, NoGoalBy, SeesAllFrom, StandsAt, Takes, Visits};
-ghost use Rattle.ld_graph.specs.declared.circle.TheConstants.{MAX_CIRCLE};
+ghost use Rattle.ld_graph.specs.declared.walk.TheConstants.{MAX_WALK};
 
 use crate::bits;
-use crate::circle::Circle;
 use crate::dependency::Dependency;
 use crate::facts::Facts;
 use crate::places::{ROW_WORDS, Row, place_of};
 use crate::steps::Steps;
+use crate::walk::Walk;
 use ld_task::Kind;
 use std::marker::Model;
 
@@ -166,15 +166,15 @@ impl Search {
     }
 
     // The way from the start to the last step, which is so many dependencies long.
-    pub(crate) fn way(&self, count: usize) -> Circle
-        requires short { count ≤ MAX_CIRCLE }
+    pub(crate) fn way(&self, count: usize) -> Walk
+        requires short { count ≤ MAX_WALK }
         requires leads_back { (facts : FactParts) × (q : ℕ) × LeadsBack facts self.now.steps count (length self.now.steps - 1) q }
         ensures len { length result ≡ count }
         ensures goes { (facts : FactParts) (p q : ℕ) → StandsAt self.now.steps 0 p
             → LeadsBack facts self.now.steps count (length self.now.steps - 1) q
             → GoesTo (DependenciesOf (HasFact facts)) p result q }
     {
-        let mut way = Circle::new();
+        let mut way = Walk::new();
         let mut i = self.steps.len() - 1;
         for done in 0..count {
             let step = self.steps.as_slice()[i];

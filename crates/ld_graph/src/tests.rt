@@ -2,9 +2,10 @@
 
 ghost use Rattle.ld_task.specs.Chains.{ChainKeysBelow};
 
+mod walks;
 mod want_of_memory;
 
-use crate::{Circle, FactWords, Facts, Graph, Kind, Mark, fact_words};
+use crate::{Circle, Fact, FactWords, Facts, Graph, Kind, Mark, fact_words};
 use ld_task::{Chain, TaskState};
 use ld_trace::{Event, Irq, KeyId, MAX_KEYS, Mode};
 use std::alloc::{AllocError, Global};
@@ -388,6 +389,22 @@ fn facts_of_a_chain_are_added_and_united(rt: HostRuntime) -> Result<(), Fail> {
     assert!(rt; united.keys() == facts.keys());
     united.unite(&facts);
     assert!(rt; united.same(&facts));
+    Ok(())
+}
+
+#[test]
+fn a_single_fact_is_added(rt: HostRuntime) -> Result<(), Fail> {
+    let mut facts = Facts::new(rt.alloc(), 2)?;
+    let fact = Fact::Dependency {
+        from: A,
+        to: B,
+        kind: Kind::En,
+    };
+    assert!(rt; !facts.has(fact));
+    assert!(rt; facts.add(fact), "new");
+    assert!(rt; !facts.add(fact), "known");
+    assert!(rt; facts.has(fact) && facts.has_dep(A, B, Kind::En));
+    assert_eq!(rt; facts.dependencies(), 1);
     Ok(())
 }
 

@@ -1,6 +1,7 @@
 pub mod BeforeFaults
 pub mod Tallies
 pub mod Walking
+pub mod Summing
 pub mod Settlements
 pub mod Counts
 pub mod Gather

@@ -16,7 +16,8 @@ use Rattle.ld_graph.specs.WordPairs.{bits_of, Within, NonePast, word_total}
 use Rattle.ld_run.specs.Views.{times, once_below, with_claim}
 use Rattle.ld_run.specs.Inside.BoardRule.{plus, total, union, Fits, Kept, first_view, left_view, right_view, joined, spent_view, Seated, with_put, with_look, Claimed, Put, Looked, Knows}
 use Rattle.ld_run.proofs.Gather.{gains, stays, moves, comes, plus_unit, plus_comm, plus_assoc, part_of, bounded, alone}
-use Rattle.ld_run.proofs.WordLists.{or_unit, or_unit_r, or_assoc, or_self, within_more, within_both, bits_append, past_none, past_with, past_append, times_append, once_more, all_below, part_in}
+use Rattle.ld_graph.specs.WordLaws.{or_zero, or_assoc, bits_of-append}
+use Rattle.ld_run.proofs.WordLists.{or_unit, or_self, within_more, within_both, past_none, past_with, past_append, times_append, once_more, all_below, part_in}
 
 -- each view fits, where one is changed and the words are others
 each_set : (keys : ℕ) (ws now : List ℕ) (vs : List View) (id : ℕ) (w : View) → ((j : ℕ) (u : View) → get_elem? vs j ≡ some u → Fits keys ws u) → ((u : View) → Fits keys ws u → Fits keys now u) → Fits keys now w
@@ -70,7 +71,7 @@ words_after ws word k n some_word inside = dite (ℕ_discrete n (word - 1))
     ap (λ j. slice_index (set ws word (bit_or (slice_index ws word) k)) j) here ∙ get_or-set_same ws word (bit_or (slice_index ws word) k) 0 inside
     ∙ (λ i. bit_or (slice_index ws (sym here i)) (cond (sym (eq-eqb n (word - 1) same) i) k 0)))
     (λ other. get_or-set_other ws word (n + 1) (bit_or (slice_index ws word) k) 0 (λ e. other (omega arith))
-    ∙ sym (or_unit_r (slice_index ws (n + 1))) ∙ (λ i. bit_or (slice_index ws (n + 1)) (cond (sym (ne_eqb n (word - 1) other) i) k 0)))
+    ∙ sym (or_zero (slice_index ws (n + 1))) ∙ (λ i. bit_or (slice_index ws (n + 1)) (cond (sym (ne_eqb n (word - 1) other) i) k 0)))
 
 -- what was found in a word is within it
 found_within : (ws : List ℕ) (word n : ℕ) → 0 < word → Within (cond (eqb n (word - 1)) (slice_index ws word) 0) (slice_index ws (n + 1))
@@ -170,7 +171,7 @@ cuts key id v two fresh s h at =
       parts = omega arith;
       count = comes plus plus_unit plus_comm plus_assoc (λ u. length u.claimed) vs r ∙ add-zero _ ∙ stays plus plus_unit plus_comm plus_assoc (λ u. length u.claimed) s.views id v w at refl ∙ h.count;
       once = λ x. comes plus plus_unit plus_comm plus_assoc (λ u. times x u.claimed) vs r ∙ add-zero _ ∙ stays plus plus_unit plus_comm plus_assoc (λ u. times x u.claimed) s.views id v w at refl ∙ h.once x;
-      bits = λ n. comes bit_or or_unit or_comm or_assoc (λ u. bits_of n u.put) vs r ∙ or_unit_r _ ∙ stays bit_or or_unit or_comm or_assoc (λ u. bits_of n u.put) s.views id v w at refl ∙ h.bits n;
+      bits = λ n. comes bit_or or_unit or_comm or_assoc (λ u. bits_of n u.put) vs r ∙ or_zero _ ∙ stays bit_or or_unit or_comm or_assoc (λ u. bits_of n u.put) s.views id v w at refl ∙ h.bits n;
       each = λ j u e.
           ⊎_elim
           (each_set key.keys s.words s.words s.views id w h.each (λ u old. old) record { most = omega arith; idle = λ spent. absurd (omega arith); none_past = fit.none_past; inside = fit.inside } j u)
@@ -195,10 +196,10 @@ joins key id v other w some_part s h at apart there =
       parts = moves plus plus_unit plus_comm plus_assoc (λ u. u.parts) s.views id other v w b spent_view at apart there refl refl ∙ h.parts;
       count = moves plus plus_unit plus_comm plus_assoc (λ u. length u.claimed) s.views id other v w b spent_view at apart there sum refl ∙ h.count;
       once = λ x. moves plus plus_unit plus_comm plus_assoc (λ u. times x u.claimed) s.views id other v w b spent_view at apart there (times_append x v.claimed w.claimed) refl ∙ h.once x;
-      bits = λ n. moves bit_or or_unit or_comm or_assoc (λ u. bits_of n u.put) s.views id other v w b spent_view at apart there (bits_append n v.put w.put) refl ∙ h.bits n;
+      bits = λ n. moves bit_or or_unit or_comm or_assoc (λ u. bits_of n u.put) s.views id other v w b spent_view at apart there (bits_of-append n v.put w.put) refl ∙ h.bits n;
       each = each_set key.keys s.words s.words vs other spent_view
           (each_set key.keys s.words s.words s.views id b h.each (λ u old. old)
-          record { most = omega arith; idle = λ spent. absurd (omega arith); none_past = λ n. past_append key.keys n v.put w.put (mine.none_past n) (theirs.none_past n); inside = λ n. subst (λ a. Within a (slice_index s.words (n + 1))) (sym (bits_append n v.seen w.seen)) (within_both (bits_of n v.seen) (bits_of n w.seen) (slice_index s.words (n + 1)) (mine.inside n) (theirs.inside n)) })
+          record { most = omega arith; idle = λ spent. absurd (omega arith); none_past = λ n. past_append key.keys n v.put w.put (mine.none_past n) (theirs.none_past n); inside = λ n. subst (λ a. Within a (slice_index s.words (n + 1))) (sym (bits_of-append n v.seen w.seen)) (within_both (bits_of n v.seen) (bits_of n w.seen) (slice_index s.words (n + 1)) (mine.inside n) (theirs.inside n)) })
           (λ u old. old)
           record { most = omega arith; idle = λ _. (refl, refl); none_past = past_none key.keys; inside = λ n. or_unit (slice_index s.words (n + 1)) };
     }
@@ -228,7 +229,7 @@ knows key id v ws xs all f =
     let whole : total (λ u. u.parts) s.views ≡ v.parts = h.parts ∙ sym all in
     let drawn : (x : ℕ) → times x v.claimed ≡ once_below x (slice_index s.words 0) = λ x. sym (alone plus plus_unit (λ a. omega arith) (λ u. times x u.claimed) (λ u. u.parts) s.views id v at
     (λ j u there spent. let m = (h.each j u there).most in ap (times x) (empty u.claimed (omega arith))) whole) ∙ h.once x in
-    let put : (n : ℕ) → slice_index s.words (n + 1) ≡ bits_of n v.put = λ n. sym (h.bits n) ∙ alone bit_or or_unit or_unit_r (λ u. bits_of n u.put) (λ u. u.parts) s.views id v at
+    let put : (n : ℕ) → slice_index s.words (n + 1) ≡ bits_of n v.put = λ n. sym (h.bits n) ∙ alone bit_or or_unit or_zero (λ u. bits_of n u.put) (λ u. u.parts) s.views id v at
     (λ j u there spent. ap (bits_of n) ((h.each j u there).idle spent).0) whole in
     record {
       once = λ x. drawn x ∙ ap (λ (l : List ℕ). once_below x (slice_index l 0)) same;

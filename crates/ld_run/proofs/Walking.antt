@@ -52,7 +52,7 @@ PutsOnly-more keys old new P Q up puts = record {
 }
 
 -- ---- along a trace
-no_chains : (x : Fact) → ChainsHave [] x → ⊥
+pub no_chains : (x : Fact) → ChainsHave [] x → ⊥
 no_chains x any = let l = any.2 in omega (arith, l)
 
 -- an allowed event with a chain

@@ -10,18 +10,13 @@ use Rattle.std.proofs.lemmas.Bool.Decides.{nat_tests}
 use mathlib.Core.Option.{some, some-injective, some-ne-none}
 use lib.ListN.{get_elem?}
 use Rattle.ld_run.specs.declared.view.View.{View}
+use Rattle.ld_graph.specs.WordLaws.{or_zero, or_assoc, bits_of-append}
 use Rattle.ld_graph.specs.WordPairs.{bits_of, Within, NonePast}
 use Rattle.ld_run.specs.Views.{times, once_below}
 use Rattle.ld_run.specs.Inside.BoardRule.{union}
 
 pub or_unit : (a : ℕ) → bit_or 0 a ≡ a
-or_unit a = same_from_bits (bit_or 0 a) a (λ i. omega (arith, bit_at_or 0 a i, bit_at-zero i))
-
-pub or_unit_r : (a : ℕ) → bit_or a 0 ≡ a
-or_unit_r a = or_comm a 0 ∙ or_unit a
-
-pub or_assoc : (a b c : ℕ) → bit_or (bit_or a b) c ≡ bit_or a (bit_or b c)
-or_assoc a b c = same_from_bits (bit_or (bit_or a b) c) (bit_or a (bit_or b c)) (λ i. omega (arith, bit_at_or (bit_or a b) c i, bit_at_or a b i, bit_at_or a (bit_or b c) i, bit_at_or b c i))
+or_unit a = or_comm 0 a ∙ or_zero a
 
 pub or_self : (a : ℕ) → bit_or a a ≡ a
 or_self a = same_from_bits (bit_or a a) a (λ i. omega (arith, bit_at_or a a i))
@@ -32,10 +27,6 @@ within_more a b k h = sym (or_assoc a b k) ∙ ap (λ c. bit_or c k) h
 
 pub within_both : (a b c : ℕ) → Within a c → Within b c → Within (bit_or a b) c
 within_both a b c p q = or_assoc a b c ∙ ap (bit_or a) q ∙ p
-
-pub bits_append : (n : ℕ) (xs ys : List (ℕ × ℕ)) → bits_of n (xs ++ ys) ≡ bit_or (bits_of n xs) (bits_of n ys)
-bits_append n [] ys = sym (or_unit (bits_of n ys))
-bits_append n (x ∷ xs) ys = ap (bit_or (cond (eqb n x.0) x.1 0)) (bits_append n xs ys) ∙ sym (or_assoc (cond (eqb n x.0) x.1 0) (bits_of n xs) (bits_of n ys))
 
 pub times_append : (x : ℕ) (xs ys : List ℕ) → times x (xs ++ ys) ≡ times x xs + times x ys
 times_append x [] ys = omega arith
@@ -143,4 +134,4 @@ past_with keys n word bits ps p q = past_or keys n (cond (eqb n word) bits 0) (b
     q
 
 pub past_append : (keys n : ℕ) (ps qs : List (ℕ × ℕ)) → NonePast keys (n, bits_of n ps) → NonePast keys (n, bits_of n qs) → NonePast keys (n, bits_of n (ps ++ qs))
-past_append keys n ps qs p q = subst (λ b. NonePast keys (n, b)) (sym (bits_append n ps qs)) (past_or keys n (bits_of n ps) (bits_of n qs) p q)
+past_append keys n ps qs p q = subst (λ b. NonePast keys (n, b)) (sym (bits_of-append n ps qs)) (past_or keys n (bits_of n ps) (bits_of n qs) p q)

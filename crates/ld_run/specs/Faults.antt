@@ -2,6 +2,8 @@
 use Rattle.std.specs.Prelude.{ℕ, List, codes}
 use Rattle.ld_run.specs.declared.board_fault.BoardFault.{BoardFault}
 use Rattle.ld_run.specs.declared.board_fault.BoardFault.TheVariants as C
+use Rattle.ld_run.specs.declared.condense_fault.CondenseFault.{CondenseFault}
+use Rattle.ld_run.specs.declared.condense_fault.CondenseFault.TheVariants as D
 use Rattle.ld_run.specs.declared.fault.RunFault.{RunFault}
 use Rattle.ld_run.specs.declared.fault.RunFault.TheVariants.{BadWorkers, TooManyTraces, Unsettled, Memory, Refused}
 
@@ -17,3 +19,8 @@ run_code_of (Refused trace place fault) = codes "N5 Refused"
 abbrev pub board_code_of : BoardFault → List ℕ
 board_code_of C.Seats = codes "C1 Seats"
 board_code_of C.Memory = codes "C2 Memory"
+
+-- the number and name of why facts aren't condensed
+abbrev pub condense_code_of : CondenseFault → List ℕ
+condense_code_of D.Unequal = codes "K1 Unequal"
+condense_code_of D.Memory = codes "K2 Memory"

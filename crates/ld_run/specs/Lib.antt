@@ -7,4 +7,5 @@ pub mod Tallies
 pub mod Views
 pub mod Seats
 pub mod Boards
+pub mod Condensing
 pub mod Work

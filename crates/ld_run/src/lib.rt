@@ -5,6 +5,8 @@ mod board;
 mod board_fault;
 #[cfg(test)]
 mod board_tests;
+mod condense_fault;
+mod condensing;
 mod fault;
 mod gate;
 mod runs;
@@ -17,6 +19,8 @@ mod worker;
 
 pub use board::{Board, MAX_SEATS};
 pub use board_fault::BoardFault;
+pub use condense_fault::CondenseFault;
+pub use condensing::condense;
 pub use fault::RunFault;
 pub use gate::{Gate, OpenGate};
 pub use runs::{MAX_TRACES, MAX_WORKERS, run};

@@ -1,18 +1,18 @@
 //! The facts of a completed run, when a book has them, and what they mean.
 
-ghost use Rattle.std.specs.Prelude.{◌≡◌, ◌≤◌, ◌↔◌, IfErr, IfOk, IfSome, IsNone, IsOk, IsTrue, length};
+ghost use Rattle.std.specs.Prelude.{◌≡◌, ◌*◌, ◌≤◌, ◌↔◌, IfErr, IfOk, IfSome, IsNone, IsOk, IsTrue, length};
 ghost use Rattle.ld_graph.specs.Arrows.{Arrow, arrow};
 ghost use Rattle.ld_graph.specs.Counting.{IsNumberOf};
 ghost use Rattle.ld_graph.specs.FactBits.{HasFact};
 ghost use Rattle.ld_graph.specs.Facts.{DependenciesOf};
-ghost use Rattle.ld_graph.specs.Links.{IsClean, IsDouble, IsInversion};
-ghost use Rattle.ld_graph.specs.Walks.{IsShortestCircle, OnCircle};
+ghost use Rattle.ld_graph.specs.Links.{InInversion, IsClean, IsDouble, IsDoubleBy, IsInversion, IsShortestInversion, link_by};
+ghost use Rattle.ld_graph.specs.Walks.{IsShortestCircle, IsShortestFrom, OnCircle};
 ghost use Rattle.ld_graph.specs.declared.fact.Fact.{Fact};
 ghost use Rattle.ld_run.specs.Settling.{Settles};
 
 use crate::fault::RunFault;
 use ld_book::Book;
-use ld_graph::{Circle, Facts, Graph, Kind, Mark};
+use ld_graph::{Circle, Facts, Graph, InversionWalk, Kind, Mark, Walk};
 use ld_trace::Irq;
 use std::marker::Model;
 
@@ -52,6 +52,13 @@ impl Settled {
         self.graph.facts().dependencies()
     }
 
+    /// The facts.
+    pub fn facts(&self) -> &Facts
+        ensures { result.now ≡ self.now }
+    {
+        self.graph.facts()
+    }
+
     /// Whether the dependency is on a circle. False where it isn't among the facts.
     pub fn on_circle(&self, from: u16, to: u16, kind: Kind) -> bool
         ensures { IsTrue result ↔ OnCircle (HasFact self.now) (arrow from to kind) }
@@ -70,11 +77,32 @@ impl Settled {
         self.graph.shortest_circle()
     }
 
+    /// A shortest of the closed strong walks that begin with the dependency. None exactly where it is on no circle, and
+    /// so where it isn't among the facts. Which walk it is where several are shortest is left open.
+    pub fn circle_through(&self, from: u16, to: u16, kind: Kind) -> Option<Walk>
+        ensures none { IsNone result ↔ ¬ OnCircle (HasFact self.now) (arrow from to kind) }
+        ensures some { IfSome result (λ walk. IsShortestFrom (HasFact self.now) (arrow from to kind) walk) }
+        ensures few { IfSome result (λ walk. length walk ≤ 2 * self.now.keys) }
+    {
+        self.graph.circle_through(from, to, kind)
+    }
+
     /// Whether the key is a double of the state: used in it and used with it enabled, and not by readers alone.
     pub fn is_double(&self, irq: Irq, key: u16) -> bool
         ensures { IsTrue result ↔ IsDouble (HasFact self.now) irq key }
     {
         self.graph.is_double(irq, key)
+    }
+
+    /// The forms of two marks that make the key a double of the state: whether the mark that it is used with the state
+    /// enabled is the read form, and whether the mark that it is used in the state is. They are not both. None exactly
+    /// where the key is no double of the state. Which forms are told where several fit is left open.
+    pub fn double_forms(&self, irq: Irq, key: u16) -> Option<(bool, bool)>
+        ensures none { IsNone result ↔ ¬ IsDouble (HasFact self.now) irq key }
+        ensures some { IfSome result (λ forms.
+            IsDoubleBy (HasFact self.now) irq key (link_by key key forms.0 forms.1)) }
+    {
+        self.graph.double_forms(irq, key)
     }
 
     /// Whether `a` and `b` are an inversion of the state: a strong walk from `a` to `b` and an interrupt link from `b`
@@ -83,6 +111,25 @@ impl Settled {
         ensures { IsTrue result ↔ IsInversion (HasFact self.now) irq a b }
     {
         self.graph.is_inversion(irq, a, b)
+    }
+
+    /// Whether the dependency is a member of the walk of some inversion. False where it isn't among the facts.
+    pub fn in_inversion(&self, from: u16, to: u16, kind: Kind) -> bool
+        ensures { IsTrue result ↔ InInversion (HasFact self.now) (arrow from to kind) }
+    {
+        self.graph.in_inversion(from, to, kind)
+    }
+
+    /// A shortest strong walk from `a` to `b` that makes them an inversion of the state, with the forms of the marks of
+    /// the link that it closes by. None exactly where they are no inversion of the state. Which walk and which link are
+    /// told where several are shortest is left open.
+    pub fn inversion_walk(&self, irq: Irq, a: u16, b: u16) -> Option<InversionWalk>
+        ensures none { IsNone result ↔ ¬ IsInversion (HasFact self.now) irq a b }
+        ensures some { IfSome result (λ found. IsShortestInversion (HasFact self.now) irq a b
+            (link_by b a found.enabled_read found.used_read) found.walk) }
+        ensures few { IfSome result (λ found. length found.walk ≤ 2 * self.now.keys) }
+    {
+        self.graph.inversion_walk(irq, a, b)
     }
 
     /// Whether no dependency is on a circle and there is no double and no inversion.

@@ -1,5 +1,6 @@
 //! Runs over small traces.
 
+mod condensing;
 mod want_of_memory;
 
 use crate::{Gate, OpenGate, RunFault, Settled, run, settle};
@@ -55,7 +56,7 @@ fn empty_traces(alloc: Global, many: usize) -> Result<Vec<RawTrace>, Fail> {
 }
 
 // Two locks that two traces take in both orders.
-fn both_orders(alloc: Global) -> Result<Vec<RawTrace>, Fail> {
+pub(crate) fn both_orders(alloc: Global) -> Result<Vec<RawTrace>, Fail> {
     let mut traces = Vec::new(alloc);
     traces.push(trace_of(alloc, &[write(A), write(B), give(B), give(A)])?)?;
     traces.push(trace_of(alloc, &[write(B), write(A), give(A), give(B)])?)?;
@@ -108,7 +109,7 @@ fn facts_of(rt: &impl Abort, alloc: Global, chains: &[Chain]) -> Result<Facts, F
 }
 
 // The run, over traces whose keys are below this bound.
-fn run_over<R: Threads + Wait + Sync + Abort, G: Gate + Sync>(
+pub(crate) fn run_over<R: Threads + Wait + Sync + Abort, G: Gate + Sync>(
     rt: &R,
     alloc: Global,
     traces: &[RawTrace],
@@ -391,6 +392,27 @@ fn a_settled_run_tells_doubles_and_inversions(rt: HostRuntime) -> Result<(), Fai
     let settled = run_over(&rt, rt.alloc(), &traces, 2, 2, &OpenGate)?;
     assert!(rt; settled.is_double(irq, A) && !settled.is_double(irq, B));
     assert!(rt; settled.is_inversion(irq, A, B) && !settled.is_inversion(irq, B, A));
+    Ok(())
+}
+
+#[test]
+fn a_settled_run_tells_the_walks_of_its_findings(rt: HostRuntime) -> Result<(), Fail> {
+    let irq = ld_trace::Irq::Hard;
+    let mut traces = Vec::new(rt.alloc());
+    traces.push(trace_of(rt.alloc(), &[Event::Enter { irq }, write(A)])?)?;
+    traces.push(trace_of(rt.alloc(), &[write(A), write(B), give(B), give(A)])?)?;
+    traces.push(trace_of(rt.alloc(), &[write(B), write(A), give(A), give(B)])?)?;
+    let settled = run_over(&rt, rt.alloc(), &traces, 2, 2, &OpenGate)?;
+    assert!(rt; settled.facts().keys() == 2 && settled.facts().dependencies() == 2);
+    let walk = settled.circle_through(A, B, Kind::En).ok_or("a circle")?;
+    assert!(rt; walk.len() == 2 && walk.get(0) == Some((A, B, Kind::En)));
+    assert!(rt; settled.circle_through(A, B, Kind::Sn).is_none());
+    let found = settled.inversion_walk(irq, A, B).ok_or("an inversion")?;
+    assert!(rt; found.walk.len() == 1 && found.walk.get(0) == Some((A, B, Kind::En)));
+    assert!(rt; !found.enabled_read && !found.used_read);
+    assert!(rt; settled.inversion_walk(ld_trace::Irq::Soft, A, B).is_none());
+    assert!(rt; settled.in_inversion(A, B, Kind::En) && !settled.in_inversion(A, B, Kind::Sn));
+    assert!(rt; settled.double_forms(irq, A) == Some((false, false)));
     Ok(())
 }
 

@@ -1,18 +1,20 @@
 -- The first events of a trace, and how one more goes on from them.
-use Rattle.std.proofs.Common.{◌≡◌, ℕ, zero, suc, ◌+◌, ◌<◌, List, [], ◌∷◌, ◌++◌, length, take, slice_get, Option, Some, Result, Ok, Err, refl, sym, ap, ◌∙◌, subst, arith}
+use Rattle.std.proofs.Common.{◌≡◌, ℕ, zero, suc, ◌+◌, ◌<◌, List, [], ◌∷◌, ◌++◌, length, take, slice_get, Option, Some, Result, Ok, Err, refl, sym, ap, ◌∙◌, subst, inl, inr, arith}
 use Rattle.std.specs.Option.{option_to_list}
+use Rattle.std.proofs.lemmas.Bool.{cases_eq}
 use Rattle.std.proofs.lemmas.List.{length-take-le}
 use Rattle.std.proofs.lemmas.Option.{slice_get_within}
 use Rattle.ld_trace.specs.declared.event.Event.{Event}
 use Rattle.ld_task.specs.declared.fault.StepFault.{StepFault}
-use Rattle.ld_task.specs.EndState.{EndState, end_state}
+use Rattle.ld_task.specs.EndState.{EndState, end_state, state_at}
 use Rattle.ld_task.specs.WellFormed.{IsWellFormed, IsFirstFault, fault}
 use Rattle.ld_task.specs.Events.{event}
 use Rattle.ld_task.specs.Chains.{ChainParts}
-use Rattle.ld_task.specs.TraceChains.{chains}
+use Rattle.ld_task.specs.TraceChains.{chain, chains}
 use Rattle.ld_task.specs.Steps.{StepsTo, GoesOn}
-use Rattle.ld_task.proofs.TraceLemmas.{Agree, fault-agree}
-use Rattle.ld_task.proofs.ChainLists.{chains-snoc}
+use Rattle.ld_task.proofs.TraceLemmas.{Agree, fault-agree, state_at-agree}
+use Rattle.ld_task.proofs.NextPosition.{AllowedTo}
+use Rattle.ld_task.proofs.ChainLists.{chain-agree, chains-snoc}
 use Rattle.ld_task.proofs.Places.{slice_get-append_left, slice_get-append_seam}
 
 pub slice_get-take : {A : Type 0} (xs : List A) (i k : ℕ) → k < i → slice_get (take i xs) k ≡ slice_get xs k
@@ -68,3 +70,37 @@ module _ (t : List Event) (i : ℕ) (e : Event) (here : slice_get t i ≡ Some e
     record { well_formed = subst IsWellFormed longer-is step.0; is_end = step.1 ∙ ap end_state longer-is },
     sym (ap chains longer-is) ∙ chains-snoc (take i t) e ∙ ap (λ o. chains (take i t) ++ option_to_list o) (sym step.2),
   )
+
+  -- the events before are allowed along the trace
+  pub allowed-before : IsWellFormed (take i t) → AllowedTo t i
+  allowed-before well = record {
+    allowed = λ j l. sym (fault-agree (take i t) t j (record { same = λ k m. slice_get-take t i k (omega arith) }) (slice_get-take t i j l)) ∙ well.allowed j (omega (arith, taken));
+  }
+
+  taken-through : length (take (suc i) t) ≡ suc i
+  taken-through = length-take-le (suc i) t in_range
+
+  pub allowed-through : IsWellFormed (take (suc i) t) → AllowedTo t (suc i)
+  allowed-through well = record {
+    allowed = λ j l. sym (fault-agree (take (suc i) t) t j (record { same = λ k m. slice_get-take t (suc i) k (omega arith) }) (slice_get-take t (suc i) j l)) ∙ well.allowed j (omega (arith, taken-through));
+  }
+
+  -- the end states of the first events are the states along the trace
+  pub state-here : end_state (take i t) ≡ state_at t i
+  state-here = ap (state_at (take i t)) taken ∙ state_at-agree (take i t) t i (record { same = λ k l. slice_get-take t i k l }) i (omega arith)
+
+  pub state-through : end_state (take (i + 1) t) ≡ state_at t (i + 1)
+  state-through =
+      let one : i + 1 ≡ suc i = omega arith in
+      ap (λ n. end_state (take n t)) one ∙ ap (state_at (take (suc i) t)) taken-through
+      ∙ state_at-agree (take (suc i) t) t (suc i) (record { same = λ k l. slice_get-take t (suc i) k l }) (suc i) (omega arith) ∙ ap (state_at t) (sym one)
+
+  -- the chain at the end of the longer prefix is the whole trace's there
+  pub chain-here : chain longer (length (take i t)) ≡ chain t i
+  chain-here = ap (chain longer) taken ∙ chain-agree longer t (suc i) (record { same = λ k l. through k l }) i (omega arith)
+    where
+      through : (k : ℕ) → k < suc i → event longer k ≡ event t k
+      through k l = elim (cases_eq k i) [
+        | inl e ↦ ap (event longer) e ∙ last ∙ ap (event t) (sym e)
+        | inr ne ↦ extended.same k (omega (arith, l, ne))
+      ]

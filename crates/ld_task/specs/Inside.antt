@@ -1,3 +1,4 @@
 pub mod Machine
+pub mod Placing
 pub mod OpenFrames
 pub mod ChainEqualityLaws

@@ -1,9 +1,10 @@
 //! Questions about the locks that a task keeps. A lock's level is the number of frames outside the one that it was
 //! taken in.
 
-ghost use Rattle.std.specs.Prelude.{◌≡◌, ◌<◌, filter, IfSome, length, map};
+ghost use Rattle.std.specs.Prelude.{◌≡◌, ◌<◌, filter, IfSome, length, map, slice_get};
 ghost use Rattle.std.specs.List.{list_any};
 ghost use Rattle.ld_task.specs.Inside.Machine.{is_at, is_of, last_place, lock_of};
+ghost use Rattle.ld_task.specs.Inside.Placing.{places_at};
 
 use crate::lock::{KeptLock, Lock, MAX_HELD};
 use arrayvec::ArrayVec;
@@ -45,4 +46,27 @@ pub(crate) fn newest_of(
         }
     }
     found
+}
+
+/// Of positions beside the locks, the one beside the lock number `n` of those that were taken at this level.
+pub(crate) fn place_at(
+    locks: &ArrayVec<KeptLock, MAX_HELD>,
+    places: &ArrayVec<u32, MAX_HELD>,
+    level: u8,
+    n: usize,
+) -> Option<u32>
+    requires { length places.now.items ≡ length locks.now.items }
+    ensures { result ≡ slice_get (places_at level locks.now.items places.now.items) n }
+{
+    let mut left = n;
+    for (i, kept) in locks.as_slice().iter().enumerate() {
+        if kept.level != level {
+            continue;
+        }
+        if left == 0 {
+            return Some(places[i]);
+        }
+        left -= 1;
+    }
+    None
 }

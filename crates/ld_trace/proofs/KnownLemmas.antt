@@ -13,10 +13,10 @@ use Rattle.ld_trace.specs.Lines.{acquire_line, gives_back, mode_of, name_of_fiel
 use Rattle.ld_trace.specs.Inside.Progress.{IsEventOf}
 use Rattle.ld_trace.specs.Names.{AreNumbered, Name, is_class_name, is_known, is_name, is_same, place_of}
 
-is_same-itself : (name : Name) → is_same name name ≡ true
+pub is_same-itself : (name : Name) → is_same name name ≡ true
 is_same-itself name = and_from (bytes_eq name.0 name.0) (name.1 == name.1) ((bytes_eq-Decides name.0 name.0).1 refl) ((Decides-eqb name.1 name.1).1 refl)
 
-is_same-back : (a b : Name) → is_same a b ≡ true → is_same b a ≡ true
+pub is_same-back : (a b : Name) → is_same a b ≡ true → is_same b a ≡ true
 is_same-back a b h =
     let both = and_parts (bytes_eq a.0 b.0) (a.1 == b.1) h in
     and_from (bytes_eq b.0 a.0) (b.1 == a.1) ((bytes_eq-Decides b.0 a.0).1 (sym ((bytes_eq-Decides a.0 b.0).0 both.0))) ((Decides-eqb b.1 a.1).1 (sym ((Decides-eqb a.1 b.1).0 both.1)))

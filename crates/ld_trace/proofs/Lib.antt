@@ -5,3 +5,5 @@ pub mod ReadLemmas
 pub mod StoredLemmas
 pub mod TakenLemmas
 mod KnownLemmas
+mod WriteLemmas
+mod ReadBack

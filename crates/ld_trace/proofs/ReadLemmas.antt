@@ -53,7 +53,7 @@ taken-header version old h e = record {
 }
 
 -- the records that were taken are all: the trace was read
-reads-to : (version : Version) (old : List Name) (bytes : List ℕ) (rows : List Record) (now : List Name) (events : List Event) → records_of bytes ≡ rows → AreTaken version old rows now events → ReadsTo old bytes now events
+pub reads-to : (version : Version) (old : List Name) (bytes : List ℕ) (rows : List Record) (now : List Name) (events : List Event) → records_of bytes ≡ rows → AreTaken version old rows now events → ReadsTo old bytes now events
 reads-to version old bytes rows now events e a = record {
   faultless = λ place. rw (e, a.version_is) (by place (cases_lt place (length rows)));
   count = rw e a.count;

@@ -1,10 +1,13 @@
 -- The names of a set of stored names.
-use Rattle.std.proofs.Common.{◌≡◌, ℕ, refl, Some, position, ◌∙◌}
-use Rattle.std.specs.List.{IsDistinct, list_any, position_or_len}
+use Rattle.std.proofs.Common.{◌≡◌, ℕ, zero, suc, ◌≤◌, true, List, [], ◌∷◌, map, nat_le, slice_get, refl, sym, ap, arith, Some, position, ◌∙◌}
+use Rattle.std.specs.List.{IsDistinct, list_all, list_any, position_or_len}
+use Rattle.std.proofs.lemmas.Bool.{and_parts}
+use Rattle.std.proofs.lemmas.Bool.Decides.{nat_tests}
 use Rattle.indexmap.specs.IndexSet.{IndexSet, IsUnique, insert_key}
-use Rattle.ld_trace.specs.Names.{is_known, is_same, place_of, with_name}
+use Rattle.ld_trace.specs.Names.{is_class_name, is_known, is_name, is_same, place_of, with_name}
 use Rattle.ld_trace.specs.Inside.Stored.{name_of, names_of}
 use Rattle.ld_trace.specs.contracts.stored_name.StoredNamePartialEq.TheImpl.{eq-value}
+use Rattle.ld_trace.specs.declared.key_table.TheConstants.{MAX_SUB}
 use Rattle.ld_trace.specs.declared.stored_name.StoredName.{StoredName}
 use Rattle.ld_trace.proofs.NameLemmas.{position-found, known-map, place-map, with_name-map, distinct-map}
 
@@ -29,3 +32,19 @@ module _ {S : Type 0} (set : IndexSet StoredName S) where
   -- the names after an insertion
   pub with_name-stored : (new : IndexSet StoredName S) (v : StoredName) → new.keys ≡ insert_key eq-value.it set.keys v → names_of new ≡ with_name (names_of set) (name_of v)
   with_name-stored new v e = rw e (with_name-map name_of eq-value.it eq-is_same set.keys v)
+
+-- the subclass of a stored name of a table is at most 7
+pub sub-stored : {S : Type 0} (set : IndexSet StoredName S) (i : ℕ) (v : StoredName) → list_all is_name (names_of set) ≡ true → Some v ≡ slice_get set.keys i → v.sub ≤ MAX_SUB
+sub-stored set i v named here = small (named-at set.keys i named (sym here))
+  where
+    named-at : (vs : List StoredName) (k : ℕ) → list_all is_name (map name_of vs) ≡ true → slice_get vs k ≡ Some v → is_name (name_of v) ≡ true
+    named-at [] k a e = absurd (cc)
+    named-at (x ∷ xs) zero a e =
+        let same : x ≡ v = cc in
+        ap (λ y. is_name (name_of y)) (sym same) ∙ (and_parts (is_name (name_of x)) (list_all is_name (map name_of xs)) a).0
+    named-at (x ∷ xs) (suc k) a e = named-at xs k (and_parts (is_name (name_of x)) (list_all is_name (map name_of xs)) a).1 e
+
+    small : is_name (name_of v) ≡ true → v.sub ≤ MAX_SUB
+    small h =
+        let test = (and_parts (is_class_name v.text.bytes) (nat_le v.sub MAX_SUB) h).1 in
+        grind (arith, nat_tests)

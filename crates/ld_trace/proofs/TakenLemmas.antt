@@ -99,7 +99,7 @@ first-below p (x ∷ xs) h = by (p x) (first-below p xs) h
     by false rest g = omega (arith, rest g)
 
 -- and each name within those with it
-place-below : (names : List Name) (name : Name) → place_of names name < length (with_name names name)
+pub place-below : (names : List Name) (name : Name) → place_of names name < length (with_name names name)
 place-below names name = by (is_known names name) refl
   where
     by : (b : Bool) → is_known names name ≡ b → place_of names name < length (if b then names else names ++ name ∷ [])

@@ -1,3 +1,4 @@
 pub mod Progress
 pub mod ReadLines
 pub mod Stored
+pub mod Written

@@ -1,8 +1,10 @@
 pub mod Inside
 pub mod Events
 pub mod KeyFaults
+pub mod Laws
 pub mod Lines
 pub mod Modes
 pub mod Names
 pub mod Reading
 pub mod TraceFaults
+pub mod Writing

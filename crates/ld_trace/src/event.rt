@@ -83,8 +83,8 @@ pub enum Event {
 }
 
 impl Event {
-    ghost use Rattle.std.specs.Prelude.{◌↔◌, IsTrue};
-    ghost use Rattle.ld_trace.specs.Events.{KeyIsBelow};
+    ghost use Rattle.std.specs.Prelude.{◌≡◌, ◌↔◌, IsTrue};
+    ghost use Rattle.ld_trace.specs.Events.{KeyIsBelow, is_try};
 
     // Whether its key, if it has one, is below `n`.
     pub(crate) fn key_is_below(&self, n: u16) -> bool
@@ -93,6 +93,16 @@ impl Event {
         match self {
             Event::Acquire { key, .. } | Event::Release { key } => key.get() < n,
             _ => true,
+        }
+    }
+
+    // Whether it takes a lock by a try.
+    pub(crate) fn is_try(&self) -> bool
+        ensures { result ≡ is_try self.now }
+    {
+        match self {
+            Event::Acquire { mode, .. } => !mode.may_wait(),
+            _ => false,
         }
     }
 }

@@ -120,6 +120,7 @@ impl KeyTable {
     pub fn name_of(&self, id: KeyId) -> Option<(&str, u8)>
         ensures value { option_map (λ name. (name.0.now, name.1)) result ≡ slice_get self.now id }
         ensures short { IfSome result (λ name. length name.0.now ≤ MAX_NAME) }
+        ensures digit { IfSome result (λ name. name.1 ≤ MAX_SUB) }
     {
         let name = self.names.get_index(id.get() as usize)?;
         Some((name.text.as_str(), name.sub))

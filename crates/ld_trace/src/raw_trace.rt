@@ -1,7 +1,7 @@
 //! Traces as they were read.
 
 ghost use Rattle.std.specs.Prelude.{◌≡◌, ◌≤◌, ◌↔◌, IsTrue, IsSome, IfSome, length, slice_get};
-ghost use Rattle.ld_trace.specs.Events.{KeysBelow};
+ghost use Rattle.ld_trace.specs.Events.{KeysBelow, has_try};
 
 use crate::Event;
 use std::marker::Model;
@@ -75,5 +75,12 @@ impl RawTrace {
         ensures { IsTrue result ↔ KeysBelow n self.now }
     {
         self.events.iter().all(|event| event.key_is_below(n))
+    }
+
+    /// Whether one of the events takes a lock by a try, so that the trace is one of version 2 alone.
+    pub fn has_try(&self) -> bool
+        ensures { result ≡ has_try self.now }
+    {
+        self.events.iter().any(|event| event.is_try())
     }
 }

@@ -1,6 +1,7 @@
 //! What no clause says: that calls succeed, worked examples, the format's tables, and readers that are slow or fail.
 
 mod want_of_memory;
+mod writing;
 
 use crate::{
     Event, Irq, KeyFault, KeyId, KeyTable, Mode, RawTrace, TraceFault, TraceFaultKind, read_trace,

@@ -1,5 +1,5 @@
 -- The lines of chains: lock by lock, and event by event.
-use Rattle.std.proofs.Common.{◌≡◌, ℕ, zero, suc, ◌+◌, ◌-◌, ◌<◌, ◌≤◌, ◌∙◌, List, [], ◌∷◌, ◌++◌, Option, Some, None, Result, Ok, option_map, slice_get, slice_index_or, length, take, codes, refl, sym, ap, subst, add-zero, arith, inl, inr}
+use Rattle.std.proofs.Common.{◌≡◌, ℕ, zero, suc, ◌+◌, ◌-◌, ◌<◌, ◌≤◌, ◌∙◌, List, [], ◌∷◌, ◌++◌, Option, Some, None, Ok, option_map, slice_get, slice_index_or, length, take, codes, refl, sym, ap, subst, add-zero, arith, inl, inr}
 use Rattle.std.specs.List.{flat_map}
 use Rattle.std.specs.Option.{option_to_list}
 use Rattle.std.proofs.lemmas.Bool.{cases_lt}
@@ -8,7 +8,6 @@ use Rattle.ld_trace.specs.Names.{Name}
 use Rattle.ld_trace.specs.declared.event.Event.{Event}
 use Rattle.ld_trace.specs.declared.event.Event.TheVariants.{Leave}
 use Rattle.ld_trace.specs.declared.event.Mode.{Mode}
-use Rattle.ld_task.specs.declared.fault.StepFault.{StepFault}
 use Rattle.ld_task.specs.declared.lock.Lock.{Lock}
 use Rattle.ld_task.specs.Chains.{ChainParts, key_and_mode}
 use Rattle.ld_task.specs.EndState.{EndState}

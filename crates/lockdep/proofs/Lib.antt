@@ -4,6 +4,11 @@ pub mod GroupLemmas
 pub mod BecauseLemmas
 pub mod ChainLemmas
 pub mod ReportLemmas
+pub mod ExplanationLemmas
+pub mod PictureLemmas
 pub mod FaultLemmas
 pub mod LineLemmas
 pub mod ProgramLemmas
+pub mod TellingLemmas
+pub mod LeafLemmas
+pub mod PictureGrowing

@@ -26,7 +26,7 @@ both : {P Q R : Type 0} → P ↔ Q → Q ↔ R → P ↔ R
 both f g = (λ p. g.0 (f.0 p), λ r. f.1 (g.1 r))
 
 module _ (P Q : Fact → Type 0) (same : AreSame P Q) where
-  character-same : (key : ℕ) (irq : Irq) (read : Bool) (text : List ℕ) → IsUsageCharacter P key irq read text → IsUsageCharacter Q key irq read text
+  pub character-same : (key : ℕ) (irq : Irq) (read : Bool) (text : List ℕ) → IsUsageCharacter P key irq read text → IsUsageCharacter Q key irq read text
   character-same key irq read text c = record {
     enabled = c.enabled;
     used_in = c.used_in;

@@ -1,14 +1,15 @@
 -- The command line, as clap's own definition reads it [this project's own].
-use Rattle.std.specs.Prelude.{◌≡◌, ◌⊎◌, ⊤, ℕ, pos, true, List, [], ◌∷◌, Option, Some, map, option_map, unwrap_or, codes}
+use Rattle.std.specs.Prelude.{◌≡◌, ◌⊎◌, ⊤, ℕ, pos, Bool, true, IsTrue, IsFalse, List, [], ◌∷◌, Option, Some, map, option_map, unwrap_or, codes}
 use Rattle.std.specs.Str.Parse.{IsNumeral, digits_value, without_leading_plus}
 use Rattle.clap.specs.Lexer.{usize_max}
 use Rattle.clap.specs.Words.{App, Row, Rule, Shape, Text, IsAmong, all_of, fault_of, first_of, new_app, new_rule, one_of, subcommand_of, with_rule, with_subcommand}
 use Rattle.clap.specs.declared.builder.value_parser.ValueParser.TheVariants.{Signed}
+use Rattle.clap.specs.declared.builder.action.ArgAction.TheVariants.{SetTrue}
 use Rattle.clap.specs.declared.error.kind.ErrorKind.TheVariants.{DisplayHelp, DisplayVersion}
 use Rattle.lockdep.specs.declared.command_line.LineFault.{LineFault}
 use Rattle.lockdep.specs.declared.command_line.LineFault.TheVariants.{Help, Refused, Memory}
 use Rattle.lockdep.specs.declared.command_line.Line.{Line}
-use Rattle.lockdep.specs.declared.command_line.Line.TheVariants.{Check, Chains}
+use Rattle.lockdep.specs.declared.command_line.Line.TheVariants.{Check, Chains, Explain, Graph}
 
 -- `--workers N`: a whole number from 0 to 65,535, 4 where it isn't given
 abbrev pub workers_rule : Rule
@@ -33,17 +34,33 @@ file_rule = new_rule (codes "FILE")
 abbrev pub check_shape : Shape
 check_shape = (with_rule (with_rule (new_app (codes "check")) workers_rule) files_rule).top
 
+-- `explain [--workers N] [FILE...]`
+abbrev pub explain_shape : Shape
+explain_shape = (with_rule (with_rule (new_app (codes "explain")) workers_rule) files_rule).top
+
+-- `--findings`
+abbrev pub findings_rule : Rule
+findings_rule = record (new_rule (codes "findings")) {
+  long = Some (codes "findings");
+  action = Some SetTrue;
+}
+
+-- `graph [--workers N] [--findings] [FILE...]`
+abbrev pub graph_shape : Shape
+graph_shape = (with_rule (with_rule (with_rule (new_app (codes "graph")) workers_rule) findings_rule) files_rule).top
+
 -- `chains [FILE]`
 abbrev pub chains_shape : Shape
 chains_shape = (with_rule (new_app (codes "chains")) file_rule).top
 
--- the program's command lines: one of the two subcommands, or the version
+-- the program's command lines: one of the subcommands, or the version
 abbrev pub lockdep_app : App
 lockdep_app = let app = new_app (codes "lockdep") in
-    with_subcommand (with_subcommand (record app { top = record app.top { subcommand_required = true; has_version = true } })
-    check_shape) chains_shape
+    with_subcommand (with_subcommand (with_subcommand (with_subcommand
+    (record app { top = record app.top { subcommand_required = true; has_version = true } })
+    check_shape) explain_shape) graph_shape) chains_shape
 
--- the arguments of `check` say so many workers and these files
+-- the arguments say so many workers and these files
 pub record ReadsCheck (rows : List Row) (workers : ℕ) (files : List Text) : Type 0 where
   pub text : Text
   pub given : one_of (codes "workers") rows ≡ Some text
@@ -51,14 +68,24 @@ pub record ReadsCheck (rows : List Row) (workers : ℕ) (files : List Text) : Ty
   pub workers_are : workers ≡ digits_value 10 (without_leading_plus text)
   pub files_are : files ≡ unwrap_or (all_of (codes "FILE") rows) []
 
+-- the arguments say whether only findings are wanted
+pub record ReadsFindings (rows : List Row) (findings : Bool) : Type 0 where
+  pub wanted : one_of (codes "findings") rows ≡ Some (codes "true") → IsTrue findings
+  pub not_wanted : one_of (codes "findings") rows ≡ Some (codes "false") → IsFalse findings
+
 -- the word of the subcommand
 abbrev pub subcommand_word : Line → Text
 subcommand_word (Check workers files) = codes "check"
+subcommand_word (Explain workers files) = codes "explain"
+subcommand_word (Graph workers findings files) = codes "graph"
 subcommand_word (Chains file) = codes "chains"
 
 -- the arguments of the subcommand say this
 abbrev pub ReadsLine : List Row → Line → Type 0
 ReadsLine rows (Check workers files) = ReadsCheck rows workers (map (λ file. file.now) files.items)
+ReadsLine rows (Explain workers files) = ReadsCheck rows workers (map (λ file. file.now) files.items)
+ReadsLine rows (Graph workers findings files) =
+    ReadsCheck rows workers (map (λ file. file.now) files.items) × ReadsFindings rows findings
 ReadsLine rows (Chains file) = option_map (λ word. word.now) file ≡ first_of (codes "FILE") rows
 
 -- a subcommand's name and arguments ask for this

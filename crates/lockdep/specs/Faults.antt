@@ -1,11 +1,14 @@
 -- The codes of refused writes, and what a refused report leaves [this project's own].
-use Rattle.std.specs.Prelude.{◌≡◌, ◌+◌, ◌≤◌, ℕ, List, Option, codes, All, length}
+use Rattle.std.specs.Prelude.{◌≡◌, ◌+◌, ◌≤◌, ℕ, List, [], Option, codes, All, length}
 use Rattle.std.specs.Io.KnownBytes.{Keeps}
+use Rattle.clap.specs.Words.{Text}
 use Rattle.ld_trace.specs.Names.{Name}
 use Rattle.ld_trace.specs.declared.event.Event.{Event}
 use Rattle.ld_task.specs.WellFormed.{IsWellFormed}
 use Rattle.lockdep.specs.Output.{AppendsBeginning}
-use Rattle.lockdep.specs.Report.{IsReportOf}
+use Rattle.lockdep.specs.Texts.{IsTextOf}
+use Rattle.lockdep.specs.declared.wanted.Wanted.{Wanted}
+use Rattle.lockdep.specs.declared.wanted.Wanted.TheVariants.{Report}
 use Rattle.lockdep.specs.declared.fault.WriteFault.{WriteFault}
 use Rattle.lockdep.specs.declared.fault.WriteFault.TheVariants.{Failed, Stuck, Memory}
 use Rattle.ld_run.specs.Runs.{IsCrew, StopsRun}
@@ -32,11 +35,15 @@ abbrev pub StopsOtherwise : List (List Event) → ℕ → RunFault → Type 0
 StopsOtherwise traces workers (Refused trace place fault) = ⊥
 StopsOtherwise traces workers fault = StopsRun traces workers fault
 
--- the report of these traces by so many workers was refused so: by the first trace that isn't well formed, with the record of
--- its first event that isn't allowed; by the run otherwise; or in writing
-abbrev pub StopsReport : List (List Event) → List Name → ℕ → Option (List ℕ) → Option (List ℕ) → ReportFault → Type 0
-StopsReport traces names workers old new (Step trace at fault) =
+-- the text that is wanted of these traces of these files, by so many workers, was refused so: by the first trace that isn't
+-- well formed, with the record of its first event that isn't allowed; by the run otherwise; or in writing
+abbrev pub StopsText : Wanted → List (List Event) → List Name → List Text → ℕ → (old new : Option (List ℕ)) → ReportFault → Type 0
+StopsText wanted traces names files workers old new (Step trace at fault) =
     (place : ℕ) × StopsRun traces workers (Refused trace place fault) × (at ≡ place + 2) × Keeps old new
-StopsReport traces names workers old new (Run fault) = StopsOtherwise traces workers fault × Keeps old new
-StopsReport traces names workers old new (Out fault) =
-    IsCrew workers × (length traces ≤ MAX_TRACES) × All IsWellFormed traces × StopsWriting (IsReportOf traces names) old new fault
+StopsText wanted traces names files workers old new (Run fault) = StopsOtherwise traces workers fault × Keeps old new
+StopsText wanted traces names files workers old new (Out fault) = IsCrew workers × (length traces ≤ MAX_TRACES)
+    × All IsWellFormed traces × StopsWriting (IsTextOf wanted traces names files) old new fault
+
+-- the report was
+abbrev pub StopsReport : List (List Event) → List Name → ℕ → (old new : Option (List ℕ)) → ReportFault → Type 0
+StopsReport traces names = StopsText Report traces names []

@@ -1,2 +1,3 @@
-pub mod Turning
 pub mod Sources
+pub mod Telling
+pub mod Turning

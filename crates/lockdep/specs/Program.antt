@@ -1,5 +1,5 @@
 -- What the program does for a command line [this project's own].
-use Rattle.std.specs.Prelude.{◌≡◌, ◌↔◌, ◌⊎◌, ⊤, ◌+◌, ◌<◌, ◌≤◌, ℕ, List, [], ◌∷◌, Option, None, Some, All, Contains, IfSome, codes, length, map, option_map, slice_get, unwrap_or}
+use Rattle.std.specs.Prelude.{◌≡◌, ◌↔◌, ◌⊎◌, ⊤, ◌+◌, ◌<◌, ◌≤◌, ℕ, List, [], ◌∷◌, Option, None, Some, All, Contains, IfSome, codes, length, map, option_map, unwrap_or}
 use Rattle.std.specs.Io.KnownBytes.{Appends, Keeps}
 use Rattle.ld_trace.specs.Events.{KeysBelow}
 use Rattle.ld_trace.specs.Names.{Name}
@@ -12,12 +12,15 @@ use Rattle.ld_run.specs.declared.runs.TheConstants.{MAX_TRACES}
 use Rattle.clap.specs.Words.{Text}
 use Rattle.lockdep.specs.ChainLines.{chains_text}
 use Rattle.lockdep.specs.CommandLine.{AskForText, IsLineOf}
-use Rattle.lockdep.specs.Faults.{StopsReport}
+use Rattle.lockdep.specs.Faults.{StopsText}
 use Rattle.lockdep.specs.Output.{AppendsBeginning}
-use Rattle.lockdep.specs.Report.{IsReportOf}
+use Rattle.lockdep.specs.Texts.{IsTextOf}
+use Rattle.lockdep.specs.Words.{file_at}
 use Rattle.ld_run.specs.TraceFacts.{TracesHave}
 use Rattle.lockdep.specs.declared.command_line.Line.{Line}
-use Rattle.lockdep.specs.declared.command_line.Line.TheVariants.{Check, Chains}
+use Rattle.lockdep.specs.declared.command_line.Line.TheVariants.{Check, Chains, Explain, Graph}
+use Rattle.lockdep.specs.declared.wanted.Wanted.{Wanted}
+use Rattle.lockdep.specs.declared.wanted.Wanted.TheVariants.{Report, Explanation, Picture}
 use Rattle.lockdep.specs.declared.fault.ReportFault.{ReportFault}
 use Rattle.lockdep.specs.declared.fault.ReportFault.TheVariants as report
 use Rattle.lockdep.specs.declared.fault.WriteFault.{WriteFault}
@@ -34,23 +37,23 @@ pub record AreTracesOf (files : List Text) (input : Option (List ℕ)) (names : 
   pub from_input : length files ≡ 0 → (trace : List Event) × (traces ≡ trace ∷ []) × IfSome input (λ bytes. ReadsTo [] bytes names trace)
   pub from_files : 0 < length files → length traces ≡ length files
 
--- the report of the traces by so many workers was written, and the status says whether their facts are clean
-pub record WritesReport (workers : ℕ) (names : List Name) (traces : List (List Event)) (old new : Option (List ℕ)) (status : ℕ) : Type 0 where
+-- the text that is wanted of the traces, by so many workers, was written, and the status says whether their facts are clean
+pub record WritesText (wanted : Wanted) (workers : ℕ) (files : List Text) (names : List Name) (traces : List (List Event)) (old new : Option (List ℕ)) (status : ℕ) : Type 0 where
   pub crew : IsCrew workers
   pub few : length traces ≤ MAX_TRACES
   pub well_formed : All IsWellFormed traces
   pub text : List ℕ
-  pub is_report : IsReportOf traces names text
+  pub is_text : IsTextOf wanted traces names files text
   pub wrote : Appends old new text
   pub range : status ≤ 1
   pub clean : (status ≡ 0) ↔ IsClean (TracesHave traces)
 
 -- the same, of the traces of the files
-pub record ReportsOn (workers : ℕ) (files : List Text) (input old new : Option (List ℕ)) (status : ℕ) : Type 0 where
+pub record TellsOf (wanted : Wanted) (workers : ℕ) (files : List Text) (input old new : Option (List ℕ)) (status : ℕ) : Type 0 where
   pub names : List Name
   pub traces : List (List Event)
   pub read : AreTracesOf files input names traces
-  pub writes : WritesReport workers names traces old new status
+  pub writes : WritesText wanted workers files names traces old new status
 
 -- what is known of the bytes of a trace: those that standard input holds, and of a file's nothing
 abbrev pub known_of : Option Text → (input : Option (List ℕ)) → Option (List ℕ)
@@ -73,7 +76,9 @@ pub record WritesChains (bytes old new : Option (List ℕ)) (status : ℕ) : Typ
 
 -- what the line asks for was done
 abbrev pub DoesLine : Line → (input old new : Option (List ℕ)) → ℕ → Type 0
-DoesLine (Check workers files) input = ReportsOn workers (map (λ file. file.now) files.items) input
+DoesLine (Check workers files) input = TellsOf Report workers (map (λ file. file.now) files.items) input
+DoesLine (Explain workers files) input = TellsOf Explanation workers (map (λ file. file.now) files.items) input
+DoesLine (Graph workers findings files) input = TellsOf (Picture findings) workers (map (λ file. file.now) files.items) input
 DoesLine (Chains file) input = WritesChains (known_of (option_map (λ word. word.now) file) input)
 
 -- help or the version was asked for and written
@@ -89,10 +94,6 @@ DoesWords words input old new status =
     ((line : Line) × IsLineOf words line × DoesLine line input old new status) ⊎ WritesHelp words old new status
 
 -- What is refused, and what is left on standard output.
-
--- what fault lines call the trace at this place: its file, or standard input where no file is named
-abbrev pub file_at : List Text → ℕ → Text
-file_at files place = unwrap_or (slice_get files place) (codes "stdin")
 
 -- the trace with these bytes is refused in reading, with the names that were there before
 abbrev pub IsReadingRefusal : (file : Text) (names : List Name) (bytes : Option (List ℕ)) → Refusal → Type 0
@@ -128,17 +129,17 @@ IsReportRefusal files (report.Step trace at fault) _ = ⊥
 IsReportRefusal files (report.Run fault) refusal = refusal ≡ Run fault
 IsReportRefusal files (report.Out fault) refusal = refusal ≡ write_refusal_of fault
 
--- these traces of the files have no report, or it wasn't written whole
-pub record RefusesTraces (workers : ℕ) (files : List Text) (names : List Name) (traces : List (List Event)) (old new : Option (List ℕ)) (refusal : Refusal) : Type 0 where
+-- these traces of the files have no such text, or it wasn't written whole
+pub record RefusesTraces (wanted : Wanted) (workers : ℕ) (files : List Text) (names : List Name) (traces : List (List Event)) (old new : Option (List ℕ)) (refusal : Refusal) : Type 0 where
   pub fault : ReportFault
-  pub stops : StopsReport traces names workers old new fault
+  pub stops : StopsText wanted traces names files workers old new fault
   pub refusal_is : IsReportRefusal files fault refusal
 
--- no report was written whole: in reading, and then nothing was written, or after it
-abbrev pub RefusesReport : ℕ → List Text → (input old new : Option (List ℕ)) → Refusal → Type 0
-RefusesReport workers files input old new refusal = (StopsReading files input refusal × Keeps old new)
+-- no such text was written whole: in reading, and then nothing was written, or after it
+abbrev pub RefusesText : Wanted → ℕ → List Text → (input old new : Option (List ℕ)) → Refusal → Type 0
+RefusesText wanted workers files input old new refusal = (StopsReading files input refusal × Keeps old new)
     ⊎ ((names : List Name) × (traces : List (List Event)) × AreTracesOf files input names traces
-    × RefusesTraces workers files names traces old new refusal)
+    × RefusesTraces wanted workers files names traces old new refusal)
 
 -- the trace isn't well formed, or its chains weren't written whole
 abbrev pub RefusesTrace : (file : Text) → List Name → List Event → (old new : Option (List ℕ)) → Refusal → Type 0
@@ -160,7 +161,9 @@ RefusesChains file input old new refusal =
 
 -- what the line asks for is refused so
 abbrev pub RefusesLine : Line → (input old new : Option (List ℕ)) → Refusal → Type 0
-RefusesLine (Check workers files) = RefusesReport workers (map (λ file. file.now) files.items)
+RefusesLine (Check workers files) = RefusesText Report workers (map (λ file. file.now) files.items)
+RefusesLine (Explain workers files) = RefusesText Explanation workers (map (λ file. file.now) files.items)
+RefusesLine (Graph workers findings files) = RefusesText (Picture findings) workers (map (λ file. file.now) files.items)
 RefusesLine (Chains file) = RefusesChains (option_map (λ word. word.now) file)
 
 -- the text that was asked for wasn't written whole

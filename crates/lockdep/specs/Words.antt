@@ -1,5 +1,6 @@
 -- The words of the program's texts [this project's own].
 use Rattle.std.specs.Prelude.{ℕ, Bool, true, false, List, [], ◌++◌, codes, decimal, slice_get, unwrap_or}
+use Rattle.clap.specs.Words.{Text}
 use Rattle.ld_trace.specs.Names.{Name}
 use Rattle.ld_trace.specs.declared.event.Irq.{Irq}
 use Rattle.ld_trace.specs.declared.event.Irq.TheVariants.{Hard, Soft}
@@ -9,6 +10,10 @@ use Rattle.ld_task.specs.declared.frame.Frame.{Frame}
 use Rattle.ld_task.specs.declared.frame.Frame.TheVariants.{Task, Softirq, Hardirq}
 use Rattle.ld_task.specs.declared.kind.Kind.{Kind}
 use Rattle.ld_task.specs.declared.kind.Kind.TheVariants.{Er, En, Sr, Sn}
+
+-- what texts call the trace at this place: its file, or standard input where no file is named
+abbrev pub file_at : List Text → ℕ → Text
+file_at files place = unwrap_or (slice_get files place) (codes "stdin")
 
 -- the name of the key of this number; an empty one where there is no such key
 abbrev pub name_at : List Name → ℕ → Name

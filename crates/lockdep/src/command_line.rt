@@ -3,10 +3,10 @@
 ghost use Rattle.std.specs.Prelude.{◌≡◌, ◌↔◌, [], false, ℕ, List, IfOk, IfErr, map, unwrap_or, codes};
 ghost use Rattle.clap.specs.Words.{HasKind, all_of, app_of, fault_of as clap_faults, found_of, kind_of, rows_of, rule_of, shape_of, subcommand_rows_of};
 ghost use Rattle.clap.specs.declared.builder.command.Command.TheViews.{out-Command};
-ghost use Rattle.lockdep.specs.CommandLine.{IsLineFault, IsLineIn, IsLineOf, ReadsLine, chains_shape, check_shape, file_rule, files_rule, lockdep_app, subcommand_word, workers_rule};
+ghost use Rattle.lockdep.specs.CommandLine.{IsLineFault, IsLineIn, IsLineOf, ReadsCheck, ReadsLine, chains_shape, check_shape, explain_shape, file_rule, files_rule, findings_rule, graph_shape, lockdep_app, subcommand_word, workers_rule};
 
 use clap::error::ErrorKind;
-use clap::{Arg, ArgMatches, Command, value_parser};
+use clap::{Arg, ArgAction, ArgMatches, Command, value_parser};
 use std::alloc::{AllocError, Global};
 
 /// The program's version.
@@ -16,9 +16,25 @@ pub const VERSION: &str = "0.3.0";
 #[derive(Debug, Drop)]
 pub enum Line<'a> {
     /// The report of the traces in these files, or of the one on standard input where no file is named, by so many workers.
-    Check { workers: u16, files: Vec<&'a str> },
+    Check {
+        workers: u16,
+        files: Vec<&'a str>,
+    },
+    /// What was found in these traces, and the records that it comes from.
+    Explain {
+        workers: u16,
+        files: Vec<&'a str>,
+    },
+    /// Their facts as a picture; only what is part of a finding, if `findings` is set.
+    Graph {
+        workers: u16,
+        findings: bool,
+        files: Vec<&'a str>,
+    },
     /// The chains of the trace in this file, or of the one on standard input where no file is named.
-    Chains { file: Option<&'a str> },
+    Chains {
+        file: Option<&'a str>,
+    },
 }
 
 /// Why a command line asks for nothing that the program does with traces.
@@ -65,6 +81,17 @@ fn file_argument<'a>(alloc: Global) -> Arg<'a>
     )
 }
 
+// Whether only findings are wanted, `--findings`.
+fn findings_option<'a>(alloc: Global) -> Arg<'a>
+    ensures rule { rule_of result ≡ findings_rule }
+    ensures local { result.global ≡ false }
+{
+    Arg::new(alloc, "findings")
+        .long("findings")
+        .action(ArgAction::SetTrue)
+        .help("Show only what is part of a finding")
+}
+
 // The command lines of the report.
 fn check_command<'a>(alloc: Global) -> Result<Command<'a>, AllocError>
     ensures shape { IfOk result (λ command. shape_of command ≡ check_shape) }
@@ -73,6 +100,29 @@ fn check_command<'a>(alloc: Global) -> Result<Command<'a>, AllocError>
     Command::new(alloc, "check")
         .about("Reads traces and writes the report of their lock order")
         .arg(workers_option(alloc))?
+        .arg(files_argument(alloc))
+}
+
+// The command lines of the explanation.
+fn explain_command<'a>(alloc: Global) -> Result<Command<'a>, AllocError>
+    ensures shape { IfOk result (λ command. shape_of command ≡ explain_shape) }
+    ensures local { IfOk result (λ command. (out-Command command).has_globals ≡ false) }
+{
+    Command::new(alloc, "explain")
+        .about("Reads traces and writes what was found, with the records that it comes from")
+        .arg(workers_option(alloc))?
+        .arg(files_argument(alloc))
+}
+
+// The command lines of the picture.
+fn graph_command<'a>(alloc: Global) -> Result<Command<'a>, AllocError>
+    ensures shape { IfOk result (λ command. shape_of command ≡ graph_shape) }
+    ensures local { IfOk result (λ command. (out-Command command).has_globals ≡ false) }
+{
+    Command::new(alloc, "graph")
+        .about("Reads traces and writes their lock order as a graph in the language DOT")
+        .arg(workers_option(alloc))?
+        .arg(findings_option(alloc))?
         .arg(files_argument(alloc))
 }
 
@@ -91,12 +141,16 @@ fn command<'a>(alloc: Global) -> Result<Command<'a>, AllocError>
     ensures { IfOk result (λ command. app_of command ≡ lockdep_app) }
 {
     let check = check_command(alloc)?;
+    let explain = explain_command(alloc)?;
+    let graph = graph_command(alloc)?;
     let chains = chains_command(alloc)?;
     Command::new(alloc, "lockdep")
         .about("Checks recorded traces of tasks for lock orders that can deadlock")
         .version(VERSION)
         .subcommand_required(true)
         .subcommand(check)?
+        .subcommand(explain)?
+        .subcommand(graph)?
         .subcommand(chains)
 }
 
@@ -112,19 +166,57 @@ fn files_of<'a>(alloc: Global, found: &ArgMatches<'a>) -> Result<Vec<&'a str>, A
     Ok(files)
 }
 
-// What the words of `check` ask for.
-fn check_line<'a>(alloc: Global, found: &ArgMatches<'a>) -> Result<Line<'a>, LineFault>
-    ensures ok { IfOk result (λ line. (subcommand_word line ≡ codes "check")
-        × ReadsLine (rows_of (found_of found.now)) line) }
+// The workers and the files that the words of a subcommand say.
+fn workers_and_files<'a>(
+    alloc: Global,
+    found: &ArgMatches<'a>,
+) -> Result<(u16, Vec<&'a str>), LineFault>
+    ensures ok { IfOk result (λ read. ReadsCheck (rows_of (found_of found.now)) read.0
+        (map (λ file. file.now) read.1.items)) }
     ensures no_help { IfErr result (λ fault. (words : List (List ℕ)) → IsLineFault words fault) }
 {
     let Some(workers) = found.get_one::<u16>("workers") else {
         return Err(LineFault::Refused);
     };
     match files_of(alloc, found) {
-        Ok(files) => Ok(Line::Check { workers, files }),
+        Ok(files) => Ok((workers, files)),
         Err(_) => Err(LineFault::Memory),
     }
+}
+
+// What the words of `check` ask for.
+fn check_line<'a>(alloc: Global, found: &ArgMatches<'a>) -> Result<Line<'a>, LineFault>
+    ensures ok { IfOk result (λ line. (subcommand_word line ≡ codes "check")
+        × ReadsLine (rows_of (found_of found.now)) line) }
+    ensures no_help { IfErr result (λ fault. (words : List (List ℕ)) → IsLineFault words fault) }
+{
+    let (workers, files) = workers_and_files(alloc, found)?;
+    Ok(Line::Check { workers, files })
+}
+
+// What the words of `explain` ask for.
+fn explain_line<'a>(alloc: Global, found: &ArgMatches<'a>) -> Result<Line<'a>, LineFault>
+    ensures ok { IfOk result (λ line. (subcommand_word line ≡ codes "explain")
+        × ReadsLine (rows_of (found_of found.now)) line) }
+    ensures no_help { IfErr result (λ fault. (words : List (List ℕ)) → IsLineFault words fault) }
+{
+    let (workers, files) = workers_and_files(alloc, found)?;
+    Ok(Line::Explain { workers, files })
+}
+
+// What the words of `graph` ask for.
+fn graph_line<'a>(alloc: Global, found: &ArgMatches<'a>) -> Result<Line<'a>, LineFault>
+    ensures ok { IfOk result (λ line. (subcommand_word line ≡ codes "graph")
+        × ReadsLine (rows_of (found_of found.now)) line) }
+    ensures no_help { IfErr result (λ fault. (words : List (List ℕ)) → IsLineFault words fault) }
+{
+    let (workers, files) = workers_and_files(alloc, found)?;
+    let findings = found.get_flag("findings");
+    Ok(Line::Graph {
+        workers,
+        findings,
+        files,
+    })
 }
 
 // What the words of a subcommand ask for.
@@ -134,6 +226,12 @@ fn line_of<'a>(alloc: Global, matches: &ArgMatches<'a>) -> Result<Line<'a>, Line
 {
     if let Some(found) = matches.subcommand_matches("check") {
         return check_line(alloc, found);
+    }
+    if let Some(found) = matches.subcommand_matches("explain") {
+        return explain_line(alloc, found);
+    }
+    if let Some(found) = matches.subcommand_matches("graph") {
+        return graph_line(alloc, found);
     }
     match matches.subcommand_matches("chains") {
         Some(found) => Ok(Line::Chains {
@@ -157,7 +255,8 @@ fn fault_of(error: clap::Error) -> LineFault
 }
 
 /// What the command line asks for. The words begin with the program's name, and are read as `clap` defines it: `check
-/// [--workers N] [FILE...]`, with N a whole number from 0 to 65,535 and 4 where it isn't given, and `chains [FILE]`.
+/// [--workers N] [FILE...]`, with N a whole number from 0 to 65,535 and 4 where it isn't given, `explain [--workers N]
+/// [FILE...]`, `graph [--workers N] [--findings] [FILE...]` and `chains [FILE]`.
 ///
 /// Refusals: `Help` where help or the version is asked for, `Memory` where memory is refused, and `Refused` for every other
 /// line that isn't taken [this project's own].

@@ -10,9 +10,11 @@ use std::{env, io};
 mod because;
 mod chains_text;
 mod command_line;
+mod explanation;
 mod fault;
 mod order;
 mod output;
+mod picture;
 mod program;
 mod refusal;
 mod report;
@@ -20,6 +22,7 @@ mod session;
 mod source;
 #[cfg(test)]
 mod tests;
+mod wanted;
 mod words;
 
 use program::program;

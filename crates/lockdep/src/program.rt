@@ -1,6 +1,6 @@
 //! The program: a command line, the traces that it names, and what is written for them.
 
-ghost use Rattle.std.specs.Prelude.{◌≡◌, ◌<◌, ◌≤◌, ◌+◌, ◌∷◌, ◌++◌, [], ℕ, List, Option, None, All, IfOk, IfErr, IfSome, OnOk, length, map, option_map};
+ghost use Rattle.std.specs.Prelude.{◌≡◌, ◌<◌, ◌≤◌, ◌+◌, ◌∷◌, ◌++◌, [], ℕ, List, Option, None, All, IfOk, IfErr, IfSome, IsTrue, OnOk, ◌↔◌, length, map, option_map};
 ghost use Rattle.std.specs.Io.KnownBytes.{Appends};
 ghost use Rattle.ld_trace.specs.Events.{KeysBelow};
 ghost use Rattle.ld_trace.specs.Reading.{ReadsTo};
@@ -11,9 +11,15 @@ ghost use Rattle.lockdep.specs.Inside.Sources.{remaining_in};
 ghost use Rattle.lockdep.specs.ChainLines.{chains_text};
 ghost use Rattle.lockdep.specs.CommandLine.{IsLineFault};
 ghost use Rattle.lockdep.specs.FaultLines.{fault_line};
+ghost use Rattle.lockdep.specs.Faults.{StopsText};
 ghost use Rattle.lockdep.specs.Output.{AppendsBeginning};
-ghost use Rattle.lockdep.specs.Program.{AreTracesOf, DoesLine, DoesWords, IsReadingRefusal, IsReportRefusal, IsStepRefusal, RefusesChains, RefusesHelp, RefusesLine, RefusesNoLine, RefusesOpened, RefusesReport, RefusesTrace, RefusesTraces, RefusesWords, ReportsOn, StopsReading, WritesChains, WritesHelp, WritesReport, file_at, known_of, write_refusal_of};
+ghost use Rattle.lockdep.specs.Program.{AreTracesOf, DoesLine, DoesWords, IsReadingRefusal, IsReportRefusal, IsStepRefusal, RefusesChains, RefusesHelp, RefusesLine, RefusesNoLine, RefusesOpened, RefusesText, RefusesTrace, RefusesTraces, RefusesWords, StopsReading, TellsOf, WritesChains, WritesHelp, WritesText, known_of, write_refusal_of};
+ghost use Rattle.lockdep.specs.Texts.{IsTextOf};
 ghost use Rattle.lockdep.specs.declared.refusal.Refusal.{Refusal};
+ghost use Rattle.ld_graph.specs.Links.{IsClean};
+ghost use Rattle.ld_run.specs.Runs.{IsCrew};
+ghost use Rattle.ld_run.specs.TraceFacts.{TracesHave};
+ghost use Rattle.ld_run.specs.declared.runs.TheConstants.{MAX_TRACES};
 
 use crate::chains_text::write_chains;
 use crate::command_line::{Line, LineFault, command_line};
@@ -22,6 +28,8 @@ use crate::output::write_text;
 use crate::refusal::{Refusal, refuse};
 use crate::session::Session;
 use crate::source::Source;
+use crate::wanted::Wanted;
+use crate::words::{STDIN, file_of};
 use ld_run::OpenGate;
 use ld_task::{StepAt, check};
 use ld_trace::{KeyTable, RawTrace, read_trace};
@@ -35,20 +43,19 @@ use std::thread::Threads;
 /// The status where the facts are clean, the chains were written, or help was.
 const DONE: u8 = 0;
 
-/// The status where a report was written whose facts aren't clean.
+/// The status where a text was written of facts that aren't clean.
 const NOT_CLEAN: u8 = 1;
 
-/// What fault lines call the trace on standard input.
-const STDIN: &str = "stdin";
-
 /// The program. The words begin with its name, `input` stands for standard input, `out` for standard output and `err` for
-/// standard error. `lockdep check [--workers N] [FILE...]` writes the report of the traces in these files, and `lockdep
-/// chains [FILE]` the chains of a trace. Without a file one trace is read from the input. Each file is opened and read
-/// before the next one is. `lockdep --version` writes the version, and `lockdep help` how the program is called.
+/// standard error. `lockdep check [--workers N] [FILE...]` writes the report of the traces in these files, `lockdep explain`
+/// what was found in them and the records that it comes from, `lockdep graph [--findings]` a picture of their facts, and
+/// `lockdep chains [FILE]` the chains of a trace. Without a file one trace is read from the input. Each file is opened and
+/// read before the next one is. `lockdep --version` writes the version, and `lockdep help` how the program is called.
 ///
-/// The status is 0 where the facts are clean, the chains were written, or what was asked for was help or the version; 1 where a report
-/// was written whose facts aren't clean; and 2 where the program refused. Exactly one line is written on `err` then, and
-/// none otherwise; where `err` fails, that is passed over. This project's own.
+/// The status is 0 where the facts are clean, the chains were written, or what was asked for was help or the version; 1
+/// where a report, an explanation or a picture was written of facts that aren't clean; and 2 where the program refused.
+/// Exactly one line is written on `err` then, and none otherwise; where `err` fails, that is passed over. This project's
+/// own.
 pub fn program<R: Files + Threads + Wait + Sync, I: Read + Drop, O: Write, E: Write>(
     rt: &R,
     alloc: Global,
@@ -106,7 +113,22 @@ fn answer_line<'a, R: Files + Threads + Wait + Sync, I: Read + Drop, O: Write>(
 {
     match line {
         Line::Check { workers, files } => {
-            answer_check(rt, alloc, *workers, files.as_slice(), input, out)
+            let files = files.as_slice();
+            answer_traces(rt, alloc, Wanted::Report, *workers, files, input, out)
+        }
+        Line::Explain { workers, files } => {
+            let files = files.as_slice();
+            answer_traces(rt, alloc, Wanted::Explanation, *workers, files, input, out)
+        }
+        Line::Graph {
+            workers,
+            findings,
+            files,
+        } => {
+            let wanted = Wanted::Picture {
+                findings: *findings,
+            };
+            answer_traces(rt, alloc, wanted, *workers, files.as_slice(), input, out)
         }
         Line::Chains { file } => answer_chains(rt, alloc, *file, input, out),
     }
@@ -150,46 +172,76 @@ fn answer_help<'a, O: Write>(
     }
 }
 
-// Writes the report of the traces in the files, or of the one in the input where there are none.
-fn answer_check<'a, R: Files + Threads + Wait + Sync, I: Read + Drop, O: Write>(
+// Writes the text that is wanted of the traces in the files, or of the one in the input where there are none.
+fn answer_traces<'a, R: Files + Threads + Wait + Sync, I: Read + Drop, O: Write>(
     rt: &R,
     alloc: Global,
+    wanted: Wanted,
     workers: u16,
     files: &[&'a str],
     input: I,
     out: &mut O,
 ) -> Result<u8, Refusal<'a>>
-    ensures ok { IfOk result (ReportsOn workers (map (λ file. file.now) files.entry.now) (I.remaining input)
+    ensures ok { IfOk result (TellsOf wanted workers (map (λ file. file.now) files.entry.now) (I.remaining input)
         (O.contents out.old) (O.contents out.new)) }
-    ensures err { IfErr result (RefusesReport workers (map (λ file. file.now) files.entry.now) (I.remaining input)
-        (O.contents out.old) (O.contents out.new)) }
+    ensures err { IfErr result (RefusesText wanted workers (map (λ file. file.now) files.entry.now)
+        (I.remaining input) (O.contents out.old) (O.contents out.new)) }
 {
     let Ok(mut session) = Session::new(alloc) else {
         return Err(Refusal::Memory);
     };
     match add_traces(rt, &mut session, files, input) {
-        Ok(()) => report_session(rt, alloc, workers, files, session, out),
+        Ok(()) => answer_session(rt, alloc, wanted, workers, files, session, out),
         Err(refusal) => Err(refusal),
     }
 }
 
-// Writes the report of the session's traces, which are those of the files.
-fn report_session<'a, R: Threads + Wait + Sync, O: Write>(
+// Writes the text that is wanted of the session's traces, which are those of the files.
+fn answer_session<'a, R: Threads + Wait + Sync, O: Write>(
     rt: &R,
     alloc: Global,
+    wanted: Wanted,
     workers: u16,
     files: &[&'a str],
     session: Session,
     out: &mut O,
 ) -> Result<u8, Refusal<'a>>
-    ensures ok { IfOk result (WritesReport workers session.names session.traces
-        (O.contents out.old) (O.contents out.new)) }
-    ensures err { IfErr result (RefusesTraces workers (map (λ file. file.now) files.entry.now)
+    ensures ok { IfOk result (WritesText wanted workers (map (λ file. file.now) files.entry.now)
+        session.names session.traces (O.contents out.old) (O.contents out.new)) }
+    ensures err { IfErr result (RefusesTraces wanted workers (map (λ file. file.now) files.entry.now)
         session.names session.traces (O.contents out.old) (O.contents out.new)) }
 {
-    match session.report(rt, alloc, workers, &OpenGate, out) {
+    match write_session(rt, alloc, wanted, workers, files, session, out) {
         Ok(clean) => Ok(if clean { DONE } else { NOT_CLEAN }),
         Err(fault) => Err(report_refusal(files, fault)),
+    }
+}
+
+// The same, with the answer whether their facts are clean.
+fn write_session<R: Threads + Wait + Sync, O: Write>(
+    rt: &R,
+    alloc: Global,
+    wanted: Wanted,
+    workers: u16,
+    files: &[&str],
+    session: Session,
+    out: &mut O,
+) -> Result<bool, ReportFault>
+    ensures ok { IfOk result (λ clean. All IsWellFormed session.traces
+        × (IsTrue clean ↔ IsClean (TracesHave session.traces))
+        × ((text : List ℕ)
+        × IsTextOf wanted session.traces session.names (map (λ file. file.now) files.entry.now) text
+        × Appends (O.contents out.old) (O.contents out.new) text)) }
+    ensures crew { OnOk result (IsCrew workers × (length session.traces ≤ MAX_TRACES)) }
+    ensures refused { IfErr result (StopsText wanted session.traces session.names
+        (map (λ file. file.now) files.entry.now) workers (O.contents out.old) (O.contents out.new)) }
+{
+    match wanted {
+        Wanted::Report => session.report(rt, alloc, workers, &OpenGate, out),
+        Wanted::Explanation => session.explain(rt, alloc, workers, &OpenGate, files, out),
+        Wanted::Picture { findings } => {
+            session.graph(rt, alloc, workers, &OpenGate, findings, out)
+        }
     }
 }
 
@@ -362,11 +414,4 @@ fn report_refusal<'a>(files: &[&'a str], fault: ReportFault) -> Refusal<'a>
         ReportFault::Run(fault) => Refusal::Run(fault),
         ReportFault::Out(fault) => write_refusal(fault),
     }
-}
-
-// The name of the file that the trace at this place was read from. Where no file is named, it is standard input.
-fn file_of<'a>(files: &[&'a str], place: usize) -> &'a str
-    ensures { result.now ≡ file_at (map (λ file. file.now) files.entry.now) place }
-{
-    files.get(place).copied().unwrap_or(STDIN)
 }

@@ -19,13 +19,13 @@ use std::alloc::{AllocError, Global};
 use std::io::Write;
 
 // The four kinds, in the report's order.
-const KINDS: [Kind; 4] = [Kind::Er, Kind::En, Kind::Sr, Kind::Sn];
+pub(crate) const KINDS: [Kind; 4] = [Kind::Er, Kind::En, Kind::Sr, Kind::Sn];
 
 // The two states, in the report's order.
-const STATES: [Irq; 2] = [Irq::Hard, Irq::Soft];
+pub(crate) const STATES: [Irq; 2] = [Irq::Hard, Irq::Soft];
 
 // The four columns of a usage line: each state, not read and read.
-const FORMS: [(Irq, bool); 4] = [
+pub(crate) const FORMS: [(Irq, bool); 4] = [
     (Irq::Hard, false),
     (Irq::Hard, true),
     (Irq::Soft, false),
@@ -216,17 +216,6 @@ impl ReportView<'_> {
         Ok(())
     }
 
-    // What the usage line says of one state and form.
-    fn usage_character(self, key: KeyId, irq: Irq, read: bool) -> &'static str
-        ensures { IsUsageCharacter (HasFact self.entry.settled.now) key irq read result.now }
-    {
-        let enabled = self
-            .settled
-            .has_mark(key.get(), Mark::Enabled { irq, read });
-        let used_in = self.settled.has_mark(key.get(), Mark::UsedIn { irq, read });
-        character_of(enabled, used_in)
-    }
-
     // The four characters of a key's usage line.
     fn add_characters(self, text: &mut String, key: KeyId) -> Result<(), AllocError>
         ensures { OnOk result (GrowsBy
@@ -234,7 +223,7 @@ impl ReportView<'_> {
             (string_bytes text.old) (string_bytes text.new)) }
     {
         for form in FORMS {
-            text.push_str(self.usage_character(key, form.0, form.1))?;
+            text.push_str(usage_character(self.settled, key, form.0, form.1))?;
         }
         Ok(())
     }
@@ -308,7 +297,7 @@ fn report_text(
 }
 
 // The line of a word and its number.
-fn add_total(text: &mut String, word: &str, number: u128) -> Result<(), AllocError>
+pub(crate) fn add_total(text: &mut String, word: &str, number: u128) -> Result<(), AllocError>
     ensures { OnOk result (string_bytes text.new ≡ string_bytes text.old ++ total_line word.now number) }
 {
     writeln!(text, "{word} {number}")
@@ -319,6 +308,15 @@ fn add_clean(text: &mut String, clean: bool) -> Result<(), AllocError>
     ensures { OnOk result (string_bytes text.new ≡ string_bytes text.old ++ clean_line clean) }
 {
     text.push_str(if clean { "clean yes\n" } else { "clean no\n" })
+}
+
+// What the usage line of a key says of one state and form.
+pub(crate) fn usage_character(settled: &Settled, key: KeyId, irq: Irq, read: bool) -> &'static str
+    ensures { IsUsageCharacter (HasFact settled.now) key irq read result.now }
+{
+    let enabled = settled.has_mark(key.get(), Mark::Enabled { irq, read });
+    let used_in = settled.has_mark(key.get(), Mark::UsedIn { irq, read });
+    character_of(enabled, used_in)
 }
 
 // The usage character of a state that a key was used with enabled, and used in, or not.

@@ -1,6 +1,6 @@
-//! A session: traces that are read one after the other, and the report of all of them.
+//! A session: traces that are read one after the other, and the texts that are written of all of them.
 
-ghost use Rattle.std.specs.Prelude.{◌≡◌, ◌+◌, ◌<◌, ◌≤◌, ◌∷◌, ◌++◌, [], ℕ, List, Option, All, length, slice_get, IfOk, IfErr, IfSome, IsErrOf, IsOkAnd, IsSomeAnd, IsTrue, OnOk, ◌↔◌};
+ghost use Rattle.std.specs.Prelude.{◌≡◌, ◌+◌, ◌<◌, ◌≤◌, ◌∷◌, ◌++◌, [], ℕ, List, Option, All, length, map, slice_get, IfOk, IfErr, IfSome, IsErrOf, IsOkAnd, IsSomeAnd, IsTrue, OnOk, ◌↔◌};
 ghost use Rattle.std.specs.Io.KnownBytes.{Appends};
 ghost use Rattle.ld_trace.specs.declared.event.Event.{Event};
 ghost use Rattle.ld_trace.specs.declared.trace_fault.TraceFaultKind.{TraceFaultKind};
@@ -13,13 +13,20 @@ ghost use Rattle.ld_run.specs.Runs.{IsCrew, StopsRun};
 ghost use Rattle.ld_run.specs.declared.runs.TheConstants.{MAX_TRACES};
 ghost use Rattle.ld_graph.specs.FactBits.{HasFact};
 ghost use Rattle.ld_graph.specs.Facts.{AreSame};
-ghost use Rattle.lockdep.specs.Faults.{StopsReport, StopsWriting};
+ghost use Rattle.lockdep.specs.Explanation.{IsExplanationOf};
+ghost use Rattle.lockdep.specs.Faults.{StopsReport, StopsText, StopsWriting};
 ghost use Rattle.lockdep.specs.declared.fault.WriteFault.{WriteFault};
+ghost use Rattle.lockdep.specs.Picture.{IsPictureOf};
 ghost use Rattle.lockdep.specs.Report.{IsReportOf};
+ghost use Rattle.lockdep.specs.Texts.{IsTextOf};
+ghost use Rattle.lockdep.specs.declared.wanted.Wanted.{Wanted};
 ghost use Rattle.ld_run.specs.TraceFacts.{TracesHave};
 
-use crate::fault::ReportFault;
+use crate::explanation::write_explanation;
+use crate::fault::{ReportFault, WriteFault};
+use crate::picture::write_picture;
 use crate::report::write_report;
+use crate::wanted::Wanted;
 use ld_run::{Gate, RunFault, Settled, run};
 use ld_trace::{KeyFault, KeyTable, RawTrace, TraceFault, TraceFaultKind, read_trace};
 use std::alloc::Global;
@@ -101,12 +108,84 @@ impl Session {
         ensures refused { IfErr result (StopsReport self.traces self.names workers
             (W.contents w.old) (W.contents w.new)) }
     {
-        report_traces(
+        write_traces(
             rt,
             alloc,
             workers,
             gate,
             w,
+            Wanted::Report,
+            &[],
+            self.traces.as_slice(),
+            &self.keys,
+        )
+    }
+
+    /// Checks all traces as `report` does, writes what was found in them and, for each dependency and mark that a finding is
+    /// made of, the record where it first occurs, and answers whether the facts are clean. `files` are the names of the traces,
+    /// in their order; where one lacks it is called `stdin`. The session is consumed in every case.
+    ///
+    /// Refusals are those of `report`, with O3 also where memory for the origins is refused [this project's own].
+    pub fn explain<R: Threads + Wait + Sync, W: Write, G: Gate + Sync>(
+        self,
+        rt: &R,
+        alloc: Global,
+        workers: u16,
+        gate: &G,
+        files: &[&str],
+        w: &mut W,
+    ) -> Result<bool, ReportFault>
+        ensures ok { IfOk result (λ clean. All IsWellFormed self.traces
+            × (IsTrue clean ↔ IsClean (TracesHave self.traces))
+            × ((text : List ℕ)
+            × IsExplanationOf self.traces self.names (map (λ file. file.now) files.entry.now) text
+            × Appends (W.contents w.old) (W.contents w.new) text)) }
+        ensures crew { OnOk result (IsCrew workers × (length self.traces ≤ MAX_TRACES)) }
+        ensures refused { IfErr result (StopsText Wanted.Explanation self.traces self.names
+            (map (λ file. file.now) files.entry.now) workers (W.contents w.old) (W.contents w.new)) }
+    {
+        write_traces(
+            rt,
+            alloc,
+            workers,
+            gate,
+            w,
+            Wanted::Explanation,
+            files,
+            self.traces.as_slice(),
+            &self.keys,
+        )
+    }
+
+    /// Checks all traces as `report` does, writes their facts as a graph in the language DOT, only what is part of a finding if
+    /// `findings` is set, and answers whether the facts are clean. The session is consumed in every case.
+    ///
+    /// Refusals are those of `report` [this project's own].
+    pub fn graph<R: Threads + Wait + Sync, W: Write, G: Gate + Sync>(
+        self,
+        rt: &R,
+        alloc: Global,
+        workers: u16,
+        gate: &G,
+        findings: bool,
+        w: &mut W,
+    ) -> Result<bool, ReportFault>
+        ensures ok { IfOk result (λ clean. All IsWellFormed self.traces
+            × (IsTrue clean ↔ IsClean (TracesHave self.traces))
+            × ((text : List ℕ) × IsPictureOf findings self.traces self.names text
+            × Appends (W.contents w.old) (W.contents w.new) text)) }
+        ensures crew { OnOk result (IsCrew workers × (length self.traces ≤ MAX_TRACES)) }
+        ensures refused { IfErr result (StopsText (Wanted.Picture findings) self.traces self.names []
+            workers (W.contents w.old) (W.contents w.new)) }
+    {
+        write_traces(
+            rt,
+            alloc,
+            workers,
+            gate,
+            w,
+            Wanted::Picture { findings },
+            &[],
             self.traces.as_slice(),
             &self.keys,
         )
@@ -150,26 +229,29 @@ fn no_room() -> TraceFault
     }
 }
 
-// Checks the traces, writes their report, and answers whether their facts are clean.
-fn report_traces<R: Threads + Wait + Sync, W: Write, G: Gate + Sync>(
+// Checks the traces, writes the text that is wanted of them, and answers whether their facts are clean.
+fn write_traces<R: Threads + Wait + Sync, W: Write, G: Gate + Sync>(
     rt: &R,
     alloc: Global,
     workers: u16,
     gate: &G,
     w: &mut W,
+    wanted: Wanted,
+    files: &[&str],
     traces: &[RawTrace],
     keys: &KeyTable,
 ) -> Result<bool, ReportFault>
     requires { All (KeysBelow (length keys.now)) traces.now }
     ensures ok { IfOk result (λ clean. All IsWellFormed traces.now
         × (IsTrue clean ↔ IsClean (TracesHave traces.now))
-        × ((text : List ℕ) × IsReportOf traces.now keys.now text
+        × ((text : List ℕ) × IsTextOf wanted traces.now keys.now (map (λ file. file.now) files.entry.now) text
         × Appends (W.contents w.old) (W.contents w.new) text)) }
     ensures crew { OnOk result (IsCrew workers × (length traces.now ≤ MAX_TRACES)) }
-    ensures refused { IfErr result (StopsReport traces.now keys.now workers (W.contents w.old) (W.contents w.new)) }
+    ensures refused { IfErr result (StopsText wanted traces.now keys.now
+        (map (λ file. file.now) files.entry.now) workers (W.contents w.old) (W.contents w.new)) }
 {
     match run(rt, alloc, traces, keys.len() as u16, workers, gate) {
-        Ok(settled) => write_settled(alloc, w, &settled, traces, keys),
+        Ok(settled) => write_settled(alloc, w, wanted, &settled, traces, keys, files),
         Err(fault) => Err(run_fault(fault, traces)),
     }
 }
@@ -177,8 +259,9 @@ fn report_traces<R: Threads + Wait + Sync, W: Write, G: Gate + Sync>(
 // What a refused run over these traces comes to.
 fn run_fault(fault: RunFault, traces: &[RawTrace]) -> ReportFault
     requires { (workers : ℕ) × StopsRun traces.now workers fault }
-    ensures { (workers : ℕ) (known : Option (List ℕ)) → StopsRun traces.now workers fault → (names : List Name)
-        → StopsReport traces.now names workers known known result }
+    ensures { (workers : ℕ) (known : Option (List ℕ)) → StopsRun traces.now workers fault
+        → (wanted : Wanted) (names : List Name) (files : List (List ℕ))
+        → StopsText wanted traces.now names files workers known known result }
 {
     match fault {
         RunFault::Refused {
@@ -206,23 +289,57 @@ fn record_of(traces: &[RawTrace], trace: usize, place: usize) -> usize
     place + 2
 }
 
-// Writes the report of the settled facts of the traces.
+// Writes the text that is wanted of the settled facts of the traces.
 fn write_settled<W: Write>(
     alloc: Global,
     w: &mut W,
+    wanted: Wanted,
     settled: &Settled,
     traces: &[RawTrace],
     keys: &KeyTable,
+    files: &[&str],
 ) -> Result<bool, ReportFault>
-    requires { AreSame (HasFact settled.now) (TracesHave traces.now) }
+    requires below { All (KeysBelow (length keys.now)) traces.now }
+    requires few { length traces.now ≤ MAX_TRACES }
+    requires well_formed { All IsWellFormed traces.now }
+    requires facts { AreSame (HasFact settled.now) (TracesHave traces.now) }
     ensures ok { IfOk result (λ clean. (IsTrue clean ↔ IsClean (TracesHave traces.now))
-        × ((text : List ℕ) × IsReportOf traces.now keys.now text
+        × ((text : List ℕ) × IsTextOf wanted traces.now keys.now (map (λ file. file.now) files.entry.now) text
         × Appends (W.contents w.old) (W.contents w.new) text)) }
     ensures refused { IfErr result (λ fault. (out : WriteFault) × (fault ≡ ReportFault.Out out)
-        × StopsWriting (IsReportOf traces.now keys.now) (W.contents w.old) (W.contents w.new) out) }
+        × StopsWriting (IsTextOf wanted traces.now keys.now (map (λ file. file.now) files.entry.now))
+        (W.contents w.old) (W.contents w.new) out) }
 {
-    match write_report(alloc, w, settled, traces, keys) {
+    match write_text_of(alloc, w, wanted, settled, traces, keys, files) {
         Ok(()) => Ok(settled.is_clean()),
         Err(fault) => Err(ReportFault::Out(fault)),
+    }
+}
+
+// Writes the text that is wanted.
+fn write_text_of<W: Write>(
+    alloc: Global,
+    w: &mut W,
+    wanted: Wanted,
+    settled: &Settled,
+    traces: &[RawTrace],
+    keys: &KeyTable,
+    files: &[&str],
+) -> Result<(), WriteFault>
+    requires below { All (KeysBelow (length keys.now)) traces.now }
+    requires few { length traces.now ≤ MAX_TRACES }
+    requires well_formed { All IsWellFormed traces.now }
+    requires facts { AreSame (HasFact settled.now) (TracesHave traces.now) }
+    ensures ok { OnOk result ((text : List ℕ)
+        × IsTextOf wanted traces.now keys.now (map (λ file. file.now) files.entry.now) text
+        × Appends (W.contents w.old) (W.contents w.new) text) }
+    ensures err { IfErr result (StopsWriting
+        (IsTextOf wanted traces.now keys.now (map (λ file. file.now) files.entry.now))
+        (W.contents w.old) (W.contents w.new)) }
+{
+    match wanted {
+        Wanted::Report => write_report(alloc, w, settled, traces, keys),
+        Wanted::Explanation => write_explanation(alloc, w, settled, traces, keys, files),
+        Wanted::Picture { findings } => write_picture(alloc, w, settled, keys, findings),
     }
 }

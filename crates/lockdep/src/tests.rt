@@ -5,6 +5,7 @@ mod files;
 mod gates;
 mod helpers;
 mod lines;
+mod pictures;
 mod programs;
 mod refusals;
 mod reports;

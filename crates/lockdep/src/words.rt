@@ -1,12 +1,22 @@
 //! Words of the program's texts.
 
-ghost use Rattle.std.specs.Prelude.{◌≡◌, ◌+◌, ◌<◌, ◌≤◌, ◌++◌, [], ◌∷◌, decimal, length};
-ghost use Rattle.lockdep.specs.Words.{flag_text, frame_text, irq_text, kind_text, mode_text, name_at};
+ghost use Rattle.std.specs.Prelude.{◌≡◌, ◌+◌, ◌<◌, ◌≤◌, ◌++◌, [], ◌∷◌, decimal, length, map};
+ghost use Rattle.lockdep.specs.Words.{file_at, flag_text, frame_text, irq_text, kind_text, mode_text, name_at};
 
 use arrayvec::ArrayString;
 use ld_graph::Kind;
 use ld_task::Frame;
 use ld_trace::{Irq, KeyId, KeyTable, MAX_NAME, Mode};
+
+/// What texts call the trace on standard input.
+pub(crate) const STDIN: &str = "stdin";
+
+/// The name of the file that the trace at this place was read from. Where no file is named, it is standard input.
+pub(crate) fn file_of<'a>(files: &[&'a str], place: usize) -> &'a str
+    ensures { result.now ≡ file_at (map (λ file. file.now) files.entry.now) place }
+{
+    files.get(place).copied().unwrap_or(STDIN)
+}
 
 /// The class's name and the subclass of a key; an empty name where there is no such key.
 pub(crate) fn name_of(keys: &KeyTable, key: KeyId) -> (&str, u8)

@@ -8,7 +8,7 @@ use Rattle.ld_graph.specs.Facts.{DependenciesOf}
 use Rattle.ld_graph.specs.FactBits.{FactParts, HasFact}
 use Rattle.ld_graph.specs.Numbers.{kind_number}
 use Rattle.ld_graph.specs.Inside.Bits.{has_bit, count_below}
-use Rattle.ld_graph.specs.declared.circle.TheConstants.{MAX_CIRCLE}
+use Rattle.ld_graph.specs.declared.walk.TheConstants.{MAX_WALK}
 use Rattle.ld_graph.specs.declared.places.TheConstants.{PLACES, ROW_WORDS}
 use Rattle.ld_trace.specs.declared.key_id.TheConstants.{MAX_KEYS}
 use Rattle.ld_graph.specs.Inside.Places.{arrival, Leaves, Leads}
@@ -21,9 +21,9 @@ use Rattle.ld_graph.specs.declared.search.Step.{Step}
 abbrev pub IsOfKeys : Dependency → Type 0
 IsOfKeys d = (d.from < MAX_KEYS) × (d.to < MAX_KEYS)
 
--- the members of a circle: as many as there can be keys, or fewer
+-- the members of a walk: as many as there are places, or fewer
 pub record AreMembers (members : List Dependency) : Type 0 where
-  pub few : length members ≤ MAX_CIRCLE
+  pub few : length members ≤ MAX_WALK
   pub below : (i : ℕ) (d : Dependency) → slice_get members i ≡ Some d → IsOfKeys d
 
 -- ---- the dependencies from one key, in a row
@@ -163,3 +163,12 @@ Avoids facts done d = DependenciesOf (HasFact facts) d × IsFalse (has_bit done 
 abbrev pub LeastThrough : FactParts → List ℕ → (place n : ℕ) → Type 0
 LeastThrough facts done place n = (a : Arrow) (rest : List Arrow) → ClosedWalk (Avoids facts done) a rest →
     arrival a ≡ place → n ≤ length (a ∷ rest)
+
+-- ---- walks that lead back
+-- the arrows lead, by one or more, from where l arrives to a place that it leaves
+abbrev pub LeadsRound : (Arrow → Type 0) → Arrow → List Arrow → Type 0
+LeadsRound In l way = (0 < length way) × ((q : ℕ) × Leaves l q × GoesTo In (arrival l) way q)
+
+-- none that do are fewer than n
+abbrev pub LeastRound : (Arrow → Type 0) → Arrow → ℕ → Type 0
+LeastRound In l n = (way : List Arrow) → LeadsRound In l way → n ≤ length way

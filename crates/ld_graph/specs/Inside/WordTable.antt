@@ -4,7 +4,7 @@ use Rattle.ld_graph.specs.declared.chain_words.TheConstants.{MAX_WORDS, SEEN_WOR
 use Rattle.ld_graph.specs.Inside.Bits.{has_bit}
 use Rattle.std.specs.Int.{bit_at}
 use Rattle.ld_task.specs.Chains.{ChainParts}
-use Rattle.ld_graph.specs.Inside.ChainFacts.{chain_fact, StandsIn}
+use Rattle.ld_graph.specs.ChainFacts.{chain_fact, StandsIn}
 use Rattle.ld_graph.specs.Numbers.{fact_number, mark_index}
 use Rattle.ld_graph.specs.WordPairs.{bits_of}
 use Rattle.ld_task.specs.declared.mark.Mark.{Mark}

@@ -41,6 +41,76 @@ fn workers_and_files_of_a_check(rt: HostRuntime) -> Result<(), Fail> {
 }
 
 #[test]
+fn workers_and_files_of_an_explanation(rt: HostRuntime) -> Result<(), Fail> {
+    let examples: [(&[&str], u16, &[&str]); 5] = [
+        (&["lockdep", "explain"], 4, &[]),
+        (&["lockdep", "explain", "b", "a"], 4, &["b", "a"]),
+        (&["lockdep", "explain", "a", "--workers", "2"], 2, &["a"]),
+        (&["lockdep", "explain", "--workers=0"], 0, &[]),
+        (
+            &["lockdep", "explain", "--", "--findings"],
+            4,
+            &["--findings"],
+        ),
+    ];
+    for (words, workers, files) in examples {
+        match command_line(rt.alloc(), words) {
+            Ok(
+                Line::Explain {
+                    workers: got,
+                    files: named,
+                },
+            ) => {
+                assert_eq!(rt; got, workers, "{words:?}");
+                assert_eq!(rt; named.as_slice(), files, "{words:?}");
+            }
+            other => panic!(rt; "{words:?}: {other:?}"),
+        }
+    }
+    Ok(())
+}
+
+#[test]
+fn workers_findings_and_files_of_a_graph(rt: HostRuntime) -> Result<(), Fail> {
+    let examples: [(&[&str], (u16, bool), &[&str]); 6] = [
+        (&["lockdep", "graph"], (4, false), &[]),
+        (&["lockdep", "graph", "--findings"], (4, true), &[]),
+        (&["lockdep", "graph", "a", "b"], (4, false), &["a", "b"]),
+        (
+            &["lockdep", "graph", "a", "--findings", "b"],
+            (4, true),
+            &["a", "b"],
+        ),
+        (
+            &["lockdep", "graph", "--findings", "--workers", "2", "a"],
+            (2, true),
+            &["a"],
+        ),
+        (
+            &["lockdep", "graph", "--", "--findings"],
+            (4, false),
+            &["--findings"],
+        ),
+    ];
+    for (words, asked, files) in examples {
+        match command_line(rt.alloc(), words) {
+            Ok(
+                Line::Graph {
+                    workers,
+                    findings,
+                    files: named,
+                },
+            ) => {
+                assert_eq!(rt; (workers, findings), asked, "{words:?}");
+                assert_eq!(rt; named.as_slice(), files, "{words:?}");
+            }
+            other => panic!(rt; "{words:?}: {other:?}"),
+        }
+    }
+    Ok(())
+}
+
+#[test]
 fn the_file_of_chains(rt: HostRuntime) -> Result<(), Fail> {
     let examples: [(&[&str], Option<&str>); 3] = [
         (&["lockdep", "chains"], None),

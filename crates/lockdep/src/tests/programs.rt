@@ -92,7 +92,7 @@ fn refused_traces_name_their_record_and_code(rt: HostRuntime) -> Result<(), Fail
         ),
     ];
     for (input, line) in examples {
-        for word in ["check", "chains"] {
+        for word in ["check", "explain", "graph", "chains"] {
             assert_output(&rt, &["lockdep", word], input, (2, "", line))?;
         }
     }
@@ -101,7 +101,7 @@ fn refused_traces_name_their_record_and_code(rt: HostRuntime) -> Result<(), Fail
 
 #[test]
 fn refused_command_lines(rt: HostRuntime) -> Result<(), Fail> {
-    let examples: [&[&str]; 18] = [
+    let examples: [&[&str]; 27] = [
         &[],
         &["lockdep"],
         &["lockdep", "test"],
@@ -117,6 +117,15 @@ fn refused_command_lines(rt: HostRuntime) -> Result<(), Fail> {
         &["lockdep", "check", "--workers", "two"],
         &["lockdep", "check", "--workers", "2", "--workers", "2"],
         &["lockdep", "check", "--threads", "2"],
+        &["lockdep", "check", "--findings"],
+        &["lockdep", "explain", "--findings"],
+        &["lockdep", "explain", "--graph"],
+        &["lockdep", "explain", "--workers", "65536"],
+        &["lockdep", "--findings", "graph"],
+        &["lockdep", "graph", "--finding"],
+        &["lockdep", "graph", "--findings=true"],
+        &["lockdep", "graph", "--findings", "--findings"],
+        &["lockdep", "graph", "--workers", "-1"],
         &["lockdep", "chains", "--workers", "2"],
         &["lockdep", "chains", "a.txt", "b.txt"],
         &["lockdep", "help", "test"],
@@ -175,17 +184,23 @@ fn workers_are_looked_at_between_reading_and_checking(rt: HostRuntime) -> Result
 #[test]
 fn help_that_is_asked_for(rt: HostRuntime) -> Result<(), Fail> {
     let whole =
-        "Checks recorded traces of tasks for lock orders that can deadlock\n\nUsage: lockdep <COMMAND>\n\nCommands:\n  check   Reads traces and writes the report of their lock order\n  chains  Reads a trace and writes its chains\n  help    Print this message or the help of the given subcommand(s)\n\nOptions:\n  -h, --help     Print help\n  -V, --version  Print version\n";
+        "Checks recorded traces of tasks for lock orders that can deadlock\n\nUsage: lockdep <COMMAND>\n\nCommands:\n  check    Reads traces and writes the report of their lock order\n  explain  Reads traces and writes what was found, with the records that it comes from\n  graph    Reads traces and writes their lock order as a graph in the language DOT\n  chains   Reads a trace and writes its chains\n  help     Print this message or the help of the given subcommand(s)\n\nOptions:\n  -h, --help     Print help\n  -V, --version  Print version\n";
     let of_check =
         "Reads traces and writes the report of their lock order\n\nUsage: lockdep check [OPTIONS] [FILE]...\n\nArguments:\n  [FILE]...  A file with a trace; without one, a trace is read from standard input\n\nOptions:\n      --workers <N>  How many workers check the traces, from 1 to 64 [default: 4]\n  -h, --help         Print help\n";
+    let of_explain =
+        "Reads traces and writes what was found, with the records that it comes from\n\nUsage: lockdep explain [OPTIONS] [FILE]...\n\nArguments:\n  [FILE]...  A file with a trace; without one, a trace is read from standard input\n\nOptions:\n      --workers <N>  How many workers check the traces, from 1 to 64 [default: 4]\n  -h, --help         Print help\n";
+    let of_graph =
+        "Reads traces and writes their lock order as a graph in the language DOT\n\nUsage: lockdep graph [OPTIONS] [FILE]...\n\nArguments:\n  [FILE]...  A file with a trace; without one, a trace is read from standard input\n\nOptions:\n      --workers <N>  How many workers check the traces, from 1 to 64 [default: 4]\n      --findings     Show only what is part of a finding\n  -h, --help         Print help\n";
     let of_chains =
         "Reads a trace and writes its chains\n\nUsage: lockdep chains [FILE]\n\nArguments:\n  [FILE]  A file with a trace; without one, a trace is read from standard input\n\nOptions:\n  -h, --help  Print help\n";
-    let examples: [(&[&str], &str); 6] = [
+    let examples: [(&[&str], &str); 8] = [
         (&["lockdep", "-h"], whole),
         (&["lockdep", "--help"], whole),
         (&["lockdep", "help"], whole),
         (&["lockdep", "help", "check"], of_check),
         (&["lockdep", "check", "--help"], of_check),
+        (&["lockdep", "help", "explain"], of_explain),
+        (&["lockdep", "graph", "--findings", "--help"], of_graph),
         (&["lockdep", "chains", "a.txt", "-h"], of_chains),
     ];
     for (words, text) in examples {

@@ -1,4 +1,4 @@
-use Rattle.std.proofs.Common.{◌<◌, ◌∙◌, ◌++◌, List, ℕ, [], ◌∷◌, Some, None, Ok, Option, Result, ap, subst, sym, arith, length}
+use Rattle.std.proofs.Common.{◌<◌, ◌∙◌, ◌++◌, List, ℕ, [], Some, None, Ok, Option, Result, ap, subst, sym, arith, length}
 use Rattle.std.proofs.lemmas.List.{append-nil}
 use Rattle.std.proofs.lemmas.Result.{on_ok_weaker, on_err_weaker}
 use Rattle.std.specs.Io.KnownBytes.{Appends}

@@ -1,7 +1,5 @@
-use Rattle.std.proofs.Common.{◌≡◌, ◌+◌, All, List, length}
+use Rattle.std.proofs.Common.{◌≡◌, ◌+◌, All, length}
 use Rattle.ld_trace.specs.Events.{KeysBelow}
-use Rattle.ld_trace.specs.Names.{Name}
-use Rattle.ld_trace.specs.declared.event.Event.{Event}
 use Rattle.lockdep.proofs.program.add_files.Given as goal
 
 -- one trace of each file so far, and the keys of all are in the table

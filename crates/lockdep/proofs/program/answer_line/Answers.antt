@@ -5,8 +5,18 @@ use Rattle.lockdep.proofs.program.answer_line.Goals as goal
 
 pub returns-in-Check-clause-ok : goal.returns-in-Check-clause-ok
 returns-in-Check-clause-ok g c =
-    subst (λ (line : Line). IfOk c.answer_check.result (DoesLine line (g.I.Read.remaining c.args.input) (g.O.Write.contents c.args.out.now) (g.O.Write.contents c.answer_check.new.out)))
-    (sym c.in-Check.is) (rw c.as_slice.ensures.value at c.answer_check.ensures.ok)
+    subst (λ (line : Line). IfOk c.answer_traces.result (DoesLine line (g.I.Read.remaining c.args.input) (g.O.Write.contents c.args.out.now) (g.O.Write.contents c.answer_traces.new.out)))
+    (sym c.in-Check.is) (rw c.as_slice-files.ensures.value at c.answer_traces.ensures.ok)
+
+pub returns-in-Explain-clause-ok : goal.returns-in-Explain-clause-ok
+returns-in-Explain-clause-ok g c =
+    subst (λ (line : Line). IfOk c.answer_traces-in-Explain.result (DoesLine line (g.I.Read.remaining c.args.input) (g.O.Write.contents c.args.out.now) (g.O.Write.contents c.answer_traces-in-Explain.new.out)))
+    (sym c.in-Explain.is) (rw c.as_slice-files-in-Explain.ensures.value at c.answer_traces-in-Explain.ensures.ok)
+
+pub returns-in-Graph-clause-ok : goal.returns-in-Graph-clause-ok
+returns-in-Graph-clause-ok g c =
+    subst (λ (line : Line). IfOk c.answer_traces-in-Graph.result (DoesLine line (g.I.Read.remaining c.args.input) (g.O.Write.contents c.args.out.now) (g.O.Write.contents c.answer_traces-in-Graph.new.out)))
+    (sym c.in-Graph.is) (rw c.as_slice.ensures.value at c.answer_traces-in-Graph.ensures.ok)
 
 pub returns-in-Chains-clause-ok : goal.returns-in-Chains-clause-ok
 returns-in-Chains-clause-ok g c =

@@ -1,5 +1,5 @@
 use Rattle.std.proofs.Common.{arith, ◌≡◌, ◌∙◌, sym, subst}
-use Rattle.ld_graph.specs.Inside.ChainFacts.{chain_fact}
+use Rattle.ld_graph.specs.ChainFacts.{chain_fact}
 use Rattle.ld_graph.specs.Inside.WordTable.{Gathered}
 use Rattle.ld_graph.proofs.Gathering.{Gathered-more, FactBelow-slot, chain_fact-dependency}
 use Rattle.ld_graph.proofs.chain_words.FactWords.add_dependencies.Goals as goal

@@ -4,7 +4,7 @@ use Rattle.ld_task.specs.declared.lock.Lock.{Lock}
 use Rattle.std.specs.Prelude.{slice_get}
 use Rattle.std.specs.Option.{option_map}
 use Rattle.ld_task.specs.Chains.{key_and_mode}
-use Rattle.ld_graph.specs.Inside.ChainFacts.{chain_fact}
+use Rattle.ld_graph.specs.ChainFacts.{chain_fact}
 use Rattle.ld_graph.specs.Inside.WordTable.{Gathered, TakesRun}
 use Rattle.ld_graph.specs.Numbers.{dependency_total}
 use Rattle.ld_graph.proofs.Gathering.{Gathered-run, IsRunOf-start, IsRunOf-more, IsMarkOf, IsMarkOf-held, chain_fact-held, fact_slots-opening}

@@ -3,7 +3,7 @@ use Rattle.std.specs.Prelude.{IfSome}
 use Rattle.ld_task.specs.declared.lock.Lock.{Lock}
 use Rattle.ld_task.specs.Marks.{marks_taken}
 use Rattle.ld_trace.specs.Modes.{is_read}
-use Rattle.ld_graph.specs.Inside.ChainFacts.{chain_fact, mark_by_taking}
+use Rattle.ld_graph.specs.ChainFacts.{chain_fact, mark_by_taking}
 use Rattle.ld_graph.specs.Inside.WordTable.{Gathered, IsRunOf, TakesRun}
 use Rattle.ld_graph.specs.Numbers.{dependency_total}
 use Rattle.ld_graph.proofs.Gathering.{Gathered-run, IsRunOf-start, IsRunOf-more, IsMarkOf, IsMarkOf-if, chain_fact-mark_of_new, fact_slots-taking}

@@ -1,6 +1,6 @@
 use Rattle.std.proofs.Common.{◌≡◌, ◌∙◌, sym, subst, arith}
 use Rattle.std.proofs.lemmas.Option.{none-some}
-use Rattle.ld_graph.specs.Inside.ChainFacts.{fact_slots}
+use Rattle.ld_graph.specs.ChainFacts.{fact_slots}
 use Rattle.ld_graph.specs.FactBits.{FactBelow}
 use Rattle.ld_graph.proofs.ChainFacts.{FactBelow-chain, chain_fact-sound}
 use Rattle.ld_graph.proofs.Growing.{Grown-start, Grown-same, Grown-add, Adds-grown, Holds-grown}

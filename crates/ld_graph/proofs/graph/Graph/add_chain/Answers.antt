@@ -1,6 +1,6 @@
 use Rattle.std.proofs.Common.{◌≡◌, ◌∙◌, sym, ap, subst, refl, arith, inl}
 use Rattle.std.proofs.lemmas.Option.{none-some}
-use Rattle.ld_graph.specs.Inside.ChainFacts.{fact_slots}
+use Rattle.ld_graph.specs.ChainFacts.{fact_slots}
 use Rattle.ld_graph.specs.FactBits.{FactBelow, HasFact}
 use Rattle.ld_graph.specs.FactLaws.{IsClean-fewer}
 use Rattle.ld_graph.specs.Links.{IsClean}

@@ -1,4 +1,4 @@
-use Rattle.std.proofs.Common.{◌≡◌, ◌∙◌, ◌&&◌, ℕ, length, sym, ap, subst, refl, inl, inr, arith, not, true}
+use Rattle.std.proofs.Common.{◌≡◌, ◌∙◌, ◌&&◌, ◌<◌, ℕ, length, sym, ap, subst, refl, inl, inr, arith, not, true}
 use Rattle.std.proofs.lemmas.Bool.{cases_eq}
 use Rattle.ld_graph.specs.Circles.{arrow_of}
 use Rattle.ld_graph.specs.Facts.{DependenciesOf}
@@ -46,7 +46,9 @@ returns-clause-some c =
     let round : GoesTo (DependenciesOf (HasFact c.self.inside.facts)) c.args.place c.way.result c.args.place =
     subst (λ p. GoesTo (DependenciesOf (HasFact c.self.inside.facts)) p c.way.result c.args.place) c.into_place-start.ensures.arrives
     (subst (λ p. GoesTo (DependenciesOf (HasFact c.self.inside.facts)) (arrival (arrow_of c.into_place-start.result)) c.way.result p) here goes) in
-    let e = c.way.ensures.len in (
+    let e = c.way.ensures.len in
+    subst (λ circle. IsCircle (HasFact c.args.self.now.facts) circle × (length circle < c.args.bound) × LeastThrough c.args.self.now.facts c.args.done.now c.args.place (length circle))
+    (sym c.of.ensures) (
       subst (λ v. IsCircle (HasFact v.facts) c.way.result) c.self.view_is
           (IsCircle-from_way c.self.inside.facts (arrows_below c.self.inside.facts c.self.invariant.few) c.args.place c.way.result (omega arith) round),
       omega arith,

@@ -1,4 +1,4 @@
-use Rattle.std.proofs.Common.{◌≡◌, ◌∙◌, ◌≤◌, List, [], ◌∷◌, length, sym, ap, subst, refl, arith, Option, Some, None}
+use Rattle.std.proofs.Common.{◌≡◌, ◌∙◌, ◌≤◌, List, [], ◌∷◌, length, sym, ap, subst, refl, arith}
 use Rattle.std.specs.Prelude.{IsNone, IfSome}
 use Rattle.std.proofs.lemmas.Option.{IfSome_then}
 use Rattle.ld_trace.specs.declared.key_id.TheConstants.{MAX_KEYS}
@@ -7,6 +7,7 @@ use Rattle.ld_graph.specs.FactBits.{HasFact}
 use Rattle.ld_graph.specs.Walks.{IsCircle, IsShortestCircle, OnCircle}
 use Rattle.ld_graph.proofs.Circles.{Contains-head}
 use Rattle.ld_graph.proofs.Nearest.{LeastDone, LeastDone-more, LeastDone-all, done_more}
+use Rattle.ld_graph.proofs.Options.{none_of}
 use Rattle.ld_graph.proofs.Shortest.{IsShortestCircle-least, no_circle}
 use Rattle.ld_graph.proofs.graph.Graph.shortest_circle.Goals as goal
 use Rattle.ld_graph.proofs.graph.Graph.shortest_circle.Goals.{After-loop-place, in-Some, in_default}
@@ -47,10 +48,6 @@ shortest : (c : After-loop-place) → IfSome c.loop-place.shortest (λ circle. I
 shortest c = IfSome_then c.loop-place.shortest c.loop-place.invariant.some (λ circle (is, e).
     IsShortestCircle-least (HasFact c.args.self.now.facts) c.args.self.now.facts.keys (λ x has. has.0.0) circle is
     (λ other other_is. let l = least c other other_is in omega arith))
-
-none_of : {X : Type 0} (o : Option X) (P : X → Type 0) → IfSome o P → ((x : X) → P x → ⊥) → IsNone o
-none_of None P some no_x = refl
-none_of (Some x) P some no_x = absurd (no_x x some)
 
 no_members : (c : After-loop-place) → ((d : Arrow) → ¬ OnCircle (HasFact c.args.self.now.facts) d) → (circle : List Arrow) → ¬ IsCircle (HasFact c.args.self.now.facts) circle
 no_members c off [] no_walk = no_walk

@@ -1,0 +1,12 @@
+use Rattle.std.proofs.Common.{◌≡◌, Some, ap, option_and_then, slice_get, sym, ◌∙◌}
+use Rattle.ld_task.specs.Placed.{held_positions}
+use Rattle.ld_graph.specs.ChainFacts.{slot_held}
+use Rattle.ld_explain.proofs.Giving.{chain_event, slot_within}
+use Rattle.ld_explain.proofs.origins.position_of_slot.Goals as goal
+
+pub returns-in-Some : goal.returns-in-Some
+returns-in-Some c t place is chain_is within =
+    let (e, here, makes) = chain_event t place c.args.chain.now chain_is in
+    let slot : slot_held c.args.chain.now c.args.n ≡ Some c.in-Some.held = sym c.held_of.ensures ∙ c.in-Some.is in
+    c.held_place.ensures t place e is here makes (slot_within t place c.args.chain.now chain_is c.args.n c.in-Some.held within slot)
+    ∙ ap (option_and_then (slice_get (held_positions t place))) (sym slot)

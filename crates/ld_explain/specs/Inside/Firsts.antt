@@ -1,0 +1,65 @@
+-- The first occurrences among those that were seen so far. Only private clauses cite these words.
+use Rattle.std.specs.Prelude.{◌≡◌, ℕ, ◌<◌, ◌≤◌, ◌⊎◌, List, Option, Some, option_and_then, slice_get}
+use Rattle.ld_trace.specs.declared.event.Event.{Event}
+use Rattle.ld_task.specs.Chains.{ChainParts}
+use Rattle.ld_task.specs.Placed.{IsPlacedAfter, PlacedParts, held_positions}
+use Rattle.ld_task.specs.WellFormed.{IsWellFormed}
+use Rattle.ld_graph.specs.ChainFacts.{chain_fact, fact_slots, slot_held}
+use Rattle.ld_graph.specs.FactBits.{FactParts, HasFact}
+use Rattle.ld_graph.specs.declared.fact.Fact.{Fact}
+use Rattle.ld_explain.specs.Origins.{HasOrigin, NoLater, Occurs, OriginParts}
+use Rattle.ld_explain.specs.declared.origins.Origin.{Origin}
+
+-- ---- what was seen: a set of occurrences is a predicate on facts and places
+-- what occurs in the traces before this one
+abbrev pub SeenBefore : List (List Event) → (trace : ℕ) → Fact → Origin → Type 0
+SeenBefore traces trace x o = Occurs traces x o × (o.trace < trace)
+
+-- what occurs in the traces before this one, and in it before this place
+abbrev pub SeenTo : List (List Event) → (trace place : ℕ) → Fact → Origin → Type 0
+SeenTo traces trace place x o =
+    Occurs traces x o × ((o.trace < trace) ⊎ ((o.trace ≡ trace) × (o.place < place)))
+
+-- the position of the held lock by which the fact in slot n of the chain at this place is given
+abbrev pub slot_position : List Event → (place : ℕ) → ChainParts → ℕ → Option ℕ
+slot_position t place c n = option_and_then (slice_get (held_positions t place)) (slot_held c n)
+
+-- the place that the fact in slot n of this chain comes from
+abbrev pub slot_origin : List Event → (trace place : ℕ) → ChainParts → ℕ → Origin
+slot_origin t trace place c n = record { trace = trace; place = place; held = slot_position t place c n }
+
+-- that, and the facts in the chain's slots from n on
+abbrev pub SeenFrom : List (List Event) → List Event → (trace place : ℕ) → ChainParts → ℕ → Fact → Origin → Type 0
+SeenFrom traces t trace place c n x o =
+    SeenTo traces trace place x o
+    ⊎ ((m : ℕ) × (n ≤ m) × (m < fact_slots c) × (chain_fact c m ≡ Some x) × (o ≡ slot_origin t trace place c m))
+
+-- the event at n comes next in this well-formed trace
+pub record ComesNext (t : List Event) (n : ℕ) (state : PlacedParts) (event : Event) : Type 0 where
+  pub after : IsPlacedAfter t n state
+  pub here : slice_get t n ≡ Some event
+  pub well_formed : IsWellFormed t
+
+-- ---- what is kept
+-- the fact has an origin
+abbrev pub IsKnown : OriginParts → Fact → Type 0
+IsKnown parts x = (o : Origin) × HasOrigin parts x o
+
+-- the origins are the first among these occurrences
+pub record AreFirsts (Seen : Fact → Origin → Type 0) (parts : OriginParts) : Type 0 where
+  pub seen : (x : Fact) (o : Origin) → HasOrigin parts x o → Seen x o
+  pub first : (x : Fact) (o other : Origin) → HasOrigin parts x o → Seen x other → NoLater o other
+  pub all : (x : Fact) (o : Origin) → Seen x o → IsKnown parts x
+
+-- and these facts are known
+pub record AreKept (Seen : Fact → Origin → Type 0) (parts : OriginParts) (facts : FactParts) : Type 0 where
+  pub firsts : AreFirsts Seen parts
+  pub known : (x : Fact) → HasFact facts x → IsKnown parts x
+
+-- the fact has this origin, unless it had one before
+pub record PutsOrigin (old new : OriginParts) (fact : Fact) (origin : Origin) : Type 0 where
+  pub keys : new.keys ≡ old.keys
+  pub there : (x : Fact) (o : Origin) → HasOrigin new x o →
+      HasOrigin old x o ⊎ ((x ≡ fact) × (o ≡ origin) × ¬ IsKnown old fact)
+  pub keeps : (x : Fact) (o : Origin) → HasOrigin old x o → HasOrigin new x o
+  pub has : IsKnown new fact

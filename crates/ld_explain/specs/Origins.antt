@@ -1,0 +1,64 @@
+-- Where the facts of many traces come from: their first occurrences [this project's own].
+use Rattle.std.specs.Prelude.{◌≡◌, ℕ, ◌<◌, ◌≤◌, ◌⊎◌, ◌↔◌, List, Option, Some, None, IsNone, IfSome, nat_eq, slice_get}
+use Rattle.std.specs.Map.{lookup}
+use Rattle.ld_trace.specs.declared.event.Event.{Event}
+use Rattle.ld_task.specs.Dependencies.{IsDependency}
+use Rattle.ld_task.specs.Marks.{IsMarkedTaking, IsMarkedOpening}
+use Rattle.ld_graph.specs.FactBits.{FactBelow}
+use Rattle.ld_graph.specs.Numbers.{fact_number}
+use Rattle.ld_graph.specs.declared.fact.Fact.{Fact}
+use Rattle.ld_graph.specs.declared.fact.Fact.TheVariants.{Dependency, Marked}
+use Rattle.ld_run.specs.TraceFacts.{TracesHave}
+use Rattle.ld_explain.specs.declared.origins.Origin.{Origin}
+
+-- ---- occurrences
+-- the event at this place of the trace gives the fact: by the lock that was taken at the position `held` and is held there,
+-- or by the lock that the event itself takes
+abbrev pub Gives : List Event → Fact → (place : ℕ) → (held : Option ℕ) → Type 0
+Gives t (Dependency from to kind) place (Some held) = (d : IsDependency t from to kind) × (d.i ≡ held) × (d.j ≡ place)
+Gives t (Dependency from to kind) place None = ⊥
+Gives t (Marked key mark) place (Some held) = (m : IsMarkedOpening t key mark) × (m.i ≡ held) × (m.j ≡ place)
+Gives t (Marked key mark) place None = (m : IsMarkedTaking t key mark) × (m.j ≡ place)
+
+-- one of the traces gives the fact there
+pub record Occurs (traces : List (List Event)) (x : Fact) (at : Origin) : Type 0 where
+  pub t : List Event
+  pub is_trace : slice_get traces at.trace ≡ Some t
+  pub gives : Gives t x at.place at.held
+
+-- ---- the first one
+-- one held lock is as new as another, where there are two
+abbrev pub AsNew : (held other : Option ℕ) → Type 0
+AsNew held other = IfSome held (λ i. IfSome other (λ k. k ≤ i))
+
+-- the place comes no later than the other: in an earlier trace, or earlier in the same one, or at the same place by a lock
+-- that is as new
+abbrev pub NoLater : (at other : Origin) → Type 0
+NoLater at other =
+    (at.trace < other.trace)
+    ⊎ ((at.trace ≡ other.trace) × ((at.place < other.place) ⊎ ((at.place ≡ other.place) × AsNew at.held other.held)))
+
+-- the fact's first occurrence in the traces
+pub record IsFirst (traces : List (List Event)) (x : Fact) (origin : Origin) : Type 0 where
+  pub here : Occurs traces x origin
+  pub first : (other : Origin) → Occurs traces x other → NoLater origin other
+
+-- the fact's first occurrence, or None exactly where no trace has the fact
+abbrev pub IsOriginOf : List (List Event) → Fact → Option Origin → Type 0
+IsOriginOf traces x origin = (IsNone origin ↔ ¬ TracesHave traces x) × IfSome origin (IsFirst traces x)
+
+-- ---- what is kept of them
+-- origins of facts about the keys below `keys`, each beside the fact's number
+pub record OriginParts : Type 0 where
+  pub keys : ℕ
+  pub entries : List (ℕ × Origin)
+
+-- the fact has this origin among them
+abbrev pub HasOrigin : OriginParts → Fact → Origin → Type 0
+HasOrigin parts x origin =
+    FactBelow parts.keys x × (lookup (λ n. nat_eq (fact_number parts.keys x) n) parts.entries ≡ Some origin)
+
+-- they are the first occurrences of all facts of the traces
+pub record AreOriginsOf (traces : List (List Event)) (parts : OriginParts) : Type 0 where
+  pub first : (x : Fact) (origin : Origin) → HasOrigin parts x origin → IsFirst traces x origin
+  pub all : (x : Fact) → TracesHave traces x → (origin : Origin) × HasOrigin parts x origin

@@ -1,0 +1,12 @@
+use Rattle.std.proofs.Common.{◌<◌}
+use Rattle.ld_task.specs.declared.kind.Kind.{Kind}
+use Rattle.ld_graph.specs.Arrows.{arrow}
+use Rattle.ld_graph.specs.FactBits.{HasFact}
+use Rattle.ld_graph.specs.Links.{IsDoubleBy}
+use Rattle.ld_graph.specs.Numbers.{kind_number}
+use Rattle.ld_graph.proofs.graph.Graph.double_forms.Given as goal
+
+-- none of the links so far
+abbrev pub invariant-loop-n : goal.invariant-loop-n
+invariant-loop-n l = (kind : Kind) → kind_number kind < l.n →
+    ¬ IsDoubleBy (HasFact l.self.facts) l.irq l.key (arrow l.key l.key kind)

@@ -1,0 +1,41 @@
+//! Why facts aren't condensed.
+
+ghost use Rattle.std.specs.Prelude.{◌≡◌};
+ghost use Rattle.ld_run.specs.Faults.{condense_code_of};
+
+use std::alloc::AllocError;
+use thiserror::Error;
+
+/// Why facts aren't condensed.
+#[derive(Clone, Copy, PartialEq, Eq, Debug, Error)]
+pub enum CondenseFault {
+    /// K1: the trace that was made doesn't have exactly the facts, as where a key of theirs isn't in the order.
+    #[error("the condensed trace does not have the same facts")]
+    Unequal,
+    /// K2: memory was refused.
+    #[error("out of memory")]
+    Memory,
+}
+
+impl CondenseFault {
+    /// The fault's number and name, as `K2 Memory`.
+    pub fn code(&self) -> &'static str
+        ensures { result.now ≡ condense_code_of self.now }
+    {
+        match self {
+            CondenseFault::Unequal => "K1 Unequal",
+            CondenseFault::Memory => "K2 Memory",
+        }
+    }
+}
+
+impl From<AllocError> for CondenseFault {
+    ghost use Rattle.std.specs.Prelude.{◌≡◌};
+    ghost use Rattle.ld_run.specs.declared.condense_fault.CondenseFault.TheVariants.{Memory};
+
+    ghost from_gives = { λ _ e. e ≡ Memory };
+
+    fn from(_error: AllocError) -> CondenseFault {
+        CondenseFault::Memory
+    }
+}

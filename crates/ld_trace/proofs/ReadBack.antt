@@ -1,0 +1,431 @@
+-- What is written of a trace reads back.
+use Rattle.std.specs.Prelude.{⊤}
+use Rattle.std.proofs.Common.{◌≡◌, ℕ, zero, suc, ◌+◌, ◌-◌, ◌≤◌, ◌<◌, ◌||◌, ◌&&◌, ◌==◌, not, Bool, true, false, true≢false, List, [], ◌∷◌, ◌++◌, map, length, slice_get, nat_le, unwrap_or, Some, None, Ok, refl, sym, ap, ◌∙◌, subst, arith, append_assoc, length-append, if◌then◌else◌}
+use Rattle.std.specs.List.{IsDistinct, flat_map, list_all, list_any}
+use Rattle.std.specs.Cmp.{IsEquivalence}
+use Rattle.std.specs.Str.{bytes_eq}
+use Rattle.std.proofs.lemmas.Bool.{and_parts}
+use Rattle.std.proofs.lemmas.Bool.Decides.{Decides-eqb, nat_tests}
+use Rattle.std.proofs.lemmas.List.{append-nil, length-map}
+use Rattle.std.proofs.lemmas.List.Folds.{list_any-append}
+use Rattle.std.proofs.lemmas.Map.Keys.{IsDistinct-push}
+use Rattle.std.proofs.lemmas.Map.Made.{length-le_from_is_member}
+use Rattle.std.proofs.lemmas.Slice.Eq.{bytes_eq-Decides}
+use Rattle.csv.specs.Machine.{next_record}
+use Rattle.csv.specs.Reading.{Reached, default_config, strip_bom}
+use Rattle.csv.specs.Writing.{escaped, fields_text, is_blank, read_back}
+use Rattle.csv.specs.declared.parser.State.TheVariants as st
+use Rattle.csv.proofs.RoundTrip.{read-write}
+use Rattle.ld_trace.specs.declared.event.Event.{Event}
+use Rattle.ld_trace.specs.declared.event.Event.TheVariants.{Acquire, Release, Enter, Leave, TurnOn, TurnOff}
+use Rattle.ld_trace.specs.declared.event.Irq.TheVariants.{Hard, Soft}
+use Rattle.ld_trace.specs.declared.event.Mode.{Mode}
+use Rattle.ld_trace.specs.declared.event.Mode.TheVariants.{Write, Read, RecRead, TryWrite, TryRead, TryRecRead}
+use Rattle.ld_trace.specs.declared.key_id.TheConstants.{MAX_KEYS}
+use Rattle.ld_trace.specs.declared.key_table.TheConstants.{MAX_SUB}
+use Rattle.ld_trace.specs.declared.raw_trace.TheConstants.{MAX_EVENTS}
+use Rattle.ld_trace.specs.declared.version.Version.{Version}
+use Rattle.ld_trace.specs.declared.version.Version.TheVariants.{One, Two}
+use Rattle.ld_trace.specs.Events.{KeyIsBelow, KeysBelow, is_try}
+use Rattle.ld_trace.specs.Laws.{AreOfTable, NewTablesHaveRoom, TextsReadBack, TextsReadThemselves, lines_at, with_lines}
+use Rattle.ld_trace.specs.Lines.{Line, Record, takes, gives_back, enters, leaves, turns_on, turns_off, event_of, is_over, line_of_record, mode_of, sub_of, version_of, with_line}
+use Rattle.ld_trace.specs.Modes.{may_wait}
+use Rattle.ld_trace.specs.Names.{AreNumbered, Name, is_class_name, is_known, is_name, is_one_too_many, is_same, place_of, with_name}
+use Rattle.ld_trace.specs.Inside.Progress.{AreTaken, TakesLine}
+use Rattle.ld_trace.specs.Reading.{ReadsTo, records_of}
+use Rattle.ld_trace.specs.Writing.{event_text, header_of, line_at, mode_word, name_at, record_of, record_text, sub_word, trace_text, version_for}
+use Rattle.ld_trace.proofs.CsvLemmas.{records-all}
+use Rattle.ld_trace.proofs.KnownLemmas.{is_same-back, is_same-itself, named-there, place_of-there}
+use Rattle.ld_trace.proofs.ReadLemmas.{reads-to, taken-header}
+use Rattle.ld_trace.proofs.TakenLemmas.{place-below, slice_get-front, taken-more, with_line-added}
+
+-- ---- a record says what it was written for
+-- the line's name is one, and its mode is one of the version's
+abbrev IsGood : Version → Line → Type 0
+IsGood version (takes name mode) = (is_name name ≡ true) × (mode_of version (mode_word mode) ≡ Some mode)
+IsGood version (gives_back name) = is_name name ≡ true
+IsGood version (enters irq) = ⊤
+IsGood version leaves = ⊤
+IsGood version (turns_on irq) = ⊤
+IsGood version (turns_off irq) = ⊤
+
+sub_of-word : (sub : ℕ) → nat_le sub MAX_SUB ≡ true → sub_of (sub_word sub) ≡ Some sub
+sub_of-word sub small =
+    let low : nat_le 48 (48 + sub) ≡ true = grind (arith, nat_tests) in
+    let high : nat_le (48 + sub) 55 ≡ true = grind (arith, nat_tests) in
+    let back : (48 + sub) - 48 ≡ sub = omega arith in
+    rw (low, high, back) refl
+
+line_of_record-of : (version : Version) (line : Line) → IsGood version line → line_of_record version (record_of line) ≡ Ok line
+unfolding line_of_record
+line_of_record-of version (takes name mode) good =
+    let parts = and_parts (is_class_name name.0) (nat_le name.1 MAX_SUB) good.0 in
+    rw (sub_of-word name.1 parts.1, parts.0, good.1) refl
+line_of_record-of version (gives_back name) good =
+    let parts = and_parts (is_class_name name.0) (nat_le name.1 MAX_SUB) good in
+    rw (sub_of-word name.1 parts.1, parts.0) refl
+line_of_record-of version (enters Hard) good = refl
+line_of_record-of version (enters Soft) good = refl
+line_of_record-of version leaves good = refl
+line_of_record-of version (turns_on Hard) good = refl
+line_of_record-of version (turns_on Soft) good = refl
+line_of_record-of version (turns_off Hard) good = refl
+line_of_record-of version (turns_off Soft) good = refl
+
+-- ---- the lines of a trace are good
+abbrev AreGood : Version → List Line → Type 0
+AreGood version [] = ⊤
+AreGood version (line ∷ lines) = IsGood version line × AreGood version lines
+
+name_at-there : (names : List Name) (key : ℕ) → key < length names → slice_get names key ≡ Some (name_at names key)
+name_at-there [] key h = absurd (omega arith)
+name_at-there (x ∷ xs) zero h = refl
+name_at-there (x ∷ xs) (suc key) h = name_at-there xs key (omega arith)
+
+-- the version has the event's mode
+abbrev Has : Version → Event → Type 0
+Has One event = is_try event ≡ false
+Has Two event = ⊤
+
+waits : (mode : Mode) → not (may_wait mode) ≡ false → mode_of One (mode_word mode) ≡ Some mode
+waits Write h = refl
+waits Read h = refl
+waits RecRead h = refl
+waits TryWrite h = absurd (true≢false h)
+waits TryRead h = absurd (true≢false h)
+waits TryRecRead h = absurd (true≢false h)
+
+any_mode : (mode : Mode) → mode_of Two (mode_word mode) ≡ Some mode
+any_mode Write = refl
+any_mode Read = refl
+any_mode RecRead = refl
+any_mode TryWrite = refl
+any_mode TryRead = refl
+any_mode TryRecRead = refl
+
+mode-good : (version : Version) (mode : Mode) (key : ℕ) → Has version (Acquire mode key) → mode_of version (mode_word mode) ≡ Some mode
+mode-good One mode key h = waits mode h
+mode-good Two mode key h = any_mode mode
+
+name-good : (names : List Name) (key : ℕ) → list_all is_name names ≡ true → key < length names → is_name (name_at names key) ≡ true
+name-good names key named below = named-there names (name_at names key) key named (name_at-there names key below)
+
+line-good : (version : Version) (names : List Name) (event : Event) → list_all is_name names ≡ true → KeyIsBelow (length names) event → Has version event → IsGood version (line_at names event)
+line-good version names (Acquire mode key) named below has = (name-good names key named below, mode-good version mode key has)
+line-good version names (Release key) named below has = name-good names key named below
+line-good version names (Enter irq) named below has = tt
+line-good version names Leave named below has = tt
+line-good version names (TurnOn irq) named below has = tt
+line-good version names (TurnOff irq) named below has = tt
+
+head-below : (n : ℕ) (event : Event) (events : List Event) → KeysBelow n (event ∷ events) → KeyIsBelow n event
+head-below n event events below = below 0 event (omega arith)
+
+tail-below : (n : ℕ) (event : Event) (events : List Event) → KeysBelow n (event ∷ events) → KeysBelow n events
+tail-below n event events below = λ k d lt. below (suc k) d (omega (arith, lt))
+
+-- the version has all of these events
+abbrev AllHave : Version → List Event → Type 0
+AllHave version [] = ⊤
+AllHave version (event ∷ events) = Has version event × AllHave version events
+
+or-none : (a b : Bool) → (a || b) ≡ false → (a ≡ false) × (b ≡ false)
+or-none false b h = (refl, h)
+or-none true b h = absurd (true≢false h)
+
+all-have-one : (events : List Event) → list_any is_try events ≡ false → AllHave One events
+all-have-one [] h = tt
+all-have-one (event ∷ events) h = let parts = or-none (is_try event) (list_any is_try events) h in (parts.0, all-have-one events parts.1)
+
+all-have-two : (events : List Event) → AllHave Two events
+all-have-two [] = tt
+all-have-two (event ∷ events) = (tt, all-have-two events)
+
+all-have : (events : List Event) → AllHave (version_for events) events
+all-have events = by (list_any is_try events) refl
+  where
+    by : (b : Bool) → list_any is_try events ≡ b → AllHave (if b then Two else One) events
+    by true e = all-have-two events
+    by false e = all-have-one events e
+
+lines-good : (version : Version) (names : List Name) (events : List Event) → list_all is_name names ≡ true → KeysBelow (length names) events → AllHave version events → AreGood version (lines_at names events)
+lines-good version names [] named below have = tt
+lines-good version names (event ∷ events) named below have = (
+  line-good version names event named (head-below (length names) event events below) have.0,
+  lines-good version names events named (tail-below (length names) event events below) have.1,
+)
+
+-- ---- the records of the text
+read_back-record : (line : Line) → read_back (record_of line) ≡ record_of line
+read_back-record (takes name mode) = refl
+read_back-record (gives_back name) = refl
+read_back-record (enters irq) = refl
+read_back-record leaves = refl
+read_back-record (turns_on irq) = refl
+read_back-record (turns_off irq) = refl
+
+events-reached : (names : List Name) (events : List Event) → Reached default_config st.StartRecord (flat_map (event_text names) events) (map record_of (lines_at names events)) st.StartRecord []
+unfolding Reached
+events-reached names [] = (refl, refl)
+events-reached names (event ∷ events) =
+    let row = record_of (line_at names event) in
+    ((read_back row, st.StartRecord, flat_map (event_text names) events), read-write row (flat_map (event_text names) events), sym (read_back-record (line_at names event)), events-reached names events)
+
+read_back-header : (version : Version) → read_back (header_of version) ≡ header_of version
+read_back-header One = refl
+read_back-header Two = refl
+
+trace-reached : (names : List Name) (events : List Event) → Reached default_config st.StartRecord (trace_text names events) (header_of (version_for events) ∷ map record_of (lines_at names events)) st.StartRecord []
+unfolding Reached trace_text
+trace-reached names events =
+    let row = header_of (version_for events) in
+    let rest = flat_map (event_text names) events in
+    ((read_back row, st.StartRecord, rest), read-write row rest, sym (read_back-header (version_for events)), events-reached names events)
+
+no-mark : (version : Version) (rest : List ℕ) → strip_bom (record_text (header_of version) ++ rest) ≡ record_text (header_of version) ++ rest
+unfolding strip_bom fields_text is_blank escaped
+no-mark One rest = refl
+no-mark Two rest = refl
+
+no-mark-text : (names : List Name) (events : List Event) → strip_bom (trace_text names events) ≡ trace_text names events
+unfolding trace_text
+no-mark-text names events = no-mark (version_for events) (flat_map (event_text names) events)
+
+ended : next_record default_config st.StartRecord [] [] [] ≡ None
+unfolding next_record
+ended = refl
+
+pub records-text : (names : List Name) (events : List Event) → records_of (trace_text names events) ≡ header_of (version_for events) ∷ map record_of (lines_at names events)
+records-text names events =
+    let rows = header_of (version_for events) ∷ map record_of (lines_at names events) in
+    records-all (trace_text names events) st.StartRecord [] rows
+    (subst (λ text. Reached default_config st.StartRecord text rows st.StartRecord []) (sym (no-mark-text names events)) (trace-reached names events)) ended
+
+-- ---- the events of the records
+-- the events that lines stand for over some names
+abbrev events_with : List Name → List Line → List Event
+events_with now [] = []
+events_with now (line ∷ lines) = event_of now line ∷ events_with (with_line now line) lines
+
+length-events_with : (now : List Name) (lines : List Line) → length (events_with now lines) ≡ length lines
+length-events_with now [] = refl
+length-events_with now (line ∷ lines) = let rest = length-events_with (with_line now line) lines in omega (arith, rest)
+
+with_lines-added : (now : List Name) (lines : List Line) → (more : List Name) × (with_lines now lines ≡ now ++ more)
+unfolding with_lines
+with_lines-added now [] = ([], sym (append-nil now))
+with_lines-added now (line ∷ lines) =
+    let one = with_line-added now line in
+    let rest = with_lines-added (with_line now line) lines in
+    (one.0 ++ rest.0, rest.1 ∙ ap (λ l. l ++ rest.0) one.1 ∙ append_assoc now one.0 rest.0)
+
+length-with_lines : (now : List Name) (lines : List Line) → length now ≤ length (with_lines now lines)
+length-with_lines now lines = let a = with_lines-added now lines in omega (arith, ap length a.1, length-append now a.0)
+
+-- a name for which there is room is not one too many
+name-fits : (now : List Name) (name : Name) → length (with_name now name) ≤ MAX_KEYS → is_one_too_many now name ≡ false
+name-fits now name room = by (is_known now name) room
+  where
+    by : (b : Bool) → length (if b then now else now ++ name ∷ []) ≤ MAX_KEYS → (not b && nat_le MAX_KEYS (length now)) ≡ false
+    by true h = refl
+    by false h = let long = length-append now (name ∷ []) in grind (arith, nat_tests)
+
+line-fits : (now : List Name) (line : Line) → length (with_line now line) ≤ MAX_KEYS → is_over now line ≡ false
+line-fits now (takes name mode) room = name-fits now name room
+line-fits now (gives_back name) room = name-fits now name room
+line-fits now (enters irq) room = refl
+line-fits now leaves room = refl
+line-fits now (turns_on irq) room = refl
+line-fits now (turns_off irq) room = refl
+
+-- all lines were taken
+taken-lines : (version : Version) (old : List Name) (rows : List Record) (now : List Name) (before : List Event) (lines : List Line) → AreTaken version old rows now before → AreGood version lines → length before + length lines ≤ MAX_EVENTS → length (with_lines now lines) ≤ MAX_KEYS → AreTaken version old (rows ++ map record_of lines) (with_lines now lines) (before ++ events_with now lines)
+unfolding with_lines
+taken-lines version old rows now before [] a good few room = rw (append-nil rows, append-nil before) a
+taken-lines version old rows now before (line ∷ lines) a good few room =
+    let next = with_line now line in
+    let event = event_of now line in
+    let long = length-append before (event ∷ []) in
+    let more = length-with_lines next lines in
+    let taken : TakesLine version now next before (before ++ event ∷ []) (record_of line) = record {
+      line = line;
+      says = line_of_record-of version line good.0;
+      fits = line-fits now line (omega (arith, more, room));
+      names = refl;
+      events = refl;
+    } in
+    let step = taken-more version old rows now next before (before ++ event ∷ []) (record_of line) a taken (omega (arith, few)) in
+    let rest = taken-lines version old (rows ++ record_of line ∷ []) next (before ++ event ∷ []) lines step good.1 (omega (arith, few, long)) room in
+    rw (append_assoc rows (record_of line ∷ []) (map record_of lines), append_assoc before (event ∷ []) (events_with next lines)) at rest
+
+-- ---- what the events say
+-- names that are the same are equal
+same-name : (a b : Name) → is_same a b ≡ true → a ≡ b
+same-name a b h =
+    let parts = and_parts (bytes_eq a.0 b.0) (a.1 == b.1) h in
+    let class = (bytes_eq-Decides a.0 b.0).0 parts.0 in
+    let sub = (Decides-eqb a.1 b.1).0 parts.1 in
+    λ i. (class i, sub i)
+
+-- a new name stands at the end
+new-there : (names : List Name) (name : Name) → is_known names name ≡ false → slice_get (names ++ name ∷ []) (place_of names name) ≡ Some name
+new-there [] name h = refl
+new-there (x ∷ xs) name h =
+    let parts = or-none (is_same name x) (is_known xs name) h in
+    let next : 1 + place_of xs name ≡ suc (place_of xs name) = omega arith in
+    rw (parts.0, next) (new-there xs name parts.1)
+
+found-there : (names : List Name) (name : Name) → is_known names name ≡ true → slice_get names (place_of names name) ≡ Some name
+found-there [] name h = absurd (true≢false (sym h))
+found-there (x ∷ xs) name h = by (is_same name x) refl (found-there xs name)
+  where
+    by : (b : Bool) → is_same name x ≡ b → (is_known xs name ≡ true → slice_get xs (place_of xs name) ≡ Some name) → slice_get (x ∷ xs) (place_of (x ∷ xs) name) ≡ Some name
+    by true e rest = rw e (ap Some (sym (same-name name x e)))
+    by false e rest = let next : 1 + place_of xs name ≡ suc (place_of xs name) = omega arith in rw (e, next) (rest (rw e at h))
+
+-- a name stands at its place in the names with it
+with_name-there : (names : List Name) (name : Name) → slice_get (with_name names name) (place_of names name) ≡ Some name
+with_name-there names name = by (is_known names name) refl
+  where
+    by : (b : Bool) → is_known names name ≡ b → slice_get (if b then names else names ++ name ∷ []) (place_of names name) ≡ Some name
+    by true e = found-there names name e
+    by false e = new-there names name e
+
+-- and so it does in longer ones
+name_at-longer : (names more : List Name) (name : Name) → name_at (with_name names name ++ more) (place_of names name) ≡ name
+name_at-longer names more name =
+    ap (λ found. unwrap_or found ([], 0)) (slice_get-front (with_name names name) more (place_of names name) (place-below names name) ∙ with_name-there names name)
+
+line_at-longer : (now more : List Name) (line : Line) → line_at (with_line now line ++ more) (event_of now line) ≡ line
+line_at-longer now more (takes name mode) = ap (λ n. takes n mode) (name_at-longer now more name)
+line_at-longer now more (gives_back name) = ap gives_back (name_at-longer now more name)
+line_at-longer now more (enters irq) = refl
+line_at-longer now more leaves = refl
+line_at-longer now more (turns_on irq) = refl
+line_at-longer now more (turns_off irq) = refl
+
+lines_at-events_with : (now : List Name) (lines : List Line) → lines_at (with_lines now lines) (events_with now lines) ≡ lines
+unfolding with_lines
+lines_at-events_with now [] = refl
+lines_at-events_with now (line ∷ lines) =
+    let rest = with_lines-added (with_line now line) lines in
+    let first : line_at (with_lines (with_line now line) lines) (event_of now line) ≡ line = rw rest.1 (line_at-longer now rest.0 line) in
+    rw (first, lines_at-events_with (with_line now line) lines) refl
+
+-- ---- the laws
+module _ (names : List Name) (events : List Event) (are : AreOfTable names events) where
+  version_of-header : (v : Version) → version_of (header_of v) ≡ Some v
+  unfolding version_of
+  version_of-header One = refl
+  version_of-header Two = refl
+
+  reads-back : (old : List Name) → length (with_lines old (lines_at names events)) ≤ MAX_KEYS → ReadsTo old (trace_text names events) (with_lines old (lines_at names events)) (events_with old (lines_at names events))
+  reads-back old room =
+      let header = taken-header (version_for events) old (header_of (version_for events)) (version_of-header (version_for events)) in
+      let good = lines-good (version_for events) names events are.numbered.named are.below (all-have events) in
+      let long : length (lines_at names events) ≡ length events = length-map events (line_at names) in
+      let few : 0 + length (lines_at names events) ≤ MAX_EVENTS = omega (arith, are.few, long) in
+      let taken = taken-lines (version_for events) old (header_of (version_for events) ∷ []) old [] (lines_at names events) header good few room in
+      reads-to (version_for events) old (trace_text names events) (header_of (version_for events) ∷ map record_of (lines_at names events)) (with_lines old (lines_at names events)) (events_with old (lines_at names events))
+      (records-text names events) taken
+
+pub texts-read-back : TextsReadBack
+texts-read-back names old events are room = (
+  with_lines old (lines_at names events),
+  events_with old (lines_at names events),
+  record {
+    reads = reads-back names events are old room;
+    names_are = refl;
+    same = lines_at-events_with old (lines_at names events);
+  },
+)
+
+-- over the table of the names themselves
+line-known : (names : List Name) (event : Event) → AreNumbered names → KeyIsBelow (length names) event → (with_line names (line_at names event) ≡ names) × (event_of names (line_at names event) ≡ event)
+line-known names (Acquire mode key) numbered below =
+    let there = place_of-there names (name_at names key) key numbered.once (name_at-there names key below) in
+    (rw there.1 refl, ap (Acquire mode) there.0)
+line-known names (Release key) numbered below =
+    let there = place_of-there names (name_at names key) key numbered.once (name_at-there names key below) in
+    (rw there.1 refl, ap Release there.0)
+line-known names (Enter irq) numbered below = (refl, refl)
+line-known names Leave numbered below = (refl, refl)
+line-known names (TurnOn irq) numbered below = (refl, refl)
+line-known names (TurnOff irq) numbered below = (refl, refl)
+
+lines-known : (names : List Name) (events : List Event) → AreNumbered names → KeysBelow (length names) events → (with_lines names (lines_at names events) ≡ names) × (events_with names (lines_at names events) ≡ events)
+unfolding with_lines
+lines-known names [] numbered below = (refl, refl)
+lines-known names (event ∷ events) numbered below =
+    let one = line-known names event numbered (head-below (length names) event events below) in
+    let rest = lines-known names events numbered (tail-below (length names) event events below) in
+    let names_are = ap (λ n. with_lines n (lines_at names events)) one.0 ∙ rest.0 in
+    let events_are = ap (λ n. events_with n (lines_at names events)) one.0 ∙ rest.1 in
+    (names_are, λ i. one.1 i ∷ events_are i)
+
+pub texts-read-themselves : TextsReadThemselves
+texts-read-themselves names events are =
+    let known = lines-known names events are.numbered are.below in
+    let room : length (with_lines names (lines_at names events)) ≤ MAX_KEYS = rw known.0 are.numbered.few in
+    rw (known.0, known.1) at (reads-back names events are names room)
+
+-- ---- a new table has room
+is_same-laws : IsEquivalence is_same
+is_same-laws = record {
+  refl = is_same-itself;
+  symm = λ a b. both (is_same a b) (is_same b a) (is_same-back a b) (is_same-back b a);
+  congr = λ a b n h. ap (λ x. is_same x n) (same-name a b h);
+}
+  where
+    both : (x y : Bool) → (x ≡ true → y ≡ true) → (y ≡ true → x ≡ true) → x ≡ y
+    both true y there back = sym (there refl)
+    both false true there back = back refl
+    both false false there back = refl
+
+-- names of the table, none twice
+record AreAmong (names now : List Name) : Type 0 where
+  once : IsDistinct is_same now
+  known : (q : Name) → is_known now q ≡ true → is_known names q ≡ true
+
+with_name-among : (names now : List Name) (name : Name) → is_known names name ≡ true → AreAmong names now → AreAmong names (with_name now name)
+with_name-among names now name known among = by (is_known now name) refl
+  where
+    or-cases : (a b : Bool) (P : Type 0) → (a ≡ true → P) → (b ≡ true → P) → (a || b) ≡ true → P
+    or-cases true b P one other h = one refl
+    or-cases false b P one other h = other h
+
+    by : (b : Bool) → is_known now name ≡ b → AreAmong names (if b then now else now ++ name ∷ [])
+    by true e = among
+    by false e = record {
+      once = IsDistinct-push is_same-laws now name among.once e;
+      known = λ q h.
+          or-cases (is_known now q) (is_known (name ∷ []) q) (is_known names q ≡ true) (among.known q)
+          (λ one. or-cases (is_same q name) false (is_known names q ≡ true)
+          (λ same. ap (is_known names) (same-name q name same) ∙ known) (λ no. absurd (true≢false (sym no))) one)
+          (sym (list_any-append (is_same q) now (name ∷ [])) ∙ h);
+    }
+
+line-among : (names now : List Name) (event : Event) → AreNumbered names → KeyIsBelow (length names) event → AreAmong names now → AreAmong names (with_line now (line_at names event))
+line-among names now (Acquire mode key) numbered below among = with_name-among names now (name_at names key) (place_of-there names (name_at names key) key numbered.once (name_at-there names key below)).1 among
+line-among names now (Release key) numbered below among = with_name-among names now (name_at names key) (place_of-there names (name_at names key) key numbered.once (name_at-there names key below)).1 among
+line-among names now (Enter irq) numbered below among = among
+line-among names now Leave numbered below among = among
+line-among names now (TurnOn irq) numbered below among = among
+line-among names now (TurnOff irq) numbered below among = among
+
+lines-among : (names now : List Name) (events : List Event) → AreNumbered names → KeysBelow (length names) events → AreAmong names now → AreAmong names (with_lines now (lines_at names events))
+unfolding with_lines
+lines-among names now [] numbered below among = among
+lines-among names now (event ∷ events) numbered below among =
+    lines-among names (with_line now (line_at names event)) events numbered (tail-below (length names) event events below)
+    (line-among names now event numbered (head-below (length names) event events below) among)
+
+none-among : (names : List Name) → AreAmong names []
+unfolding IsDistinct
+none-among names = record { once = tt; known = λ q h. absurd (true≢false (sym h)) }
+
+pub new-tables-have-room : NewTablesHaveRoom
+new-tables-have-room names events are =
+    let among = lines-among names [] events are.numbered are.below (none-among names) in
+    let short = length-le_from_is_member is_same-laws (with_lines [] (lines_at names events)) names among.once among.known in
+    omega (arith, short, are.numbered.few)

@@ -1,0 +1,194 @@
+//! Writing a trace.
+
+ghost use Rattle.std.specs.Prelude.{◌≡◌, ◌≤◌, ◌∷◌, [], IfOk, OnOk, map};
+ghost use Rattle.std.specs.Io.KnownBytes.{Appends};
+ghost use Rattle.std.specs.List.{flat_map};
+ghost use Rattle.csv.specs.Writing.{text_written};
+ghost use Rattle.ld_trace.specs.Writing.{event_text, header_of, irq_word, mode_word, name_at, record_text, sub_word, trace_text, version_for};
+ghost use Rattle.ld_trace.specs.Inside.Written.{IsBetween};
+ghost use Rattle.ld_trace.specs.declared.key_table.TheConstants.{MAX_SUB};
+
+use crate::version::Version;
+use crate::{Event, Irq, KeyId, KeyTable, Mode, RawTrace};
+use csv::{Writer, WriterBuilder};
+use std::alloc::{AllocError, Global};
+use std::io::Write;
+
+/// The text of a trace, with the names that its keys have in the table: version 1 of the format where none of its events is
+/// a try, and else version 2.
+///
+/// Each record ends with one newline byte. A name with a comma or a double quote is written between double quotes, each
+/// double quote in it twice; no other field is. A key that isn't in the table is written with an empty name, which no
+/// reader takes. It fails only where memory is refused.
+pub fn trace_text(alloc: Global, events: &RawTrace, keys: &KeyTable) -> Result<Vec<u8>, AllocError>
+    ensures { IfOk result (λ text. text.items ≡ trace_text keys.now events.now) }
+{
+    let mut rows = WriterBuilder::new()
+        .flexible(true)
+        .from_writer(Vec::new(alloc));
+    write_records(&mut rows, events, keys)?;
+    match rows.into_inner() {
+        Ok(text) => Ok(text),
+        Err(_) => Err(AllocError),
+    }
+}
+
+// Writes the header and a record for each event.
+fn write_records<W: Write + Drop>(
+    rows: &mut Writer<W>,
+    events: &RawTrace,
+    keys: &KeyTable,
+) -> Result<(), AllocError>
+    requires { IsBetween rows.old }
+    ensures { OnOk result (Appends (text_written W.contents rows.old) (text_written W.contents rows.new)
+        (trace_text keys.now events.now)) }
+{
+    write_header(rows, version_for(events))?;
+    write_events(rows, events.as_slice(), keys)
+}
+
+// Writes a record for each of the events.
+fn write_events<W: Write + Drop>(
+    rows: &mut Writer<W>,
+    events: &[Event],
+    keys: &KeyTable,
+) -> Result<(), AllocError>
+    requires { IsBetween rows.old }
+    ensures { OnOk result (Appends (text_written W.contents rows.old) (text_written W.contents rows.new)
+        (flat_map (event_text keys.now) events.now)) }
+{
+    for event in events {
+        write_event(rows, keys, *event)?;
+    }
+    Ok(())
+}
+
+// The first version that has all of the events.
+fn version_for(events: &RawTrace) -> Version
+    ensures { result ≡ version_for events.now }
+{
+    if events.has_try() {
+        Version::Two
+    } else {
+        Version::One
+    }
+}
+
+// Writes the header of a version.
+fn write_header<W: Write + Drop>(rows: &mut Writer<W>, version: Version) -> Result<(), AllocError>
+    requires { IsBetween rows.old }
+    ensures between { OnOk result (IsBetween rows.new) }
+    ensures text { OnOk result (Appends (text_written W.contents rows.old) (text_written W.contents rows.new)
+        (record_text (header_of version))) }
+{
+    match version {
+        Version::One => write_record(rows, &[b"lockdep", b"1"]),
+        Version::Two => write_record(rows, &[b"lockdep", b"2"]),
+    }
+}
+
+// Writes the record of an event.
+fn write_event<W: Write + Drop>(
+    rows: &mut Writer<W>,
+    keys: &KeyTable,
+    event: Event,
+) -> Result<(), AllocError>
+    requires { IsBetween rows.old }
+    ensures between { OnOk result (IsBetween rows.new) }
+    ensures text { OnOk result (Appends (text_written W.contents rows.old) (text_written W.contents rows.new)
+        (event_text keys.now event)) }
+{
+    match event {
+        Event::Acquire { mode, key } => {
+            let (class, sub) = name_of(keys, key);
+            write_four(rows, b"acq", class, &[b'0' + sub], mode_word(mode))
+        }
+        Event::Release { key } => {
+            let (class, sub) = name_of(keys, key);
+            write_three(rows, b"rel", class, &[b'0' + sub])
+        }
+        Event::Enter { irq } => write_record(rows, &[b"enter", irq_word(irq)]),
+        Event::Leave => write_record(rows, &[b"leave"]),
+        Event::TurnOn { irq } => write_record(rows, &[b"on", irq_word(irq)]),
+        Event::TurnOff { irq } => write_record(rows, &[b"off", irq_word(irq)]),
+    }
+}
+
+// The bytes of the class's name and the subclass of a key; an empty name where there is no such key.
+fn name_of(keys: &KeyTable, key: KeyId) -> (&[u8], u8)
+    ensures name { (result.0.now, result.1) ≡ name_at keys.now key }
+    ensures digit { result.1 ≤ MAX_SUB }
+{
+    match keys.name_of(key) {
+        Some((class, sub)) => (class.as_bytes(), sub),
+        None => (b"", 0),
+    }
+}
+
+// The word of a mode.
+fn mode_word(mode: Mode) -> &'static [u8]
+    ensures { result.now ≡ mode_word mode }
+{
+    match mode {
+        Mode::Write => b"w",
+        Mode::Read => b"r",
+        Mode::RecRead => b"rr",
+        Mode::TryWrite => b"tw",
+        Mode::TryRead => b"tr",
+        Mode::TryRecRead => b"trr",
+    }
+}
+
+// The word of a state.
+fn irq_word(irq: Irq) -> &'static [u8]
+    ensures { result.now ≡ irq_word irq }
+{
+    match irq {
+        Irq::Hard => b"hardirq",
+        Irq::Soft => b"softirq",
+    }
+}
+
+// Writes a record of these fields.
+fn write_record<W: Write + Drop>(rows: &mut Writer<W>, fields: &[&[u8]]) -> Result<(), AllocError>
+    requires { IsBetween rows.old }
+    ensures between { OnOk result (IsBetween rows.new) }
+    ensures text { OnOk result (Appends (text_written W.contents rows.old) (text_written W.contents rows.new)
+        (record_text (map (λ field. field.now) fields.now))) }
+{
+    let Ok(()) = rows.write_fields(fields) else {
+        return Err(AllocError);
+    };
+    Ok(())
+}
+
+// Writes a record of three fields.
+fn write_three<'f, W: Write + Drop>(
+    rows: &mut Writer<W>,
+    verb: &'f [u8],
+    class: &'f [u8],
+    sub: &'f [u8],
+) -> Result<(), AllocError>
+    requires { IsBetween rows.old }
+    ensures between { OnOk result (IsBetween rows.new) }
+    ensures text { OnOk result (Appends (text_written W.contents rows.old) (text_written W.contents rows.new)
+        (record_text (verb.now ∷ class.now ∷ sub.now ∷ []))) }
+{
+    write_record(rows, &[verb, class, sub])
+}
+
+// Writes a record of four fields.
+fn write_four<'f, W: Write + Drop>(
+    rows: &mut Writer<W>,
+    verb: &'f [u8],
+    class: &'f [u8],
+    sub: &'f [u8],
+    mode: &'f [u8],
+) -> Result<(), AllocError>
+    requires { IsBetween rows.old }
+    ensures between { OnOk result (IsBetween rows.new) }
+    ensures text { OnOk result (Appends (text_written W.contents rows.old) (text_written W.contents rows.new)
+        (record_text (verb.now ∷ class.now ∷ sub.now ∷ mode.now ∷ []))) }
+{
+    write_record(rows, &[verb, class, sub, mode])
+}

@@ -1,0 +1,11 @@
+use Rattle.std.proofs.Common.{take}
+use Rattle.ld_graph.specs.FactBits.{HasFact}
+use Rattle.lockdep.specs.Groups.{GrowsBy, InTurn}
+use Rattle.lockdep.specs.Picture.{ShowsDoubleLink}
+use Rattle.lockdep.proofs.picture.PictureView.add_doubles.Given as goal
+
+-- the lines of the states so far
+abbrev pub invariant-loop-irq : goal.invariant-loop-irq
+invariant-loop-irq l =
+    GrowsBy (InTurn (λ irq. InTurn (ShowsDoubleLink (HasFact l.self.settled.now) l.self.names.now irq) l.self.keys.now) (take l.irq-index l.irq-items))
+    l.initial.text.items l.text.items
