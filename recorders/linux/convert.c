@@ -925,7 +925,7 @@ static bool prepare(struct task *task, const struct lr_record *record) {
         counts.readers++;
         return false;
     }
-    if (task->is_reader && !held_in_frame(task))
+    if (task->is_reader && !held_in_frame(task) && !top(task)->is_taking)
         top(task)->difference = record->depth - task->held; /* another interrupt: what was in between isn't recorded */
     if (!does_agree(task, record->depth)) {
         mismatch(task);
