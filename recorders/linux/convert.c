@@ -1016,13 +1016,13 @@ static void take_list(struct task *task, struct cpu *cpu) {
 static void end_switch(struct cpu *cpu) {
     struct task *task = cpu->task;
     const struct lr_record *record = cpu->switched;
-    bool is_first = task->is_new || task->is_blind;
+    bool is_first = task->is_new || task->is_blind || task->is_after_gap;
     bool is_interrupt = record->state & (LR_IN_HARDIRQ | LR_IN_SOFTIRQ);
     cpu->switched = NULL;
     if (task->is_reader || task->is_full)
         return;
     if (is_interrupt) {
-        if (record->depth > 0 && (task->is_new || task->is_after_gap))
+        if (task->is_after_gap || (task->is_new && record->depth > 0))
             go_blind(task);
         return;
     }
