@@ -1,14 +1,14 @@
 -- One trace for the facts of many [this project's own].
-use Rattle.std.specs.Prelude.{IsFalse, List}
+use Rattle.std.specs.Prelude.{ℕ, IsFalse, List}
 use Rattle.ld_trace.specs.declared.event.Event.{Event}
 use Rattle.ld_trace.specs.Events.{KeysBelow, has_try}
 use Rattle.ld_task.specs.WellFormed.{IsWellFormed}
-use Rattle.ld_graph.specs.FactBits.{FactParts, HasFact}
 use Rattle.ld_graph.specs.Facts.{AreSame, TraceHas}
+use Rattle.ld_graph.specs.declared.fact.Fact.{Fact}
 
 -- a well-formed trace without a try that has exactly these facts, with keys below their bound
-pub record IsCondensed (facts : FactParts) (t : List Event) : Type 0 where
+pub record IsCondensed (keys : ℕ) (Has : Fact → Type 0) (t : List Event) : Type 0 where
   pub well_formed : IsWellFormed t
   pub no_try : IsFalse (has_try t)
-  pub below : KeysBelow facts.keys t
-  pub same : AreSame (TraceHas t) (HasFact facts)
+  pub below : KeysBelow keys t
+  pub same : AreSame (TraceHas t) Has

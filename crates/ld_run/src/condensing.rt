@@ -30,7 +30,7 @@ pub fn condense(
     settled: &Settled,
     order: &[KeyId],
 ) -> Result<RawTrace, CondenseFault>
-    ensures ok { IfOk result (IsCondensed settled.now) }
+    ensures ok { IfOk result (IsCondensed settled.now.keys (HasFact settled.now)) }
 {
     let wanted = settled.facts();
     let trace = trace_of(alloc, wanted, order)?;

@@ -3,6 +3,7 @@ pub mod OrderLemmas
 pub mod GroupLemmas
 pub mod BecauseLemmas
 pub mod ChainLemmas
+pub mod CondensedLemmas
 pub mod ReportLemmas
 pub mod ExplanationLemmas
 pub mod PictureLemmas

@@ -4,7 +4,7 @@ use Rattle.clap.specs.Words.{Text}
 use Rattle.ld_trace.specs.Names.{Name}
 use Rattle.lockdep.specs.Program.{IsReadingRefusal, StopsReading}
 use Rattle.lockdep.specs.declared.refusal.Refusal.{Refusal}
-use Rattle.lockdep.specs.declared.refusal.Refusal.TheVariants.{BadCommandLine, CannotOpen, Output, Memory, Reading, Step, Run}
+use Rattle.lockdep.specs.declared.refusal.Refusal.TheVariants.{BadCommandLine, CannotOpen, Output, Memory, Reading, Step, Run, Condensing}
 
 -- a file of the list is among their names
 pub named_at : (files : List (Bor Text)) (i : ℕ) (d : Bor Text) → i < length files → Contains (map (λ file. file.now) files) (slice_index_or files i d).now
@@ -27,6 +27,7 @@ StopsReading-one file names bytes Memory h = absurd h
 StopsReading-one file names bytes (Reading named fault) (is, why) = inl (0, omega arith, sym is)
 StopsReading-one file names bytes (Step named at fault) h = absurd h
 StopsReading-one file names bytes (Run fault) h = absurd h
+StopsReading-one file names bytes (Condensing fault) h = absurd h
 
 -- the one file is among several, so what is it is among them
 among_several : (file name : Text) (files : List Text) → Contains files file → Contains (file ∷ []) name → Contains files name
@@ -43,6 +44,7 @@ StopsReading-among file files input (Reading named fault) among (inl h) = inl (a
 StopsReading-among file files input (Reading named fault) among (inr (none, h)) = absurd (cc)
 StopsReading-among file files input (Step named at fault) among h = absurd h
 StopsReading-among file files input (Run fault) among h = absurd h
+StopsReading-among file files input (Condensing fault) among h = absurd h
 
 -- of no files it is standard input
 pub StopsReading-input : (files : List Text) (input : Option (List ℕ)) (refusal : Refusal) → files ≡ [] → IsReadingRefusal (codes "stdin") [] input refusal → StopsReading files input refusal
@@ -53,6 +55,7 @@ StopsReading-input files input Memory none h = tt
 StopsReading-input files input (Reading named fault) none h = inr (none, h)
 StopsReading-input files input (Step named at fault) none h = absurd h
 StopsReading-input files input (Run fault) none h = absurd h
+StopsReading-input files input (Condensing fault) none h = absurd h
 
 -- what holds of the error that is answered
 pub IfErr-passed : {T E : Type 0} (r : Result T E) (e : E) (P : E → Type 0) → IsErr r × IsErrAnd r (λ x. x ≡ e) → P e → IfErr r P

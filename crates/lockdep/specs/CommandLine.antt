@@ -9,7 +9,7 @@ use Rattle.clap.specs.declared.error.kind.ErrorKind.TheVariants.{DisplayHelp, Di
 use Rattle.lockdep.specs.declared.command_line.LineFault.{LineFault}
 use Rattle.lockdep.specs.declared.command_line.LineFault.TheVariants.{Help, Refused, Memory}
 use Rattle.lockdep.specs.declared.command_line.Line.{Line}
-use Rattle.lockdep.specs.declared.command_line.Line.TheVariants.{Check, Chains, Explain, Graph}
+use Rattle.lockdep.specs.declared.command_line.Line.TheVariants.{Check, Chains, Condense, Explain, Graph}
 
 -- `--workers N`: a whole number from 0 to 65,535, 4 where it isn't given
 abbrev pub workers_rule : Rule
@@ -49,6 +49,10 @@ findings_rule = record (new_rule (codes "findings")) {
 abbrev pub graph_shape : Shape
 graph_shape = (with_rule (with_rule (with_rule (new_app (codes "graph")) workers_rule) findings_rule) files_rule).top
 
+-- `condense [--workers N] [FILE...]`
+abbrev pub condense_shape : Shape
+condense_shape = (with_rule (with_rule (new_app (codes "condense")) workers_rule) files_rule).top
+
 -- `chains [FILE]`
 abbrev pub chains_shape : Shape
 chains_shape = (with_rule (new_app (codes "chains")) file_rule).top
@@ -56,9 +60,9 @@ chains_shape = (with_rule (new_app (codes "chains")) file_rule).top
 -- the program's command lines: one of the subcommands, or the version
 abbrev pub lockdep_app : App
 lockdep_app = let app = new_app (codes "lockdep") in
-    with_subcommand (with_subcommand (with_subcommand (with_subcommand
+    with_subcommand (with_subcommand (with_subcommand (with_subcommand (with_subcommand
     (record app { top = record app.top { subcommand_required = true; has_version = true } })
-    check_shape) explain_shape) graph_shape) chains_shape
+    check_shape) explain_shape) graph_shape) condense_shape) chains_shape
 
 -- the arguments say so many workers and these files
 pub record ReadsCheck (rows : List Row) (workers : ℕ) (files : List Text) : Type 0 where
@@ -78,6 +82,7 @@ abbrev pub subcommand_word : Line → Text
 subcommand_word (Check workers files) = codes "check"
 subcommand_word (Explain workers files) = codes "explain"
 subcommand_word (Graph workers findings files) = codes "graph"
+subcommand_word (Condense workers files) = codes "condense"
 subcommand_word (Chains file) = codes "chains"
 
 -- the arguments of the subcommand say this
@@ -86,6 +91,7 @@ ReadsLine rows (Check workers files) = ReadsCheck rows workers (map (λ file. fi
 ReadsLine rows (Explain workers files) = ReadsCheck rows workers (map (λ file. file.now) files.items)
 ReadsLine rows (Graph workers findings files) =
     ReadsCheck rows workers (map (λ file. file.now) files.items) × ReadsFindings rows findings
+ReadsLine rows (Condense workers files) = ReadsCheck rows workers (map (λ file. file.now) files.items)
 ReadsLine rows (Chains file) = option_map (λ word. word.now) file ≡ first_of (codes "FILE") rows
 
 -- a subcommand's name and arguments ask for this

@@ -1,5 +1,5 @@
 -- The codes of refused writes, and what a refused report leaves [this project's own].
-use Rattle.std.specs.Prelude.{◌≡◌, ◌+◌, ◌≤◌, ℕ, List, [], Option, codes, All, length}
+use Rattle.std.specs.Prelude.{◌≡◌, ◌+◌, ◌≤◌, ⊤, ℕ, List, [], Option, Result, Ok, Err, codes, All, length}
 use Rattle.std.specs.Io.KnownBytes.{Keeps}
 use Rattle.clap.specs.Words.{Text}
 use Rattle.ld_trace.specs.Names.{Name}
@@ -8,14 +8,14 @@ use Rattle.ld_task.specs.WellFormed.{IsWellFormed}
 use Rattle.lockdep.specs.Output.{AppendsBeginning}
 use Rattle.lockdep.specs.Texts.{IsTextOf}
 use Rattle.lockdep.specs.declared.wanted.Wanted.{Wanted}
-use Rattle.lockdep.specs.declared.wanted.Wanted.TheVariants.{Report}
+use Rattle.lockdep.specs.declared.wanted.Wanted.TheVariants.{Report, Condensed}
 use Rattle.lockdep.specs.declared.fault.WriteFault.{WriteFault}
 use Rattle.lockdep.specs.declared.fault.WriteFault.TheVariants.{Failed, Stuck, Memory}
 use Rattle.ld_run.specs.Runs.{IsCrew, StopsRun}
 use Rattle.ld_run.specs.declared.runs.TheConstants.{MAX_TRACES}
 use Rattle.ld_run.specs.declared.fault.RunFault.{RunFault}
 use Rattle.lockdep.specs.declared.fault.ReportFault.{ReportFault}
-use Rattle.lockdep.specs.declared.fault.ReportFault.TheVariants.{Step, Run, Out}
+use Rattle.lockdep.specs.declared.fault.ReportFault.TheVariants.{Step, Run, Condensing, Out}
 use Rattle.ld_run.specs.declared.fault.RunFault.TheVariants.{Refused}
 
 -- the number and name of a refused write
@@ -30,17 +30,40 @@ StopsWriting IsText old new Failed = (text : List ℕ) × IsText text × Appends
 StopsWriting IsText old new Stuck = (text : List ℕ) × IsText text × AppendsBeginning old new text
 StopsWriting IsText old new Memory = Keeps old new
 
+-- a refused write, as the refusal of a text
+abbrev pub out_of : Result ⊤ WriteFault → Result ⊤ ReportFault
+out_of (Ok x) = Ok x
+out_of (Err fault) = Err (Out fault)
+
+-- the text that is wanted of settled facts was refused so: in condensing, where it is the condensed trace, and then nothing
+-- was written, or in writing a text that is as said
+abbrev pub StopsSettled : Wanted → (List ℕ → Type 0) → (old new : Option (List ℕ)) → ReportFault → Type 0
+StopsSettled wanted IsText old new (Step trace at fault) = ⊥
+StopsSettled wanted IsText old new (Run fault) = ⊥
+StopsSettled wanted IsText old new (Condensing fault) = (wanted ≡ Condensed) × Keeps old new
+StopsSettled wanted IsText old new (Out fault) = StopsWriting IsText old new fault
+
+-- condensing was refused, or memory for the text, so that there was nothing to write
+abbrev pub IsBeforeWriting : ReportFault → Type 0
+IsBeforeWriting (Step trace at fault) = ⊥
+IsBeforeWriting (Run fault) = ⊥
+IsBeforeWriting (Condensing fault) = ⊤
+IsBeforeWriting (Out fault) = fault ≡ Memory
+
 -- the run was refused so, and not for a trace that isn't well formed
 abbrev pub StopsOtherwise : List (List Event) → ℕ → RunFault → Type 0
 StopsOtherwise traces workers (Refused trace place fault) = ⊥
 StopsOtherwise traces workers fault = StopsRun traces workers fault
 
 -- the text that is wanted of these traces of these files, by so many workers, was refused so: by the first trace that isn't
--- well formed, with the record of its first event that isn't allowed; by the run otherwise; or in writing
+-- well formed, with the record of its first event that isn't allowed; by the run otherwise; in condensing, where the condensed
+-- trace is wanted; or in writing
 abbrev pub StopsText : Wanted → List (List Event) → List Name → List Text → ℕ → (old new : Option (List ℕ)) → ReportFault → Type 0
 StopsText wanted traces names files workers old new (Step trace at fault) =
     (place : ℕ) × StopsRun traces workers (Refused trace place fault) × (at ≡ place + 2) × Keeps old new
 StopsText wanted traces names files workers old new (Run fault) = StopsOtherwise traces workers fault × Keeps old new
+StopsText wanted traces names files workers old new (Condensing fault) = IsCrew workers × (length traces ≤ MAX_TRACES)
+    × All IsWellFormed traces × (wanted ≡ Condensed) × Keeps old new
 StopsText wanted traces names files workers old new (Out fault) = IsCrew workers × (length traces ≤ MAX_TRACES)
     × All IsWellFormed traces × StopsWriting (IsTextOf wanted traces names files) old new fault
 

@@ -1,5 +1,6 @@
 pub mod ChainLines
 pub mod CommandLine
+pub mod Condensed
 pub mod Explanation
 pub mod FaultLines
 pub mod Faults

@@ -18,15 +18,15 @@ use Rattle.lockdep.specs.Texts.{IsTextOf}
 use Rattle.lockdep.specs.Words.{file_at}
 use Rattle.ld_run.specs.TraceFacts.{TracesHave}
 use Rattle.lockdep.specs.declared.command_line.Line.{Line}
-use Rattle.lockdep.specs.declared.command_line.Line.TheVariants.{Check, Chains, Explain, Graph}
+use Rattle.lockdep.specs.declared.command_line.Line.TheVariants.{Check, Chains, Condense, Explain, Graph}
 use Rattle.lockdep.specs.declared.wanted.Wanted.{Wanted}
-use Rattle.lockdep.specs.declared.wanted.Wanted.TheVariants.{Report, Explanation, Picture}
+use Rattle.lockdep.specs.declared.wanted.Wanted.TheVariants.{Report, Explanation, Picture, Condensed}
 use Rattle.lockdep.specs.declared.fault.ReportFault.{ReportFault}
 use Rattle.lockdep.specs.declared.fault.ReportFault.TheVariants as report
 use Rattle.lockdep.specs.declared.fault.WriteFault.{WriteFault}
 use Rattle.lockdep.specs.declared.fault.WriteFault.TheVariants as write
 use Rattle.lockdep.specs.declared.refusal.Refusal.{Refusal}
-use Rattle.lockdep.specs.declared.refusal.Refusal.TheVariants.{BadCommandLine, CannotOpen, Output, Memory, Reading, Step, Run}
+use Rattle.lockdep.specs.declared.refusal.Refusal.TheVariants.{BadCommandLine, CannotOpen, Output, Memory, Reading, Step, Run, Condensing}
 
 -- What is done.
 
@@ -55,6 +55,11 @@ pub record TellsOf (wanted : Wanted) (workers : ℕ) (files : List Text) (input 
   pub read : AreTracesOf files input names traces
   pub writes : WritesText wanted workers files names traces old new status
 
+-- the condensed trace was written, and the status is 0 whatever a report's would be
+abbrev pub Condenses : ℕ → (files : List Text) → (input old new : Option (List ℕ)) → ℕ → Type 0
+Condenses workers files input old new status =
+    (status ≡ 0) × ((reported : ℕ) × TellsOf Condensed workers files input old new reported)
+
 -- what is known of the bytes of a trace: those that standard input holds, and of a file's nothing
 abbrev pub known_of : Option Text → (input : Option (List ℕ)) → Option (List ℕ)
 known_of None input = input
@@ -79,6 +84,7 @@ abbrev pub DoesLine : Line → (input old new : Option (List ℕ)) → ℕ → T
 DoesLine (Check workers files) input = TellsOf Report workers (map (λ file. file.now) files.items) input
 DoesLine (Explain workers files) input = TellsOf Explanation workers (map (λ file. file.now) files.items) input
 DoesLine (Graph workers findings files) input = TellsOf (Picture findings) workers (map (λ file. file.now) files.items) input
+DoesLine (Condense workers files) input = Condenses workers (map (λ file. file.now) files.items) input
 DoesLine (Chains file) input = WritesChains (known_of (option_map (λ word. word.now) file) input)
 
 -- help or the version was asked for and written
@@ -127,6 +133,7 @@ IsReportRefusal files (report.Step trace at fault) (Step named named_at named_fa
     (named.now ≡ file_at files trace) × (named_at ≡ at) × (named_fault ≡ fault)
 IsReportRefusal files (report.Step trace at fault) _ = ⊥
 IsReportRefusal files (report.Run fault) refusal = refusal ≡ Run fault
+IsReportRefusal files (report.Condensing fault) refusal = refusal ≡ Condensing fault
 IsReportRefusal files (report.Out fault) refusal = refusal ≡ write_refusal_of fault
 
 -- these traces of the files have no such text, or it wasn't written whole
@@ -164,6 +171,7 @@ abbrev pub RefusesLine : Line → (input old new : Option (List ℕ)) → Refusa
 RefusesLine (Check workers files) = RefusesText Report workers (map (λ file. file.now) files.items)
 RefusesLine (Explain workers files) = RefusesText Explanation workers (map (λ file. file.now) files.items)
 RefusesLine (Graph workers findings files) = RefusesText (Picture findings) workers (map (λ file. file.now) files.items)
+RefusesLine (Condense workers files) = RefusesText Condensed workers (map (λ file. file.now) files.items)
 RefusesLine (Chains file) = RefusesChains (option_map (λ word. word.now) file)
 
 -- the text that was asked for wasn't written whole

@@ -3,14 +3,16 @@ use Rattle.std.specs.Prelude.{ℕ, List}
 use Rattle.clap.specs.Words.{Text}
 use Rattle.ld_trace.specs.Names.{Name}
 use Rattle.ld_trace.specs.declared.event.Event.{Event}
+use Rattle.lockdep.specs.Condensed.{IsCondensedOf}
 use Rattle.lockdep.specs.Explanation.{IsExplanationOf}
 use Rattle.lockdep.specs.Picture.{IsPictureOf}
 use Rattle.lockdep.specs.Report.{IsReportOf}
 use Rattle.lockdep.specs.declared.wanted.Wanted.{Wanted}
-use Rattle.lockdep.specs.declared.wanted.Wanted.TheVariants.{Report, Explanation, Picture}
+use Rattle.lockdep.specs.declared.wanted.Wanted.TheVariants.{Report, Explanation, Picture, Condensed}
 
 -- the text is the one that is wanted of these traces of these files
 abbrev pub IsTextOf : Wanted → List (List Event) → List Name → List Text → List ℕ → Type 0
 IsTextOf Report traces names files = IsReportOf traces names
 IsTextOf Explanation traces names files = IsExplanationOf traces names files
 IsTextOf (Picture findings) traces names files = IsPictureOf findings traces names
+IsTextOf Condensed traces names files = IsCondensedOf traces names

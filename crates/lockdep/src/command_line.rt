@@ -3,7 +3,7 @@
 ghost use Rattle.std.specs.Prelude.{◌≡◌, ◌↔◌, [], false, ℕ, List, IfOk, IfErr, map, unwrap_or, codes};
 ghost use Rattle.clap.specs.Words.{HasKind, all_of, app_of, fault_of as clap_faults, found_of, kind_of, rows_of, rule_of, shape_of, subcommand_rows_of};
 ghost use Rattle.clap.specs.declared.builder.command.Command.TheViews.{out-Command};
-ghost use Rattle.lockdep.specs.CommandLine.{IsLineFault, IsLineIn, IsLineOf, ReadsCheck, ReadsLine, chains_shape, check_shape, explain_shape, file_rule, files_rule, findings_rule, graph_shape, lockdep_app, subcommand_word, workers_rule};
+ghost use Rattle.lockdep.specs.CommandLine.{IsLineFault, IsLineIn, IsLineOf, ReadsCheck, ReadsLine, chains_shape, check_shape, condense_shape, explain_shape, file_rule, files_rule, findings_rule, graph_shape, lockdep_app, subcommand_word, workers_rule};
 
 use clap::error::ErrorKind;
 use clap::{Arg, ArgAction, ArgMatches, Command, value_parser};
@@ -29,6 +29,11 @@ pub enum Line<'a> {
     Graph {
         workers: u16,
         findings: bool,
+        files: Vec<&'a str>,
+    },
+    /// One trace that has exactly their facts.
+    Condense {
+        workers: u16,
         files: Vec<&'a str>,
     },
     /// The chains of the trace in this file, or of the one on standard input where no file is named.
@@ -126,6 +131,17 @@ fn graph_command<'a>(alloc: Global) -> Result<Command<'a>, AllocError>
         .arg(files_argument(alloc))
 }
 
+// The command lines of the condensed trace.
+fn condense_command<'a>(alloc: Global) -> Result<Command<'a>, AllocError>
+    ensures shape { IfOk result (λ command. shape_of command ≡ condense_shape) }
+    ensures local { IfOk result (λ command. (out-Command command).has_globals ≡ false) }
+{
+    Command::new(alloc, "condense")
+        .about("Reads traces and writes one trace that has their lock order and usage")
+        .arg(workers_option(alloc))?
+        .arg(files_argument(alloc))
+}
+
 // The command lines of the chains.
 fn chains_command<'a>(alloc: Global) -> Result<Command<'a>, AllocError>
     ensures shape { IfOk result (λ command. shape_of command ≡ chains_shape) }
@@ -143,6 +159,7 @@ fn command<'a>(alloc: Global) -> Result<Command<'a>, AllocError>
     let check = check_command(alloc)?;
     let explain = explain_command(alloc)?;
     let graph = graph_command(alloc)?;
+    let condense = condense_command(alloc)?;
     let chains = chains_command(alloc)?;
     Command::new(alloc, "lockdep")
         .about("Checks recorded traces of tasks for lock orders that can deadlock")
@@ -151,6 +168,7 @@ fn command<'a>(alloc: Global) -> Result<Command<'a>, AllocError>
         .subcommand(check)?
         .subcommand(explain)?
         .subcommand(graph)?
+        .subcommand(condense)?
         .subcommand(chains)
 }
 
@@ -219,6 +237,16 @@ fn graph_line<'a>(alloc: Global, found: &ArgMatches<'a>) -> Result<Line<'a>, Lin
     })
 }
 
+// What the words of `condense` ask for.
+fn condense_line<'a>(alloc: Global, found: &ArgMatches<'a>) -> Result<Line<'a>, LineFault>
+    ensures ok { IfOk result (λ line. (subcommand_word line ≡ codes "condense")
+        × ReadsLine (rows_of (found_of found.now)) line) }
+    ensures no_help { IfErr result (λ fault. (words : List (List ℕ)) → IsLineFault words fault) }
+{
+    let (workers, files) = workers_and_files(alloc, found)?;
+    Ok(Line::Condense { workers, files })
+}
+
 // What the words of a subcommand ask for.
 fn line_of<'a>(alloc: Global, matches: &ArgMatches<'a>) -> Result<Line<'a>, LineFault>
     ensures ok { IfOk result (IsLineIn (subcommand_rows_of matches.now)) }
@@ -232,6 +260,9 @@ fn line_of<'a>(alloc: Global, matches: &ArgMatches<'a>) -> Result<Line<'a>, Line
     }
     if let Some(found) = matches.subcommand_matches("graph") {
         return graph_line(alloc, found);
+    }
+    if let Some(found) = matches.subcommand_matches("condense") {
+        return condense_line(alloc, found);
     }
     match matches.subcommand_matches("chains") {
         Some(found) => Ok(Line::Chains {
@@ -256,7 +287,7 @@ fn fault_of(error: clap::Error) -> LineFault
 
 /// What the command line asks for. The words begin with the program's name, and are read as `clap` defines it: `check
 /// [--workers N] [FILE...]`, with N a whole number from 0 to 65,535 and 4 where it isn't given, `explain [--workers N]
-/// [FILE...]`, `graph [--workers N] [--findings] [FILE...]` and `chains [FILE]`.
+/// [FILE...]`, `graph [--workers N] [--findings] [FILE...]`, `condense [--workers N] [FILE...]` and `chains [FILE]`.
 ///
 /// Refusals: `Help` where help or the version is asked for, `Memory` where memory is refused, and `Refused` for every other
 /// line that isn't taken [this project's own].

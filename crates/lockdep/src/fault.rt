@@ -3,7 +3,7 @@
 ghost use Rattle.std.specs.Prelude.{◌≡◌};
 ghost use Rattle.lockdep.specs.Faults.{write_code_of};
 
-use ld_run::RunFault;
+use ld_run::{CondenseFault, RunFault};
 use ld_task::StepFault;
 use thiserror::Error;
 
@@ -48,6 +48,9 @@ pub enum ReportFault {
     /// The run was refused otherwise. Nothing was written.
     #[error("{0}")]
     Run(RunFault),
+    /// The facts weren't condensed. Nothing was written.
+    #[error("{0}")]
+    Condensing(CondenseFault),
     /// Writing failed.
     #[error("{0}")]
     Out(WriteFault),

@@ -10,6 +10,7 @@ use std::{env, io};
 mod because;
 mod chains_text;
 mod command_line;
+mod condensed;
 mod explanation;
 mod fault;
 mod order;

@@ -13,9 +13,10 @@ ghost use Rattle.lockdep.specs.CommandLine.{IsLineFault};
 ghost use Rattle.lockdep.specs.FaultLines.{fault_line};
 ghost use Rattle.lockdep.specs.Faults.{StopsText};
 ghost use Rattle.lockdep.specs.Output.{AppendsBeginning};
-ghost use Rattle.lockdep.specs.Program.{AreTracesOf, DoesLine, DoesWords, IsReadingRefusal, IsReportRefusal, IsStepRefusal, RefusesChains, RefusesHelp, RefusesLine, RefusesNoLine, RefusesOpened, RefusesText, RefusesTrace, RefusesTraces, RefusesWords, StopsReading, TellsOf, WritesChains, WritesHelp, WritesText, known_of, write_refusal_of};
+ghost use Rattle.lockdep.specs.Program.{AreTracesOf, Condenses, DoesLine, DoesWords, IsReadingRefusal, IsReportRefusal, IsStepRefusal, RefusesChains, RefusesHelp, RefusesLine, RefusesNoLine, RefusesOpened, RefusesText, RefusesTrace, RefusesTraces, RefusesWords, StopsReading, TellsOf, WritesChains, WritesHelp, WritesText, known_of, write_refusal_of};
 ghost use Rattle.lockdep.specs.Texts.{IsTextOf};
 ghost use Rattle.lockdep.specs.declared.refusal.Refusal.{Refusal};
+ghost use Rattle.lockdep.specs.declared.wanted.Wanted.{Wanted};
 ghost use Rattle.ld_graph.specs.Links.{IsClean};
 ghost use Rattle.ld_run.specs.Runs.{IsCrew};
 ghost use Rattle.ld_run.specs.TraceFacts.{TracesHave};
@@ -40,7 +41,7 @@ use std::rt::Files;
 use std::sync::Wait;
 use std::thread::Threads;
 
-/// The status where the facts are clean, the chains were written, or help was.
+/// The status where the facts are clean, the condensed trace or the chains were written, or help was.
 const DONE: u8 = 0;
 
 /// The status where a text was written of facts that aren't clean.
@@ -48,14 +49,15 @@ const NOT_CLEAN: u8 = 1;
 
 /// The program. The words begin with its name, `input` stands for standard input, `out` for standard output and `err` for
 /// standard error. `lockdep check [--workers N] [FILE...]` writes the report of the traces in these files, `lockdep explain`
-/// what was found in them and the records that it comes from, `lockdep graph [--findings]` a picture of their facts, and
-/// `lockdep chains [FILE]` the chains of a trace. Without a file one trace is read from the input. Each file is opened and
-/// read before the next one is. `lockdep --version` writes the version, and `lockdep help` how the program is called.
+/// what was found in them and the records that it comes from, `lockdep graph [--findings]` a picture of their facts, `lockdep
+/// condense` one trace that has exactly their facts, and `lockdep chains [FILE]` the chains of a trace. Without a file one
+/// trace is read from the input. Each file is opened and read before the next one is. `lockdep --version` writes the version,
+/// and `lockdep help` how the program is called.
 ///
-/// The status is 0 where the facts are clean, the chains were written, or what was asked for was help or the version; 1
-/// where a report, an explanation or a picture was written of facts that aren't clean; and 2 where the program refused.
-/// Exactly one line is written on `err` then, and none otherwise; where `err` fails, that is passed over. This project's
-/// own.
+/// The status is 0 where the facts are clean, the condensed trace or the chains were written, or what was asked for was help
+/// or the version; 1 where a report, an explanation or a picture was written of facts that aren't clean; and 2 where the
+/// program refused. Exactly one line is written on `err` then, and none otherwise; where `err` fails, that is passed over.
+/// This project's own.
 pub fn program<R: Files + Threads + Wait + Sync, I: Read + Drop, O: Write, E: Write>(
     rt: &R,
     alloc: Global,
@@ -130,6 +132,9 @@ fn answer_line<'a, R: Files + Threads + Wait + Sync, I: Read + Drop, O: Write>(
             };
             answer_traces(rt, alloc, wanted, *workers, files.as_slice(), input, out)
         }
+        Line::Condense { workers, files } => {
+            answer_condensed(rt, alloc, *workers, files.as_slice(), input, out)
+        }
         Line::Chains { file } => answer_chains(rt, alloc, *file, input, out),
     }
 }
@@ -169,6 +174,27 @@ fn answer_help<'a, O: Write>(
     match write_text(out, text.as_str().as_bytes()) {
         Ok(()) => Ok(DONE),
         Err(_) => Err(Refusal::Output),
+    }
+}
+
+// Writes the condensed trace of the traces in the files, or of the one in the input where there are none.
+fn answer_condensed<'a, R: Files + Threads + Wait + Sync, I: Read + Drop, O: Write>(
+    rt: &R,
+    alloc: Global,
+    workers: u16,
+    files: &[&'a str],
+    input: I,
+    out: &mut O,
+) -> Result<u8, Refusal<'a>>
+    ensures ok { IfOk result (Condenses workers (map (λ file. file.now) files.entry.now) (I.remaining input)
+        (O.contents out.old) (O.contents out.new)) }
+    ensures few { IfOk result (λ status. status ≤ 1) }
+    ensures err { IfErr result (RefusesText Wanted.Condensed workers (map (λ file. file.now) files.entry.now)
+        (I.remaining input) (O.contents out.old) (O.contents out.new)) }
+{
+    match answer_traces(rt, alloc, Wanted::Condensed, workers, files, input, out) {
+        Ok(_) => Ok(DONE),
+        Err(refusal) => Err(refusal),
     }
 }
 
@@ -242,6 +268,7 @@ fn write_session<R: Threads + Wait + Sync, O: Write>(
         Wanted::Picture { findings } => {
             session.graph(rt, alloc, workers, &OpenGate, findings, out)
         }
+        Wanted::Condensed => session.condense(rt, alloc, workers, &OpenGate, out),
     }
 }
 
@@ -412,6 +439,7 @@ fn report_refusal<'a>(files: &[&'a str], fault: ReportFault) -> Refusal<'a>
             fault,
         },
         ReportFault::Run(fault) => Refusal::Run(fault),
+        ReportFault::Condensing(fault) => Refusal::Condensing(fault),
         ReportFault::Out(fault) => write_refusal(fault),
     }
 }

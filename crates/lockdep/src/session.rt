@@ -13,15 +13,16 @@ ghost use Rattle.ld_run.specs.Runs.{IsCrew, StopsRun};
 ghost use Rattle.ld_run.specs.declared.runs.TheConstants.{MAX_TRACES};
 ghost use Rattle.ld_graph.specs.FactBits.{HasFact};
 ghost use Rattle.ld_graph.specs.Facts.{AreSame};
+ghost use Rattle.lockdep.specs.Condensed.{IsCondensedOf};
 ghost use Rattle.lockdep.specs.Explanation.{IsExplanationOf};
-ghost use Rattle.lockdep.specs.Faults.{StopsReport, StopsText, StopsWriting};
-ghost use Rattle.lockdep.specs.declared.fault.WriteFault.{WriteFault};
+ghost use Rattle.lockdep.specs.Faults.{StopsReport, StopsSettled, StopsText, out_of};
 ghost use Rattle.lockdep.specs.Picture.{IsPictureOf};
 ghost use Rattle.lockdep.specs.Report.{IsReportOf};
 ghost use Rattle.lockdep.specs.Texts.{IsTextOf};
 ghost use Rattle.lockdep.specs.declared.wanted.Wanted.{Wanted};
 ghost use Rattle.ld_run.specs.TraceFacts.{TracesHave};
 
+use crate::condensed::write_condensed;
 use crate::explanation::write_explanation;
 use crate::fault::{ReportFault, WriteFault};
 use crate::picture::write_picture;
@@ -190,6 +191,42 @@ impl Session {
             &self.keys,
         )
     }
+
+    /// Checks all traces as `report` does, writes one trace that has exactly the facts of all of them together, and answers
+    /// whether the facts are clean. The trace is of version 1 of the format, and reads as `trace_text` of it says. The session
+    /// is consumed in every case.
+    ///
+    /// Refusals are those of `report`, with O3 also where memory for the text is refused, and before O1: `Condensing` with K2
+    /// where memory for the trace is refused, and with K1 where the trace that was made doesn't have exactly the facts, which
+    /// no test has met. Nothing was written then [this project's own].
+    pub fn condense<R: Threads + Wait + Sync, W: Write, G: Gate + Sync>(
+        self,
+        rt: &R,
+        alloc: Global,
+        workers: u16,
+        gate: &G,
+        w: &mut W,
+    ) -> Result<bool, ReportFault>
+        ensures ok { IfOk result (λ clean. All IsWellFormed self.traces
+            × (IsTrue clean ↔ IsClean (TracesHave self.traces))
+            × ((text : List ℕ) × IsCondensedOf self.traces self.names text
+            × Appends (W.contents w.old) (W.contents w.new) text)) }
+        ensures crew { OnOk result (IsCrew workers × (length self.traces ≤ MAX_TRACES)) }
+        ensures refused { IfErr result (StopsText Wanted.Condensed self.traces self.names []
+            workers (W.contents w.old) (W.contents w.new)) }
+    {
+        write_traces(
+            rt,
+            alloc,
+            workers,
+            gate,
+            w,
+            Wanted::Condensed,
+            &[],
+            self.traces.as_slice(),
+            &self.keys,
+        )
+    }
 }
 
 // Reads one trace and puts it behind the others.
@@ -303,16 +340,17 @@ fn write_settled<W: Write>(
     requires few { length traces.now ≤ MAX_TRACES }
     requires well_formed { All IsWellFormed traces.now }
     requires facts { AreSame (HasFact settled.now) (TracesHave traces.now) }
+    requires keys { settled.now.keys ≡ length keys.now }
     ensures ok { IfOk result (λ clean. (IsTrue clean ↔ IsClean (TracesHave traces.now))
         × ((text : List ℕ) × IsTextOf wanted traces.now keys.now (map (λ file. file.now) files.entry.now) text
         × Appends (W.contents w.old) (W.contents w.new) text)) }
-    ensures refused { IfErr result (λ fault. (out : WriteFault) × (fault ≡ ReportFault.Out out)
-        × StopsWriting (IsTextOf wanted traces.now keys.now (map (λ file. file.now) files.entry.now))
-        (W.contents w.old) (W.contents w.new) out) }
+    ensures refused { IfErr result (StopsSettled wanted
+        (IsTextOf wanted traces.now keys.now (map (λ file. file.now) files.entry.now))
+        (W.contents w.old) (W.contents w.new)) }
 {
     match write_text_of(alloc, w, wanted, settled, traces, keys, files) {
         Ok(()) => Ok(settled.is_clean()),
-        Err(fault) => Err(ReportFault::Out(fault)),
+        Err(fault) => Err(fault),
     }
 }
 
@@ -325,21 +363,33 @@ fn write_text_of<W: Write>(
     traces: &[RawTrace],
     keys: &KeyTable,
     files: &[&str],
-) -> Result<(), WriteFault>
+) -> Result<(), ReportFault>
     requires below { All (KeysBelow (length keys.now)) traces.now }
     requires few { length traces.now ≤ MAX_TRACES }
     requires well_formed { All IsWellFormed traces.now }
     requires facts { AreSame (HasFact settled.now) (TracesHave traces.now) }
+    requires keys { settled.now.keys ≡ length keys.now }
     ensures ok { OnOk result ((text : List ℕ)
         × IsTextOf wanted traces.now keys.now (map (λ file. file.now) files.entry.now) text
         × Appends (W.contents w.old) (W.contents w.new) text) }
-    ensures err { IfErr result (StopsWriting
+    ensures err { IfErr result (StopsSettled wanted
         (IsTextOf wanted traces.now keys.now (map (λ file. file.now) files.entry.now))
         (W.contents w.old) (W.contents w.new)) }
 {
     match wanted {
-        Wanted::Report => write_report(alloc, w, settled, traces, keys),
-        Wanted::Explanation => write_explanation(alloc, w, settled, traces, keys, files),
-        Wanted::Picture { findings } => write_picture(alloc, w, settled, keys, findings),
+        Wanted::Report => out_of(write_report(alloc, w, settled, traces, keys)),
+        Wanted::Explanation => out_of(write_explanation(alloc, w, settled, traces, keys, files)),
+        Wanted::Picture { findings } => { out_of(write_picture(alloc, w, settled, keys, findings)) }
+        Wanted::Condensed => write_condensed(alloc, w, settled, keys),
+    }
+}
+
+// What a text comes to that was written, or not.
+fn out_of(written: Result<(), WriteFault>) -> Result<(), ReportFault>
+    ensures { result ≡ out_of written }
+{
+    match written {
+        Ok(()) => Ok(()),
+        Err(fault) => Err(ReportFault::Out(fault)),
     }
 }

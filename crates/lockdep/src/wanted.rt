@@ -9,4 +9,6 @@ pub enum Wanted {
     Explanation,
     /// The facts as a picture; only what is part of a finding, if `findings` is set.
     Picture { findings: bool },
+    /// One trace that has exactly the facts of all of them.
+    Condensed,
 }

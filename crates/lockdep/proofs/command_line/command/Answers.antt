@@ -4,7 +4,7 @@ use Rattle.clap.specs.Built.{AddsSubcommand}
 use Rattle.clap.specs.Words.{App, Shape, app_of, new_app, shape_of, with_subcommand}
 use Rattle.clap.specs.declared.builder.command.Command.{Command}
 use Rattle.clap.specs.declared.builder.command.Command.TheViews.{out-Command}
-use Rattle.lockdep.specs.CommandLine.{chains_shape, check_shape, explain_shape, graph_shape}
+use Rattle.lockdep.specs.CommandLine.{chains_shape, check_shape, condense_shape, explain_shape, graph_shape}
 use Rattle.lockdep.proofs.command_line.command.Goals as goal
 
 -- the program without subcommands
@@ -22,6 +22,7 @@ returns c =
     let one = added _ _ _ top check_shape none c.in_ok-check.ensures.local c.in_ok-check.ensures.shape c.in_ok-subcommand.ensures in
     let two = added _ _ _ _ explain_shape one c.in_ok-explain.ensures.local c.in_ok-explain.ensures.shape c.in_ok-subcommand-2.ensures in
     let three = added _ _ _ _ graph_shape two c.in_ok-graph.ensures.local c.in_ok-graph.ensures.shape c.in_ok-subcommand-3.ensures in
-    IfOk-weaker c.subcommand-4.result _ _
-    (λ command. added _ _ command _ chains_shape three c.in_ok-chains.ensures.local c.in_ok-chains.ensures.shape)
-    c.subcommand-4.ensures
+    let four = added _ _ _ _ condense_shape three c.in_ok-condense.ensures.local c.in_ok-condense.ensures.shape c.in_ok-subcommand-4.ensures in
+    IfOk-weaker c.subcommand-5.result _ _
+    (λ command. added _ _ command _ chains_shape four c.in_ok-chains.ensures.local c.in_ok-chains.ensures.shape)
+    c.subcommand-5.ensures

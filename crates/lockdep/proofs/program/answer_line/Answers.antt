@@ -18,6 +18,11 @@ returns-in-Graph-clause-ok g c =
     subst (λ (line : Line). IfOk c.answer_traces-in-Graph.result (DoesLine line (g.I.Read.remaining c.args.input) (g.O.Write.contents c.args.out.now) (g.O.Write.contents c.answer_traces-in-Graph.new.out)))
     (sym c.in-Graph.is) (rw c.as_slice.ensures.value at c.answer_traces-in-Graph.ensures.ok)
 
+pub returns-in-Condense-clause-ok : goal.returns-in-Condense-clause-ok
+returns-in-Condense-clause-ok g c =
+    subst (λ (line : Line). IfOk c.answer_condensed.result (DoesLine line (g.I.Read.remaining c.args.input) (g.O.Write.contents c.args.out.now) (g.O.Write.contents c.answer_condensed.new.out)))
+    (sym c.in-Condense.is) (rw c.as_slice-in-Condense.ensures.value at c.answer_condensed.ensures.ok)
+
 pub returns-in-Chains-clause-ok : goal.returns-in-Chains-clause-ok
 returns-in-Chains-clause-ok g c =
     subst (λ (line : Line). IfOk c.answer_chains.result (DoesLine line (g.I.Read.remaining c.args.input) (g.O.Write.contents c.args.out.now) (g.O.Write.contents c.answer_chains.new.out)))

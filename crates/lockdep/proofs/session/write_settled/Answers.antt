@@ -1,4 +1,3 @@
-use Rattle.std.proofs.Common.{refl}
 use Rattle.ld_graph.specs.FactBits.{HasFact}
 use Rattle.ld_run.specs.TraceFacts.{TracesHave}
 use Rattle.lockdep.proofs.ReportLemmas.{clean_is-same}
@@ -9,6 +8,3 @@ returns-in-Ok-clause-ok g c = (
   clean_is-same (HasFact c.args.settled.now) (TracesHave c.args.traces.now) c.requires.facts c.is_clean.result c.is_clean.ensures,
   c.in-Ok.ensures.ok,
 )
-
-pub returns-in-Err-clause-refused : goal.returns-in-Err-clause-refused
-returns-in-Err-clause-refused g c = (c.in-Err.fault, refl, c.in-Err.ensures.err)

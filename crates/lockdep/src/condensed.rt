@@ -1,0 +1,59 @@
+//! The condensed trace of settled facts, and its text.
+
+ghost use Rattle.std.specs.Prelude.{◌≡◌, List, ℕ, IfErr, IfOk, OnOk, length};
+ghost use Rattle.std.specs.Io.KnownBytes.{Appends};
+ghost use Rattle.ld_graph.specs.FactBits.{HasFact};
+ghost use Rattle.lockdep.specs.Condensed.{IsCondensedText};
+ghost use Rattle.lockdep.specs.Faults.{IsBeforeWriting, StopsSettled};
+ghost use Rattle.lockdep.specs.declared.wanted.Wanted.{Wanted};
+
+use crate::fault::{ReportFault, WriteFault};
+use crate::order::sorted_keys;
+use crate::output::write_text;
+use ld_run::{Settled, condense};
+use ld_trace::{KeyTable, trace_text};
+use std::alloc::Global;
+use std::io::Write;
+
+/// Writes one trace that has exactly the settled facts, with the keys in the order of their names: the same facts and names
+/// give the same text.
+///
+/// Refusals: `Condensing` with K1 where the trace that was made doesn't have exactly the facts, and with K2 where memory for it
+/// is refused; `Out` with O3 where memory is refused for the order of the keys or the text, and with O1 and O2 where writing
+/// failed. Nothing was written but after O1 and O2 [this project's own].
+pub(crate) fn write_condensed<W: Write>(
+    alloc: Global,
+    w: &mut W,
+    settled: &Settled,
+    keys: &KeyTable,
+) -> Result<(), ReportFault>
+    requires { settled.now.keys ≡ length keys.now }
+    ensures ok { OnOk result ((text : List ℕ) × IsCondensedText (HasFact settled.now) keys.now text
+        × Appends (W.contents w.old) (W.contents w.new) text) }
+    ensures err { IfErr result (StopsSettled Wanted.Condensed (IsCondensedText (HasFact settled.now) keys.now)
+        (W.contents w.old) (W.contents w.new)) }
+{
+    let text = condensed_text(alloc, settled, keys)?;
+    match write_text(w, text.as_slice()) {
+        Ok(()) => Ok(()),
+        Err(fault) => Err(ReportFault::Out(fault)),
+    }
+}
+
+// The text of the condensed trace.
+fn condensed_text(alloc: Global, settled: &Settled, keys: &KeyTable) -> Result<Vec<u8>, ReportFault>
+    requires { settled.now.keys ≡ length keys.now }
+    ensures ok { IfOk result (λ text. IsCondensedText (HasFact settled.now) keys.now text.items) }
+    ensures err { IfErr result IsBeforeWriting }
+{
+    let Ok(order) = sorted_keys(alloc, keys) else {
+        return Err(ReportFault::Out(WriteFault::Memory));
+    };
+    match condense(alloc, settled, order.as_slice()) {
+        Ok(trace) => match trace_text(alloc, &trace, keys) {
+            Ok(text) => Ok(text),
+            Err(_) => Err(ReportFault::Out(WriteFault::Memory)),
+        },
+        Err(fault) => Err(ReportFault::Condensing(fault)),
+    }
+}
