@@ -1,6 +1,7 @@
 //! What no clause says: worked examples with their whole texts, the program's words and lines, and writers that fail.
 
 mod chain_texts;
+mod condensing;
 mod files;
 mod gates;
 mod helpers;

@@ -71,6 +71,33 @@ fn workers_and_files_of_an_explanation(rt: HostRuntime) -> Result<(), Fail> {
 }
 
 #[test]
+fn workers_and_files_of_a_condensed_trace(rt: HostRuntime) -> Result<(), Fail> {
+    let examples: [(&[&str], u16, &[&str]); 2] = [
+        (&["lockdep", "condense"], 4, &[]),
+        (
+            &["lockdep", "condense", "b", "--workers", "2", "a"],
+            2,
+            &["b", "a"],
+        ),
+    ];
+    for (words, workers, files) in examples {
+        match command_line(rt.alloc(), words) {
+            Ok(
+                Line::Condense {
+                    workers: got,
+                    files: named,
+                },
+            ) => {
+                assert_eq!(rt; got, workers, "{words:?}");
+                assert_eq!(rt; named.as_slice(), files, "{words:?}");
+            }
+            other => panic!(rt; "{words:?}: {other:?}"),
+        }
+    }
+    Ok(())
+}
+
+#[test]
 fn workers_findings_and_files_of_a_graph(rt: HostRuntime) -> Result<(), Fail> {
     let examples: [(&[&str], (u16, bool), &[&str]); 6] = [
         (&["lockdep", "graph"], (4, false), &[]),
