@@ -80,7 +80,7 @@ struct cpu {
     size_t slot_count;
     size_t next;   /* the slot that comes next in the order of numbers */
     uint64_t base; /* from LR_CPU */
-    bool is_based;
+    bool is_based, is_in_gap;
     struct task *task;           /* that runs on it */
     const struct lr_record *switched; /* an LR_TASK whose list isn't whole yet */
     const struct lr_record *list[MAX_HELD];
@@ -88,6 +88,7 @@ struct cpu {
 };
 
 static struct cpu cpus[MAX_CPUS];
+static int open_gaps; /* how many CPUs are losing records */
 
 /* One record, its CPU, and whether records of this CPU were lost right behind it. */
 struct item {
@@ -925,7 +926,7 @@ static bool prepare(struct task *task, const struct lr_record *record) {
         counts.readers++;
         return false;
     }
-    if (task->is_reader && !held_in_frame(task))
+    if (task->is_reader && !held_in_frame(task) && !top(task)->is_taking)
         top(task)->difference = record->depth - task->held; /* another interrupt: what was in between isn't recorded */
     if (!does_agree(task, record->depth)) {
         mismatch(task);
@@ -1015,13 +1016,13 @@ static void take_list(struct task *task, struct cpu *cpu) {
 static void end_switch(struct cpu *cpu) {
     struct task *task = cpu->task;
     const struct lr_record *record = cpu->switched;
-    bool is_first = task->is_new || task->is_blind;
+    bool is_first = task->is_new || task->is_blind || task->is_after_gap;
     bool is_interrupt = record->state & (LR_IN_HARDIRQ | LR_IN_SOFTIRQ);
     cpu->switched = NULL;
     if (task->is_reader || task->is_full)
         return;
     if (is_interrupt) {
-        if (record->depth > 0 && (task->is_new || task->is_after_gap))
+        if (task->is_after_gap || (task->is_new && record->depth > 0))
             go_blind(task);
         return;
     }
@@ -1038,7 +1039,10 @@ static void end_switch(struct cpu *cpu) {
 }
 
 static void begin_switch(struct cpu *cpu, const struct lr_record *record) {
-    cpu->task = task_of(record);
+    struct task *task = task_of(record);
+    if (open_gaps && cpu->task && cpu->task != task)
+        cpu->task->is_after_gap = true; /* it may run where records are being lost */
+    cpu->task = task;
     cpu->switched = record;
     cpu->list_count = 0;
     if (record->depth == 0)
@@ -1056,12 +1060,20 @@ static void add_to_list(struct cpu *cpu, const struct lr_record *record) {
 /* Records of this CPU are lost from here on: what its task does isn't known, nor what others do on it. */
 static void begin_gap(struct cpu *cpu) {
     counts.gaps++;
+    open_gaps += !cpu->is_in_gap;
+    cpu->is_in_gap = true;
     for (size_t number = 0; number < task_count; number++)
         tasks[number]->is_after_gap = true;
     if (cpu->task)
         go_blind(cpu->task);
     cpu->task = NULL;
     cpu->switched = NULL;
+}
+
+static void end_gap(struct cpu *cpu, const struct lr_record *record) {
+    counts.lost += record->instance;
+    open_gaps -= cpu->is_in_gap;
+    cpu->is_in_gap = false;
 }
 
 static void event_of(struct cpu *cpu, const struct lr_record *record) {
@@ -1090,7 +1102,7 @@ static void convert(void) {
         else if (record->type == LR_HELD)
             add_to_list(cpu, record);
         else if (record->type == LR_LOST)
-            counts.lost += record->instance;
+            end_gap(cpu, record);
         else if (is_event(record))
             event_of(cpu, record);
         if (items[number].is_before_gap)

@@ -2,7 +2,8 @@
 
    Behind each `FILE: record N`, and each later ` record N` of the same line, comes the place of that record, by
    FILE.places; behind each name of a class the place by which it is called that, by FOLDER/classes (`traces` if it isn't
-   given, else beside the traces that the text names). Lines come from addr2line. */
+   given, else beside the traces that the text names), once in a line and the indented lines under it. Lines come from
+   addr2line. */
 #define _GNU_SOURCE
 #include <stdbool.h>
 #include <stdint.h>
@@ -167,10 +168,12 @@ static void tell_record(const char *trace, unsigned long number) {
 struct class {
     char *name, *module, *kind;
     uint64_t offset;
+    unsigned long told_in; /* the block in which its place was told last */
     struct class *next;
 };
 
 static struct class *classes;
+static unsigned long block; /* a line that isn't indented begins one */
 static char *read_folders[256];
 static size_t folder_count;
 
@@ -196,19 +199,24 @@ static void read_classes(const char *folder) {
         struct class *c = malloc(sizeof *c);
         if (!c)
             exit(2);
-        *c = (struct class){strdup(name), strdup(module), strdup(kind), strtoull(offset, NULL, 16), classes};
+        *c = (struct class){strdup(name), strdup(module), strdup(kind), strtoull(offset, NULL, 16), 0, classes};
         classes = c;
     }
     fclose(file);
 }
 
+/* Of several folders with the class the last that was read counts. */
 static void tell_class(const char *name) {
+    struct class *found = NULL;
+    bool is_told = false;
     for (struct class *c = classes; c; c = c->next)
         if (strcmp(c->name, name) == 0) {
-            if (strcmp(c->module, "-") != 0)
-                printf(" [%s %s]", c->kind, line_of(c->module, c->offset, strcmp(c->kind, "static") != 0));
-            return;
+            found = found ? found : c;
+            is_told |= c->told_in == block;
+            c->told_in = block;
         }
+    if (found && !is_told && strcmp(found->module, "-") != 0)
+        printf(" [%s %s]", found->kind, line_of(found->module, found->offset, strcmp(found->kind, "static") != 0));
 }
 
 /* ---- The text. */
@@ -232,7 +240,31 @@ static void folder_of(char *to, const char *file) {
         strcpy(to, ".");
 }
 
-/* A word of the line: the file in front of a record, the record, or a class with its subclass. */
+/* The file in front of a record: its records and classes are those that the line goes on with. */
+static void take_file(char *file, const char *word) {
+    snprintf(file, PATH, "%s", word);
+    char folder[PATH];
+    folder_of(folder, file);
+    read_classes(folder);
+}
+
+/* A word that may be a class with its subclass; what ends the word stays behind the place. */
+static void tell_word(char *word) {
+    size_t length = strlen(word);
+    char end[2] = "";
+    if (word[length - 1] == ':' || word[length - 1] == ',') {
+        end[0] = word[--length];
+        word[length] = 0;
+    }
+    fputs(word, stdout);
+    if (length > 2 && word[length - 2] == '/' && word[length - 1] >= '0' && word[length - 1] <= '7') {
+        word[length - 2] = 0;
+        tell_class(word);
+    }
+    fputs(end, stdout);
+}
+
+/* Goes through the words of a line: the file in front of a record, the record, or a class with its subclass. */
 static void tell_line(const char *line) {
     char file[PATH] = "", word[PATH];
     const char *p = line;
@@ -240,36 +272,26 @@ static void tell_line(const char *line) {
         unsigned long number;
         size_t length;
         if (is_record(p, &number, &length)) {
-            fwrite(p, length, 1, stdout);
+            printf("%.*s", (int)length, p);
             if (file[0])
                 tell_record(file, number);
             p += length;
             continue;
         }
         length = strcspn(p, " \n");
-        if (length == 0) {
+        if (length == 0 || length >= PATH) {
             putchar(*p++);
             continue;
         }
-        fwrite(p, length, 1, stdout);
-        snprintf(word, sizeof word, "%.*s", (int)(length < PATH ? length : PATH - 1), p);
+        snprintf(word, sizeof word, "%.*s", (int)length, p);
         p += length;
-        if (word[length - 1] == ':' && is_record(p + (*p == ' '), &number, &length)) {
-            word[strlen(word) - 1] = 0;
-            strcpy(file, word);
-            char folder[PATH];
-            folder_of(folder, file);
-            read_classes(folder);
-            continue;
-        }
-        size_t n = strlen(word);
-        const char *tail = "";
-        if (n > 0 && (word[n - 1] == ':' || word[n - 1] == ','))
-            tail = p - 1, word[--n] = 0;
-        (void)tail;
-        if (n > 2 && word[n - 2] == '/' && word[n - 1] >= '0' && word[n - 1] <= '7') {
-            word[n - 2] = 0;
-            tell_class(word);
+        size_t ignored;
+        if (word[length - 1] == ':' && is_record(p + (*p == ' '), &number, &ignored)) {
+            printf("%s", word);
+            word[length - 1] = 0;
+            take_file(file, word);
+        } else {
+            tell_word(word);
         }
     }
 }
@@ -278,8 +300,10 @@ int main(int argc, char **argv) {
     read_classes(argc > 1 ? argv[1] : "traces");
     char *line = NULL;
     size_t room = 0;
-    while (getline(&line, &room, stdin) >= 0)
+    while (getline(&line, &room, stdin) >= 0) {
+        block += line[0] != ' ';
         tell_line(line);
+    }
     free(line);
     return 0;
 }

@@ -125,6 +125,17 @@ fn graph_of(
     Ok(graph)
 }
 
+// The shortest circle of these traces.
+fn circle_of(
+    rt: &impl Abort,
+    alloc: Global,
+    keys: u16,
+    traces: &[&[Event]],
+) -> Result<Option<Circle>, AllocError> {
+    let graph = graph_of(rt, alloc, keys, traces)?;
+    Ok(graph.shortest_circle())
+}
+
 #[test]
 fn two_locks_taken_in_both_orders_are_on_a_circle(rt: HostRuntime) -> Result<(), Fail> {
     let mut graph = Graph::new(rt.alloc(), 2)?;
@@ -525,66 +536,49 @@ fn has_members(circle: Option<Circle>, members: &[(u16, u16, Kind)]) -> bool {
 fn a_shortest_circle_is_told(rt: HostRuntime) -> Result<(), Fail> {
     let alloc = rt.alloc();
     let both: [&[Event]; 2] = [&[write(A), write(B)], &[write(B), write(A)]];
-    let graph = graph_of(&rt, alloc, 2, &both)?;
-    assert!(rt;
-        has_members(
-            graph.shortest_circle(),
-            &[(A, B, Kind::En), (B, A, Kind::En)]
-        )
-    );
+    let told = [(A, B, Kind::En), (B, A, Kind::En)];
+    assert!(rt; has_members(circle_of(&rt, alloc, 2, &both)?, &told));
     let beside: [&[Event]; 2] = [&[write(A), reread(B), write(C)], &[write(C), write(A)]];
-    let graph = graph_of(&rt, alloc, 3, &beside)?;
-    assert!(rt;
-        has_members(
-            graph.shortest_circle(),
-            &[(A, C, Kind::En), (C, A, Kind::En)]
-        )
-    );
+    let told = [(A, C, Kind::En), (C, A, Kind::En)];
+    assert!(rt; has_members(circle_of(&rt, alloc, 3, &beside)?, &told));
     let reader: [&[Event]; 2] = [&[write(A), reread(B)], &[write(B), write(A)]];
-    let graph = graph_of(&rt, alloc, 2, &reader)?;
-    assert!(rt;
-        has_members(
-            graph.shortest_circle(),
-            &[(A, B, Kind::Er), (B, A, Kind::En)]
-        )
-    );
+    let told = [(A, B, Kind::Er), (B, A, Kind::En)];
+    assert!(rt; has_members(circle_of(&rt, alloc, 2, &reader)?, &told));
+    Ok(())
+}
+
+#[test]
+fn a_shortest_circle_is_told_beside_a_longer(rt: HostRuntime) -> Result<(), Fail> {
     let eight: [&[Event]; 4] = [
         &[write(A), reread(B)],
         &[read(B), write(A)],
         &[write(B), write(C)],
         &[write(C), write(B)],
     ];
-    let graph = graph_of(&rt, alloc, 3, &eight)?;
-    assert!(rt;
-        has_members(
-            graph.shortest_circle(),
-            &[(B, C, Kind::En), (C, B, Kind::En)]
-        )
-    );
+    let told = [(B, C, Kind::En), (C, B, Kind::En)];
+    assert!(rt; has_members(circle_of(&rt, rt.alloc(), 3, &eight)?, &told));
     Ok(())
 }
 
 #[test]
 fn a_circle_of_one(rt: HostRuntime) -> Result<(), Fail> {
     let alloc = rt.alloc();
-    let graph = graph_of(&rt, alloc, 1, &[&[write(A), reread(A)]])?;
-    assert!(rt; has_members(graph.shortest_circle(), &[(A, A, Kind::Er)]));
-    let graph = graph_of(&rt, alloc, 1, &[&[read(A), read(A)]])?;
-    assert!(rt; has_members(graph.shortest_circle(), &[(A, A, Kind::Sn)]));
-    let graph = graph_of(&rt, alloc, 1, &[&[reread(A), reread(A)]])?;
-    assert!(rt; graph.shortest_circle().is_none());
+    let circle = circle_of(&rt, alloc, 1, &[&[write(A), reread(A)]])?;
+    assert!(rt; has_members(circle, &[(A, A, Kind::Er)]));
+    let circle = circle_of(&rt, alloc, 1, &[&[read(A), read(A)]])?;
+    assert!(rt; has_members(circle, &[(A, A, Kind::Sn)]));
+    assert!(rt; circle_of(&rt, alloc, 1, &[&[reread(A), reread(A)]])?.is_none());
     Ok(())
 }
 
 #[test]
 fn where_no_dependency_is_on_a_circle_there_is_no_shortest(rt: HostRuntime) -> Result<(), Fail> {
     let alloc = rt.alloc();
-    assert!(rt; Graph::new(alloc, 2)?.shortest_circle().is_none());
-    let graph = graph_of(&rt, alloc, 3, &[&[write(A), write(B), give(A), write(C)]])?;
-    assert!(rt; graph.shortest_circle().is_none());
+    assert!(rt; circle_of(&rt, alloc, 2, &[])?.is_none());
+    let one_way: [&[Event]; 1] = [&[write(A), write(B), give(A), write(C)]];
+    assert!(rt; circle_of(&rt, alloc, 3, &one_way)?.is_none());
     let half: [&[Event]; 2] = [&[write(A), reread(B)], &[read(B), write(A)]];
-    let graph = graph_of(&rt, alloc, 2, &half)?;
-    assert!(rt; graph.shortest_circle().is_none());
+    assert!(rt; circle_of(&rt, alloc, 2, &half)?.is_none());
     Ok(())
 }
 

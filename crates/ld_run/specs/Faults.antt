@@ -22,5 +22,5 @@ board_code_of C.Memory = codes "C2 Memory"
 
 -- the number and name of why facts aren't condensed
 abbrev pub condense_code_of : CondenseFault → List ℕ
-condense_code_of D.Unequal = codes "K1 Unequal"
-condense_code_of D.Memory = codes "K2 Memory"
+condense_code_of D.Unequal = codes "E1 Unequal"
+condense_code_of D.Memory = codes "E2 Memory"

@@ -9,22 +9,22 @@ use thiserror::Error;
 /// Why facts aren't condensed.
 #[derive(Clone, Copy, PartialEq, Eq, Debug, Error)]
 pub enum CondenseFault {
-    /// K1: the trace that was made doesn't have exactly the facts, as where a key of theirs isn't in the order.
+    /// E1: the trace that was made doesn't have exactly the facts, as where a key of theirs isn't in the order.
     #[error("the condensed trace does not have the same facts")]
     Unequal,
-    /// K2: memory was refused.
+    /// E2: memory was refused.
     #[error("out of memory")]
     Memory,
 }
 
 impl CondenseFault {
-    /// The fault's number and name, as `K2 Memory`.
+    /// The fault's number and name, as `E2 Memory`.
     pub fn code(&self) -> &'static str
         ensures { result.now ≡ condense_code_of self.now }
     {
         match self {
-            CondenseFault::Unequal => "K1 Unequal",
-            CondenseFault::Memory => "K2 Memory",
+            CondenseFault::Unequal => "E1 Unequal",
+            CondenseFault::Memory => "E2 Memory",
         }
     }
 }

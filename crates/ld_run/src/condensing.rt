@@ -22,9 +22,9 @@ use std::alloc::{AllocError, Global};
 /// the same trace, and what comes of it gives itself. It has no try, so version 1 of the format has it, and it has at most
 /// about 540,000 events.
 ///
-/// The order has each key that the facts speak of, each once. Refusals: K2 where memory was refused, K1 where the trace that
+/// The order has each key that the facts speak of, each once. Refusals: E2 where memory was refused, E1 where the trace that
 /// was made doesn't have exactly the facts, as where the order lacks a key. Of the facts of well-formed traces, in an order
-/// that has all their keys, tests have met no K1; that none can come isn't proved.
+/// that has all their keys, tests have met no E1; that none can come isn't proved.
 pub fn condense(
     alloc: Global,
     settled: &Settled,

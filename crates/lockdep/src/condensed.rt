@@ -18,7 +18,7 @@ use std::io::Write;
 /// Writes one trace that has exactly the settled facts, with the keys in the order of their names: the same facts and names
 /// give the same text.
 ///
-/// Refusals: `Condensing` with K1 where the trace that was made doesn't have exactly the facts, and with K2 where memory for it
+/// Refusals: `Condensing` with E1 where the trace that was made doesn't have exactly the facts, and with E2 where memory for it
 /// is refused; `Out` with O3 where memory is refused for the order of the keys or the text, and with O1 and O2 where writing
 /// failed. Nothing was written but after O1 and O2 [this project's own].
 pub(crate) fn write_condensed<W: Write>(

@@ -196,8 +196,8 @@ impl Session {
     /// whether the facts are clean. The trace is of version 1 of the format, and reads as `trace_text` of it says. The session
     /// is consumed in every case.
     ///
-    /// Refusals are those of `report`, with O3 also where memory for the text is refused, and before O1: `Condensing` with K2
-    /// where memory for the trace is refused, and with K1 where the trace that was made doesn't have exactly the facts, which
+    /// Refusals are those of `report`, with O3 also where memory for the text is refused, and before O1: `Condensing` with E2
+    /// where memory for the trace is refused, and with E1 where the trace that was made doesn't have exactly the facts, which
     /// no test has met. Nothing was written then [this project's own].
     pub fn condense<R: Threads + Wait + Sync, W: Write, G: Gate + Sync>(
         self,

@@ -3,6 +3,8 @@
 use super::{A, B, C, LEAVE, enter, give, graph_of, read, replay, reread, turn_off, under, write};
 use crate::{Graph, InversionWalk, Kind, Walk};
 use ld_trace::{Event, Irq};
+use std::alloc::{AllocError, Global};
+use std::process::Abort;
 use std::test::Fail;
 
 const D: u16 = 3;
@@ -38,6 +40,27 @@ fn is_inverted(
             && found.used_read == used_read,
         None => false,
     }
+}
+
+// The inversion's walk that the graph of these traces tells.
+fn inversion_of(
+    rt: &impl Abort,
+    alloc: Global,
+    irq: Irq,
+    traces: &[&[Event]],
+) -> Result<Option<InversionWalk>, AllocError> {
+    let graph = graph_of(rt, alloc, 2, traces)?;
+    Ok(graph.inversion_walk(irq, A, B))
+}
+
+// The forms of a double of the first key that the graph of these traces tells.
+fn forms_of(
+    rt: &impl Abort,
+    alloc: Global,
+    traces: &[&[Event]],
+) -> Result<Option<(bool, bool)>, AllocError> {
+    let graph = graph_of(rt, alloc, 1, traces)?;
+    Ok(graph.double_forms(Irq::Hard, A))
 }
 
 #[test]
@@ -195,34 +218,37 @@ fn a_dependency_beside_an_inversion_is_in_none(rt: HostRuntime) -> Result<(), Fa
 #[test]
 fn the_forms_of_an_inversion_are_those_of_a_link_that_fits(rt: HostRuntime) -> Result<(), Fail> {
     let alloc = rt.alloc();
+    let member = [(A, B, Kind::En)];
     let by_writer = under(write(A), write(B));
-    let member = (A, B, Kind::En);
     let used_by_reader = [enter(Irq::Hard), read(A), give(A), LEAVE];
     let enabled = [write(B), give(B)];
-    let graph = graph_of(&rt, alloc, 2, &[&used_by_reader, &by_writer, &enabled])?;
-    assert!(rt;
-        is_inverted(
-            graph.inversion_walk(Irq::Hard, A, B),
-            &[member],
-            false,
-            true
-        )
-    );
-
+    let found = inversion_of(
+        &rt,
+        alloc,
+        Irq::Hard,
+        &[&used_by_reader, &by_writer, &enabled],
+    )?;
+    assert!(rt; is_inverted(found, &member, false, true));
     let used = [enter(Irq::Hard), write(A), give(A), LEAVE];
     let enabled_by_reader = [reread(B), give(B)];
-    let graph = graph_of(&rt, alloc, 2, &[&used, &by_writer, &enabled_by_reader])?;
-    assert!(rt;
-        is_inverted(
-            graph.inversion_walk(Irq::Hard, A, B),
-            &[member],
-            true,
-            false
-        )
-    );
+    let found = inversion_of(
+        &rt,
+        alloc,
+        Irq::Hard,
+        &[&used, &by_writer, &enabled_by_reader],
+    )?;
+    assert!(rt; is_inverted(found, &member, true, false));
+    Ok(())
+}
 
-    let to_reader = under(write(A), reread(B));
-    let graph = graph_of(&rt, alloc, 2, &[&used, &to_reader, &enabled_by_reader])?;
+#[test]
+fn two_readers_make_no_inversion(rt: HostRuntime) -> Result<(), Fail> {
+    let traces: [&[Event]; 3] = [
+        &[enter(Irq::Hard), write(A), give(A), LEAVE],
+        &under(write(A), reread(B)),
+        &[reread(B), give(B)],
+    ];
+    let graph = graph_of(&rt, rt.alloc(), 2, &traces)?;
     assert!(rt; graph.inversion_walk(Irq::Hard, A, B).is_none());
     assert!(rt; !graph.in_inversion(A, B, Kind::Er));
     Ok(())
@@ -257,16 +283,20 @@ fn the_forms_of_a_double(rt: HostRuntime) -> Result<(), Fail> {
     let used = [enter(Irq::Hard), write(A), give(A), LEAVE];
     let used_by_reader = [enter(Irq::Hard), read(A), give(A), LEAVE];
     let enabled = [write(A), give(A)];
-    let enabled_by_reader = [read(A), give(A)];
-    let graph = graph_of(&rt, alloc, 1, &[&used, &enabled])?;
-    assert!(rt; graph.double_forms(Irq::Hard, A) == Some((false, false)));
+    let by_reader = [read(A), give(A)];
+    assert!(rt; forms_of(&rt, alloc, &[&used, &enabled])? == Some((false, false)));
+    assert!(rt; forms_of(&rt, alloc, &[&used_by_reader, &enabled])? == Some((false, true)));
+    assert!(rt; forms_of(&rt, alloc, &[&used, &by_reader])? == Some((true, false)));
+    assert!(rt; forms_of(&rt, alloc, &[&used_by_reader, &by_reader])? == None);
+    Ok(())
+}
+
+#[test]
+fn no_double_of_another_state_or_key(rt: HostRuntime) -> Result<(), Fail> {
+    let used = [enter(Irq::Hard), write(A), give(A), LEAVE];
+    let graph = graph_of(&rt, rt.alloc(), 1, &[&used, &[write(A), give(A)]])?;
+    assert!(rt; graph.double_forms(Irq::Hard, A).is_some());
     assert!(rt; graph.double_forms(Irq::Soft, A) == None);
     assert!(rt; graph.double_forms(Irq::Hard, B) == None, "out of range");
-    let graph = graph_of(&rt, alloc, 1, &[&used_by_reader, &enabled])?;
-    assert!(rt; graph.double_forms(Irq::Hard, A) == Some((false, true)));
-    let graph = graph_of(&rt, alloc, 1, &[&used, &enabled_by_reader])?;
-    assert!(rt; graph.double_forms(Irq::Hard, A) == Some((true, false)));
-    let graph = graph_of(&rt, alloc, 1, &[&used_by_reader, &enabled_by_reader])?;
-    assert!(rt; graph.double_forms(Irq::Hard, A) == None);
     Ok(())
 }

@@ -212,7 +212,7 @@ fn an_order_that_lacks_a_key(rt: HostRuntime) -> Result<(), Fail> {
     let order = backwards(rt.alloc(), 1)?;
     let refused = condense(rt.alloc(), &settled, &order);
     assert!(rt; matches!(refused, Err(CondenseFault::Unequal)));
-    assert!(rt; CondenseFault::Unequal.code() == "K1 Unequal");
+    assert!(rt; CondenseFault::Unequal.code() == "E1 Unequal");
     Ok(())
 }
 

@@ -46,7 +46,7 @@ fn workers_and_files_of_an_explanation(rt: HostRuntime) -> Result<(), Fail> {
         (&["lockdep", "explain"], 4, &[]),
         (&["lockdep", "explain", "b", "a"], 4, &["b", "a"]),
         (&["lockdep", "explain", "a", "--workers", "2"], 2, &["a"]),
-        (&["lockdep", "explain", "--workers=0"], 0, &[]),
+        (&["lockdep", "explain", "--workers=0", "-"], 0, &["-"]),
         (
             &["lockdep", "explain", "--", "--findings"],
             4,
@@ -101,7 +101,7 @@ fn workers_and_files_of_a_condensed_trace(rt: HostRuntime) -> Result<(), Fail> {
 fn workers_findings_and_files_of_a_graph(rt: HostRuntime) -> Result<(), Fail> {
     let examples: [(&[&str], (u16, bool), &[&str]); 6] = [
         (&["lockdep", "graph"], (4, false), &[]),
-        (&["lockdep", "graph", "--findings"], (4, true), &[]),
+        (&["lockdep", "graph", "--findings", "c"], (4, true), &["c"]),
         (&["lockdep", "graph", "a", "b"], (4, false), &["a", "b"]),
         (
             &["lockdep", "graph", "a", "--findings", "b"],

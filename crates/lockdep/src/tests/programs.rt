@@ -213,7 +213,7 @@ fn help_that_is_asked_for(rt: HostRuntime) -> Result<(), Fail> {
 #[test]
 fn the_version_that_is_asked_for(rt: HostRuntime) -> Result<(), Fail> {
     for word in ["--version", "-V"] {
-        assert_output(&rt, &["lockdep", word], "", (0, "lockdep 0.3.0\n", ""))?;
+        assert_output(&rt, &["lockdep", word], "", (0, "lockdep 0.4.0\n", ""))?;
     }
     Ok(())
 }
