@@ -307,6 +307,9 @@ impl Teller<'_> {
         if told.has_dep(from.get(), to.get(), kind) {
             return Ok(0);
         }
+        if !self.settled.on_circle(from.get(), to.get(), kind) {
+            return Ok(0); // mostly, and without the room of a walk
+        }
         let Some(walk) = self.settled.circle_through(from.get(), to.get(), kind) else {
             return Ok(0);
         };
@@ -508,6 +511,9 @@ impl Teller<'_> {
             (string_bytes text.old) (string_bytes text.new)) }
         ensures few { IfOk result (λ count. count ≤ 1) }
     {
+        if !self.settled.is_inversion(irq, a.get(), b.get()) {
+            return Ok(0); // mostly, and without the room of a walk
+        }
         let Some(found) = self.settled.inversion_walk(irq, a.get(), b.get()) else {
             return Ok(0);
         };
