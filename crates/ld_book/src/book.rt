@@ -133,7 +133,7 @@ impl Book {
         ensures value { result ≡ self.now.keys }
         ensures few { result ≤ MAX_KEYS }
     {
-        self.graph.facts().keys()
+        self.graph.keys()
     }
 
     /// The number of entries, at most the limit.

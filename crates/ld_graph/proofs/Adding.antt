@@ -3,6 +3,7 @@ use Rattle.std.proofs.Common.{◌≡◌, ℕ, ◌+◌, ◌-◌, ◌*◌, ◌/◌
 use Rattle.std.proofs.lemmas.Bool.{cases_eq}
 use Rattle.std.proofs.lemmas.Nat.{mul-le}
 use Rattle.ld_trace.specs.declared.key_id.TheConstants.{MAX_KEYS}
+use Rattle.ld_graph.specs.declared.fact.TheConstants.{MAX_MANY}
 use Rattle.ld_graph.specs.declared.places.TheConstants.{PLACES}
 use Rattle.ld_graph.specs.Inside.Bits.{has_bit, count_below}
 use Rattle.ld_graph.specs.Numbers.{fact_number, dependency_total, mark_total, bit_total}
@@ -14,16 +15,16 @@ use Rattle.ld_graph.proofs.BitLemmas.{count_below-le, count_below-same, count_be
 use Rattle.ld_graph.proofs.Numbers.{dependency-lt, mark-lt, fact_number-same}
 
 -- ---- how many there can be
-pub dependency_count-le : (facts : FactParts) → facts.keys ≤ MAX_KEYS → dependency_count facts ≤ dependency_total MAX_KEYS
-dependency_count-le facts few =
-    let squares : facts.keys * facts.keys ≤ MAX_KEYS * 256 = mul-le facts.keys facts.keys MAX_KEYS MAX_KEYS few few in
+pub dependency_count-le : (facts : FactParts) (most : ℕ) → facts.keys ≤ most → dependency_count facts ≤ dependency_total most
+dependency_count-le facts most few =
+    let squares : facts.keys * facts.keys ≤ most * most = mul-le facts.keys facts.keys most most few few in
     omega (arith, count_below-le (has_bit facts.words) (dependency_total facts.keys))
 
-pub mark_count-le : (facts : FactParts) → facts.keys ≤ MAX_KEYS → mark_count facts ≤ mark_total MAX_KEYS
-mark_count-le facts few = omega (arith, count_below-le (λ n. has_bit facts.words (dependency_total facts.keys + n)) (mark_total facts.keys))
+pub mark_count-le : (facts : FactParts) (most : ℕ) → facts.keys ≤ most → mark_count facts ≤ mark_total most
+mark_count-le facts most few = omega (arith, count_below-le (λ n. has_bit facts.words (dependency_total facts.keys + n)) (mark_total facts.keys))
 
 pub rows_allowed-le : (facts : FactParts) → facts.keys ≤ MAX_KEYS → rows_allowed facts ≤ 2 * PLACES * dependency_total MAX_KEYS + PLACES * mark_total MAX_KEYS
-rows_allowed-le facts few = omega (arith, dependency_count-le facts few, mark_count-le facts few)
+rows_allowed-le facts few = omega (arith, dependency_count-le facts MAX_KEYS few, mark_count-le facts MAX_KEYS few)
 
 -- ---- the counts when a bit is set
 module _ (old new : FactParts) (n : ℕ) (sets : SetsBit old new n) where
@@ -57,7 +58,7 @@ module _ (old new : FactParts) (n : ℕ) (sets : SetsBit old new n) where
 
   AreFacts-set : length new.words ≡ length old.words → n < bit_total old.keys → AreFacts old → AreFacts new
   AreFacts-set len below are = record {
-    few = subst (λ k. k ≤ MAX_KEYS) (sym sets.keys) are.few;
+    few = subst (λ k. k ≤ MAX_MANY) (sym sets.keys) are.few;
     words = len ∙ are.words ∙ ap (λ k. (bit_total k + 63) / 64) (sym sets.keys);
     none_past = λ k past.
         let past' : bit_total old.keys ≤ k = subst (λ x. bit_total x ≤ k) sets.keys past in

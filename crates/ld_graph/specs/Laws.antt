@@ -13,6 +13,8 @@ use Rattle.ld_graph.specs.Facts.{TraceHas, ChainHas, ChainsHave, AreSame, Adds, 
 use Rattle.ld_graph.specs.FactBits.{FactParts, FactBelow, HasFact}
 use Rattle.ld_graph.specs.Links.{IsDoubleBy, IsInversionWith}
 use Rattle.ld_graph.specs.Numbers.{bit_total, fact_number}
+use Rattle.ld_graph.specs.Ranks.{NoneGoesDown, AreFoundByRank}
+use Rattle.ld_graph.specs.Renumbered.{HasEachOnce, AreFoundByPlace}
 use Rattle.ld_graph.specs.Walks.{ClosedWalk, IsShortestCircle}
 use Rattle.ld_graph.specs.declared.fact.Fact.{Fact}
 use Rattle.ld_graph.specs.declared.fact.Fact.TheVariants.{Dependency, Marked}
@@ -119,3 +121,14 @@ NewInversionsHaveNewParts =
 abbrev pub ShortestCirclesTurn : Type 0
 ShortestCirclesTurn = (facts : FactParts) (front back : List Arrow) →
     IsShortestCircle (HasFact facts) (front ++ back) → IsShortestCircle (HasFact facts) (back ++ front)
+
+-- ---- ranks
+-- where no arrow goes down, what is found among all facts is found among those of one rank
+abbrev pub FindingsAreThoseOfTheRanks : Type 0
+FindingsAreThoseOfTheRanks = (set : Fact → Bool) (rank : ℕ → ℕ) →
+    NoneGoesDown (In set) rank → AreFoundByRank (In set) rank
+
+-- what is found among the keys of a list is what is found by their places there
+abbrev pub FindingsAreThoseOfThePlaces : Type 0
+FindingsAreThoseOfThePlaces = (set : Fact → Bool) (keys : List ℕ) →
+    HasEachOnce keys → AreFoundByPlace (In set) keys

@@ -3,10 +3,13 @@
 ghost use Rattle.std.specs.Prelude.{◌≡◌, ◌+◌, ◌*◌, ◌<◌, ◌≤◌, ◌↔◌, IsTrue};
 ghost use Rattle.ld_graph.specs.Numbers.{kind_number, mark_index, fact_number, dependency_total, bit_total};
 ghost use Rattle.ld_graph.specs.FactBits.{FactBelow};
-ghost use Rattle.ld_trace.specs.declared.key_id.TheConstants.{MAX_KEYS};
+ghost use Rattle.ld_graph.specs.declared.fact.TheConstants.{MAX_MANY};
 
 use crate::ends::irq_number;
 use ld_task::{Kind, Mark};
+
+/// The most keys that facts can be about: the number of each fits in 13 bits.
+pub const MAX_MANY: u16 = 8_192;
 
 /// A dependency between two keys, or a mark on one.
 #[derive(Clone, Copy, PartialEq, Eq, Debug)]
@@ -26,10 +29,11 @@ impl Fact {
         }
     }
 
-    /// The number of the fact among all those about keys below `keys`, which is at most 256: below 264,448. The dependencies
-    /// come first. That the fact's keys are below `keys` is the caller's condition.
+    /// The number of the fact among all those about keys below `keys`, which is at most `MAX_MANY`: below 264,448 for 256
+    /// keys, and below 268,509,184 for the most. The dependencies come first. That the fact's keys are below `keys` is the
+    /// caller's condition.
     pub fn number(self, keys: u16) -> usize
-        requires few { keys ≤ MAX_KEYS }
+        requires few { keys ≤ MAX_MANY }
         requires below { FactBelow keys self }
         ensures value { result ≡ fact_number keys self }
         ensures within { result < bit_total keys }
@@ -43,7 +47,7 @@ impl Fact {
 
 // The number of a dependency's bit.
 fn dependency_number(keys: u16, from: u16, to: u16, kind: Kind) -> usize
-    requires few { keys ≤ MAX_KEYS }
+    requires few { keys ≤ MAX_MANY }
     requires from { from < keys }
     requires to { to < keys }
     ensures value { result ≡ fact_number keys (Fact.Dependency from to kind) }
@@ -54,7 +58,7 @@ fn dependency_number(keys: u16, from: u16, to: u16, kind: Kind) -> usize
 
 // The number of a mark's bit.
 fn mark_number(keys: u16, key: u16, mark: Mark) -> usize
-    requires few { keys ≤ MAX_KEYS }
+    requires few { keys ≤ MAX_MANY }
     requires key { key < keys }
     ensures value { result ≡ fact_number keys (Fact.Marked key mark) }
     ensures within { result < bit_total keys }
@@ -64,7 +68,7 @@ fn mark_number(keys: u16, key: u16, mark: Mark) -> usize
 
 // The number of the bit of a key's first mark. The nine marks of a key stand in a row.
 pub(crate) fn first_mark(keys: u16, key: u16) -> usize
-    requires few { keys ≤ MAX_KEYS }
+    requires few { keys ≤ MAX_MANY }
     requires key { key < keys }
     ensures value { result ≡ dependency_total keys + key * 9 }
     ensures within { result + 9 ≤ bit_total keys }

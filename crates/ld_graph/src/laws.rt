@@ -1,6 +1,6 @@
 //! Laws of the definitions, each carried by a function that does nothing.
 
-ghost use Rattle.ld_graph.specs.Laws.{ChainsGiveWhatTheyHave, DependenciesHaveOneNumber, ShortestCirclesTurn, TraceFactsAreTheChains, AddingInTurnUnites, FactsHaveBits, EachBitIsAFacts, FactsHaveDifferentBits, LaterSlotsAreOfNewerLocks, NewCirclesHaveNewMembers, NewDoublesHaveNewMarks, NewInversionsHaveNewParts, SlotsHaveWhatIsGiven};
+ghost use Rattle.ld_graph.specs.Laws.{ChainsGiveWhatTheyHave, DependenciesHaveOneNumber, ShortestCirclesTurn, TraceFactsAreTheChains, AddingInTurnUnites, FactsHaveBits, EachBitIsAFacts, FactsHaveDifferentBits, FindingsAreThoseOfThePlaces, FindingsAreThoseOfTheRanks, LaterSlotsAreOfNewerLocks, NewCirclesHaveNewMembers, NewDoublesHaveNewMarks, NewInversionsHaveNewParts, SlotsHaveWhatIsGiven};
 
 /// The facts of a trace are those of its chains.
 pub fn trace_facts_are_the_chains()
@@ -48,4 +48,17 @@ pub fn what_is_new_suffices()
 /// A shortest circle may begin with each of its members.
 pub fn shortest_circles_turn()
     ensures { ShortestCirclesTurn }
+{}
+
+/// Where each key has a rank and no dependency and no interrupt link goes from a key to one of lower rank, what is found
+/// among all facts is found among those about the keys of one rank: what is on a circle, shortest circles and shortest
+/// closed walks, doubles, inversions with their shortest walks and their members, and that nothing is wrong.
+pub fn findings_are_those_of_the_ranks()
+    ensures { FindingsAreThoseOfTheRanks }
+{}
+
+/// Where keys of a list are numbered by their places, and none is there twice, what is found among the keys by these
+/// numbers is what is found among the keys themselves.
+pub fn findings_are_those_of_the_places()
+    ensures { FindingsAreThoseOfThePlaces }
 {}

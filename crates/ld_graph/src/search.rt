@@ -9,6 +9,7 @@ ghost use Rattle.ld_graph.specs.Inside.Bits.{has_bit};
 ghost use Rattle.ld_graph.specs.Inside.Places.{arrival, Leaves};
 ghost use Rattle.ld_graph.specs.Inside.Searching.{AreSteps, FindsGoal, GoesTo, Hits, IsOfKeys, LeadsBack, Misses, NoGoalBy, SeesAllFrom, StandsAt, Takes, Visits};
 ghost use Rattle.ld_graph.specs.declared.walk.TheConstants.{MAX_WALK};
+ghost use Rattle.ld_trace.specs.declared.key_id.TheConstants.{MAX_KEYS};
 
 use crate::bits;
 use crate::dependency::Dependency;
@@ -92,7 +93,8 @@ impl Search {
 
     // Takes the steps that follow step `i`, up to the first that arrives at a goal, and answers whether there is one.
     fn expand(&mut self, facts: &Facts, within: &Row, goal: &Row, i: usize) -> bool
-        requires { i < length self.old.steps }
+        requires few { facts.now.keys ≤ MAX_KEYS }
+        requires within { i < length self.old.steps }
         ensures takes { Takes facts.now i self.old self.new }
         ensures missed { IsFalse result → Misses goal.now self.old self.new
             × SeesAllFrom facts.now within.now i self.old.steps self.new.seen }
@@ -115,6 +117,7 @@ impl Search {
 
     // Expands the steps from `first` to `end`, up to the first goal, and answers whether there is one.
     fn round(&mut self, facts: &Facts, within: &Row, goal: &Row, first: usize, end: usize) -> bool
+        requires few { facts.now.keys ≤ MAX_KEYS }
         requires order { first ≤ end }
         requires within { end ≤ length self.old.steps }
         ensures missed { IsFalse result → (start n : ℕ)
@@ -142,7 +145,8 @@ impl Search {
         start: Dependency,
         bound: usize,
     ) -> Option<usize>
-        requires { IsOfKeys start }
+        requires few { facts.now.keys ≤ MAX_KEYS }
+        requires start { IsOfKeys start }
         ensures none { IsNone result → (n : ℕ) → n < bound
             → NoGoalBy facts.now within.now goal.now (arrival (arrow_of start)) n }
         ensures some { IfSome result (λ n. (0 < n) × (n < bound)

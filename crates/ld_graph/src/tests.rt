@@ -1,7 +1,10 @@
 //! What graphs say of small traces.
 
+ghost use Rattle.std.specs.Prelude.{◌≤◌};
 ghost use Rattle.ld_task.specs.Chains.{ChainKeysBelow};
+ghost use Rattle.ld_trace.specs.declared.key_id.TheConstants.{MAX_KEYS};
 
+mod ranks;
 mod walks;
 mod want_of_memory;
 
@@ -433,7 +436,8 @@ fn last_chain(events: &[Event]) -> Option<Chain> {
 
 // Unites the words of a chain with the facts, one by one.
 fn unite_words(facts: &mut Facts, chain: &Chain)
-    requires { ChainKeysBelow facts.old.keys chain.now }
+    requires few { facts.old.keys ≤ MAX_KEYS }
+    requires below { ChainKeysBelow facts.old.keys chain.now }
 {
     let words = fact_words(chain, facts.keys());
     for i in 0..words.len() {
@@ -489,6 +493,7 @@ fn words_are_united_one_by_one(rt: HostRuntime) -> Result<(), Fail> {
     )?;
     for chain in [&inner, &opening] {
         assert!(rt; chain.keys_below(facts.keys()) && chain.keys_below(united.keys()));
+        assert!(rt; united.keys() <= MAX_KEYS);
         facts.add_chain(chain);
         assert!(rt; !united.same(&facts));
         unite_words(&mut united, chain);
@@ -513,7 +518,7 @@ fn an_opening_marks_forty_eight_held_locks(rt: HostRuntime) -> Result<(), Fail> 
     assert!(rt; words.get(0) == Some((4096, 1 << 3 | 1 << 7 | 1 << 48 | 1 << 52)));
     assert!(rt; words.get(33) == Some((4129, 1 << 6 | 1 << 10)));
     let mut facts = Facts::new(rt.alloc(), MAX_KEYS)?;
-    assert!(rt; chain.keys_below(facts.keys()));
+    assert!(rt; facts.keys() <= MAX_KEYS && chain.keys_below(facts.keys()));
     unite_words(&mut facts, &chain);
     assert!(rt; facts.marks() == 96 && facts.dependencies() == 0);
     Ok(())

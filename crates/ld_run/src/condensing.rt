@@ -4,7 +4,7 @@
 //! found, so no proof looks at how it was put together.
 
 ghost use Rattle.std.specs.Prelude.{◌≡◌, ◌≤◌, IfOk};
-ghost use Rattle.ld_trace.specs.declared.key_id.TheConstants.{MAX_KEYS};
+ghost use Rattle.ld_graph.specs.declared.fact.TheConstants.{MAX_MANY};
 ghost use Rattle.ld_trace.specs.Events.{KeysBelow};
 ghost use Rattle.ld_task.specs.WellFormed.{IsWellFormed};
 ghost use Rattle.ld_graph.specs.FactBits.{HasFact};
@@ -47,7 +47,7 @@ pub fn condense(
 
 // The facts of a trace, if each of its events is allowed.
 fn facts_of(alloc: Global, trace: &RawTrace, keys: u16) -> Result<Facts, CondenseFault>
-    requires few { keys ≤ MAX_KEYS }
+    requires few { keys ≤ MAX_MANY }
     requires below { KeysBelow keys trace.now }
     ensures keys { IfOk result (λ facts. facts.keys ≡ keys) }
     ensures well_formed { IfOk result (λ _. IsWellFormed trace.now) }

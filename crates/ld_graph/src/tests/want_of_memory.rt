@@ -1,7 +1,7 @@
 //! What a refused request for memory leaves. In an ordinary run none is refused: `tests/sweep` runs each of these tests with its
 //! first request refused, its second, and so on, and counts the lines that they print.
 
-use crate::{Facts, Graph};
+use crate::{Facts, Graph, Ranks};
 use std::test::Fail;
 
 #[test]
@@ -27,5 +27,18 @@ fn want_of_memory_for_a_graph(rt: HostRuntime) -> Result<(), Fail> {
         }
     };
     assert!(rt; graph.is_clean() && graph.facts().keys() == 2 && graph.facts().dependencies() == 0);
+    Ok(())
+}
+
+#[test]
+fn want_of_memory_for_ranks(rt: HostRuntime) -> Result<(), Fail> {
+    let ranks = match Ranks::new(rt.alloc(), 2) {
+        Ok(ranks) => ranks,
+        Err(_) => {
+            println!(&rt; "refused: ranks")?;
+            Ranks::new(rt.alloc(), 2)?
+        }
+    };
+    assert!(rt; ranks.get(1) == 0);
     Ok(())
 }

@@ -4,6 +4,7 @@ use Rattle.std.specs.Vec.{with_items}
 use Rattle.ld_graph.specs.Inside.Bits.{has_bit}
 use Rattle.ld_graph.specs.Numbers.{dependency_total, bit_total}
 use Rattle.ld_graph.specs.FactBits.{FactParts, SetsBit}
+use Rattle.ld_graph.specs.declared.fact.TheConstants.{MAX_MANY}
 use Rattle.ld_graph.proofs.Adding.{dependency_count-le, mark_count-le, AreCounted-dependency, AreCounted-mark}
 use Rattle.ld_graph.proofs.facts.Facts.add_bit.Goals as goal
 use Rattle.ld_graph.proofs.facts.Facts.add_bit.Goals.{After-insert}
@@ -35,7 +36,7 @@ below c = subst (λ v. c.args.n < bit_total v.keys) (sym c.self.view_is) c.requi
 
 pub overflow_add-self : goal.overflow_add-self
 overflow_add-self c =
-    let most = dependency_count-le (record { keys = c.self.inside.keys; words = c.self.inside.bits.items }) c.self.invariant.are.few in
+    let most = dependency_count-le (record { keys = c.self.inside.keys; words = c.self.inside.bits.items }) MAX_MANY c.self.invariant.are.few in
     let is = c.self.invariant.dependencies in
     search rules
 
@@ -47,7 +48,7 @@ invariant_of-self c =
 
 pub overflow_add-self-else-n-keys : goal.overflow_add-self-else-n-keys
 overflow_add-self-else-n-keys c =
-    let most = mark_count-le (record { keys = c.self.inside.keys; words = c.self.inside.bits.items }) c.self.invariant.are.few in
+    let most = mark_count-le (record { keys = c.self.inside.keys; words = c.self.inside.bits.items }) MAX_MANY c.self.invariant.are.few in
     let is = c.self.invariant.marks in
     search rules
 

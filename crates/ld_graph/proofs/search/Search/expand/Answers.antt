@@ -9,7 +9,7 @@ use Rattle.ld_graph.proofs.search.Search.expand.Goals.{After-visit, Joined-else-
 hit : (c : After-visit) → c.may_go_on.result ≡ true → c.visit.result ≡ true →
     Takes c.args.facts.now c.args.i c.args.self.now c.visit.new.self × Hits c.args.goal.now c.args.self.now c.visit.new.self
 hit c goes is =
-    let read = step_read c.as_slice.result.now c.args.self.now.steps c.args.i (c.as_slice.ensures.value ∙ ap (λ v. v.steps) c.self.view_is) c.requires in
+    let read = step_read c.as_slice.result.now c.args.self.now.steps c.args.i (c.as_slice.ensures.value ∙ ap (λ v. v.steps) c.self.view_is) c.requires.within in
     Takes-hit c.args.facts.now c.args.within.now c.args.goal.now c.args.i (get_or c.as_slice.result.now c.args.i blank).dependency c.loop-dependency.n c.args.self.now c.loop-dependency.self
     c.loop-dependency.invariant.scans c.in-Some.dependency c.in-Some.ensures.some
     (get_or c.as_slice.result.now c.args.i blank, read, refl) (c.may_go_on.ensures.0 goes) c.visit.new.self
@@ -23,7 +23,7 @@ returns-then-visit-clause-hit c = λ _. (hit (goal.at.returns-then-visit-clause-
 
 pub loop-dependency-preserved : goal.loop-dependency-preserved
 loop-dependency-preserved c =
-    let read = step_read c.as_slice.result.now c.args.self.now.steps c.args.i (c.as_slice.ensures.value ∙ ap (λ v. v.steps) c.self.view_is) c.requires in
+    let read = step_read c.as_slice.result.now c.args.self.now.steps c.args.i (c.as_slice.ensures.value ∙ ap (λ v. v.steps) c.self.view_is) c.requires.within in
     let from : Dependency = (get_or c.as_slice.result.now c.args.i blank).dependency in
     let next = c.in-Some.ensures.some in record {
       scans = subst (λ n. Scans c.args.facts.now c.args.within.now c.args.goal.now c.args.i from n c.args.self.now c.else-may_go_on.self) (ap (λ n. n + 1) (sym c.row_place-n.ensures))
@@ -44,12 +44,12 @@ loop-dependency-preserved c =
 
 pub returns-clause-missed : goal.returns-clause-missed
 returns-clause-missed c =
-    let read = step_read c.as_slice.result.now c.args.self.now.steps c.args.i (c.as_slice.ensures.value ∙ ap (λ v. v.steps) c.self.view_is) c.requires in
-    let within : c.args.i < length c.self.inside.steps.items = let e = ap length (ap (λ v. v.steps) c.self.view_is) in let r = c.requires in omega arith in
+    let read = step_read c.as_slice.result.now c.args.self.now.steps c.args.i (c.as_slice.ensures.value ∙ ap (λ v. v.steps) c.self.view_is) c.requires.within in
+    let within : c.args.i < length c.self.inside.steps.items = let e = ap length (ap (λ v. v.steps) c.self.view_is) in let r = c.requires.within in omega arith in
     λ _. (
       c.loop-dependency.invariant.scans.missed,
       SeesAll-scanned c.args.facts.now c.args.within.now c.args.goal.now c.args.i (get_or c.as_slice.result.now c.args.i blank).dependency c.loop-dependency.n c.args.self.now c.loop-dependency.self
-          c.loop-dependency.invariant.scans c.in_default.ensures.few
+          c.loop-dependency.invariant.scans c.requires.few
           (c.self.invariant.below c.args.i (get_or c.as_slice.result.now c.args.i blank) (step_read c.as_slice.result.now c.self.inside.steps.items c.args.i c.as_slice.ensures.value within)).1
           (λ step is. ap (λ s. s.dependency) (same_Some step (get_or c.as_slice.result.now c.args.i blank) (sym is ∙ read)))
           (c.in_default.ensures.none refl),

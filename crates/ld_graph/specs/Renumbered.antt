@@ -1,0 +1,68 @@
+-- Facts among the keys of a list, each key by its place there. What is found among them is what is found among the keys
+-- themselves [this project's own].
+use Rattle.std.specs.Prelude.{◌≡◌, ℕ, ◌<◌, ◌↔◌, List, length, map, slice_index, Contains, AllPairs}
+use Rattle.ld_trace.specs.declared.event.Irq.{Irq}
+use Rattle.ld_graph.specs.Arrows.{Arrow, arrow}
+use Rattle.ld_graph.specs.FactBits.{FactBelow}
+use Rattle.ld_graph.specs.Links.{IsDouble, IsDoubleBy, IsInversion, InInversion, IsShortestInversion, IsClean}
+use Rattle.ld_graph.specs.Ranks.{AmongRank}
+use Rattle.ld_graph.specs.Walks.{OnCircle, IsShortestCircle, IsShortestFrom}
+use Rattle.ld_graph.specs.declared.fact.Fact.{Fact}
+use Rattle.ld_graph.specs.declared.fact.Fact.TheVariants.{Dependency, Marked}
+
+-- the keys of the fact are in the list
+abbrev pub HasKeys : List ℕ → Fact → Type 0
+HasKeys keys (Dependency from to kind) = Contains keys from × Contains keys to
+HasKeys keys (Marked key mark) = Contains keys key
+
+-- those of the facts that are about keys of the list alone
+abbrev pub AmongKeys : (Fact → Type 0) → List ℕ → Fact → Type 0
+AmongKeys Has keys x = Has x × HasKeys keys x
+
+-- the same fact, or arrow, with other keys for its own
+abbrev pub fact_by : (ℕ → ℕ) → Fact → Fact
+fact_by other (Dependency from to kind) = Dependency (other from) (other to) kind
+fact_by other (Marked key mark) = Marked (other key) mark
+
+abbrev pub arrow_by : (ℕ → ℕ) → Arrow → Arrow
+arrow_by other d = arrow (other d.start) (other d.end) d.kind
+
+-- the facts about places of the list that the set has of the keys that stand there
+abbrev pub Renumbered : (Fact → Type 0) → List ℕ → Fact → Type 0
+Renumbered Has keys x = FactBelow (length keys) x × Has (fact_by (slice_index keys) x)
+
+-- an arrow between places of the list, as one between the keys that stand there
+abbrev pub arrow_at : List ℕ → Arrow → Arrow
+arrow_at keys = arrow_by (slice_index keys)
+
+-- no key is in the list twice
+abbrev pub HasEachOnce : List ℕ → Type 0
+HasEachOnce keys = AllPairs (λ a b. ¬ (a ≡ b)) keys
+
+-- the list has keys of this rank alone, and all those that the facts are about
+pub record ListsRank (Has : Fact → Type 0) (rank : ℕ → ℕ) (r : ℕ) (keys : List ℕ) : Type 0 where
+  pub of_rank : (key : ℕ) → Contains keys key → rank key ≡ r
+  pub all : (x : Fact) → AmongRank Has rank r x → HasKeys keys x
+
+-- what is found by places is what is found among the keys that stand there
+pub record AreFoundByPlace (Has : Fact → Type 0) (keys : List ℕ) : Type 0 where
+  pub on_circle : (d : Arrow) → d.start < length keys → d.end < length keys →
+      OnCircle (Renumbered Has keys) d ↔ OnCircle (AmongKeys Has keys) (arrow_at keys d)
+  pub shortest_circle : (circle : List Arrow) → IsShortestCircle (Renumbered Has keys) circle →
+      IsShortestCircle (AmongKeys Has keys) (map (arrow_at keys) circle)
+  pub shortest_from : (d : Arrow) (walk : List Arrow) → IsShortestFrom (Renumbered Has keys) d walk →
+      IsShortestFrom (AmongKeys Has keys) (arrow_at keys d) (map (arrow_at keys) walk)
+  pub double : (irq : Irq) (a : ℕ) → a < length keys →
+      IsDouble (Renumbered Has keys) irq a ↔ IsDouble (AmongKeys Has keys) irq (slice_index keys a)
+  pub double_by : (irq : Irq) (a : ℕ) (l : Arrow) → IsDoubleBy (Renumbered Has keys) irq a l →
+      IsDoubleBy (AmongKeys Has keys) irq (slice_index keys a) (arrow_at keys l)
+  pub inversion : (irq : Irq) (a b : ℕ) → a < length keys → b < length keys →
+      IsInversion (Renumbered Has keys) irq a b ↔
+      IsInversion (AmongKeys Has keys) irq (slice_index keys a) (slice_index keys b)
+  pub shortest_inversion : (irq : Irq) (a b : ℕ) (l : Arrow) (walk : List Arrow) →
+      IsShortestInversion (Renumbered Has keys) irq a b l walk →
+      IsShortestInversion (AmongKeys Has keys) irq (slice_index keys a) (slice_index keys b) (arrow_at keys l)
+      (map (arrow_at keys) walk)
+  pub in_inversion : (d : Arrow) → d.start < length keys → d.end < length keys →
+      InInversion (Renumbered Has keys) d ↔ InInversion (AmongKeys Has keys) (arrow_at keys d)
+  pub clean : IsClean (Renumbered Has keys) ↔ IsClean (AmongKeys Has keys)
