@@ -1,7 +1,7 @@
 -- No facts: words of zeros.
 use Rattle.std.proofs.Common.{◌≡◌, ℕ, ◌+◌, ◌*◌, ◌/◌, ◌≤◌, length, get_or, replicate, ap, sym, ◌∙◌, subst, false}
 use Rattle.std.proofs.lemmas.List.{length-replicate}
-use Rattle.ld_graph.specs.declared.fact.TheConstants.{MAX_MANY}
+use Rattle.ld_trace.specs.declared.key_id.TheConstants.{MAX_MANY}
 use Rattle.ld_graph.specs.Inside.Bits.{has_bit}
 use Rattle.ld_graph.specs.Numbers.{dependency_total, bit_total}
 use Rattle.ld_graph.specs.FactBits.{FactParts, AreCounted, dependency_count, mark_count}

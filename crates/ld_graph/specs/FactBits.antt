@@ -1,7 +1,7 @@
 -- Facts about the keys below a bound, kept as bits in words of 64.
 use Rattle.std.specs.Prelude.{◌≡◌, ℕ, ◌+◌, ◌*◌, ◌/◌, ◌||◌, ◌==◌, ◌<◌, ◌≤◌, false, IsTrue, List, length}
 use Rattle.std.specs.Int.{bit_at}
-use Rattle.ld_graph.specs.declared.fact.TheConstants.{MAX_MANY}
+use Rattle.ld_trace.specs.declared.key_id.TheConstants.{MAX_MANY}
 use Rattle.ld_graph.specs.declared.places.TheConstants.{PLACES}
 use Rattle.ld_graph.specs.Inside.Bits.{has_bit, count_below}
 use Rattle.ld_graph.specs.Numbers.{fact_number, dependency_total, mark_total, bit_total}

@@ -3,13 +3,10 @@
 ghost use Rattle.std.specs.Prelude.{◌≡◌, ◌+◌, ◌*◌, ◌<◌, ◌≤◌, ◌↔◌, IsTrue};
 ghost use Rattle.ld_graph.specs.Numbers.{kind_number, mark_index, fact_number, dependency_total, bit_total};
 ghost use Rattle.ld_graph.specs.FactBits.{FactBelow};
-ghost use Rattle.ld_graph.specs.declared.fact.TheConstants.{MAX_MANY};
+ghost use Rattle.ld_trace.specs.declared.key_id.TheConstants.{MAX_MANY};
 
 use crate::ends::irq_number;
 use ld_task::{Kind, Mark};
-
-/// The most keys that facts can be about: the number of each fits in 13 bits.
-pub const MAX_MANY: u16 = 8_192;
 
 /// A dependency between two keys, or a mark on one.
 #[derive(Clone, Copy, PartialEq, Eq, Debug)]

@@ -7,6 +7,9 @@ use std::marker::Model;
 /// The most lock keys that there are: each has a number below it.
 pub const MAX_KEYS: u16 = 256;
 
+/// The most lock keys of a table that was made for many: the number of each fits in 13 bits.
+pub const MAX_MANY: u16 = 8_192;
+
 /// The number of a lock key, below `MAX_KEYS`.
 #[derive(Clone, Copy, PartialEq, Eq, Debug, Hash)]
 pub struct KeyId {

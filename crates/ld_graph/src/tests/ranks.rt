@@ -1,8 +1,8 @@
 //! Whether an arrow goes down by some ranks, and facts about more keys than a graph takes.
 
 use super::{A, B, C};
-use crate::{Fact, Facts, Kind, MAX_MANY, Mark, Ranks, are_ranked};
-use ld_trace::Irq;
+use crate::{Fact, Facts, Kind, Mark, Ranks, are_ranked};
+use ld_trace::{Irq, MAX_MANY};
 use std::alloc::{AllocError, Global};
 use std::test::Fail;
 

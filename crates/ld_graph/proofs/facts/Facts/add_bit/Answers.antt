@@ -4,7 +4,7 @@ use Rattle.std.specs.Vec.{with_items}
 use Rattle.ld_graph.specs.Inside.Bits.{has_bit}
 use Rattle.ld_graph.specs.Numbers.{dependency_total, bit_total}
 use Rattle.ld_graph.specs.FactBits.{FactParts, SetsBit}
-use Rattle.ld_graph.specs.declared.fact.TheConstants.{MAX_MANY}
+use Rattle.ld_trace.specs.declared.key_id.TheConstants.{MAX_MANY}
 use Rattle.ld_graph.proofs.Adding.{dependency_count-le, mark_count-le, AreCounted-dependency, AreCounted-mark}
 use Rattle.ld_graph.proofs.facts.Facts.add_bit.Goals as goal
 use Rattle.ld_graph.proofs.facts.Facts.add_bit.Goals.{After-insert}
