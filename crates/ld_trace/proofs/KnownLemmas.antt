@@ -11,7 +11,7 @@ use Rattle.ld_trace.specs.declared.key_table.TheConstants.{MAX_SUB}
 use Rattle.ld_trace.specs.declared.version.Version.{Version}
 use Rattle.ld_trace.specs.Lines.{acquire_line, gives_back, mode_of, name_of_fields, release_line, sub_of, takes}
 use Rattle.ld_trace.specs.Inside.Progress.{IsEventOf}
-use Rattle.ld_trace.specs.Names.{AreNumbered, Name, is_class_name, is_known, is_name, is_same, place_of}
+use Rattle.ld_trace.specs.Names.{AreNumbered, Name, Table, is_class_name, is_known, is_name, is_same, place_of}
 
 pub is_same-itself : (name : Name) → is_same name name ≡ true
 is_same-itself name = and_from (bytes_eq name.0 name.0) (name.1 == name.1) ((bytes_eq-Decides name.0 name.0).1 refl) ((Decides-eqb name.1 name.1).1 refl)
@@ -49,15 +49,15 @@ named-there [] name i a h = absurd (cc)
 named-there (x ∷ xs) name zero a h = let same : x ≡ name = cc in ap is_name (sym same) ∙ (and_parts (is_name x) (list_all is_name xs) a).0
 named-there (x ∷ xs) name (suc i) a h = named-there xs name i (and_parts (is_name x) (list_all is_name xs) a).1 h
 
-module _ (names : List Name) (class digits : List ℕ) (sub key : ℕ) (numbered : AreNumbered names) (digit : sub_of digits ≡ Some sub) (here : slice_get names key ≡ Some (class, sub)) where
-  there : (place_of names (class, sub) ≡ key) × (is_known names (class, sub) ≡ true)
-  there = place_of-there names (class, sub) key numbered.once here
+module _ (table : Table) (class digits : List ℕ) (sub key : ℕ) (numbered : AreNumbered table) (digit : sub_of digits ≡ Some sub) (here : slice_get table.names key ≡ Some (class, sub)) where
+  there : (place_of table.names (class, sub) ≡ key) × (is_known table.names (class, sub) ≡ true)
+  there = place_of-there table.names (class, sub) key numbered.once here
 
   good : is_class_name class ≡ true
-  good = (and_parts (is_class_name class) (nat_le sub MAX_SUB) (named-there names (class, sub) key numbered.named here)).0
+  good = (and_parts (is_class_name class) (nat_le sub MAX_SUB) (named-there table.names (class, sub) key numbered.named here)).0
 
   -- a record that gives back a name of the table
-  pub release-known : (verb : List ℕ) → bytes_eq verb (codes "rel") ≡ true → IsEventOf names (release_line verb (name_of_fields class (sub_of digits))) (Release key)
+  pub release-known : (verb : List ℕ) → bytes_eq verb (codes "rel") ≡ true → IsEventOf table.room table.names (release_line verb (name_of_fields class (sub_of digits))) (Release key)
   release-known verb rel = record {
     line = gives_back (class, sub);
     says = rw (rel, digit, good) refl;
@@ -67,7 +67,7 @@ module _ (names : List Name) (class digits : List ℕ) (sub key : ℕ) (numbered
   }
 
   -- a record that takes one
-  pub acquire-known : (version : Version) (verb word : List ℕ) (mode : Mode) → bytes_eq verb (codes "acq") ≡ true → mode_of version word ≡ Some mode → IsEventOf names (acquire_line verb (name_of_fields class (sub_of digits)) (mode_of version word)) (Acquire mode key)
+  pub acquire-known : (version : Version) (verb word : List ℕ) (mode : Mode) → bytes_eq verb (codes "acq") ≡ true → mode_of version word ≡ Some mode → IsEventOf table.room table.names (acquire_line verb (name_of_fields class (sub_of digits)) (mode_of version word)) (Acquire mode key)
   acquire-known version verb word mode acq is = record {
     line = takes (class, sub) mode;
     says = rw (acq, digit, good, is) refl;

@@ -4,7 +4,7 @@ use Rattle.std.specs.List.{AllByRecursion, IsDistinct, list_all, list_any, posit
 use Rattle.std.proofs.lemmas.Bool.Decides.{nat_tests}
 use Rattle.std.proofs.lemmas.List.{map-append}
 use Rattle.std.proofs.lemmas.List.Folds.{list_all-append}
-use Rattle.ld_trace.specs.declared.key_id.TheConstants.{MAX_KEYS}
+use Rattle.ld_trace.specs.declared.key_id.TheConstants.{MAX_MANY}
 use Rattle.indexmap.specs.IndexSet.{insert_key}
 use Rattle.ld_trace.specs.Names.{AreNumbered, Name, is_known, is_name, is_one_too_many, is_same, place_of, with_name}
 
@@ -45,18 +45,18 @@ named-with_name names name all one = by (is_known names name)
     by true = all
     by false = rw (list_all-append is_name names (name ∷ []), all, one)
 
--- the empty table
-pub AreNumbered-none : AreNumbered []
+-- a table without names
+pub AreNumbered-none : (room : ℕ) → room ≤ MAX_MANY → AreNumbered (record { room = room; names = [] })
 unfolding IsDistinct
-AreNumbered-none = record { few = omega arith; named = refl; once = tt }
+AreNumbered-none room most = record { most = most; few = omega arith; named = refl; once = tt }
 
 -- a known name is not one too many
-pub fits-known : (names : List Name) (name : Name) → is_known names name ≡ true → is_one_too_many names name ≡ false
-fits-known names name known = rw known refl
+pub fits-known : (room : ℕ) (names : List Name) (name : Name) → is_known names name ≡ true → is_one_too_many room names name ≡ false
+fits-known room names name known = rw known refl
 
 -- a new one is, where there is no room
-pub too-many-new : (names : List Name) (name : Name) → is_known names name ≡ false → MAX_KEYS ≤ length names → is_one_too_many names name ≡ true
-too-many-new names name new full = rw new (grind (arith, nat_tests))
+pub too-many-new : (room : ℕ) (names : List Name) (name : Name) → is_known names name ≡ false → room ≤ length names → is_one_too_many room names name ≡ true
+too-many-new room names name new full = rw new (grind (arith, nat_tests))
 
 -- the place that a search found
 pub position-found : {X : Type 0} (p : X → Bool) (xs : List X) (i : ℕ) → Some i ≡ position p xs → i ≡ position_or_len p xs

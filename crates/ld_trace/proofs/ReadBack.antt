@@ -21,7 +21,6 @@ use Rattle.ld_trace.specs.declared.event.Event.TheVariants.{Acquire, Release, En
 use Rattle.ld_trace.specs.declared.event.Irq.TheVariants.{Hard, Soft}
 use Rattle.ld_trace.specs.declared.event.Mode.{Mode}
 use Rattle.ld_trace.specs.declared.event.Mode.TheVariants.{Write, Read, RecRead, TryWrite, TryRead, TryRecRead}
-use Rattle.ld_trace.specs.declared.key_id.TheConstants.{MAX_KEYS}
 use Rattle.ld_trace.specs.declared.key_table.TheConstants.{MAX_SUB}
 use Rattle.ld_trace.specs.declared.raw_trace.TheConstants.{MAX_EVENTS}
 use Rattle.ld_trace.specs.declared.version.Version.{Version}
@@ -30,7 +29,7 @@ use Rattle.ld_trace.specs.Events.{KeyIsBelow, KeysBelow, is_try}
 use Rattle.ld_trace.specs.Laws.{AreOfTable, NewTablesHaveRoom, TextsReadBack, TextsReadThemselves, lines_at, with_lines}
 use Rattle.ld_trace.specs.Lines.{Line, Record, takes, gives_back, enters, leaves, turns_on, turns_off, event_of, is_over, line_of_record, mode_of, sub_of, version_of, with_line}
 use Rattle.ld_trace.specs.Modes.{may_wait}
-use Rattle.ld_trace.specs.Names.{AreNumbered, Name, is_class_name, is_known, is_name, is_one_too_many, is_same, place_of, with_name}
+use Rattle.ld_trace.specs.Names.{Name, Table, is_class_name, is_known, is_name, is_one_too_many, is_same, place_of, with_name}
 use Rattle.ld_trace.specs.Inside.Progress.{AreTaken, TakesLine}
 use Rattle.ld_trace.specs.Reading.{ReadsTo, records_of}
 use Rattle.ld_trace.specs.Writing.{event_text, header_of, line_at, mode_word, name_at, record_of, record_text, sub_word, trace_text, version_for}
@@ -223,39 +222,39 @@ length-with_lines : (now : List Name) (lines : List Line) → length now ≤ len
 length-with_lines now lines = let a = with_lines-added now lines in omega (arith, ap length a.1, length-append now a.0)
 
 -- a name for which there is room is not one too many
-name-fits : (now : List Name) (name : Name) → length (with_name now name) ≤ MAX_KEYS → is_one_too_many now name ≡ false
-name-fits now name room = by (is_known now name) room
+name-fits : (room : ℕ) (now : List Name) (name : Name) → length (with_name now name) ≤ room → is_one_too_many room now name ≡ false
+name-fits room now name fits = by (is_known now name) fits
   where
-    by : (b : Bool) → length (if b then now else now ++ name ∷ []) ≤ MAX_KEYS → (not b && nat_le MAX_KEYS (length now)) ≡ false
+    by : (b : Bool) → length (if b then now else now ++ name ∷ []) ≤ room → (not b && nat_le room (length now)) ≡ false
     by true h = refl
     by false h = let long = length-append now (name ∷ []) in grind (arith, nat_tests)
 
-line-fits : (now : List Name) (line : Line) → length (with_line now line) ≤ MAX_KEYS → is_over now line ≡ false
-line-fits now (takes name mode) room = name-fits now name room
-line-fits now (gives_back name) room = name-fits now name room
-line-fits now (enters irq) room = refl
-line-fits now leaves room = refl
-line-fits now (turns_on irq) room = refl
-line-fits now (turns_off irq) room = refl
+line-fits : (room : ℕ) (now : List Name) (line : Line) → length (with_line now line) ≤ room → is_over room now line ≡ false
+line-fits room now (takes name mode) fits = name-fits room now name fits
+line-fits room now (gives_back name) fits = name-fits room now name fits
+line-fits room now (enters irq) fits = refl
+line-fits room now leaves fits = refl
+line-fits room now (turns_on irq) fits = refl
+line-fits room now (turns_off irq) fits = refl
 
 -- all lines were taken
-taken-lines : (version : Version) (old : List Name) (rows : List Record) (now : List Name) (before : List Event) (lines : List Line) → AreTaken version old rows now before → AreGood version lines → length before + length lines ≤ MAX_EVENTS → length (with_lines now lines) ≤ MAX_KEYS → AreTaken version old (rows ++ map record_of lines) (with_lines now lines) (before ++ events_with now lines)
+taken-lines : (room : ℕ) (version : Version) (old : List Name) (rows : List Record) (now : List Name) (before : List Event) (lines : List Line) → AreTaken room version old rows now before → AreGood version lines → length before + length lines ≤ MAX_EVENTS → length (with_lines now lines) ≤ room → AreTaken room version old (rows ++ map record_of lines) (with_lines now lines) (before ++ events_with now lines)
 unfolding with_lines
-taken-lines version old rows now before [] a good few room = rw (append-nil rows, append-nil before) a
-taken-lines version old rows now before (line ∷ lines) a good few room =
+taken-lines room version old rows now before [] a good few fits = rw (append-nil rows, append-nil before) a
+taken-lines room version old rows now before (line ∷ lines) a good few fits =
     let next = with_line now line in
     let event = event_of now line in
     let long = length-append before (event ∷ []) in
     let more = length-with_lines next lines in
-    let taken : TakesLine version now next before (before ++ event ∷ []) (record_of line) = record {
+    let taken : TakesLine room version now next before (before ++ event ∷ []) (record_of line) = record {
       line = line;
       says = line_of_record-of version line good.0;
-      fits = line-fits now line (omega (arith, more, room));
+      fits = line-fits room now line (omega (arith, more, fits));
       names = refl;
       events = refl;
     } in
-    let step = taken-more version old rows now next before (before ++ event ∷ []) (record_of line) a taken (omega (arith, few)) in
-    let rest = taken-lines version old (rows ++ record_of line ∷ []) next (before ++ event ∷ []) lines step good.1 (omega (arith, few, long)) room in
+    let step = taken-more room version old rows now next before (before ++ event ∷ []) (record_of line) a taken (omega (arith, few)) in
+    let rest = taken-lines room version old (rows ++ record_of line ∷ []) next (before ++ event ∷ []) lines step good.1 (omega (arith, few, long)) fits in
     rw (append_assoc rows (record_of line ∷ []) (map record_of lines), append_assoc before (event ∷ []) (events_with next lines)) at rest
 
 -- ---- what the events say
@@ -313,61 +312,61 @@ lines_at-events_with now (line ∷ lines) =
     rw (first, lines_at-events_with (with_line now line) lines) refl
 
 -- ---- the laws
-module _ (names : List Name) (events : List Event) (are : AreOfTable names events) where
+module _ (table : Table) (events : List Event) (are : AreOfTable table events) where
   version_of-header : (v : Version) → version_of (header_of v) ≡ Some v
   unfolding version_of
   version_of-header One = refl
   version_of-header Two = refl
 
-  reads-back : (old : List Name) → length (with_lines old (lines_at names events)) ≤ MAX_KEYS → ReadsTo old (trace_text names events) (with_lines old (lines_at names events)) (events_with old (lines_at names events))
-  reads-back old room =
-      let header = taken-header (version_for events) old (header_of (version_for events)) (version_of-header (version_for events)) in
-      let good = lines-good (version_for events) names events are.numbered.named are.below (all-have events) in
-      let long : length (lines_at names events) ≡ length events = length-map events (line_at names) in
-      let few : 0 + length (lines_at names events) ≤ MAX_EVENTS = omega (arith, are.few, long) in
-      let taken = taken-lines (version_for events) old (header_of (version_for events) ∷ []) old [] (lines_at names events) header good few room in
-      reads-to (version_for events) old (trace_text names events) (header_of (version_for events) ∷ map record_of (lines_at names events)) (with_lines old (lines_at names events)) (events_with old (lines_at names events))
-      (records-text names events) taken
+  reads-back : (room : ℕ) (old : List Name) → length (with_lines old (lines_at table.names events)) ≤ room → ReadsTo room old (trace_text table.names events) (with_lines old (lines_at table.names events)) (events_with old (lines_at table.names events))
+  reads-back room old fits =
+      let header = taken-header room (version_for events) old (header_of (version_for events)) (version_of-header (version_for events)) in
+      let good = lines-good (version_for events) table.names events are.numbered.named are.below (all-have events) in
+      let long : length (lines_at table.names events) ≡ length events = length-map events (line_at table.names) in
+      let few : 0 + length (lines_at table.names events) ≤ MAX_EVENTS = omega (arith, are.few, long) in
+      let taken = taken-lines room (version_for events) old (header_of (version_for events) ∷ []) old [] (lines_at table.names events) header good few fits in
+      reads-to room (version_for events) old (trace_text table.names events) (header_of (version_for events) ∷ map record_of (lines_at table.names events)) (with_lines old (lines_at table.names events)) (events_with old (lines_at table.names events))
+      (records-text table.names events) taken
 
 pub texts-read-back : TextsReadBack
-texts-read-back names old events are room = (
-  with_lines old (lines_at names events),
-  events_with old (lines_at names events),
+texts-read-back table events are room old fits = (
+  with_lines old (lines_at table.names events),
+  events_with old (lines_at table.names events),
   record {
-    reads = reads-back names events are old room;
+    reads = reads-back table events are room old fits;
     names_are = refl;
-    same = lines_at-events_with old (lines_at names events);
+    same = lines_at-events_with old (lines_at table.names events);
   },
 )
 
 -- over the table of the names themselves
-line-known : (names : List Name) (event : Event) → AreNumbered names → KeyIsBelow (length names) event → (with_line names (line_at names event) ≡ names) × (event_of names (line_at names event) ≡ event)
-line-known names (Acquire mode key) numbered below =
-    let there = place_of-there names (name_at names key) key numbered.once (name_at-there names key below) in
+line-known : (names : List Name) (event : Event) → IsDistinct is_same names → KeyIsBelow (length names) event → (with_line names (line_at names event) ≡ names) × (event_of names (line_at names event) ≡ event)
+line-known names (Acquire mode key) once below =
+    let there = place_of-there names (name_at names key) key once (name_at-there names key below) in
     (rw there.1 refl, ap (Acquire mode) there.0)
-line-known names (Release key) numbered below =
-    let there = place_of-there names (name_at names key) key numbered.once (name_at-there names key below) in
+line-known names (Release key) once below =
+    let there = place_of-there names (name_at names key) key once (name_at-there names key below) in
     (rw there.1 refl, ap Release there.0)
-line-known names (Enter irq) numbered below = (refl, refl)
-line-known names Leave numbered below = (refl, refl)
-line-known names (TurnOn irq) numbered below = (refl, refl)
-line-known names (TurnOff irq) numbered below = (refl, refl)
+line-known names (Enter irq) once below = (refl, refl)
+line-known names Leave once below = (refl, refl)
+line-known names (TurnOn irq) once below = (refl, refl)
+line-known names (TurnOff irq) once below = (refl, refl)
 
-lines-known : (names : List Name) (events : List Event) → AreNumbered names → KeysBelow (length names) events → (with_lines names (lines_at names events) ≡ names) × (events_with names (lines_at names events) ≡ events)
+lines-known : (names : List Name) (events : List Event) → IsDistinct is_same names → KeysBelow (length names) events → (with_lines names (lines_at names events) ≡ names) × (events_with names (lines_at names events) ≡ events)
 unfolding with_lines
-lines-known names [] numbered below = (refl, refl)
-lines-known names (event ∷ events) numbered below =
-    let one = line-known names event numbered (head-below (length names) event events below) in
-    let rest = lines-known names events numbered (tail-below (length names) event events below) in
+lines-known names [] once below = (refl, refl)
+lines-known names (event ∷ events) once below =
+    let one = line-known names event once (head-below (length names) event events below) in
+    let rest = lines-known names events once (tail-below (length names) event events below) in
     let names_are = ap (λ n. with_lines n (lines_at names events)) one.0 ∙ rest.0 in
     let events_are = ap (λ n. events_with n (lines_at names events)) one.0 ∙ rest.1 in
     (names_are, λ i. one.1 i ∷ events_are i)
 
 pub texts-read-themselves : TextsReadThemselves
-texts-read-themselves names events are =
-    let known = lines-known names events are.numbered are.below in
-    let room : length (with_lines names (lines_at names events)) ≤ MAX_KEYS = rw known.0 are.numbered.few in
-    rw (known.0, known.1) at (reads-back names events are names room)
+texts-read-themselves table events are =
+    let known = lines-known table.names events are.numbered.once are.below in
+    let fits : length (with_lines table.names (lines_at table.names events)) ≤ table.room = rw known.0 are.numbered.few in
+    rw (known.0, known.1) at (reads-back table events are table.room table.names fits)
 
 -- ---- a new table has room
 is_same-laws : IsEquivalence is_same
@@ -405,27 +404,27 @@ with_name-among names now name known among = by (is_known now name) refl
           (sym (list_any-append (is_same q) now (name ∷ [])) ∙ h);
     }
 
-line-among : (names now : List Name) (event : Event) → AreNumbered names → KeyIsBelow (length names) event → AreAmong names now → AreAmong names (with_line now (line_at names event))
-line-among names now (Acquire mode key) numbered below among = with_name-among names now (name_at names key) (place_of-there names (name_at names key) key numbered.once (name_at-there names key below)).1 among
-line-among names now (Release key) numbered below among = with_name-among names now (name_at names key) (place_of-there names (name_at names key) key numbered.once (name_at-there names key below)).1 among
-line-among names now (Enter irq) numbered below among = among
-line-among names now Leave numbered below among = among
-line-among names now (TurnOn irq) numbered below among = among
-line-among names now (TurnOff irq) numbered below among = among
+line-among : (names now : List Name) (event : Event) → IsDistinct is_same names → KeyIsBelow (length names) event → AreAmong names now → AreAmong names (with_line now (line_at names event))
+line-among names now (Acquire mode key) once below among = with_name-among names now (name_at names key) (place_of-there names (name_at names key) key once (name_at-there names key below)).1 among
+line-among names now (Release key) once below among = with_name-among names now (name_at names key) (place_of-there names (name_at names key) key once (name_at-there names key below)).1 among
+line-among names now (Enter irq) once below among = among
+line-among names now Leave once below among = among
+line-among names now (TurnOn irq) once below among = among
+line-among names now (TurnOff irq) once below among = among
 
-lines-among : (names now : List Name) (events : List Event) → AreNumbered names → KeysBelow (length names) events → AreAmong names now → AreAmong names (with_lines now (lines_at names events))
+lines-among : (names now : List Name) (events : List Event) → IsDistinct is_same names → KeysBelow (length names) events → AreAmong names now → AreAmong names (with_lines now (lines_at names events))
 unfolding with_lines
-lines-among names now [] numbered below among = among
-lines-among names now (event ∷ events) numbered below among =
-    lines-among names (with_line now (line_at names event)) events numbered (tail-below (length names) event events below)
-    (line-among names now event numbered (head-below (length names) event events below) among)
+lines-among names now [] once below among = among
+lines-among names now (event ∷ events) once below among =
+    lines-among names (with_line now (line_at names event)) events once (tail-below (length names) event events below)
+    (line-among names now event once (head-below (length names) event events below) among)
 
 none-among : (names : List Name) → AreAmong names []
 unfolding IsDistinct
 none-among names = record { once = tt; known = λ q h. absurd (true≢false (sym h)) }
 
 pub new-tables-have-room : NewTablesHaveRoom
-new-tables-have-room names events are =
-    let among = lines-among names [] events are.numbered are.below (none-among names) in
-    let short = length-le_from_is_member is_same-laws (with_lines [] (lines_at names events)) names among.once among.known in
+new-tables-have-room table events are =
+    let among = lines-among table.names [] events are.numbered.once are.below (none-among table.names) in
+    let short = length-le_from_is_member is_same-laws (with_lines [] (lines_at table.names events)) table.names among.once among.known in
     omega (arith, short, are.numbered.few)

@@ -40,9 +40,9 @@ header-says version (w ∷ v ∷ []) named e = by (bytes_eq w (codes "lockdep"))
 header-says version (w ∷ v ∷ x ∷ rest) named e = absurd (cc)
 
 -- the header alone was taken
-pub taken-header : (version : Version) (old : List Name) (h : Record) → version_of h ≡ Some version → AreTaken version old (h ∷ []) old []
+pub taken-header : (room : ℕ) (version : Version) (old : List Name) (h : Record) → version_of h ≡ Some version → AreTaken room version old (h ∷ []) old []
 unfolding fault_at names_after
-taken-header version old h e = record {
+taken-header room version old h e = record {
   version_is = rw e refl;
   count = refl;
   faultless = λ i lt. let z : i ≡ 0 = omega arith in rw (z, e) refl;
@@ -53,26 +53,26 @@ taken-header version old h e = record {
 }
 
 -- the records that were taken are all: the trace was read
-pub reads-to : (version : Version) (old : List Name) (bytes : List ℕ) (rows : List Record) (now : List Name) (events : List Event) → records_of bytes ≡ rows → AreTaken version old rows now events → ReadsTo old bytes now events
-reads-to version old bytes rows now events e a = record {
+pub reads-to : (room : ℕ) (version : Version) (old : List Name) (bytes : List ℕ) (rows : List Record) (now : List Name) (events : List Event) → records_of bytes ≡ rows → AreTaken room version old rows now events → ReadsTo room old bytes now events
+reads-to room version old bytes rows now events e a = record {
   faultless = λ place. rw (e, a.version_is) (by place (cases_lt place (length rows)));
   count = rw e a.count;
   each = λ i. rw (e, a.version_is) (a.each i);
   names = rw (e, a.version_is) a.names;
 }
   where
-    by : (place : ℕ) → (place < length rows) ⊎ (length rows ≤ place) → fault_at version old rows place ≡ None
+    by : (place : ℕ) → (place < length rows) ⊎ (length rows ≤ place) → fault_at room version old rows place ≡ None
     by place (inl lt) = a.faultless place lt
-    by place (inr ge) = fault_at-past version old rows place (omega (arith, a.count)) ge
+    by place (inr ge) = fault_at-past room version old rows place (omega (arith, a.count)) ge
 
 -- reading stopped after the records that were taken
-stops-at : (version : Version) (old : List Name) (bytes : List ℕ) (rows rest : List Record) (now : List Name) (events : List Event) (kind : TraceFaultKind) → records_of bytes ≡ rows ++ rest → AreTaken version old rows now events
-    → (is_of_text kind ≡ true → fault_at version old (rows ++ rest) (length rows) ≡ Some kind) → StopsAt old bytes now (record { kind = kind; at = length events + 2 })
-stops-at version old bytes rows rest now events kind e a here = record {
+stops-at : (room : ℕ) (version : Version) (old : List Name) (bytes : List ℕ) (rows rest : List Record) (now : List Name) (events : List Event) (kind : TraceFaultKind) → records_of bytes ≡ rows ++ rest → AreTaken room version old rows now events
+    → (is_of_text kind ≡ true → fault_at room version old (rows ++ rest) (length rows) ≡ Some kind) → StopsAt room old bytes now (record { kind = kind; at = length events + 2 })
+stops-at room version old bytes rows rest now events kind e a here = record {
   place = length rows;
   number = omega (arith, a.count);
   here = λ own. rw (e, named) (here own);
-  before = λ i lt. rw (e, named) (fault_at-front version old rows rest i lt ∙ a.faultless i lt);
+  before = λ i lt. rw (e, named) (fault_at-front room version old rows rest i lt ∙ a.faultless i lt);
   names = rw (e, named) (a.names ∙ sym (names_before-all version old rows rest));
 }
   where
@@ -80,10 +80,10 @@ stops-at version old bytes rows rest now events kind e a here = record {
     named = version_in-front rows rest (omega (arith, a.count)) ∙ a.version_is
 
 -- reading stopped at the first record
-stops-first : (old : List Name) (bytes : List ℕ) (rows : List Record) (kind : TraceFaultKind) → records_of bytes ≡ rows
-    → (is_of_text kind ≡ true → fault_at (version_in rows) old rows 0 ≡ Some kind) → StopsAt old bytes old (record { kind = kind; at = 1 })
+stops-first : (room : ℕ) (old : List Name) (bytes : List ℕ) (rows : List Record) (kind : TraceFaultKind) → records_of bytes ≡ rows
+    → (is_of_text kind ≡ true → fault_at room (version_in rows) old rows 0 ≡ Some kind) → StopsAt room old bytes old (record { kind = kind; at = 1 })
 unfolding names_after
-stops-first old bytes rows kind e here = record {
+stops-first room old bytes rows kind e here = record {
   place = 0;
   number = refl;
   here = λ own. rw e (here own);
@@ -95,50 +95,50 @@ if-some : {X : Type 0} (known : Option X) (P Q : X → Type 0) → ((x : X) → 
 if-some None P Q f h = tt
 if-some (Some x) P Q f h = f x h
 
-module _ {R : Type 0} (rem : R → Option (List ℕ)) (known : Option (List ℕ)) (old : List Name) (a : Reader R) where
+module _ {R : Type 0} (rem : R → Option (List ℕ)) (known : Option (List ℕ)) (room : ℕ) (old : List Name) (a : Reader R) where
   -- the first read: the header, another record, no record, or a failure
-  pub header-taken : (version : Version) (b : Reader R) (h : Record) → ReadsPlain a → HasGiven rem known a [] → ReadRecord rem a b true h → version_of h ≡ Some version → HasTaken rem known b version old old []
-  header-taken version b h p given read e = (h ∷ [], given-more rem known a b [] h p given read, taken-header version old h e)
+  pub header-taken : (version : Version) (b : Reader R) (h : Record) → ReadsPlain a → HasGiven rem known a [] → ReadRecord rem a b true h → version_of h ≡ Some version → HasTaken rem known b room version old old []
+  header-taken version b h p given read e = (h ∷ [], given-more rem known a b [] h p given read, taken-header room version old h e)
 
-  pub header-refused : (b : Reader R) (h : Record) → ReadsPlain a → HasGiven rem known a [] → ReadRecord rem a b true h → version_of h ≡ None → AreRefused known old old NoHeader 1
+  pub header-refused : (b : Reader R) (h : Record) → ReadsPlain a → HasGiven rem known a [] → ReadRecord rem a b true h → version_of h ≡ None → AreRefused room known old old NoHeader 1
   unfolding fault_at
   header-refused b h p given read e =
-      if-some known _ _ (λ bytes begins. stops-first old bytes (h ∷ begins.0) NoHeader begins.1 (λ own. rw e refl))
+      if-some known _ _ (λ bytes begins. stops-first room old bytes (h ∷ begins.0) NoHeader begins.1 (λ own. rw e refl))
       (given-begin rem known b (h ∷ []) (given-more rem known a b [] h p given read))
 
-  pub header-missing : (b : Reader R) (f : Record) → ReadsPlain a → HasGiven rem known a [] → ReadRecord rem a b false f → AreRefused known old old NoHeader 1
+  pub header-missing : (b : Reader R) (f : Record) → ReadsPlain a → HasGiven rem known a [] → ReadRecord rem a b false f → AreRefused room known old old NoHeader 1
   unfolding fault_at
-  header-missing b f p given read = if-some known _ _ (λ bytes all. stops-first old bytes [] NoHeader all (λ own. refl)) (given-all rem known a b [] f p given read)
+  header-missing b f p given read = if-some known _ _ (λ bytes all. stops-first room old bytes [] NoHeader all (λ own. refl)) (given-all rem known a b [] f p given read)
 
-  pub header-failed : (kind : TraceFaultKind) → is_of_text kind ≡ false → HasGiven rem known a [] → AreRefused known old old kind 1
+  pub header-failed : (kind : TraceFaultKind) → is_of_text kind ≡ false → HasGiven rem known a [] → AreRefused room known old old kind 1
   header-failed kind e given =
-      if-some known _ _ (λ bytes begins. stops-first old bytes begins.0 kind begins.1 (λ own. absurd (true≢false (sym own ∙ e))))
+      if-some known _ _ (λ bytes begins. stops-first room old bytes begins.0 kind begins.1 (λ own. absurd (true≢false (sym own ∙ e))))
       (given-begin rem known a [] given)
 
   -- a later read: an event, a record that is refused, no record, or a failure
   module _ (version : Version) (now : List Name) (events : List Event) where
-    pub event-taken : (b : Reader R) (r : Record) (new : List Name) (after : List Event) → ReadsPlain a → ReadRecord rem a b true r → TakesLine version now new events after r
-        → length events < MAX_EVENTS → HasTaken rem known a version old now events → HasTaken rem known b version old new after
+    pub event-taken : (b : Reader R) (r : Record) (new : List Name) (after : List Event) → ReadsPlain a → ReadRecord rem a b true r → TakesLine room version now new events after r
+        → length events < MAX_EVENTS → HasTaken rem known a room version old now events → HasTaken rem known b room version old new after
     event-taken b r new after p read t few h =
-        (h.0 ++ r ∷ [], given-more rem known a b h.0 r p h.1 read, taken-more version old h.0 now new events after r h.2 t few)
+        (h.0 ++ r ∷ [], given-more rem known a b h.0 r p h.1 read, taken-more room version old h.0 now new events after r h.2 t few)
 
     pub event-refused : (b : Reader R) (r : Record) (kind : TraceFaultKind) → ReadsPlain a → ReadRecord rem a b true r
-        → (is_of_text kind ≡ true → record_fault version now (suc (length events)) (Some r) ≡ Some kind) → HasTaken rem known a version old now events
-        → AreRefused known old now kind (length events + 2)
+        → (is_of_text kind ≡ true → record_fault room version now (suc (length events)) (Some r) ≡ Some kind) → HasTaken rem known a room version old now events
+        → AreRefused room known old now kind (length events + 2)
     event-refused b r kind p read here h =
         if-some known _ _
-        (λ bytes begins. stops-at version old bytes h.0 (r ∷ begins.0) now events kind (begins.1 ∙ append_assoc h.0 (r ∷ []) begins.0) h.2 (λ own.
+        (λ bytes begins. stops-at room version old bytes h.0 (r ∷ begins.0) now events kind (begins.1 ∙ append_assoc h.0 (r ∷ []) begins.0) h.2 (λ own.
         let at : length h.0 ≡ suc (length events) = h.2.count in
-        rw at (fault_at-next version old h.0 begins.0 r (length events) at ∙ ap (λ names. record_fault version names (suc (length events)) (Some r)) (sym h.2.names) ∙ here own)))
+        rw at (fault_at-next room version old h.0 begins.0 r (length events) at ∙ ap (λ names. record_fault room version names (suc (length events)) (Some r)) (sym h.2.names) ∙ here own)))
         (given-begin rem known b (h.0 ++ r ∷ []) (given-more rem known a b h.0 r p h.1 read))
 
-    pub events-ended : (b : Reader R) (f : Record) → ReadsPlain a → ReadRecord rem a b false f → HasTaken rem known a version old now events
-        → AreRead known old now events × KeysBelow (length now) events
-    events-ended b f p read h = (if-some known _ _ (λ bytes all. reads-to version old bytes h.0 now events all h.2) (given-all rem known a b h.0 f p h.1 read), h.2.below)
+    pub events-ended : (b : Reader R) (f : Record) → ReadsPlain a → ReadRecord rem a b false f → HasTaken rem known a room version old now events
+        → AreRead room known old now events × KeysBelow (length now) events
+    events-ended b f p read h = (if-some known _ _ (λ bytes all. reads-to room version old bytes h.0 now events all h.2) (given-all rem known a b h.0 f p h.1 read), h.2.below)
 
-    pub events-failed : (kind : TraceFaultKind) → is_of_text kind ≡ false → HasTaken rem known a version old now events → AreRefused known old now kind (length events + 2)
+    pub events-failed : (kind : TraceFaultKind) → is_of_text kind ≡ false → HasTaken rem known a room version old now events → AreRefused room known old now kind (length events + 2)
     events-failed kind e h =
-        if-some known _ _ (λ bytes begins. stops-at version old bytes h.0 begins.0 now events kind begins.1 h.2 (λ own. absurd (true≢false (sym own ∙ e))))
+        if-some known _ _ (λ bytes begins. stops-at room version old bytes h.0 begins.0 now events kind begins.1 h.2 (λ own. absurd (true≢false (sym own ∙ e))))
         (given-begin rem known a h.0 h.1)
 
 -- whether a place is past the last that may hold an event's record

@@ -47,30 +47,30 @@ names_before-front version old rows rest i h = ap (names_after version old) (tak
 pub names_before-all : (version : Version) (old : List Name) (rows rest : List Record) → names_before version old (rows ++ rest) (length rows) ≡ names_after version old rows
 names_before-all version old rows rest = ap (names_after version old) (take-append_seam rows rest)
 
-pub fault_at-front : (version : Version) (old : List Name) (rows rest : List Record) (i : ℕ) → i < length rows → fault_at version old (rows ++ rest) i ≡ fault_at version old rows i
+pub fault_at-front : (room : ℕ) (version : Version) (old : List Name) (rows rest : List Record) (i : ℕ) → i < length rows → fault_at room version old (rows ++ rest) i ≡ fault_at room version old rows i
 unfolding fault_at
-fault_at-front version old rows rest zero h = ap header_fault (slice_get-front rows rest 0 h)
-fault_at-front version old rows rest (suc i) h = rw (names_before-front version old rows rest (suc i) (omega arith), slice_get-front rows rest (suc i) h)
+fault_at-front room version old rows rest zero h = ap header_fault (slice_get-front rows rest 0 h)
+fault_at-front room version old rows rest (suc i) h = rw (names_before-front version old rows rest (suc i) (omega arith), slice_get-front rows rest (suc i) h)
 
 pub event_at-front : (version : Version) (old : List Name) (rows rest : List Record) (i : ℕ) → i < length rows → event_at version old (rows ++ rest) i ≡ event_at version old rows i
 unfolding event_at
 event_at-front version old rows rest i h = rw (names_before-front version old rows rest i (omega arith), slice_get-front rows rest i h)
 
 -- past the end there is neither a fault nor an event
-pub fault_at-past : (version : Version) (old : List Name) (rows : List Record) (i : ℕ) → 0 < length rows → length rows ≤ i → fault_at version old rows i ≡ None
+pub fault_at-past : (room : ℕ) (version : Version) (old : List Name) (rows : List Record) (i : ℕ) → 0 < length rows → length rows ≤ i → fault_at room version old rows i ≡ None
 unfolding fault_at
-fault_at-past version old rows zero some h = absurd (omega arith)
-fault_at-past version old rows (suc i) some h = rw (slice_get_past rows (suc i) h)
+fault_at-past room version old rows zero some h = absurd (omega arith)
+fault_at-past room version old rows (suc i) some h = rw (slice_get_past rows (suc i) h)
 
 pub event_at-past : (version : Version) (old : List Name) (rows : List Record) (i : ℕ) → length rows ≤ i → event_at version old rows i ≡ None
 unfolding event_at
 event_at-past version old rows i h = rw (slice_get_past rows i h)
 
 -- the record after those that were taken
-pub fault_at-next : (version : Version) (old : List Name) (rows rest : List Record) (r : Record) (n : ℕ) → length rows ≡ suc n
-    → fault_at version old (rows ++ r ∷ rest) (suc n) ≡ record_fault version (names_after version old rows) (suc n) (Some r)
+pub fault_at-next : (room : ℕ) (version : Version) (old : List Name) (rows rest : List Record) (r : Record) (n : ℕ) → length rows ≡ suc n
+    → fault_at room version old (rows ++ r ∷ rest) (suc n) ≡ record_fault room version (names_after version old rows) (suc n) (Some r)
 unfolding fault_at
-fault_at-next version old rows rest r n e = rw (← e, names_before-all version old rows (r ∷ rest), slice_get-seam rows r rest)
+fault_at-next room version old rows rest r n e = rw (← e, names_before-all version old rows (r ∷ rest), slice_get-seam rows r rest)
 
 pub event_at-next : (version : Version) (old : List Name) (rows rest : List Record) (r : Record) (n : ℕ) → length rows ≡ suc n
     → event_at version old (rows ++ r ∷ rest) (suc n) ≡ line_event (names_after version old rows) (line_of_record version r)
@@ -78,16 +78,16 @@ unfolding event_at
 event_at-next version old rows rest r n e = rw (← e, names_before-all version old rows (r ∷ rest), slice_get-seam rows r rest)
 
 -- a record that was taken has no fault
-taken-faultless : (version : Version) (now new : List Name) (before after : List Event) (r : Record) (place : ℕ) → TakesLine version now new before after r → place ≤ MAX_EVENTS
-    → record_fault version now place (Some r) ≡ None
-taken-faultless version now new before after r place t few = rw (few-places place few, t.says, t.fits)
+taken-faultless : (room : ℕ) (version : Version) (now new : List Name) (before after : List Event) (r : Record) (place : ℕ) → TakesLine room version now new before after r → place ≤ MAX_EVENTS
+    → record_fault room version now place (Some r) ≡ None
+taken-faultless room version now new before after r place t few = rw (few-places place few, t.says, t.fits)
   where
     few-places : (p : ℕ) → p ≤ MAX_EVENTS → nat_lt MAX_EVENTS p ≡ false
     few-places p h = grind (arith, nat_tests)
 
 -- and stands for its event
-taken-event : (version : Version) (now new : List Name) (before after : List Event) (r : Record) (t : TakesLine version now new before after r) → line_event now (line_of_record version r) ≡ Some (event_of now t.line)
-taken-event version now new before after r t = rw t.says refl
+taken-event : (room : ℕ) (version : Version) (now new : List Name) (before after : List Event) (r : Record) (t : TakesLine room version now new before after r) → line_event now (line_of_record version r) ≡ Some (event_of now t.line)
+taken-event room version now new before after r t = rw t.says refl
 
 -- a known name stands within the names
 first-below : {X : Type 0} (p : X → Bool) (xs : List X) → list_any p xs ≡ true → position_or_len p xs < length xs
@@ -144,19 +144,19 @@ KeysBelow-mono : (m n : ℕ) (events : List Event) → m ≤ n → KeysBelow m e
 KeysBelow-mono m n events h below = λ k d lt. KeyIsBelow-mono m n (get_or events k d) h (below k d lt)
 
 -- one more record was taken
-module _ (version : Version) (old : List Name) (rows : List Record) (now new : List Name) (before after : List Event) (r : Record)
-    (a : AreTaken version old rows now before) (t : TakesLine version now new before after r) (few : length before < MAX_EVENTS) where
-  more-faultless : (i : ℕ) → i < length (rows ++ r ∷ []) → fault_at version old (rows ++ r ∷ []) i ≡ None
+module _ (room : ℕ) (version : Version) (old : List Name) (rows : List Record) (now new : List Name) (before after : List Event) (r : Record)
+    (a : AreTaken room version old rows now before) (t : TakesLine room version now new before after r) (few : length before < MAX_EVENTS) where
+  more-faultless : (i : ℕ) → i < length (rows ++ r ∷ []) → fault_at room version old (rows ++ r ∷ []) i ≡ None
   more-faultless i h = by (cases_lt i (length rows))
     where
-      by : (i < length rows) ⊎ (length rows ≤ i) → fault_at version old (rows ++ r ∷ []) i ≡ None
-      by (inl lt) = fault_at-front version old rows (r ∷ []) i lt ∙ a.faultless i lt
+      by : (i < length rows) ⊎ (length rows ≤ i) → fault_at room version old (rows ++ r ∷ []) i ≡ None
+      by (inl lt) = fault_at-front room version old rows (r ∷ []) i lt ∙ a.faultless i lt
       by (inr ge) =
           let e : i ≡ suc (length before) = omega (arith, a.count, length-append rows (r ∷ [])) in
           rw e
-          (fault_at-next version old rows [] r (length before) a.count
-          ∙ ap (λ names. record_fault version names (suc (length before)) (Some r)) (sym a.names)
-          ∙ taken-faultless version now new before after r (suc (length before)) t few)
+          (fault_at-next room version old rows [] r (length before) a.count
+          ∙ ap (λ names. record_fault room version names (suc (length before)) (Some r)) (sym a.names)
+          ∙ taken-faultless room version now new before after r (suc (length before)) t few)
 
   more-each : (i : ℕ) → slice_get after i ≡ event_at version old (rows ++ r ∷ []) (suc i)
   more-each i = rw t.events (by (cases_lt i (length before)))
@@ -165,7 +165,7 @@ module _ (version : Version) (old : List Name) (rows : List Record) (now new : L
       later (inl e) =
           rw (← e)
           (slice_get-seam before (event_of now t.line) []
-          ∙ sym (event_at-next version old rows [] r (length before) a.count ∙ ap (λ names. line_event names (line_of_record version r)) (sym a.names) ∙ taken-event version now new before after r t))
+          ∙ sym (event_at-next version old rows [] r (length before) a.count ∙ ap (λ names. line_event names (line_of_record version r)) (sym a.names) ∙ taken-event room version now new before after r t))
       later (inr gt) =
           slice_get_past (before ++ event_of now t.line ∷ []) i (omega (arith, length-append before (event_of now t.line ∷ [])))
           ∙ sym (event_at-past version old (rows ++ r ∷ []) (suc i) (omega (arith, a.count, length-append rows (r ∷ []))))
@@ -175,7 +175,7 @@ module _ (version : Version) (old : List Name) (rows : List Record) (now new : L
           slice_get-front before (event_of now t.line ∷ []) i lt ∙ a.each i ∙ sym (event_at-front version old rows (r ∷ []) (suc i) (omega (arith, a.count)))
       by (inr ge) = later (eq-or-lt_of_le ge)
 
-  pub taken-more : AreTaken version old (rows ++ r ∷ []) new after
+  pub taken-more : AreTaken room version old (rows ++ r ∷ []) new after
   taken-more = record {
     version_is = version_in-front rows (r ∷ []) (omega (arith, a.count)) ∙ a.version_is;
     count = rw t.events (omega (arith, a.count, length-append rows (r ∷ []), length-append before (event_of now t.line ∷ [])));

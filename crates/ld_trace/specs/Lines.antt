@@ -122,14 +122,14 @@ with_line names leaves = names
 with_line names (turns_on irq) = names
 with_line names (turns_off irq) = names
 
--- whether the line's name would be the 257th
-abbrev pub is_over : List Name → Line → Bool
-is_over names (takes name mode) = is_one_too_many names name
-is_over names (gives_back name) = is_one_too_many names name
-is_over names (enters irq) = false
-is_over names leaves = false
-is_over names (turns_on irq) = false
-is_over names (turns_off irq) = false
+-- whether the line's name would be one more than there is room for
+abbrev pub is_over : ℕ → List Name → Line → Bool
+is_over room names (takes name mode) = is_one_too_many room names name
+is_over room names (gives_back name) = is_one_too_many room names name
+is_over room names (enters irq) = false
+is_over room names leaves = false
+is_over room names (turns_on irq) = false
+is_over room names (turns_off irq) = false
 
 -- the event that a line stands for: a key's number is the place of its name
 abbrev pub event_of : List Name → Line → Event

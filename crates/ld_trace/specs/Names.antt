@@ -2,7 +2,7 @@
 use Rattle.std.specs.Prelude.{◌≡◌, ℕ, ◌≤◌, ◌==◌, ◌&&◌, ◌++◌, ◌∷◌, Bool, true, not, List, [], length, nat_le, if◌then◌else◌}
 use Rattle.std.specs.List.{IsDistinct, list_all, list_any, position_or_len}
 use Rattle.std.specs.Str.{bytes_eq}
-use Rattle.ld_trace.specs.declared.key_id.TheConstants.{MAX_KEYS}
+use Rattle.ld_trace.specs.declared.key_id.TheConstants.{MAX_MANY}
 use Rattle.ld_trace.specs.declared.key_table.TheConstants.{MAX_SUB}
 use Rattle.ld_trace.specs.declared.stored_name.TheConstants.{MAX_NAME}
 
@@ -39,12 +39,18 @@ place_of names name = position_or_len (is_same name) names
 abbrev pub with_name : List Name → Name → List Name
 with_name names name = if is_known names name then names else names ++ name ∷ []
 
--- whether the name would be the 257th
-abbrev pub is_one_too_many : List Name → Name → Bool
-is_one_too_many names name = not (is_known names name) && nat_le MAX_KEYS (length names)
+-- whether the name would be one more than there is room for
+abbrev pub is_one_too_many : ℕ → List Name → Name → Bool
+is_one_too_many room names name = not (is_known names name) && nat_le room (length names)
 
--- what a table of names keeps: at most 256 of them, each a name, none of them twice
-pub record AreNumbered (names : List Name) : Type 0 where
-  pub few : length names ≤ MAX_KEYS
-  pub named : list_all is_name names ≡ true
-  pub once : IsDistinct is_same names
+-- a table of names: how many it takes, and those that it has, each at the place of its key's number
+pub record Table : Type 0 where
+  pub room : ℕ
+  pub names : List Name
+
+-- what a table keeps: room for at most 8,192 names, and no more names than it has room for, each a name, none of them twice
+pub record AreNumbered (table : Table) : Type 0 where
+  pub most : table.room ≤ MAX_MANY
+  pub few : length table.names ≤ table.room
+  pub named : list_all is_name table.names ≡ true
+  pub once : IsDistinct is_same table.names

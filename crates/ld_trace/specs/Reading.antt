@@ -46,22 +46,22 @@ abbrev pub header_fault : Option Record → Option TraceFaultKind
 header_fault None = Some NoHeader
 header_fault (Some r) = version_fault (version_of r)
 
--- the fault of what a record says
-abbrev pub line_fault : List Name → Result Line TraceFaultKind → Option TraceFaultKind
-line_fault names (Err fault) = Some fault
-line_fault names (Ok line) = if is_over names line then Some TooManyKeys else None
+-- the fault of what a record says, where there is room for so many names
+abbrev pub line_fault : ℕ → List Name → Result Line TraceFaultKind → Option TraceFaultKind
+line_fault room names (Err fault) = Some fault
+line_fault room names (Ok line) = if is_over room names line then Some TooManyKeys else None
 
 -- the fault of a record after the first, if there is one at this place
-abbrev pub record_fault : Version → List Name → ℕ → Option Record → Option TraceFaultKind
-record_fault version names place None = None
-record_fault version names place (Some r) = if nat_lt MAX_EVENTS place then Some TooManyRecords
-    else line_fault names (line_of_record version r)
+abbrev pub record_fault : ℕ → Version → List Name → ℕ → Option Record → Option TraceFaultKind
+record_fault room version names place None = None
+record_fault room version names place (Some r) = if nat_lt MAX_EVENTS place then Some TooManyRecords
+    else line_fault room names (line_of_record version r)
 
 -- the fault of the record at a place, if it has one
-unfoldable pub fault_at : Version → List Name → List Record → ℕ → Option TraceFaultKind
-fault_at version old rows zero = header_fault (slice_get rows 0)
-fault_at version old rows (suc i) =
-    record_fault version (names_before version old rows (suc i)) (suc i) (slice_get rows (suc i))
+unfoldable pub fault_at : ℕ → Version → List Name → List Record → ℕ → Option TraceFaultKind
+fault_at room version old rows zero = header_fault (slice_get rows 0)
+fault_at room version old rows (suc i) =
+    record_fault room version (names_before version old rows (suc i)) (suc i) (slice_get rows (suc i))
 
 -- the event of what a record says
 abbrev pub line_event : List Name → Result Line TraceFaultKind → Option Event
@@ -82,19 +82,19 @@ event_at version old rows place =
 abbrev pub version_of_trace : List ℕ → Version
 version_of_trace bytes = version_in (records_of bytes)
 
--- these bytes are a trace without fault: it stands for these events, the event at place i being that of the record at
--- place i + 1, and takes the names of the keys from old to new
-pub record ReadsTo (old : List Name) (bytes : List ℕ) (new : List Name) (events : List Event) : Type 0 where
-  pub faultless : (place : ℕ) → fault_at (version_of_trace bytes) old (records_of bytes) place ≡ None
+-- these bytes are a trace without fault, where there is room for so many names: it stands for these events, the event at
+-- place i being that of the record at place i + 1, and takes the names of the keys from old to new
+pub record ReadsTo (room : ℕ) (old : List Name) (bytes : List ℕ) (new : List Name) (events : List Event) : Type 0 where
+  pub faultless : (place : ℕ) → fault_at room (version_of_trace bytes) old (records_of bytes) place ≡ None
   pub count : length (records_of bytes) ≡ suc (length events)
   pub each : (i : ℕ) → slice_get events i ≡ event_at (version_of_trace bytes) old (records_of bytes) (suc i)
   pub names : new ≡ names_after (version_of_trace bytes) old (records_of bytes)
 
--- reading these bytes stopped with this fault: the record of its number, counted from 1, is the least with a fault of the
--- text, or the reader or memory failed there; the names are those before that record
-pub record StopsAt (old : List Name) (bytes : List ℕ) (new : List Name) (fault : TraceFault) : Type 0 where
+-- reading these bytes stopped with this fault, where there is room for so many names: the record of its number, counted from
+-- 1, is the least with a fault of the text, or the reader or memory failed there; the names are those before that record
+pub record StopsAt (room : ℕ) (old : List Name) (bytes : List ℕ) (new : List Name) (fault : TraceFault) : Type 0 where
   pub place : ℕ
   pub number : fault.at ≡ suc place
-  pub here : is_of_text fault.kind ≡ true → fault_at (version_of_trace bytes) old (records_of bytes) place ≡ Some fault.kind
-  pub before : (i : ℕ) → i < place → fault_at (version_of_trace bytes) old (records_of bytes) i ≡ None
+  pub here : is_of_text fault.kind ≡ true → fault_at room (version_of_trace bytes) old (records_of bytes) place ≡ Some fault.kind
+  pub before : (i : ℕ) → i < place → fault_at room (version_of_trace bytes) old (records_of bytes) i ≡ None
   pub names : new ≡ names_before (version_of_trace bytes) old (records_of bytes) place

@@ -14,7 +14,7 @@ pub enum KeyFault {
     /// The subclass is above 7.
     #[error("a subclass is at most 7")]
     BadSub,
-    /// The key would be the 257th.
+    /// The key would be one more than the table has room for: of a table of `KeyTable::new`, the 257th.
     #[error("there are 256 lock keys already")]
     Full,
     /// Memory for a new key was refused.

@@ -4,13 +4,13 @@ ghost use Rattle.std.specs.Prelude.{◌≡◌, ◌<◌, ◌↔◌, IsSome, IfSom
 
 use std::marker::Model;
 
-/// The most lock keys that there are: each has a number below it.
+/// The most lock keys of a table of `KeyTable::new`, and so of a run as it is specified.
 pub const MAX_KEYS: u16 = 256;
 
-/// The most lock keys of a table that was made for many: the number of each fits in 13 bits.
+/// The most lock keys that there are: the number of each is below it, and fits in 13 bits.
 pub const MAX_MANY: u16 = 8_192;
 
-/// The number of a lock key, below `MAX_KEYS`.
+/// The number of a lock key, below `MAX_MANY`.
 #[derive(Clone, Copy, PartialEq, Eq, Debug, Hash)]
 pub struct KeyId {
     number: u16,
@@ -18,13 +18,13 @@ pub struct KeyId {
 
 impl Model for KeyId {
     ghost use Rattle.std.specs.Prelude.{ℕ, ◌<◌};
-    ghost use Rattle.ld_trace.specs.declared.key_id.TheConstants.{MAX_KEYS};
+    ghost use Rattle.ld_trace.specs.declared.key_id.TheConstants.{MAX_MANY};
 
     ghost Value = { ℕ };
 
     ghost view = { λ k. k.number };
 
-    ghost invariant = { λ k. k.number < MAX_KEYS };
+    ghost invariant = { λ k. k.number < MAX_MANY };
 
     ghost inverse = { λ n. record { number = n } };
 }
@@ -50,17 +50,29 @@ impl KeyId {
         }
     }
 
+    /// The key of this number, as a table that was made for many has them. None exactly from `MAX_MANY` on.
+    pub fn of_many(number: u16) -> Option<KeyId>
+        ensures exact { IsSome result ↔ (number < MAX_MANY) }
+        ensures value { IfSome result (λ key. key ≡ number) }
+    {
+        if number < MAX_MANY {
+            Some(KeyId { number })
+        } else {
+            None
+        }
+    }
+
     /// Its number.
     pub fn get(self) -> u16
         ensures value { result ≡ self }
-        ensures below { result < MAX_KEYS }
+        ensures below { result < MAX_MANY }
     {
         self.number
     }
 
     // The key of the name at this place of a table.
     pub(crate) fn from_place(place: usize) -> KeyId
-        requires { place < MAX_KEYS }
+        requires { place < MAX_MANY }
         ensures { result ≡ place }
     {
         KeyId {

@@ -6,7 +6,7 @@ ghost use Rattle.ld_trace.specs.Inside.Stored.{name_of, names_of};
 ghost use Rattle.std.specs.List.{IsDistinct};
 
 use crate::stored_name::{SLOTS, StoredName, is_class_name, slot_of};
-use crate::{KeyFault, KeyId, MAX_KEYS, MAX_NAME};
+use crate::{KeyFault, KeyId, MAX_KEYS, MAX_MANY, MAX_NAME};
 use indexmap::IndexSet;
 use std::alloc::Global;
 use std::marker::Model;
@@ -16,41 +16,53 @@ pub const MAX_SUB: u8 = 7;
 
 /// The names of the lock keys, numbered 0, 1, and so on in order of first sight.
 ///
-/// A name is that of a lock class, 1 to 64 bytes of 0x21 to 0x7E, together with a subclass, 0 to 7. A table holds at most
-/// 256 of them, none twice.
+/// A name is that of a lock class, 1 to 64 bytes of 0x21 to 0x7E, together with a subclass, 0 to 7. A table holds none twice,
+/// and at most as many as it was made for: 256, or another number up to 8,192.
 #[derive(Drop)]
 pub struct KeyTable {
     names: IndexSet<StoredName>,
+    // The most names that it takes.
+    room: u16,
     // Where a name of each slot was found last. It is a hint: it may be anything, and is looked at before it is believed.
     recent: [u16; SLOTS],
 }
 
 impl Model for KeyTable {
-    ghost use Rattle.std.specs.Prelude.{List};
-    ghost use Rattle.ld_trace.specs.Names.{AreNumbered, Name};
+    ghost use Rattle.ld_trace.specs.Names.{AreNumbered, Table};
     ghost use Rattle.ld_trace.specs.Inside.Stored.{names_of};
 
-    ghost Value = { List Name };
+    ghost Value = { Table };
 
-    ghost view = { λ t. names_of t.names };
+    ghost view = { λ t. record { room = t.room; names = names_of t.names } };
 
-    ghost invariant = { λ t. AreNumbered (names_of t.names) };
+    ghost invariant = { λ t. AreNumbered (record { room = t.room; names = names_of t.names }) };
 }
 
 impl KeyTable {
-    /// A table without names. It takes no memory yet; K4 is the only refusal that its type leaves room for.
+    /// A table without names, with room for 256 of them. It takes no memory yet; K4 is the only refusal that its type leaves
+    /// room for.
     pub fn new(alloc: Global) -> Result<KeyTable, KeyFault>
-        ensures { IsOkAnd result (λ table. table ≡ []) }
+        ensures { IsOkAnd result (λ table. (table.room ≡ MAX_KEYS) × (table.names ≡ [])) }
+    {
+        KeyTable::with_room(alloc, MAX_KEYS)
+    }
+
+    /// A table without names, with room for `room` of them, at most `MAX_MANY`. It takes no memory yet; K4 is the only refusal
+    /// that its type leaves room for.
+    pub fn with_room(alloc: Global, room: u16) -> Result<KeyTable, KeyFault>
+        requires { room ≤ MAX_MANY }
+        ensures { IsOkAnd result (λ table. (table.room ≡ room) × (table.names ≡ [])) }
     {
         Ok(KeyTable {
             names: IndexSet::new(alloc),
+            room,
             recent: [0; SLOTS],
         })
     }
 
-    /// How many keys have numbers, at most 256.
+    /// How many keys have numbers, at most as many as there is room for.
     pub fn len(&self) -> usize
-        ensures count { result ≡ length self.now }
+        ensures count { result ≡ length self.now.names }
         ensures numbered { AreNumbered self.now }
     {
         self.names.len()
@@ -59,19 +71,20 @@ impl KeyTable {
     /// The number of the key of this class's name and subclass: the one that it has, or else the next one.
     ///
     /// Refusals, in this order: K1 where the name isn't 1 to 64 bytes of 0x21 to 0x7E, K2 where the subclass is above 7,
-    /// K3 where the key would be the 257th, K4 where memory for a new key was refused. After a refusal the table is
-    /// unchanged. A key that is there is answered without memory.
+    /// K3 where the key would be one more than there is room for (of a table of `new`, the 257th), K4 where memory for a new
+    /// key was refused. After a refusal the table is unchanged. A key that is there is answered without memory.
     pub fn number(&mut self, name: &str, sub: u8) -> Result<KeyId, KeyFault>
-        ensures value { IfOk result (λ key. key ≡ place_of self.old (name.now, sub)) }
-        ensures names { IfOk result (λ _. self.new ≡ with_name self.old (name.now, sub)) }
+        ensures value { IfOk result (λ key. key ≡ place_of self.old.names (name.now, sub)) }
+        ensures names { IfOk result (λ _. self.new.names ≡ with_name self.old.names (name.now, sub)) }
+        ensures room { self.new.room ≡ self.old.room }
 
         ensures bad_name { IsErrOf result KeyFault.BadName ↔ (is_class_name name.now ≡ false) }
         ensures bad_sub { IsErrOf result KeyFault.BadSub ↔ ((is_class_name name.now ≡ true)
             × (MAX_SUB < sub)) }
         ensures full { IsErrOf result KeyFault.Full ↔ ((is_name (name.now, sub) ≡ true)
-            × (is_one_too_many self.old (name.now, sub) ≡ true)) }
+            × (is_one_too_many self.old.room self.old.names (name.now, sub) ≡ true)) }
         ensures known { is_name (name.now, sub) ≡ true
-            → is_known self.old (name.now, sub) ≡ true → IsOk result }
+            → is_known self.old.names (name.now, sub) ≡ true → IsOk result }
 
         ensures refused { OnErr result (self.new ≡ self.old) }
     {
@@ -87,16 +100,17 @@ impl KeyTable {
     // The same for a name and a subclass that were looked at before, so K3 and K4 alone are answered.
     pub(crate) fn number_name(&mut self, name: &str, sub: u8) -> Result<KeyId, KeyFault>
         requires { is_name (name.now, sub) ≡ true }
-        ensures value { IfOk result (λ key. key ≡ place_of self.old (name.now, sub)) }
-        ensures names { IfOk result (λ _. self.new ≡ with_name self.old (name.now, sub)) }
+        ensures value { IfOk result (λ key. key ≡ place_of self.old.names (name.now, sub)) }
+        ensures names { IfOk result (λ _. self.new.names ≡ with_name self.old.names (name.now, sub)) }
+        ensures room { self.new.room ≡ self.old.room }
         ensures full { IsErrOf result KeyFault.Full
-            ↔ (is_one_too_many self.old (name.now, sub) ≡ true) }
-        ensures known { is_known self.old (name.now, sub) ≡ true → IsOk result }
+            ↔ (is_one_too_many self.old.room self.old.names (name.now, sub) ≡ true) }
+        ensures known { is_known self.old.names (name.now, sub) ≡ true → IsOk result }
         ensures either { IfErr result (λ fault. (fault ≡ KeyFault.Full)
             ⊎ (fault ≡ KeyFault.Memory)) }
         ensures refused { OnErr result (self.new ≡ self.old) }
     {
-        let place = place_among(&mut self.names, StoredName::new(name, sub))?;
+        let place = place_among(&mut self.names, self.room, StoredName::new(name, sub))?;
         self.recent[slot_of(name.as_bytes(), sub)] = place as u16;
         Ok(KeyId::from_place(place))
     }
@@ -104,7 +118,7 @@ impl KeyTable {
     // The number of the key of this name and subclass, where the table found it lately. It takes a fraction of the time of
     // `number_name`. None says nothing.
     pub(crate) fn known(&self, name: &[u8], sub: u8) -> Option<KeyId>
-        ensures hit { IfSome result (λ key. slice_get self.now key ≡ Some (name.now, sub)) }
+        ensures hit { IfSome result (λ key. slice_get self.now.names key ≡ Some (name.now, sub)) }
         ensures numbered { AreNumbered self.now }
     {
         let place = self.recent[slot_of(name, sub)] as usize;
@@ -118,7 +132,7 @@ impl KeyTable {
 
     /// The class's name and the subclass of the key of this number. None exactly where no key has it.
     pub fn name_of(&self, id: KeyId) -> Option<(&str, u8)>
-        ensures value { option_map (λ name. (name.0.now, name.1)) result ≡ slice_get self.now id }
+        ensures value { option_map (λ name. (name.0.now, name.1)) result ≡ slice_get self.now.names id }
         ensures short { IfSome result (λ name. length name.0.now ≤ MAX_NAME) }
         ensures digit { IfSome result (λ name. name.1 ≤ MAX_SUB) }
     {
@@ -127,22 +141,26 @@ impl KeyTable {
     }
 }
 
-// The place of a name among those of a table, where a new one goes last.
-fn place_among(names: &mut IndexSet<StoredName>, name: StoredName) -> Result<usize, KeyFault>
-    requires { length names.old.keys ≤ MAX_KEYS }
+// The place of a name among those of a table with this room, where a new one goes last.
+fn place_among(
+    names: &mut IndexSet<StoredName>,
+    room: u16,
+    name: StoredName,
+) -> Result<usize, KeyFault>
+    requires { length names.old.keys ≤ room }
     ensures value { IfOk result (λ place. place ≡ place_of (names_of names.old) (name_of name)) }
-    ensures within { IfOk result (λ place. place < MAX_KEYS) }
+    ensures within { IfOk result (λ place. place < room) }
     ensures names { IfOk result
         (λ _. names_of names.new ≡ with_name (names_of names.old) (name_of name)) }
-    ensures few { length names.new.keys ≤ MAX_KEYS }
+    ensures few { length names.new.keys ≤ room }
     ensures full { IsErrOf result KeyFault.Full
-        ↔ (is_one_too_many (names_of names.old) (name_of name) ≡ true) }
+        ↔ (is_one_too_many room (names_of names.old) (name_of name) ≡ true) }
     ensures known { is_known (names_of names.old) (name_of name) ≡ true → IsOk result }
     ensures either { IfErr result (λ fault. (fault ≡ KeyFault.Full) ⊎ (fault ≡ KeyFault.Memory)) }
     ensures refused { OnErr result (names_of names.new ≡ names_of names.old) }
     ensures unique { IsDistinct is_same (names_of names.new) }
 {
-    if names.len() >= MAX_KEYS as usize {
+    if names.len() >= room as usize {
         return match names.get_index_of(&name) {
             Some(place) => Ok(place),
             None => Err(KeyFault::Full),

@@ -15,7 +15,7 @@ use csv::ByteRecord;
 
 // The event of a record whose name the table found lately. None says nothing.
 pub(crate) fn known_event(version: Version, row: &ByteRecord, keys: &KeyTable) -> Option<Event>
-    ensures { IfSome result (IsEventOf keys.now (line_of_record version (fields_of row.now))) }
+    ensures { IfSome result (IsEventOf keys.now.room keys.now.names (line_of_record version (fields_of row.now))) }
 {
     match row.len() {
         3 => known_release(keys, field(row, 0), field(row, 1), field(row, 2)),
@@ -34,7 +34,7 @@ pub(crate) fn known_event(version: Version, row: &ByteRecord, keys: &KeyTable) -
 // The event of `rel` and a name that the table found lately.
 fn known_release(keys: &KeyTable, verb: &[u8], class: &[u8], sub: &[u8]) -> Option<Event>
     ensures { IfSome result
-        (IsEventOf keys.now (release_line verb.now (name_of_fields class.now (sub_of sub.now)))) }
+        (IsEventOf keys.now.room keys.now.names (release_line verb.now (name_of_fields class.now (sub_of sub.now)))) }
 {
     if !is_word(verb, b"rel") {
         return None;
@@ -52,7 +52,7 @@ fn known_acquisition(
     sub: &[u8],
     mode: &[u8],
 ) -> Option<Event>
-    ensures { IfSome result (IsEventOf keys.now
+    ensures { IfSome result (IsEventOf keys.now.room keys.now.names
         (acquire_line verb.now (name_of_fields class.now (sub_of sub.now)) (mode_of version mode.now))) }
 {
     if !is_word(verb, b"acq") {

@@ -32,16 +32,17 @@ impl Line<'_> {
 
     // Its event, with the number of its key in the table.
     //
-    // `TooManyKeys` where the key would be the 257th, `Memory` where memory for a new key was refused. The table is then
+    // `TooManyKeys` where the key would be one more than there is room for, `Memory` where memory for a new key was refused. The table is then
     // unchanged.
     pub(crate) fn numbered(&self, keys: &mut KeyTable) -> Result<Event, TraceFaultKind>
-        ensures event { IfOk result (λ event. event ≡ event_of keys.old (line_read self.now)) }
-        ensures names { IfOk result (λ _. keys.new ≡ with_line keys.old (line_read self.now)) }
-        ensures fits { IfOk result (λ _. is_over keys.old (line_read self.now) ≡ false) }
+        ensures event { IfOk result (λ event. event ≡ event_of keys.old.names (line_read self.now)) }
+        ensures names { IfOk result (λ _. keys.new.names ≡ with_line keys.old.names (line_read self.now)) }
+        ensures room { keys.new.room ≡ keys.old.room }
+        ensures fits { IfOk result (λ _. is_over keys.old.room keys.old.names (line_read self.now) ≡ false) }
         ensures over { IfErr result (λ kind. is_of_text kind ≡ true
             → (kind ≡ TraceFaultKind.TooManyKeys)
-            × (is_over keys.old (line_read self.now) ≡ true)) }
-        ensures always_over { is_over keys.old (line_read self.now) ≡ true
+            × (is_over keys.old.room keys.old.names (line_read self.now) ≡ true)) }
+        ensures always_over { is_over keys.old.room keys.old.names (line_read self.now) ≡ true
             → IsErrOf result TraceFaultKind.TooManyKeys }
         ensures either { IfErr result (λ kind. (kind ≡ TraceFaultKind.TooManyKeys)
             ⊎ (kind ≡ TraceFaultKind.Memory)) }
@@ -71,13 +72,14 @@ impl LineName<'_> {
 
     // The number of its key in the table. Refusals as above.
     fn numbered(&self, keys: &mut KeyTable) -> Result<KeyId, TraceFaultKind>
-        ensures value { IfOk result (λ key. key ≡ place_of keys.old (name_read self.now)) }
-        ensures names { IfOk result (λ _. keys.new ≡ with_name keys.old (name_read self.now)) }
-        ensures fits { IfOk result (λ _. is_one_too_many keys.old (name_read self.now) ≡ false) }
+        ensures value { IfOk result (λ key. key ≡ place_of keys.old.names (name_read self.now)) }
+        ensures names { IfOk result (λ _. keys.new.names ≡ with_name keys.old.names (name_read self.now)) }
+        ensures room { keys.new.room ≡ keys.old.room }
+        ensures fits { IfOk result (λ _. is_one_too_many keys.old.room keys.old.names (name_read self.now) ≡ false) }
         ensures over { IfErr result (λ kind. is_of_text kind ≡ true
             → (kind ≡ TraceFaultKind.TooManyKeys)
-            × (is_one_too_many keys.old (name_read self.now) ≡ true)) }
-        ensures always_over { is_one_too_many keys.old (name_read self.now) ≡ true
+            × (is_one_too_many keys.old.room keys.old.names (name_read self.now) ≡ true)) }
+        ensures always_over { is_one_too_many keys.old.room keys.old.names (name_read self.now) ≡ true
             → IsErrOf result TraceFaultKind.TooManyKeys }
         ensures either { IfErr result (λ kind. (kind ≡ TraceFaultKind.TooManyKeys)
             ⊎ (kind ≡ TraceFaultKind.Memory)) }

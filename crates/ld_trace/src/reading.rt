@@ -34,13 +34,14 @@ pub fn read_trace<R: Read + Drop>(
     keys: &mut KeyTable,
 ) -> Result<RawTrace, TraceFault>
     ensures ok { IfOk result (λ trace. IfSome (R.remaining reader)
-        (λ bytes. ReadsTo keys.old bytes keys.new trace)) }
+        (λ bytes. ReadsTo keys.old.room keys.old.names bytes keys.new.names trace)) }
     ensures refused { IfErr result (λ fault. IfSome (R.remaining reader)
-        (λ bytes. StopsAt keys.old bytes keys.new fault)) }
+        (λ bytes. StopsAt keys.old.room keys.old.names bytes keys.new.names fault)) }
 
     // These hold of any reader, also of one that doesn't tell its bytes.
-    ensures numbered { IfOk result (λ trace. KeysBelow (length keys.new) trace) }
-    ensures kept { (added : List Name) × (keys.new ≡ keys.old ++ added) }
+    ensures numbered { IfOk result (λ trace. KeysBelow (length keys.new.names) trace) }
+    ensures kept { (added : List Name) × (keys.new.names ≡ keys.old.names ++ added) }
+    ensures room { keys.new.room ≡ keys.old.room }
 {
     let mut source = ReaderBuilder::new()
         .has_headers(false)
@@ -57,12 +58,13 @@ fn read_records<R: Read>(
 ) -> Result<RawTrace, TraceFault>
     requires { ReadsPlain source.old }
     ensures ok { IfOk result (λ trace. (known : Option (List ℕ))
-        → HasGiven R.remaining known source.old [] → AreRead known keys.old keys.new trace) }
+        → HasGiven R.remaining known source.old [] → AreRead keys.old.room known keys.old.names keys.new.names trace) }
     ensures refused { IfErr result (λ fault. (known : Option (List ℕ))
         → HasGiven R.remaining known source.old []
-        → AreRefused known keys.old keys.new fault.kind fault.at) }
-    ensures numbered { IfOk result (λ trace. KeysBelow (length keys.new) trace) }
-    ensures kept { (added : List Name) × (keys.new ≡ keys.old ++ added) }
+        → AreRefused keys.old.room known keys.old.names keys.new.names fault.kind fault.at) }
+    ensures numbered { IfOk result (λ trace. KeysBelow (length keys.new.names) trace) }
+    ensures kept { (added : List Name) × (keys.new.names ≡ keys.old.names ++ added) }
+    ensures room { keys.new.room ≡ keys.old.room }
 {
     let mut row = ByteRecord::new(alloc);
     let version = match take_header(source, &mut row) {
@@ -89,12 +91,12 @@ fn take_header<R: Read>(
 ) -> Result<Version, TraceFaultKind>
     requires { ReadsPlain source.old }
     ensures plain { OnOk result (ReadsPlain source.new) }
-    ensures taken { IfOk result (λ version. (known : Option (List ℕ)) (old : List Name)
+    ensures taken { IfOk result (λ version. (known : Option (List ℕ)) (room : ℕ) (old : List Name)
         → HasGiven R.remaining known source.old []
-        → HasTaken R.remaining known source.new version old old []) }
-    ensures refused { IfErr result (λ kind. (known : Option (List ℕ)) (old : List Name)
+        → HasTaken R.remaining known source.new room version old old []) }
+    ensures refused { IfErr result (λ kind. (known : Option (List ℕ)) (room : ℕ) (old : List Name)
         → HasGiven R.remaining known source.old []
-        → AreRefused known old old kind 1) }
+        → AreRefused room known old old kind 1) }
 {
     if !get_record(source, row)? {
         return Err(TraceFaultKind::NoHeader);
@@ -121,19 +123,20 @@ fn take_event<R: Read>(
         × (length events.new.items ≤ MAX_EVENTS)) }
     ensures no_more { IfOk result (λ found. found ≡ false → events.new.items ≡ events.old.items) }
     ensures kept_events { OnErr result (events.new.items ≡ events.old.items) }
-    ensures kept_names { (added : List Name) × (keys.new ≡ keys.old ++ added) }
+    ensures kept_names { (added : List Name) × (keys.new.names ≡ keys.old.names ++ added) }
+    ensures room { keys.new.room ≡ keys.old.room }
 
     ensures taken { IfOk result (λ found. found ≡ true → (known : Option (List ℕ)) (old : List Name)
-        → HasTaken R.remaining known source.old version old keys.old events.old.items
-        → HasTaken R.remaining known source.new version old keys.new events.new.items) }
+        → HasTaken R.remaining known source.old keys.old.room version old keys.old.names events.old.items
+        → HasTaken R.remaining known source.new keys.old.room version old keys.new.names events.new.items) }
     ensures ended { IfOk result (λ found. found ≡ false
         → (known : Option (List ℕ)) (old : List Name)
-        → HasTaken R.remaining known source.old version old keys.old events.old.items
-        → AreRead known old keys.new events.new.items
-        × KeysBelow (length keys.new) events.new.items) }
+        → HasTaken R.remaining known source.old keys.old.room version old keys.old.names events.old.items
+        → AreRead keys.old.room known old keys.new.names events.new.items
+        × KeysBelow (length keys.new.names) events.new.items) }
     ensures refused { IfErr result (λ kind. (known : Option (List ℕ)) (old : List Name)
-        → HasTaken R.remaining known source.old version old keys.old events.old.items
-        → AreRefused known old keys.new kind (length events.old.items + 2)) }
+        → HasTaken R.remaining known source.old keys.old.room version old keys.old.names events.old.items
+        → AreRefused keys.old.room known old keys.new.names kind (length events.old.items + 2)) }
 {
     if !get_record(source, row)? {
         return Ok(false);
@@ -177,10 +180,11 @@ fn take_record(
     events: &mut Vec<Event>,
     keys: &mut KeyTable,
 ) -> Result<(), TraceFaultKind>
-    ensures taken { OnOk result (TakesLine version keys.old keys.new events.old.items events.new.items
+    ensures room { keys.new.room ≡ keys.old.room }
+    ensures taken { OnOk result (TakesLine keys.old.room version keys.old.names keys.new.names events.old.items events.new.items
         (fields_of row.now)) }
     ensures fault { IfErr result (λ kind. is_of_text kind ≡ true
-        → line_fault keys.old (line_of_record version (fields_of row.now)) ≡ Some kind) }
+        → line_fault keys.old.room keys.old.names (line_of_record version (fields_of row.now)) ≡ Some kind) }
     ensures either { IfErr result (λ kind. (is_of_text kind ≡ true)
         ⊎ (kind ≡ TraceFaultKind.Memory)) }
     ensures refused { OnErr result ((keys.new ≡ keys.old) × (events.new.items ≡ events.old.items)) }

@@ -327,3 +327,23 @@ fn events_make_a_trace(rt: HostRuntime) -> Result<(), Fail> {
     assert!(rt; trace.keys_below(0));
     Ok(())
 }
+
+#[test]
+fn a_table_with_room_for_two(rt: HostRuntime) -> Result<(), Fail> {
+    let mut keys = KeyTable::with_room(rt.alloc(), 2)?;
+    let first = keys.number("m", 0)?;
+    keys.number("m", 1)?;
+    assert_eq!(rt; keys.number("m", 2), Err(KeyFault::Full));
+    assert_eq!(rt; keys.number("m", 0), Ok(first));
+    assert_eq!(rt; keys.len(), 2);
+    Ok(())
+}
+
+#[test]
+fn numbers_of_many_keys(rt: HostRuntime) {
+    let number = |key: Option<KeyId>| key.map(KeyId::get);
+    assert_eq!(rt; number(KeyId::of_many(256)), Some(256));
+    assert_eq!(rt; number(KeyId::of_many(8_191)), Some(8_191));
+    assert_eq!(rt; number(KeyId::of_many(8_192)), None);
+    assert_eq!(rt; number(KeyId::new(256)), None);
+}

@@ -23,7 +23,7 @@ pub enum TraceFaultKind {
     /// The mode is unknown.
     #[error("no such mode")]
     BadMode,
-    /// The record would add a 257th key.
+    /// The record would add one more key than the table has room for: to a table of `KeyTable::new`, a 257th.
     #[error("there are 256 lock keys already")]
     TooManyKeys,
     /// It is the 1,000,001st record of an event, whatever its fields.

@@ -21,7 +21,7 @@ use std::io::Write;
 /// double quote in it twice; no other field is. A key that isn't in the table is written with an empty name, which no
 /// reader takes. It fails only where memory is refused.
 pub fn trace_text(alloc: Global, events: &RawTrace, keys: &KeyTable) -> Result<Vec<u8>, AllocError>
-    ensures { IfOk result (λ text. text.items ≡ trace_text keys.now events.now) }
+    ensures { IfOk result (λ text. text.items ≡ trace_text keys.now.names events.now) }
 {
     let mut rows = WriterBuilder::new()
         .flexible(true)
@@ -41,7 +41,7 @@ fn write_records<W: Write + Drop>(
 ) -> Result<(), AllocError>
     requires { IsBetween rows.old }
     ensures { OnOk result (Appends (text_written W.contents rows.old) (text_written W.contents rows.new)
-        (trace_text keys.now events.now)) }
+        (trace_text keys.now.names events.now)) }
 {
     write_header(rows, version_for(events))?;
     write_events(rows, events.as_slice(), keys)
@@ -55,7 +55,7 @@ fn write_events<W: Write + Drop>(
 ) -> Result<(), AllocError>
     requires { IsBetween rows.old }
     ensures { OnOk result (Appends (text_written W.contents rows.old) (text_written W.contents rows.new)
-        (flat_map (event_text keys.now) events.now)) }
+        (flat_map (event_text keys.now.names) events.now)) }
 {
     for event in events {
         write_event(rows, keys, *event)?;
@@ -96,7 +96,7 @@ fn write_event<W: Write + Drop>(
     requires { IsBetween rows.old }
     ensures between { OnOk result (IsBetween rows.new) }
     ensures text { OnOk result (Appends (text_written W.contents rows.old) (text_written W.contents rows.new)
-        (event_text keys.now event)) }
+        (event_text keys.now.names event)) }
 {
     match event {
         Event::Acquire { mode, key } => {
@@ -116,7 +116,7 @@ fn write_event<W: Write + Drop>(
 
 // The bytes of the class's name and the subclass of a key; an empty name where there is no such key.
 fn name_of(keys: &KeyTable, key: KeyId) -> (&[u8], u8)
-    ensures name { (result.0.now, result.1) ≡ name_at keys.now key }
+    ensures name { (result.0.now, result.1) ≡ name_at keys.now.names key }
     ensures digit { result.1 ≤ MAX_SUB }
 {
     match keys.name_of(key) {

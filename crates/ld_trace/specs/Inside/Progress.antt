@@ -29,10 +29,10 @@ HasGiven rem known source rows =
     × Reached default_config st.StartRecord (strip_bom bytes) rows (reader_state source) left)
 
 -- the header, which names this version, and these records after it were taken, and stand for these events
-pub record AreTaken (version : Version) (old : List Name) (rows : List Record) (now : List Name) (events : List Event) : Type 0 where
+pub record AreTaken (room : ℕ) (version : Version) (old : List Name) (rows : List Record) (now : List Name) (events : List Event) : Type 0 where
   pub version_is : version_in rows ≡ version
   pub count : length rows ≡ suc (length events)
-  pub faultless : (i : ℕ) → i < length rows → fault_at version old rows i ≡ None
+  pub faultless : (i : ℕ) → i < length rows → fault_at room version old rows i ≡ None
   pub each : (i : ℕ) → slice_get events i ≡ event_at version old rows (suc i)
   pub names : now ≡ names_after version old rows
   pub below : KeysBelow (length now) events
@@ -40,34 +40,34 @@ pub record AreTaken (version : Version) (old : List Name) (rows : List Record) (
 
 -- what the loop over the records keeps: some records were taken, the first ones of the bytes
 abbrev pub HasTaken : {R : Type 0} → (R → Option (List ℕ)) → Option (List ℕ) → Reader R
-    → Version → List Name → List Name → List Event → Type 0
-HasTaken rem known source version old now events =
-    (rows : List Record) × HasGiven rem known source rows × AreTaken version old rows now events
+    → ℕ → Version → List Name → List Name → List Event → Type 0
+HasTaken rem known source room version old now events =
+    (rows : List Record) × HasGiven rem known source rows × AreTaken room version old rows now events
 
 -- what a record says is no fault, its name is known to the table, and this is its event
-pub record IsEventOf (names : List Name) (what : Result Line TraceFaultKind) (event : Event) : Type 0 where
+pub record IsEventOf (room : ℕ) (names : List Name) (what : Result Line TraceFaultKind) (event : Event) : Type 0 where
   pub line : Line
   pub says : what ≡ Ok line
-  pub fits : is_over names line ≡ false
+  pub fits : is_over room names line ≡ false
   pub known : with_line names line ≡ names
   pub is_event : event ≡ event_of names line
 
 -- a record was taken as what it says
-pub record TakesLine (version : Version) (old new : List Name) (before after : List Event) (r : Record) : Type 0 where
+pub record TakesLine (room : ℕ) (version : Version) (old new : List Name) (before after : List Event) (r : Record) : Type 0 where
   pub line : Line
   pub says : line_of_record version r ≡ Ok line
-  pub fits : is_over old line ≡ false
+  pub fits : is_over room old line ≡ false
   pub names : new ≡ with_line old line
   pub events : after ≡ before ++ event_of old line ∷ []
 
 -- the known bytes are a trace that was read
-abbrev pub AreRead : Option (List ℕ) → List Name → List Name → List Event → Type 0
-AreRead known old new events = IfSome known (λ bytes. ReadsTo old bytes new events)
+abbrev pub AreRead : ℕ → Option (List ℕ) → List Name → List Name → List Event → Type 0
+AreRead room known old new events = IfSome known (λ bytes. ReadsTo room old bytes new events)
 
 -- reading the known bytes stopped at the record of this number
-abbrev pub AreRefused : Option (List ℕ) → List Name → List Name → TraceFaultKind → ℕ → Type 0
-AreRefused known old new kind number =
-    IfSome known (λ bytes. StopsAt old bytes new (record { kind = kind; at = number }))
+abbrev pub AreRefused : ℕ → Option (List ℕ) → List Name → List Name → TraceFaultKind → ℕ → Type 0
+AreRefused room known old new kind number =
+    IfSome known (λ bytes. StopsAt room old bytes new (record { kind = kind; at = number }))
 
 -- the fault of an error in getting a record
 abbrev pub read_fault : ErrorKind → TraceFaultKind

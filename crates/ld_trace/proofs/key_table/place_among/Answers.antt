@@ -13,7 +13,7 @@ pub returns-in-Some-clause-names : goal.returns-in-Some-clause-names
 returns-in-Some-clause-names c = rw (← known-stored c.args.names.now c.args.name, ← c.in-Some.ensures.found)
 
 pub returns-in-Some-clause-full : goal.returns-in-Some-clause-full
-returns-in-Some-clause-full c = ((λ e. cc), (λ e. absurd (true≢false (sym e ∙ fits-known (names_of c.args.names.now) (name_of c.args.name) (sym (known-stored c.args.names.now c.args.name) ∙ sym c.in-Some.ensures.found)))))
+returns-in-Some-clause-full c = ((λ e. cc), (λ e. absurd (true≢false (sym e ∙ fits-known c.args.room (names_of c.args.names.now) (name_of c.args.name) (sym (known-stored c.args.names.now c.args.name) ∙ sym c.in-Some.ensures.found)))))
 
 pub returns-in-Some-clause-unique : goal.returns-in-Some-clause-unique
 returns-in-Some-clause-unique c = distinct-stored c.args.names.now c.len.ensures.unique
@@ -22,7 +22,7 @@ returns-in-Some-clause-unique c = distinct-stored c.args.names.now c.len.ensures
 pub returns-in-None-clause-full : goal.returns-in-None-clause-full
 returns-in-None-clause-full c =
     let new = sym (known-stored c.args.names.now c.args.name) ∙ sym c.in-None.ensures.found in
-    ((λ e. too-many-new (names_of c.args.names.now) (name_of c.args.name) new (rw length-map (omega arith))), (λ e. refl))
+    ((λ e. too-many-new c.args.room (names_of c.args.names.now) (name_of c.args.name) new (rw length-map (omega arith))), (λ e. refl))
 
 pub returns-in-None-clause-known : goal.returns-in-None-clause-known
 returns-in-None-clause-known c = λ known. absurd (true≢false (sym known ∙ sym (known-stored c.args.names.now c.args.name) ∙ sym c.in-None.ensures.found))

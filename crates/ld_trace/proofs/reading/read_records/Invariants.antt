@@ -6,8 +6,9 @@ use Rattle.ld_trace.proofs.reading.read_records.Given as goal
 
 abbrev pub invariant-records : goal.invariant-records
 invariant-records g l = ReadsPlain l.source × (length l.events.items ≤ MAX_EVENTS)
-    × ((known : Option (List ℕ)) → HasGiven g.R.Read.remaining known l.fn.source [] → HasTaken g.R.Read.remaining known l.source l.version l.fn.keys l.keys l.events.items)
-    × ((added : List Name) × (l.keys ≡ l.fn.keys ++ added))
+    × ((known : Option (List ℕ)) → HasGiven g.R.Read.remaining known l.fn.source [] → HasTaken g.R.Read.remaining known l.source l.fn.keys.room l.version l.fn.keys.names l.keys.names l.events.items)
+    × ((added : List Name) × (l.keys.names ≡ l.fn.keys.names ++ added))
+    × (l.keys.room ≡ l.fn.keys.room)
 
 abbrev pub decreases-records : goal.decreases-records
 decreases-records g l = MAX_EVENTS + 1 - length l.events.items

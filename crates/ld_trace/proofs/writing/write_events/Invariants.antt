@@ -10,4 +10,4 @@ use Rattle.ld_trace.proofs.writing.write_events.Given as goal
 abbrev pub invariant-loop-event : goal.invariant-loop-event
 invariant-loop-event g l =
     IsBetween l.rows
-    × Appends (text_written g.W.Write.contents l.initial.rows) (text_written g.W.Write.contents l.rows) (flat_map (event_text l.keys) (take l.event-index l.events))
+    × Appends (text_written g.W.Write.contents l.initial.rows) (text_written g.W.Write.contents l.rows) (flat_map (event_text l.keys.names) (take l.event-index l.events))

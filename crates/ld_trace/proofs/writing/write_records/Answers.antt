@@ -10,7 +10,7 @@ returns g c =
     let old = text_written g.W.Write.contents c.args.rows.now in
     let mid = text_written g.W.Write.contents c.write_header.new.rows in
     let new = text_written g.W.Write.contents c.write_events.new.rows in
-    let names = c.args.keys.now in
+    let names = c.args.keys.now.names in
     let events = c.args.events.now in
     let header = rw c.version_for.ensures at c.in_ok-write_header.ensures.text in
     on_ok_weaker c.write_events.result

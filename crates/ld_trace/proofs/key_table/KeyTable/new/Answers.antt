@@ -1,5 +1,0 @@
-use Rattle.ld_trace.proofs.NameLemmas.{AreNumbered-none}
-use Rattle.ld_trace.proofs.key_table.KeyTable.new.Goals as goal
-
-pub invariant_of-result : goal.invariant_of-result
-invariant_of-result c = rw c.new.ensures.empty AreNumbered-none
