@@ -53,7 +53,7 @@ impl Lock {
     pub(crate) fn key(self) -> KeyId
         ensures { result ≡ self.key }
     {
-        match KeyId::new(self.word / 8) {
+        match KeyId::of_many(self.word / 8) {
             Some(key) => key,
             None => unreachable!(),
         }
