@@ -5,7 +5,7 @@ ghost use Rattle.ld_graph.specs.FactBits.{FactBelow, HasFact};
 ghost use Rattle.ld_graph.specs.Facts.{AreSame};
 ghost use Rattle.ld_graph.specs.Numbers.{bit_total, fact_number, mark_index};
 ghost use Rattle.ld_graph.specs.Renumbered.{Renumbered, fact_by};
-ghost use Rattle.ld_trace.specs.declared.key_id.TheConstants.{MAX_KEYS};
+ghost use Rattle.ld_trace.specs.declared.key_id.TheConstants.{MAX_KEYS, MAX_MANY};
 
 use crate::dependency::kind_at;
 use crate::fact::Fact;
@@ -37,8 +37,8 @@ impl Graph {
 
 impl Fact {
     // The fact about keys below `keys` that has this number.
-    fn of_number(keys: u16, n: usize) -> Fact
-        requires few { keys ≤ MAX_KEYS }
+    pub(crate) fn of_number(keys: u16, n: usize) -> Fact
+        requires few { keys ≤ MAX_MANY }
         requires within { n < bit_total keys }
         ensures below { FactBelow keys result }
         ensures number { fact_number keys result ≡ n }
