@@ -46,7 +46,8 @@ struct Crew<'a, R, G> {
 /// Walks the traces, whose keys are below `keys`, with `workers` workers, each in a thread of its own. The workers claim the traces
 /// from one board and put the facts of their chains on it; a chain that brings something new is recorded in one book that all
 /// share, and the gate is called just before (see `work`). The answer is the facts of all traces together, where the book and the
-/// board agree on them. Where a thread can't be made the calling thread does its work.
+/// board agree on them. Where a thread can't be made the calling thread does its work, and where there are fewer traces than workers
+/// none is made for those that would find nothing to do.
 ///
 /// That all keys of the traces are below `keys`, and that `keys` is at most 256, are the caller's conditions.
 ///
@@ -103,7 +104,7 @@ fn complete<R: Threads + Wait + Sync, G: Gate + Sync>(
     let crew = Crew {
         rt,
         alloc,
-        workers,
+        workers: busy_workers(workers, traces.len()),
         book: &book,
         gate,
     };
@@ -111,6 +112,14 @@ fn complete<R: Threads + Wait + Sync, G: Gate + Sync>(
         Ok((facts, refused)) => conclude(book.into_book(), &facts, refused),
         Err(_) => Err(RunFault::Memory),
     }
+}
+
+// How many of the workers have something to do: no more than there are traces, and one at least.
+fn busy_workers(workers: usize, traces: usize) -> usize
+    requires { IsCrew workers }
+    ensures { IsCrew result }
+{
+    workers.min(traces.max(1))
 }
 
 // The facts of the book, where all traces are well formed and it settles with what was gathered.

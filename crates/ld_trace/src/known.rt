@@ -8,7 +8,7 @@ ghost use Rattle.csv.specs.Records.{fields_of};
 ghost use Rattle.ld_trace.specs.Lines.{acquire_line, mode_of, name_of_fields, release_line, line_of_record, sub_of};
 ghost use Rattle.ld_trace.specs.Inside.Progress.{IsEventOf};
 
-use crate::record::{field, is_word, mode_of, sub_of};
+use crate::record::{field, is_acquire, is_release, mode_of, sub_of};
 use crate::version::Version;
 use crate::{Event, KeyTable};
 use csv::ByteRecord;
@@ -36,7 +36,7 @@ fn known_release(keys: &KeyTable, verb: &[u8], class: &[u8], sub: &[u8]) -> Opti
     ensures { IfSome result
         (IsEventOf keys.now.room keys.now.names (release_line verb.now (name_of_fields class.now (sub_of sub.now)))) }
 {
-    if !is_word(verb, b"rel") {
+    if !is_release(verb) {
         return None;
     }
     let key = keys.known(class, sub_of(sub)?)?;
@@ -55,7 +55,7 @@ fn known_acquisition(
     ensures { IfSome result (IsEventOf keys.now.room keys.now.names
         (acquire_line verb.now (name_of_fields class.now (sub_of sub.now)) (mode_of version mode.now))) }
 {
-    if !is_word(verb, b"acq") {
+    if !is_acquire(verb) {
         return None;
     }
     let key = keys.known(class, sub_of(sub)?)?;

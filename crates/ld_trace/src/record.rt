@@ -1,6 +1,6 @@
 //! Reading one record of a trace.
 
-ghost use Rattle.std.specs.Prelude.{◌≡◌, ◌<◌, length, true, Ok, Err, IfErr, Some, option_map, if◌then◌else◌};
+ghost use Rattle.std.specs.Prelude.{◌≡◌, ◌<◌, codes, length, true, Ok, Err, IfErr, Some, option_map, if◌then◌else◌};
 ghost use Rattle.std.specs.Str.{bytes_eq};
 ghost use Rattle.csv.specs.Records.{field_at, fields_of};
 ghost use Rattle.ld_trace.specs.Lines.{acquire_line, irq_of, leave_line, mode_of, name_of_fields, release_line, line_of_record, irq_line, sub_of, try_mode_of, version_named, version_of};
@@ -95,12 +95,26 @@ fn irq_line<'r>(verb: &[u8], irq: &'r [u8]) -> Result<Line<'r>, TraceFaultKind>
     }
 }
 
+// Whether a record of this verb takes a lock.
+pub(crate) fn is_acquire(verb: &[u8]) -> bool
+    ensures { result ≡ bytes_eq verb.now (codes "acq") }
+{
+    matches!(verb, [b'a', b'c', b'q'])
+}
+
+// Whether it gives one back.
+pub(crate) fn is_release(verb: &[u8]) -> bool
+    ensures { result ≡ bytes_eq verb.now (codes "rel") }
+{
+    matches!(verb, [b'r', b'e', b'l'])
+}
+
 // What `rel` and a name say.
 fn release_line<'r>(verb: &[u8], class: &'r [u8], sub: &[u8]) -> Result<Line<'r>, TraceFaultKind>
     ensures says { Says (release_line verb.now (name_of_fields class.now (sub_of sub.now))) result }
     ensures text { IfErr result (λ kind. is_of_text kind ≡ true) }
 {
-    if !is_word(verb, b"rel") {
+    if !is_release(verb) {
         return Err(TraceFaultKind::BadRecord);
     }
     Ok(Line::GivesBack(name_of(class, sub)?))
@@ -118,7 +132,7 @@ fn acquire_line<'r>(
         (mode_of version mode.now)) result }
     ensures text { IfErr result (λ kind. is_of_text kind ≡ true) }
 {
-    if !is_word(verb, b"acq") {
+    if !is_acquire(verb) {
         return Err(TraceFaultKind::BadRecord);
     }
     let name = name_of(class, sub)?;
@@ -168,14 +182,11 @@ pub(crate) fn sub_of(sub: &[u8]) -> Option<u8>
 pub(crate) fn mode_of(version: Version, word: &[u8]) -> Option<Mode>
     ensures { result ≡ mode_of version word.now }
 {
-    if is_word(word, b"w") {
-        Some(Mode::Write)
-    } else if is_word(word, b"r") {
-        Some(Mode::Read)
-    } else if is_word(word, b"rr") {
-        Some(Mode::RecRead)
-    } else {
-        try_mode_of(version, word)
+    match word {
+        [b'w'] => Some(Mode::Write),
+        [b'r'] => Some(Mode::Read),
+        [b'r', b'r'] => Some(Mode::RecRead),
+        _ => try_mode_of(version, word),
     }
 }
 
@@ -211,7 +222,7 @@ fn irq_of(word: &[u8]) -> Option<Irq>
 }
 
 // Whether a field is this word.
-pub(crate) fn is_word(field: &[u8], word: &[u8]) -> bool
+fn is_word(field: &[u8], word: &[u8]) -> bool
     ensures { result ≡ bytes_eq field.now word.now }
 {
     field == word
