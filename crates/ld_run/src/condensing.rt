@@ -13,8 +13,8 @@ ghost use Rattle.ld_run.specs.Condensing.{IsCondensed};
 
 use crate::condense_fault::CondenseFault;
 use crate::settled::Settled;
+use crate::summing::add_trace;
 use ld_graph::{Facts, Kind, Mark};
-use ld_task::TaskState;
 use ld_trace::{Event, Irq, KeyId, Mode, RawTrace};
 use std::alloc::{AllocError, Global};
 
@@ -53,22 +53,11 @@ fn facts_of(alloc: Global, trace: &RawTrace, keys: u16) -> Result<Facts, Condens
     ensures well_formed { IfOk result (λ _. IsWellFormed trace.now) }
     ensures facts { IfOk result (λ facts. AreSame (TraceHas trace.now) (HasFact facts)) }
 {
-    ld_graph::trace_facts_are_the_chains();
-    ld_task::chain_keys_are_the_traces();
     let mut facts = Facts::new(alloc, keys)?;
-    let mut state = TaskState::new();
-    for place in 0..trace.len() {
-        let Some(event) = trace.event(place) else {
-            unreachable!();
-        };
-        let Ok(answer) = state.step(event) else {
-            return Err(CondenseFault::Unequal);
-        };
-        if let Some(chain) = answer {
-            facts.add_chain(&chain);
-        }
+    match add_trace(&mut facts, trace) {
+        Ok(()) => Ok(facts),
+        Err(_) => Err(CondenseFault::Unequal),
     }
-    Ok(facts)
 }
 
 // The trace of the facts, part after part.

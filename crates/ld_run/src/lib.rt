@@ -12,6 +12,9 @@ mod gate;
 mod runs;
 mod seat;
 mod settled;
+mod summing;
+mod survey;
+mod survey_fault;
 #[cfg(test)]
 mod tests;
 mod view;
@@ -26,4 +29,6 @@ pub use gate::{Gate, OpenGate};
 pub use runs::{MAX_TRACES, MAX_WORKERS, run};
 pub use seat::{MAX_CLAIMS, Seat};
 pub use settled::{Settled, settle};
+pub use survey::survey;
+pub use survey_fault::SurveyFault;
 pub use worker::{Worked, work};

@@ -1,0 +1,29 @@
+-- How a survey ends [this project's own].
+use Rattle.std.specs.Prelude.{◌≡◌, ℕ, ⊤, List, All}
+use Rattle.ld_trace.specs.declared.event.Event.{Event}
+use Rattle.ld_task.specs.WellFormed.{IsWellFormed}
+use Rattle.ld_graph.specs.FactBits.{FactParts, HasFact}
+use Rattle.ld_graph.specs.Facts.{AreSame}
+use Rattle.ld_graph.specs.declared.parted_graph.PartingFault.{PartingFault}
+use Rattle.ld_graph.specs.declared.parted_graph.PartingFault.TheVariants as P
+use Rattle.ld_run.specs.TraceFacts.{TracesHave, IsFirstRefused}
+use Rattle.ld_run.specs.declared.survey_fault.SurveyFault.{SurveyFault}
+use Rattle.ld_run.specs.declared.survey_fault.SurveyFault.TheVariants.{TooTangled, Memory, Refused}
+
+-- the survey of these traces is completed with these facts: exactly those of all the traces together
+pub record CompletesSurvey (traces : List (List Event)) (facts : FactParts) : Type 0 where
+  pub well_formed : All IsWellFormed traces
+  pub facts_are : AreSame (HasFact facts) (TracesHave traces)
+
+-- it was refused: by the first trace that isn't well formed, with its first event that isn't allowed; for want of memory; or
+-- because the keys don't come apart, which is only asked of well-formed traces
+abbrev pub StopsSurvey : List (List Event) → SurveyFault → Type 0
+StopsSurvey traces (Refused trace place fault) =
+    IsFirstRefused traces trace (record { fault = fault; place = place })
+StopsSurvey traces TooTangled = All IsWellFormed traces
+StopsSurvey traces Memory = ⊤
+
+-- why facts have no parts, as why the survey isn't completed
+abbrev pub parting_fault : PartingFault → SurveyFault
+parting_fault P.TooTangled = TooTangled
+parting_fault P.Memory = Memory
