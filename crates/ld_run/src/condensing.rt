@@ -11,9 +11,9 @@ ghost use Rattle.ld_graph.specs.FactBits.{HasFact};
 ghost use Rattle.ld_graph.specs.Facts.{AreSame, TraceHas};
 ghost use Rattle.ld_run.specs.Condensing.{IsCondensed};
 
+use crate::adding::add_trace;
 use crate::condense_fault::CondenseFault;
 use crate::settled::Settled;
-use crate::summing::add_trace;
 use ld_graph::{Facts, Kind, Mark};
 use ld_trace::{Event, Irq, KeyId, Mode, RawTrace};
 use std::alloc::{AllocError, Global};

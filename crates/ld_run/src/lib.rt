@@ -1,6 +1,7 @@
 //! Runs over many traces: workers that walk them in threads, and the facts of all traces together.
 #![tactic(auto)]
 
+mod adding;
 mod board;
 mod board_fault;
 #[cfg(test)]
@@ -12,7 +13,6 @@ mod gate;
 mod runs;
 mod seat;
 mod settled;
-mod summing;
 mod survey;
 mod survey_fault;
 #[cfg(test)]

@@ -12,58 +12,82 @@ ghost use Rattle.ld_run.specs.Settling.{Settles};
 
 use crate::fault::RunFault;
 use ld_book::Book;
-use ld_graph::{Circle, Facts, Graph, InversionWalk, Kind, Mark, Walk};
+use ld_graph::{Circle, Facts, Graph, InversionWalk, Kind, Mark, PartedGraph, Walk};
 use ld_trace::Irq;
 use std::marker::Model;
 
-/// Facts on which the book and the workers agree. Whoever has one can ask what the facts mean; no question takes memory.
+/// The facts of a completed run, on which the book and the workers agree, or of a survey. Whoever has them can ask what they
+/// mean; no question takes memory.
 #[derive(Drop)]
 pub struct Settled {
-    graph: Graph,
+    answers: Answers,
+}
+
+// What answers the questions: one graph of all keys, or one for each rank of many.
+#[derive(Drop)]
+pub(crate) enum Answers {
+    Whole(Graph),
+    ByRank(PartedGraph),
 }
 
 impl Model for Settled {
     ghost use Rattle.ld_graph.specs.FactBits.{FactParts};
+    ghost use Rattle.ld_run.specs.Inside.Answering.{facts_in};
 
     ghost Value = { FactParts };
 
-    ghost view = { λ s. s.graph.facts };
+    ghost view = { λ s. facts_in s.answers };
 }
 
 impl Settled {
+    // The facts of a survey.
+    pub(crate) fn by_rank(graph: PartedGraph) -> Settled
+        ensures { result ≡ graph }
+    {
+        Settled {
+            answers: Answers::ByRank(graph),
+        }
+    }
+
     /// Whether the dependency is among the facts.
     pub fn has_dep(&self, from: u16, to: u16, kind: Kind) -> bool
         ensures { IsTrue result ↔ HasFact self.now (Fact.Dependency from to kind) }
     {
-        self.graph.facts().has_dep(from, to, kind)
+        self.facts().has_dep(from, to, kind)
     }
 
     /// Whether the key has the mark.
     pub fn has_mark(&self, key: u16, mark: Mark) -> bool
         ensures { IsTrue result ↔ HasFact self.now (Fact.Marked key mark) }
     {
-        self.graph.facts().has_mark(key, mark)
+        self.facts().has_mark(key, mark)
     }
 
-    /// How many distinct dependencies there are, at most 262,144.
+    /// How many distinct dependencies there are, at most 262,144 of 256 keys.
     pub fn dependencies(&self) -> u64
         ensures { IsNumberOf (DependenciesOf (HasFact self.now)) result }
     {
-        self.graph.facts().dependencies()
+        self.facts().dependencies()
     }
 
     /// The facts.
     pub fn facts(&self) -> &Facts
         ensures { result.now ≡ self.now }
     {
-        self.graph.facts()
+        match &self.answers {
+            Answers::Whole(graph) => graph.facts(),
+            Answers::ByRank(graph) => graph.facts(),
+        }
     }
 
     /// Whether the dependency is on a circle. False where it isn't among the facts.
     pub fn on_circle(&self, from: u16, to: u16, kind: Kind) -> bool
         ensures { IsTrue result ↔ OnCircle (HasFact self.now) (arrow from to kind) }
     {
-        self.graph.on_circle(from, to, kind)
+        match &self.answers {
+            Answers::Whole(graph) => graph.on_circle(from, to, kind),
+            Answers::ByRank(graph) => graph.on_circle(from, to, kind),
+        }
     }
 
     /// A shortest circle: a closed strong walk of the dependencies such that none has fewer members and no key is the
@@ -74,7 +98,10 @@ impl Settled {
         ensures some { IfSome result (λ circle. IsShortestCircle (HasFact self.now) circle) }
         ensures few { IfSome result (λ circle. length circle ≤ self.now.keys) }
     {
-        self.graph.shortest_circle()
+        match &self.answers {
+            Answers::Whole(graph) => graph.shortest_circle(),
+            Answers::ByRank(graph) => graph.shortest_circle(),
+        }
     }
 
     /// A shortest of the closed strong walks that begin with the dependency. None exactly where it is on no circle, and
@@ -84,14 +111,20 @@ impl Settled {
         ensures some { IfSome result (λ walk. IsShortestFrom (HasFact self.now) (arrow from to kind) walk) }
         ensures few { IfSome result (λ walk. length walk ≤ 2 * self.now.keys) }
     {
-        self.graph.circle_through(from, to, kind)
+        match &self.answers {
+            Answers::Whole(graph) => graph.circle_through(from, to, kind),
+            Answers::ByRank(graph) => graph.circle_through(from, to, kind),
+        }
     }
 
     /// Whether the key is a double of the state: used in it and used with it enabled, and not by readers alone.
     pub fn is_double(&self, irq: Irq, key: u16) -> bool
         ensures { IsTrue result ↔ IsDouble (HasFact self.now) irq key }
     {
-        self.graph.is_double(irq, key)
+        match &self.answers {
+            Answers::Whole(graph) => graph.is_double(irq, key),
+            Answers::ByRank(graph) => graph.is_double(irq, key),
+        }
     }
 
     /// The forms of two marks that make the key a double of the state: whether the mark that it is used with the state
@@ -102,7 +135,10 @@ impl Settled {
         ensures some { IfSome result (λ forms.
             IsDoubleBy (HasFact self.now) irq key (link_by key key forms.0 forms.1)) }
     {
-        self.graph.double_forms(irq, key)
+        match &self.answers {
+            Answers::Whole(graph) => graph.double_forms(irq, key),
+            Answers::ByRank(graph) => graph.double_forms(irq, key),
+        }
     }
 
     /// Whether `a` and `b` are an inversion of the state: a strong walk from `a` to `b` and an interrupt link from `b`
@@ -110,14 +146,20 @@ impl Settled {
     pub fn is_inversion(&self, irq: Irq, a: u16, b: u16) -> bool
         ensures { IsTrue result ↔ IsInversion (HasFact self.now) irq a b }
     {
-        self.graph.is_inversion(irq, a, b)
+        match &self.answers {
+            Answers::Whole(graph) => graph.is_inversion(irq, a, b),
+            Answers::ByRank(graph) => graph.is_inversion(irq, a, b),
+        }
     }
 
     /// Whether the dependency is a member of the walk of some inversion. False where it isn't among the facts.
     pub fn in_inversion(&self, from: u16, to: u16, kind: Kind) -> bool
         ensures { IsTrue result ↔ InInversion (HasFact self.now) (arrow from to kind) }
     {
-        self.graph.in_inversion(from, to, kind)
+        match &self.answers {
+            Answers::Whole(graph) => graph.in_inversion(from, to, kind),
+            Answers::ByRank(graph) => graph.in_inversion(from, to, kind),
+        }
     }
 
     /// A shortest strong walk from `a` to `b` that makes them an inversion of the state, with the forms of the marks of
@@ -129,14 +171,20 @@ impl Settled {
             (link_by b a found.enabled_read found.used_read) found.walk) }
         ensures few { IfSome result (λ found. length found.walk ≤ 2 * self.now.keys) }
     {
-        self.graph.inversion_walk(irq, a, b)
+        match &self.answers {
+            Answers::Whole(graph) => graph.inversion_walk(irq, a, b),
+            Answers::ByRank(graph) => graph.inversion_walk(irq, a, b),
+        }
     }
 
     /// Whether no dependency is on a circle and there is no double and no inversion.
     pub fn is_clean(&self) -> bool
         ensures { IsTrue result ↔ IsClean (HasFact self.now) }
     {
-        self.graph.is_clean()
+        match &self.answers {
+            Answers::Whole(graph) => graph.is_clean(),
+            Answers::ByRank(graph) => graph.is_clean(),
+        }
     }
 }
 
@@ -150,7 +198,9 @@ pub fn settle(book: Book, tallies: &Facts) -> Result<Settled, RunFault>
 {
     let graph = book.into_graph();
     if graph.facts().same(tallies) {
-        Ok(Settled { graph })
+        Ok(Settled {
+            answers: Answers::Whole(graph),
+        })
     } else {
         Err(RunFault::Unsettled)
     }

@@ -5,8 +5,8 @@ ghost use Rattle.ld_trace.specs.declared.key_id.TheConstants.{MAX_MANY};
 ghost use Rattle.ld_trace.specs.Events.{KeysBelow};
 ghost use Rattle.ld_run.specs.Surveys.{CompletesSurvey, StopsSurvey};
 
+use crate::adding::add_trace;
 use crate::settled::Settled;
-use crate::summing::add_trace;
 use crate::survey_fault::SurveyFault;
 use ld_graph::{Facts, PartedGraph};
 use ld_task::StepAt;
@@ -30,7 +30,7 @@ pub fn survey(alloc: Global, traces: &[RawTrace], keys: u16) -> Result<Settled, 
 {
     let facts = facts_of_all(alloc, traces, keys)?;
     let graph = PartedGraph::new(alloc, facts)?;
-    Ok(Settled::of_parts(graph))
+    Ok(Settled::by_rank(graph))
 }
 
 // The facts of all traces, if they are well formed.

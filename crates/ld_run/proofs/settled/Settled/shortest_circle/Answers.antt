@@ -1,10 +1,17 @@
-use Rattle.std.proofs.Common.{subst}
+use Rattle.std.proofs.Common.{◌∙◌, ap, subst, sym}
 use Rattle.std.specs.Prelude.{◌↔◌, IsNone}
 use Rattle.ld_graph.specs.Arrows.{Arrow}
-use Rattle.ld_graph.specs.FactBits.{HasFact}
+use Rattle.ld_graph.specs.FactBits.{FactParts, HasFact}
 use Rattle.ld_graph.specs.Walks.{OnCircle}
+use Rattle.ld_run.specs.Inside.Answering.{facts_in}
 use Rattle.ld_run.proofs.settled.Settled.shortest_circle.Goals as goal
 
-pub returns-clause-none : goal.returns-clause-none
-returns-clause-none c =
-    subst (λ facts. IsNone c.shortest_circle.result ↔ ((d : Arrow) → ¬ OnCircle (HasFact facts) d)) c.self.view_is c.shortest_circle.ensures.none
+pub returns-in-Whole-clause-none : goal.returns-in-Whole-clause-none
+returns-in-Whole-clause-none c =
+    subst (λ (facts : FactParts). IsNone c.shortest_circle.result ↔ ((d : Arrow) → ¬ OnCircle (HasFact facts) d))
+    (sym (ap facts_in c.in-Whole.is) ∙ c.self.view_is) c.shortest_circle.ensures.none
+
+pub returns-in-ByRank-clause-none : goal.returns-in-ByRank-clause-none
+returns-in-ByRank-clause-none c =
+    subst (λ (facts : FactParts). IsNone c.shortest_circle-in-ByRank.result ↔ ((d : Arrow) → ¬ OnCircle (HasFact facts) d))
+    (sym (ap facts_in c.in-ByRank.is) ∙ c.self.view_is) c.shortest_circle-in-ByRank.ensures.none

@@ -25,12 +25,12 @@ pub(crate) fn add_trace(facts: &mut Facts, trace: &RawTrace) -> Result<(), StepA
         let Some(event) = trace.event(place) else {
             unreachable!();
         };
-        match state.step(event) {
-            Ok(Some(chain)) => {
-                facts.add_chain(&chain);
-            }
-            Ok(None) => {}
+        let answer = match state.step(event) {
+            Ok(answer) => answer,
             Err(fault) => return Err(StepAt { fault, place }),
+        };
+        if let Some(chain) = answer {
+            facts.add_chain(&chain);
         }
     }
     Ok(())
