@@ -39,6 +39,13 @@ impl Ranks {
         })
     }
 
+    // These ranks, in the order of the keys.
+    pub(crate) fn of(ranks: Vec<u16>) -> Ranks
+        ensures { result ≡ ranks.items }
+    {
+        Ranks { ranks }
+    }
+
     /// The key's rank.
     pub fn get(&self, key: u16) -> u16
         ensures { result ≡ slice_index self.now key }
@@ -136,7 +143,7 @@ fn least_used(facts: &Facts, ranks: &Ranks, irq: Irq) -> u16
 }
 
 // Whether the key is used with the state enabled.
-fn is_enabled(facts: &Facts, irq: Irq, key: u16) -> bool
+pub(crate) fn is_enabled(facts: &Facts, irq: Irq, key: u16) -> bool
     ensures { IsTrue result ↔ ((read : Bool) × HasFact facts.now (Fact.Marked key (Mark.Enabled irq read))) }
 {
     facts.has_mark(key, Mark::Enabled { irq, read: false })
@@ -144,7 +151,7 @@ fn is_enabled(facts: &Facts, irq: Irq, key: u16) -> bool
 }
 
 // Whether the key is used in the state.
-fn is_used(facts: &Facts, irq: Irq, key: u16) -> bool
+pub(crate) fn is_used(facts: &Facts, irq: Irq, key: u16) -> bool
     ensures { IsTrue result ↔ ((read : Bool) × HasFact facts.now (Fact.Marked key (Mark.UsedIn irq read))) }
 {
     facts.has_mark(key, Mark::UsedIn { irq, read: false })

@@ -1,0 +1,35 @@
+use Rattle.std.proofs.Common.{sym, subst, arith}
+use Rattle.ld_graph.specs.FactBits.{FactBelow, HasFact}
+use Rattle.ld_graph.proofs.ByPlace.{TakenOver-start, TakenOver-known, TakenOver-more, AreSame-all}
+use Rattle.ld_graph.proofs.graph.Graph.of_keys.Goals as goal
+use Rattle.ld_graph.proofs.graph.Graph.of_keys.Goals.{then-has, else-has}
+
+pub loop-n-init : goal.loop-n-init
+loop-n-init c = TakenOver-start c.args.facts.now c.args.keys.now c.in_ok-graph.graph.facts c.in_ok-graph.ensures.keys c.in_ok-graph.ensures.none
+
+pub loop-n-preserved : goal.loop-n-preserved
+loop-n-preserved c = elim c.if-has.branch [
+  | then-has w ↦
+      rw (w.graph-is)
+      (TakenOver-more c.args.facts.now c.args.keys.now c.loop-n.graph.facts c.loop-n.n c.loop-n.invariant c.of_number-fact.result
+      c.of_number-fact.ensures.below c.of_number-fact.ensures.number
+      (subst (HasFact c.args.facts.now) c.at_places.ensures (c.has.ensures.0 w.if-has.true))
+      w.add.new.self.facts w.add.ensures.keys w.add.ensures.adds)
+  | else-has w ↦
+      rw (w.graph-is)
+      (TakenOver-known c.args.facts.now c.args.keys.now c.loop-n.graph.facts c.loop-n.n c.loop-n.invariant c.of_number-fact.result
+      c.of_number-fact.ensures.below c.of_number-fact.ensures.number
+      (λ there. absurd
+      (let on = c.has.ensures.1 (subst (HasFact c.args.facts.now) (sym c.at_places.ensures) there) in
+      let off = w.if-has.false in
+      cc)))
+]
+
+pub add-requires : goal.add-requires
+add-requires c = subst (λ keys. FactBelow keys c.of_number-fact.result) (sym c.loop-n.invariant.keys) c.of_number-fact.ensures.below
+
+pub returns-clause-facts : goal.returns-clause-facts
+returns-clause-facts c =
+    AreSame-all c.args.facts.now c.args.keys.now c.loop-n.graph.facts c.loop-n.n
+    (let e = c.fact_total-n-end.ensures in let most = c.loop-n.auto.n-end in let least = c.loop-n-test.false in omega arith)
+    c.loop-n.invariant

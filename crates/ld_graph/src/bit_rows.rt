@@ -1,0 +1,59 @@
+//! Rows of bits. What lies past a row's end is never set and never found.
+
+use std::alloc::{AllocError, Global};
+
+// Rows of bits, each as long as the others.
+#[derive(Drop)]
+pub(crate) struct BitRows {
+    row_words: u16,
+    words: Vec<u64>,
+}
+
+impl BitRows {
+    // So many rows of at least so many bits, none of which is set. It fails only where memory is refused.
+    pub(crate) fn new(alloc: Global, rows: u16, bits: u16) -> Result<BitRows, AllocError> {
+        let row_words = bits / 64 + 1;
+        let words = vec![in alloc; 0; usize::from(rows) * usize::from(row_words)]?;
+        Ok(BitRows { row_words, words })
+    }
+
+    // Sets a bit of a row.
+    pub(crate) fn insert(&mut self, row: u16, bit: u16) {
+        let place = self.place(row, bit / 64);
+        if place < self.words.len() {
+            self.words[place] |= 1 << (bit % 64);
+        }
+    }
+
+    // Whether a bit of a row is set.
+    pub(crate) fn has(&self, row: u16, bit: u16) -> bool {
+        self.word(row, bit / 64) >> (bit % 64) & 1 == 1
+    }
+
+    // The first bit of a row that isn't set in the first row of the others.
+    pub(crate) fn first_beyond(&self, row: u16, taken: &BitRows) -> Option<u16> {
+        for i in 0..self.row_words {
+            let fresh = self.word(row, i) & !taken.word(0, i);
+            if fresh != 0 {
+                let bit = usize::from(i) * 64 + fresh.trailing_zeros() as usize;
+                return u16::try_from(bit).ok();
+            }
+        }
+        None
+    }
+
+    // A word of a row.
+    fn word(&self, row: u16, i: u16) -> u64 {
+        let place = self.place(row, i);
+        if place < self.words.len() {
+            self.words[place]
+        } else {
+            0
+        }
+    }
+
+    // Where a word of a row stands.
+    fn place(&self, row: u16, i: u16) -> usize {
+        usize::from(row) * usize::from(self.row_words) + usize::from(i)
+    }
+}
