@@ -11,24 +11,25 @@ use Rattle.ld_graph.specs.Facts.{AreSame, DependenciesOf}
 use Rattle.ld_graph.specs.Links.{IsDouble, IsDoubleBy, IsInversion, InInversion, IsShortestInversion, IsClean, link_by}
 use Rattle.ld_graph.specs.RankLaws.{are_found_by_rank}
 use Rattle.ld_graph.specs.Ranks.{AmongRank, AreFoundByRank, NoneGoesDown}
-use Rattle.ld_graph.specs.Renumbered.{AmongKeys, AreFoundByPlace, Renumbered, arrow_at}
+use Rattle.ld_graph.specs.Renumbered.{AmongKeys, AreFoundByPlace, HasKeys, Renumbered, arrow_at}
 use Rattle.ld_graph.specs.RenumberedLaws.{are_found_by_place, AmongRank-listed}
 use Rattle.ld_graph.specs.Walks.{OnCircle, IsShortestCircle, IsShortestFrom}
-use Rattle.ld_graph.specs.Inside.Parts.{AreApart, AreParts, AreTogether, IsAtPlace, IsHome, IsPart, IsPartOf}
+use Rattle.ld_graph.specs.Inside.Parts.{AreApart, AreParts, AreTogether, IsParted, IsAtPlace, IsHome, IsPart, IsPartOf}
 use Rattle.ld_graph.proofs.Circles.{OnCircle-member}
 use Rattle.ld_graph.specs.declared.fact.Fact.{Fact}
-use Rattle.ld_graph.specs.declared.parted_graph.Home.{Home}
-use Rattle.ld_graph.specs.declared.parted_graph.Part.{Part}
+use Rattle.ld_graph.specs.declared.fact.Fact.TheVariants.{Dependency, Marked}
+use Rattle.ld_graph.specs.declared.home.Home.{Home}
+use Rattle.ld_graph.specs.declared.part.Part.{Part}
 
 -- ---- where keys stand
-module _ (facts : FactParts) (parts : List Part) (homes : List Home) (are : AreParts facts parts homes) where
+module _ (facts : FactParts) (parts : List Part) (homes : List Home) (are : IsParted facts parts homes) where
   -- a home that was read is that of the key
   pub home_read : (xs : List Home) (n key : ℕ) (home : Home) → xs ≡ homes → n ≡ key → n < length xs →
       home ≡ get_or xs n home → IsHome are.rank parts key home
   home_read xs n key home same at l is =
       let here : get_or xs n home ≡ get_or homes key home = ap (λ v. get_or v n home) same ∙ ap (λ k. get_or homes k home) at in
       subst (IsHome are.rank parts key) (sym (is ∙ here))
-      (are.homes_are key home (let e = ap length same in omega arith))
+      (are.homes_are.homes_are key home (let e = ap length same in omega arith))
 
   pub are_apart : (a b : ℕ) (of_a of_b : Home) → IsHome are.rank parts a of_a → IsHome are.rank parts b of_b →
       ¬ (of_a.part ≡ of_b.part) → AreApart facts a b
@@ -45,7 +46,7 @@ module _ (facts : FactParts) (parts : List Part) (homes : List Home) (are : AreP
     n,
     are.none,
     subst (IsPart facts are.rank n) (sym is)
-        (are.parts_are n part (let l = at_home.within in omega arith)),
+        (are.parts_are.parts_are n part (let l = at_home.within in omega arith)),
   )
 
   pub place_read : (key n : ℕ) (home : Home) (part : Part) → IsHome are.rank parts key home → n ≡ home.part →
@@ -65,17 +66,25 @@ module _ (facts : FactParts) (part : Part) (rank : ℕ → ℕ) (r : ℕ) (is : 
   abbrev Among : Fact → Type 0
   Among = HasFact part.graph.facts
 
+  of_rank : (key : ℕ) → Contains keys key → rank key ≡ r
+  of_rank key (k, l, e) = subst (λ x. rank x ≡ r) e (is.keys_are.of k key l).1
+
+  all_keys : (x : Fact) → AmongRank Has rank r x → HasKeys keys x
+  all_keys (Dependency from to kind) ((below, set), (at_from, at_to)) =
+      (is.keys_are.all from below.0 at_from, is.keys_are.all to below.1 at_to)
+  all_keys (Marked key mark) ((below, set), at_key) = is.keys_are.all key below at_key
+
   by_place : AreFoundByPlace Has keys
-  by_place = are_found_by_place Has keys is.once
+  by_place = are_found_by_place Has keys is.keys_are.once
 
   listed : AreSame (AmongRank Has rank r) (AmongKeys Has keys)
-  listed = AmongRank-listed Has rank r keys is.lists
+  listed = AmongRank-listed Has rank r keys (record { of_rank = of_rank; all = all_keys })
 
   unlisted : AreSame (AmongKeys Has keys) (AmongRank Has rank r)
   unlisted x = ((listed x).1, (listed x).0)
 
   rank_at : (key n : ℕ) → IsAtPlace keys key n → rank key ≡ r
-  rank_at key n (l, e) = subst (λ k. rank k ≡ r) e (is.lists.of_rank (slice_index keys n) (Contains-get_or keys n 0 l))
+  rank_at key n (l, e) = subst (λ k. rank k ≡ r) e (of_rank (slice_index keys n) (Contains-get_or keys n 0 l))
 
   module _ (none : NoneGoesDown Has rank) where
     found : AreFoundByRank Has rank

@@ -1,57 +1,27 @@
 //! Facts about more keys than a graph takes, with a graph for each rank of keys.
 
-ghost use Rattle.std.specs.Prelude.{◌≡◌, ℕ, ◌+◌, ◌*◌, ◌<◌, ◌≤◌, ◌⊎◌, ◌↔◌, IsTrue, IsNone, IfErr, IfOk, IfSome, length, slice_index};
+ghost use Rattle.std.specs.Prelude.{◌≡◌, ℕ, ◌+◌, ◌*◌, ◌<◌, ◌≤◌, ◌⊎◌, ◌↔◌, IsTrue, IsNone, Err, IfOk, IfSome, length, slice_index};
 ghost use Rattle.ld_graph.specs.Arrows.{Arrow, arrow};
 ghost use Rattle.ld_graph.specs.FactBits.{HasFact};
 ghost use Rattle.ld_graph.specs.Inside.Parts.{AreApart, AreTogether};
 ghost use Rattle.ld_graph.specs.Links.{InInversion, IsClean, IsDouble, IsDoubleBy, IsInversion, IsShortestInversion, link_by};
 ghost use Rattle.ld_graph.specs.Ranks.{IsCrowded, NoneGoesDown};
 ghost use Rattle.ld_graph.specs.Walks.{IsShortestCircle, IsShortestFrom, OnCircle};
-ghost use Rattle.ld_graph.specs.declared.parted_graph.PartingFault.TheVariants.{TooTangled};
+ghost use Rattle.ld_graph.specs.declared.parting_fault.PartingFault.TheVariants.{TooTangled};
 
 use crate::circle::Circle;
 use crate::facts::Facts;
-use crate::graph::{Graph, InversionWalk};
+use crate::finding::find_ranks;
+use crate::graph::InversionWalk;
+use crate::home::{Home, homes_by_ranks};
+use crate::part::{Part, are_clean, parts_by_ranks, shortest_of};
+use crate::parting_fault::PartingFault;
 use crate::ranks::{Ranks, are_ranked};
 use crate::walk::Walk;
 use ld_task::Kind;
 use ld_trace::Irq;
-use std::alloc::{AllocError, Global};
+use std::alloc::Global;
 use std::marker::Model;
-
-/// Why facts have no graph for each rank.
-#[derive(Clone, Copy, PartialEq, Eq, Debug)]
-pub enum PartingFault {
-    /// An arrow goes down by the ranks, or a rank has more than 256 keys.
-    TooTangled,
-    /// Memory was refused.
-    Memory,
-}
-
-impl From<AllocError> for PartingFault {
-    ghost use Rattle.std.specs.Prelude.{◌≡◌};
-    ghost use Rattle.ld_graph.specs.declared.parted_graph.PartingFault.TheVariants.{Memory};
-
-    ghost from_gives = { λ _ e. e ≡ Memory };
-
-    fn from(_error: AllocError) -> PartingFault {
-        PartingFault::Memory
-    }
-}
-
-// The keys of a rank, with the graph of the facts among them, where each key goes by its place.
-#[derive(Drop)]
-struct Part {
-    keys: Vec<u16>,
-    graph: Graph,
-}
-
-// Where a key stands: its part, and its place among the part's keys.
-#[derive(Clone, Copy)]
-struct Home {
-    part: u16,
-    place: u16,
-}
 
 /// Facts about the keys below a bound of at most `MAX_MANY`, with a graph for each rank of some ranks by which no
 /// dependency and no interrupt link goes down. A question about keys of one rank is one to that rank's graph, and
@@ -65,16 +35,46 @@ pub struct PartedGraph {
 
 impl Model for PartedGraph {
     ghost use Rattle.ld_graph.specs.FactBits.{FactParts};
-    ghost use Rattle.ld_graph.specs.Inside.Parts.{AreParts};
+    ghost use Rattle.ld_graph.specs.Inside.Parts.{IsParted};
 
     ghost Value = { FactParts };
 
     ghost view = { λ g. g.facts };
 
-    ghost invariant = { λ g. AreParts g.facts g.parts.items g.homes.items };
+    ghost invariant = { λ g. IsParted g.facts g.parts.items g.homes.items };
 }
 
 impl PartedGraph {
+    /// The facts, with a graph for each of these ranks. It fails where an arrow goes down by them, where a rank has more than
+    /// 256 keys below the bound, and where memory is refused. What it takes grows with the greatest rank.
+    pub fn by_ranks(alloc: Global, facts: Facts, ranks: &Ranks) -> Result<PartedGraph, PartingFault>
+        ensures value { IfOk result (λ graph. graph ≡ facts) }
+        ensures ranked { IfOk result (λ _. NoneGoesDown (HasFact facts) (slice_index ranks.now)) }
+        ensures tangled { result ≡ Err TooTangled
+            → ¬ NoneGoesDown (HasFact facts) (slice_index ranks.now)
+            ⊎ ((r : ℕ) × IsCrowded facts.keys (slice_index ranks.now) r) }
+    {
+        if !are_ranked(&facts, ranks) {
+            return Err(PartingFault::TooTangled);
+        }
+        let parts = parts_by_ranks(alloc, &facts, ranks)?;
+        let homes = homes_by_ranks(alloc, facts.keys(), ranks, &parts)?;
+        Ok(PartedGraph {
+            facts,
+            parts,
+            homes,
+        })
+    }
+
+    /// The facts, with a graph for each of some ranks that are found for them: keys that arrows lead round between have one
+    /// rank. It fails where more than 256 keys are so, and where memory is refused.
+    pub fn new(alloc: Global, facts: Facts) -> Result<PartedGraph, PartingFault>
+        ensures value { IfOk result (λ graph. graph ≡ facts) }
+    {
+        let ranks = find_ranks(alloc, &facts)?;
+        PartedGraph::by_ranks(alloc, facts, &ranks)
+    }
+
     /// The facts.
     pub fn facts(&self) -> &Facts
         ensures { result.now ≡ self.now }
@@ -167,6 +167,24 @@ impl PartedGraph {
             enabled_read: found.enabled_read,
             used_read: found.used_read,
         })
+    }
+
+    /// Whether no dependency is on a circle and there is no double and no inversion.
+    pub fn is_clean(&self) -> bool
+        ensures { IsTrue result ↔ IsClean (HasFact self.now) }
+    {
+        are_clean(&self.parts)
+    }
+
+    /// A shortest circle: a closed strong walk of the dependencies such that none has fewer members and no key is the
+    /// start of two. None exactly where no dependency is on a circle. Which one it is where several are shortest is
+    /// left open.
+    pub fn shortest_circle(&self) -> Option<Circle>
+        ensures none { IsNone result ↔ ((d : Arrow) → ¬ OnCircle (HasFact self.now) d) }
+        ensures some { IfSome result (λ circle. IsShortestCircle (HasFact self.now) circle) }
+        ensures few { IfSome result (λ circle. length circle ≤ self.now.keys) }
+    {
+        shortest_of(&self.parts)
     }
 
     /// A shortest of the closed strong walks that begin with the dependency. None exactly where it is on no circle, and

@@ -7,14 +7,14 @@ use Rattle.ld_graph.proofs.parted_graph.PartedGraph.together.Goals as goal
 pub returns-in_err-of_a-clause-none : goal.returns-in_err-of_a-clause-none
 returns-in_err-of_a-clause-none c = λ _ la lb. absurd
     (let e = ap (λ (f : FactParts). f.keys) c.self.view_is in
-    let n = c.self.invariant.homes_of in
+    let n = c.self.invariant.homes_are.homes_of in
     let l = c.in_err-of_a.ensures.lookup.3 in
     omega (arith, c.from.ensures, ap length c.deref.ensures.value))
 
 pub returns-in_err-of_b-clause-none : goal.returns-in_err-of_b-clause-none
 returns-in_err-of_b-clause-none c = λ _ la lb. absurd
     (let e = ap (λ (f : FactParts). f.keys) c.self.view_is in
-    let n = c.self.invariant.homes_of in
+    let n = c.self.invariant.homes_are.homes_of in
     let l = c.in_err-of_b.ensures.lookup.3 in
     omega (arith, c.from-2.ensures, ap length c.deref-2.ensures.value))
 
