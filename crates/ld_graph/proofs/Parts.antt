@@ -1,21 +1,25 @@
 -- The parts of a parted graph, and what is found in them.
-use Rattle.std.specs.Prelude.{◌≡◌, ℕ, ◌+◌, ◌*◌, ◌<◌, ◌≤◌, ◌↔◌, Bool, List, length, get_or, map, slice_index, Contains}
-use Rattle.std.proofs.Common.{refl, ap, sym, ◌∙◌, subst, arith}
+use Rattle.std.specs.Prelude.{◌≡◌, ℕ, ◌+◌, ◌*◌, ◌<◌, ◌≤◌, ◌↔◌, Bool, List, [], ◌∷◌, length, get_or, map, slice_index, All, Contains}
+use Rattle.std.proofs.Common.{refl, ap, sym, ◌∙◌, subst, inl, inr, arith}
+use Rattle.std.proofs.lemmas.Bool.{cases_lt}
+use Rattle.std.proofs.lemmas.List.{get_or_default, length-map}
 use Rattle.std.proofs.lemmas.List.Elements.{Contains-get_or}
 use Rattle.ld_trace.specs.declared.event.Irq.{Irq}
 use Rattle.ld_task.specs.declared.kind.Kind.{Kind}
+use Rattle.ld_task.specs.declared.mark.Mark.TheVariants.{Enabled}
+use Rattle.ld_task.specs.Kinds.{is_s}
 use Rattle.ld_graph.specs.Arrows.{Arrow, arrow}
 use Rattle.ld_graph.specs.FactBits.{FactParts, HasFact}
-use Rattle.ld_graph.specs.FactLaws.{StrongWalk-members, OnCircle-same, IsShortestCircle-same, IsShortestFrom-same, IsDouble-same, IsDoubleBy-same, IsInversion-same, InInversion-same, IsShortestInversion-same, IsClean-same}
+use Rattle.ld_graph.specs.FactLaws.{StrongWalk-members, IsCircle-more, OnCircle-same, IsShortestCircle-same, IsShortestFrom-same, IsDouble-same, IsDoubleBy-same, IsInversion-same, InInversion-same, IsShortestInversion-same, IsClean-same}
 use Rattle.ld_graph.specs.Facts.{AreSame, DependenciesOf}
 use Rattle.ld_graph.specs.Links.{IsDouble, IsDoubleBy, IsInversion, InInversion, IsShortestInversion, IsClean, link_by}
 use Rattle.ld_graph.specs.RankLaws.{are_found_by_rank}
 use Rattle.ld_graph.specs.Ranks.{AmongRank, AreFoundByRank, NoneGoesDown}
 use Rattle.ld_graph.specs.Renumbered.{AmongKeys, AreFoundByPlace, HasKeys, Renumbered, arrow_at}
-use Rattle.ld_graph.specs.RenumberedLaws.{are_found_by_place, AmongRank-listed}
-use Rattle.ld_graph.specs.Walks.{OnCircle, IsShortestCircle, IsShortestFrom}
-use Rattle.ld_graph.specs.Inside.Parts.{AreApart, AreParts, AreTogether, IsParted, IsAtPlace, IsHome, IsPart, IsPartOf}
-use Rattle.ld_graph.proofs.Circles.{OnCircle-member}
+use Rattle.ld_graph.specs.RenumberedLaws.{are_found_by_place, AmongRank-listed, IsCircle-placed}
+use Rattle.ld_graph.specs.Walks.{IsCircle, OnCircle, IsShortestCircle, IsShortestFrom}
+use Rattle.ld_graph.specs.Inside.Parts.{AreApart, AreParts, AreTogether, IsParted, IsAtPlace, IsHome, IsPart, IsPartOf, IsShortestOfFirst}
+use Rattle.ld_graph.proofs.Circles.{Contains-head, OnCircle-member}
 use Rattle.ld_graph.specs.declared.fact.Fact.{Fact}
 use Rattle.ld_graph.specs.declared.fact.Fact.TheVariants.{Dependency, Marked}
 use Rattle.ld_graph.specs.declared.home.Home.{Home}
@@ -291,3 +295,107 @@ module _ (facts : FactParts) (part : Part) (a b i j : ℕ) (by : AreTogether fac
   double_by_at irq enabled_read used_read link =
       subst (λ x. IsDoubleBy (HasFact facts) irq x (link_by x x enabled_read used_read)) by.at_a.1
       (double_by facts part by.of.0 by.of.1 by.of.3 by.of.2 irq i (link_by i i enabled_read used_read) by.at_a.0 link)
+
+-- ---- what is found in all parts
+-- facts about nothing are clean
+IsClean-none : (P : Fact → Type 0) → ((x : Fact) → ¬ P x) → IsClean P
+IsClean-none P none = record {
+  circles = λ d on. none (Dependency d.start d.end d.kind) (OnCircle-member P d on);
+  doubles = λ irq a (l, by). none (Marked l.start (Enabled irq (is_s l.kind))) by.0.0;
+  inversions = λ irq a b (d, rest, l, with). none (Marked l.start (Enabled irq (is_s l.kind))) with.1.0;
+}
+
+-- no circle is there where nothing is on one
+pub no_circle : (P : Fact → Type 0) → ((d : Arrow) → ¬ OnCircle P d) → (circle : List Arrow) → ¬ IsCircle P circle
+no_circle P none [] no_walk = no_walk
+no_circle P none (a ∷ rest) closed = none a (a, rest, closed, Contains-head a rest)
+
+-- where a place of a list is, there is a member
+some_part : (parts : List Part) (r : ℕ) → r < length parts → Part
+some_part [] r l = absurd (omega arith)
+some_part (part ∷ parts) r l = part
+
+module _ (facts : FactParts) (parts : List Part) (homes : List Home) (are : IsParted facts parts homes) where
+  -- the facts of a rank have a part
+  has_part : (r : ℕ) (x : Fact) → AmongRank (HasFact facts) are.rank r x → r < length parts
+  has_part r (Dependency from to kind) ((below, set), (at_from, at_to)) =
+      let l = are.parts_are.all from below.0 in omega arith
+  has_part r (Marked key mark) ((below, set), at_key) =
+      let l = are.parts_are.all key below in omega arith
+
+  pub clean_parts : All (λ part. IsClean (HasFact part.graph.facts)) parts ↔ IsClean (HasFact facts)
+  clean_parts =
+      let law = (are_found_by_rank (HasFact facts) are.rank are.none).clean in (
+        (λ each. law.1 (λ r. elim (cases_lt r (length parts)) [
+          | inl l ↦
+              let part = some_part parts r l in
+              (clean_rank facts (get_or parts r part) are.rank r (are.parts_are.parts_are r part l)).0 (each r part l)
+          | inr past ↦ IsClean-none (AmongRank (HasFact facts) are.rank r)
+              (λ x among. let l = has_part r x among in absurd (omega arith))
+        ])),
+        (λ clean r part l. (clean_rank facts (get_or parts r part) are.rank r (are.parts_are.parts_are r part l)).1 (law.0 clean r)),
+      )
+
+  -- a dependency on a circle is on one of a part's
+  pub on_circle_parts : (d : Arrow) → OnCircle (HasFact facts) d →
+      All (λ part. (e : Arrow) → ¬ OnCircle (HasFact part.graph.facts) e) parts → ⊥
+  on_circle_parts d on none =
+      let (below, set) = OnCircle-member (HasFact facts) d on in
+      let (level, of_rank) = ((are_found_by_rank (HasFact facts) are.rank are.none).on_circle d).0 on in
+      let l = are.parts_are.all d.start below.0 in
+      let part = some_part parts (are.rank d.start) l in
+      let is = are.parts_are.parts_are (are.rank d.start) part l in
+      let (i, li, at_i) = is.keys_are.all d.start below.0 refl in
+      let (j, lj, at_j) = is.keys_are.all d.end below.1 (sym level) in
+      let keys = (get_or parts (are.rank d.start) part).keys.items in
+      none (are.rank d.start) part l (arrow i j d.kind)
+      ((on_circle_at facts (get_or parts (are.rank d.start) part) d.start d.end i j
+      (record {
+        of = (are.rank, are.rank d.start, are.none, is);
+        at_a = (li, get_or_default keys i 0 d.start li ∙ at_i);
+        at_b = (lj, get_or_default keys j 0 d.end lj ∙ at_j);
+      }) d.kind).0 on)
+
+  -- a circle of a rank is as long as one of its part
+  circle_of_part : (s : ℕ) (part : Part) → (l : s < length parts) → (other : List Arrow) →
+      IsCircle (AmongRank (HasFact facts) are.rank s) other →
+      (own : List Arrow) × IsCircle (HasFact (get_or parts s part).graph.facts) own × (length own ≡ length other)
+  circle_of_part s part l other closed =
+      let is = are.parts_are.parts_are s part l in
+      let keys = (get_or parts s part).keys.items in
+      let among = IsCircle-more (AmongRank (HasFact facts) are.rank s) (AmongKeys (HasFact facts) keys)
+      (λ x. (listed facts (get_or parts s part) are.rank s is x).0) other closed in
+      let (own, places, long) = IsCircle-placed (HasFact facts) keys other among in
+      (own, IsCircle-more (Renumbered (HasFact facts) keys) (HasFact (get_or parts s part).graph.facts) (λ x. (is.same x).1) own places, long)
+
+  first_fact : (P : Fact → Type 0) (circle : List Arrow) → IsCircle P circle → (x : Fact) × P x
+  first_fact P [] no_walk = absurd no_walk
+  first_fact P (a ∷ rest) closed = (Dependency a.start a.end a.kind, StrongWalk-members (DependenciesOf P) a rest closed.0 0 a (omega arith))
+
+  pub shortest_of_parts : (circle : List Arrow) → IsShortestOfFirst parts (length parts) circle → IsShortestCircle (HasFact facts) circle
+  shortest_of_parts circle first =
+      let part = some_part parts first.r first.before in
+      let told = first.of part in
+      let is = are.parts_are.parts_are first.r part first.before in
+      ((are_found_by_rank (HasFact facts) are.rank are.none).shortest_circle circle).1
+      (record {
+        r = first.r;
+        shortest = subst (IsShortestCircle (AmongRank (HasFact facts) are.rank first.r)) (sym told.told)
+            (shortest_of_rank facts (get_or parts first.r part) are.rank first.r is told.own told.shortest);
+        least = λ s other closed.
+            let (x, among) = first_fact (AmongRank (HasFact facts) are.rank s) other closed in
+            let l = has_part s x among in
+            let (own, is_own, long) = circle_of_part s part l other closed in
+            let least = first.least s part own l is_own in
+            omega arith;
+      })
+
+  pub shortest_few : (circle : List Arrow) → IsShortestOfFirst parts (length parts) circle → length circle ≤ facts.keys
+  shortest_few circle first =
+      let part = some_part parts first.r first.before in
+      let told = first.of part in
+      let is = are.parts_are.parts_are first.r part first.before in
+      let few = told.few in
+      let bound = is.bound in
+      let all = is.keys_are.few in
+      omega (arith, ap length told.told, length-map told.own (arrow_at (get_or parts first.r part).keys.items))
