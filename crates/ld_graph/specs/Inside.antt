@@ -1,5 +1,6 @@
 pub mod Bits
 pub mod Kept
+pub mod Parts
 pub mod Places
 pub mod Searching
 pub mod Tables

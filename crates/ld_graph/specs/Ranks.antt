@@ -1,6 +1,7 @@
 -- Ranks of keys such that no arrow goes down. What is found among all facts is then found among those about the keys of
 -- one rank [this project's own].
-use Rattle.std.specs.Prelude.{◌≡◌, ℕ, ◌≤◌, ◌↔◌, List, length}
+use Rattle.std.specs.Prelude.{◌≡◌, ℕ, ◌+◌, ◌<◌, ◌≤◌, ◌↔◌, List, length, All, AllPairs}
+use Rattle.ld_trace.specs.declared.key_id.TheConstants.{MAX_KEYS}
 use Rattle.ld_trace.specs.declared.event.Irq.{Irq}
 use Rattle.ld_graph.specs.Arrows.{Arrow}
 use Rattle.ld_graph.specs.Facts.{DependenciesOf}
@@ -21,6 +22,11 @@ LinksClimb Has rank irq = (l : Arrow) → IsLink Has irq l → rank l.start ≤ 
 pub record NoneGoesDown (Has : Fact → Type 0) (rank : ℕ → ℕ) : Type 0 where
   pub dependencies : DependenciesClimb Has rank
   pub links : (irq : Irq) → LinksClimb Has rank irq
+
+-- more keys below the bound have this rank than a graph takes: these are one too many
+abbrev pub IsCrowded : ℕ → (ℕ → ℕ) → ℕ → Type 0
+IsCrowded bound rank r = (keys : List ℕ) × (length keys ≡ MAX_KEYS + 1) ×
+    AllPairs (λ a b. ¬ (a ≡ b)) keys × All (λ key. (key < bound) × (rank key ≡ r)) keys
 
 -- the fact is about keys of this rank alone
 abbrev pub IsOfRank : (ℕ → ℕ) → ℕ → Fact → Type 0

@@ -134,6 +134,15 @@ module _ (Has : Fact → Type 0) (keys : List ℕ) where
       let (i, is) = place_in-stands keys key in_list.0 in_list.1 in_list.2 in
       (i, subst (λ a. Has (Marked a mark)) (sym is) has)
 
+  -- a circle of the keys is as long as one of their places
+  pub IsCircle-placed : (circle : List Arrow) → IsCircle (AmongKeys Has keys) circle →
+      (placed : List Arrow) × IsCircle (Renumbered Has keys) placed × (length placed ≡ length circle)
+  IsCircle-placed circle closed = (
+    map (arrow_by (place_in keys)) circle,
+    IsCircle-by (place_in keys) (AmongKeys Has keys) (Renumbered Has keys) back circle closed,
+    length-map circle (arrow_by (place_in keys)),
+  )
+
   module _ (once : HasEachOnce keys) where
     same_place : (i j : ℕ) → i < length keys → j < length keys → slice_index keys i ≡ slice_index keys j → i ≡ j
     same_place i j li lj same =

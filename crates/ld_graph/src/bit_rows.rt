@@ -1,4 +1,5 @@
-//! Rows of bits. What lies past a row's end is never set and never found.
+//! Rows of bits. That a row and a bit are below the numbers that were asked for is the caller's care; past the last word
+//! nothing is set and nothing is found.
 
 use std::alloc::{AllocError, Global};
 

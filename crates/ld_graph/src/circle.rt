@@ -1,7 +1,8 @@
 //! Circles: closed strong walks of no more members than there can be keys.
 
-ghost use Rattle.std.specs.Prelude.{◌≡◌, ◌<◌, ◌≤◌, IfSome, length, option_map, slice_get};
-ghost use Rattle.ld_trace.specs.declared.key_id.TheConstants.{MAX_KEYS};
+ghost use Rattle.std.specs.Prelude.{◌≡◌, ℕ, ◌<◌, ◌≤◌, EachIndex, IfSome, length, map, option_map, slice_get, slice_index};
+ghost use Rattle.ld_trace.specs.declared.key_id.TheConstants.{MAX_MANY};
+ghost use Rattle.ld_graph.specs.Renumbered.{arrow_at};
 ghost use Rattle.ld_graph.specs.Circles.{arrow_parts};
 
 use crate::walk::Walk;
@@ -39,6 +40,16 @@ impl Circle {
         Circle { walk }
     }
 
+    // The same circle by the keys that stand at the places that are its own keys.
+    pub(crate) fn by_keys(&self, keys: &[u16]) -> Circle
+        requires { EachIndex keys.now (λ i. slice_index keys.now i < MAX_MANY) }
+        ensures { result ≡ map (arrow_at keys.now) self.now }
+    {
+        Circle {
+            walk: self.walk.by_keys(keys),
+        }
+    }
+
     /// How many dependencies it has, at most 256.
     pub fn len(&self) -> usize
         ensures exact { result ≡ length self.now }
@@ -48,10 +59,11 @@ impl Circle {
     }
 
     /// The dependency at place `i`, counted from 0: the key that it leads from, the key that it leads to, and its kind.
-    /// None where there is none. Both keys are below 256.
+    /// None where there is none. Both keys are below
+    /// `MAX_MANY`.
     pub fn get(&self, i: usize) -> Option<(u16, u16, Kind)>
         ensures value { result ≡ option_map arrow_parts (slice_get self.now i) }
-        ensures below { IfSome result (λ d. (d.0 < MAX_KEYS) × (d.1 < MAX_KEYS)) }
+        ensures below { IfSome result (λ d. (d.0 < MAX_MANY) × (d.1 < MAX_MANY)) }
     {
         self.walk.get(i)
     }

@@ -1,13 +1,15 @@
 //! Single dependencies.
 
-ghost use Rattle.std.specs.Prelude.{◌≡◌, ◌*◌, ◌<◌, ◌↔◌, IsTrue};
+ghost use Rattle.std.specs.Prelude.{◌≡◌, ℕ, ◌*◌, ◌<◌, ◌↔◌, EachIndex, IsTrue, length, slice_index};
 ghost use Rattle.ld_task.specs.Kinds.{is_s};
 ghost use Rattle.ld_trace.specs.declared.key_id.TheConstants.{MAX_KEYS};
+ghost use Rattle.ld_trace.specs.declared.key_id.TheConstants.{MAX_MANY};
 ghost use Rattle.ld_graph.specs.Arrows.{MayFollow};
 ghost use Rattle.ld_graph.specs.Circles.{arrow_of};
 ghost use Rattle.ld_graph.specs.Numbers.{kind_number};
 ghost use Rattle.ld_graph.specs.Inside.Places.{arrival, LeavesFrom};
-ghost use Rattle.ld_graph.specs.Inside.Searching.{IsOfKeys, row_place};
+ghost use Rattle.ld_graph.specs.Inside.Searching.{IsOfKeys, IsOfManyKeys, row_place};
+ghost use Rattle.ld_graph.specs.Renumbered.{arrow_at};
 ghost use Rattle.ld_graph.specs.declared.places.TheConstants.{PLACES};
 
 use crate::fact::kind_number;
@@ -69,6 +71,19 @@ impl Dependency {
         self.from == self.to && !(self.kind.ends_in_r() && self.kind.begins_with_s())
     }
 
+    // The one by the keys that stand at the places that are its own keys, or 0 where nothing does.
+    pub(crate) fn by_keys(self, keys: &[u16]) -> Dependency
+        requires { EachIndex keys.now (λ i. slice_index keys.now i < MAX_MANY) }
+        ensures keys { IsOfManyKeys result }
+        ensures value { arrow_of result ≡ arrow_at keys.now (arrow_of self) }
+    {
+        Dependency {
+            from: key_at(keys, self.from),
+            to: key_at(keys, self.to),
+            kind: self.kind,
+        }
+    }
+
     // Its place in the row of those from its start, four for each key that they lead to.
     pub(crate) fn row_place(self) -> usize
         ensures { result ≡ row_place self.to self.kind }
@@ -100,6 +115,14 @@ impl Default for Dependency {
             kind: Kind::En,
         }
     }
+}
+
+// The key that stands at the place, or 0 where none does.
+fn key_at(keys: &[u16], place: u16) -> u16
+    ensures { result ≡ slice_index keys.now place }
+{
+    let place = usize::from(place);
+    if place < keys.len() { keys[place] } else { 0 }
 }
 
 // The kind with that number.

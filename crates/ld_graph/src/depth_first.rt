@@ -41,7 +41,10 @@ impl DepthFirst {
             };
             match arrows.first_beyond(node, &self.visited) {
                 Some(next) => self.enter(next)?,
-                None => left.extend(self.entered.pop())?,
+                None => {
+                    self.entered.pop();
+                    left.push(node)?;
+                }
             }
         }
         Ok(left)

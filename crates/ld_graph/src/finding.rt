@@ -7,9 +7,10 @@ use crate::ranks::Ranks;
 use ld_trace::MAX_KEYS;
 use std::alloc::{AllocError, Global};
 
-/// Ranks by which no arrow of the facts goes down, numbered from 0 on. Keys that arrows lead round between have one rank.
-/// Otherwise neighbouring parts are put together as long as they have at most 256 keys, so that there are few ranks: one
-/// for at most 256 keys, and at most 65 for 8,192. It fails only where memory is refused.
+// Ranks by which no arrow of the facts goes down, numbered from 0 on. Keys that arrows lead round between have one rank.
+// Neighbouring parts are put together as long as they have at most 256 keys, so that there are few ranks: one for at most
+// 256 keys, and at most 63 for 8,192 where no part has more than 256. It fails only where memory is refused. No contract
+// says what is found: a caller asks `are_ranked`.
 pub(crate) fn find_ranks(alloc: Global, facts: &Facts) -> Result<Ranks, AllocError> {
     find_ranks_of(alloc, facts, usize::from(MAX_KEYS))
 }

@@ -1,9 +1,10 @@
 //! Strong walks, as they are told.
 
-ghost use Rattle.std.specs.Prelude.{◌≡◌, ◌<◌, ◌≤◌, [], ◌∷◌, IfSome, length, option_map, slice_get};
-ghost use Rattle.ld_trace.specs.declared.key_id.TheConstants.{MAX_KEYS};
+ghost use Rattle.std.specs.Prelude.{◌≡◌, ℕ, ◌<◌, ◌≤◌, [], ◌∷◌, EachIndex, IfSome, length, map, option_map, slice_get, slice_index};
+ghost use Rattle.ld_trace.specs.declared.key_id.TheConstants.{MAX_MANY};
 ghost use Rattle.ld_graph.specs.Circles.{arrow_of, arrow_parts};
-ghost use Rattle.ld_graph.specs.Inside.Searching.{IsOfKeys};
+ghost use Rattle.ld_graph.specs.Inside.Searching.{IsOfManyKeys};
+ghost use Rattle.ld_graph.specs.Renumbered.{arrow_at};
 
 use crate::dependency::Dependency;
 use crate::places::PLACES;
@@ -51,11 +52,23 @@ impl Walk {
     // Puts a dependency before the others.
     pub(crate) fn put_first(&mut self, dependency: Dependency)
         requires room { length self.old < MAX_WALK }
-        requires keys { IsOfKeys dependency }
+        requires keys { IsOfManyKeys dependency }
         ensures { self.new ≡ arrow_of dependency ∷ self.old }
     {
         self.backwards[self.len] = dependency;
         self.len += 1;
+    }
+
+    // The same walk by the keys that stand at the places that are its own keys.
+    pub(crate) fn by_keys(&self, keys: &[u16]) -> Walk
+        requires { EachIndex keys.now (λ i. slice_index keys.now i < MAX_MANY) }
+        ensures { result ≡ map (arrow_at keys.now) self.now }
+    {
+        let mut walk = Walk::new();
+        for i in 0..self.len {
+            walk.put_first(self.backwards[i].by_keys(keys));
+        }
+        walk
     }
 
     /// How many dependencies it has, at most 512.
@@ -67,10 +80,11 @@ impl Walk {
     }
 
     /// The dependency at place `i`, counted from 0: the key that it leads from, the key that it leads to, and its kind.
-    /// None where there is none. Both keys are below 256.
+    /// None where there is none. Both keys are below
+    /// `MAX_MANY`.
     pub fn get(&self, i: usize) -> Option<(u16, u16, Kind)>
         ensures value { result ≡ option_map arrow_parts (slice_get self.now i) }
-        ensures below { IfSome result (λ d. (d.0 < MAX_KEYS) × (d.1 < MAX_KEYS)) }
+        ensures below { IfSome result (λ d. (d.0 < MAX_MANY) × (d.1 < MAX_MANY)) }
     {
         if i >= self.len {
             return None;

@@ -11,6 +11,7 @@ use Rattle.ld_graph.specs.Inside.Bits.{has_bit, count_below}
 use Rattle.ld_graph.specs.declared.walk.TheConstants.{MAX_WALK}
 use Rattle.ld_graph.specs.declared.places.TheConstants.{PLACES, ROW_WORDS}
 use Rattle.ld_trace.specs.declared.key_id.TheConstants.{MAX_KEYS}
+use Rattle.ld_trace.specs.declared.key_id.TheConstants.{MAX_MANY}
 use Rattle.ld_graph.specs.Inside.Places.{arrival, Leaves, Leads}
 use Rattle.ld_graph.specs.Walks.{ClosedWalk}
 use Rattle.ld_graph.specs.declared.fact.Fact.TheVariants.{Dependency as Depends}
@@ -21,10 +22,14 @@ use Rattle.ld_graph.specs.declared.search.Step.{Step}
 abbrev pub IsOfKeys : Dependency → Type 0
 IsOfKeys d = (d.from < MAX_KEYS) × (d.to < MAX_KEYS)
 
+-- both its keys are such as facts can be about
+abbrev pub IsOfManyKeys : Dependency → Type 0
+IsOfManyKeys d = (d.from < MAX_MANY) × (d.to < MAX_MANY)
+
 -- the members of a walk: as many as there are places, or fewer
 pub record AreMembers (members : List Dependency) : Type 0 where
   pub few : length members ≤ MAX_WALK
-  pub below : (i : ℕ) (d : Dependency) → slice_get members i ≡ Some d → IsOfKeys d
+  pub below : (i : ℕ) (d : Dependency) → slice_get members i ≡ Some d → IsOfManyKeys d
 
 -- ---- the dependencies from one key, in a row
 -- the place of a dependency to that key among those from its start

@@ -1,5 +1,8 @@
 //! Ranks that are found for some facts.
 
+ghost use Rattle.std.specs.Prelude.{◌≤◌};
+ghost use Rattle.ld_trace.specs.declared.key_id.TheConstants.{MAX_MANY};
+
 use crate::finding::{find_ranks, find_ranks_of};
 use crate::{Fact, Facts, Kind, Mark, Ranks, are_ranked};
 use ld_trace::Irq;
@@ -13,7 +16,9 @@ fn facts_of(
     alloc: Global,
     keys: u16,
     dependencies: &[(u16, u16)],
-) -> Result<Facts, AllocError> {
+) -> Result<Facts, AllocError>
+    requires { keys ≤ MAX_MANY }
+{
     let mut facts = Facts::new(alloc, keys)?;
     for (from, to) in dependencies {
         add(

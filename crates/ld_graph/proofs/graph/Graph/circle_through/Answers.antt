@@ -27,7 +27,8 @@ pub walk_back-requires-clause-keys : goal.walk_back-requires-clause-keys
 walk_back-requires-clause-keys c = keys (goal.at.walk_back-requires-clause-keys c).After-walk_bound-bound
 
 pub put_first-requires-clause-keys : goal.put_first-requires-clause-keys
-put_first-requires-clause-keys c = keys (goal.at.put_first-requires-clause-keys c).After-walk_bound-bound
+put_first-requires-clause-keys c =
+    let (from, to) = keys (goal.at.put_first-requires-clause-keys c).After-walk_bound-bound in (omega arith, omega arith)
 
 pub returns-in_err-walk-clause-none : goal.returns-in_err-walk-clause-none
 returns-in_err-walk-clause-none c =

@@ -1,4 +1,4 @@
-use Rattle.std.proofs.Common.{ℕ, ◌-◌, ◌≤◌}
+use Rattle.std.proofs.Common.{◌-◌, ◌≤◌}
 use Rattle.ld_graph.specs.Numbers.{dependency_total}
 use Rattle.ld_graph.proofs.node_arrows.NodeArrows.add_dependencies.Given as goal
 

@@ -41,5 +41,5 @@ pub put_first-requires-clause-keys : goal.put_first-requires-clause-keys
 put_first-requires-clause-keys c =
     let l : c.loop-done.i < length c.args.self.now.steps = inside (goal.at.put_first-requires-clause-keys c).After-as_slice in
     let within : c.loop-done.i < length c.self.inside.steps.items = let f = ap length (ap (λ v. v.steps) c.self.view_is) in omega arith in
-    c.self.invariant.below c.loop-done.i (get_or c.as_slice.result.now c.loop-done.i blank)
-    (step_read c.as_slice.result.now c.self.inside.steps.items c.loop-done.i c.as_slice.ensures.value within)
+    let (from, to) = c.self.invariant.below c.loop-done.i (get_or c.as_slice.result.now c.loop-done.i blank)
+    (step_read c.as_slice.result.now c.self.inside.steps.items c.loop-done.i c.as_slice.ensures.value within) in (omega arith, omega arith)
