@@ -13,8 +13,8 @@ mod gate;
 mod runs;
 mod seat;
 mod settled;
-mod survey;
 mod survey_fault;
+mod surveys;
 #[cfg(test)]
 mod tests;
 mod view;
@@ -29,6 +29,6 @@ pub use gate::{Gate, OpenGate};
 pub use runs::{MAX_TRACES, MAX_WORKERS, run};
 pub use seat::{MAX_CLAIMS, Seat};
 pub use settled::{Settled, settle};
-pub use survey::survey;
 pub use survey_fault::SurveyFault;
+pub use surveys::survey;
 pub use worker::{Worked, work};

@@ -3,7 +3,7 @@ use Rattle.std.proofs.lemmas.Option.{slice_get_read}
 use Rattle.ld_trace.specs.Events.{KeysBelow}
 use Rattle.ld_run.specs.Surveys.{StopsSurvey}
 use Rattle.ld_run.proofs.Surveying.{IsSurveying-next, IsSurveying-none, IsSurveying-whole}
-use Rattle.ld_run.proofs.survey.facts_of_all.Goals as goal
+use Rattle.ld_run.proofs.surveys.facts_of_all.Goals as goal
 
 pub loop-i-init : goal.loop-i-init
 loop-i-init c = IsSurveying-none c.args.keys c.in_ok-facts.facts c.args.traces.now c.in_ok-facts.ensures.keys c.in_ok-facts.ensures.none
