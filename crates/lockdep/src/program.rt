@@ -333,7 +333,8 @@ fn add_trace<'a, I: Read + Drop, F: Read + Drop>(
     opened: Source<I, F>,
 ) -> Result<(), Refusal<'a>>
     ensures ok { OnOk result ((trace : List Event) × (session.new.traces ≡ session.old.traces ++ trace ∷ [])
-        × IfSome (remaining_in I.remaining F.remaining opened) (λ bytes. ReadsTo session.old.room session.old.names bytes session.new.names trace)) }
+        × IfSome (remaining_in I.remaining F.remaining opened)
+        (λ bytes. ReadsTo session.old.room session.old.names bytes session.new.names trace)) }
     ensures below { All (KeysBelow (length session.new.names)) session.new.traces }
     ensures err { IfErr result (IsReadingRefusal file.entry.now session.old.room session.old.names
         (remaining_in I.remaining F.remaining opened)) }

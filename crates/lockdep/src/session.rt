@@ -97,7 +97,7 @@ impl Session {
     /// chain. The session is consumed in every case.
     ///
     /// Refusals, in this order: `Run` with N1 where `workers` isn't 1 to 64, with N2 where there are more than 4,096 traces
-    /// and with N4 where memory for the run is refused; `Step` with the least trace that isn't well formed, the record of its
+    /// and with N4 where memory for the run is refused or more than 256 keys have names; `Step` with the least trace that isn't well formed, the record of its
     /// first event that isn't allowed and why; `Run` with N3 where the workers don't agree on the facts; `Out` where writing
     /// failed. Nothing was written before `Out` and after O3, and exactly a beginning of the report after O1 and O2 [this
     /// project's own].
