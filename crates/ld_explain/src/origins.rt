@@ -2,7 +2,7 @@
 
 ghost use Rattle.std.specs.Prelude.{◌≡◌, ◌+◌, ◌<◌, ◌≤◌, ℕ, List, All, IfOk, IfSome, IsNone, OnOk, Some, length, slice_get};
 ghost use Rattle.ld_trace.specs.declared.event.Event.{Event};
-ghost use Rattle.ld_trace.specs.declared.key_id.TheConstants.{MAX_KEYS};
+ghost use Rattle.ld_trace.specs.declared.key_id.TheConstants.{MAX_MANY};
 ghost use Rattle.ld_trace.specs.Events.{KeysBelow};
 ghost use Rattle.ld_task.specs.Chains.{ChainKeysBelow};
 ghost use Rattle.ld_task.specs.Placed.{IsPlacedAfter};
@@ -46,21 +46,21 @@ pub struct Origins {
 
 impl Model for Origins {
     ghost use Rattle.std.specs.Prelude.{◌≤◌};
-    ghost use Rattle.ld_trace.specs.declared.key_id.TheConstants.{MAX_KEYS};
+    ghost use Rattle.ld_trace.specs.declared.key_id.TheConstants.{MAX_MANY};
     ghost use Rattle.ld_explain.specs.Origins.{OriginParts};
 
     ghost Value = { OriginParts };
 
     ghost view = { λ o. record { keys = o.keys; entries = o.origins.entries } };
 
-    ghost invariant = { λ o. o.keys ≤ MAX_KEYS };
+    ghost invariant = { λ o. o.keys ≤ MAX_MANY };
 }
 
 impl Origins {
     /// The first occurrences of the facts of the traces, which are well formed, whose keys are below `keys`, and of which
-    /// there are at most 4,096. It fails only where memory is refused.
+    /// there are at most 4,096. `keys` is at most 8,192. It fails only where memory is refused.
     pub fn of(alloc: Global, traces: &[RawTrace], keys: u16) -> Result<Origins, AllocError>
-        requires few { keys ≤ MAX_KEYS }
+        requires few { keys ≤ MAX_MANY }
         requires below { All (KeysBelow keys) traces.now }
         requires well_formed { All IsWellFormed traces.now }
         requires traces { length traces.now ≤ MAX_TRACES }

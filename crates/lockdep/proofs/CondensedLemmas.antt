@@ -1,11 +1,11 @@
 -- Condensed traces of equal facts, and what condensing leaves where it is refused.
-use Rattle.std.proofs.Common.{◌≡◌, ℕ, List, Option, length, refl}
+use Rattle.std.proofs.Common.{ℕ, List, Option, refl}
 use Rattle.std.specs.Io.KnownBytes.{Keeps}
 use Rattle.ld_trace.specs.Names.{Name}
 use Rattle.ld_graph.specs.Facts.{AreSame}
 use Rattle.ld_graph.specs.declared.fact.Fact.{Fact}
 use Rattle.lockdep.specs.Condensed.{IsCondensedText}
-use Rattle.lockdep.specs.Faults.{IsBeforeWriting, StopsSettled, StopsWriting}
+use Rattle.lockdep.specs.Faults.{IsBeforeWriting, StopsSettled}
 use Rattle.lockdep.specs.declared.fault.ReportFault.{ReportFault}
 use Rattle.lockdep.specs.declared.fault.ReportFault.TheVariants.{Step, Run, Condensing, Out}
 use Rattle.lockdep.specs.declared.fault.WriteFault.TheVariants.{Failed, Stuck, Memory}

@@ -2,6 +2,7 @@
 use Rattle.std.proofs.Common.{◌≡◌, ◌==◌, true, Result, Ok, Err, IfErr, IsErr, IsErrAnd, ℕ, zero, suc, ◌<◌, List, [], ◌∷◌, Option, None, Bor, Contains, codes, length, map, slice_index_or, refl, sym, subst, arith, inl, inr}
 use Rattle.clap.specs.Words.{Text}
 use Rattle.ld_trace.specs.Names.{Name}
+use Rattle.ld_trace.specs.declared.key_id.TheConstants.{MAX_KEYS}
 use Rattle.lockdep.specs.Program.{IsReadingRefusal, StopsReading}
 use Rattle.lockdep.specs.declared.refusal.Refusal.{Refusal}
 use Rattle.lockdep.specs.declared.refusal.Refusal.TheVariants.{BadCommandLine, CannotOpen, Output, Memory, Reading, Step, Run, Condensing}
@@ -19,15 +20,15 @@ none_named [] none = refl
 none_named (file ∷ files) none = grind arith
 
 -- a trace that is refused is that of the one file
-pub StopsReading-one : (file : Text) (names : List Name) (bytes : Option (List ℕ)) (refusal : Refusal) → IsReadingRefusal file names bytes refusal → StopsReading (file ∷ []) None refusal
-StopsReading-one file names bytes BadCommandLine h = absurd h
-StopsReading-one file names bytes (CannotOpen named) h = absurd h
-StopsReading-one file names bytes Output h = absurd h
-StopsReading-one file names bytes Memory h = absurd h
-StopsReading-one file names bytes (Reading named fault) (is, why) = inl (0, omega arith, sym is)
-StopsReading-one file names bytes (Step named at fault) h = absurd h
-StopsReading-one file names bytes (Run fault) h = absurd h
-StopsReading-one file names bytes (Condensing fault) h = absurd h
+pub StopsReading-one : (file : Text) (room : ℕ) (names : List Name) (bytes : Option (List ℕ)) (refusal : Refusal) → IsReadingRefusal file room names bytes refusal → StopsReading (file ∷ []) None refusal
+StopsReading-one file room names bytes BadCommandLine h = absurd h
+StopsReading-one file room names bytes (CannotOpen named) h = absurd h
+StopsReading-one file room names bytes Output h = absurd h
+StopsReading-one file room names bytes Memory h = absurd h
+StopsReading-one file room names bytes (Reading named fault) (is, why) = inl (0, omega arith, sym is)
+StopsReading-one file room names bytes (Step named at fault) h = absurd h
+StopsReading-one file room names bytes (Run fault) h = absurd h
+StopsReading-one file room names bytes (Condensing fault) h = absurd h
 
 -- the one file is among several, so what is it is among them
 among_several : (file name : Text) (files : List Text) → Contains files file → Contains (file ∷ []) name → Contains files name
@@ -47,7 +48,7 @@ StopsReading-among file files input (Run fault) among h = absurd h
 StopsReading-among file files input (Condensing fault) among h = absurd h
 
 -- of no files it is standard input
-pub StopsReading-input : (files : List Text) (input : Option (List ℕ)) (refusal : Refusal) → files ≡ [] → IsReadingRefusal (codes "stdin") [] input refusal → StopsReading files input refusal
+pub StopsReading-input : (files : List Text) (input : Option (List ℕ)) (refusal : Refusal) → files ≡ [] → IsReadingRefusal (codes "stdin") MAX_KEYS [] input refusal → StopsReading files input refusal
 StopsReading-input files input BadCommandLine none h = absurd h
 StopsReading-input files input (CannotOpen named) none h = absurd h
 StopsReading-input files input Output none h = absurd h

@@ -4,6 +4,7 @@ use Rattle.std.specs.Io.KnownBytes.{Appends, Keeps}
 use Rattle.ld_trace.specs.Events.{KeysBelow}
 use Rattle.ld_trace.specs.Names.{Name}
 use Rattle.ld_trace.specs.declared.event.Event.{Event}
+use Rattle.ld_trace.specs.declared.key_id.TheConstants.{MAX_KEYS}
 use Rattle.ld_trace.specs.Reading.{ReadsTo, StopsAt}
 use Rattle.ld_task.specs.WellFormed.{IsFirstFault, IsWellFormed}
 use Rattle.ld_graph.specs.Links.{IsClean}
@@ -34,7 +35,7 @@ use Rattle.lockdep.specs.declared.refusal.Refusal.TheVariants.{BadCommandLine, C
 -- number is said, and that their keys are in the table; no contract can tell what a file holds
 pub record AreTracesOf (files : List Text) (input : Option (List ℕ)) (names : List Name) (traces : List (List Event)) : Type 0 where
   pub below : All (KeysBelow (length names)) traces
-  pub from_input : length files ≡ 0 → (trace : List Event) × (traces ≡ trace ∷ []) × IfSome input (λ bytes. ReadsTo [] bytes names trace)
+  pub from_input : length files ≡ 0 → (trace : List Event) × (traces ≡ trace ∷ []) × IfSome input (λ bytes. ReadsTo MAX_KEYS [] bytes names trace)
   pub from_files : 0 < length files → length traces ≡ length files
 
 -- the text that is wanted of the traces, by so many workers, was written, and the status says whether their facts are clean
@@ -68,7 +69,7 @@ known_of (Some file) input = None
 -- this trace was read from these bytes
 pub record IsTraceOf (bytes : Option (List ℕ)) (names : List Name) (trace : List Event) : Type 0 where
   pub below : KeysBelow (length names) trace
-  pub reads : IfSome bytes (λ known. ReadsTo [] known names trace)
+  pub reads : IfSome bytes (λ known. ReadsTo MAX_KEYS [] known names trace)
 
 -- the chains of the trace were written
 pub record WritesChains (bytes old new : Option (List ℕ)) (status : ℕ) : Type 0 where
@@ -101,11 +102,11 @@ DoesWords words input old new status =
 
 -- What is refused, and what is left on standard output.
 
--- the trace with these bytes is refused in reading, with the names that were there before
-abbrev pub IsReadingRefusal : (file : Text) (names : List Name) (bytes : Option (List ℕ)) → Refusal → Type 0
-IsReadingRefusal file names bytes (Reading named fault) =
-    (named.now ≡ file) × IfSome bytes (λ known. (new : List Name) × StopsAt names known new fault)
-IsReadingRefusal file names bytes _ = ⊥
+-- the trace with these bytes is refused in reading, where there is room for so many names, with those that were there before
+abbrev pub IsReadingRefusal : (file : Text) (room : ℕ) (names : List Name) (bytes : Option (List ℕ)) → Refusal → Type 0
+IsReadingRefusal file room names bytes (Reading named fault) =
+    (named.now ≡ file) × IfSome bytes (λ known. (new : List Name) × StopsAt room names known new fault)
+IsReadingRefusal file room names bytes _ = ⊥
 
 -- the trace isn't well formed: its first fault, with the record of the event, counted from 1 with the header
 abbrev pub IsStepRefusal : (file : Text) (trace : List Event) → Refusal → Type 0
@@ -117,7 +118,7 @@ IsStepRefusal file trace _ = ⊥
 abbrev pub StopsReading : List Text → (input : Option (List ℕ)) → Refusal → Type 0
 StopsReading files input (CannotOpen named) = Contains files named.now
 StopsReading files input (Reading named fault) = Contains files named.now
-    ⊎ ((files ≡ []) × IsReadingRefusal (codes "stdin") [] input (Reading named fault))
+    ⊎ ((files ≡ []) × IsReadingRefusal (codes "stdin") MAX_KEYS [] input (Reading named fault))
 StopsReading files input Memory = ⊤
 StopsReading files input _ = ⊥
 
@@ -156,7 +157,7 @@ RefusesTrace file names trace old new refusal = (IsStepRefusal file trace refusa
 -- no chains were written whole: memory was refused before, or the trace in reading, or after it
 abbrev pub RefusesOpened : (file : Text) → (bytes old new : Option (List ℕ)) → Refusal → Type 0
 RefusesOpened file bytes old new refusal =
-    (((refusal ≡ Memory) ⊎ IsReadingRefusal file [] bytes refusal) × Keeps old new)
+    (((refusal ≡ Memory) ⊎ IsReadingRefusal file MAX_KEYS [] bytes refusal) × Keeps old new)
     ⊎ ((names : List Name) × (trace : List Event) × IsTraceOf bytes names trace
     × RefusesTrace file names trace old new refusal)
 

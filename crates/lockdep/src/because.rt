@@ -18,7 +18,7 @@ fn member(circle: &Circle, i: usize) -> (KeyId, KeyId, Kind)
     ensures { slice_get circle.now i ≡ Some (arrow result.0 result.1 result.2) }
 {
     match circle.get(i) {
-        Some((from, to, kind)) => match (KeyId::new(from), KeyId::new(to)) {
+        Some((from, to, kind)) => match (KeyId::of_many(from), KeyId::of_many(to)) {
             (Some(from), Some(to)) => (from, to, kind),
             _ => unreachable!(),
         },
@@ -29,7 +29,7 @@ fn member(circle: &Circle, i: usize) -> (KeyId, KeyId, Kind)
 // The place of the first member that starts at the least key, in the order of names.
 fn least_start(names: &KeyTable, circle: &Circle) -> usize
     requires { 0 < length circle.now }
-    ensures { IsFirstBest (starts_before names.now) circle.now (length circle.now) result }
+    ensures { IsFirstBest (starts_before names.now.names) circle.now (length circle.now) result }
 {
     let mut least = 0;
     for i in 1..circle.len() {
@@ -53,7 +53,7 @@ fn add_members(
     requires order { start ≤ end }
     requires within { end ≤ length circle.now }
     ensures { OnOk result (string_bytes text.new ≡ string_bytes text.old
-        ++ flat_map (member_text names.now) (take (end - start) (drop start circle.now))) }
+        ++ flat_map (member_text names.now.names) (take (end - start) (drop start circle.now))) }
 {
     for i in start..end {
         let (_, to, kind) = member(circle, i);
@@ -71,7 +71,7 @@ pub(crate) fn add_line(
     circle: &Circle,
 ) -> Result<(), AllocError>
     requires { 0 < length circle.now }
-    ensures { OnOk result (TellsTurned names.now circle.now (string_bytes text.old)
+    ensures { OnOk result (TellsTurned names.now.names circle.now (string_bytes text.old)
         (string_bytes text.new)) }
 {
     let least = least_start(names, circle);

@@ -24,7 +24,7 @@ type Line = ArrayString<LINE_BYTES>;
 // A key's name: at most 64 bytes, a slash, and the three that a subclass's type has room for.
 fn add_key(line: &mut Line, names: &KeyTable, key: KeyId)
     requires { length line.old.bytes + 68 ≤ LINE_BYTES }
-    ensures text { line.new.bytes ≡ line.old.bytes ++ key_text (name_at names.now key) }
+    ensures text { line.new.bytes ≡ line.old.bytes ++ key_text (name_at names.now.names key) }
     ensures short { length line.new.bytes ≤ length line.old.bytes + 68 }
 {
     let (name, sub) = name_of(names, key);
@@ -36,7 +36,7 @@ fn add_key(line: &mut Line, names: &KeyTable, key: KeyId)
 // A held lock: its key and mode behind a space.
 fn add_lock(line: &mut Line, names: &KeyTable, lock: (KeyId, Mode))
     requires { length line.old.bytes + 73 ≤ LINE_BYTES }
-    ensures text { line.new.bytes ≡ line.old.bytes ++ (codes " " ++ taken_text names.now lock.0 lock.1) }
+    ensures text { line.new.bytes ≡ line.old.bytes ++ (codes " " ++ taken_text names.now.names lock.0 lock.1) }
     ensures short { length line.new.bytes ≤ length line.old.bytes + 73 }
 {
     line.push_str(" ");
@@ -60,7 +60,7 @@ fn add_flags(line: &mut Line, flags: Flags)
 fn add_head(line: &mut Line, names: &KeyTable, chain: &Chain)
     requires { length line.old.bytes + 92 ≤ LINE_BYTES }
     ensures text { line.new.bytes
-        ≡ line.old.bytes ++ head_text names.now chain.now.new_lock chain.now.flags }
+        ≡ line.old.bytes ++ head_text names.now.names chain.now.new_lock chain.now.flags }
     ensures short { length line.new.bytes ≤ length line.old.bytes + 92 }
 {
     match chain.taken() {
@@ -79,7 +79,7 @@ fn add_head(line: &mut Line, names: &KeyTable, chain: &Chain)
 // The line of a chain.
 fn add_line(line: &mut Line, names: &KeyTable, chain: &Chain)
     requires { line.old.bytes ≡ [] }
-    ensures { line.new.bytes ≡ chain_line names.now chain.now }
+    ensures { line.new.bytes ≡ chain_line names.now.names chain.now }
 {
     add_head(line, names, chain);
     line.push_str(" held ");
@@ -99,10 +99,10 @@ fn add_line(line: &mut Line, names: &KeyTable, chain: &Chain)
 /// Refusals: O1 where the writer answers an error, O2 where it takes nothing. Exactly a beginning of the text was written
 /// then. Takes no memory.
 pub fn write_chains<W: Write>(w: &mut W, trace: &Trace, names: &KeyTable) -> Result<(), WriteFault>
-    ensures ok { OnOk result (Appends (W.contents w.old) (W.contents w.new) (chains_text names.now trace.now)) }
+    ensures ok { OnOk result (Appends (W.contents w.old) (W.contents w.new) (chains_text names.now.names trace.now)) }
     ensures not_memory { ¬ (result ≡ Err WriteFault.Memory) }
     ensures err { OnErr result (AppendsBeginning (W.contents w.old) (W.contents w.new)
-        (chains_text names.now trace.now)) }
+        (chains_text names.now.names trace.now)) }
 {
     // A law: what was written so far begins the text, wherever writing stops.
     one_more_event_adds_its_chain();

@@ -27,10 +27,10 @@ pub(crate) fn write_condensed<W: Write>(
     settled: &Settled,
     keys: &KeyTable,
 ) -> Result<(), ReportFault>
-    requires { settled.now.keys ≡ length keys.now }
-    ensures ok { OnOk result ((text : List ℕ) × IsCondensedText (HasFact settled.now) keys.now text
+    requires { settled.now.keys ≡ length keys.now.names }
+    ensures ok { OnOk result ((text : List ℕ) × IsCondensedText (HasFact settled.now) keys.now.names text
         × Appends (W.contents w.old) (W.contents w.new) text) }
-    ensures err { IfErr result (StopsSettled Wanted.Condensed (IsCondensedText (HasFact settled.now) keys.now)
+    ensures err { IfErr result (StopsSettled Wanted.Condensed (IsCondensedText (HasFact settled.now) keys.now.names)
         (W.contents w.old) (W.contents w.new)) }
 {
     let text = condensed_text(alloc, settled, keys)?;
@@ -42,8 +42,8 @@ pub(crate) fn write_condensed<W: Write>(
 
 // The text of the condensed trace.
 fn condensed_text(alloc: Global, settled: &Settled, keys: &KeyTable) -> Result<Vec<u8>, ReportFault>
-    requires { settled.now.keys ≡ length keys.now }
-    ensures ok { IfOk result (λ text. IsCondensedText (HasFact settled.now) keys.now text.items) }
+    requires { settled.now.keys ≡ length keys.now.names }
+    ensures ok { IfOk result (λ text. IsCondensedText (HasFact settled.now) keys.now.names text.items) }
     ensures err { IfErr result IsBeforeWriting }
 {
     let Ok(order) = sorted_keys(alloc, keys) else {

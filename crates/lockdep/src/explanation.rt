@@ -5,13 +5,13 @@ ghost use Rattle.std.specs.Io.KnownBytes.{Appends};
 ghost use Rattle.ld_trace.specs.Events.{KeysBelow};
 ghost use Rattle.ld_task.specs.WellFormed.{IsWellFormed};
 ghost use Rattle.ld_graph.specs.Arrows.{Arrow, arrow};
-ghost use Rattle.ld_graph.specs.FactBits.{HasFact};
+ghost use Rattle.ld_graph.specs.FactBits.{FactBelow, HasFact};
 ghost use Rattle.ld_graph.specs.Facts.{AreSame, DependenciesOf};
 ghost use Rattle.ld_graph.specs.Links.{IsDouble, IsInversion};
 ghost use Rattle.ld_graph.specs.declared.fact.Fact.{Fact};
 ghost use Rattle.ld_run.specs.TraceFacts.{TracesHave};
 ghost use Rattle.ld_run.specs.declared.runs.TheConstants.{MAX_TRACES};
-ghost use Rattle.ld_trace.specs.declared.key_id.TheConstants.{MAX_KEYS};
+ghost use Rattle.ld_trace.specs.declared.key_id.TheConstants.{MAX_MANY};
 ghost use Rattle.lockdep.specs.Explanation.{IsCircleBlock, IsDependencyLine, IsDoubleBlock, IsExplanation, IsInversionBlock, IsOriginLine, arrows_among, circle_head, comes_line, does_text, doubles_among, event_of, holds_line, inversions_among, lock_of, occurrence_text, waits_text, while_text};
 ghost use Rattle.lockdep.specs.Faults.{StopsWriting};
 ghost use Rattle.lockdep.specs.Groups.{GrowsBy, InTurn};
@@ -29,7 +29,7 @@ use crate::words::{file_of, irq_word, kind_word, mode_word, name_of};
 use ld_explain::{Origin, Origins};
 use ld_graph::{Fact, Facts, Kind, Mark, Walk};
 use ld_run::Settled;
-use ld_trace::{Event, Irq, KeyId, KeyTable, MAX_KEYS, RawTrace};
+use ld_trace::{Event, Irq, KeyId, KeyTable, RawTrace};
 use std::alloc::{AllocError, Global};
 use std::io::Write;
 use std::marker::Model;
@@ -56,7 +56,7 @@ impl<'a> Model for Teller<'a> {
 
     ghost view = { λ t. record {
       facts = t.settled.now;
-      told = record { traces = t.traces.now; names = t.names.now; files = map (λ file. file.now) t.files.now };
+      told = record { traces = t.traces.now; names = t.names.now.names; files = map (λ file. file.now) t.files.now };
     } };
 
     ghost invariant = { λ t. AreOriginsOf t.traces.now t.origins.now
@@ -299,7 +299,7 @@ impl Teller<'_> {
         to: KeyId,
         kind: Kind,
     ) -> Result<u32, AllocError>
-        requires { told.old.keys ≡ MAX_KEYS }
+        requires { told.old.keys ≡ self.now.facts.keys }
         ensures tells { IfOk result (TellsCircles self.now (arrow from to kind ∷ [])
             (string_bytes text.old) (string_bytes text.new) told.old told.new) }
         ensures few { IfOk result (λ count. count ≤ 1) }
@@ -326,7 +326,7 @@ impl Teller<'_> {
         from: KeyId,
         to: KeyId,
     ) -> Result<u32, AllocError>
-        requires { told.old.keys ≡ MAX_KEYS }
+        requires { told.old.keys ≡ self.now.facts.keys }
         ensures tells { IfOk result (TellsCircles self.now (map (arrow from to) kinds)
             (string_bytes text.old) (string_bytes text.new) told.old told.new) }
         ensures few { IfOk result (λ count. count ≤ 4) }
@@ -346,11 +346,11 @@ impl Teller<'_> {
         keys: &[KeyId],
         from: KeyId,
     ) -> Result<u32, AllocError>
-        requires bound { told.old.keys ≡ MAX_KEYS }
-        requires few { length keys.now ≤ MAX_KEYS }
+        requires bound { told.old.keys ≡ self.now.facts.keys }
+        requires few { length keys.now ≤ MAX_MANY }
         ensures tells { IfOk result (TellsCircles self.now (flat_map (λ to. map (arrow from to) kinds) keys.now)
             (string_bytes text.old) (string_bytes text.new) told.old told.new) }
-        ensures few { IfOk result (λ count. count ≤ 4 * MAX_KEYS) }
+        ensures few { IfOk result (λ count. count ≤ 4 * MAX_MANY) }
     {
         let mut count = 0;
         for to in keys {
@@ -366,11 +366,11 @@ impl Teller<'_> {
         told: &mut Facts,
         keys: &[KeyId],
     ) -> Result<u32, AllocError>
-        requires bound { told.old.keys ≡ MAX_KEYS }
-        requires few { length keys.now ≤ MAX_KEYS }
+        requires bound { told.old.keys ≡ self.now.facts.keys }
+        requires few { length keys.now ≤ MAX_MANY }
         ensures tells { IfOk result (TellsCircles self.now (arrows_among keys.now)
             (string_bytes text.old) (string_bytes text.new) told.old told.new) }
-        ensures few { IfOk result (λ count. count ≤ 4 * MAX_KEYS * MAX_KEYS) }
+        ensures few { IfOk result (λ count. count ≤ 4 * MAX_MANY * MAX_MANY) }
     {
         let mut count = 0;
         for from in keys {
@@ -438,11 +438,11 @@ impl Teller<'_> {
         keys: &[KeyId],
         irq: Irq,
     ) -> Result<u32, AllocError>
-        requires { length keys.now ≤ MAX_KEYS }
+        requires { length keys.now ≤ MAX_MANY }
         ensures tells { IfOk result (TellsThose (λ x. IsDouble (HasFact self.now.facts) x.0 x.1)
             (IsDoubleBlock (HasFact self.now.facts) self.now.told) (map (λ key. (irq, key)) keys.now)
             (string_bytes text.old) (string_bytes text.new)) }
-        ensures few { IfOk result (λ count. count ≤ MAX_KEYS) }
+        ensures few { IfOk result (λ count. count ≤ MAX_MANY) }
     {
         let mut count = 0;
         for key in keys {
@@ -453,11 +453,11 @@ impl Teller<'_> {
 
     // The blocks of the doubles.
     fn tell_doubles(&self, text: &mut String, keys: &[KeyId]) -> Result<u32, AllocError>
-        requires { length keys.now ≤ MAX_KEYS }
+        requires { length keys.now ≤ MAX_MANY }
         ensures tells { IfOk result (TellsThose (λ x. IsDouble (HasFact self.now.facts) x.0 x.1)
             (IsDoubleBlock (HasFact self.now.facts) self.now.told) (doubles_among keys.now)
             (string_bytes text.old) (string_bytes text.new)) }
-        ensures few { IfOk result (λ count. count ≤ 2 * MAX_KEYS) }
+        ensures few { IfOk result (λ count. count ≤ 2 * MAX_MANY) }
     {
         let mut count = 0;
         for irq in STATES {
@@ -535,11 +535,11 @@ impl Teller<'_> {
         irq: Irq,
         a: KeyId,
     ) -> Result<u32, AllocError>
-        requires { length keys.now ≤ MAX_KEYS }
+        requires { length keys.now ≤ MAX_MANY }
         ensures tells { IfOk result (TellsThose (λ x. IsInversion (HasFact self.now.facts) x.0 x.1.0 x.1.1)
             (IsInversionBlock (HasFact self.now.facts) self.now.told) (map (λ b. (irq, (a, b))) keys.now)
             (string_bytes text.old) (string_bytes text.new)) }
-        ensures few { IfOk result (λ count. count ≤ MAX_KEYS) }
+        ensures few { IfOk result (λ count. count ≤ MAX_MANY) }
     {
         let mut count = 0;
         for b in keys {
@@ -555,12 +555,12 @@ impl Teller<'_> {
         keys: &[KeyId],
         irq: Irq,
     ) -> Result<u32, AllocError>
-        requires { length keys.now ≤ MAX_KEYS }
+        requires { length keys.now ≤ MAX_MANY }
         ensures tells { IfOk result (TellsThose (λ x. IsInversion (HasFact self.now.facts) x.0 x.1.0 x.1.1)
             (IsInversionBlock (HasFact self.now.facts) self.now.told)
             (flat_map (λ a. map (λ b. (irq, (a, b))) keys.now) keys.now)
             (string_bytes text.old) (string_bytes text.new)) }
-        ensures few { IfOk result (λ count. count ≤ MAX_KEYS * MAX_KEYS) }
+        ensures few { IfOk result (λ count. count ≤ MAX_MANY * MAX_MANY) }
     {
         let mut count = 0;
         for a in keys {
@@ -571,11 +571,11 @@ impl Teller<'_> {
 
     // The blocks of the inversions.
     fn tell_inversions(&self, text: &mut String, keys: &[KeyId]) -> Result<u32, AllocError>
-        requires { length keys.now ≤ MAX_KEYS }
+        requires { length keys.now ≤ MAX_MANY }
         ensures tells { IfOk result (TellsThose (λ x. IsInversion (HasFact self.now.facts) x.0 x.1.0 x.1.1)
             (IsInversionBlock (HasFact self.now.facts) self.now.told) (inversions_among keys.now)
             (string_bytes text.old) (string_bytes text.new)) }
-        ensures few { IfOk result (λ count. count ≤ 2 * MAX_KEYS * MAX_KEYS) }
+        ensures few { IfOk result (λ count. count ≤ 2 * MAX_MANY * MAX_MANY) }
     {
         let mut count = 0;
         for irq in STATES {
@@ -586,9 +586,9 @@ impl Teller<'_> {
 
     // The blocks of all findings, and how many there are.
     fn tell(&self, text: &mut String, told: &mut Facts, keys: &[KeyId]) -> Result<u32, AllocError>
-        requires bound { told.old.keys ≡ MAX_KEYS }
+        requires bound { told.old.keys ≡ self.now.facts.keys }
         requires none { (x : Fact) → ¬ HasFact told.old x }
-        requires few { length keys.now ≤ MAX_KEYS }
+        requires few { length keys.now ≤ MAX_MANY }
         ensures { IfOk result (λ count. TellsAll self.now keys.now (string_bytes text.old) (string_bytes text.new) count) }
     {
         let circles = self.tell_circles(text, told, keys)?;
@@ -604,7 +604,7 @@ fn member(walk: &Walk, i: usize) -> (KeyId, KeyId, Kind)
     ensures { slice_get walk.now i ≡ Some (arrow result.0 result.1 result.2) }
 {
     match walk.get(i) {
-        Some((from, to, kind)) => match (KeyId::new(from), KeyId::new(to)) {
+        Some((from, to, kind)) => match (KeyId::of_many(from), KeyId::of_many(to)) {
             (Some(from), Some(to)) => (from, to, kind),
             _ => unreachable!(),
         },
@@ -612,9 +612,9 @@ fn member(walk: &Walk, i: usize) -> (KeyId, KeyId, Kind)
     }
 }
 
-// Adds the members of a walk to those that were told.
+// Adds the members of a walk, whose keys are below the bound, to those that were told.
 fn add_told(told: &mut Facts, walk: &Walk)
-    requires { told.old.keys ≡ MAX_KEYS }
+    requires { All (DependenciesOf (FactBelow told.old.keys)) walk.now }
     ensures keys { told.new.keys ≡ told.old.keys }
     ensures adds { (d : Arrow) → DependenciesOf (HasFact told.new) d
         ↔ (DependenciesOf (HasFact told.old) d ⊎ Contains walk.now d) }
@@ -638,17 +638,17 @@ fn text_of_findings(
     files: &[&str],
     keys: &[KeyId],
 ) -> Result<String, AllocError>
-    requires keys { IsKeyOrder names.now keys.now }
+    requires keys { IsKeyOrder names.now.names keys.now }
     requires few { length traces.now ≤ MAX_TRACES }
-    requires below { All (KeysBelow (length names.now)) traces.now }
+    requires below { All (KeysBelow (length names.now.names)) traces.now }
     requires well_formed { All IsWellFormed traces.now }
     requires facts { AreSame (HasFact settled.now) (TracesHave traces.now) }
     ensures { IfOk result (λ text. IsExplanation (HasFact settled.now)
-        (record { traces = traces.now; names = names.now; files = map (λ file. file.now) files.entry.now })
+        (record { traces = traces.now; names = names.now.names; files = map (λ file. file.now) files.entry.now })
         (string_bytes text)) }
 {
     let origins = Origins::of(alloc, traces, names.len() as u16)?;
-    let mut told = Facts::new(alloc, MAX_KEYS)?;
+    let mut told = Facts::new(alloc, settled.facts().keys())?;
     let teller = Teller {
         settled,
         origins: &origins,
@@ -673,11 +673,11 @@ fn explanation_text(
     files: &[&str],
 ) -> Result<String, AllocError>
     requires few { length traces.now ≤ MAX_TRACES }
-    requires below { All (KeysBelow (length names.now)) traces.now }
+    requires below { All (KeysBelow (length names.now.names)) traces.now }
     requires well_formed { All IsWellFormed traces.now }
     requires facts { AreSame (HasFact settled.now) (TracesHave traces.now) }
     ensures { IfOk result (λ text. IsExplanation (HasFact settled.now)
-        (record { traces = traces.now; names = names.now; files = map (λ file. file.now) files.entry.now })
+        (record { traces = traces.now; names = names.now.names; files = map (λ file. file.now) files.entry.now })
         (string_bytes text)) }
 {
     let keys = sorted_keys(alloc, names)?;
@@ -703,16 +703,16 @@ pub fn write_explanation<W: Write>(
     files: &[&str],
 ) -> Result<(), WriteFault>
     requires few { length traces.now ≤ MAX_TRACES }
-    requires below { All (KeysBelow (length names.now)) traces.now }
+    requires below { All (KeysBelow (length names.now.names)) traces.now }
     requires well_formed { All IsWellFormed traces.now }
     requires facts { AreSame (HasFact settled.now) (TracesHave traces.now) }
     ensures ok { OnOk result ((text : List ℕ)
         × IsExplanation (HasFact settled.now)
-        (record { traces = traces.now; names = names.now; files = map (λ file. file.now) files.entry.now }) text
+        (record { traces = traces.now; names = names.now.names; files = map (λ file. file.now) files.entry.now }) text
         × Appends (W.contents w.old) (W.contents w.new) text) }
     ensures err { IfErr result (StopsWriting
         (IsExplanation (HasFact settled.now)
-        (record { traces = traces.now; names = names.now; files = map (λ file. file.now) files.entry.now }))
+        (record { traces = traces.now; names = names.now.names; files = map (λ file. file.now) files.entry.now }))
         (W.contents w.old) (W.contents w.new)) }
 {
     match explanation_text(alloc, settled, traces, names, files) {

@@ -11,18 +11,18 @@ use std::cmp::Ordering;
 
 /// By the bytes of the names, and then by subclass.
 pub(crate) fn compare(keys: &KeyTable, a: KeyId, b: KeyId) -> Ordering
-    ensures { result ≡ name_cmp (name_at keys.now a) (name_at keys.now b) }
+    ensures { result ≡ name_cmp (name_at keys.now.names a) (name_at keys.now.names b) }
 {
     name_of(keys, a).cmp(&name_of(keys, b))
 }
 
 // All keys of the table, in order of their numbers.
 fn numbered_keys(alloc: Global, keys: &KeyTable) -> Result<Vec<KeyId>, AllocError>
-    ensures { IfOk result (λ all. all.items ≡ numbers_below (length keys.now)) }
+    ensures { IfOk result (λ all. all.items ≡ numbers_below (length keys.now.names)) }
 {
     let mut all = Vec::with_capacity(alloc, keys.len())?;
     for number in 0..keys.len() {
-        if let Some(key) = KeyId::new(number as u16) {
+        if let Some(key) = KeyId::of_many(number as u16) {
             all.push(key)?;
         }
     }
@@ -31,7 +31,7 @@ fn numbered_keys(alloc: Global, keys: &KeyTable) -> Result<Vec<KeyId>, AllocErro
 
 /// All keys of the table, in the order of their names.
 pub(crate) fn sorted_keys(alloc: Global, keys: &KeyTable) -> Result<Vec<KeyId>, AllocError>
-    ensures { IfOk result (λ sorted. IsKeyOrder keys.now sorted.items) }
+    ensures { IfOk result (λ sorted. IsKeyOrder keys.now.names sorted.items) }
 {
     let mut sorted = numbered_keys(alloc, keys)?;
     sorted.sort_unstable_by(|a, b| compare(keys, *a, *b));

@@ -135,7 +135,7 @@ impl PictureView<'_> {
     // A key as it stands between double quotes.
     fn add_key(self, text: &mut Vec<u8>, key: KeyId) -> Result<(), AllocError>
         ensures { OnOk result (text.new.items
-            ≡ text.old.items ++ quoted_key (name_at self.entry.names.now key)) }
+            ≡ text.old.items ++ quoted_key (name_at self.entry.names.now.names key)) }
     {
         let (name, sub) = name_of(self.names, key);
         add_name(text, name.as_bytes())?;
@@ -158,7 +158,7 @@ impl PictureView<'_> {
     // The line of a key.
     fn add_node(self, text: &mut Vec<u8>, key: KeyId, red: bool) -> Result<(), AllocError>
         ensures { OnOk result (GrowsBy
-            (IsNode (HasFact self.entry.settled.now) self.entry.names.now key red)
+            (IsNode (HasFact self.entry.settled.now) self.entry.names.now.names key red)
             text.old.items text.new.items) }
     {
         add(text, "  \"")?;
@@ -174,7 +174,7 @@ impl PictureView<'_> {
     // The line of a key, where it is shown.
     fn add_shown_key(self, text: &mut Vec<u8>, key: KeyId) -> Result<(), AllocError>
         ensures { OnOk result (GrowsBy
-            (ShowsKey (HasFact self.entry.settled.now) self.entry.names.now self.entry.keys.now self.entry.only key)
+            (ShowsKey (HasFact self.entry.settled.now) self.entry.names.now.names self.entry.keys.now self.entry.only key)
             text.old.items text.new.items) }
     {
         let red = self.is_found_key(key);
@@ -187,7 +187,7 @@ impl PictureView<'_> {
     // The lines of the keys.
     fn add_keys(self, text: &mut Vec<u8>) -> Result<(), AllocError>
         ensures { OnOk result (GrowsBy
-            (InTurn (ShowsKey (HasFact self.entry.settled.now) self.entry.names.now self.entry.keys.now
+            (InTurn (ShowsKey (HasFact self.entry.settled.now) self.entry.names.now.names self.entry.keys.now
             self.entry.only) self.entry.keys.now)
             text.old.items text.new.items) }
     {
@@ -206,7 +206,7 @@ impl PictureView<'_> {
         label: &str,
     ) -> Result<(), AllocError>
         ensures { OnOk result (text.new.items
-            ≡ text.old.items ++ arrow_text self.entry.names.now from to label.now) }
+            ≡ text.old.items ++ arrow_text self.entry.names.now.names from to label.now) }
     {
         add(text, "  \"")?;
         self.add_key(text, from)?;
@@ -226,7 +226,7 @@ impl PictureView<'_> {
         kind: Kind,
     ) -> Result<(), AllocError>
         ensures { OnOk result (GrowsBy
-            (ShowsEdge (HasFact self.entry.settled.now) self.entry.names.now self.entry.only (arrow from to kind))
+            (ShowsEdge (HasFact self.entry.settled.now) self.entry.names.now.names self.entry.only (arrow from to kind))
             text.old.items text.new.items) }
     {
         if !self.settled.has_dep(from.get(), to.get(), kind) {
@@ -243,7 +243,7 @@ impl PictureView<'_> {
     // The lines of the dependencies from the one key to the other.
     fn add_edges_to(self, text: &mut Vec<u8>, from: KeyId, to: KeyId) -> Result<(), AllocError>
         ensures { OnOk result (GrowsBy
-            (InTurn (λ kind. ShowsEdge (HasFact self.entry.settled.now) self.entry.names.now self.entry.only
+            (InTurn (λ kind. ShowsEdge (HasFact self.entry.settled.now) self.entry.names.now.names self.entry.only
             (arrow from to kind)) kinds)
             text.old.items text.new.items) }
     {
@@ -256,7 +256,7 @@ impl PictureView<'_> {
     // The lines of the dependencies from the key.
     fn add_edges_from(self, text: &mut Vec<u8>, from: KeyId) -> Result<(), AllocError>
         ensures { OnOk result (GrowsBy
-            (InTurn (λ to. InTurn (λ kind. ShowsEdge (HasFact self.entry.settled.now) self.entry.names.now
+            (InTurn (λ to. InTurn (λ kind. ShowsEdge (HasFact self.entry.settled.now) self.entry.names.now.names
             self.entry.only (arrow from to kind)) kinds) self.entry.keys.now)
             text.old.items text.new.items) }
     {
@@ -270,7 +270,7 @@ impl PictureView<'_> {
     fn add_edges(self, text: &mut Vec<u8>) -> Result<(), AllocError>
         ensures { OnOk result (GrowsBy
             (InTurn (λ from. InTurn (λ to. InTurn (λ kind. ShowsEdge (HasFact self.entry.settled.now)
-            self.entry.names.now self.entry.only (arrow from to kind)) kinds) self.entry.keys.now)
+            self.entry.names.now.names self.entry.only (arrow from to kind)) kinds) self.entry.keys.now)
             self.entry.keys.now)
             text.old.items text.new.items) }
     {
@@ -283,7 +283,7 @@ impl PictureView<'_> {
     // The line of a key to itself, where it is a double.
     fn add_double(self, text: &mut Vec<u8>, irq: Irq, key: KeyId) -> Result<(), AllocError>
         ensures { OnOk result (GrowsBy
-            (ShowsDoubleLink (HasFact self.entry.settled.now) self.entry.names.now irq key)
+            (ShowsDoubleLink (HasFact self.entry.settled.now) self.entry.names.now.names irq key)
             text.old.items text.new.items) }
     {
         if self.settled.is_double(irq, key.get()) {
@@ -296,7 +296,7 @@ impl PictureView<'_> {
     // The lines of the doubles of one state.
     fn add_doubles_of(self, text: &mut Vec<u8>, irq: Irq) -> Result<(), AllocError>
         ensures { OnOk result (GrowsBy
-            (InTurn (ShowsDoubleLink (HasFact self.entry.settled.now) self.entry.names.now irq) self.entry.keys.now)
+            (InTurn (ShowsDoubleLink (HasFact self.entry.settled.now) self.entry.names.now.names irq) self.entry.keys.now)
             text.old.items text.new.items) }
     {
         for key in self.keys {
@@ -308,7 +308,7 @@ impl PictureView<'_> {
     // The lines of the doubles.
     fn add_doubles(self, text: &mut Vec<u8>) -> Result<(), AllocError>
         ensures { OnOk result (GrowsBy
-            (InTurn (λ irq. InTurn (ShowsDoubleLink (HasFact self.entry.settled.now) self.entry.names.now irq)
+            (InTurn (λ irq. InTurn (ShowsDoubleLink (HasFact self.entry.settled.now) self.entry.names.now.names irq)
             self.entry.keys.now) states)
             text.old.items text.new.items) }
     {
@@ -327,7 +327,7 @@ impl PictureView<'_> {
         b: KeyId,
     ) -> Result<(), AllocError>
         ensures { OnOk result (GrowsBy
-            (ShowsInversionLink (HasFact self.entry.settled.now) self.entry.names.now irq a b)
+            (ShowsInversionLink (HasFact self.entry.settled.now) self.entry.names.now.names irq a b)
             text.old.items text.new.items) }
     {
         if self.settled.is_inversion(irq, a.get(), b.get()) {
@@ -340,7 +340,7 @@ impl PictureView<'_> {
     // The lines of the inversions of one state and one first key.
     fn add_inversions_from(self, text: &mut Vec<u8>, irq: Irq, a: KeyId) -> Result<(), AllocError>
         ensures { OnOk result (GrowsBy
-            (InTurn (ShowsInversionLink (HasFact self.entry.settled.now) self.entry.names.now irq a)
+            (InTurn (ShowsInversionLink (HasFact self.entry.settled.now) self.entry.names.now.names irq a)
             self.entry.keys.now)
             text.old.items text.new.items) }
     {
@@ -353,7 +353,7 @@ impl PictureView<'_> {
     // The lines of the inversions of one state.
     fn add_inversions_of(self, text: &mut Vec<u8>, irq: Irq) -> Result<(), AllocError>
         ensures { OnOk result (GrowsBy
-            (InTurn (λ a. InTurn (ShowsInversionLink (HasFact self.entry.settled.now) self.entry.names.now irq a)
+            (InTurn (λ a. InTurn (ShowsInversionLink (HasFact self.entry.settled.now) self.entry.names.now.names irq a)
             self.entry.keys.now) self.entry.keys.now)
             text.old.items text.new.items) }
     {
@@ -367,7 +367,7 @@ impl PictureView<'_> {
     fn add_inversions(self, text: &mut Vec<u8>) -> Result<(), AllocError>
         ensures { OnOk result (GrowsBy
             (InTurn (λ irq. InTurn (λ a. InTurn (ShowsInversionLink (HasFact self.entry.settled.now)
-            self.entry.names.now irq a) self.entry.keys.now) self.entry.keys.now) states)
+            self.entry.names.now.names irq a) self.entry.keys.now) self.entry.keys.now) states)
             text.old.items text.new.items) }
     {
         for irq in STATES {
@@ -384,7 +384,7 @@ fn picture_text(
     names: &KeyTable,
     findings: bool,
 ) -> Result<Vec<u8>, AllocError>
-    ensures { IfOk result (λ text. IsPicture (HasFact settled.now) findings names.now text.items) }
+    ensures { IfOk result (λ text. IsPicture (HasFact settled.now) findings names.now.names text.items) }
 {
     let keys = sorted_keys(alloc, names)?;
     let keys = keys.as_slice();
@@ -416,9 +416,9 @@ pub fn write_picture<W: Write>(
     names: &KeyTable,
     findings: bool,
 ) -> Result<(), WriteFault>
-    ensures ok { OnOk result ((text : List ℕ) × IsPicture (HasFact settled.now) findings names.now text
+    ensures ok { OnOk result ((text : List ℕ) × IsPicture (HasFact settled.now) findings names.now.names text
         × Appends (W.contents w.old) (W.contents w.new) text) }
-    ensures err { IfErr result (StopsWriting (IsPicture (HasFact settled.now) findings names.now)
+    ensures err { IfErr result (StopsWriting (IsPicture (HasFact settled.now) findings names.now.names)
         (W.contents w.old) (W.contents w.new)) }
 {
     match picture_text(alloc, settled, names, findings) {

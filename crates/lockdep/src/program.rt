@@ -6,6 +6,7 @@ ghost use Rattle.ld_trace.specs.Events.{KeysBelow};
 ghost use Rattle.ld_trace.specs.Reading.{ReadsTo};
 ghost use Rattle.ld_trace.specs.declared.event.Event.{Event};
 ghost use Rattle.ld_task.specs.WellFormed.{IsFirstFault, IsWellFormed};
+ghost use Rattle.ld_trace.specs.declared.key_id.TheConstants.{MAX_KEYS};
 ghost use Rattle.ld_trace.specs.declared.raw_trace.TheConstants.{MAX_EVENTS};
 ghost use Rattle.lockdep.specs.Inside.Sources.{remaining_in};
 ghost use Rattle.lockdep.specs.ChainLines.{chains_text};
@@ -279,6 +280,7 @@ fn add_traces<'a, R: Files, I: Read + Drop>(
     files: &[&'a str],
     input: I,
 ) -> Result<(), Refusal<'a>>
+    requires room { session.old.room ≡ MAX_KEYS }
     requires no_names { session.old.names ≡ [] }
     requires no_traces { session.old.traces ≡ [] }
     ensures ok { OnOk result (AreTracesOf (map (λ file. file.now) files.entry.now) (I.remaining input)
@@ -331,9 +333,10 @@ fn add_trace<'a, I: Read + Drop, F: Read + Drop>(
     opened: Source<I, F>,
 ) -> Result<(), Refusal<'a>>
     ensures ok { OnOk result ((trace : List Event) × (session.new.traces ≡ session.old.traces ++ trace ∷ [])
-        × IfSome (remaining_in I.remaining F.remaining opened) (λ bytes. ReadsTo session.old.names bytes session.new.names trace)) }
+        × IfSome (remaining_in I.remaining F.remaining opened)
+        (λ bytes. ReadsTo session.old.room session.old.names bytes session.new.names trace)) }
     ensures below { All (KeysBelow (length session.new.names)) session.new.traces }
-    ensures err { IfErr result (IsReadingRefusal file.entry.now session.old.names
+    ensures err { IfErr result (IsReadingRefusal file.entry.now session.old.room session.old.names
         (remaining_in I.remaining F.remaining opened)) }
 {
     match session.add(opened) {
@@ -393,8 +396,8 @@ fn answer_trace<'a, O: Write>(
     out: &mut O,
 ) -> Result<u8, Refusal<'a>>
     ensures ok { IfOk result (λ status. IsWellFormed read × (status ≡ 0)
-        × Appends (O.contents out.old) (O.contents out.new) (chains_text keys.now read)) }
-    ensures err { IfErr result (RefusesTrace file.entry.now keys.now read (O.contents out.old) (O.contents out.new)) }
+        × Appends (O.contents out.old) (O.contents out.new) (chains_text keys.now.names read)) }
+    ensures err { IfErr result (RefusesTrace file.entry.now keys.now.names read (O.contents out.old) (O.contents out.new)) }
 {
     let trace = match check(read) {
         Ok(trace) => trace,

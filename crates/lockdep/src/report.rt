@@ -53,7 +53,7 @@ impl ReportView<'_> {
         kind: Kind,
     ) -> Result<(), AllocError>
         ensures { OnOk result (GrowsBy
-            (ShowsCircle (HasFact self.entry.settled.now) self.entry.names.now from to kind)
+            (ShowsCircle (HasFact self.entry.settled.now) self.entry.names.now.names from to kind)
             (string_bytes text.old) (string_bytes text.new)) }
     {
         if self.settled.on_circle(from.get(), to.get(), kind) {
@@ -71,7 +71,7 @@ impl ReportView<'_> {
     // The circle lines of the dependencies from the one key to the other.
     fn add_circles_to(self, text: &mut String, from: KeyId, to: KeyId) -> Result<(), AllocError>
         ensures { OnOk result (GrowsBy
-            (InTurn (ShowsCircle (HasFact self.entry.settled.now) self.entry.names.now from to) kinds)
+            (InTurn (ShowsCircle (HasFact self.entry.settled.now) self.entry.names.now.names from to) kinds)
             (string_bytes text.old) (string_bytes text.new)) }
     {
         for kind in KINDS {
@@ -83,7 +83,7 @@ impl ReportView<'_> {
     // The circle lines of the dependencies from the key.
     fn add_circles_from(self, text: &mut String, from: KeyId) -> Result<(), AllocError>
         ensures { OnOk result (GrowsBy
-            (InTurn (λ to. InTurn (ShowsCircle (HasFact self.entry.settled.now) self.entry.names.now from to) kinds)
+            (InTurn (λ to. InTurn (ShowsCircle (HasFact self.entry.settled.now) self.entry.names.now.names from to) kinds)
             self.entry.keys.now)
             (string_bytes text.old) (string_bytes text.new)) }
     {
@@ -96,7 +96,7 @@ impl ReportView<'_> {
     // The circle lines.
     fn add_circles(self, text: &mut String) -> Result<(), AllocError>
         ensures { OnOk result (GrowsBy
-            (AreCircles (HasFact self.entry.settled.now) self.entry.names.now self.entry.keys.now)
+            (AreCircles (HasFact self.entry.settled.now) self.entry.names.now.names self.entry.keys.now)
             (string_bytes text.old) (string_bytes text.new)) }
     {
         for from in self.keys {
@@ -108,7 +108,7 @@ impl ReportView<'_> {
     // The line of a shortest circle, where there is one.
     fn add_because(self, text: &mut String) -> Result<(), AllocError>
         ensures { OnOk result (GrowsBy
-            (ShowsBecause (HasFact self.entry.settled.now) self.entry.names.now)
+            (ShowsBecause (HasFact self.entry.settled.now) self.entry.names.now.names)
             (string_bytes text.old) (string_bytes text.new)) }
     {
         ld_graph::shortest_circles_turn();
@@ -121,7 +121,7 @@ impl ReportView<'_> {
     // The line of a key, where it is used both in a state and with it enabled.
     fn add_double(self, text: &mut String, irq: Irq, key: KeyId) -> Result<(), AllocError>
         ensures { OnOk result (GrowsBy
-            (ShowsDouble (HasFact self.entry.settled.now) self.entry.names.now irq key)
+            (ShowsDouble (HasFact self.entry.settled.now) self.entry.names.now.names irq key)
             (string_bytes text.old) (string_bytes text.new)) }
     {
         if self.settled.is_double(irq, key.get()) {
@@ -135,7 +135,7 @@ impl ReportView<'_> {
     // The double lines of one state.
     fn add_doubles_of(self, text: &mut String, irq: Irq) -> Result<(), AllocError>
         ensures { OnOk result (GrowsBy
-            (InTurn (ShowsDouble (HasFact self.entry.settled.now) self.entry.names.now irq) self.entry.keys.now)
+            (InTurn (ShowsDouble (HasFact self.entry.settled.now) self.entry.names.now.names irq) self.entry.keys.now)
             (string_bytes text.old) (string_bytes text.new)) }
     {
         for key in self.keys {
@@ -147,7 +147,7 @@ impl ReportView<'_> {
     // The double lines.
     fn add_doubles(self, text: &mut String) -> Result<(), AllocError>
         ensures { OnOk result (GrowsBy
-            (AreDoubles (HasFact self.entry.settled.now) self.entry.names.now self.entry.keys.now)
+            (AreDoubles (HasFact self.entry.settled.now) self.entry.names.now.names self.entry.keys.now)
             (string_bytes text.old) (string_bytes text.new)) }
     {
         for irq in STATES {
@@ -165,7 +165,7 @@ impl ReportView<'_> {
         b: KeyId,
     ) -> Result<(), AllocError>
         ensures { OnOk result (GrowsBy
-            (ShowsInversion (HasFact self.entry.settled.now) self.entry.names.now irq a b)
+            (ShowsInversion (HasFact self.entry.settled.now) self.entry.names.now.names irq a b)
             (string_bytes text.old) (string_bytes text.new)) }
     {
         if self.settled.is_inversion(irq, a.get(), b.get()) {
@@ -181,7 +181,7 @@ impl ReportView<'_> {
     fn add_inversions_from(self, text: &mut String, irq: Irq, a: KeyId) -> Result<(), AllocError>
         ensures { OnOk result (GrowsBy
             (InTurn (ShowsInversion (HasFact self.entry.settled.now)
-            self.entry.names.now irq a) self.entry.keys.now)
+            self.entry.names.now.names irq a) self.entry.keys.now)
             (string_bytes text.old) (string_bytes text.new)) }
     {
         for b in self.keys {
@@ -194,7 +194,7 @@ impl ReportView<'_> {
     fn add_inversions_of(self, text: &mut String, irq: Irq) -> Result<(), AllocError>
         ensures { OnOk result (GrowsBy
             (InTurn (λ a. InTurn (ShowsInversion (HasFact self.entry.settled.now)
-            self.entry.names.now irq a) self.entry.keys.now) self.entry.keys.now)
+            self.entry.names.now.names irq a) self.entry.keys.now) self.entry.keys.now)
             (string_bytes text.old) (string_bytes text.new)) }
     {
         for a in self.keys {
@@ -207,7 +207,7 @@ impl ReportView<'_> {
     fn add_inversions(self, text: &mut String) -> Result<(), AllocError>
         ensures { OnOk result (GrowsBy
             (AreInversions (HasFact self.entry.settled.now)
-            self.entry.names.now self.entry.keys.now)
+            self.entry.names.now.names self.entry.keys.now)
             (string_bytes text.old) (string_bytes text.new)) }
     {
         for irq in STATES {
@@ -231,7 +231,7 @@ impl ReportView<'_> {
     // The usage line of a key.
     fn add_usage_line(self, text: &mut String, key: KeyId) -> Result<(), AllocError>
         ensures { OnOk result (GrowsBy
-            (IsUsageLine (HasFact self.entry.settled.now) self.entry.names.now key)
+            (IsUsageLine (HasFact self.entry.settled.now) self.entry.names.now.names key)
             (string_bytes text.old) (string_bytes text.new)) }
     {
         let (name, sub) = name_of(self.names, key);
@@ -244,7 +244,7 @@ impl ReportView<'_> {
     // The usage lines.
     fn add_usage(self, text: &mut String) -> Result<(), AllocError>
         ensures { OnOk result (GrowsBy
-            (InTurn (IsUsageLine (HasFact self.entry.settled.now) self.entry.names.now) self.entry.keys.now)
+            (InTurn (IsUsageLine (HasFact self.entry.settled.now) self.entry.names.now.names) self.entry.keys.now)
             (string_bytes text.old) (string_bytes text.new)) }
     {
         for key in self.keys {
@@ -257,7 +257,7 @@ impl ReportView<'_> {
     fn add_totals(self, text: &mut String, traces: usize, events: u128) -> Result<(), AllocError>
         ensures { OnOk result (GrowsBy
             (AreTotals (HasFact self.entry.settled.now) traces events
-            (length self.entry.names.now))
+            (length self.entry.names.now.names))
             (string_bytes text.old) (string_bytes text.new)) }
     {
         add_total(text, "traces", traces as u128)?;
@@ -276,7 +276,7 @@ fn report_text(
     traces: usize,
     events: u128,
 ) -> Result<String, AllocError>
-    ensures { IfOk result (λ text. IsReport (HasFact settled.now) traces events names.now
+    ensures { IfOk result (λ text. IsReport (HasFact settled.now) traces events names.now.names
         (string_bytes text)) }
 {
     let keys = sorted_keys(alloc, names)?;
@@ -344,10 +344,10 @@ pub fn write_report<W: Write>(
 ) -> Result<(), WriteFault>
     ensures ok { OnOk result ((text : List ℕ)
         × IsReport (HasFact settled.now) (length traces.now) (sum_by length traces.now)
-        names.now text
+        names.now.names text
         × Appends (W.contents w.old) (W.contents w.new) text) }
     ensures err { IfErr result (StopsWriting
-        (IsReport (HasFact settled.now) (length traces.now) (sum_by length traces.now) names.now)
+        (IsReport (HasFact settled.now) (length traces.now) (sum_by length traces.now) names.now.names)
         (W.contents w.old) (W.contents w.new)) }
 {
     let events = event_count(traces);

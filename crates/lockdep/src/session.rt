@@ -9,8 +9,7 @@ ghost use Rattle.ld_trace.specs.Events.{KeysBelow};
 ghost use Rattle.ld_trace.specs.Reading.{ReadsTo, StopsAt};
 ghost use Rattle.ld_task.specs.WellFormed.{IsWellFormed};
 ghost use Rattle.ld_graph.specs.Links.{IsClean};
-ghost use Rattle.ld_run.specs.Runs.{IsCrew, StopsRun};
-ghost use Rattle.ld_run.specs.declared.runs.TheConstants.{MAX_TRACES};
+ghost use Rattle.ld_run.specs.Runs.{CompletesRun, IsCrew, StopsRun};
 ghost use Rattle.ld_graph.specs.FactBits.{HasFact};
 ghost use Rattle.ld_graph.specs.Facts.{AreSame};
 ghost use Rattle.lockdep.specs.Condensed.{IsCondensedOf};
@@ -28,8 +27,10 @@ use crate::fault::{ReportFault, WriteFault};
 use crate::picture::write_picture;
 use crate::report::write_report;
 use crate::wanted::Wanted;
-use ld_run::{Gate, RunFault, Settled, run};
-use ld_trace::{KeyFault, KeyTable, RawTrace, TraceFault, TraceFaultKind, read_trace};
+use ld_run::{Gate, MAX_TRACES, MAX_WORKERS, RunFault, Settled, run};
+use ld_trace::{
+    KeyFault, KeyTable, MAX_KEYS, MAX_MANY, RawTrace, TraceFault, TraceFaultKind, read_trace,
+};
 use std::alloc::Global;
 use std::io::{Read, Write};
 use std::marker::Model;
@@ -51,18 +52,27 @@ impl Model for Session {
 
     ghost Value = { SessionParts };
 
-    ghost view = { λ s. record { names = s.keys; traces = s.traces.items } };
+    ghost view = { λ s. record { room = s.keys.room; names = s.keys.names; traces = s.traces.items } };
 
-    ghost invariant = { λ s. All (KeysBelow (length s.keys)) s.traces.items };
+    ghost invariant = { λ s. All (KeysBelow (length s.keys.names)) s.traces.items };
 }
 
 impl Session {
-    /// A session without traces. K4 is the only refusal that its type leaves room for.
+    /// A session without traces, with room for the names of 256 keys. K4 is the only refusal that its type leaves room for.
     pub fn new(alloc: Global) -> Result<Session, KeyFault>
-        ensures { IsOkAnd result (λ session. session ≡ record { names = []; traces = [] }) }
+        ensures { IsOkAnd result (λ session. session ≡ record { room = MAX_KEYS; names = []; traces = [] }) }
+    {
+        Session::with_room(alloc, MAX_KEYS)
+    }
+
+    /// A session without traces, with room for the names of `room` keys, at most `MAX_MANY`. K4 is the only refusal that its
+    /// type leaves room for.
+    pub fn with_room(alloc: Global, room: u16) -> Result<Session, KeyFault>
+        requires { room ≤ MAX_MANY }
+        ensures { IsOkAnd result (λ session. session ≡ record { room = room; names = []; traces = [] }) }
     {
         Ok(Session {
-            keys: KeyTable::new(alloc)?,
+            keys: KeyTable::with_room(alloc, room)?,
             traces: Vec::new(alloc),
             alloc,
         })
@@ -73,10 +83,11 @@ impl Session {
     /// the keys of the events before the refused record have numbers.
     pub fn add<R: Read + Drop>(&mut self, reader: R) -> Result<(), TraceFault>
         ensures ok { IfOk result (λ _. (trace : List Event) × (self.new.traces ≡ self.old.traces ++ trace ∷ [])
-            × IfSome (R.remaining reader) (λ bytes. ReadsTo self.old.names bytes self.new.names trace)) }
+            × IfSome (R.remaining reader) (λ bytes. ReadsTo self.old.room self.old.names bytes self.new.names trace)) }
         ensures refused { IfErr result (λ fault. (self.new.traces ≡ self.old.traces)
-            × IfSome (R.remaining reader) (λ bytes. StopsAt self.old.names bytes self.new.names fault)) }
+            × IfSome (R.remaining reader) (λ bytes. StopsAt self.old.room self.old.names bytes self.new.names fault)) }
         ensures below { All (KeysBelow (length self.new.names)) self.new.traces }
+        ensures room { self.new.room ≡ self.old.room }
     {
         read_into(self.alloc, reader, &mut self.keys, &mut self.traces)
     }
@@ -86,7 +97,7 @@ impl Session {
     /// chain. The session is consumed in every case.
     ///
     /// Refusals, in this order: `Run` with N1 where `workers` isn't 1 to 64, with N2 where there are more than 4,096 traces
-    /// and with N4 where memory for the run is refused; `Step` with the least trace that isn't well formed, the record of its
+    /// and with N4 where memory for the run is refused or more than 256 keys have names; `Step` with the least trace that isn't well formed, the record of its
     /// first event that isn't allowed and why; `Run` with N3 where the workers don't agree on the facts; `Out` where writing
     /// failed. Nothing was written before `Out` and after O3, and exactly a beginning of the report after O1 and O2 [this
     /// project's own].
@@ -237,11 +248,12 @@ fn read_into<R: Read + Drop>(
     traces: &mut Vec<RawTrace>,
 ) -> Result<(), TraceFault>
     ensures ok { IfOk result (λ _. (trace : List Event) × (traces.new.items ≡ traces.old.items ++ trace ∷ [])
-        × KeysBelow (length keys.new) trace
-        × IfSome (R.remaining reader) (λ bytes. ReadsTo keys.old bytes keys.new trace)) }
+        × KeysBelow (length keys.new.names) trace
+        × IfSome (R.remaining reader) (λ bytes. ReadsTo keys.old.room keys.old.names bytes keys.new.names trace)) }
     ensures refused { IfErr result (λ fault. (traces.new.items ≡ traces.old.items)
-        × IfSome (R.remaining reader) (λ bytes. StopsAt keys.old bytes keys.new fault)) }
-    ensures kept { (added : List Name) × (keys.new ≡ keys.old ++ added) }
+        × IfSome (R.remaining reader) (λ bytes. StopsAt keys.old.room keys.old.names bytes keys.new.names fault)) }
+    ensures kept { (added : List Name) × (keys.new.names ≡ keys.old.names ++ added) }
+    ensures room { keys.new.room ≡ keys.old.room }
 {
     if traces.reserve(1).is_err() {
         return Err(no_room());
@@ -258,7 +270,7 @@ fn read_into<R: Read + Drop>(
 // The fault where the room for a trace is refused.
 fn no_room() -> TraceFault
     ensures fault { result ≡ record { kind = TraceFaultKind.Memory; at = 1 } }
-    ensures stops { (names : List Name) (bytes : List ℕ) → StopsAt names bytes names result }
+    ensures stops { (room : ℕ) (names : List Name) (bytes : List ℕ) → StopsAt room names bytes names result }
 {
     TraceFault {
         kind: TraceFaultKind::Memory,
@@ -278,18 +290,52 @@ fn write_traces<R: Threads + Wait + Sync, W: Write, G: Gate + Sync>(
     traces: &[RawTrace],
     keys: &KeyTable,
 ) -> Result<bool, ReportFault>
-    requires { All (KeysBelow (length keys.now)) traces.now }
+    requires { All (KeysBelow (length keys.now.names)) traces.now }
     ensures ok { IfOk result (λ clean. All IsWellFormed traces.now
         × (IsTrue clean ↔ IsClean (TracesHave traces.now))
-        × ((text : List ℕ) × IsTextOf wanted traces.now keys.now (map (λ file. file.now) files.entry.now) text
+        × ((text : List ℕ) × IsTextOf wanted traces.now keys.now.names (map (λ file. file.now) files.entry.now) text
         × Appends (W.contents w.old) (W.contents w.new) text)) }
     ensures crew { OnOk result (IsCrew workers × (length traces.now ≤ MAX_TRACES)) }
-    ensures refused { IfErr result (StopsText wanted traces.now keys.now
+    ensures refused { IfErr result (StopsText wanted traces.now keys.now.names
         (map (λ file. file.now) files.entry.now) workers (W.contents w.old) (W.contents w.new)) }
 {
-    match run(rt, alloc, traces, keys.len() as u16, workers, gate) {
+    match settled_of(rt, alloc, workers, gate, traces, keys) {
         Ok(settled) => write_settled(alloc, w, wanted, &settled, traces, keys, files),
         Err(fault) => Err(run_fault(fault, traces)),
+    }
+}
+
+// The settled facts of the traces. Of more than 256 keys none are made yet: the run is refused then as if memory were.
+fn settled_of<R: Threads + Wait + Sync, G: Gate + Sync>(
+    rt: &R,
+    alloc: Global,
+    workers: u16,
+    gate: &G,
+    traces: &[RawTrace],
+    keys: &KeyTable,
+) -> Result<Settled, RunFault>
+    requires { All (KeysBelow (length keys.now.names)) traces.now }
+    ensures ok { IfOk result (CompletesRun traces.now workers) }
+    ensures keys { IfOk result (λ settled. settled.keys ≡ length keys.now.names) }
+    ensures refused { IfErr result (StopsRun traces.now workers) }
+{
+    let count = keys.len() as u16;
+    if count > MAX_KEYS {
+        return Err(fault_of_many(workers, traces));
+    }
+    run(rt, alloc, traces, count, workers, gate)
+}
+
+// The fault of a run of more than 256 keys: N1 and N2 where a run of fewer has them, and else N4.
+fn fault_of_many(workers: u16, traces: &[RawTrace]) -> RunFault
+    ensures { StopsRun traces.now workers result }
+{
+    if workers == 0 || workers > MAX_WORKERS {
+        RunFault::BadWorkers
+    } else if traces.len() > MAX_TRACES {
+        RunFault::TooManyTraces
+    } else {
+        RunFault::Memory
     }
 }
 
@@ -336,16 +382,16 @@ fn write_settled<W: Write>(
     keys: &KeyTable,
     files: &[&str],
 ) -> Result<bool, ReportFault>
-    requires below { All (KeysBelow (length keys.now)) traces.now }
+    requires below { All (KeysBelow (length keys.now.names)) traces.now }
     requires few { length traces.now ≤ MAX_TRACES }
     requires well_formed { All IsWellFormed traces.now }
     requires facts { AreSame (HasFact settled.now) (TracesHave traces.now) }
-    requires keys { settled.now.keys ≡ length keys.now }
+    requires keys { settled.now.keys ≡ length keys.now.names }
     ensures ok { IfOk result (λ clean. (IsTrue clean ↔ IsClean (TracesHave traces.now))
-        × ((text : List ℕ) × IsTextOf wanted traces.now keys.now (map (λ file. file.now) files.entry.now) text
+        × ((text : List ℕ) × IsTextOf wanted traces.now keys.now.names (map (λ file. file.now) files.entry.now) text
         × Appends (W.contents w.old) (W.contents w.new) text)) }
     ensures refused { IfErr result (StopsSettled wanted
-        (IsTextOf wanted traces.now keys.now (map (λ file. file.now) files.entry.now))
+        (IsTextOf wanted traces.now keys.now.names (map (λ file. file.now) files.entry.now))
         (W.contents w.old) (W.contents w.new)) }
 {
     match write_text_of(alloc, w, wanted, settled, traces, keys, files) {
@@ -364,16 +410,16 @@ fn write_text_of<W: Write>(
     keys: &KeyTable,
     files: &[&str],
 ) -> Result<(), ReportFault>
-    requires below { All (KeysBelow (length keys.now)) traces.now }
+    requires below { All (KeysBelow (length keys.now.names)) traces.now }
     requires few { length traces.now ≤ MAX_TRACES }
     requires well_formed { All IsWellFormed traces.now }
     requires facts { AreSame (HasFact settled.now) (TracesHave traces.now) }
-    requires keys { settled.now.keys ≡ length keys.now }
+    requires keys { settled.now.keys ≡ length keys.now.names }
     ensures ok { OnOk result ((text : List ℕ)
-        × IsTextOf wanted traces.now keys.now (map (λ file. file.now) files.entry.now) text
+        × IsTextOf wanted traces.now keys.now.names (map (λ file. file.now) files.entry.now) text
         × Appends (W.contents w.old) (W.contents w.new) text) }
     ensures err { IfErr result (StopsSettled wanted
-        (IsTextOf wanted traces.now keys.now (map (λ file. file.now) files.entry.now))
+        (IsTextOf wanted traces.now keys.now.names (map (λ file. file.now) files.entry.now))
         (W.contents w.old) (W.contents w.new)) }
 {
     match wanted {

@@ -20,7 +20,7 @@ pub(crate) fn file_of<'a>(files: &[&'a str], place: usize) -> &'a str
 
 /// The class's name and the subclass of a key; an empty name where there is no such key.
 pub(crate) fn name_of(keys: &KeyTable, key: KeyId) -> (&str, u8)
-    ensures name { (result.0.now, result.1) ≡ name_at keys.now key }
+    ensures name { (result.0.now, result.1) ≡ name_at keys.now.names key }
     ensures short { length result.0.now ≤ MAX_NAME }
 {
     keys.name_of(key).unwrap_or(("", 0))

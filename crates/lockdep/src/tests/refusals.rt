@@ -40,6 +40,18 @@ fn a_257th_key(rt: HostRuntime) -> Result<(), Fail> {
 }
 
 #[test]
+fn a_third_key_where_there_is_room_for_two(rt: HostRuntime) -> Result<(), Fail> {
+    let mut session = Session::with_room(rt.alloc(), 2)?;
+    let fault = TraceFault {
+        kind: TraceFaultKind::TooManyKeys,
+        at: 4,
+    };
+    let text = b"lockdep,1\nacq,A,0,w\nacq,B,0,w\nacq,C,0,w\n";
+    assert_eq!(rt; session.add(text.as_slice()), Err(fault));
+    Ok(())
+}
+
+#[test]
 fn traces_that_are_not_well_formed(rt: HostRuntime) -> Result<(), Fail> {
     let examples = [
         ("rel,A,0", 2, StepFault::NotHeld),

@@ -10,7 +10,7 @@ use Rattle.lockdep.proofs.because.least_start.Goals as goal
 use Rattle.lockdep.proofs.because.least_start.Goals.{then-is_lt, else-is_lt}
 
 pub loop-i-init : goal.loop-i-init
-loop-i-init c = IsFirstBest-none (starts_before_ranks c.args.names.now) c.args.circle.now
+loop-i-init c = IsFirstBest-none (starts_before_ranks c.args.names.now.names) c.args.circle.now
 
 pub loop-i-preserved : goal.loop-i-preserved
 loop-i-preserved c =
@@ -19,10 +19,10 @@ loop-i-preserved c =
     let here = sym (get_or_from_slice_get c.args.circle.now c.loop-i.i x x c.member-key.ensures) in
     let there = sym (get_or_from_slice_get c.args.circle.now c.loop-i.least y y c.member-least_key.ensures) in
     let within : c.loop-i.i < length c.args.circle.now = let l = c.loop-i-test.true in let e = c.len-i-end.ensures.exact in omega arith in
-    let beats : starts_before c.args.names.now x y ≡ c.is_lt.result = ap is_lt (sym c.compare.ensures) ∙ sym c.is_lt.ensures in
+    let beats : starts_before c.args.names.now.names x y ≡ c.is_lt.result = ap is_lt (sym c.compare.ensures) ∙ sym c.is_lt.ensures in
     elim c.if-is_lt.branch [
-      | then-is_lt w ↦ subst (IsFirstBest (starts_before c.args.names.now) c.args.circle.now (c.loop-i.i + 1)) (sym w.least-is)
-          (IsFirstBest-takes (starts_before_ranks c.args.names.now) c.args.circle.now c.loop-i.i c.loop-i.least x y c.loop-i.invariant within here there (beats ∙ w.if-is_lt.true))
-      | else-is_lt w ↦ subst (IsFirstBest (starts_before c.args.names.now) c.args.circle.now (c.loop-i.i + 1)) (sym w.least-is)
-          (IsFirstBest-keeps (starts_before_ranks c.args.names.now) c.args.circle.now c.loop-i.i c.loop-i.least x y c.loop-i.invariant within here there (beats ∙ w.if-is_lt.false))
+      | then-is_lt w ↦ subst (IsFirstBest (starts_before c.args.names.now.names) c.args.circle.now (c.loop-i.i + 1)) (sym w.least-is)
+          (IsFirstBest-takes (starts_before_ranks c.args.names.now.names) c.args.circle.now c.loop-i.i c.loop-i.least x y c.loop-i.invariant within here there (beats ∙ w.if-is_lt.true))
+      | else-is_lt w ↦ subst (IsFirstBest (starts_before c.args.names.now.names) c.args.circle.now (c.loop-i.i + 1)) (sym w.least-is)
+          (IsFirstBest-keeps (starts_before_ranks c.args.names.now.names) c.args.circle.now c.loop-i.i c.loop-i.least x y c.loop-i.invariant within here there (beats ∙ w.if-is_lt.false))
     ]

@@ -4,4 +4,4 @@ use Rattle.lockdep.proofs.because.least_start.Given as goal
 
 -- the least so far
 abbrev pub invariant-loop-i : goal.invariant-loop-i
-invariant-loop-i l = IsFirstBest (starts_before l.names) l.circle l.i l.least
+invariant-loop-i l = IsFirstBest (starts_before l.names.names) l.circle l.i l.least

@@ -20,7 +20,7 @@ loop-place-preserved c =
     let within : c.loop-place.place < length locks = omega (arith, c.held_len-place-end.ensures.exact) in
     record {
       text = longer _ _ _ (codes " held ") (decimal (length locks)) _ _ _ c.loop-place.invariant.text c.add_lock.ensures.text
-          (locks_text-next c.args.names.now locks c.loop-place.place _ (sym c.held.ensures ∙ c.in-Some.is) within);
+          (locks_text-next c.args.names.now.names locks c.loop-place.place _ (sym c.held.ensures ∙ c.in-Some.is) within);
       short = omega (arith, c.add_lock.ensures.short, c.loop-place.invariant.short);
     }
 
@@ -28,8 +28,8 @@ pub returns : goal.returns
 unfolding chain_line
 returns c =
     let locks = c.args.chain.now.held_locks in
-    let head = head_text c.args.names.now c.args.chain.now.new_lock c.args.chain.now.flags in
+    let head = head_text c.args.names.now.names c.args.chain.now.new_lock c.args.chain.now.flags in
     let all : take c.loop-place.place locks ≡ locks = take_all c.loop-place.place locks (omega (arith, c.held_len-place-end.ensures.exact)) in
     c.push_str-3.ensures.bytes
-    ∙ ap (λ t. t ++ codes "\n") (c.loop-place.invariant.text ∙ ap (λ xs. head ++ (codes " held " ++ (decimal (length locks) ++ flat_map (lock_text c.args.names.now) xs))) all)
-    ∙ append_assoc head (held_text c.args.names.now locks) (codes "\n")
+    ∙ ap (λ t. t ++ codes "\n") (c.loop-place.invariant.text ∙ ap (λ xs. head ++ (codes " held " ++ (decimal (length locks) ++ flat_map (lock_text c.args.names.now.names) xs))) all)
+    ∙ append_assoc head (held_text c.args.names.now.names locks) (codes "\n")

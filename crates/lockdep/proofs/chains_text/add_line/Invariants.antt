@@ -12,4 +12,4 @@ pub record IsLineUpTo (names : List Name) (c : ChainParts) (n : ℕ) (line : Lis
   pub short : length line ≤ 101 + 73 * n
 
 abbrev pub invariant-loop-place : goal.invariant-loop-place
-invariant-loop-place l = IsLineUpTo l.names l.chain l.place l.line.bytes
+invariant-loop-place l = IsLineUpTo l.names.names l.chain l.place l.line.bytes

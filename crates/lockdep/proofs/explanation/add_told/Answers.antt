@@ -1,7 +1,8 @@
 use Rattle.std.proofs.Common.{◌↔◌, ◌⊎◌, ◌<◌, Contains, length, refl, subst, arith}
 use Rattle.std.proofs.lemmas.List.{take_all}
+use Rattle.std.proofs.lemmas.Option.{get_or_from_slice_get}
 use Rattle.ld_graph.specs.Arrows.{Arrow, arrow}
-use Rattle.ld_graph.specs.FactBits.{HasFact}
+use Rattle.ld_graph.specs.FactBits.{FactBelow, HasFact}
 use Rattle.ld_graph.specs.Facts.{DependenciesOf}
 use Rattle.lockdep.proofs.TellingLemmas.{told-next, told-none}
 use Rattle.lockdep.proofs.explanation.add_told.Goals as goal
@@ -17,6 +18,14 @@ loop-i-preserved c =
       told-next c.args.told.now c.loop-i.told c.add.new.self c.args.walk.now c.loop-i.i (arrow c.member-from.result.0 c.member-from.result.1 c.member-from.result.2)
           c.member-from.ensures within c.loop-i.invariant.1 (rw (c.get.ensures.value, c.get-in-loop-i.ensures.value) at c.add.ensures.adds),
     )
+
+pub add-requires : goal.add-requires
+add-requires c =
+    let d : Arrow = arrow c.member-from.result.0 c.member-from.result.1 c.member-from.result.2 in
+    let within : c.loop-i.i < length c.args.walk.now = let l = c.loop-i-test.true in let e = c.len-i-end.ensures.exact in omega arith in
+    let same = c.loop-i.invariant.0 in
+    let below = subst (λ x. DependenciesOf (FactBelow c.args.told.now.keys) x) (get_or_from_slice_get c.args.walk.now c.loop-i.i d d c.member-from.ensures) (c.requires c.loop-i.i d within) in
+    rw (c.get.ensures.value, c.get-in-loop-i.ensures.value, same) below
 
 pub returns-clause-adds : goal.returns-clause-adds
 returns-clause-adds c = subst (λ xs. (d : Arrow) → DependenciesOf (HasFact c.loop-i.told) d ↔ (DependenciesOf (HasFact c.args.told.now) d ⊎ Contains xs d))

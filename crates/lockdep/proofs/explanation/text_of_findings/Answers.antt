@@ -8,9 +8,11 @@ use Rattle.lockdep.proofs.explanation.text_of_findings.Goals as goal
 
 pub tell-requires-clause-few : goal.tell-requires-clause-few
 tell-requires-clause-few c =
-    let same = length_permutation (numbers_below (length c.args.names.now)) c.args.keys.now c.requires.keys.all in
-    let count = numbers_below-length (length c.args.names.now) in
-    let few = c.len.ensures.numbered.few in omega (arith, same, count, few)
+    let same = length_permutation (numbers_below (length c.args.names.now.names)) c.args.keys.now c.requires.keys.all in
+    let count = numbers_below-length (length c.args.names.now.names) in
+    let few = c.len.ensures.numbered.few in
+    let most = c.len.ensures.numbered.most in
+    omega (arith, same, count, few, most)
 
 pub returns : goal.returns
 unfolding InSequence

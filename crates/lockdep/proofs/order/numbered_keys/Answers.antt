@@ -7,7 +7,7 @@ pub loop-number-init : goal.loop-number-init
 loop-number-init c = cc (numbers_below-zero, c.in_ok-all.ensures.items)
 
 pub loop-number-preserved : goal.loop-number-preserved
-loop-number-preserved c = elim c.match-new.branch [
+loop-number-preserved c = elim c.match-of_many.branch [
   | in-Some+in_ok-push w ↦ cc (numbers_below-more c.loop-number.number, w.in_ok-push.ensures.items, w.in-Some.ensures.value)
-  | in_default w ↦ let small : c.loop-number.number < 256 = omega (arith, c.len-number-end.ensures.numbered.few) in let absent = w.in_default.ensures.exact.1 small in cc
+  | in_default w ↦ let small : c.loop-number.number < 8192 = omega (arith, c.len-number-end.ensures.numbered.few, c.len-number-end.ensures.numbered.most) in let absent = w.in_default.ensures.exact.1 small in cc
 ]

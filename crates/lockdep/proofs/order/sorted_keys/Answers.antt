@@ -9,5 +9,5 @@ use Rattle.lockdep.proofs.order.sorted_keys.Goals as goal
 pub returns : goal.returns
 returns c = record {
   all = subst (λ (all : List ℕ). IsPermutation all c.sort_unstable_by.new.self.items) c.in_ok-sorted.ensures c.sort_unstable_by.ensures.permutation;
-  sorted = c.sort_unstable_by.ensures.sorted (λ a b. is_lt (name_cmp (name_at c.args.keys.now a) (name_at c.args.keys.now b))) (ranks_by name_cmp_total (name_at c.args.keys.now)) (always_returns_same _ _ _ (λ a r q k. search rules));
+  sorted = c.sort_unstable_by.ensures.sorted (λ a b. is_lt (name_cmp (name_at c.args.keys.now.names a) (name_at c.args.keys.now.names b))) (ranks_by name_cmp_total (name_at c.args.keys.now.names)) (always_returns_same _ _ _ (λ a r q k. search rules));
 }

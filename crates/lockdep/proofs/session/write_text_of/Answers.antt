@@ -21,7 +21,7 @@ use Rattle.lockdep.proofs.session.write_text_of.Goals as goal
 pub returns-in-Report-clause-ok : goal.returns-in-Report-clause-ok
 returns-in-Report-clause-ok g c =
     let traces = c.args.traces.now in
-    let names = c.args.keys.now in
+    let names = c.args.keys.now.names in
     let files = map (λ file. file.now) c.args.files.now in
     subst (λ (wanted : Wanted). OnOk c.out_of.result ((text : List ℕ) × IsTextOf wanted traces names files text
     × Appends (g.W.Write.contents c.args.w.now) (g.W.Write.contents c.write_report.new.w) text))
@@ -33,7 +33,7 @@ returns-in-Report-clause-ok g c =
 pub returns-in-Report-clause-err : goal.returns-in-Report-clause-err
 returns-in-Report-clause-err g c =
     let traces = c.args.traces.now in
-    let names = c.args.keys.now in
+    let names = c.args.keys.now.names in
     let files = map (λ file. file.now) c.args.files.now in
     subst (λ (wanted : Wanted). IfErr c.out_of.result (StopsSettled wanted (IsTextOf wanted traces names files)
     (g.W.Write.contents c.args.w.now) (g.W.Write.contents c.write_report.new.w)))
@@ -45,7 +45,7 @@ returns-in-Report-clause-err g c =
 pub returns-in-Explanation-clause-ok : goal.returns-in-Explanation-clause-ok
 returns-in-Explanation-clause-ok g c =
     let traces = c.args.traces.now in
-    let names = c.args.keys.now in
+    let names = c.args.keys.now.names in
     let files = map (λ file. file.now) c.args.files.now in
     let told : Told = record { traces = traces; names = names; files = files } in
     subst (λ (wanted : Wanted). OnOk c.out_of-in-Explanation.result ((text : List ℕ) × IsTextOf wanted traces names files text
@@ -58,7 +58,7 @@ returns-in-Explanation-clause-ok g c =
 pub returns-in-Explanation-clause-err : goal.returns-in-Explanation-clause-err
 returns-in-Explanation-clause-err g c =
     let traces = c.args.traces.now in
-    let names = c.args.keys.now in
+    let names = c.args.keys.now.names in
     let files = map (λ file. file.now) c.args.files.now in
     let told : Told = record { traces = traces; names = names; files = files } in
     subst (λ (wanted : Wanted). IfErr c.out_of-in-Explanation.result (StopsSettled wanted (IsTextOf wanted traces names files)
@@ -71,7 +71,7 @@ returns-in-Explanation-clause-err g c =
 pub returns-in-Picture-clause-ok : goal.returns-in-Picture-clause-ok
 returns-in-Picture-clause-ok g c =
     let traces = c.args.traces.now in
-    let names = c.args.keys.now in
+    let names = c.args.keys.now.names in
     let files = map (λ file. file.now) c.args.files.now in
     let findings = c.in-Picture.findings in
     subst (λ (wanted : Wanted). OnOk c.out_of-in-Picture.result ((text : List ℕ) × IsTextOf wanted traces names files text
@@ -84,7 +84,7 @@ returns-in-Picture-clause-ok g c =
 pub returns-in-Picture-clause-err : goal.returns-in-Picture-clause-err
 returns-in-Picture-clause-err g c =
     let traces = c.args.traces.now in
-    let names = c.args.keys.now in
+    let names = c.args.keys.now.names in
     let files = map (λ file. file.now) c.args.files.now in
     let findings = c.in-Picture.findings in
     subst (λ (wanted : Wanted). IfErr c.out_of-in-Picture.result (StopsSettled wanted (IsTextOf wanted traces names files)
@@ -97,7 +97,7 @@ returns-in-Picture-clause-err g c =
 pub returns-in-Condensed-clause-ok : goal.returns-in-Condensed-clause-ok
 returns-in-Condensed-clause-ok g c =
     let traces = c.args.traces.now in
-    let names = c.args.keys.now in
+    let names = c.args.keys.now.names in
     let files = map (λ file. file.now) c.args.files.now in
     subst (λ (wanted : Wanted). OnOk c.write_condensed.result ((text : List ℕ) × IsTextOf wanted traces names files text
     × Appends (g.W.Write.contents c.args.w.now) (g.W.Write.contents c.write_condensed.new.w) text))
@@ -109,7 +109,7 @@ returns-in-Condensed-clause-ok g c =
 pub returns-in-Condensed-clause-err : goal.returns-in-Condensed-clause-err
 returns-in-Condensed-clause-err g c =
     let traces = c.args.traces.now in
-    let names = c.args.keys.now in
+    let names = c.args.keys.now.names in
     let files = map (λ file. file.now) c.args.files.now in
     subst (λ (wanted : Wanted). IfErr c.write_condensed.result (StopsSettled wanted (IsTextOf wanted traces names files)
     (g.W.Write.contents c.args.w.now) (g.W.Write.contents c.write_condensed.new.w)))

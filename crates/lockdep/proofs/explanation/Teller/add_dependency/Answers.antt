@@ -21,8 +21,8 @@ pub returns : goal.returns
 returns c =
     let x : Fact = Dependency c.args.from c.args.to c.args.kind in
     let d : Arrow = arrow c.args.from c.args.to c.args.kind in
-    let names : c.self.inside.names.now ≡ c.args.self.now.told.names = ap (λ p. p.told.names) c.self.view_is in
-    let wrote : string_bytes c.write.new.self ≡ string_bytes c.args.text.now ++ (codes "  " ++ dependency_text c.self.inside.names.now d) = grind (arith, common_steps) in
+    let names : c.self.inside.names.now.names ≡ c.args.self.now.told.names = ap (λ p. p.told.names) c.self.view_is in
+    let wrote : string_bytes c.write.new.self ≡ string_bytes c.args.text.now ++ (codes "  " ++ dependency_text c.self.inside.names.now.names d) = grind (arith, common_steps) in
     on_ok_weaker c.add_origin.result (origin_line c.args.self.now.told (dependency_text c.args.self.now.told.names d) x c.in-Some.origin _ _ _
     (subst (λ p. IsFirst p.told.traces x c.in-Some.origin) c.self.view_is
     (rw (c.get.ensures.value, c.get-2.ensures.value) at (c.in-Some.ensures c.self.inside.traces.now c.self.invariant.0)).1)

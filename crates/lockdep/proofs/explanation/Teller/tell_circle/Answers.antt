@@ -43,3 +43,11 @@ returns-clause-tells c =
     (λ holds. let had = c.has_dep.ensures.1 (rw (c.get.ensures.value, c.get-2.ensures.value) holds) in let off = c.if-has_dep.false in cc)
     (shortest-on (HasFact c.args.self.now.facts) d c.in-Some.walk by))
     by c.in_ok-add_circle.ensures c.add_told.ensures.adds
+
+pub add_told-requires : goal.add_told-requires
+add_told-requires c =
+    let d : Arrow = arrow c.args.from c.args.to c.args.kind in
+    let by = subst (λ v. IsShortestFrom (HasFact v.facts) d c.in-Some.walk) c.self.view_is
+    (rw (c.get-5.ensures.value, c.get-6.ensures.value) at c.in-Some.ensures.some) in
+    let are = shortest-are (HasFact c.args.self.now.facts) d c.in-Some.walk by in
+    rw c.requires (λ i x within. (are i x within).0)

@@ -1,7 +1,7 @@
 use Rattle.std.proofs.Common.{◌≤◌, ◌*◌, take, map, string_bytes}
 use Rattle.std.specs.List.{flat_map}
 use Rattle.ld_graph.specs.Arrows.{arrow}
-use Rattle.ld_trace.specs.declared.key_id.TheConstants.{MAX_KEYS}
+use Rattle.ld_trace.specs.declared.key_id.TheConstants.{MAX_MANY}
 use Rattle.lockdep.specs.Inside.Telling.{TellsCircles}
 use Rattle.lockdep.specs.Report.{kinds}
 use Rattle.lockdep.proofs.explanation.Teller.tell_circles.Given as goal
@@ -11,4 +11,4 @@ abbrev pub invariant-loop-from : goal.invariant-loop-from
 invariant-loop-from l =
     TellsCircles l.self (flat_map (λ from. flat_map (λ to. map (arrow from to) kinds) l.keys) (take l.from-index l.keys))
     (string_bytes l.initial.text) (string_bytes l.text) l.initial.told l.told l.count
-    × (l.count ≤ 4 * MAX_KEYS * l.from-index)
+    × (l.count ≤ 4 * MAX_MANY * l.from-index)

@@ -7,5 +7,5 @@ use Rattle.lockdep.proofs.picture.PictureView.add_doubles.Given as goal
 -- the lines of the states so far
 abbrev pub invariant-loop-irq : goal.invariant-loop-irq
 invariant-loop-irq l =
-    GrowsBy (InTurn (λ irq. InTurn (ShowsDoubleLink (HasFact l.self.settled.now) l.self.names.now irq) l.self.keys.now) (take l.irq-index l.irq-items))
+    GrowsBy (InTurn (λ irq. InTurn (ShowsDoubleLink (HasFact l.self.settled.now) l.self.names.now.names irq) l.self.keys.now) (take l.irq-index l.irq-items))
     l.initial.text.items l.text.items

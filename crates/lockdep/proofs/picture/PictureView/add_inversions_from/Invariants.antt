@@ -7,5 +7,5 @@ use Rattle.lockdep.proofs.picture.PictureView.add_inversions_from.Given as goal
 -- the lines to the keys so far
 abbrev pub invariant-loop-b : goal.invariant-loop-b
 invariant-loop-b l =
-    GrowsBy (InTurn (ShowsInversionLink (HasFact l.self.settled.now) l.self.names.now l.irq l.a) (take l.b-index l.b-items))
+    GrowsBy (InTurn (ShowsInversionLink (HasFact l.self.settled.now) l.self.names.now.names l.irq l.a) (take l.b-index l.b-items))
     l.initial.text.items l.text.items

@@ -7,5 +7,5 @@ use Rattle.lockdep.proofs.picture.PictureView.add_keys.Given as goal
 -- the lines of the keys so far
 abbrev pub invariant-loop-key : goal.invariant-loop-key
 invariant-loop-key l =
-    GrowsBy (InTurn (ShowsKey (HasFact l.self.settled.now) l.self.names.now l.self.keys.now l.self.only) (take l.key-index l.key-items))
+    GrowsBy (InTurn (ShowsKey (HasFact l.self.settled.now) l.self.names.now.names l.self.keys.now l.self.only) (take l.key-index l.key-items))
     l.initial.text.items l.text.items

@@ -8,9 +8,9 @@ use Rattle.lockdep.proofs.picture.PictureView.add_node.Goals as goal
 pub returns : goal.returns
 returns c =
     let characters = c.in_ok-add_characters.ensures in
-    let name = quoted_key (name_at c.args.self.names.now c.args.key) in
+    let name = quoted_key (name_at c.args.self.names.now.names c.args.key) in
     on_ok_weaker c.add_end.result (λ end. record {
-      part = node_line c.args.self.names.now c.args.key characters.part c.args.red;
+      part = node_line c.args.self.names.now.names c.args.key characters.part c.args.red;
       shows = record { characters = characters.part; each = characters.shows; line_is = refl };
       grew = behind c.args.text.now.items _ _ (codes "  \"")
           (name ++ (codes "\" [label=\"" ++ (name ++ (codes " {" ++ (characters.part ++ (codes "}\"" ++ end_text c.args.red))))))

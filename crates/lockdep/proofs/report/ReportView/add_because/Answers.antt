@@ -8,7 +8,7 @@ use Rattle.lockdep.proofs.report.ReportView.add_because.Goals as goal
 
 pub returns-in-Some : goal.returns-in-Some
 returns-in-Some c = on_ok_weaker c.add_line.result (λ tells. record {
-  part = because_line c.args.self.names.now tells.first tells.rest;
+  part = because_line c.args.self.names.now.names tells.first tells.rest;
   shows = inl record {
     first = tells.first;
     rest = tells.rest;

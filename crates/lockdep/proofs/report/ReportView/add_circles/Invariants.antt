@@ -7,5 +7,5 @@ use Rattle.lockdep.proofs.report.ReportView.add_circles.Given as goal
 -- the lines from the keys so far
 abbrev pub invariant-loop-from : goal.invariant-loop-from
 invariant-loop-from l =
-    GrowsBy (InTurn (λ from. InTurn (λ to. InTurn (ShowsCircle (HasFact l.self.settled.now) l.self.names.now from to) kinds) l.self.keys.now) (take l.from-index l.from-items))
+    GrowsBy (InTurn (λ from. InTurn (λ to. InTurn (ShowsCircle (HasFact l.self.settled.now) l.self.names.now.names from to) kinds) l.self.keys.now) (take l.from-index l.from-items))
     (string_bytes l.initial.text) (string_bytes l.text)

@@ -7,5 +7,5 @@ use Rattle.lockdep.proofs.report.ReportView.add_circles_from.Given as goal
 -- the lines to the keys so far
 abbrev pub invariant-loop-to : goal.invariant-loop-to
 invariant-loop-to l =
-    GrowsBy (InTurn (λ to. InTurn (ShowsCircle (HasFact l.self.settled.now) l.self.names.now l.from to) kinds) (take l.to-index l.to-items))
+    GrowsBy (InTurn (λ to. InTurn (ShowsCircle (HasFact l.self.settled.now) l.self.names.now.names l.from to) kinds) (take l.to-index l.to-items))
     (string_bytes l.initial.text) (string_bytes l.text)

@@ -7,5 +7,5 @@ use Rattle.lockdep.proofs.report.ReportView.add_circles_to.Given as goal
 -- the lines of the kinds so far
 abbrev pub invariant-loop-kind : goal.invariant-loop-kind
 invariant-loop-kind l =
-    GrowsBy (InTurn (ShowsCircle (HasFact l.self.settled.now) l.self.names.now l.from l.to) (take l.kind-index l.kind-items))
+    GrowsBy (InTurn (ShowsCircle (HasFact l.self.settled.now) l.self.names.now.names l.from l.to) (take l.kind-index l.kind-items))
     (string_bytes l.initial.text) (string_bytes l.text)

@@ -7,5 +7,5 @@ use Rattle.lockdep.proofs.report.ReportView.add_doubles.Given as goal
 -- the lines of the states so far
 abbrev pub invariant-loop-irq : goal.invariant-loop-irq
 invariant-loop-irq l =
-    GrowsBy (InTurn (λ irq. InTurn (ShowsDouble (HasFact l.self.settled.now) l.self.names.now irq) l.self.keys.now) (take l.irq-index l.irq-items))
+    GrowsBy (InTurn (λ irq. InTurn (ShowsDouble (HasFact l.self.settled.now) l.self.names.now.names irq) l.self.keys.now) (take l.irq-index l.irq-items))
     (string_bytes l.initial.text) (string_bytes l.text)

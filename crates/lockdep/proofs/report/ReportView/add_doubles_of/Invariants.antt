@@ -7,5 +7,5 @@ use Rattle.lockdep.proofs.report.ReportView.add_doubles_of.Given as goal
 -- the lines of the keys so far
 abbrev pub invariant-loop-key : goal.invariant-loop-key
 invariant-loop-key l =
-    GrowsBy (InTurn (ShowsDouble (HasFact l.self.settled.now) l.self.names.now l.irq) (take l.key-index l.key-items))
+    GrowsBy (InTurn (ShowsDouble (HasFact l.self.settled.now) l.self.names.now.names l.irq) (take l.key-index l.key-items))
     (string_bytes l.initial.text) (string_bytes l.text)

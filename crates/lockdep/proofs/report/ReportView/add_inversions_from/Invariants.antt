@@ -7,5 +7,5 @@ use Rattle.lockdep.proofs.report.ReportView.add_inversions_from.Given as goal
 -- the lines to the keys so far
 abbrev pub invariant-loop-b : goal.invariant-loop-b
 invariant-loop-b l =
-    GrowsBy (InTurn (ShowsInversion (HasFact l.self.settled.now) l.self.names.now l.irq l.a) (take l.b-index l.b-items))
+    GrowsBy (InTurn (ShowsInversion (HasFact l.self.settled.now) l.self.names.now.names l.irq l.a) (take l.b-index l.b-items))
     (string_bytes l.initial.text) (string_bytes l.text)

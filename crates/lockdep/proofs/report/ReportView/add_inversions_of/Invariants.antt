@@ -7,5 +7,5 @@ use Rattle.lockdep.proofs.report.ReportView.add_inversions_of.Given as goal
 -- the lines from the keys so far
 abbrev pub invariant-loop-a : goal.invariant-loop-a
 invariant-loop-a l =
-    GrowsBy (InTurn (λ a. InTurn (ShowsInversion (HasFact l.self.settled.now) l.self.names.now l.irq a) l.self.keys.now) (take l.a-index l.a-items))
+    GrowsBy (InTurn (λ a. InTurn (ShowsInversion (HasFact l.self.settled.now) l.self.names.now.names l.irq a) l.self.keys.now) (take l.a-index l.a-items))
     (string_bytes l.initial.text) (string_bytes l.text)

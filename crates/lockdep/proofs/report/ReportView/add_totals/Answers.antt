@@ -14,7 +14,7 @@ pub returns : goal.returns
 returns c =
     on_ok_weaker c.add_clean.result
     (λ wrote. record {
-      part = total_line (codes "traces") c.args.traces ++ total_line (codes "events") c.args.events ++ total_line (codes "keys") (length c.args.self.names.now)
+      part = total_line (codes "traces") c.args.traces ++ total_line (codes "events") c.args.events ++ total_line (codes "keys") (length c.args.self.names.now.names)
           ++ total_line (codes "dependencies") c.dependencies.result ++ clean_line c.is_clean.result;
       shows = record {
         dependencies = c.dependencies.result;
@@ -23,7 +23,7 @@ returns c =
         clean_is = c.is_clean.ensures;
         text_is = refl;
       };
-      grew = appended (string_bytes c.args.text.now) _ _ _ _ _ (total_line (codes "traces") c.args.traces) (total_line (codes "events") c.args.events) (total_line (codes "keys") (length c.args.self.names.now)) (total_line (codes "dependencies") c.dependencies.result) (clean_line c.is_clean.result)
+      grew = appended (string_bytes c.args.text.now) _ _ _ _ _ (total_line (codes "traces") c.args.traces) (total_line (codes "events") c.args.events) (total_line (codes "keys") (length c.args.self.names.now.names)) (total_line (codes "dependencies") c.dependencies.result) (clean_line c.is_clean.result)
           c.in_ok-add_total.ensures c.in_ok-add_total-2.ensures (rw c.len.ensures.count at c.in_ok-add_total-3.ensures) c.in_ok-add_total-4.ensures wrote;
     })
     c.add_clean.ensures

@@ -13,9 +13,9 @@ appended old t1 t2 new a b c p q r =
 pub returns : goal.returns
 returns c =
     let characters = c.in_ok-add_characters.ensures in
-    let head : string_bytes c.write.new.self ≡ string_bytes c.args.text.now ++ (codes "usage " ++ key_text (name_at c.args.self.names.now c.args.key) ++ codes " {") = grind (arith, common_steps) in
+    let head : string_bytes c.write.new.self ≡ string_bytes c.args.text.now ++ (codes "usage " ++ key_text (name_at c.args.self.names.now.names c.args.key) ++ codes " {") = grind (arith, common_steps) in
     record {
-      part = usage_line (name_at c.args.self.names.now c.args.key) characters.part;
+      part = usage_line (name_at c.args.self.names.now.names c.args.key) characters.part;
       shows = record { characters = characters.part; each = characters.shows; line_is = refl };
-      grew = appended (string_bytes c.args.text.now) _ _ _ (codes "usage " ++ key_text (name_at c.args.self.names.now c.args.key) ++ codes " {") characters.part (codes "}\n") head characters.grew c.in_ok-push_str.ensures.bytes;
+      grew = appended (string_bytes c.args.text.now) _ _ _ (codes "usage " ++ key_text (name_at c.args.self.names.now.names c.args.key) ++ codes " {") characters.part (codes "}\n") head characters.grew c.in_ok-push_str.ensures.bytes;
     }
