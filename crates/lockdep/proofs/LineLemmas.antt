@@ -1,5 +1,5 @@
 -- What the getters of clap's matches give, said of the rows that its definition gives.
-use Rattle.std.proofs.Common.{◌≡◌, ◌∙◌, ℕ, List, [], Option, Some, None, Result, Ok, map, option_map, refl, ap, subst, Bor}
+use Rattle.std.proofs.Common.{◌≡◌, ◌∙◌, ℕ, Bool, List, [], Option, Some, None, Result, Ok, codes, false, map, option_map, refl, ap, subst, true, Bor}
 use Rattle.std.specs.Prelude.{unwrap_or, Box}
 use Rattle.std.specs.Box.{box_value}
 use Rattle.std.specs.Str.Parse.{IsNumeral, ParsesUnsigned, digits_value, without_leading_plus}
@@ -9,7 +9,9 @@ use Rattle.clap.specs.Simple.{subcommand_rows}
 use Rattle.clap.specs.declared.parser.matches.Found.{Found}
 use Rattle.clap.specs.declared.parser.matches.SubCommand.{SubCommand}
 use Rattle.clap.specs.declared.parser.matches.ArgMatches.TheViews.{out-SubCommand}
-use Rattle.clap.proofs.WalkLemmas.{raw_values-rows}
+use Rattle.clap.specs.Words.{one_text}
+use Rattle.clap.proofs.WalkLemmas.{one_text-rows, raw_values-rows}
+use Rattle.lockdep.specs.CommandLine.{ReadsFlag}
 
 -- a subcommand's name and its rows, together
 module _ {Z : Type 0} where
@@ -28,3 +30,10 @@ number_read gives only None read n none some is = absurd (let e = none refl in c
 number_read gives only (Some t) read n none some is =
     let parsed = only t (Ok n) (subst (λ (r : Option ℕ). ReadsOne gives t r) is (some t refl)) in
     (t, refl, parsed.0.0, parsed.1)
+
+-- a flag that was read is that of the text
+pub flag-read : (f : Found) (name : Text) (read : Bool) → (one_text f name ≡ Some (codes "true") → read ≡ true) →
+    (one_text f name ≡ Some (codes "false") → read ≡ false) → ReadsFlag name (rows_of f) read
+flag-read f name read set not_set =
+    let rows = one_text-rows f name in
+    record { set = λ is. set (rows ∙ is); not_set = λ is. not_set (rows ∙ is) }

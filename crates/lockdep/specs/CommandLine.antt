@@ -30,24 +30,36 @@ files_rule = record (new_rule (codes "FILE")) {
 abbrev pub file_rule : Rule
 file_rule = new_rule (codes "FILE")
 
--- `check [--workers N] [FILE...]`
-abbrev pub check_shape : Shape
-check_shape = (with_rule (with_rule (new_app (codes "check")) workers_rule) files_rule).top
-
--- `explain [--workers N] [FILE...]`
-abbrev pub explain_shape : Shape
-explain_shape = (with_rule (with_rule (new_app (codes "explain")) workers_rule) files_rule).top
-
--- `--findings`
-abbrev pub findings_rule : Rule
-findings_rule = record (new_rule (codes "findings")) {
-  long = Some (codes "findings");
+-- a flag of this name
+abbrev pub flag_rule : Text → Rule
+flag_rule name = record (new_rule name) {
+  long = Some name;
   action = Some SetTrue;
 }
 
--- `graph [--workers N] [--findings] [FILE...]`
+-- `--many`
+abbrev pub many_rule : Rule
+many_rule = flag_rule (codes "many")
+
+-- `--findings`
+abbrev pub findings_rule : Rule
+findings_rule = flag_rule (codes "findings")
+
+-- the subcommand of this name, with `[--workers N] [--many]`
+abbrev pub many_app : Text → App
+many_app name = with_rule (with_rule (new_app name) workers_rule) many_rule
+
+-- `check [--workers N] [--many] [FILE...]`
+abbrev pub check_shape : Shape
+check_shape = (with_rule (many_app (codes "check")) files_rule).top
+
+-- `explain [--workers N] [--many] [FILE...]`
+abbrev pub explain_shape : Shape
+explain_shape = (with_rule (many_app (codes "explain")) files_rule).top
+
+-- `graph [--workers N] [--many] [--findings] [FILE...]`
 abbrev pub graph_shape : Shape
-graph_shape = (with_rule (with_rule (with_rule (new_app (codes "graph")) workers_rule) findings_rule) files_rule).top
+graph_shape = (with_rule (with_rule (many_app (codes "graph")) findings_rule) files_rule).top
 
 -- `condense [--workers N] [FILE...]`
 abbrev pub condense_shape : Shape
@@ -72,25 +84,28 @@ pub record ReadsCheck (rows : List Row) (workers : ℕ) (files : List Text) : Ty
   pub workers_are : workers ≡ digits_value 10 (without_leading_plus text)
   pub files_are : files ≡ unwrap_or (all_of (codes "FILE") rows) []
 
--- the arguments say whether only findings are wanted
-pub record ReadsFindings (rows : List Row) (findings : Bool) : Type 0 where
-  pub wanted : one_of (codes "findings") rows ≡ Some (codes "true") → IsTrue findings
-  pub not_wanted : one_of (codes "findings") rows ≡ Some (codes "false") → IsFalse findings
+-- the arguments say whether the flag of this name is set
+pub record ReadsFlag (name : Text) (rows : List Row) (is_set : Bool) : Type 0 where
+  pub set : one_of name rows ≡ Some (codes "true") → IsTrue is_set
+  pub not_set : one_of name rows ≡ Some (codes "false") → IsFalse is_set
 
 -- the word of the subcommand
 abbrev pub subcommand_word : Line → Text
-subcommand_word (Check workers files) = codes "check"
-subcommand_word (Explain workers files) = codes "explain"
-subcommand_word (Graph workers findings files) = codes "graph"
+subcommand_word (Check workers many files) = codes "check"
+subcommand_word (Explain workers many files) = codes "explain"
+subcommand_word (Graph workers many findings files) = codes "graph"
 subcommand_word (Condense workers files) = codes "condense"
 subcommand_word (Chains file) = codes "chains"
 
 -- the arguments of the subcommand say this
 abbrev pub ReadsLine : List Row → Line → Type 0
-ReadsLine rows (Check workers files) = ReadsCheck rows workers (map (λ file. file.now) files.items)
-ReadsLine rows (Explain workers files) = ReadsCheck rows workers (map (λ file. file.now) files.items)
-ReadsLine rows (Graph workers findings files) =
-    ReadsCheck rows workers (map (λ file. file.now) files.items) × ReadsFindings rows findings
+ReadsLine rows (Check workers many files) =
+    ReadsCheck rows workers (map (λ file. file.now) files.items) × ReadsFlag (codes "many") rows many
+ReadsLine rows (Explain workers many files) =
+    ReadsCheck rows workers (map (λ file. file.now) files.items) × ReadsFlag (codes "many") rows many
+ReadsLine rows (Graph workers many findings files) =
+    ReadsCheck rows workers (map (λ file. file.now) files.items) × ReadsFlag (codes "many") rows many
+    × ReadsFlag (codes "findings") rows findings
 ReadsLine rows (Condense workers files) = ReadsCheck rows workers (map (λ file. file.now) files.items)
 ReadsLine rows (Chains file) = option_map (λ word. word.now) file ≡ first_of (codes "FILE") rows
 

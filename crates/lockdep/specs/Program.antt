@@ -82,9 +82,9 @@ pub record WritesChains (bytes old new : Option (List ℕ)) (status : ℕ) : Typ
 
 -- what the line asks for was done
 abbrev pub DoesLine : Line → (input old new : Option (List ℕ)) → ℕ → Type 0
-DoesLine (Check workers files) input = TellsOf Report workers (map (λ file. file.now) files.items) input
-DoesLine (Explain workers files) input = TellsOf Explanation workers (map (λ file. file.now) files.items) input
-DoesLine (Graph workers findings files) input = TellsOf (Picture findings) workers (map (λ file. file.now) files.items) input
+DoesLine (Check workers many files) input = TellsOf Report workers (map (λ file. file.now) files.items) input
+DoesLine (Explain workers many files) input = TellsOf Explanation workers (map (λ file. file.now) files.items) input
+DoesLine (Graph workers many findings files) input = TellsOf (Picture findings) workers (map (λ file. file.now) files.items) input
 DoesLine (Condense workers files) input = Condenses workers (map (λ file. file.now) files.items) input
 DoesLine (Chains file) input = WritesChains (known_of (option_map (λ word. word.now) file) input)
 
@@ -169,9 +169,9 @@ RefusesChains file input old new refusal =
 
 -- what the line asks for is refused so
 abbrev pub RefusesLine : Line → (input old new : Option (List ℕ)) → Refusal → Type 0
-RefusesLine (Check workers files) = RefusesText Report workers (map (λ file. file.now) files.items)
-RefusesLine (Explain workers files) = RefusesText Explanation workers (map (λ file. file.now) files.items)
-RefusesLine (Graph workers findings files) = RefusesText (Picture findings) workers (map (λ file. file.now) files.items)
+RefusesLine (Check workers many files) = RefusesText Report workers (map (λ file. file.now) files.items)
+RefusesLine (Explain workers many files) = RefusesText Explanation workers (map (λ file. file.now) files.items)
+RefusesLine (Graph workers many findings files) = RefusesText (Picture findings) workers (map (λ file. file.now) files.items)
 RefusesLine (Condense workers files) = RefusesText Condensed workers (map (λ file. file.now) files.items)
 RefusesLine (Chains file) = RefusesChains (option_map (λ word. word.now) file)
 

@@ -3,7 +3,7 @@
 ghost use Rattle.std.specs.Prelude.{◌≡◌, ◌↔◌, [], false, ℕ, List, IfOk, IfErr, map, unwrap_or, codes};
 ghost use Rattle.clap.specs.Words.{HasKind, all_of, app_of, fault_of as clap_faults, found_of, kind_of, rows_of, rule_of, shape_of, subcommand_rows_of};
 ghost use Rattle.clap.specs.declared.builder.command.Command.TheViews.{out-Command};
-ghost use Rattle.lockdep.specs.CommandLine.{IsLineFault, IsLineIn, IsLineOf, ReadsCheck, ReadsLine, chains_shape, check_shape, condense_shape, explain_shape, file_rule, files_rule, findings_rule, graph_shape, lockdep_app, subcommand_word, workers_rule};
+ghost use Rattle.lockdep.specs.CommandLine.{IsLineFault, IsLineIn, IsLineOf, ReadsCheck, ReadsLine, chains_shape, check_shape, condense_shape, explain_shape, file_rule, files_rule, findings_rule, graph_shape, lockdep_app, many_rule, subcommand_word, workers_rule};
 
 use clap::error::ErrorKind;
 use clap::{Arg, ArgAction, ArgMatches, Command, value_parser};
@@ -15,19 +15,23 @@ pub const VERSION: &str = "0.4.0";
 /// What a command line asks for.
 #[derive(Debug, Drop)]
 pub enum Line<'a> {
-    /// The report of the traces in these files, or of the one on standard input where no file is named, by so many workers.
+    /// The report of the traces in these files, or of the one on standard input where no file is named, by so many workers; of
+    /// many keys, if `many` is set.
     Check {
         workers: u16,
+        many: bool,
         files: Vec<&'a str>,
     },
     /// What was found in these traces, and the records that it comes from.
     Explain {
         workers: u16,
+        many: bool,
         files: Vec<&'a str>,
     },
     /// Their facts as a picture; only what is part of a finding, if `findings` is set.
     Graph {
         workers: u16,
+        many: bool,
         findings: bool,
         files: Vec<&'a str>,
     },
@@ -64,6 +68,17 @@ fn workers_option<'a>(alloc: Global) -> Arg<'a>
         .value_parser(value_parser!(u16))
         .default_value("4")
         .help("How many workers check the traces, from 1 to 64")
+}
+
+// Whether there may be many keys, `--many`.
+fn many_option<'a>(alloc: Global) -> Arg<'a>
+    ensures rule { rule_of result ≡ many_rule }
+    ensures local { result.global ≡ false }
+{
+    Arg::new(alloc, "many")
+        .long("many")
+        .action(ArgAction::SetTrue)
+        .help("Take up to 8192 lock keys in place of 256")
 }
 
 // The files of traces, in their order.
@@ -105,6 +120,7 @@ fn check_command<'a>(alloc: Global) -> Result<Command<'a>, AllocError>
     Command::new(alloc, "check")
         .about("Reads traces and writes the report of their lock order")
         .arg(workers_option(alloc))?
+        .arg(many_option(alloc))?
         .arg(files_argument(alloc))
 }
 
@@ -116,6 +132,7 @@ fn explain_command<'a>(alloc: Global) -> Result<Command<'a>, AllocError>
     Command::new(alloc, "explain")
         .about("Reads traces and writes what was found, with the records that it comes from")
         .arg(workers_option(alloc))?
+        .arg(many_option(alloc))?
         .arg(files_argument(alloc))
 }
 
@@ -127,6 +144,7 @@ fn graph_command<'a>(alloc: Global) -> Result<Command<'a>, AllocError>
     Command::new(alloc, "graph")
         .about("Reads traces and writes their lock order as a graph in the language DOT")
         .arg(workers_option(alloc))?
+        .arg(many_option(alloc))?
         .arg(findings_option(alloc))?
         .arg(files_argument(alloc))
 }
@@ -209,7 +227,12 @@ fn check_line<'a>(alloc: Global, found: &ArgMatches<'a>) -> Result<Line<'a>, Lin
     ensures no_help { IfErr result (λ fault. (words : List (List ℕ)) → IsLineFault words fault) }
 {
     let (workers, files) = workers_and_files(alloc, found)?;
-    Ok(Line::Check { workers, files })
+    let many = found.get_flag("many");
+    Ok(Line::Check {
+        workers,
+        many,
+        files,
+    })
 }
 
 // What the words of `explain` ask for.
@@ -219,7 +242,12 @@ fn explain_line<'a>(alloc: Global, found: &ArgMatches<'a>) -> Result<Line<'a>, L
     ensures no_help { IfErr result (λ fault. (words : List (List ℕ)) → IsLineFault words fault) }
 {
     let (workers, files) = workers_and_files(alloc, found)?;
-    Ok(Line::Explain { workers, files })
+    let many = found.get_flag("many");
+    Ok(Line::Explain {
+        workers,
+        many,
+        files,
+    })
 }
 
 // What the words of `graph` ask for.
@@ -229,9 +257,11 @@ fn graph_line<'a>(alloc: Global, found: &ArgMatches<'a>) -> Result<Line<'a>, Lin
     ensures no_help { IfErr result (λ fault. (words : List (List ℕ)) → IsLineFault words fault) }
 {
     let (workers, files) = workers_and_files(alloc, found)?;
+    let many = found.get_flag("many");
     let findings = found.get_flag("findings");
     Ok(Line::Graph {
         workers,
+        many,
         findings,
         files,
     })
@@ -286,8 +316,9 @@ fn fault_of(error: clap::Error) -> LineFault
 }
 
 /// What the command line asks for. The words begin with the program's name, and are read as `clap` defines it: `check
-/// [--workers N] [FILE...]`, with N a whole number from 0 to 65,535 and 4 where it isn't given, `explain [--workers N]
-/// [FILE...]`, `graph [--workers N] [--findings] [FILE...]`, `condense [--workers N] [FILE...]` and `chains [FILE]`.
+/// [--workers N] [--many] [FILE...]`, with N a whole number from 0 to 65,535 and 4 where it isn't given, `explain [--workers N]
+/// [--many] [FILE...]`, `graph [--workers N] [--many] [--findings] [FILE...]`, `condense [--workers N] [FILE...]` and `chains
+/// [FILE]`.
 ///
 /// Refusals: `Help` where help or the version is asked for, `Memory` where memory is refused, and `Refused` for every other
 /// line that isn't taken [this project's own].

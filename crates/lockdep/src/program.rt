@@ -115,16 +115,25 @@ fn answer_line<'a, R: Files + Threads + Wait + Sync, I: Read + Drop, O: Write>(
     ensures err { IfErr result (RefusesLine line.entry.now (I.remaining input) (O.contents out.old) (O.contents out.new)) }
 {
     match line {
-        Line::Check { workers, files } => {
+        Line::Check {
+            workers,
+            many: _,
+            files,
+        } => {
             let files = files.as_slice();
             answer_traces(rt, alloc, Wanted::Report, *workers, files, input, out)
         }
-        Line::Explain { workers, files } => {
+        Line::Explain {
+            workers,
+            many: _,
+            files,
+        } => {
             let files = files.as_slice();
             answer_traces(rt, alloc, Wanted::Explanation, *workers, files, input, out)
         }
         Line::Graph {
             workers,
+            many: _,
             findings,
             files,
         } => {

@@ -28,6 +28,7 @@ fn workers_and_files_of_a_check(rt: HostRuntime) -> Result<(), Fail> {
             Ok(
                 Line::Check {
                     workers: got,
+                    many: false,
                     files: named,
                 },
             ) => {
@@ -58,6 +59,7 @@ fn workers_and_files_of_an_explanation(rt: HostRuntime) -> Result<(), Fail> {
             Ok(
                 Line::Explain {
                     workers: got,
+                    many: false,
                     files: named,
                 },
             ) => {
@@ -68,6 +70,18 @@ fn workers_and_files_of_an_explanation(rt: HostRuntime) -> Result<(), Fail> {
         }
     }
     Ok(())
+}
+
+#[test]
+fn many_keys(rt: HostRuntime) {
+    match command_line(rt.alloc(), &["lockdep", "check", "--many", "a"]) {
+        Ok(Line::Check { workers, many, .. }) => assert!(rt; workers == 4 && many),
+        other => panic!(rt; "{other:?}"),
+    }
+    match command_line(rt.alloc(), &["lockdep", "explain", "--many"]) {
+        Ok(Line::Explain { workers, many, .. }) => assert!(rt; workers == 4 && many),
+        other => panic!(rt; "{other:?}"),
+    }
 }
 
 #[test]
@@ -99,23 +113,31 @@ fn workers_and_files_of_a_condensed_trace(rt: HostRuntime) -> Result<(), Fail> {
 
 #[test]
 fn workers_findings_and_files_of_a_graph(rt: HostRuntime) -> Result<(), Fail> {
-    let examples: [(&[&str], (u16, bool), &[&str]); 6] = [
-        (&["lockdep", "graph"], (4, false), &[]),
-        (&["lockdep", "graph", "--findings", "c"], (4, true), &["c"]),
-        (&["lockdep", "graph", "a", "b"], (4, false), &["a", "b"]),
+    let examples: [(&[&str], (u16, bool, bool), &[&str]); 6] = [
+        (&["lockdep", "graph"], (4, false, false), &[]),
         (
-            &["lockdep", "graph", "a", "--findings", "b"],
-            (4, true),
+            &["lockdep", "graph", "--findings", "c"],
+            (4, false, true),
+            &["c"],
+        ),
+        (
+            &["lockdep", "graph", "a", "--many", "b"],
+            (4, true, false),
+            &["a", "b"],
+        ),
+        (
+            &["lockdep", "graph", "a", "--findings", "--many", "b"],
+            (4, true, true),
             &["a", "b"],
         ),
         (
             &["lockdep", "graph", "--findings", "--workers", "2", "a"],
-            (2, true),
+            (2, false, true),
             &["a"],
         ),
         (
             &["lockdep", "graph", "--", "--findings"],
-            (4, false),
+            (4, false, false),
             &["--findings"],
         ),
     ];
@@ -124,11 +146,12 @@ fn workers_findings_and_files_of_a_graph(rt: HostRuntime) -> Result<(), Fail> {
             Ok(
                 Line::Graph {
                     workers,
+                    many,
                     findings,
                     files: named,
                 },
             ) => {
-                assert_eq!(rt; (workers, findings), asked, "{words:?}");
+                assert_eq!(rt; (workers, many, findings), asked, "{words:?}");
                 assert_eq!(rt; named.as_slice(), files, "{words:?}");
             }
             other => panic!(rt; "{words:?}: {other:?}"),

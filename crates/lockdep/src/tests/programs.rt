@@ -101,7 +101,7 @@ fn refused_traces_name_their_record_and_code(rt: HostRuntime) -> Result<(), Fail
 
 #[test]
 fn refused_command_lines(rt: HostRuntime) -> Result<(), Fail> {
-    let examples: [&[&str]; 28] = [
+    let examples: [&[&str]; 30] = [
         &[],
         &["lockdep"],
         &["lockdep", "test"],
@@ -127,6 +127,8 @@ fn refused_command_lines(rt: HostRuntime) -> Result<(), Fail> {
         &["lockdep", "graph", "--findings", "--findings"],
         &["lockdep", "graph", "--workers", "-1"],
         &["lockdep", "condense", "--findings"],
+        &["lockdep", "condense", "--many"],
+        &["lockdep", "--many", "check"],
         &["lockdep", "chains", "--workers", "2"],
         &["lockdep", "chains", "a.txt", "b.txt"],
         &["lockdep", "help", "test"],
@@ -187,11 +189,11 @@ fn help_that_is_asked_for(rt: HostRuntime) -> Result<(), Fail> {
     let whole =
         "Checks recorded traces of tasks for lock orders that can deadlock\n\nUsage: lockdep <COMMAND>\n\nCommands:\n  check     Reads traces and writes the report of their lock order\n  explain   Reads traces and writes what was found, with the records that it comes from\n  graph     Reads traces and writes their lock order as a graph in the language DOT\n  condense  Reads traces and writes one trace that has their lock order and usage\n  chains    Reads a trace and writes its chains\n  help      Print this message or the help of the given subcommand(s)\n\nOptions:\n  -h, --help     Print help\n  -V, --version  Print version\n";
     let of_check =
-        "Reads traces and writes the report of their lock order\n\nUsage: lockdep check [OPTIONS] [FILE]...\n\nArguments:\n  [FILE]...  A file with a trace; without one, a trace is read from standard input\n\nOptions:\n      --workers <N>  How many workers check the traces, from 1 to 64 [default: 4]\n  -h, --help         Print help\n";
+        "Reads traces and writes the report of their lock order\n\nUsage: lockdep check [OPTIONS] [FILE]...\n\nArguments:\n  [FILE]...  A file with a trace; without one, a trace is read from standard input\n\nOptions:\n      --workers <N>  How many workers check the traces, from 1 to 64 [default: 4]\n      --many         Take up to 8192 lock keys in place of 256\n  -h, --help         Print help\n";
     let of_explain =
-        "Reads traces and writes what was found, with the records that it comes from\n\nUsage: lockdep explain [OPTIONS] [FILE]...\n\nArguments:\n  [FILE]...  A file with a trace; without one, a trace is read from standard input\n\nOptions:\n      --workers <N>  How many workers check the traces, from 1 to 64 [default: 4]\n  -h, --help         Print help\n";
+        "Reads traces and writes what was found, with the records that it comes from\n\nUsage: lockdep explain [OPTIONS] [FILE]...\n\nArguments:\n  [FILE]...  A file with a trace; without one, a trace is read from standard input\n\nOptions:\n      --workers <N>  How many workers check the traces, from 1 to 64 [default: 4]\n      --many         Take up to 8192 lock keys in place of 256\n  -h, --help         Print help\n";
     let of_graph =
-        "Reads traces and writes their lock order as a graph in the language DOT\n\nUsage: lockdep graph [OPTIONS] [FILE]...\n\nArguments:\n  [FILE]...  A file with a trace; without one, a trace is read from standard input\n\nOptions:\n      --workers <N>  How many workers check the traces, from 1 to 64 [default: 4]\n      --findings     Show only what is part of a finding\n  -h, --help         Print help\n";
+        "Reads traces and writes their lock order as a graph in the language DOT\n\nUsage: lockdep graph [OPTIONS] [FILE]...\n\nArguments:\n  [FILE]...  A file with a trace; without one, a trace is read from standard input\n\nOptions:\n      --workers <N>  How many workers check the traces, from 1 to 64 [default: 4]\n      --many         Take up to 8192 lock keys in place of 256\n      --findings     Show only what is part of a finding\n  -h, --help         Print help\n";
     let of_chains =
         "Reads a trace and writes its chains\n\nUsage: lockdep chains [FILE]\n\nArguments:\n  [FILE]  A file with a trace; without one, a trace is read from standard input\n\nOptions:\n  -h, --help  Print help\n";
     let examples: [(&[&str], &str); 8] = [

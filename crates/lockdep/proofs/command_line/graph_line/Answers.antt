@@ -1,17 +1,15 @@
-use Rattle.std.proofs.Common.{◌∙◌, codes, refl}
+use Rattle.std.proofs.Common.{codes, refl}
 use Rattle.clap.specs.Words.{found_of}
-use Rattle.clap.proofs.WalkLemmas.{one_text-rows}
+use Rattle.lockdep.proofs.LineLemmas.{flag-read}
 use Rattle.lockdep.proofs.command_line.graph_line.Goals as goal
 
 pub returns-clause-ok : goal.returns-clause-ok
 returns-clause-ok c =
-    let rows = one_text-rows (found_of c.args.found.now) (codes "findings") in (
+    let found = found_of c.args.found.now in (
       refl,
       (
         c.in_ok-workers.ensures.ok,
-        record {
-          wanted = λ is. c.get_flag-findings.ensures.value (rows ∙ is);
-          not_wanted = λ is. c.get_flag-findings.ensures.other (rows ∙ is);
-        },
+        flag-read found (codes "many") c.get_flag-many.result c.get_flag-many.ensures.value c.get_flag-many.ensures.other,
+        flag-read found (codes "findings") c.get_flag-findings.result c.get_flag-findings.ensures.value c.get_flag-findings.ensures.other,
       ),
     )
