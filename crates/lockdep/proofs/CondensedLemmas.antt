@@ -7,7 +7,7 @@ use Rattle.ld_graph.specs.declared.fact.Fact.{Fact}
 use Rattle.lockdep.specs.Condensed.{IsCondensedText}
 use Rattle.lockdep.specs.Faults.{IsBeforeWriting, StopsSettled}
 use Rattle.lockdep.specs.declared.fault.ReportFault.{ReportFault}
-use Rattle.lockdep.specs.declared.fault.ReportFault.TheVariants.{Step, Run, Condensing, Out}
+use Rattle.lockdep.specs.declared.fault.ReportFault.TheVariants.{Step, Run, Survey, Condensing, Out}
 use Rattle.lockdep.specs.declared.fault.WriteFault.TheVariants.{Failed, Stuck, Memory}
 use Rattle.lockdep.specs.declared.wanted.Wanted.TheVariants.{Condensed}
 
@@ -28,6 +28,7 @@ IsCondensedText-same P Q same names text c = record {
 pub before_writing : (IsText : List ℕ → Type 0) (known : Option (List ℕ)) (fault : ReportFault) → Keeps known known → IsBeforeWriting fault → StopsSettled Condensed IsText known known fault
 before_writing IsText known (Step trace at fault) kept before = absurd before
 before_writing IsText known (Run fault) kept before = absurd before
+before_writing IsText known (Survey fault) kept before = absurd before
 before_writing IsText known (Condensing fault) kept before = (refl, kept)
 before_writing IsText known (Out Failed) kept before = absurd (cc)
 before_writing IsText known (Out Stuck) kept before = absurd (cc)

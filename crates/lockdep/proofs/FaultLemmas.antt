@@ -10,7 +10,7 @@ use Rattle.ld_run.specs.Runs.{IsCrew}
 use Rattle.ld_run.specs.declared.runs.TheConstants.{MAX_TRACES}
 use Rattle.ld_run.specs.declared.fault.RunFault.TheVariants as run
 use Rattle.lockdep.specs.declared.fault.ReportFault.{ReportFault}
-use Rattle.lockdep.specs.declared.fault.ReportFault.TheVariants.{Step, Run, Condensing, Out}
+use Rattle.lockdep.specs.declared.fault.ReportFault.TheVariants.{Step, Run, Survey, Condensing, Out}
 use Rattle.lockdep.specs.declared.fault.WriteFault.{WriteFault}
 use Rattle.lockdep.specs.declared.fault.WriteFault.TheVariants.{Failed, Stuck, Memory}
 use Rattle.lockdep.specs.Faults.{StopsReport, StopsSettled, StopsText, StopsWriting, out_of}
@@ -33,6 +33,7 @@ StopsWriting-same A B same old new Memory kept = kept
 pub StopsSettled-same : (wanted : Wanted) (A B : List ℕ → Type 0) → ((text : List ℕ) → A text → B text) → (old new : Option (List ℕ)) (fault : ReportFault) → StopsSettled wanted A old new fault → StopsSettled wanted B old new fault
 StopsSettled-same wanted A B same old new (Step trace at fault) stops = absurd stops
 StopsSettled-same wanted A B same old new (Run fault) stops = absurd stops
+StopsSettled-same wanted A B same old new (Survey fault) stops = absurd stops
 StopsSettled-same wanted A B same old new (Condensing fault) stops = stops
 StopsSettled-same wanted A B same old new (Out fault) stops = StopsWriting-same A B same old new fault stops
 
@@ -50,6 +51,7 @@ module _ (wanted : Wanted) (A B : List ℕ → Type 0) (same : (text : List ℕ)
 pub StopsText-settled : (wanted : Wanted) (traces : List (List Event)) (names : List Name) (files : List Text) (workers : ℕ) (old new : Option (List ℕ)) → IsCrew workers → length traces ≤ MAX_TRACES → All IsWellFormed traces → (fault : ReportFault) → StopsSettled wanted (IsTextOf wanted traces names files) old new fault → StopsText wanted traces names files workers old new fault
 StopsText-settled wanted traces names files workers old new crew few well_formed (Step trace at fault) stops = absurd stops
 StopsText-settled wanted traces names files workers old new crew few well_formed (Run fault) stops = absurd stops
+StopsText-settled wanted traces names files workers old new crew few well_formed (Survey fault) stops = absurd stops
 StopsText-settled wanted traces names files workers old new crew few well_formed (Condensing fault) stops = (crew, few, well_formed, stops.0, stops.1)
 StopsText-settled wanted traces names files workers old new crew few well_formed (Out fault) stops = (crew, few, well_formed, stops)
 
@@ -63,6 +65,7 @@ module _ (traces : List (List Event)) (names : List Name) (workers : ℕ) (old n
   bad_workers_is (Err (Run run.Unsettled)) crew stops = (λ e. absurd (cc), λ no. absurd (no stops.0.0))
   bad_workers_is (Err (Run run.Memory)) crew stops = (λ e. absurd (cc), λ no. absurd (no stops.0.0))
   bad_workers_is (Err (Run (run.Refused trace place fault))) crew stops = absurd stops.0
+  bad_workers_is (Err (Survey fault)) crew stops = (λ e. absurd (cc), λ no. absurd (no stops.0))
   bad_workers_is (Err (Condensing fault)) crew stops = (λ e. absurd (cc), λ no. absurd (no stops.0))
   bad_workers_is (Err (Out fault)) crew stops = (λ e. absurd (cc), λ no. absurd (no stops.0))
 
@@ -75,5 +78,6 @@ module _ (traces : List (List Event)) (names : List Name) (workers : ℕ) (old n
   too_many_is (Err (Run run.Unsettled)) crew stops = (λ e. absurd (cc), λ more. absurd (omega (arith, stops.0.1, more.1)))
   too_many_is (Err (Run run.Memory)) crew stops = (λ e. absurd (cc), λ more. absurd (omega (arith, stops.0.1, more.1)))
   too_many_is (Err (Run (run.Refused trace place fault))) crew stops = absurd stops.0
+  too_many_is (Err (Survey fault)) crew stops = (λ e. absurd (cc), λ more. absurd (omega (arith, stops.1, more.1)))
   too_many_is (Err (Condensing fault)) crew stops = (λ e. absurd (cc), λ more. absurd (omega (arith, stops.1, more.1)))
   too_many_is (Err (Out fault)) crew stops = (λ e. absurd (cc), λ more. absurd (omega (arith, stops.1, more.1)))

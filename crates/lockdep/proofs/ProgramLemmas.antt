@@ -2,10 +2,9 @@
 use Rattle.std.proofs.Common.{◌≡◌, ◌==◌, true, Result, Ok, Err, IfErr, IsErr, IsErrAnd, ℕ, zero, suc, ◌<◌, List, [], ◌∷◌, Option, None, Bor, Contains, codes, length, map, slice_index_or, refl, sym, subst, arith, inl, inr}
 use Rattle.clap.specs.Words.{Text}
 use Rattle.ld_trace.specs.Names.{Name}
-use Rattle.ld_trace.specs.declared.key_id.TheConstants.{MAX_KEYS}
 use Rattle.lockdep.specs.Program.{IsReadingRefusal, StopsReading}
 use Rattle.lockdep.specs.declared.refusal.Refusal.{Refusal}
-use Rattle.lockdep.specs.declared.refusal.Refusal.TheVariants.{BadCommandLine, CannotOpen, Output, Memory, Reading, Step, Run, Condensing}
+use Rattle.lockdep.specs.declared.refusal.Refusal.TheVariants.{BadCommandLine, CannotOpen, Output, Memory, Reading, Step, Run, Survey, Condensing}
 
 -- a file of the list is among their names
 pub named_at : (files : List (Bor Text)) (i : ℕ) (d : Bor Text) → i < length files → Contains (map (λ file. file.now) files) (slice_index_or files i d).now
@@ -20,7 +19,7 @@ none_named [] none = refl
 none_named (file ∷ files) none = grind arith
 
 -- a trace that is refused is that of the one file
-pub StopsReading-one : (file : Text) (room : ℕ) (names : List Name) (bytes : Option (List ℕ)) (refusal : Refusal) → IsReadingRefusal file room names bytes refusal → StopsReading (file ∷ []) None refusal
+pub StopsReading-one : (file : Text) (room : ℕ) (names : List Name) (bytes : Option (List ℕ)) (refusal : Refusal) → IsReadingRefusal file room names bytes refusal → StopsReading room (file ∷ []) None refusal
 StopsReading-one file room names bytes BadCommandLine h = absurd h
 StopsReading-one file room names bytes (CannotOpen named) h = absurd h
 StopsReading-one file room names bytes Output h = absurd h
@@ -28,6 +27,7 @@ StopsReading-one file room names bytes Memory h = absurd h
 StopsReading-one file room names bytes (Reading named fault) (is, why) = inl (0, omega arith, sym is)
 StopsReading-one file room names bytes (Step named at fault) h = absurd h
 StopsReading-one file room names bytes (Run fault) h = absurd h
+StopsReading-one file room names bytes (Survey fault) h = absurd h
 StopsReading-one file room names bytes (Condensing fault) h = absurd h
 
 -- the one file is among several, so what is it is among them
@@ -36,27 +36,29 @@ among_several file name files among (zero, within, is) = subst (λ (n : Text). C
 among_several file name files among (suc k, within, is) = absurd (omega arith)
 
 -- what is said of one file is said of several with it among them
-pub StopsReading-among : (file : Text) (files : List Text) (input : Option (List ℕ)) (refusal : Refusal) → Contains files file → StopsReading (file ∷ []) None refusal → StopsReading files input refusal
-StopsReading-among file files input BadCommandLine among h = absurd h
-StopsReading-among file files input (CannotOpen named) among h = among_several file named.now files among h
-StopsReading-among file files input Output among h = absurd h
-StopsReading-among file files input Memory among h = tt
-StopsReading-among file files input (Reading named fault) among (inl h) = inl (among_several file named.now files among h)
-StopsReading-among file files input (Reading named fault) among (inr (none, h)) = absurd (cc)
-StopsReading-among file files input (Step named at fault) among h = absurd h
-StopsReading-among file files input (Run fault) among h = absurd h
-StopsReading-among file files input (Condensing fault) among h = absurd h
+pub StopsReading-among : (room : ℕ) (file : Text) (files : List Text) (input : Option (List ℕ)) (refusal : Refusal) → Contains files file → StopsReading room (file ∷ []) None refusal → StopsReading room files input refusal
+StopsReading-among room file files input BadCommandLine among h = absurd h
+StopsReading-among room file files input (CannotOpen named) among h = among_several file named.now files among h
+StopsReading-among room file files input Output among h = absurd h
+StopsReading-among room file files input Memory among h = tt
+StopsReading-among room file files input (Reading named fault) among (inl h) = inl (among_several file named.now files among h)
+StopsReading-among room file files input (Reading named fault) among (inr (none, h)) = absurd (cc)
+StopsReading-among room file files input (Step named at fault) among h = absurd h
+StopsReading-among room file files input (Run fault) among h = absurd h
+StopsReading-among room file files input (Survey fault) among h = absurd h
+StopsReading-among room file files input (Condensing fault) among h = absurd h
 
 -- of no files it is standard input
-pub StopsReading-input : (files : List Text) (input : Option (List ℕ)) (refusal : Refusal) → files ≡ [] → IsReadingRefusal (codes "stdin") MAX_KEYS [] input refusal → StopsReading files input refusal
-StopsReading-input files input BadCommandLine none h = absurd h
-StopsReading-input files input (CannotOpen named) none h = absurd h
-StopsReading-input files input Output none h = absurd h
-StopsReading-input files input Memory none h = tt
-StopsReading-input files input (Reading named fault) none h = inr (none, h)
-StopsReading-input files input (Step named at fault) none h = absurd h
-StopsReading-input files input (Run fault) none h = absurd h
-StopsReading-input files input (Condensing fault) none h = absurd h
+pub StopsReading-input : (room : ℕ) (files : List Text) (input : Option (List ℕ)) (refusal : Refusal) → files ≡ [] → IsReadingRefusal (codes "stdin") room [] input refusal → StopsReading room files input refusal
+StopsReading-input room files input BadCommandLine none h = absurd h
+StopsReading-input room files input (CannotOpen named) none h = absurd h
+StopsReading-input room files input Output none h = absurd h
+StopsReading-input room files input Memory none h = tt
+StopsReading-input room files input (Reading named fault) none h = inr (none, h)
+StopsReading-input room files input (Step named at fault) none h = absurd h
+StopsReading-input room files input (Run fault) none h = absurd h
+StopsReading-input room files input (Survey fault) none h = absurd h
+StopsReading-input room files input (Condensing fault) none h = absurd h
 
 -- what holds of the error that is answered
 pub IfErr-passed : {T E : Type 0} (r : Result T E) (e : E) (P : E → Type 0) → IsErr r × IsErrAnd r (λ x. x ≡ e) → P e → IfErr r P

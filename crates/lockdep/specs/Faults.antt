@@ -1,5 +1,5 @@
 -- The codes of refused writes, and what a refused report leaves [this project's own].
-use Rattle.std.specs.Prelude.{◌≡◌, ◌+◌, ◌≤◌, ⊤, ℕ, List, [], Option, Result, Ok, Err, codes, All, length}
+use Rattle.std.specs.Prelude.{◌≡◌, ◌+◌, ◌<◌, ◌≤◌, ⊤, ℕ, List, [], Option, Result, Ok, Err, codes, All, length}
 use Rattle.std.specs.Io.KnownBytes.{Keeps}
 use Rattle.clap.specs.Words.{Text}
 use Rattle.ld_trace.specs.Names.{Name}
@@ -15,8 +15,12 @@ use Rattle.ld_run.specs.Runs.{IsCrew, StopsRun}
 use Rattle.ld_run.specs.declared.runs.TheConstants.{MAX_TRACES}
 use Rattle.ld_run.specs.declared.fault.RunFault.{RunFault}
 use Rattle.lockdep.specs.declared.fault.ReportFault.{ReportFault}
-use Rattle.lockdep.specs.declared.fault.ReportFault.TheVariants.{Step, Run, Condensing, Out}
+use Rattle.lockdep.specs.declared.fault.ReportFault.TheVariants.{Step, Run, Survey, Condensing, Out}
 use Rattle.ld_run.specs.declared.fault.RunFault.TheVariants.{Refused}
+use Rattle.ld_run.specs.Surveys.{StopsSurvey}
+use Rattle.ld_run.specs.declared.survey_fault.SurveyFault.{SurveyFault}
+use Rattle.ld_run.specs.declared.survey_fault.SurveyFault.TheVariants as survey
+use Rattle.ld_trace.specs.declared.key_id.TheConstants.{MAX_KEYS}
 
 -- the number and name of a refused write
 abbrev pub write_code_of : WriteFault → List ℕ
@@ -40,6 +44,7 @@ out_of (Err fault) = Err (Out fault)
 abbrev pub StopsSettled : Wanted → (List ℕ → Type 0) → (old new : Option (List ℕ)) → ReportFault → Type 0
 StopsSettled wanted IsText old new (Step trace at fault) = ⊥
 StopsSettled wanted IsText old new (Run fault) = ⊥
+StopsSettled wanted IsText old new (Survey fault) = ⊥
 StopsSettled wanted IsText old new (Condensing fault) = (wanted ≡ Condensed) × Keeps old new
 StopsSettled wanted IsText old new (Out fault) = StopsWriting IsText old new fault
 
@@ -47,6 +52,7 @@ StopsSettled wanted IsText old new (Out fault) = StopsWriting IsText old new fau
 abbrev pub IsBeforeWriting : ReportFault → Type 0
 IsBeforeWriting (Step trace at fault) = ⊥
 IsBeforeWriting (Run fault) = ⊥
+IsBeforeWriting (Survey fault) = ⊥
 IsBeforeWriting (Condensing fault) = ⊤
 IsBeforeWriting (Out fault) = fault ≡ Memory
 
@@ -55,13 +61,20 @@ abbrev pub StopsOtherwise : List (List Event) → ℕ → RunFault → Type 0
 StopsOtherwise traces workers (Refused trace place fault) = ⊥
 StopsOtherwise traces workers fault = StopsRun traces workers fault
 
+-- and the survey of many keys
+abbrev pub StopsSurveyOtherwise : List (List Event) → SurveyFault → Type 0
+StopsSurveyOtherwise traces (survey.Refused trace place fault) = ⊥
+StopsSurveyOtherwise traces fault = StopsSurvey traces fault
+
 -- the text that is wanted of these traces of these files, by so many workers, was refused so: by the first trace that isn't
--- well formed, with the record of its first event that isn't allowed; by the run otherwise; in condensing, where the condensed
--- trace is wanted; or in writing
+-- well formed, with the record of its first event that isn't allowed; by the run otherwise; by the survey otherwise, where there
+-- are more than 256 keys; in condensing, where the condensed trace is wanted; or in writing
 abbrev pub StopsText : Wanted → List (List Event) → List Name → List Text → ℕ → (old new : Option (List ℕ)) → ReportFault → Type 0
 StopsText wanted traces names files workers old new (Step trace at fault) =
     (place : ℕ) × StopsRun traces workers (Refused trace place fault) × (at ≡ place + 2) × Keeps old new
 StopsText wanted traces names files workers old new (Run fault) = StopsOtherwise traces workers fault × Keeps old new
+StopsText wanted traces names files workers old new (Survey fault) = IsCrew workers × (length traces ≤ MAX_TRACES)
+    × (MAX_KEYS < length names) × StopsSurveyOtherwise traces fault × Keeps old new
 StopsText wanted traces names files workers old new (Condensing fault) = IsCrew workers × (length traces ≤ MAX_TRACES)
     × All IsWellFormed traces × (wanted ≡ Condensed) × Keeps old new
 StopsText wanted traces names files workers old new (Out fault) = IsCrew workers × (length traces ≤ MAX_TRACES)

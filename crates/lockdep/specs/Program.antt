@@ -1,10 +1,10 @@
 -- What the program does for a command line [this project's own].
-use Rattle.std.specs.Prelude.{◌≡◌, ◌↔◌, ◌⊎◌, ⊤, ◌+◌, ◌<◌, ◌≤◌, ℕ, List, [], ◌∷◌, Option, None, Some, All, Contains, IfSome, codes, length, map, option_map, unwrap_or}
+use Rattle.std.specs.Prelude.{◌≡◌, ◌↔◌, ◌⊎◌, ⊤, ◌+◌, ◌<◌, ◌≤◌, ℕ, Bool, if◌then◌else◌, List, [], ◌∷◌, Option, None, Some, All, Contains, IfSome, codes, length, map, option_map, unwrap_or}
 use Rattle.std.specs.Io.KnownBytes.{Appends, Keeps}
 use Rattle.ld_trace.specs.Events.{KeysBelow}
 use Rattle.ld_trace.specs.Names.{Name}
 use Rattle.ld_trace.specs.declared.event.Event.{Event}
-use Rattle.ld_trace.specs.declared.key_id.TheConstants.{MAX_KEYS}
+use Rattle.ld_trace.specs.declared.key_id.TheConstants.{MAX_KEYS, MAX_MANY}
 use Rattle.ld_trace.specs.Reading.{ReadsTo, StopsAt}
 use Rattle.ld_task.specs.WellFormed.{IsFirstFault, IsWellFormed}
 use Rattle.ld_graph.specs.Links.{IsClean}
@@ -27,15 +27,19 @@ use Rattle.lockdep.specs.declared.fault.ReportFault.TheVariants as report
 use Rattle.lockdep.specs.declared.fault.WriteFault.{WriteFault}
 use Rattle.lockdep.specs.declared.fault.WriteFault.TheVariants as write
 use Rattle.lockdep.specs.declared.refusal.Refusal.{Refusal}
-use Rattle.lockdep.specs.declared.refusal.Refusal.TheVariants.{BadCommandLine, CannotOpen, Output, Memory, Reading, Step, Run, Condensing}
+use Rattle.lockdep.specs.declared.refusal.Refusal.TheVariants.{BadCommandLine, CannotOpen, Output, Memory, Reading, Step, Run, Survey, Condensing}
 
 -- What is done.
 
--- these are the traces that were read: one of each file, or the one that standard input holds. Of the traces of files their
--- number is said, and that their keys are in the table; no contract can tell what a file holds
-pub record AreTracesOf (files : List Text) (input : Option (List ℕ)) (names : List Name) (traces : List (List Event)) : Type 0 where
+-- how many keys there is room for
+abbrev pub room_of : (many : Bool) → ℕ
+room_of many = if many then MAX_MANY else MAX_KEYS
+
+-- these are the traces that were read, where there is room for so many keys: one of each file, or the one that standard input
+-- holds. Of the traces of files their number is said, and that their keys are in the table; no contract can tell what a file holds
+pub record AreTracesOf (room : ℕ) (files : List Text) (input : Option (List ℕ)) (names : List Name) (traces : List (List Event)) : Type 0 where
   pub below : All (KeysBelow (length names)) traces
-  pub from_input : length files ≡ 0 → (trace : List Event) × (traces ≡ trace ∷ []) × IfSome input (λ bytes. ReadsTo MAX_KEYS [] bytes names trace)
+  pub from_input : length files ≡ 0 → (trace : List Event) × (traces ≡ trace ∷ []) × IfSome input (λ bytes. ReadsTo room [] bytes names trace)
   pub from_files : 0 < length files → length traces ≡ length files
 
 -- the text that is wanted of the traces, by so many workers, was written, and the status says whether their facts are clean
@@ -50,16 +54,16 @@ pub record WritesText (wanted : Wanted) (workers : ℕ) (files : List Text) (nam
   pub clean : (status ≡ 0) ↔ IsClean (TracesHave traces)
 
 -- the same, of the traces of the files
-pub record TellsOf (wanted : Wanted) (workers : ℕ) (files : List Text) (input old new : Option (List ℕ)) (status : ℕ) : Type 0 where
+pub record TellsOf (wanted : Wanted) (room workers : ℕ) (files : List Text) (input old new : Option (List ℕ)) (status : ℕ) : Type 0 where
   pub names : List Name
   pub traces : List (List Event)
-  pub read : AreTracesOf files input names traces
+  pub read : AreTracesOf room files input names traces
   pub writes : WritesText wanted workers files names traces old new status
 
 -- the condensed trace was written, and the status is 0 whatever a report's would be
 abbrev pub Condenses : ℕ → (files : List Text) → (input old new : Option (List ℕ)) → ℕ → Type 0
 Condenses workers files input old new status =
-    (status ≡ 0) × ((reported : ℕ) × TellsOf Condensed workers files input old new reported)
+    (status ≡ 0) × ((reported : ℕ) × TellsOf Condensed MAX_KEYS workers files input old new reported)
 
 -- what is known of the bytes of a trace: those that standard input holds, and of a file's nothing
 abbrev pub known_of : Option Text → (input : Option (List ℕ)) → Option (List ℕ)
@@ -82,9 +86,9 @@ pub record WritesChains (bytes old new : Option (List ℕ)) (status : ℕ) : Typ
 
 -- what the line asks for was done
 abbrev pub DoesLine : Line → (input old new : Option (List ℕ)) → ℕ → Type 0
-DoesLine (Check workers many files) input = TellsOf Report workers (map (λ file. file.now) files.items) input
-DoesLine (Explain workers many files) input = TellsOf Explanation workers (map (λ file. file.now) files.items) input
-DoesLine (Graph workers many findings files) input = TellsOf (Picture findings) workers (map (λ file. file.now) files.items) input
+DoesLine (Check workers many files) input = TellsOf Report (room_of many) workers (map (λ file. file.now) files.items) input
+DoesLine (Explain workers many files) input = TellsOf Explanation (room_of many) workers (map (λ file. file.now) files.items) input
+DoesLine (Graph workers many findings files) input = TellsOf (Picture findings) (room_of many) workers (map (λ file. file.now) files.items) input
 DoesLine (Condense workers files) input = Condenses workers (map (λ file. file.now) files.items) input
 DoesLine (Chains file) input = WritesChains (known_of (option_map (λ word. word.now) file) input)
 
@@ -114,13 +118,13 @@ IsStepRefusal file trace (Step named at fault) = (named.now ≡ file)
     × ((place : ℕ) × (at ≡ place + 2) × IsFirstFault trace (record { fault = fault; place = place }))
 IsStepRefusal file trace _ = ⊥
 
--- the traces of these files weren't all read: one can't be opened or is refused in reading, or memory was refused before
-abbrev pub StopsReading : List Text → (input : Option (List ℕ)) → Refusal → Type 0
-StopsReading files input (CannotOpen named) = Contains files named.now
-StopsReading files input (Reading named fault) = Contains files named.now
-    ⊎ ((files ≡ []) × IsReadingRefusal (codes "stdin") MAX_KEYS [] input (Reading named fault))
-StopsReading files input Memory = ⊤
-StopsReading files input _ = ⊥
+-- the traces of these files weren't all read, where there is room for so many keys: one can't be opened or is refused in reading, or memory was refused before
+abbrev pub StopsReading : (room : ℕ) → List Text → (input : Option (List ℕ)) → Refusal → Type 0
+StopsReading room files input (CannotOpen named) = Contains files named.now
+StopsReading room files input (Reading named fault) = Contains files named.now
+    ⊎ ((files ≡ []) × IsReadingRefusal (codes "stdin") room [] input (Reading named fault))
+StopsReading room files input Memory = ⊤
+StopsReading room files input _ = ⊥
 
 -- the refusal of a text that wasn't written whole
 abbrev pub write_refusal_of : WriteFault → Refusal
@@ -134,6 +138,7 @@ IsReportRefusal files (report.Step trace at fault) (Step named named_at named_fa
     (named.now ≡ file_at files trace) × (named_at ≡ at) × (named_fault ≡ fault)
 IsReportRefusal files (report.Step trace at fault) _ = ⊥
 IsReportRefusal files (report.Run fault) refusal = refusal ≡ Run fault
+IsReportRefusal files (report.Survey fault) refusal = refusal ≡ Survey fault
 IsReportRefusal files (report.Condensing fault) refusal = refusal ≡ Condensing fault
 IsReportRefusal files (report.Out fault) refusal = refusal ≡ write_refusal_of fault
 
@@ -144,9 +149,9 @@ pub record RefusesTraces (wanted : Wanted) (workers : ℕ) (files : List Text) (
   pub refusal_is : IsReportRefusal files fault refusal
 
 -- no such text was written whole: in reading, and then nothing was written, or after it
-abbrev pub RefusesText : Wanted → ℕ → List Text → (input old new : Option (List ℕ)) → Refusal → Type 0
-RefusesText wanted workers files input old new refusal = (StopsReading files input refusal × Keeps old new)
-    ⊎ ((names : List Name) × (traces : List (List Event)) × AreTracesOf files input names traces
+abbrev pub RefusesText : Wanted → (room workers : ℕ) → List Text → (input old new : Option (List ℕ)) → Refusal → Type 0
+RefusesText wanted room workers files input old new refusal = (StopsReading room files input refusal × Keeps old new)
+    ⊎ ((names : List Name) × (traces : List (List Event)) × AreTracesOf room files input names traces
     × RefusesTraces wanted workers files names traces old new refusal)
 
 -- the trace isn't well formed, or its chains weren't written whole
@@ -169,10 +174,10 @@ RefusesChains file input old new refusal =
 
 -- what the line asks for is refused so
 abbrev pub RefusesLine : Line → (input old new : Option (List ℕ)) → Refusal → Type 0
-RefusesLine (Check workers many files) = RefusesText Report workers (map (λ file. file.now) files.items)
-RefusesLine (Explain workers many files) = RefusesText Explanation workers (map (λ file. file.now) files.items)
-RefusesLine (Graph workers many findings files) = RefusesText (Picture findings) workers (map (λ file. file.now) files.items)
-RefusesLine (Condense workers files) = RefusesText Condensed workers (map (λ file. file.now) files.items)
+RefusesLine (Check workers many files) = RefusesText Report (room_of many) workers (map (λ file. file.now) files.items)
+RefusesLine (Explain workers many files) = RefusesText Explanation (room_of many) workers (map (λ file. file.now) files.items)
+RefusesLine (Graph workers many findings files) = RefusesText (Picture findings) (room_of many) workers (map (λ file. file.now) files.items)
+RefusesLine (Condense workers files) = RefusesText Condensed MAX_KEYS workers (map (λ file. file.now) files.items)
 RefusesLine (Chains file) = RefusesChains (option_map (λ word. word.now) file)
 
 -- the text that was asked for wasn't written whole

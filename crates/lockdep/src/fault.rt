@@ -3,7 +3,7 @@
 ghost use Rattle.std.specs.Prelude.{◌≡◌};
 ghost use Rattle.lockdep.specs.Faults.{write_code_of};
 
-use ld_run::{CondenseFault, RunFault};
+use ld_run::{CondenseFault, RunFault, SurveyFault};
 use ld_task::StepFault;
 use thiserror::Error;
 
@@ -48,6 +48,9 @@ pub enum ReportFault {
     /// The run was refused otherwise. Nothing was written.
     #[error("{0}")]
     Run(RunFault),
+    /// The survey of many keys was refused otherwise. Nothing was written.
+    #[error("{0}")]
+    Survey(SurveyFault),
     /// The facts weren't condensed. Nothing was written.
     #[error("{0}")]
     Condensing(CondenseFault),

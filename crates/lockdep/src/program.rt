@@ -6,7 +6,7 @@ ghost use Rattle.ld_trace.specs.Events.{KeysBelow};
 ghost use Rattle.ld_trace.specs.Reading.{ReadsTo};
 ghost use Rattle.ld_trace.specs.declared.event.Event.{Event};
 ghost use Rattle.ld_task.specs.WellFormed.{IsFirstFault, IsWellFormed};
-ghost use Rattle.ld_trace.specs.declared.key_id.TheConstants.{MAX_KEYS};
+ghost use Rattle.ld_trace.specs.declared.key_id.TheConstants.{MAX_KEYS, MAX_MANY};
 ghost use Rattle.ld_trace.specs.declared.raw_trace.TheConstants.{MAX_EVENTS};
 ghost use Rattle.lockdep.specs.Inside.Sources.{remaining_in};
 ghost use Rattle.lockdep.specs.ChainLines.{chains_text};
@@ -14,7 +14,7 @@ ghost use Rattle.lockdep.specs.CommandLine.{IsLineFault};
 ghost use Rattle.lockdep.specs.FaultLines.{fault_line};
 ghost use Rattle.lockdep.specs.Faults.{StopsText};
 ghost use Rattle.lockdep.specs.Output.{AppendsBeginning};
-ghost use Rattle.lockdep.specs.Program.{AreTracesOf, Condenses, DoesLine, DoesWords, IsReadingRefusal, IsReportRefusal, IsStepRefusal, RefusesChains, RefusesHelp, RefusesLine, RefusesNoLine, RefusesOpened, RefusesText, RefusesTrace, RefusesTraces, RefusesWords, StopsReading, TellsOf, WritesChains, WritesHelp, WritesText, known_of, write_refusal_of};
+ghost use Rattle.lockdep.specs.Program.{AreTracesOf, Condenses, DoesLine, DoesWords, IsReadingRefusal, IsReportRefusal, IsStepRefusal, RefusesChains, RefusesHelp, RefusesLine, RefusesNoLine, RefusesOpened, RefusesText, RefusesTrace, RefusesTraces, RefusesWords, StopsReading, TellsOf, WritesChains, WritesHelp, WritesText, known_of, room_of, write_refusal_of};
 ghost use Rattle.lockdep.specs.Texts.{IsTextOf};
 ghost use Rattle.lockdep.specs.declared.refusal.Refusal.{Refusal};
 ghost use Rattle.lockdep.specs.declared.wanted.Wanted.{Wanted};
@@ -117,36 +117,57 @@ fn answer_line<'a, R: Files + Threads + Wait + Sync, I: Read + Drop, O: Write>(
     match line {
         Line::Check {
             workers,
-            many: _,
+            many,
             files,
         } => {
             let files = files.as_slice();
-            answer_traces(rt, alloc, Wanted::Report, *workers, files, input, out)
+            let room = room_of(*many);
+            answer_traces(rt, alloc, Wanted::Report, room, *workers, files, input, out)
         }
         Line::Explain {
             workers,
-            many: _,
+            many,
             files,
         } => {
             let files = files.as_slice();
-            answer_traces(rt, alloc, Wanted::Explanation, *workers, files, input, out)
+            let room = room_of(*many);
+            answer_traces(
+                rt,
+                alloc,
+                Wanted::Explanation,
+                room,
+                *workers,
+                files,
+                input,
+                out,
+            )
         }
         Line::Graph {
             workers,
-            many: _,
+            many,
             findings,
             files,
         } => {
             let wanted = Wanted::Picture {
                 findings: *findings,
             };
-            answer_traces(rt, alloc, wanted, *workers, files.as_slice(), input, out)
+            let room = room_of(*many);
+            let files = files.as_slice();
+            answer_traces(rt, alloc, wanted, room, *workers, files, input, out)
         }
         Line::Condense { workers, files } => {
             answer_condensed(rt, alloc, *workers, files.as_slice(), input, out)
         }
         Line::Chains { file } => answer_chains(rt, alloc, *file, input, out),
     }
+}
+
+// How many keys there is room for.
+fn room_of(many: bool) -> u16
+    ensures value { result ≡ room_of many }
+    ensures few { result ≤ MAX_MANY }
+{
+    if many { MAX_MANY } else { MAX_KEYS }
 }
 
 // Writes the text that was asked for, or answers why the command line is refused.
@@ -199,10 +220,19 @@ fn answer_condensed<'a, R: Files + Threads + Wait + Sync, I: Read + Drop, O: Wri
     ensures ok { IfOk result (Condenses workers (map (λ file. file.now) files.entry.now) (I.remaining input)
         (O.contents out.old) (O.contents out.new)) }
     ensures few { IfOk result (λ status. status ≤ 1) }
-    ensures err { IfErr result (RefusesText Wanted.Condensed workers (map (λ file. file.now) files.entry.now)
+    ensures err { IfErr result (RefusesText Wanted.Condensed MAX_KEYS workers (map (λ file. file.now) files.entry.now)
         (I.remaining input) (O.contents out.old) (O.contents out.new)) }
 {
-    match answer_traces(rt, alloc, Wanted::Condensed, workers, files, input, out) {
+    match answer_traces(
+        rt,
+        alloc,
+        Wanted::Condensed,
+        MAX_KEYS,
+        workers,
+        files,
+        input,
+        out,
+    ) {
         Ok(_) => Ok(DONE),
         Err(refusal) => Err(refusal),
     }
@@ -213,17 +243,19 @@ fn answer_traces<'a, R: Files + Threads + Wait + Sync, I: Read + Drop, O: Write>
     rt: &R,
     alloc: Global,
     wanted: Wanted,
+    room: u16,
     workers: u16,
     files: &[&'a str],
     input: I,
     out: &mut O,
 ) -> Result<u8, Refusal<'a>>
-    ensures ok { IfOk result (TellsOf wanted workers (map (λ file. file.now) files.entry.now) (I.remaining input)
+    requires { room ≤ MAX_MANY }
+    ensures ok { IfOk result (TellsOf wanted room workers (map (λ file. file.now) files.entry.now) (I.remaining input)
         (O.contents out.old) (O.contents out.new)) }
-    ensures err { IfErr result (RefusesText wanted workers (map (λ file. file.now) files.entry.now)
+    ensures err { IfErr result (RefusesText wanted room workers (map (λ file. file.now) files.entry.now)
         (I.remaining input) (O.contents out.old) (O.contents out.new)) }
 {
-    let Ok(mut session) = Session::new(alloc) else {
+    let Ok(mut session) = Session::with_room(alloc, room) else {
         return Err(Refusal::Memory);
     };
     match add_traces(rt, &mut session, files, input) {
@@ -289,12 +321,11 @@ fn add_traces<'a, R: Files, I: Read + Drop>(
     files: &[&'a str],
     input: I,
 ) -> Result<(), Refusal<'a>>
-    requires room { session.old.room ≡ MAX_KEYS }
     requires no_names { session.old.names ≡ [] }
     requires no_traces { session.old.traces ≡ [] }
-    ensures ok { OnOk result (AreTracesOf (map (λ file. file.now) files.entry.now) (I.remaining input)
+    ensures ok { OnOk result (AreTracesOf session.old.room (map (λ file. file.now) files.entry.now) (I.remaining input)
         session.new.names session.new.traces) }
-    ensures err { IfErr result (StopsReading (map (λ file. file.now) files.entry.now) (I.remaining input)) }
+    ensures err { IfErr result (StopsReading session.old.room (map (λ file. file.now) files.entry.now) (I.remaining input)) }
 {
     if files.is_empty() {
         return add_trace::<I, R::File>(session, STDIN, Source::Input(input));
@@ -311,7 +342,7 @@ fn add_files<'a, R: Files, I: Read + Drop>(
     requires { All (KeysBelow (length session.old.names)) session.old.traces }
     ensures ok { OnOk result (length session.new.traces ≡ length session.old.traces + length files.entry.now) }
     ensures below { OnOk result (All (KeysBelow (length session.new.names)) session.new.traces) }
-    ensures err { (input : Option (List ℕ)) → IfErr result (StopsReading (map (λ file. file.now) files.entry.now) input) }
+    ensures err { (input : Option (List ℕ)) → IfErr result (StopsReading session.old.room (map (λ file. file.now) files.entry.now) input) }
 {
     for file in files {
         add_file::<R, I>(rt, session, file)?;
@@ -327,7 +358,7 @@ fn add_file<'a, R: Files, I: Read + Drop>(
 ) -> Result<(), Refusal<'a>>
     ensures ok { OnOk result (length session.new.traces ≡ length session.old.traces + 1) }
     ensures below { OnOk result (All (KeysBelow (length session.new.names)) session.new.traces) }
-    ensures err { IfErr result (StopsReading (file.entry.now ∷ []) None) }
+    ensures err { IfErr result (StopsReading session.old.room (file.entry.now ∷ []) None) }
 {
     match File::open(rt, file) {
         Ok(opened) => add_trace::<I, R::File>(session, file, Source::File(opened)),
@@ -451,6 +482,7 @@ fn report_refusal<'a>(files: &[&'a str], fault: ReportFault) -> Refusal<'a>
             fault,
         },
         ReportFault::Run(fault) => Refusal::Run(fault),
+        ReportFault::Survey(fault) => Refusal::Survey(fault),
         ReportFault::Condensing(fault) => Refusal::Condensing(fault),
         ReportFault::Out(fault) => write_refusal(fault),
     }

@@ -9,7 +9,7 @@ ghost use Rattle.lockdep.specs.Output.{AppendsBeginning, PutsBehind};
 use crate::fault::WriteFault;
 use crate::output::write_texts;
 use crate::words::digits_of;
-use ld_run::{CondenseFault, RunFault};
+use ld_run::{CondenseFault, RunFault, SurveyFault};
 use ld_task::StepFault;
 use ld_trace::TraceFault;
 use std::io::Write;
@@ -43,6 +43,8 @@ pub(crate) enum Refusal<'a> {
     },
     /// The run over the traces is refused otherwise.
     Run(RunFault),
+    /// The survey of many keys is refused otherwise.
+    Survey(SurveyFault),
     /// The facts of the traces aren't condensed.
     Condensing(CondenseFault),
 }
@@ -81,6 +83,7 @@ fn tell<W: Write>(w: &mut W, refusal: Refusal<'_>) -> Result<(), WriteFault>
         Refusal::Reading { file, fault } => tell_record(w, file, fault.at, fault.code()),
         Refusal::Step { file, at, fault } => tell_record(w, file, at, fault.code()),
         Refusal::Run(fault) => write_texts(w, &["lockdep: ", fault.code(), "\n"]),
+        Refusal::Survey(fault) => write_texts(w, &["lockdep: ", fault.code(), "\n"]),
         Refusal::Condensing(fault) => write_texts(w, &["lockdep: ", fault.code(), "\n"]),
     }
 }

@@ -10,6 +10,7 @@ ghost use Rattle.ld_trace.specs.Reading.{ReadsTo, StopsAt};
 ghost use Rattle.ld_task.specs.WellFormed.{IsWellFormed};
 ghost use Rattle.ld_graph.specs.Links.{IsClean};
 ghost use Rattle.ld_run.specs.Runs.{CompletesRun, IsCrew, StopsRun};
+ghost use Rattle.ld_run.specs.Surveys.{StopsSurvey};
 ghost use Rattle.ld_graph.specs.FactBits.{HasFact};
 ghost use Rattle.ld_graph.specs.Facts.{AreSame};
 ghost use Rattle.lockdep.specs.Condensed.{IsCondensedOf};
@@ -27,7 +28,7 @@ use crate::fault::{ReportFault, WriteFault};
 use crate::picture::write_picture;
 use crate::report::write_report;
 use crate::wanted::Wanted;
-use ld_run::{Gate, MAX_TRACES, MAX_WORKERS, RunFault, Settled, run};
+use ld_run::{Gate, MAX_TRACES, MAX_WORKERS, RunFault, Settled, SurveyFault, run, survey};
 use ld_trace::{
     KeyFault, KeyTable, MAX_KEYS, MAX_MANY, RawTrace, TraceFault, TraceFaultKind, read_trace,
 };
@@ -97,9 +98,10 @@ impl Session {
     /// chain. The session is consumed in every case.
     ///
     /// Refusals, in this order: `Run` with N1 where `workers` isn't 1 to 64, with N2 where there are more than 4,096 traces
-    /// and with N4 where memory for the run is refused or more than 256 keys have names; `Step` with the least trace that isn't well formed, the record of its
+    /// and with N4 where memory for the run is refused; `Step` with the least trace that isn't well formed, the record of its
     /// first event that isn't allowed and why; `Run` with N3 where the workers don't agree on the facts; `Out` where writing
-    /// failed. Nothing was written before `Out` and after O3, and exactly a beginning of the report after O1 and O2 [this
+    /// failed. Of more than 256 keys one survey is made in place of a run: then `Survey` with M2 stands for N4, and `Survey`
+    /// with M1, where the keys don't come apart, for N3. Nothing was written before `Out` and after O3, and exactly a beginning of the report after O1 and O2 [this
     /// project's own].
     pub fn report<R: Threads + Wait + Sync, W: Write, G: Gate + Sync>(
         self,
@@ -301,11 +303,11 @@ fn write_traces<R: Threads + Wait + Sync, W: Write, G: Gate + Sync>(
 {
     match settled_of(rt, alloc, workers, gate, traces, keys) {
         Ok(settled) => write_settled(alloc, w, wanted, &settled, traces, keys, files),
-        Err(fault) => Err(run_fault(fault, traces)),
+        Err(fault) => Err(fault),
     }
 }
 
-// The settled facts of the traces. Of more than 256 keys none are made yet: the run is refused then as if memory were.
+// The facts of the traces, and what they mean: by a run of the workers, or of more than 256 keys by a survey.
 fn settled_of<R: Threads + Wait + Sync, G: Gate + Sync>(
     rt: &R,
     alloc: Global,
@@ -313,29 +315,69 @@ fn settled_of<R: Threads + Wait + Sync, G: Gate + Sync>(
     gate: &G,
     traces: &[RawTrace],
     keys: &KeyTable,
-) -> Result<Settled, RunFault>
+) -> Result<Settled, ReportFault>
     requires { All (KeysBelow (length keys.now.names)) traces.now }
     ensures ok { IfOk result (CompletesRun traces.now workers) }
     ensures keys { IfOk result (λ settled. settled.keys ≡ length keys.now.names) }
-    ensures refused { IfErr result (StopsRun traces.now workers) }
+    ensures refused { IfErr result (λ fault. (known : Option (List ℕ)) (wanted : Wanted) (files : List (List ℕ))
+        → StopsText wanted traces.now keys.now.names files workers known known fault) }
 {
     let count = keys.len() as u16;
     if count > MAX_KEYS {
-        return Err(fault_of_many(workers, traces));
+        return surveyed(alloc, workers, traces, count);
     }
-    run(rt, alloc, traces, count, workers, gate)
+    match run(rt, alloc, traces, count, workers, gate) {
+        Ok(settled) => Ok(settled),
+        Err(fault) => Err(run_fault(fault, traces)),
+    }
 }
 
-// The fault of a run of more than 256 keys: N1 and N2 where a run of fewer has them, and else N4.
-fn fault_of_many(workers: u16, traces: &[RawTrace]) -> RunFault
-    ensures { StopsRun traces.now workers result }
+// The facts of traces of more than 256 keys, by one survey, whatever the number of workers. N1 and N2 are those of a run.
+fn surveyed(
+    alloc: Global,
+    workers: u16,
+    traces: &[RawTrace],
+    count: u16,
+) -> Result<Settled, ReportFault>
+    requires below { All (KeysBelow count) traces.now }
+    requires few { count ≤ MAX_MANY }
+    requires many { MAX_KEYS < count }
+    ensures ok { IfOk result (CompletesRun traces.now workers) }
+    ensures keys { IfOk result (λ settled. settled.keys ≡ count) }
+    ensures refused { IfErr result (λ fault. (known : Option (List ℕ)) (names : List Name) (wanted : Wanted)
+        (files : List (List ℕ)) → length names ≡ count
+        → StopsText wanted traces.now names files workers known known fault) }
 {
     if workers == 0 || workers > MAX_WORKERS {
-        RunFault::BadWorkers
-    } else if traces.len() > MAX_TRACES {
-        RunFault::TooManyTraces
-    } else {
-        RunFault::Memory
+        return Err(ReportFault::Run(RunFault::BadWorkers));
+    }
+    if traces.len() > MAX_TRACES {
+        return Err(ReportFault::Run(RunFault::TooManyTraces));
+    }
+    match survey(alloc, traces, count) {
+        Ok(settled) => Ok(settled),
+        Err(fault) => Err(survey_fault(fault, traces)),
+    }
+}
+
+// What a refused survey of these traces comes to.
+fn survey_fault(fault: SurveyFault, traces: &[RawTrace]) -> ReportFault
+    requires { StopsSurvey traces.now fault }
+    ensures { (workers : ℕ) (known : Option (List ℕ)) (names : List Name) (wanted : Wanted) (files : List (List ℕ))
+        → IsCrew workers → length traces.now ≤ MAX_TRACES → MAX_KEYS < length names
+        → StopsText wanted traces.now names files workers known known result }
+{
+    match fault {
+        SurveyFault::Refused {
+            trace,
+            place,
+            fault,
+        } => ReportFault::Step {
+            trace,
+            at: record_of(traces, trace, place),
+            fault,
+        },
+        other => ReportFault::Survey(other),
     }
 }
 
