@@ -1,5 +1,5 @@
 -- The parts of a parted graph, and what is found in them.
-use Rattle.std.specs.Prelude.{◌≡◌, ℕ, ◌+◌, ◌*◌, ◌<◌, ◌≤◌, ◌↔◌, Bool, List, [], ◌∷◌, length, get_or, map, slice_index, All, Contains}
+use Rattle.std.specs.Prelude.{◌≡◌, ℕ, ◌<◌, ◌≤◌, ◌↔◌, Bool, List, [], ◌∷◌, length, get_or, map, slice_index, All, Contains}
 use Rattle.std.proofs.Common.{refl, ap, sym, ◌∙◌, subst, inl, inr, arith}
 use Rattle.std.proofs.lemmas.Bool.{cases_lt}
 use Rattle.std.proofs.lemmas.List.{get_or_default, length-map}
@@ -18,7 +18,7 @@ use Rattle.ld_graph.specs.Ranks.{AmongRank, AreFoundByRank, NoneGoesDown}
 use Rattle.ld_graph.specs.Renumbered.{AmongKeys, AreFoundByPlace, HasKeys, Renumbered, arrow_at}
 use Rattle.ld_graph.specs.RenumberedLaws.{are_found_by_place, AmongRank-listed, IsCircle-placed}
 use Rattle.ld_graph.specs.Walks.{IsCircle, OnCircle, IsShortestCircle, IsShortestFrom}
-use Rattle.ld_graph.specs.Inside.Parts.{AreApart, AreParts, AreTogether, IsParted, IsAtPlace, IsHome, IsPart, IsPartOf, IsShortestOfFirst}
+use Rattle.ld_graph.specs.Inside.Parts.{AreApart, AreTogether, IsParted, IsAtPlace, IsHome, IsPart, IsPartOf, IsShortestOfFirst}
 use Rattle.ld_graph.proofs.Circles.{Contains-head, OnCircle-member}
 use Rattle.ld_graph.specs.declared.fact.Fact.{Fact}
 use Rattle.ld_graph.specs.declared.fact.Fact.TheVariants.{Dependency, Marked}
