@@ -311,7 +311,7 @@ no_circle P none [] no_walk = no_walk
 no_circle P none (a ∷ rest) closed = none a (a, rest, closed, Contains-head a rest)
 
 -- where a place of a list is, there is a member
-some_part : (parts : List Part) (r : ℕ) → r < length parts → Part
+pub some_part : (parts : List Part) (r : ℕ) → r < length parts → Part
 some_part [] r l = absurd (omega arith)
 some_part (part ∷ parts) r l = part
 
