@@ -150,7 +150,7 @@ elsewhere x xs ys p once lp is z (k, lk, at) (q, lq, found_z) =
     remove-keeps ys p q z lp lq (λ e. once 0 (suc k) z (omega arith) (omega arith) (same_place e)) found_z
 
 -- a list with none twice is no longer than one that has its members
-no_longer : {A : Type 0} (xs ys : List A) → AllPairs (λ x y. ¬ (x ≡ y)) xs → ((z : A) → Contains xs z → Contains ys z) → length xs ≤ length ys
+pub no_longer : {A : Type 0} (xs ys : List A) → AllPairs (λ x y. ¬ (x ≡ y)) xs → ((z : A) → Contains xs z → Contains ys z) → length xs ≤ length ys
 no_longer [] ys once within = omega arith
 no_longer (x ∷ xs) ys once within =
     let (p, lp, is) = within x (0, omega arith, refl) in

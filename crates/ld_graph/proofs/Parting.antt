@@ -13,6 +13,8 @@ use Rattle.ld_graph.specs.Ranks.{IsCrowded}
 use Rattle.ld_graph.specs.Renumbered.{arrow_at}
 use Rattle.ld_graph.specs.Walks.{IsCircle, OnCircle}
 use Rattle.ld_graph.proofs.Circles.{Contains-head}
+use Rattle.ld_graph.proofs.Counted.{no_longer}
+use Rattle.ld_graph.proofs.Parts.{some_part}
 use Rattle.ld_graph.specs.declared.home.Home.{Home}
 use Rattle.ld_graph.specs.declared.part.Part.{Part}
 
@@ -173,3 +175,16 @@ AreHoused-parts facts rank parts are few = record {
   listed = λ key part l. (are.parts_are (rank key) part (are.all key l)).keys_are.all key l refl;
   few = λ r part l. let all = (are.parts_are r part l).keys_are.few in omega arith;
 }
+
+-- and of none too many
+pub not_crowded : (facts : FactParts) (rank : ℕ → ℕ) (parts : List Part) → AreParts facts rank parts →
+    (r : ℕ) → ¬ IsCrowded facts.keys rank r
+not_crowded facts rank parts are r (keys, long, once, of) =
+    let (below, at_r) = of 0 0 (omega arith) in
+    let l : r < length parts = subst (λ s. s < length parts) at_r (are.all (get_or keys 0 0) below) in
+    let part = some_part parts r l in
+    let is = are.parts_are r part l in
+    let room = is.room in
+    let few = no_longer keys (get_or parts r part).keys.items once
+    (λ key (k, lk, e). let (under, same) = subst (λ x. (x < facts.keys) × (rank x ≡ r)) e (of k key lk) in is.keys_are.all key under same) in
+    omega arith

@@ -1,5 +1,5 @@
 -- The parts of a parted graph, and what is found in them.
-use Rattle.std.specs.Prelude.{◌≡◌, ℕ, ◌+◌, ◌*◌, ◌<◌, ◌≤◌, ◌↔◌, Bool, List, [], ◌∷◌, length, get_or, map, slice_index, All, Contains}
+use Rattle.std.specs.Prelude.{◌≡◌, ℕ, ◌<◌, ◌≤◌, ◌↔◌, Bool, List, [], ◌∷◌, length, get_or, map, slice_index, All, Contains}
 use Rattle.std.proofs.Common.{refl, ap, sym, ◌∙◌, subst, inl, inr, arith}
 use Rattle.std.proofs.lemmas.Bool.{cases_lt}
 use Rattle.std.proofs.lemmas.List.{get_or_default, length-map}
@@ -18,7 +18,7 @@ use Rattle.ld_graph.specs.Ranks.{AmongRank, AreFoundByRank, NoneGoesDown}
 use Rattle.ld_graph.specs.Renumbered.{AmongKeys, AreFoundByPlace, HasKeys, Renumbered, arrow_at}
 use Rattle.ld_graph.specs.RenumberedLaws.{are_found_by_place, AmongRank-listed, IsCircle-placed}
 use Rattle.ld_graph.specs.Walks.{IsCircle, OnCircle, IsShortestCircle, IsShortestFrom}
-use Rattle.ld_graph.specs.Inside.Parts.{AreApart, AreParts, AreTogether, IsParted, IsAtPlace, IsHome, IsPart, IsPartOf, IsShortestOfFirst}
+use Rattle.ld_graph.specs.Inside.Parts.{AreApart, AreTogether, IsParted, IsAtPlace, IsHome, IsPart, IsPartOf, IsShortestOfFirst}
 use Rattle.ld_graph.proofs.Circles.{Contains-head, OnCircle-member}
 use Rattle.ld_graph.specs.declared.fact.Fact.{Fact}
 use Rattle.ld_graph.specs.declared.fact.Fact.TheVariants.{Dependency, Marked}
@@ -311,7 +311,7 @@ no_circle P none [] no_walk = no_walk
 no_circle P none (a ∷ rest) closed = none a (a, rest, closed, Contains-head a rest)
 
 -- where a place of a list is, there is a member
-some_part : (parts : List Part) (r : ℕ) → r < length parts → Part
+pub some_part : (parts : List Part) (r : ℕ) → r < length parts → Part
 some_part [] r l = absurd (omega arith)
 some_part (part ∷ parts) r l = part
 

@@ -50,6 +50,7 @@ impl PartedGraph {
     pub fn by_ranks(alloc: Global, facts: Facts, ranks: &Ranks) -> Result<PartedGraph, PartingFault>
         ensures value { IfOk result (λ graph. graph ≡ facts) }
         ensures ranked { IfOk result (λ _. NoneGoesDown (HasFact facts) (slice_index ranks.now)) }
+        ensures few { IfOk result (λ _. (r : ℕ) → ¬ IsCrowded facts.keys (slice_index ranks.now) r) }
         ensures tangled { result ≡ Err TooTangled
             → ¬ NoneGoesDown (HasFact facts) (slice_index ranks.now)
             ⊎ ((r : ℕ) × IsCrowded facts.keys (slice_index ranks.now) r) }

@@ -6,6 +6,7 @@ ghost use Rattle.ld_trace.specs.declared.key_id.TheConstants.{MAX_KEYS};
 
 mod among;
 mod finding;
+mod parted;
 mod ranks;
 mod walks;
 mod want_of_memory;

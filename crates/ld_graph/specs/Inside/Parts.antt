@@ -1,6 +1,6 @@
 -- The parts of a parted graph: the keys of each rank, with a graph of the facts among them.
 use Rattle.std.specs.Prelude.{◌≡◌, ℕ, ◌<◌, ◌≤◌, List, length, map, get_or, All, Contains, EachIndex, slice_index}
-use Rattle.ld_trace.specs.declared.key_id.TheConstants.{MAX_MANY}
+use Rattle.ld_trace.specs.declared.key_id.TheConstants.{MAX_KEYS, MAX_MANY}
 use Rattle.ld_graph.specs.Arrows.{Arrow}
 use Rattle.ld_graph.specs.FactBits.{FactParts, HasFact}
 use Rattle.ld_graph.specs.Facts.{AreSame}
@@ -26,6 +26,7 @@ MayBeTold keys = EachIndex keys (λ i. slice_index keys i < MAX_MANY)
 pub record IsPart (facts : FactParts) (rank : ℕ → ℕ) (r : ℕ) (part : Part) : Type 0 where
   pub keys_are : AreKeysOf facts.keys rank r part.keys.items
   pub told : MayBeTold part.keys.items
+  pub room : length part.keys.items ≤ MAX_KEYS
   pub bound : part.graph.facts.keys ≡ length part.keys.items
   pub same : AreSame (HasFact part.graph.facts) (Renumbered (HasFact facts) part.keys.items)
 

@@ -1,5 +1,5 @@
 use Rattle.std.specs.Prelude.{is_some}
-use Rattle.std.proofs.Common.{ap, ◌≡◌, ◌∙◌, map, refl, sym, subst, true, false}
+use Rattle.std.proofs.Common.{ap, ◌≡◌, map, refl, sym, subst, true, false}
 use Rattle.ld_graph.proofs.Parts.{inversion_at, no_inversion_apart, shortest_inversion_at}
 use Rattle.ld_graph.specs.FactBits.{HasFact}
 use Rattle.ld_graph.specs.Renumbered.{arrow_at}

@@ -1,4 +1,4 @@
-use Rattle.std.proofs.Common.{◌≤◌, length, sym, subst}
+use Rattle.std.proofs.Common.{◌≤◌, length, subst}
 use Rattle.std.specs.Prelude.{◌↔◌, All, IsNone, IfSome}
 use Rattle.std.proofs.lemmas.Option.{IfSome_then}
 use Rattle.ld_graph.specs.Arrows.{Arrow}

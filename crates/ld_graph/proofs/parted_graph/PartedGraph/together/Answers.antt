@@ -1,6 +1,6 @@
-use Rattle.std.proofs.Common.{◌≡◌, ◌∙◌, ap, length, subst, arith}
+use Rattle.std.proofs.Common.{◌∙◌, ap, length, subst, arith}
 use Rattle.ld_graph.specs.FactBits.{FactParts}
-use Rattle.ld_graph.specs.Inside.Parts.{AreApart, IsHome, IsPartOf}
+use Rattle.ld_graph.specs.Inside.Parts.{AreApart, IsPartOf}
 use Rattle.ld_graph.proofs.Parts.{are_apart, home_read, part_read, place_read}
 use Rattle.ld_graph.proofs.parted_graph.PartedGraph.together.Goals as goal
 

@@ -1,7 +1,6 @@
 use Rattle.std.proofs.Common.{◌≡◌, ℕ, ◌+◌, ◌<◌, ◌≤◌, ◌∙◌, List, [], ◌∷◌, length, get_or, map, reverse, take, sym, ap, arith}
 use Rattle.std.proofs.lemmas.List.{length-map, length-reverse, length-take-le, map-append, reverse-append, take_more}
 use Rattle.ld_task.specs.declared.kind.Kind.TheVariants.{Er}
-use Rattle.ld_graph.specs.Arrows.{Arrow}
 use Rattle.ld_graph.specs.Circles.{arrow_of, forwards}
 use Rattle.ld_graph.specs.Renumbered.{arrow_at}
 use Rattle.ld_graph.specs.declared.dependency.Dependency.{Dependency}
