@@ -34,7 +34,7 @@ use crate::wanted::Wanted;
 use crate::words::{STDIN, file_of};
 use ld_run::OpenGate;
 use ld_task::{StepAt, check};
-use ld_trace::{KeyTable, RawTrace, read_trace};
+use ld_trace::{KeyTable, MAX_KEYS, MAX_MANY, RawTrace, read_trace};
 use std::alloc::Global;
 use std::fs::File;
 use std::io::{Read, Write};

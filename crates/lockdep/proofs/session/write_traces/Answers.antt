@@ -13,5 +13,4 @@ returns-in-Ok-clause-refused g c =
 
 pub returns-in-Err-clause-refused : goal.returns-in-Err-clause-refused
 returns-in-Err-clause-refused g c =
-    c.run_fault.ensures c.args.workers (g.W.Write.contents c.args.w.now) c.in-Err.ensures.refused
-    c.args.wanted c.args.keys.now.names (map (λ file. file.now) c.args.files.now)
+    c.in-Err.ensures.refused (g.W.Write.contents c.args.w.now) c.args.wanted (map (λ file. file.now) c.args.files.now)
