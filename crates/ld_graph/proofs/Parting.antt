@@ -14,7 +14,7 @@ use Rattle.ld_graph.specs.Renumbered.{arrow_at}
 use Rattle.ld_graph.specs.Walks.{IsCircle, OnCircle}
 use Rattle.ld_graph.proofs.Circles.{Contains-head}
 use Rattle.ld_graph.proofs.Counted.{no_longer}
-use Rattle.ld_graph.proofs.Parts.{some_part}
+use Rattle.ld_graph.proofs.Parts.{no_circle, some_part}
 use Rattle.ld_graph.specs.declared.home.Home.{Home}
 use Rattle.ld_graph.specs.declared.part.Part.{Part}
 
@@ -110,10 +110,6 @@ module _ (parts : List Part) (n : ℕ) (part : Part) (within : n < length parts)
       let least = told.shortest.least other other_is in
       omega (arith, ap length told.told, length-map told.own (arrow_at part.keys.items))
 
-  no_circle : ((d : Arrow) → ¬ OnCircle (HasFact part.graph.facts) d) → (other : List Arrow) → ¬ IsCircle (HasFact part.graph.facts) other
-  no_circle none [] no_walk = no_walk
-  no_circle none (a ∷ rest) closed = none a (a, rest, closed, Contains-head a rest)
-
   pub none_more : ((k : ℕ) (p : Part) → k < n → (d : Arrow) → ¬ OnCircle (HasFact (get_or parts k p).graph.facts) d) →
       ((d : Arrow) → ¬ OnCircle (HasFact part.graph.facts) d) →
       (k : ℕ) (p : Part) → k < n + 1 → (d : Arrow) → ¬ OnCircle (HasFact (get_or parts k p).graph.facts) d
@@ -131,7 +127,7 @@ module _ (parts : List Part) (n : ℕ) (part : Part) (within : n < length parts)
   pub stays_without : (o : Option (List Arrow)) → ((d : Arrow) → ¬ OnCircle (HasFact part.graph.facts) d) →
       IfSome o (IsShortestOfFirst parts n) → IfSome o (IsShortestOfFirst parts (n + 1))
   stays_without None none was = was
-  stays_without (Some known) none was = known_stays known was (λ other other_is. absurd (no_circle none other other_is))
+  stays_without (Some known) none was = known_stays known was (λ other other_is. absurd (no_circle (HasFact part.graph.facts) none other other_is))
 
   module _ (circle : List Arrow) (told : IsToldBy part circle) (shorter : Bool) where
     pub stays_beside : (o : Option (List Arrow)) → IsFalse shorter → (IsNone o → IsTrue shorter) →

@@ -1,6 +1,7 @@
 use Rattle.std.specs.Prelude.{is_some}
 use Rattle.std.proofs.Common.{ap, ◌≡◌, map, refl, sym, subst, true, false}
-use Rattle.ld_graph.proofs.Parts.{on_circle_at, no_circle_apart, shortest_from_at}
+use Rattle.ld_graph.proofs.PartLaws.{on_circle_at, shortest_from_at}
+use Rattle.ld_graph.proofs.Parts.{no_circle_apart}
 use Rattle.ld_graph.specs.Arrows.{arrow}
 use Rattle.ld_graph.specs.FactBits.{HasFact}
 use Rattle.ld_graph.specs.Renumbered.{arrow_at}

@@ -1,7 +1,8 @@
 use Rattle.std.specs.Prelude.{is_some}
 use Rattle.std.proofs.lemmas.Option.{IfSome_then}
 use Rattle.std.proofs.Common.{ap, refl}
-use Rattle.ld_graph.proofs.Parts.{double_at, double_by_at, no_double_apart}
+use Rattle.ld_graph.proofs.PartLaws.{double_at, double_by_at}
+use Rattle.ld_graph.proofs.Parts.{no_double_apart}
 use Rattle.ld_graph.proofs.parted_graph.PartedGraph.double_forms.Goals as goal
 
 pub returns-in_err-part-clause-none : goal.returns-in_err-part-clause-none

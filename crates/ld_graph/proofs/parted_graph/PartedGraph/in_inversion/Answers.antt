@@ -1,5 +1,6 @@
 use Rattle.std.proofs.Common.{◌≡◌, refl, true, false}
-use Rattle.ld_graph.proofs.Parts.{in_inversion_at, not_in_inversion_apart}
+use Rattle.ld_graph.proofs.PartLaws.{in_inversion_at}
+use Rattle.ld_graph.proofs.Parts.{not_in_inversion_apart}
 use Rattle.ld_graph.proofs.parted_graph.PartedGraph.in_inversion.Goals as goal
 
 pub returns-in-Some : goal.returns-in-Some

@@ -1,6 +1,7 @@
 use Rattle.std.specs.Prelude.{is_some}
 use Rattle.std.proofs.Common.{ap, ◌≡◌, map, refl, sym, subst, true, false}
-use Rattle.ld_graph.proofs.Parts.{inversion_at, no_inversion_apart, shortest_inversion_at}
+use Rattle.ld_graph.proofs.PartLaws.{inversion_at, shortest_inversion_at}
+use Rattle.ld_graph.proofs.Parts.{no_inversion_apart}
 use Rattle.ld_graph.specs.FactBits.{HasFact}
 use Rattle.ld_graph.specs.Renumbered.{arrow_at}
 use Rattle.ld_graph.specs.Links.{IsShortestInversion, link_by}

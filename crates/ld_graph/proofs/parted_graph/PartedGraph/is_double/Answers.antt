@@ -1,5 +1,6 @@
 use Rattle.std.proofs.Common.{◌≡◌, refl, true, false}
-use Rattle.ld_graph.proofs.Parts.{double_at, no_double_apart}
+use Rattle.ld_graph.proofs.PartLaws.{double_at}
+use Rattle.ld_graph.proofs.Parts.{no_double_apart}
 use Rattle.ld_graph.proofs.parted_graph.PartedGraph.is_double.Goals as goal
 
 pub returns-in-Some : goal.returns-in-Some

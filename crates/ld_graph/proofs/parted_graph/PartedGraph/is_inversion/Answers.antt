@@ -1,5 +1,6 @@
 use Rattle.std.proofs.Common.{◌≡◌, refl, true, false}
-use Rattle.ld_graph.proofs.Parts.{inversion_at, no_inversion_apart}
+use Rattle.ld_graph.proofs.PartLaws.{inversion_at}
+use Rattle.ld_graph.proofs.Parts.{no_inversion_apart}
 use Rattle.ld_graph.proofs.parted_graph.PartedGraph.is_inversion.Goals as goal
 
 pub returns-in-Some : goal.returns-in-Some

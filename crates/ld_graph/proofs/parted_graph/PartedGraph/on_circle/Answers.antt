@@ -1,5 +1,6 @@
 use Rattle.std.proofs.Common.{◌≡◌, refl, true, false}
-use Rattle.ld_graph.proofs.Parts.{on_circle_at, no_circle_apart}
+use Rattle.ld_graph.proofs.PartLaws.{on_circle_at}
+use Rattle.ld_graph.proofs.Parts.{no_circle_apart}
 use Rattle.ld_graph.proofs.parted_graph.PartedGraph.on_circle.Goals as goal
 
 pub returns-in-Some : goal.returns-in-Some
