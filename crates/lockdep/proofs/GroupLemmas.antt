@@ -55,3 +55,13 @@ GrowsBy-hidden P line text no_line = record { part = []; shows = inr (no_line, r
 -- the line of what is true
 pub GrowsBy-shown : (P : Type 0) (line old new : List ℕ) → P → new ≡ old ++ line → GrowsBy (ShowsWhere P line) old new
 GrowsBy-shown P line old new holds is = record { part = line; shows = inl (holds, refl); grew = is }
+
+-- where all is false there is no line
+module _ {X : Type 0} (P : X → Type 0) (line : X → List ℕ) (never : (x : X) → ¬ P x) where
+  InTurn-hidden : (xs : List X) → InTurn (λ x. ShowsWhere (P x) (line x)) xs []
+  unfolding InSequence
+  InTurn-hidden [] = refl
+  InTurn-hidden (x ∷ xs) = ([], [], inr (never x, refl), InTurn-hidden xs, refl)
+
+  pub GrowsBy-all_hidden : (xs : List X) (text : List ℕ) → GrowsBy (InTurn (λ x. ShowsWhere (P x) (line x)) xs) text text
+  GrowsBy-all_hidden xs text = record { part = []; shows = InTurn-hidden xs; grew = sym (append-nil text) }

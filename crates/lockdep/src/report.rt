@@ -1,8 +1,12 @@
 //! The text of a report.
 
-ghost use Rattle.std.specs.Prelude.{◌≡◌, ◌++◌, List, ℕ, OnOk, IfOk, IfErr, length, string_bytes, sum_by};
+ghost use Rattle.std.specs.Prelude.{◌≡◌, ◌++◌, List, ℕ, OnOk, IfOk, IfErr, IsFalse, length, string_bytes, sum_by};
 ghost use Rattle.std.specs.Io.KnownBytes.{Appends};
+ghost use Rattle.ld_graph.specs.Arrows.{arrow};
 ghost use Rattle.ld_graph.specs.FactBits.{HasFact};
+ghost use Rattle.ld_graph.specs.Links.{IsInversion};
+ghost use Rattle.ld_graph.specs.Walks.{OnCircle};
+ghost use Rattle.ld_task.specs.declared.kind.Kind.{Kind};
 ghost use Rattle.lockdep.specs.Faults.{StopsWriting};
 ghost use Rattle.lockdep.specs.Groups.{GrowsBy, InTurn};
 ghost use Rattle.lockdep.specs.Report.{AreCircles, AreDoubles, AreInversions, AreTotals, IsReport, IsUsageCharacter, IsUsageLine, ShowsBecause, ShowsCircle, ShowsDouble, ShowsInversion, clean_line, forms, kinds, total_line, usage_character};
@@ -74,10 +78,27 @@ impl ReportView<'_> {
             (InTurn (ShowsCircle (HasFact self.entry.settled.now) self.entry.names.now.names from to) kinds)
             (string_bytes text.old) (string_bytes text.new)) }
     {
+        if !self.are_joined(from, to) {
+            return Ok(());
+        }
         for kind in KINDS {
             self.add_circle(text, from, to, kind)?;
         }
         Ok(())
+    }
+
+    // Whether a dependency leads from the one key to the other. Where none does none is on a circle.
+    fn are_joined(self, from: KeyId, to: KeyId) -> bool
+        ensures { IsFalse result → (kind : Kind)
+            → ¬ OnCircle (HasFact self.entry.settled.now) (arrow from to kind) }
+    {
+        let facts = self.settled.facts();
+        let (from, to) = (from.get(), to.get());
+        let er = facts.has_dep(from, to, Kind::Er);
+        let en = facts.has_dep(from, to, Kind::En);
+        let sr = facts.has_dep(from, to, Kind::Sr);
+        let sn = facts.has_dep(from, to, Kind::Sn);
+        er || en || sr || sn
     }
 
     // The circle lines of the dependencies from the key.
@@ -184,10 +205,26 @@ impl ReportView<'_> {
             self.entry.names.now.names irq a) self.entry.keys.now)
             (string_bytes text.old) (string_bytes text.new)) }
     {
+        if !self.is_used_in(irq, a) {
+            return Ok(());
+        }
         for b in self.keys {
             self.add_inversion(text, irq, a, *b)?;
         }
         Ok(())
+    }
+
+    // Whether the key is used in the state. Where it isn't no inversion begins with it.
+    fn is_used_in(self, irq: Irq, a: KeyId) -> bool
+        ensures { IsFalse result → (b : ℕ) → ¬ IsInversion (HasFact self.entry.settled.now) irq a b }
+    {
+        let used = self
+            .settled
+            .has_mark(a.get(), Mark::UsedIn { irq, read: false });
+        let used_read = self
+            .settled
+            .has_mark(a.get(), Mark::UsedIn { irq, read: true });
+        used || used_read
     }
 
     // The inversion lines of one state.
