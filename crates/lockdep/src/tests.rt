@@ -1,8 +1,6 @@
 //! What no clause says: worked examples with their whole texts, the program's words and lines, and writers that fail.
 
-mod chain_texts;
 mod condensing;
-mod files;
 mod gates;
 mod helpers;
 mod lines;
@@ -10,6 +8,5 @@ mod pictures;
 mod programs;
 mod refusals;
 mod reports;
-mod tries;
 mod want_of_memory;
 mod writers;

@@ -1,9 +1,7 @@
 //! Condensed traces, whole.
 
-use crate::tests::helpers::session_of;
-use crate::tests::programs::assert_output;
+use crate::tests::helpers::{session_of, text_in};
 use ld_run::OpenGate;
-use std::str;
 use std::test::Fail;
 
 #[test]
@@ -13,23 +11,9 @@ fn the_halves_of_a_circle_are_condensed_into_one_trace(rt: HostRuntime) -> Resul
     let mut text = Vec::new(rt.alloc());
     let clean = session.condense(&rt, rt.alloc(), 4, &OpenGate, &mut text)?;
     assert_eq!(rt;
-        str::from_utf8(text.as_slice())?,
+        text_in(text.as_slice()),
         "lockdep,1\noff,hardirq\nacq,A,0,rr\nacq,B,0,w\nrel,B,0\nrel,A,0\nacq,B,0,w\nacq,A,0,rr\nrel,A,0\nrel,B,0\non,hardirq\noff,softirq\nacq,A,0,rr\nrel,A,0\nacq,B,0,w\nrel,B,0\non,softirq\nacq,A,0,rr\nrel,A,0\nacq,B,0,w\nrel,B,0\n"
     );
     assert!(rt; clean);
     Ok(())
-}
-
-#[test]
-fn condensing_ends_with_status_0_whatever_was_found(rt: HostRuntime) -> Result<(), Fail> {
-    assert_output(
-        &rt,
-        &["lockdep", "condense"],
-        "lockdep,1\nacq,A,0,w\nacq,A,0,rr\n",
-        (
-            0,
-            "lockdep,1\noff,hardirq\nacq,A,0,w\nacq,A,0,rr\nrel,A,0\nrel,A,0\non,hardirq\noff,softirq\nacq,A,0,w\nrel,A,0\nacq,A,0,rr\nrel,A,0\non,softirq\nacq,A,0,w\nrel,A,0\nacq,A,0,rr\nrel,A,0\n",
-            "",
-        ),
-    )
 }

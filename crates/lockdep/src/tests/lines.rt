@@ -1,163 +1,160 @@
 //! What command lines ask for.
 
 use crate::command_line::{Line, LineFault, command_line};
+use std::process::Abort;
 use std::test::Fail;
 
-#[test]
-fn workers_and_files_of_a_check(rt: HostRuntime) -> Result<(), Fail> {
-    let examples: [(&[&str], u16, &[&str]); 8] = [
-        (&["lockdep", "check"], 4, &[]),
-        (&["lockdep", "check", "a.txt"], 4, &["a.txt"]),
-        (&["lockdep", "check", "b", "a", "b"], 4, &["b", "a", "b"]),
-        (
-            &["lockdep", "check", "a", "--workers", "2", "b"],
-            2,
-            &["a", "b"],
-        ),
-        (&["lockdep", "check", "--workers=65535", "a"], 65535, &["a"]),
-        (
-            &["lockdep", "check", "--", "--workers", "2"],
-            4,
-            &["--workers", "2"],
-        ),
-        (&["lockdep", "check", "--workers", "0", "-"], 0, &["-"]),
-        (&["lockdep", "check", "", "chains"], 4, &["", "chains"]),
-    ];
-    for (words, workers, files) in examples {
-        match command_line(rt.alloc(), words) {
-            Ok(
-                Line::Check {
-                    workers: got,
-                    many: false,
-                    files: named,
-                },
-            ) => {
-                assert_eq!(rt; got, workers, "{words:?}");
-                assert_eq!(rt; named.as_slice(), files, "{words:?}");
-            }
-            other => panic!(rt; "{words:?}: {other:?}"),
-        }
-    }
-    Ok(())
-}
+// The word of a line, its workers, and whether it has `--many` and `--findings`. Chains have no workers, which counts as 0.
+type Options = (&'static str, u16, bool, bool);
 
-#[test]
-fn workers_and_files_of_an_explanation(rt: HostRuntime) -> Result<(), Fail> {
-    let examples: [(&[&str], u16, &[&str]); 5] = [
-        (&["lockdep", "explain"], 4, &[]),
-        (&["lockdep", "explain", "b", "a"], 4, &["b", "a"]),
-        (&["lockdep", "explain", "a", "--workers", "2"], 2, &["a"]),
-        (&["lockdep", "explain", "--workers=0", "-"], 0, &["-"]),
-        (
-            &["lockdep", "explain", "--", "--findings"],
-            4,
-            &["--findings"],
-        ),
-    ];
-    for (words, workers, files) in examples {
-        match command_line(rt.alloc(), words) {
-            Ok(
-                Line::Explain {
-                    workers: got,
-                    many: false,
-                    files: named,
-                },
-            ) => {
-                assert_eq!(rt; got, workers, "{words:?}");
-                assert_eq!(rt; named.as_slice(), files, "{words:?}");
-            }
-            other => panic!(rt; "{words:?}: {other:?}"),
-        }
-    }
-    Ok(())
-}
-
-#[test]
-fn many_keys(rt: HostRuntime) {
-    match command_line(rt.alloc(), &["lockdep", "check", "--many", "a"]) {
-        Ok(Line::Check { workers, many, .. }) => assert!(rt; workers == 4 && many),
-        other => panic!(rt; "{other:?}"),
-    }
-    match command_line(rt.alloc(), &["lockdep", "explain", "--many"]) {
-        Ok(Line::Explain { workers, many, .. }) => assert!(rt; workers == 4 && many),
-        other => panic!(rt; "{other:?}"),
+// The options of a line.
+fn options(line: &Line<'_>) -> Options {
+    match line {
+        Line::Check { workers, many, .. } => ("check", *workers, *many, false),
+        Line::Explain { workers, many, .. } => ("explain", *workers, *many, false),
+        Line::Graph {
+            workers,
+            many,
+            findings,
+            ..
+        } => ("graph", *workers, *many, *findings),
+        Line::Condense { workers, .. } => ("condense", *workers, false, false),
+        Line::Chains { .. } => ("chains", 0, false, false),
     }
 }
 
-#[test]
-fn workers_and_files_of_a_condensed_trace(rt: HostRuntime) -> Result<(), Fail> {
-    let examples: [(&[&str], u16, &[&str]); 2] = [
-        (&["lockdep", "condense"], 4, &[]),
-        (
-            &["lockdep", "condense", "b", "--workers", "2", "a"],
-            2,
-            &["b", "a"],
-        ),
-    ];
-    for (words, workers, files) in examples {
-        match command_line(rt.alloc(), words) {
-            Ok(
-                Line::Condense {
-                    workers: got,
-                    files: named,
-                },
-            ) => {
-                assert_eq!(rt; got, workers, "{words:?}");
-                assert_eq!(rt; named.as_slice(), files, "{words:?}");
-            }
-            other => panic!(rt; "{words:?}: {other:?}"),
-        }
+// The files of a line, of which chains have none here.
+fn files<'l, 'a>(line: &'l Line<'a>) -> &'l [&'a str] {
+    match line {
+        Line::Check { files, .. } => files.as_slice(),
+        Line::Explain { files, .. } => files.as_slice(),
+        Line::Graph { files, .. } => files.as_slice(),
+        Line::Condense { files, .. } => files.as_slice(),
+        Line::Chains { .. } => &[],
     }
-    Ok(())
 }
 
-#[test]
-fn workers_findings_and_files_of_a_graph(rt: HostRuntime) -> Result<(), Fail> {
-    let examples: [(&[&str], (u16, bool, bool), &[&str]); 6] = [
-        (&["lockdep", "graph"], (4, false, false), &[]),
-        (
-            &["lockdep", "graph", "--findings", "c"],
-            (4, false, true),
-            &["c"],
-        ),
-        (
-            &["lockdep", "graph", "a", "--many", "b"],
-            (4, true, false),
-            &["a", "b"],
-        ),
-        (
-            &["lockdep", "graph", "a", "--findings", "--many", "b"],
-            (4, true, true),
-            &["a", "b"],
-        ),
-        (
-            &["lockdep", "graph", "--findings", "--workers", "2", "a"],
-            (2, false, true),
-            &["a"],
-        ),
-        (
-            &["lockdep", "graph", "--", "--findings"],
-            (4, false, false),
-            &["--findings"],
-        ),
-    ];
-    for (words, asked, files) in examples {
-        match command_line(rt.alloc(), words) {
-            Ok(
-                Line::Graph {
-                    workers,
-                    many,
-                    findings,
-                    files: named,
-                },
-            ) => {
-                assert_eq!(rt; (workers, many, findings), asked, "{words:?}");
-                assert_eq!(rt; named.as_slice(), files, "{words:?}");
-            }
-            other => panic!(rt; "{words:?}: {other:?}"),
+// Asserts what the words ask for.
+fn assert_asks(rt: &(impl Abort + AllocGlobal), words: &[&str], wanted: Options, named: &[&str]) {
+    match command_line(rt.alloc(), words) {
+        Ok(line) => {
+            assert_eq!(rt; options(&line), wanted, "{words:?}");
+            assert_eq!(rt; files(&line), named, "{words:?}");
         }
+        other => panic!(rt; "{words:?}: {other:?}"),
     }
-    Ok(())
+}
+
+// The words of a line, what they ask for, and the files that they name.
+type Example = (&'static [&'static str], Options, &'static [&'static str]);
+
+const LINES: [Example; 23] = [
+    (&["lockdep", "check"], ("check", 4, false, false), &[]),
+    (
+        &["lockdep", "check", "a.txt"],
+        ("check", 4, false, false),
+        &["a.txt"],
+    ),
+    (
+        &["lockdep", "check", "b", "a", "b"],
+        ("check", 4, false, false),
+        &["b", "a", "b"],
+    ),
+    (
+        &["lockdep", "check", "a", "--workers", "2", "b"],
+        ("check", 2, false, false),
+        &["a", "b"],
+    ),
+    (
+        &["lockdep", "check", "--workers=65535", "a"],
+        ("check", 65535, false, false),
+        &["a"],
+    ),
+    (
+        &["lockdep", "check", "--", "--workers", "2"],
+        ("check", 4, false, false),
+        &["--workers", "2"],
+    ),
+    (
+        &["lockdep", "check", "--workers", "0", "-"],
+        ("check", 0, false, false),
+        &["-"],
+    ),
+    (
+        &["lockdep", "check", "", "chains"],
+        ("check", 4, false, false),
+        &["", "chains"],
+    ),
+    (
+        &["lockdep", "check", "--many", "a"],
+        ("check", 4, true, false),
+        &["a"],
+    ),
+    (&["lockdep", "explain"], ("explain", 4, false, false), &[]),
+    (
+        &["lockdep", "explain", "b", "a"],
+        ("explain", 4, false, false),
+        &["b", "a"],
+    ),
+    (
+        &["lockdep", "explain", "a", "--workers", "2"],
+        ("explain", 2, false, false),
+        &["a"],
+    ),
+    (
+        &["lockdep", "explain", "--workers=0", "-"],
+        ("explain", 0, false, false),
+        &["-"],
+    ),
+    (
+        &["lockdep", "explain", "--", "--findings"],
+        ("explain", 4, false, false),
+        &["--findings"],
+    ),
+    (
+        &["lockdep", "explain", "--many"],
+        ("explain", 4, true, false),
+        &[],
+    ),
+    (&["lockdep", "condense"], ("condense", 4, false, false), &[]),
+    (
+        &["lockdep", "condense", "b", "--workers", "2", "a"],
+        ("condense", 2, false, false),
+        &["b", "a"],
+    ),
+    (&["lockdep", "graph"], ("graph", 4, false, false), &[]),
+    (
+        &["lockdep", "graph", "--findings", "c"],
+        ("graph", 4, false, true),
+        &["c"],
+    ),
+    (
+        &["lockdep", "graph", "a", "--many", "b"],
+        ("graph", 4, true, false),
+        &["a", "b"],
+    ),
+    (
+        &["lockdep", "graph", "a", "--findings", "--many", "b"],
+        ("graph", 4, true, true),
+        &["a", "b"],
+    ),
+    (
+        &["lockdep", "graph", "--findings", "--workers", "2", "a"],
+        ("graph", 2, false, true),
+        &["a"],
+    ),
+    (
+        &["lockdep", "graph", "--", "--findings"],
+        ("graph", 4, false, false),
+        &["--findings"],
+    ),
+];
+
+#[test]
+fn options_and_files_of_lines(rt: HostRuntime) {
+    for (words, wanted, named) in LINES {
+        assert_asks(&rt, words, wanted, named);
+    }
 }
 
 #[test]

@@ -1,9 +1,8 @@
 //! Whole pictures of small traces.
 
-use crate::tests::helpers::session_of;
+use crate::tests::helpers::{session_of, text_in};
 use ld_run::OpenGate;
 use std::process::Abort;
-use std::str;
 use std::sync::Wait;
 use std::test::Fail;
 use std::thread::Threads;
@@ -18,7 +17,7 @@ fn assert_picture(
     let session = session_of(rt.alloc(), traces)?;
     let mut text = Vec::new(rt.alloc());
     session.graph(rt, rt.alloc(), 4, &OpenGate, findings, &mut text)?;
-    assert_eq!(rt; str::from_utf8(text.as_slice())?, picture);
+    assert_eq!(rt; text_in(text.as_slice()), picture);
     Ok(())
 }
 

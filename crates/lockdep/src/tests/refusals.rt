@@ -3,12 +3,14 @@
 use crate::fault::{ReportFault, WriteFault};
 use crate::refusal::{Refusal, refuse};
 use crate::session::Session;
-use crate::tests::helpers::session_of;
+use crate::tests::helpers::{session_of, text_in};
 use ld_run::{OpenGate, RunFault};
 use ld_task::StepFault;
 use ld_trace::{TraceFault, TraceFaultKind};
-use std::str;
+use std::process::Abort;
+use std::sync::Wait;
 use std::test::Fail;
+use std::thread::Threads;
 
 #[test]
 fn traces_refused_in_reading(rt: HostRuntime) -> Result<(), Fail> {
@@ -21,21 +23,6 @@ fn traces_refused_in_reading(rt: HostRuntime) -> Result<(), Fail> {
         let mut session = Session::new(rt.alloc())?;
         assert_eq!(rt; session.add(text), Err(TraceFault { kind, at }));
     }
-    Ok(())
-}
-
-#[test]
-fn a_257th_key(rt: HostRuntime) -> Result<(), Fail> {
-    let mut trace = String::from_str(rt.alloc(), "lockdep,1\n")?;
-    for number in 0..257 {
-        writeln!(trace, "acq,n{number},0,w\nrel,n{number},0")?;
-    }
-    let mut session = Session::new(rt.alloc())?;
-    let fault = TraceFault {
-        kind: TraceFaultKind::TooManyKeys,
-        at: 514,
-    };
-    assert_eq!(rt; session.add(trace.as_str().as_bytes()), Err(fault));
     Ok(())
 }
 
@@ -83,27 +70,6 @@ fn traces_that_are_not_well_formed(rt: HostRuntime) -> Result<(), Fail> {
 }
 
 #[test]
-fn a_49th_held_lock(rt: HostRuntime) -> Result<(), Fail> {
-    let mut trace = String::from_str(rt.alloc(), "lockdep,1\n")?;
-    for number in 0..49 {
-        writeln!(trace, "acq,n{number},0,w")?;
-    }
-    let mut session = Session::new(rt.alloc())?;
-    session.add(trace.as_str().as_bytes())?;
-    let mut text = Vec::new(rt.alloc());
-    let refused = ReportFault::Step {
-        trace: 0,
-        at: 50,
-        fault: StepFault::TooDeep,
-    };
-    assert_eq!(rt;
-        session.report(&rt, rt.alloc(), 4, &OpenGate, &mut text),
-        Err(refused)
-    );
-    Ok(())
-}
-
-#[test]
 fn the_first_refused_trace_is_named_and_a_refused_one_is_not_kept(
     rt: HostRuntime,
 ) -> Result<(), Fail> {
@@ -130,7 +96,7 @@ fn codes_of_refused_writes(rt: HostRuntime) {
 }
 
 #[test]
-fn lines_of_refusals(rt: HostRuntime) -> Result<(), Fail> {
+fn lines_of_refusals(rt: HostRuntime) {
     let examples = [
         (Refusal::BadCommandLine, "lockdep: P1 BadCommandLine\n"),
         (
@@ -163,31 +129,35 @@ fn lines_of_refusals(rt: HostRuntime) -> Result<(), Fail> {
     for (refusal, line) in examples {
         let mut text = Vec::new(rt.alloc());
         assert_eq!(rt; refuse(&mut text, refusal), 2);
-        assert_eq!(rt; str::from_utf8(text.as_slice())?, line);
+        assert_eq!(rt; text_in(text.as_slice()), line);
     }
-    Ok(())
+}
+
+// Asserts that the session is refused, and that nothing is written.
+fn assert_run_refused(
+    rt: &(impl Threads + Wait + Sync + Abort + AllocGlobal),
+    session: Session,
+    workers: u16,
+    fault: RunFault,
+) {
+    let mut text = Vec::new(rt.alloc());
+    assert_eq!(rt;
+        session.report(rt, rt.alloc(), workers, &OpenGate, &mut text),
+        Err(ReportFault::Run(fault))
+    );
+    assert!(rt; text.is_empty());
 }
 
 #[test]
 fn numbers_of_workers_and_of_traces(rt: HostRuntime) -> Result<(), Fail> {
     for workers in [0, 65, 65535] {
         let session = session_of(rt.alloc(), &["leave"])?;
-        let mut text = Vec::new(rt.alloc());
-        assert_eq!(rt;
-            session.report(&rt, rt.alloc(), workers, &OpenGate, &mut text),
-            Err(ReportFault::Run(RunFault::BadWorkers))
-        );
-        assert!(rt; text.is_empty());
+        assert_run_refused(&rt, session, workers, RunFault::BadWorkers);
     }
     let mut session = Session::new(rt.alloc())?;
     for _ in 0..4097 {
         session.add(b"lockdep,1\n".as_slice())?;
     }
-    let mut text = Vec::new(rt.alloc());
-    assert_eq!(rt;
-        session.report(&rt, rt.alloc(), 4, &OpenGate, &mut text),
-        Err(ReportFault::Run(RunFault::TooManyTraces))
-    );
-    assert!(rt; text.is_empty());
+    assert_run_refused(&rt, session, 4, RunFault::TooManyTraces);
     Ok(())
 }

@@ -107,22 +107,46 @@ fn want_of_memory_in_a_session(rt: HostRuntime) -> Result<(), Fail> {
     Ok(())
 }
 
+// Both traces, with their keys added to these; None where memory was refused.
+fn read_both(alloc: Global, keys: &mut KeyTable) -> Option<Vec<RawTrace>> {
+    let mut traces = Vec::new(alloc);
+    for text in TRACES {
+        traces.push(read_trace(alloc, text, keys).ok()?).ok()?;
+    }
+    Some(traces)
+}
+
 // The traces, their names, and what a run over them settles; None where memory was refused.
 fn settled<R: Threads + Wait + Sync>(
     rt: &R,
     alloc: Global,
 ) -> Option<(Settled, Vec<RawTrace>, KeyTable)> {
     let mut keys = KeyTable::new(alloc).ok()?;
-    let mut traces = Vec::new(alloc);
-    for text in TRACES {
-        traces.push(read_trace(alloc, text, &mut keys).ok()?).ok()?;
-    }
+    let traces = read_both(alloc, &mut keys)?;
     let below = keys.len().min(256) as u16;
     if !traces.iter().all(|trace| trace.keys_below(below)) {
         return None;
     }
     let settled = run(rt, alloc, &traces, below, 1, &OpenGate).ok()?;
     Some((settled, traces, keys))
+}
+
+// Asserts that the report is written, after a refusal if there is one, which leaves nothing.
+fn assert_written(
+    rt: &(impl Abort + AllocGlobal + Print),
+    facts: &Settled,
+    traces: &[RawTrace],
+    keys: &KeyTable,
+) -> Result<(), Fail> {
+    let mut sheet = Sheet::new();
+    if let Err(fault) = write_report(rt.alloc(), &mut sheet, facts, traces, keys) {
+        println!(rt; "refused: {}", fault.code())?;
+        assert_eq!(rt; fault, WriteFault::Memory);
+        assert!(rt; sheet.text().is_empty());
+        write_report(rt.alloc(), &mut sheet, facts, traces, keys)?;
+    }
+    assert_eq!(rt; sheet.text(), REPORT);
+    Ok(())
 }
 
 #[test]
@@ -132,13 +156,5 @@ fn want_of_memory_in_writing_a_report(rt: HostRuntime) -> Result<(), Fail> {
         None => settled(&rt, rt.alloc()).ok_or("no facts")?,
     };
     let (facts, traces, keys) = found;
-    let mut sheet = Sheet::new();
-    if let Err(fault) = write_report(rt.alloc(), &mut sheet, &facts, &traces, &keys) {
-        println!(&rt; "refused: {}", fault.code())?;
-        assert_eq!(rt; fault, WriteFault::Memory);
-        assert!(rt; sheet.text().is_empty());
-        write_report(rt.alloc(), &mut sheet, &facts, &traces, &keys)?;
-    }
-    assert_eq!(rt; sheet.text(), REPORT);
-    Ok(())
+    assert_written(&rt, &facts, &traces, &keys)
 }

@@ -2,13 +2,14 @@
 
 use crate::chains_text::write_chains;
 use crate::fault::{ReportFault, WriteFault};
-use crate::tests::helpers::{session_of, trace_text};
+use crate::tests::helpers::session_of;
 use ld_run::OpenGate;
-use ld_task::check;
+use ld_task::{Trace, check};
 use ld_trace::{KeyTable, read_trace};
 use std::alloc::Global;
 use std::io;
 use std::io::Write;
+use std::process::Abort;
 use std::test::Fail;
 
 // Each way in which a writer can fail at one call: by an error of this kind, or by taking nothing.
@@ -87,22 +88,33 @@ fn a_report_on_a_writer_that_fails_at_each_call(rt: HostRuntime) -> Result<(), F
     Ok(())
 }
 
+// The chains of the next test's trace.
+const CHAINS: &[u8] =
+    b"acq A/0 w task on on held 0\nacq B/0 w task on on held 1 A/0 w\nacq C/0 w task on on held 1 B/0 w\n";
+
+// Asserts that a writer which fails behind so many bytes of the chains has these, and what is answered.
+fn assert_chains_cut(
+    rt: &(impl Abort + AllocGlobal),
+    (trace, keys): (&Trace, &KeyTable),
+    done: usize,
+    failure: Option<io::ErrorKind>,
+    answer: Result<(), WriteFault>,
+) {
+    let mut w = Narrow::new(rt.alloc(), done + 1, failure);
+    assert_eq!(rt; write_chains(&mut w, trace, keys), answer);
+    assert_eq!(rt; w.taken.as_slice(), &CHAINS[..done]);
+}
+
 #[test]
 fn chains_on_a_writer_that_fails_at_each_call(rt: HostRuntime) -> Result<(), Fail> {
-    let text = trace_text(rt.alloc(), "acq,A,0,w acq,B,0,w rel,A,0 acq,C,0,w")?;
+    let text = b"lockdep,1\nacq,A,0,w\nacq,B,0,w\nrel,A,0\nacq,C,0,w\n".as_slice();
     let mut keys = KeyTable::new(rt.alloc())?;
-    let trace = check(read_trace(rt.alloc(), text.as_slice(), &mut keys)?)?;
-    let chains =
-        b"acq A/0 w task on on held 0\nacq B/0 w task on on held 1 A/0 w\nacq C/0 w task on on held 1 B/0 w\n".as_slice();
-    for done in 0..chains.len() {
+    let trace = check(read_trace(rt.alloc(), text, &mut keys)?)?;
+    for done in 0..CHAINS.len() {
         for (failure, fault) in FAILURES {
-            let mut w = Narrow::new(rt.alloc(), done + 1, failure);
-            assert_eq!(rt; write_chains(&mut w, &trace, &keys), Err(fault));
-            assert_eq!(rt; w.taken.as_slice(), &chains[..done]);
+            assert_chains_cut(&rt, (&trace, &keys), done, failure, Err(fault));
         }
     }
-    let mut w = Narrow::new(rt.alloc(), chains.len() + 1, None);
-    assert_eq!(rt; write_chains(&mut w, &trace, &keys), Ok(()));
-    assert_eq!(rt; w.taken.as_slice(), chains);
+    assert_chains_cut(&rt, (&trace, &keys), CHAINS.len(), None, Ok(()));
     Ok(())
 }
