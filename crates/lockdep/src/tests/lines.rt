@@ -35,7 +35,12 @@ fn files<'l, 'a>(line: &'l Line<'a>) -> &'l [&'a str] {
 }
 
 // Asserts what the words ask for.
-fn assert_asks(rt: &(impl Abort + AllocGlobal), words: &[&str], wanted: Options, named: &[&str]) {
+fn assert_asks<'a>(
+    rt: &(impl Abort + AllocGlobal),
+    words: &'a [&'a str],
+    wanted: Options,
+    named: &[&str],
+) {
     match command_line(rt.alloc(), words) {
         Ok(line) => {
             assert_eq!(rt; options(&line), wanted, "{words:?}");

@@ -88,21 +88,16 @@ fn a_report_on_a_writer_that_fails_at_each_call(rt: HostRuntime) -> Result<(), F
     Ok(())
 }
 
-// The chains of the next test's trace.
-const CHAINS: &[u8] =
-    b"acq A/0 w task on on held 0\nacq B/0 w task on on held 1 A/0 w\nacq C/0 w task on on held 1 B/0 w\n";
-
-// Asserts that a writer which fails behind so many bytes of the chains has these, and what is answered.
-fn assert_chains_cut(
+// Asserts what writing the chains on this writer answers, and what the writer then has.
+fn assert_chains(
     rt: &(impl Abort + AllocGlobal),
     (trace, keys): (&Trace, &KeyTable),
-    done: usize,
-    failure: Option<io::ErrorKind>,
+    mut w: Narrow,
+    taken: &[u8],
     answer: Result<(), WriteFault>,
 ) {
-    let mut w = Narrow::new(rt.alloc(), done + 1, failure);
     assert_eq!(rt; write_chains(&mut w, trace, keys), answer);
-    assert_eq!(rt; w.taken.as_slice(), &CHAINS[..done]);
+    assert_eq!(rt; w.taken.as_slice(), taken);
 }
 
 #[test]
@@ -110,11 +105,15 @@ fn chains_on_a_writer_that_fails_at_each_call(rt: HostRuntime) -> Result<(), Fai
     let text = b"lockdep,1\nacq,A,0,w\nacq,B,0,w\nrel,A,0\nacq,C,0,w\n".as_slice();
     let mut keys = KeyTable::new(rt.alloc())?;
     let trace = check(read_trace(rt.alloc(), text, &mut keys)?)?;
-    for done in 0..CHAINS.len() {
+    let chains =
+        b"acq A/0 w task on on held 0\nacq B/0 w task on on held 1 A/0 w\nacq C/0 w task on on held 1 B/0 w\n".as_slice();
+    for done in 0..chains.len() {
         for (failure, fault) in FAILURES {
-            assert_chains_cut(&rt, (&trace, &keys), done, failure, Err(fault));
+            let w = Narrow::new(rt.alloc(), done + 1, failure);
+            assert_chains(&rt, (&trace, &keys), w, &chains[..done], Err(fault));
         }
     }
-    assert_chains_cut(&rt, (&trace, &keys), CHAINS.len(), None, Ok(()));
+    let w = Narrow::new(rt.alloc(), chains.len() + 1, None);
+    assert_chains(&rt, (&trace, &keys), w, chains, Ok(()));
     Ok(())
 }
