@@ -50,116 +50,148 @@ fn assert_asks<'a>(
     }
 }
 
-// The words of a line, what they ask for, and the files that they name.
-type Example = (&'static [&'static str], Options, &'static [&'static str]);
-
-const LINES: [Example; 23] = [
-    (&["lockdep", "check"], ("check", 4, false, false), &[]),
-    (
+#[test]
+fn options_and_files_of_a_check(rt: HostRuntime) {
+    assert_asks(&rt, &["lockdep", "check"], ("check", 4, false, false), &[]);
+    assert_asks(
+        &rt,
         &["lockdep", "check", "a.txt"],
         ("check", 4, false, false),
         &["a.txt"],
-    ),
-    (
+    );
+    assert_asks(
+        &rt,
         &["lockdep", "check", "b", "a", "b"],
         ("check", 4, false, false),
         &["b", "a", "b"],
-    ),
-    (
+    );
+    assert_asks(
+        &rt,
         &["lockdep", "check", "a", "--workers", "2", "b"],
         ("check", 2, false, false),
         &["a", "b"],
-    ),
-    (
+    );
+    assert_asks(
+        &rt,
         &["lockdep", "check", "--workers=65535", "a"],
         ("check", 65535, false, false),
         &["a"],
-    ),
-    (
+    );
+    assert_asks(
+        &rt,
         &["lockdep", "check", "--", "--workers", "2"],
         ("check", 4, false, false),
         &["--workers", "2"],
-    ),
-    (
+    );
+    assert_asks(
+        &rt,
         &["lockdep", "check", "--workers", "0", "-"],
         ("check", 0, false, false),
         &["-"],
-    ),
-    (
+    );
+    assert_asks(
+        &rt,
         &["lockdep", "check", "", "chains"],
         ("check", 4, false, false),
         &["", "chains"],
-    ),
-    (
+    );
+    assert_asks(
+        &rt,
         &["lockdep", "check", "--many", "a"],
         ("check", 4, true, false),
         &["a"],
-    ),
-    (&["lockdep", "explain"], ("explain", 4, false, false), &[]),
-    (
+    );
+}
+
+#[test]
+fn options_and_files_of_an_explanation(rt: HostRuntime) {
+    assert_asks(
+        &rt,
+        &["lockdep", "explain"],
+        ("explain", 4, false, false),
+        &[],
+    );
+    assert_asks(
+        &rt,
         &["lockdep", "explain", "b", "a"],
         ("explain", 4, false, false),
         &["b", "a"],
-    ),
-    (
+    );
+    assert_asks(
+        &rt,
         &["lockdep", "explain", "a", "--workers", "2"],
         ("explain", 2, false, false),
         &["a"],
-    ),
-    (
+    );
+    assert_asks(
+        &rt,
         &["lockdep", "explain", "--workers=0", "-"],
         ("explain", 0, false, false),
         &["-"],
-    ),
-    (
+    );
+    assert_asks(
+        &rt,
         &["lockdep", "explain", "--", "--findings"],
         ("explain", 4, false, false),
         &["--findings"],
-    ),
-    (
+    );
+    assert_asks(
+        &rt,
         &["lockdep", "explain", "--many"],
         ("explain", 4, true, false),
         &[],
-    ),
-    (&["lockdep", "condense"], ("condense", 4, false, false), &[]),
-    (
+    );
+}
+
+#[test]
+fn options_and_files_of_a_condensed_trace(rt: HostRuntime) {
+    assert_asks(
+        &rt,
+        &["lockdep", "condense"],
+        ("condense", 4, false, false),
+        &[],
+    );
+    assert_asks(
+        &rt,
         &["lockdep", "condense", "b", "--workers", "2", "a"],
         ("condense", 2, false, false),
         &["b", "a"],
-    ),
-    (&["lockdep", "graph"], ("graph", 4, false, false), &[]),
-    (
+    );
+}
+
+#[test]
+fn options_and_files_of_a_graph(rt: HostRuntime) {
+    assert_asks(&rt, &["lockdep", "graph"], ("graph", 4, false, false), &[]);
+    assert_asks(
+        &rt,
         &["lockdep", "graph", "--findings", "c"],
         ("graph", 4, false, true),
         &["c"],
-    ),
-    (
+    );
+    assert_asks(
+        &rt,
         &["lockdep", "graph", "a", "--many", "b"],
         ("graph", 4, true, false),
         &["a", "b"],
-    ),
-    (
+    );
+    assert_asks(
+        &rt,
         &["lockdep", "graph", "a", "--findings", "--many", "b"],
         ("graph", 4, true, true),
         &["a", "b"],
-    ),
-    (
+    );
+    assert_asks(
+        &rt,
         &["lockdep", "graph", "--findings", "--workers", "2", "a"],
         ("graph", 2, false, true),
         &["a"],
-    ),
-    (
+    );
+    assert_asks(
+        &rt,
         &["lockdep", "graph", "--", "--findings"],
         ("graph", 4, false, false),
         &["--findings"],
-    ),
-];
-
-#[test]
-fn options_and_files_of_lines(rt: HostRuntime) {
-    for (words, wanted, named) in LINES {
-        assert_asks(&rt, words, wanted, named);
-    }
+    );
 }
 
 #[test]
