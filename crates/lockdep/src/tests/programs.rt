@@ -12,23 +12,22 @@ use std::thread::Threads;
 // Asserts the status of the program and what it wrote on its two outputs.
 fn assert_output(
     rt: &(impl Files + Threads + Wait + Sync + Abort + AllocGlobal),
-    word: &str,
+    words: &[&str],
     input: &[u8],
     (status, out, err): (u8, &str, &str),
 ) {
     let (mut got_out, mut got_err) = (Vec::new(rt.alloc()), Vec::new(rt.alloc()));
-    let words = ["lockdep", word];
-    let got = program(rt, rt.alloc(), &words, input, &mut got_out, &mut got_err);
-    assert_eq!(rt; text_in(got_err.as_slice()), err, "{word}");
-    assert_eq!(rt; text_in(got_out.as_slice()), out, "{word}");
-    assert_eq!(rt; got, status, "{word}");
+    let got = program(rt, rt.alloc(), words, input, &mut got_out, &mut got_err);
+    assert_eq!(rt; text_in(got_err.as_slice()), err, "{words:?}");
+    assert_eq!(rt; text_in(got_out.as_slice()), out, "{words:?}");
+    assert_eq!(rt; got, status, "{words:?}");
 }
 
 #[test]
 fn check_writes_a_report_and_its_status(rt: HostRuntime) {
     assert_output(
         &rt,
-        "check",
+        &["lockdep", "check"],
         b"lockdep,1\nacq,A,0,w\nenter,hardirq\nacq,B,0,w\nrel,B,0\nleave\n",
         (
             0,
@@ -38,7 +37,7 @@ fn check_writes_a_report_and_its_status(rt: HostRuntime) {
     );
     assert_output(
         &rt,
-        "check",
+        &["lockdep", "check"],
         b"lockdep,1\nacq,A,0,w\nacq,A,0,rr\n",
         (
             1,
@@ -48,9 +47,20 @@ fn check_writes_a_report_and_its_status(rt: HostRuntime) {
     );
     assert_output(
         &rt,
-        "chains",
+        &["lockdep", "chains"],
         b"lockdep,1\nrel,A,0\n",
         (2, "", "lockdep: stdin: record 2: S1 NotHeld\n"),
+    );
+}
+
+// A caller needn't name the program, but a shell always does.
+#[test]
+fn no_words_at_all_are_refused(rt: HostRuntime) {
+    assert_output(
+        &rt,
+        &[],
+        b"lockdep,1\n",
+        (2, "", "lockdep: P1 BadCommandLine\n"),
     );
 }
 
