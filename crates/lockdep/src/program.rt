@@ -264,7 +264,8 @@ fn answer_traces<'a, R: Files + Threads + Wait + Sync, I: Read + Drop, O: Write>
     }
 }
 
-// Writes the text that is wanted of the session's traces, which are those of the files.
+// Writes the text that is wanted of the session's traces, which are those of the files, by as many of the workers as are worth their
+// threads: the text is the same for each number of them.
 fn answer_session<'a, R: Threads + Wait + Sync, O: Write>(
     rt: &R,
     alloc: Global,
@@ -279,7 +280,8 @@ fn answer_session<'a, R: Threads + Wait + Sync, O: Write>(
     ensures err { IfErr result (RefusesTraces wanted workers (map (λ file. file.now) files.entry.now)
         session.names session.traces (O.contents out.old) (O.contents out.new)) }
 {
-    match write_session(rt, alloc, wanted, workers, files, session, out) {
+    let useful = session.useful_workers(workers);
+    match write_session(rt, alloc, wanted, useful, files, session, out) {
         Ok(clean) => Ok(if clean { DONE } else { NOT_CLEAN }),
         Err(fault) => Err(report_refusal(files, fault)),
     }

@@ -395,7 +395,7 @@ pub fn write_report<W: Write>(
 }
 
 // How many events the traces have together.
-fn event_count(traces: &[RawTrace]) -> u128
+pub(crate) fn event_count(traces: &[RawTrace]) -> u128
     ensures { result ≡ sum_by length traces.now }
 {
     let mut events = 0u128;

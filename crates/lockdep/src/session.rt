@@ -26,7 +26,7 @@ use crate::condensed::write_condensed;
 use crate::explanation::write_explanation;
 use crate::fault::{ReportFault, WriteFault};
 use crate::picture::write_picture;
-use crate::report::write_report;
+use crate::report::{event_count, write_report};
 use crate::wanted::Wanted;
 use ld_run::{Gate, MAX_TRACES, MAX_WORKERS, RunFault, Settled, SurveyFault, run, survey};
 use ld_trace::{
@@ -37,6 +37,9 @@ use std::io::{Read, Write};
 use std::marker::Model;
 use std::sync::Wait;
 use std::thread::Threads;
+
+// As many events as one worker walks in about a millisecond. Starting another costs up to that.
+const EVENTS_PER_WORKER: u128 = 32_768;
 
 /// Traces that were read, and the names of their keys.
 #[derive(Drop)]
@@ -91,6 +94,19 @@ impl Session {
         ensures room { self.new.room ≡ self.old.room }
     {
         read_into(self.alloc, reader, &mut self.keys, &mut self.traces)
+    }
+
+    // How many of the workers are worth their threads: one for every 32,768 events, and one at least. Where there can't be so many
+    // workers it is the same number, which a run refuses.
+    pub(crate) fn useful_workers(&self, workers: u16) -> u16
+        ensures crew { IsCrew result ↔ IsCrew workers }
+        ensures few { result ≤ workers }
+    {
+        if workers > MAX_WORKERS {
+            return workers;
+        }
+        let shares = event_count(self.traces.as_slice()) / EVENTS_PER_WORKER;
+        workers.min(shares.max(1).min(u128::from(MAX_WORKERS)) as u16)
     }
 
     /// Checks all traces by `workers` workers, writes the report of all of them together, and answers whether their facts are
