@@ -1,10 +1,11 @@
 -- A name that stands in a table, and the record that names it.
-use Rattle.std.proofs.Common.{◌≡◌, ℕ, zero, suc, ◌==◌, Bool, true, false, List, [], ◌∷◌, slice_get, nat_le, Some, codes, refl, sym, ap, ◌∙◌, arith, true≢false}
+use Rattle.std.proofs.Common.{◌≡◌, ℕ, zero, suc, ◌==◌, Bool, true, false, List, [], ◌∷◌, slice_get, nat_le, Option, Some, None, IsSomeAnd, codes, refl, sym, ap, ◌∙◌, arith, true≢false}
 use Rattle.std.specs.List.{AllByRecursion, IsDistinct, list_all}
 use Rattle.std.specs.Str.{bytes_eq}
 use Rattle.std.proofs.lemmas.Bool.{and_from, and_parts}
 use Rattle.std.proofs.lemmas.Bool.Decides.{Decides-eqb}
 use Rattle.std.proofs.lemmas.Slice.Eq.{bytes_eq-Decides}
+use Rattle.ld_trace.specs.declared.event.Event.{Event}
 use Rattle.ld_trace.specs.declared.event.Event.TheVariants.{Acquire, Release}
 use Rattle.ld_trace.specs.declared.event.Mode.{Mode}
 use Rattle.ld_trace.specs.declared.key_table.TheConstants.{MAX_SUB}
@@ -75,3 +76,8 @@ module _ (table : Table) (class digits : List ℕ) (sub key : ℕ) (numbered : A
     known = rw there.1 refl;
     is_event = ap (Acquire mode) (sym there.0);
   }
+
+  -- the same, of what is found of the mode
+  pub acquire-found : (version : Version) (verb word : List ℕ) (event : Event) → bytes_eq verb (codes "acq") ≡ true → (read : Option Mode) → mode_of version word ≡ read → IsSomeAnd read (λ mode. event ≡ Acquire mode key) → IsEventOf table.room table.names (acquire_line verb (name_of_fields class (sub_of digits)) (mode_of version word)) event
+  acquire-found version verb word event acq None none found = absurd found
+  acquire-found version verb word event acq (Some mode) is found = rw found (acquire-known version verb word mode acq is)
