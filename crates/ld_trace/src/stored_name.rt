@@ -48,18 +48,27 @@ pub(crate) fn slot_of(text: &[u8], sub: u8) -> usize
     (mixed.wrapping_mul(0x9E37_79B1) >> 20) as usize % SLOTS
 }
 
-// The first, the middle and the last four bytes of a text; of a shorter one its first and last byte.
+// The first and the middle four bytes of a text, and its last three; of a shorter one its first and last byte.
 fn samples_of(text: &[u8]) -> (u32, u32, u32) {
     let count = text.len();
     if count >= 4 {
         let middle = four_at(text, count / 2 - 2);
-        (four_at(text, 0), middle, four_at(text, count - 4))
+        (four_at(text, 0), middle, last_three(text))
     } else {
         match (text.first(), text.last()) {
             (Some(first), Some(last)) => (u32::from(*first), 0, u32::from(*last)),
             _ => (0, 0, 0),
         }
     }
+}
+
+// The last three bytes, one by one: they were just written so, and the processor would have to wait until it can get them in one.
+fn last_three(text: &[u8]) -> u32
+    requires { 3 ≤ length text.now }
+{
+    let end = text.len();
+    let (third, second, last) = (text[end - 3], text[end - 2], text[end - 1]);
+    u32::from(third) << 14 ^ u32::from(second) << 7 ^ u32::from(last)
 }
 
 // The four bytes at this place.
