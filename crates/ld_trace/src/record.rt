@@ -183,8 +183,8 @@ pub(crate) fn mode_of(version: Version, word: &[u8]) -> Option<Mode>
     ensures { result ≡ mode_of version word.now }
 {
     match word {
-        // Which of the two it is can't be foretold, so it is no branch.
-        [letter @ (b'w' | b'r')] => Some(if *letter == b'r' { Mode::Read } else { Mode::Write }),
+        [b'w'] => Some(Mode::Write),
+        [b'r'] => Some(Mode::Read),
         [b'r', b'r'] => Some(Mode::RecRead),
         _ => try_mode_of(version, word),
     }
