@@ -12,7 +12,7 @@ use Rattle.ld_graph.specs.FactBits.{FactParts, FactBelow, HasFact, rows_allowed}
 use Rattle.ld_graph.specs.FactLaws.{IsClean-fewer}
 use Rattle.ld_graph.specs.Walks.{OnCircle}
 use Rattle.ld_graph.specs.Links.{IsClean}
-use Rattle.ld_graph.specs.Inside.Places.{arrival, Leads, Path, Way}
+use Rattle.ld_graph.specs.Inside.Places.{arrival, Leads, Leaves, Path, Way}
 use Rattle.ld_graph.specs.Inside.Tables.{reaches, Comes, AreSpan, TakesArrow}
 use Rattle.ld_graph.specs.Inside.Kept.{IsGraph, AreEnds, TakesMark, JoinsLinks, LeavesTarget, StaysClean, MarkTurnsBack, arrives_at, departs_from}
 use Rattle.ld_graph.specs.declared.ends.Ends.{Ends}
@@ -20,7 +20,7 @@ use Rattle.ld_graph.specs.declared.fact.Fact.{Fact}
 use Rattle.ld_graph.specs.declared.fact.Fact.TheVariants.{Dependency, Marked}
 use Rattle.ld_graph.proofs.Circles.{OnCircle-member}
 use Rattle.ld_graph.proofs.Paths.{OnCircle-iff, Path-more}
-use Rattle.ld_graph.proofs.Ways.{Comes-path, ways_taken}
+use Rattle.ld_graph.proofs.Ways.{Comes-path, Path-append, Path-from_way, Way-through, ways_taken}
 use Rattle.ld_graph.proofs.CleanPlaces.{CleanPlaces-from, IsClean-from_places, CleanPlaces-dependency, CleanPlaces-mark, ComesBack, Joins, TurnsBackBy, arrows_within, arrows_added, Leads-kept, LinkArrives-adds, LinkLeaves-adds, LinkArrives-kept, LinkLeaves-kept}
 
 pub facts_within : (facts : FactParts) → facts.keys ≤ MAX_KEYS → Holds (FactBelow MAX_KEYS) (HasFact facts)
@@ -95,6 +95,69 @@ JoinsLinks-iff facts table ends ways ends_are d sources targets span = (
     comes p q = Comes-path (Leads (DependenciesOf (HasFact facts))) table ways p q
 
 -- ---- a dependency is added
+ends_kept : (old new : FactParts) (d : Arrow) → Adds (HasFact old) (HasFact new) (λ x. x ≡ Dependency d.start d.end d.kind) →
+    (ends : Ends) → AreEnds (HasFact old) ends → AreEnds (HasFact new) ends
+ends_kept old new d adds ends are = record {
+  arrives = λ irq p. let kept = LinkArrives-kept (HasFact old) (HasFact new) d adds irq p in
+      ((λ h. kept.1 ((are.arrives irq p).0 h)), (λ h. (are.arrives irq p).1 (kept.0 h)));
+  leaves = λ irq q. let kept = LinkLeaves-kept (HasFact old) (HasFact new) d adds irq q in
+      ((λ h. kept.1 ((are.leaves irq q).0 h)), (λ h. (are.leaves irq q).1 (kept.0 h)));
+}
+
+-- one that opens no way: from each place that it leaves there is one to where it arrives
+module _ (old new : FactParts) (d : Arrow) (keys : new.keys ≡ old.keys)
+    (adds : Adds (HasFact old) (HasFact new) (λ x. x ≡ Dependency d.start d.end d.kind))
+    (table : List (List ℕ)) (ends : Ends) (clean : Bool) (searched : ℕ) (was : IsGraph old table ends clean searched)
+    (leads : (l : ℕ) → Leaves d l → reaches table l (arrival d) ≡ true) where
+  abbrev Edge : ℕ → ℕ → Type 0
+  Edge = Leads (DependenciesOf (HasFact old))
+
+  led : (l : ℕ) → Leaves d l → Way Edge l (arrival d)
+  led l leaves = (was.ways l (arrival d)).0 (leads l leaves)
+
+  through : (p l q : ℕ) → Path Edge p l → Leaves d l → Path Edge (arrival d) q → Way Edge p q
+  through p l q before leaves after =
+      let (m, e, path) = led l leaves in Way-through Edge p l m q before e (Path-append Edge path after)
+
+  takes_none : TakesArrow table table d
+  takes_none p q = (
+    (λ h. inl h),
+    (λ h. elim h [
+      | inl o ↦ o
+      | inr ((l, leaves, before), after) ↦ (was.ways p q).1
+          (through p l q ((Comes-path Edge table was.ways p l).0 before) leaves ((Comes-path Edge table was.ways (arrival d) q).0 after))
+    ]),
+  )
+
+  comes_back_on : ComesBack (HasFact old) d → (x : Arrow) × OnCircle (HasFact old) x
+  comes_back_on (q, leaves, path) =
+      let (m, (x, has, left, at), rest) = led q leaves in
+      (x, (OnCircle-iff (HasFact old) (arrows_within (HasFact old) (facts_within old was.few)) x has).1
+          (q, subst (λ p. Path Edge p q) (sym at) (Path-append Edge rest path), left))
+
+  clean_still : IsClean (HasFact old) → IsClean (HasFact new)
+  clean_still clean_old =
+      let within = facts_within new (subst (λ k. k ≤ MAX_KEYS) (sym keys) was.few) in
+      let places = CleanPlaces-from (HasFact old) (facts_within old was.few) clean_old in
+      IsClean-from_places (HasFact new) within ((CleanPlaces-dependency (HasFact old) (HasFact new) d adds within places).1 (
+        (λ back. let (x, on) = comes_back_on back in places.circles x on),
+        λ irq ((p, (l, leaves, before), arrives), (q, after, out)).
+            places.links irq (p, q, arrives, out, Path-from_way Edge p q (through p l q before leaves after)),
+      ))
+
+  pub IsGraph-led : (now : ℕ) → now ≤ rows_allowed new → IsGraph new table ends clean now
+  IsGraph-led now bound = record {
+    few = subst (λ k. k ≤ MAX_KEYS) (sym keys) was.few;
+    ways = ways_taken (DependenciesOf (HasFact old)) (DependenciesOf (HasFact new)) d table table (arrows_added (HasFact old) (HasFact new) d adds) was.ways takes_none;
+    ends_are = ends_kept old new d adds ends was.ends_are;
+    flag = (
+      (λ h. clean_still (was.flag.0 h)),
+      (λ h. was.flag.1 (IsClean-fewer (HasFact old) (HasFact new) (λ x o. (adds x).1 (inl o)) h)),
+    );
+    bound = bound;
+  }
+
+-- any
 module _ (old new : FactParts) (d : Arrow) (keys : new.keys ≡ old.keys)
     (adds : Adds (HasFact old) (HasFact new) (λ x. x ≡ Dependency d.start d.end d.kind))
     (table table' : List (List ℕ)) (takes : TakesArrow table table' d) (sources targets : List ℕ) (span : AreSpan table d sources targets)
@@ -130,12 +193,7 @@ module _ (old new : FactParts) (d : Arrow) (keys : new.keys ≡ old.keys)
   IsGraph-dependency fine now iff bound = record {
     few = few;
     ways = ways_taken (DependenciesOf (HasFact old)) (DependenciesOf (HasFact new)) d table table' (arrows_added (HasFact old) (HasFact new) d adds) was.ways takes;
-    ends_are = record {
-      arrives = λ irq p. let kept = LinkArrives-kept (HasFact old) (HasFact new) d adds irq p in
-          ((λ h. kept.1 ((was.ends_are.arrives irq p).0 h)), (λ h. (was.ends_are.arrives irq p).1 (kept.0 h)));
-      leaves = λ irq q. let kept = LinkLeaves-kept (HasFact old) (HasFact new) d adds irq q in
-          ((λ h. kept.1 ((was.ends_are.leaves irq q).0 h)), (λ h. (was.ends_are.leaves irq q).1 (kept.0 h)));
-    };
+    ends_are = ends_kept old new d adds ends was.ends_are;
     flag = (
       (λ h. let (on, stays) = iff.0 h in (clean_new (was.flag.0 on)).1 stays),
       (λ h. let before = IsClean-fewer (HasFact old) (HasFact new) (λ x o. (adds x).1 (inl o)) h in

@@ -30,7 +30,7 @@ pub Way-then_path : (E : ℕ → ℕ → Type 0) (p q r : ℕ) → Way E p q →
 Way-then_path E p q r (m, e, path) rest = (m, e, Path-append E path rest)
 
 -- a path, a step and a path
-Way-through : (E : ℕ → ℕ → Type 0) (p l t q : ℕ) → Path E p l → E l t → Path E t q → Way E p q
+pub Way-through : (E : ℕ → ℕ → Type 0) (p l t q : ℕ) → Path E p l → E l t → Path E t q → Way E p q
 Way-through E p l t q before e after =
     elim (Path-cases E before) [
       | inl same ↦ (t, subst (λ x. E x t) (sym same) e, after)

@@ -3,7 +3,7 @@
 ghost use Rattle.std.specs.Prelude.{◌≡◌, ℕ, ◌+◌, ◌*◌, ◌<◌, ◌≤◌, ◌↔◌, ◌⊎◌, ◌||◌, ◌&&◌, length, IsTrue, IsFalse, IfOk};
 ghost use Rattle.ld_graph.specs.Arrows.{arrow};
 ghost use Rattle.ld_graph.specs.Inside.Bits.{has_bit};
-ghost use Rattle.ld_graph.specs.Inside.Places.{place, LeavesFrom};
+ghost use Rattle.ld_graph.specs.Inside.Places.{place, arrival, Leaves, LeavesFrom};
 ghost use Rattle.ld_graph.specs.Inside.Tables.{reaches, IsSource, IsTarget, AreSpan, IsTransitive, TakesArrow};
 ghost use Rattle.ld_trace.specs.declared.key_id.TheConstants.{MAX_KEYS};
 
@@ -95,6 +95,27 @@ impl Reach {
             bits::intersect(&mut row, &self.from(place_of(key, true)));
         }
         row
+    }
+
+    // Whether `q` is reached from `p`.
+    fn has_way(&self, p: usize, q: usize) -> bool
+        requires from { p < PLACES }
+        requires to { q < PLACES }
+        ensures { result ≡ reaches self.now p q }
+    {
+        bits::has(&self.ahead[p], q)
+    }
+
+    // Whether the place where a dependency arrives is reached from each place that it leaves: then it opens no way.
+    pub(crate) fn leads(&self, from: u16, to: u16, kind: Kind) -> bool
+        requires from { from < MAX_KEYS }
+        requires to { to < MAX_KEYS }
+        ensures { IsTrue result ↔ ((l : ℕ) → Leaves (arrow from to kind) l
+            → IsTrue (reaches self.now l (arrival (arrow from to kind)))) }
+    {
+        let end = place_of(to, kind.ends_in_r());
+        self.has_way(place_of(from, false), end)
+            && (kind.begins_with_s() || self.has_way(place_of(from, true), end))
     }
 
     // Adds a dependency, whose sources come to reach its targets, and answers how many rows were read or written for

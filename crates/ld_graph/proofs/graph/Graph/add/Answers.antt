@@ -11,15 +11,15 @@ use Rattle.ld_graph.specs.Inside.Kept.{IsGraph, StaysClean, MarkTurnsBack}
 use Rattle.ld_graph.specs.Graphs.{GraphParts}
 use Rattle.ld_graph.proofs.Adding.{rows_allowed-le}
 use Rattle.ld_graph.proofs.Ways.{IsTransitive-ways}
-use Rattle.ld_graph.proofs.GraphSteps.{IsGraph-dependency, IsGraph-mark}
+use Rattle.ld_graph.proofs.GraphSteps.{IsGraph-dependency, IsGraph-led, IsGraph-mark}
 use Rattle.ld_graph.proofs.graph.Graph.add.Goals as goal
-use Rattle.ld_graph.proofs.graph.Graph.add.Goals.{Joined-was_clean-3, in-Dependency, then-was_clean, else-was_clean, in-Marked, then-was_clean-2, else-was_clean-2, then-was_clean-3, else-was_clean-3}
+use Rattle.ld_graph.proofs.graph.Graph.add.Goals.{Joined-was_clean-3, in-Dependency+then-leads, in-Dependency+else-leads, then-was_clean, else-was_clean, in-Marked, then-was_clean-2, else-was_clean-2, then-was_clean-3, else-was_clean-3}
 
-pub add-rows-requires-clause-transitive : goal.add-rows-requires-clause-transitive
-add-rows-requires-clause-transitive c = IsTransitive-ways (Leads (DependenciesOf (HasFact c.self.inside.facts))) c.self.inside.reach c.self.invariant.ways
+pub add-requires-else-leads-clause-transitive : goal.add-requires-else-leads-clause-transitive
+add-requires-else-leads-clause-transitive c = IsTransitive-ways (Leads (DependenciesOf (HasFact c.self.inside.facts))) c.self.inside.reach c.self.invariant.ways
 
-pub add-rows-requires-clause-span : goal.add-rows-requires-clause-span
-add-rows-requires-clause-span c = record {
+pub add-requires-else-leads-clause-span : goal.add-requires-else-leads-clause-span
+add-requires-else-leads-clause-span c = record {
   sources_are = subst (λ s. (p : ℕ) → (has_bit c.sources-sources.result p ≡ true) ↔ IsSource c.self.inside.reach c.in-Dependency.from s p)
       c.begins_with_s.ensures c.sources-sources.ensures;
   targets_are = subst (λ r. (q : ℕ) → (has_bit c.targets-targets.result q ≡ true) ↔ IsTarget c.self.inside.reach c.in-Dependency.to r q)
@@ -46,7 +46,8 @@ counted c = elim c.if-was_clean-3.branch [
   where
     rows_few : c.match-fact.rows ≤ rows_for c.args.fact
     rows_few = elim c.match-fact.branch [
-      | in-Dependency w ↦ rw (w.rows-is, w.in-Dependency.is) w.add-rows.ensures.count
+      | in-Dependency+then-leads w ↦ rw (w.rows-is, w.in-Dependency.is) (let few = w.rows_left.ensures in omega arith)
+      | in-Dependency+else-leads w ↦ rw (w.rows-is, w.in-Dependency.is) w.add-else-leads.ensures.count
       | in-Marked w ↦ rw (w.rows-is, w.in-Marked.is) (let few = w.rows_read-rows.ensures in omega arith)
     ]
 
@@ -59,7 +60,8 @@ within c =
   where
     same : c.match-fact.self-inside.searched ≡ c.self.inside.searched
     same = elim c.match-fact.branch [
-      | in-Dependency w ↦ ap (λ g. g.searched) w.self-inside-is
+      | in-Dependency+then-leads w ↦ ap (λ g. g.searched) w.self-inside-is
+      | in-Dependency+else-leads w ↦ ap (λ g. g.searched) w.self-inside-is
       | in-Marked w ↦ ap (λ g. g.searched) w.self-inside-is
     ]
 
@@ -71,7 +73,16 @@ overflow_add-self c =
 
 pub invariant_of-self-2 : goal.invariant_of-self-2
 invariant_of-self-2 c = elim c.match-fact.branch [
-  | in-Dependency w ↦
+  | in-Dependency+then-leads w ↦
+      let d : Arrow = arrow w.in-Dependency.from w.in-Dependency.to w.in-Dependency.kind in
+      subst (λ g. IsGraph g.facts g.reach g.ends g.clean (c.match-fact.self-inside.searched + c.if-was_clean-3.counted)) (sym w.self-inside-is)
+      (IsGraph-led c.self.inside.facts c.add.new.self d c.add.ensures.keys
+      (subst (λ f. Adds (HasFact c.self.inside.facts) (HasFact c.add.new.self) (λ x. x ≡ f)) w.in-Dependency.is c.add.ensures.adds)
+      c.self.inside.reach c.self.inside.ends c.self.inside.clean c.self.inside.searched c.self.invariant
+      (w.leads.ensures.0 w.if-leads.true)
+      (c.match-fact.self-inside.searched + c.if-was_clean-3.counted)
+      (within (goal.at.invariant_of-self-2 c).Joined-was_clean-3))
+  | in-Dependency+else-leads w ↦
       let d : Arrow = arrow w.in-Dependency.from w.in-Dependency.to w.in-Dependency.kind in
       let span : AreSpan c.self.inside.reach d w.sources-sources.result w.targets-targets.result = record {
         sources_are = subst (λ s. (p : ℕ) → (has_bit w.sources-sources.result p ≡ true) ↔ IsSource c.self.inside.reach d.start s p)
@@ -82,7 +93,7 @@ invariant_of-self-2 c = elim c.match-fact.branch [
       subst (λ g. IsGraph g.facts g.reach g.ends g.clean (c.match-fact.self-inside.searched + c.if-was_clean-3.counted)) (sym w.self-inside-is)
       (IsGraph-dependency c.self.inside.facts c.add.new.self d c.add.ensures.keys
       (subst (λ f. Adds (HasFact c.self.inside.facts) (HasFact c.add.new.self) (λ x. x ≡ f)) w.in-Dependency.is c.add.ensures.adds)
-      c.self.inside.reach w.add-rows.new.self w.add-rows.ensures.takes w.sources-sources.result w.targets-targets.result span
+      c.self.inside.reach w.add-else-leads.new.self w.add-else-leads.ensures.takes w.sources-sources.result w.targets-targets.result span
       c.self.inside.ends c.self.inside.clean c.self.inside.searched c.self.invariant w.if-was_clean.self
       (c.match-fact.self-inside.searched + c.if-was_clean-3.counted)
       (elim w.if-was_clean.branch [
@@ -119,6 +130,7 @@ returns-clause-adds c =
   where
     facts_are : c.add.new.self ≡ c.match-fact.self-inside.facts
     facts_are = elim c.match-fact.branch [
-      | in-Dependency w ↦ ap (λ g. g.facts) (sym w.self-inside-is)
+      | in-Dependency+then-leads w ↦ ap (λ g. g.facts) (sym w.self-inside-is)
+      | in-Dependency+else-leads w ↦ ap (λ g. g.facts) (sym w.self-inside-is)
       | in-Marked w ↦ ap (λ g. g.facts) (sym w.self-inside-is)
     ]
