@@ -12,8 +12,8 @@ use Rattle.ld_graph.specs.Graphs.{GraphParts}
 use Rattle.ld_graph.proofs.Adding.{rows_allowed-le}
 use Rattle.ld_graph.proofs.Ways.{IsTransitive-ways}
 use Rattle.ld_graph.proofs.GraphSteps.{IsGraph-dependency, IsGraph-led, IsGraph-mark}
-use Rattle.ld_graph.proofs.graph.Graph.add.Goals as goal
-use Rattle.ld_graph.proofs.graph.Graph.add.Goals.{Joined-was_clean-3, in-Dependency+then-leads, in-Dependency+else-leads, then-was_clean, else-was_clean, in-Marked, then-was_clean-2, else-was_clean-2, then-was_clean-3, else-was_clean-3}
+use Rattle.ld_graph.proofs.graph.Graph.add_new.Goals as goal
+use Rattle.ld_graph.proofs.graph.Graph.add_new.Goals.{Joined-was_clean-3, in-Dependency+then-leads, in-Dependency+else-leads, then-was_clean, else-was_clean, in-Marked, then-was_clean-2, else-was_clean-2, then-was_clean-3, else-was_clean-3}
 
 pub add-requires-else-leads-clause-transitive : goal.add-requires-else-leads-clause-transitive
 add-requires-else-leads-clause-transitive c = IsTransitive-ways (Leads (DependenciesOf (HasFact c.self.inside.facts))) c.self.inside.reach c.self.invariant.ways
@@ -51,10 +51,18 @@ counted c = elim c.if-was_clean-3.branch [
       | in-Marked w ↦ rw (w.rows-is, w.in-Marked.is) (let few = w.rows_read-rows.ensures in omega arith)
     ]
 
+not_false : (b : Bool) → ¬ (b ≡ false) → b ≡ true
+not_false true h = refl
+not_false false h = absurd (h refl)
+
+is_new : (c : Joined-was_clean-3) → c.add.result ≡ true
+is_new c = not_false c.add.result
+    (λ known. c.requires.new (subst (λ (g : GraphParts). HasFact g.facts c.args.fact) c.self.view_is (c.add.ensures.fresh.0 known)))
+
 -- so no more were taken up than may be
 within : (c : Joined-was_clean-3) → c.match-fact.self-inside.searched + c.if-was_clean-3.counted ≤ rows_allowed c.add.new.self
 within c =
-    let more = c.add.ensures.allowed c.if-not-add.false in
+    let more = c.add.ensures.allowed (is_new c) in
     let bound = c.self.invariant.bound in
     omega (arith, counted c, same)
   where
@@ -71,8 +79,8 @@ overflow_add-self c =
     let bound = within (goal.at.overflow_add-self c).Joined-was_clean-3 in
     search rules
 
-pub invariant_of-self-2 : goal.invariant_of-self-2
-invariant_of-self-2 c = elim c.match-fact.branch [
+pub invariant_of-self : goal.invariant_of-self
+invariant_of-self c = elim c.match-fact.branch [
   | in-Dependency+then-leads w ↦
       let d : Arrow = arrow w.in-Dependency.from w.in-Dependency.to w.in-Dependency.kind in
       subst (λ g. IsGraph g.facts g.reach g.ends g.clean (c.match-fact.self-inside.searched + c.if-was_clean-3.counted)) (sym w.self-inside-is)
@@ -81,7 +89,7 @@ invariant_of-self-2 c = elim c.match-fact.branch [
       c.self.inside.reach c.self.inside.ends c.self.inside.clean c.self.inside.searched c.self.invariant
       (w.leads.ensures.0 w.if-leads.true)
       (c.match-fact.self-inside.searched + c.if-was_clean-3.counted)
-      (within (goal.at.invariant_of-self-2 c).Joined-was_clean-3))
+      (within (goal.at.invariant_of-self c).Joined-was_clean-3))
   | in-Dependency+else-leads w ↦
       let d : Arrow = arrow w.in-Dependency.from w.in-Dependency.to w.in-Dependency.kind in
       let span : AreSpan c.self.inside.reach d w.sources-sources.result w.targets-targets.result = record {
@@ -104,7 +112,7 @@ invariant_of-self-2 c = elim c.match-fact.branch [
             (StaysClean w.sources-sources.result w.targets-targets.result c.self.inside.ends d.start (is_s d.kind))
             v.if-was_clean.false (v.self-is ∙ v.if-was_clean.false)
       ])
-      (within (goal.at.invariant_of-self-2 c).Joined-was_clean-3))
+      (within (goal.at.invariant_of-self c).Joined-was_clean-3))
   | in-Marked w ↦
       let key = w.in-Marked.key in
       let mark = w.in-Marked.mark in
@@ -120,7 +128,7 @@ invariant_of-self-2 c = elim c.match-fact.branch [
         | else-was_clean-2 v ↦ no_flag c.self.inside.clean w.if-was_clean-2.self (¬ MarkTurnsBack c.self.inside.reach c.self.inside.ends key mark)
             v.if-was_clean-2.false (v.self-is ∙ v.if-was_clean-2.false)
       ])
-      (within (goal.at.invariant_of-self-2 c).Joined-was_clean-3))
+      (within (goal.at.invariant_of-self c).Joined-was_clean-3))
 ]
 
 pub returns-clause-adds : goal.returns-clause-adds
