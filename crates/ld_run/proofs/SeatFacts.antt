@@ -159,24 +159,3 @@ module _ (keys : ℕ) (ss : List Seat) (ws : List ℕ) (knows : Knows keys (gath
 
   pub closed_claims : (n : ℕ) × ((x : ℕ) → times x (claims_of ss) ≡ once_below x n)
   closed_claims = (slice_index ws 0, λ x. ap (times x) (sym (gathered_claims ss)) ∙ knows.once x)
-
--- ---- a chain that is put unless it is covered
-module _ (keys : ℕ) (old mid : View) (same : mid.put ≡ old.put) (seen : Holds (SeenHas keys mid) (SeenHas keys old)) where
-  pub keeps_put : (x : Fact) → PutHas keys old x ↔ PutHas keys mid x
-  keeps_put x = ((λ h. subst (λ ps. PairsHave keys ps x) (sym same) h), (λ h. subst (λ ps. PairsHave keys ps x) same h))
-
-  -- it was looked at alone
-  pub looked_only : (P : Fact → Type 0) → PutsOnly keys old mid P
-  looked_only P = record {
-    keeps = λ x h. (keeps_put x).0 h;
-    only = λ x h. inl ((keeps_put x).1 h);
-    knows = λ x h. elim h [ inl p ↦ inl ((keeps_put x).0 p) | inr s ↦ inr (seen x s) ];
-  }
-
-  -- then it was put
-  pub looked_and_put : (new : View) (P : Fact → Type 0) → Adds (PutHas keys mid) (PutHas keys new) P → Holds (SeenHas keys new) (SeenHas keys mid) → PutsOnly keys old new P
-  looked_and_put new P adds more = record {
-    keeps = λ x h. (adds x).1 (inl ((keeps_put x).0 h));
-    only = λ x h. elim ((adds x).0 h) [ inl o ↦ inl ((keeps_put x).1 o) | inr p ↦ inr p ];
-    knows = λ x h. elim h [ inl p ↦ inl ((adds x).1 (inl ((keeps_put x).0 p))) | inr s ↦ inr (more x (seen x s)) ];
-  }

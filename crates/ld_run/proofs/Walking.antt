@@ -129,11 +129,6 @@ gathered_puts keys start now t n Q same gathered = PutsOnly-more keys start now 
 pub gathered_knows : (keys : ℕ) (start now : View) (t : List Event) (n : ℕ) (Q : Fact → Type 0) → AreSame (ChainsHave (chains (take n t))) Q → HasGathered keys start now t n → Holds (KnowsFact keys now) Q
 gathered_knows keys start now t n Q same gathered x h = gathered.knows x ((same x).1 h)
 
--- a fact that was seen, or else put, is known
-pub known_either : (keys : ℕ) (v : View) (b : Bool) (P : Fact → Type 0) → (IsFalse b → Holds (SeenHas keys v) P) → (IsTrue b → Holds (PutHas keys v) P) → Holds (KnowsFact keys v) P
-known_either keys v false P covered put x h = inr (covered refl x h)
-known_either keys v true P covered put x h = inl (put refl x h)
-
 -- nothing is refused where the worker was lost
 pub none_in : (r : Result (Option StepFault) Lost) → IsErr r → fault_in r ≡ None
 none_in (Ok fault) is = absurd (true≢false (sym is))

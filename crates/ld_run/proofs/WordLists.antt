@@ -135,3 +135,45 @@ past_with keys n word bits ps p q = past_or keys n (cond (eqb n word) bits 0) (b
 
 pub past_append : (keys n : ℕ) (ps qs : List (ℕ × ℕ)) → NonePast keys (n, bits_of n ps) → NonePast keys (n, bits_of n qs) → NonePast keys (n, bits_of n (ps ++ qs))
 past_append keys n ps qs p q = subst (λ b. NonePast keys (n, b)) (sym (bits_of-append n ps qs)) (past_or keys n (bits_of n ps) (bits_of n qs) p q)
+
+-- ---- pairs of which some are put
+-- what is in a word stands in a pair of it
+pub within_here : (n a b : ℕ) (s : List (ℕ × ℕ)) → Within a b → Within a (bits_of n ((n, b) ∷ s))
+within_here n a b s h = subst (λ (t : Bool). Within a (bit_or (cond t b 0) (bits_of n s))) (sym (eq-eqb n n refl)) (within_more a b (bits_of n s) h)
+
+pub within_left : (n a : ℕ) (p s : List (ℕ × ℕ)) → Within a (bits_of n p) → Within a (bits_of n (p ++ s))
+within_left n a p s h = subst (Within a) (sym (bits_of-append n p s)) (within_more a (bits_of n p) (bits_of n s) h)
+
+pub within_right : (n a : ℕ) (p s : List (ℕ × ℕ)) → Within a (bits_of n s) → Within a (bits_of n (p ++ s))
+within_right n a p s h = subst (Within a) (sym (bits_of-append n p s)) (subst (Within a) (or_comm (bits_of n s) (bits_of n p)) (within_more a (bits_of n s) (bits_of n p) h))
+
+-- more of both is more of both together
+pub within_appended : (n a : ℕ) (p q s t : List (ℕ × ℕ)) → Within (bits_of n p) (bits_of n q) → Within (bits_of n s) (bits_of n t) → Within a (bits_of n (p ++ s)) → Within a (bits_of n (q ++ t))
+within_appended n a p q s t left right h =
+    within_through a (bits_of n (p ++ s)) (bits_of n (q ++ t)) h
+        (subst (λ b. Within b (bits_of n (q ++ t))) (sym (bits_of-append n p s))
+            (within_both (bits_of n p) (bits_of n s) (bits_of n (q ++ t)) (within_left n (bits_of n p) q t left) (within_right n (bits_of n s) q t right)))
+
+-- a pair's bits are among those of its list, whatever the word
+pub pair_bits_in : (n : ℕ) (facts : List (ℕ × ℕ)) (k : ℕ) (d : ℕ × ℕ) → k < length facts → Within (cond (eqb n (get_or facts k d).0) (get_or facts k d).1 0) (bits_of n facts)
+pair_bits_in n facts k d l =
+    let x : ℕ × ℕ = get_or facts k d in
+    dite (ℕ_discrete n x.0)
+    (λ same. subst (λ (b : Bool). Within (cond b x.1 0) (bits_of n facts)) (sym (eq-eqb n x.0 same)) (subst (λ (m : ℕ). Within x.1 (bits_of m facts)) (sym same) (pair_in facts k d l)))
+    (λ other. subst (λ (b : Bool). Within (cond b x.1 0) (bits_of n facts)) (sym (ne_eqb n x.0 other)) (or_unit (bits_of n facts)))
+
+-- one more of the pairs may be put
+pub only_step : (n : ℕ) (facts was now next : List (ℕ × ℕ)) (i : ℕ) → i < length facts
+    → Within (bits_of n now) (bits_of n (facts ++ was)) → Within (bits_of n next) (bits_of n (get_or facts i (0, 0) ∷ now)) → Within (bits_of n next) (bits_of n (facts ++ was))
+only_step n facts was now next i inside before step =
+    let x : ℕ × ℕ = get_or facts i (0, 0) in
+    within_through (bits_of n next) (bits_of n (x ∷ now)) (bits_of n (facts ++ was)) step
+        (within_both (cond (eqb n x.0) x.1 0) (bits_of n now) (bits_of n (facts ++ was))
+            (within_left n (cond (eqb n x.0) x.1 0) facts was (pair_bits_in n facts i (0, 0) inside)) before)
+
+-- what holds of each pair before i and of the one at i holds of each before i + 1
+pub each_next : (P : ℕ × ℕ → Type 0) (facts : List (ℕ × ℕ)) (i : ℕ) → i < length facts → P (get_or facts i (0, 0))
+    → ((k : ℕ) (d : ℕ × ℕ) → k < i → P (get_or facts k d)) → (k : ℕ) (d : ℕ × ℕ) → k < i + 1 → P (get_or facts k d)
+each_next P facts i inside here before k d l = dite (ℕ_discrete k i)
+    (λ same. let e : get_or facts i (0, 0) ≡ get_or facts k d = get_or_default facts i (0, 0) d inside ∙ (λ j. get_or facts (sym same j) d) in subst P e here)
+    (λ other. before k d (omega (arith, l, other)))

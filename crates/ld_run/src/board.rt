@@ -1,6 +1,6 @@
 //! A board: a word that numbers are claimed from, and words of facts, which threads share without waiting for one another.
 
-ghost use Rattle.std.specs.Prelude.{◌≡◌, ◌≢◌, ◌⊎◌, ◌↔◌, ◌+◌, ◌/◌, ◌%◌, ◌<◌, ◌≤◌, ◌∷◌, ℕ, length, All, AllPairs, Any, IsFalse, IsTrue, IfOk, IsErrOf, vec_len, bit_or, slice_index};
+ghost use Rattle.std.specs.Prelude.{◌≡◌, ◌≢◌, ◌⊎◌, ◌↔◌, ◌+◌, ◌/◌, ◌%◌, ◌<◌, ◌≤◌, ◌∷◌, ◌++◌, ℕ, length, All, AllPairs, Any, IsFalse, IsTrue, IfOk, IsErrOf, vec_len, bit_or, slice_index};
 ghost use Rattle.std.specs.Int.{bit_at};
 ghost use Rattle.std.specs.Mem.Slots.{slots_items, slots_len, IsFull};
 ghost use Rattle.ld_trace.specs.declared.key_id.TheConstants.{MAX_KEYS};
@@ -11,7 +11,7 @@ ghost use Rattle.ld_graph.specs.Facts.{Adds, AreSame, ChainHas, Holds};
 ghost use Rattle.ld_graph.specs.Numbers.{fact_number};
 ghost use Rattle.ld_graph.specs.WordPairs.{bits_of, word_total, NonePast, PairsHave, Within};
 ghost use Rattle.ld_graph.specs.declared.fact.Fact.{Fact};
-ghost use Rattle.ld_run.specs.Views.{newcomer, once_below, times, with_claim, PutHas, SeenHas, ShareWord};
+ghost use Rattle.ld_run.specs.Views.{newcomer, once_below, times, with_claim, KnowsFact, PutHas, SeenHas, ShareWord};
 ghost use Rattle.ld_run.specs.Seats.{view, claims_of};
 ghost use Rattle.ld_run.specs.Work.{PutsOnly};
 ghost use Rattle.ld_run.specs.Inside.BoardRule.{with_look, with_put};
@@ -127,24 +127,20 @@ impl Board {
         self.covers_words(seat)
     }
 
-    // Puts the facts of a chain on the board unless it covers them, and answers whether it has put them: what `covers` and then
-    // `put` do, with the chain's words found once.
+    // Puts those facts of a chain on the board whose words lack some, and answers whether there were any: what `covers` and then `put`
+    // do, with the chain's words found and loaded once. A word that lacks none is only loaded.
     pub(crate) fn put_unless_covered(&self, seat: &mut Seat, chain: &Chain) -> bool
         requires seat { IsSeatOf self.now seat.old }
         requires below { ChainKeysBelow (keys_of self.now) chain.now }
         ensures seat { IsSeatOf self.now seat.new }
         ensures claimed { (view seat.new).claimed ≡ (view seat.old).claimed }
         ensures puts { PutsOnly (keys_of self.now) (view seat.old) (view seat.new) (ChainHas chain.now) }
-        ensures covered { IsFalse result → Holds (SeenHas (keys_of self.now) (view seat.new)) (ChainHas chain.now) }
-        ensures put { IsTrue result → Holds (PutHas (keys_of self.now) (view seat.new)) (ChainHas chain.now) }
+        ensures knows { Holds (KnowsFact (keys_of self.now) (view seat.new)) (ChainHas chain.now) }
+        ensures covered { IsFalse result → ((view seat.new).put ≡ (view seat.old).put)
+            × Holds (SeenHas (keys_of self.now) (view seat.new)) (ChainHas chain.now) }
     {
-        ld_graph::facts_are_bits();
         seat.words.set_to(chain, self.keys);
-        if self.covers_words(seat) {
-            return false;
-        }
-        self.put_words(seat);
-        true
+        self.put_lacking_words(seat)
     }
 
     /// The facts that are on the board at the end, where the list holds each of its seats once: exactly those that the seats have
@@ -223,6 +219,53 @@ impl Board {
             };
             self.put_word(seat, word, bits);
         }
+    }
+
+    // Puts those of the seat's words whose bits aren't all there, and answers whether there were any.
+    fn put_lacking_words(&self, seat: &mut Seat) -> bool
+        requires seat { IsSeatOf self.now seat.old }
+        requires words { All (λ p. p.0 < word_total (keys_of self.now)) seat.old.words }
+        requires none_past { All (NonePast (keys_of self.now)) seat.old.words }
+        ensures seat { IsSeatOf self.now seat.new }
+        ensures claimed { (view seat.new).claimed ≡ (view seat.old).claimed }
+        ensures keeps { (n : ℕ) → Within (bits_of n (view seat.old).put) (bits_of n (view seat.new).put) }
+        ensures only { (n : ℕ) → Within (bits_of n (view seat.new).put) (bits_of n (seat.old.words ++ (view seat.old).put)) }
+        ensures seen { (n : ℕ) → Within (bits_of n (view seat.old).seen) (bits_of n (view seat.new).seen) }
+        ensures knows { (n : ℕ) → Within (bits_of n seat.old.words) (bits_of n ((view seat.new).put ++ (view seat.new).seen)) }
+        ensures covered { IsFalse result → ((view seat.new).put ≡ (view seat.old).put)
+            × ((n : ℕ) → Within (bits_of n seat.old.words) (bits_of n (view seat.new).seen)) }
+    {
+        let mut any = false;
+        for n in 0..seat.words.len() {
+            let Some((word, bits)) = seat.words.get(n) else {
+                unreachable!();
+            };
+            any |= self.put_if_lacking(seat, word, bits);
+        }
+        any
+    }
+
+    // Puts bits into one fact word unless they are all there, and answers whether it has put them.
+    fn put_if_lacking(&self, seat: &mut Seat, word: usize, wanted: u64) -> bool
+        requires seat { IsSeatOf self.now seat.old }
+        requires word { word < word_total (keys_of self.now) }
+        requires none_past { NonePast (keys_of self.now) (word, wanted) }
+        ensures seat { IsSeatOf self.now seat.new }
+        ensures words { seat.new.words ≡ seat.old.words }
+        ensures claimed { (view seat.new).claimed ≡ (view seat.old).claimed }
+        ensures keeps { (n : ℕ) → Within (bits_of n (view seat.old).put) (bits_of n (view seat.new).put) }
+        ensures only { (n : ℕ) → Within (bits_of n (view seat.new).put) (bits_of n ((word, wanted) ∷ (view seat.old).put)) }
+        ensures seen { (n : ℕ) → Within (bits_of n (view seat.old).seen) (bits_of n (view seat.new).seen) }
+        ensures knows { Within wanted (bits_of word ((view seat.new).put ++ (view seat.new).seen)) }
+        ensures covered { IsFalse result → ((view seat.new).put ≡ (view seat.old).put)
+            × Within wanted (bits_of word (view seat.new).seen) }
+    {
+        let found = self.look_word(seat, word);
+        if wanted | found == found {
+            return false;
+        }
+        self.put_word(seat, word, wanted);
+        true
     }
 
     // Loads the seat's words, and answers whether all their bits were found.

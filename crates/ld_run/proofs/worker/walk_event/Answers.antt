@@ -1,9 +1,8 @@
 use Rattle.std.proofs.Common.{ap, ◌∙◌, sym, subst, Ok}
-use Rattle.ld_graph.specs.Facts.{ChainHas}
 use Rattle.ld_run.specs.Boards.{keys_of}
 use Rattle.ld_run.specs.Seats.{view}
 use Rattle.ld_run.specs.Inside.Walks.{WalksOn}
-use Rattle.ld_run.proofs.Walking.{chain_below, known_either, none_in, walks_on-chain, walks_on-none}
+use Rattle.ld_run.proofs.Walking.{chain_below, none_in, walks_on-chain, walks_on-none}
 use Rattle.ld_run.proofs.worker.walk_event.Goals as goal
 
 pub put_unless_covered-requires-clause-below : goal.put_unless_covered-requires-clause-below
@@ -19,7 +18,7 @@ returns-in_err-record_chain-in-Ok-clause-walks_on g c = λ start t n next.
     let e = c.put_unless_covered.ensures in
     subst (WalksOn keys start new c.step.new.self t n) (sym (none_in c.from_residual.result c.from_residual.ensures.0))
     (walks_on-chain keys start (view c.args.seat.now) new t n c.step.new.self c.step.result c.in-Some.chain (c.in-Ok.is ∙ ap Ok c.in-Some.is) (c.step.ensures.goes_on t n next.after next.here) e.claimed e.puts
-    (known_either keys new c.put_unless_covered.result (ChainHas c.in-Some.chain) e.covered e.put) next.gathered)
+    e.knows next.gathered)
 
 pub returns-after-put_unless_covered-clause-walks_on : goal.returns-after-put_unless_covered-clause-walks_on
 returns-after-put_unless_covered-clause-walks_on g c = λ start t n next.
@@ -27,7 +26,7 @@ returns-after-put_unless_covered-clause-walks_on g c = λ start t n next.
     let new = view c.put_unless_covered.new.seat in
     let e = c.put_unless_covered.ensures in
     walks_on-chain keys start (view c.args.seat.now) new t n c.step.new.self c.step.result c.in-Some.chain (c.in-Ok.is ∙ ap Ok c.in-Some.is) (c.step.ensures.goes_on t n next.after next.here) e.claimed e.puts
-    (known_either keys new c.put_unless_covered.result (ChainHas c.in-Some.chain) e.covered e.put) next.gathered
+    e.knows next.gathered
 
 pub returns-in_default-clause-walks_on : goal.returns-in_default-clause-walks_on
 returns-in_default-clause-walks_on g c = λ start t n next.

@@ -1,37 +1,37 @@
-use Rattle.std.proofs.Common.{inr, refl, sym, subst}
-use Rattle.ld_graph.specs.Facts.{Adds, ChainHas}
-use Rattle.ld_graph.specs.WordLaws.{PairsHave-within}
-use Rattle.ld_graph.specs.WordPairs.{AreWordsOf}
+use Rattle.std.proofs.Common.{◌++◌, ℕ, List, inl, inr}
+use Rattle.ld_graph.specs.WordLaws.{PairsHave-append, PairsHave-within}
 use Rattle.ld_run.specs.Boards.{keys_of}
 use Rattle.ld_run.specs.Seats.{view}
-use Rattle.ld_run.specs.Views.{PutHas}
-use Rattle.ld_run.proofs.SeatFacts.{covers_chain, looked_and_put, looked_only, puts_chain}
-use Rattle.ld_run.proofs.board.Board.put_unless_covered.Goals.{After-put_words}
+use Rattle.ld_run.specs.declared.view.View.{View}
 use Rattle.ld_run.proofs.board.Board.put_unless_covered.Goals as goal
-
-pub returns-then-covers_words-clause-puts : goal.returns-then-covers_words-clause-puts
-returns-then-covers_words-clause-puts c =
-    looked_only (keys_of c.args.self.now) (view c.args.seat.now) (view c.covers_words.new.seat) c.if-covers_words.ensures.put
-    (PairsHave-within (keys_of c.args.self.now) (view c.args.seat.now).seen (view c.covers_words.new.seat).seen c.if-covers_words.ensures.seen) (ChainHas c.args.chain.now)
-
-pub returns-then-covers_words-clause-covered : goal.returns-then-covers_words-clause-covered
-returns-then-covers_words-clause-covered c = λ _.
-    (covers_chain (keys_of c.args.self.now) c.args.chain.now c.set_to.new.self c.set_to.ensures c.facts_are_bits.ensures.each (view c.covers_words.new.seat).seen).0
-    (c.if-covers_words.ensures.answer.0 refl)
-
-adds : (c : After-put_words) → Adds (PutHas (keys_of c.args.self.now) (view c.covers_words.new.seat)) (PutHas (keys_of c.args.self.now) (view c.put_words.new.seat)) (ChainHas c.args.chain.now)
-adds c =
-    let are = subst (AreWordsOf (keys_of c.args.self.now) c.args.chain.now) (sym c.covers_words.ensures.words) c.set_to.ensures in
-    puts_chain (keys_of c.args.self.now) c.args.chain.now c.covers_words.new.seat.words are (view c.covers_words.new.seat).put (view c.put_words.new.seat).put c.put_words.ensures.put
 
 pub returns-clause-puts : goal.returns-clause-puts
 returns-clause-puts c =
-    let keys = keys_of c.args.self.now in
-    let old = view c.args.seat.now in
-    let mid = view c.covers_words.new.seat in
-    let new = view c.put_words.new.seat in
-    looked_and_put keys old mid c.covers_words.ensures.put (PairsHave-within keys old.seen mid.seen c.covers_words.ensures.seen) new (ChainHas c.args.chain.now) (adds c)
-    (PairsHave-within keys mid.seen new.seen c.put_words.ensures.seen)
+    let keys : ℕ = keys_of c.args.self.now in
+    let old : View = view c.args.seat.now in
+    let new : View = view c.put_lacking_words.new.seat in
+    let words : List (ℕ × ℕ) = c.set_to.new.self in
+    let e = c.put_lacking_words.ensures in
+    record {
+      keeps = PairsHave-within keys old.put new.put e.keeps;
+      only = λ x h. elim ((PairsHave-append keys words old.put x).0 (PairsHave-within keys new.put (words ++ old.put) e.only x h)) [
+        | inl here ↦ inr ((c.set_to.ensures.facts x).0 here)
+        | inr before ↦ inl before
+      ];
+      knows = λ x h. elim h [
+        | inl p ↦ inl (PairsHave-within keys old.put new.put e.keeps x p)
+        | inr s ↦ inr (PairsHave-within keys old.seen new.seen e.seen x s)
+      ];
+    }
 
-pub returns-clause-put : goal.returns-clause-put
-returns-clause-put c = λ _ x has. (adds c x).1 (inr has)
+pub returns-clause-knows : goal.returns-clause-knows
+returns-clause-knows c = λ x has.
+    let keys : ℕ = keys_of c.args.self.now in
+    let new : View = view c.put_lacking_words.new.seat in
+    (PairsHave-append keys new.put new.seen x).0
+    (PairsHave-within keys c.set_to.new.self (new.put ++ new.seen) c.put_lacking_words.ensures.knows x ((c.set_to.ensures.facts x).1 has))
+
+pub returns-clause-covered : goal.returns-clause-covered
+returns-clause-covered c = λ off.
+    let found = c.put_lacking_words.ensures.covered off in
+    (found.0, λ x has. PairsHave-within (keys_of c.args.self.now) c.set_to.new.self (view c.put_lacking_words.new.seat).seen found.1 x ((c.set_to.ensures.facts x).1 has))
