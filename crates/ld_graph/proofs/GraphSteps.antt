@@ -131,9 +131,11 @@ module _ (old new : FactParts) (d : Arrow) (keys : new.keys ≡ old.keys)
 
   comes_back_on : ComesBack (HasFact old) d → (x : Arrow) × OnCircle (HasFact old) x
   comes_back_on (q, leaves, path) =
-      let (m, (x, has, left, at), rest) = led q leaves in
-      (x, (OnCircle-iff (HasFact old) (arrows_within (HasFact old) (facts_within old was.few)) x has).1
-          (q, subst (λ p. Path Edge p q) (sym at) (Path-append Edge rest path), left))
+      let (m, (x, has, left, at), rest) = led q leaves in (
+        x,
+        (OnCircle-iff (HasFact old) (arrows_within (HasFact old) (facts_within old was.few)) x has).1
+            (q, subst (λ p. Path Edge p q) (sym at) (Path-append Edge rest path), left),
+      )
 
   clean_still : IsClean (HasFact old) → IsClean (HasFact new)
   clean_still clean_old =

@@ -151,8 +151,8 @@ within_right n a p s h = subst (Within a) (sym (bits_of-append n p s)) (subst (W
 pub within_appended : (n a : ℕ) (p q s t : List (ℕ × ℕ)) → Within (bits_of n p) (bits_of n q) → Within (bits_of n s) (bits_of n t) → Within a (bits_of n (p ++ s)) → Within a (bits_of n (q ++ t))
 within_appended n a p q s t left right h =
     within_through a (bits_of n (p ++ s)) (bits_of n (q ++ t)) h
-        (subst (λ b. Within b (bits_of n (q ++ t))) (sym (bits_of-append n p s))
-            (within_both (bits_of n p) (bits_of n s) (bits_of n (q ++ t)) (within_left n (bits_of n p) q t left) (within_right n (bits_of n s) q t right)))
+    (subst (λ b. Within b (bits_of n (q ++ t))) (sym (bits_of-append n p s))
+    (within_both (bits_of n p) (bits_of n s) (bits_of n (q ++ t)) (within_left n (bits_of n p) q t left) (within_right n (bits_of n s) q t right)))
 
 -- a pair's bits are among those of its list, whatever the word
 pub pair_bits_in : (n : ℕ) (facts : List (ℕ × ℕ)) (k : ℕ) (d : ℕ × ℕ) → k < length facts → Within (cond (eqb n (get_or facts k d).0) (get_or facts k d).1 0) (bits_of n facts)
@@ -168,8 +168,8 @@ pub only_step : (n : ℕ) (facts was now next : List (ℕ × ℕ)) (i : ℕ) →
 only_step n facts was now next i inside before step =
     let x : ℕ × ℕ = get_or facts i (0, 0) in
     within_through (bits_of n next) (bits_of n (x ∷ now)) (bits_of n (facts ++ was)) step
-        (within_both (cond (eqb n x.0) x.1 0) (bits_of n now) (bits_of n (facts ++ was))
-            (within_left n (cond (eqb n x.0) x.1 0) facts was (pair_bits_in n facts i (0, 0) inside)) before)
+    (within_both (cond (eqb n x.0) x.1 0) (bits_of n now) (bits_of n (facts ++ was))
+    (within_left n (cond (eqb n x.0) x.1 0) facts was (pair_bits_in n facts i (0, 0) inside)) before)
 
 -- what holds of each pair before i and of the one at i holds of each before i + 1
 pub each_next : (P : ℕ × ℕ → Type 0) (facts : List (ℕ × ℕ)) (i : ℕ) → i < length facts → P (get_or facts i (0, 0))

@@ -13,3 +13,4 @@ pub mod ProgramLemmas
 pub mod TellingLemmas
 pub mod LeafLemmas
 pub mod PictureGrowing
+pub mod EndLemmas

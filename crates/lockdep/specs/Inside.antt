@@ -1,3 +1,4 @@
+pub mod Ends
 pub mod Sources
 pub mod Telling
 pub mod Turning

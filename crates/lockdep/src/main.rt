@@ -13,6 +13,7 @@ mod command_line;
 mod condensed;
 mod explanation;
 mod fault;
+mod line_ends;
 mod order;
 mod output;
 mod picture;

@@ -1,6 +1,6 @@
 //! The text of a report.
 
-ghost use Rattle.std.specs.Prelude.{◌≡◌, ◌++◌, List, ℕ, OnOk, IfOk, IfErr, IsFalse, length, string_bytes, sum_by};
+ghost use Rattle.std.specs.Prelude.{◌≡◌, ◌++◌, List, ℕ, OnOk, IfOk, IfErr, IsFalse, length, map, string_bytes, sum_by};
 ghost use Rattle.std.specs.Io.KnownBytes.{Appends};
 ghost use Rattle.ld_graph.specs.Arrows.{arrow};
 ghost use Rattle.ld_graph.specs.FactBits.{HasFact};
@@ -9,10 +9,12 @@ ghost use Rattle.ld_graph.specs.Walks.{OnCircle};
 ghost use Rattle.ld_task.specs.declared.kind.Kind.{Kind};
 ghost use Rattle.lockdep.specs.Faults.{StopsWriting};
 ghost use Rattle.lockdep.specs.Groups.{GrowsBy, InTurn};
+ghost use Rattle.lockdep.specs.Inside.Ends.{circle_start, inversion_start, line_end};
 ghost use Rattle.lockdep.specs.Report.{AreCircles, AreDoubles, AreInversions, AreTotals, IsReport, IsUsageCharacter, IsUsageLine, ShowsBecause, ShowsCircle, ShowsDouble, ShowsInversion, clean_line, forms, kinds, total_line, usage_character};
 
 use crate::because;
 use crate::fault::WriteFault;
+use crate::line_ends::LineEnds;
 use crate::order::sorted_keys;
 use crate::output::write_text;
 use crate::words::{irq_word, kind_word, name_of};
@@ -43,37 +45,45 @@ struct ReportView<'a> {
     settled: &'a Settled,
     // The names of the keys.
     names: &'a KeyTable,
+    // What the lines end with that name a key last.
+    ends: &'a LineEnds,
     // All keys, in the order of their names.
     keys: &'a [KeyId],
+    ghost ends_are: { ends.now ≡ map line_end names.now.names },
 }
 
 impl ReportView<'_> {
-    // The line of a dependency, where it is on a circle.
+    // The line of a dependency, where it is on a circle. Its beginning is made once for each first key.
     fn add_circle(
         self,
         text: &mut String,
+        start: &str,
         from: KeyId,
         to: KeyId,
         kind: Kind,
     ) -> Result<(), AllocError>
+        requires { start.now ≡ circle_start self.names.now.names from }
         ensures { OnOk result (GrowsBy
             (ShowsCircle (HasFact self.entry.settled.now) self.entry.names.now.names from to kind)
             (string_bytes text.old) (string_bytes text.new)) }
     {
         if self.settled.on_circle(from.get(), to.get(), kind) {
-            let (from_name, from_sub) = name_of(self.names, from);
-            let (to_name, to_sub) = name_of(self.names, to);
-            let kind = kind_word(kind);
-            writeln!(
-                text,
-                "circle {from_name}/{from_sub} {kind} {to_name}/{to_sub}"
-            )?;
+            text.push_str(start)?;
+            text.push_str(kind_word(kind))?;
+            self.ends.add(text, to)?;
         }
         Ok(())
     }
 
     // The circle lines of the dependencies from the one key to the other.
-    fn add_circles_to(self, text: &mut String, from: KeyId, to: KeyId) -> Result<(), AllocError>
+    fn add_circles_to(
+        self,
+        text: &mut String,
+        start: &str,
+        from: KeyId,
+        to: KeyId,
+    ) -> Result<(), AllocError>
+        requires { start.now ≡ circle_start self.names.now.names from }
         ensures { OnOk result (GrowsBy
             (InTurn (ShowsCircle (HasFact self.entry.settled.now) self.entry.names.now.names from to) kinds)
             (string_bytes text.old) (string_bytes text.new)) }
@@ -82,7 +92,7 @@ impl ReportView<'_> {
             return Ok(());
         }
         for kind in KINDS {
-            self.add_circle(text, from, to, kind)?;
+            self.add_circle(text, start, from, to, kind)?;
         }
         Ok(())
     }
@@ -101,27 +111,42 @@ impl ReportView<'_> {
         er || en || sr || sn
     }
 
-    // The circle lines of the dependencies from the key.
-    fn add_circles_from(self, text: &mut String, from: KeyId) -> Result<(), AllocError>
+    // Makes what stands before the kind in the circle lines of the dependencies from the key.
+    fn begin_circles(self, start: &mut String, from: KeyId) -> Result<(), AllocError>
+        ensures { OnOk result (string_bytes start.new ≡ circle_start self.entry.names.now.names from) }
+    {
+        let (name, sub) = name_of(self.names, from);
+        start.clear();
+        write!(start, "circle {name}/{sub} ")
+    }
+
+    // The circle lines of the dependencies from the key. The text that their beginning is made in is the caller's.
+    fn add_circles_from(
+        self,
+        text: &mut String,
+        start: &mut String,
+        from: KeyId,
+    ) -> Result<(), AllocError>
         ensures { OnOk result (GrowsBy
             (InTurn (λ to. InTurn (ShowsCircle (HasFact self.entry.settled.now) self.entry.names.now.names from to) kinds)
             self.entry.keys.now)
             (string_bytes text.old) (string_bytes text.new)) }
     {
+        self.begin_circles(start, from)?;
         for to in self.keys {
-            self.add_circles_to(text, from, *to)?;
+            self.add_circles_to(text, start.as_str(), from, *to)?;
         }
         Ok(())
     }
 
     // The circle lines.
-    fn add_circles(self, text: &mut String) -> Result<(), AllocError>
+    fn add_circles(self, text: &mut String, start: &mut String) -> Result<(), AllocError>
         ensures { OnOk result (GrowsBy
             (AreCircles (HasFact self.entry.settled.now) self.entry.names.now.names self.entry.keys.now)
             (string_bytes text.old) (string_bytes text.new)) }
     {
         for from in self.keys {
-            self.add_circles_from(text, *from)?;
+            self.add_circles_from(text, start, *from)?;
         }
         Ok(())
     }
@@ -177,29 +202,45 @@ impl ReportView<'_> {
         Ok(())
     }
 
-    // The line of two keys, where they are in an inversion.
+    // The line of two keys, where they are in an inversion. Its beginning is made once for each first key.
     fn add_inversion(
         self,
         text: &mut String,
+        start: &str,
         irq: Irq,
         a: KeyId,
         b: KeyId,
     ) -> Result<(), AllocError>
+        requires { start.now ≡ inversion_start self.names.now.names irq a }
         ensures { OnOk result (GrowsBy
             (ShowsInversion (HasFact self.entry.settled.now) self.entry.names.now.names irq a b)
             (string_bytes text.old) (string_bytes text.new)) }
     {
         if self.settled.is_inversion(irq, a.get(), b.get()) {
-            let (a_name, a_sub) = name_of(self.names, a);
-            let (b_name, b_sub) = name_of(self.names, b);
-            let state = irq_word(irq);
-            writeln!(text, "inversion {state} {a_name}/{a_sub} {b_name}/{b_sub}")?;
+            text.push_str(start)?;
+            self.ends.add(text, b)?;
         }
         Ok(())
     }
 
-    // The inversion lines of one state and one first key.
-    fn add_inversions_from(self, text: &mut String, irq: Irq, a: KeyId) -> Result<(), AllocError>
+    // Makes what stands before the second key in the inversion lines of one state and one first key.
+    fn begin_inversions(self, start: &mut String, irq: Irq, a: KeyId) -> Result<(), AllocError>
+        ensures { OnOk result (string_bytes start.new ≡ inversion_start self.entry.names.now.names irq a) }
+    {
+        let (name, sub) = name_of(self.names, a);
+        let state = irq_word(irq);
+        start.clear();
+        write!(start, "inversion {state} {name}/{sub}")
+    }
+
+    // The inversion lines of one state and one first key. The text that their beginning is made in is the caller's.
+    fn add_inversions_from(
+        self,
+        text: &mut String,
+        start: &mut String,
+        irq: Irq,
+        a: KeyId,
+    ) -> Result<(), AllocError>
         ensures { OnOk result (GrowsBy
             (InTurn (ShowsInversion (HasFact self.entry.settled.now)
             self.entry.names.now.names irq a) self.entry.keys.now)
@@ -208,8 +249,9 @@ impl ReportView<'_> {
         if !self.is_used_in(irq, a) {
             return Ok(());
         }
+        self.begin_inversions(start, irq, a)?;
         for b in self.keys {
-            self.add_inversion(text, irq, a, *b)?;
+            self.add_inversion(text, start.as_str(), irq, a, *b)?;
         }
         Ok(())
     }
@@ -228,27 +270,32 @@ impl ReportView<'_> {
     }
 
     // The inversion lines of one state.
-    fn add_inversions_of(self, text: &mut String, irq: Irq) -> Result<(), AllocError>
+    fn add_inversions_of(
+        self,
+        text: &mut String,
+        start: &mut String,
+        irq: Irq,
+    ) -> Result<(), AllocError>
         ensures { OnOk result (GrowsBy
             (InTurn (λ a. InTurn (ShowsInversion (HasFact self.entry.settled.now)
             self.entry.names.now.names irq a) self.entry.keys.now) self.entry.keys.now)
             (string_bytes text.old) (string_bytes text.new)) }
     {
         for a in self.keys {
-            self.add_inversions_from(text, irq, *a)?;
+            self.add_inversions_from(text, start, irq, *a)?;
         }
         Ok(())
     }
 
     // The inversion lines.
-    fn add_inversions(self, text: &mut String) -> Result<(), AllocError>
+    fn add_inversions(self, text: &mut String, start: &mut String) -> Result<(), AllocError>
         ensures { OnOk result (GrowsBy
             (AreInversions (HasFact self.entry.settled.now)
             self.entry.names.now.names self.entry.keys.now)
             (string_bytes text.old) (string_bytes text.new)) }
     {
         for irq in STATES {
-            self.add_inversions_of(text, irq)?;
+            self.add_inversions_of(text, start, irq)?;
         }
         Ok(())
     }
@@ -318,18 +365,21 @@ fn report_text(
 {
     let keys = sorted_keys(alloc, names)?;
     let keys = keys.as_slice();
+    let ends = LineEnds::of(alloc, names)?;
     let view = ReportView {
         settled,
         names,
+        ends: &ends,
         keys,
     };
     let mut text = String::new(alloc);
+    let mut start = String::new(alloc);
     view.add_totals(&mut text, traces, events)?;
     view.add_usage(&mut text)?;
-    view.add_circles(&mut text)?;
+    view.add_circles(&mut text, &mut start)?;
     view.add_because(&mut text)?;
     view.add_doubles(&mut text)?;
-    view.add_inversions(&mut text)?;
+    view.add_inversions(&mut text, &mut start)?;
     Ok(text)
 }
 

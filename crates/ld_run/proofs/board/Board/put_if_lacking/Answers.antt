@@ -16,20 +16,20 @@ pub returns-then-wanted-found-clause-only : goal.returns-then-wanted-found-claus
 returns-then-wanted-found-clause-only c =
     let old : List (ℕ × ℕ) = (view c.args.seat.now).put in
     subst (λ (v : View). (n : ℕ) → Within (bits_of n v.put) (bits_of n ((c.args.word, c.args.wanted) ∷ old))) (sym c.look_word-found.ensures.looked)
-        (λ n. within_cons n _ (c.args.word, c.args.wanted) old (or_self _))
+    (λ n. within_cons n _ (c.args.word, c.args.wanted) old (or_self _))
 
 pub returns-then-wanted-found-clause-seen : goal.returns-then-wanted-found-clause-seen
 returns-then-wanted-found-clause-seen c =
     let old : List (ℕ × ℕ) = (view c.args.seat.now).seen in
     subst (λ (v : View). (n : ℕ) → Within (bits_of n old) (bits_of n v.seen)) (sym c.look_word-found.ensures.looked)
-        (λ n. within_cons n _ (c.args.word, c.look_word-found.result) old (or_self _))
+    (λ n. within_cons n _ (c.args.word, c.look_word-found.result) old (or_self _))
 
 pub returns-then-wanted-found-clause-knows : goal.returns-then-wanted-found-clause-knows
 returns-then-wanted-found-clause-knows c =
     let old : View = view c.args.seat.now in
     let found : ℕ = c.look_word-found.result in
     subst (λ (v : View). Within c.args.wanted (bits_of c.args.word (v.put ++ v.seen))) (sym c.look_word-found.ensures.looked)
-        (within_right c.args.word c.args.wanted old.put ((c.args.word, found) ∷ old.seen) (within_here c.args.word c.args.wanted found old.seen c.if-wanted-found.true))
+    (within_right c.args.word c.args.wanted old.put ((c.args.word, found) ∷ old.seen) (within_here c.args.word c.args.wanted found old.seen c.if-wanted-found.true))
 
 pub returns-then-wanted-found-clause-covered : goal.returns-then-wanted-found-clause-covered
 returns-then-wanted-found-clause-covered c = λ _.
@@ -49,7 +49,7 @@ pub returns-clause-keeps : goal.returns-clause-keeps
 returns-clause-keeps c =
     let old : List (ℕ × ℕ) = (view c.args.seat.now).put in
     subst (λ (v : View). (n : ℕ) → Within (bits_of n old) (bits_of n v.put)) (sym (both c).1)
-        (λ n. within_cons n _ (c.args.word, c.args.wanted) old (or_self _))
+    (λ n. within_cons n _ (c.args.word, c.args.wanted) old (or_self _))
 
 pub returns-clause-only : goal.returns-clause-only
 returns-clause-only c =
@@ -61,11 +61,11 @@ returns-clause-seen c =
     let old : List (ℕ × ℕ) = (view c.args.seat.now).seen in
     let first : ℕ × ℕ = (c.args.word, c.look_word-found.result) in
     subst (λ (v : View). (n : ℕ) → Within (bits_of n old) (bits_of n v.seen)) (sym (both c).1)
-        (λ n. within_cons n _ (c.args.word, (both c).0) (first ∷ old) (within_cons n _ first old (or_self _)))
+    (λ n. within_cons n _ (c.args.word, (both c).0) (first ∷ old) (within_cons n _ first old (or_self _)))
 
 pub returns-clause-knows : goal.returns-clause-knows
 returns-clause-knows c =
     let old : View = view c.args.seat.now in
     subst (λ (v : View). Within c.args.wanted (bits_of c.args.word (v.put ++ v.seen))) (sym (both c).1)
-        (within_left c.args.word c.args.wanted ((c.args.word, c.args.wanted) ∷ old.put) ((c.args.word, (both c).0) ∷ (c.args.word, c.look_word-found.result) ∷ old.seen)
-            (within_here c.args.word c.args.wanted c.args.wanted old.put (or_self c.args.wanted)))
+    (within_left c.args.word c.args.wanted ((c.args.word, c.args.wanted) ∷ old.put) ((c.args.word, (both c).0) ∷ (c.args.word, c.look_word-found.result) ∷ old.seen)
+    (within_here c.args.word c.args.wanted c.args.wanted old.put (or_self c.args.wanted)))
