@@ -14,7 +14,6 @@ use Rattle.ld_graph.specs.WordPairs.{bits_of, Within, PairsHave, AreWordsOf}
 use Rattle.ld_graph.specs.declared.fact.Fact.{Fact}
 use Rattle.ld_run.specs.Views.{newcomer, times, once_below, PutHas, SeenHas, ShareWord}
 use Rattle.ld_run.specs.Seats.{view, claims_of}
-use Rattle.ld_run.specs.Work.{PutsOnly}
 use Rattle.ld_run.specs.Inside.BoardRule.{joined, Knows}
 use Rattle.ld_run.specs.Inside.Gathered.{gathered}
 use Rattle.ld_run.specs.declared.view.View.{View}

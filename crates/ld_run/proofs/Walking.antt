@@ -1,5 +1,5 @@
 -- Going along a trace, and what is put on a board and known on the way.
-use Rattle.std.proofs.Common.{◌≡◌, ◌⊎◌, ◌↔◌, ℕ, zero, suc, ◌+◌, ◌<◌, ◌≤◌, List, [], ◌∷◌, ◌++◌, Option, Some, None, Result, Ok, Err, Bool, true, false, true≢false, IsFalse, IsTrue, IsErr, take, slice_get, length, refl, sym, ◌∙◌, subst, inl, inr, arith}
+use Rattle.std.proofs.Common.{◌≡◌, ◌⊎◌, ◌↔◌, ℕ, zero, suc, ◌+◌, ◌<◌, ◌≤◌, List, [], ◌∷◌, ◌++◌, Option, Some, None, Result, Ok, Err, true≢false, IsErr, take, slice_get, length, refl, sym, ◌∙◌, subst, inl, inr, arith}
 use Rattle.std.proofs.lemmas.List.{append-nil}
 use Rattle.std.proofs.lemmas.List.Elements.{All-take, All-pop}
 use Rattle.ld_trace.specs.Events.{KeysBelow, KeyIsBelow}
@@ -14,7 +14,7 @@ use Rattle.ld_task.specs.TraceChains.{chains}
 use Rattle.ld_graph.specs.FactLaws.{Any-push}
 use Rattle.ld_graph.specs.Facts.{AreSame, ChainHas, ChainsHave, Holds}
 use Rattle.ld_graph.specs.declared.fact.Fact.{Fact}
-use Rattle.ld_run.specs.Views.{PutHas, SeenHas, KnowsFact}
+use Rattle.ld_run.specs.Views.{KnowsFact}
 use Rattle.ld_run.specs.Work.{PutsOnly}
 use Rattle.ld_run.specs.Inside.Walks.{ComesNext, HasGathered, WalksOn, fault_in}
 use Rattle.ld_run.specs.declared.view.View.{View}

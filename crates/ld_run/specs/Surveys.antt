@@ -1,5 +1,5 @@
 -- How a survey ends [this project's own].
-use Rattle.std.specs.Prelude.{◌≡◌, ℕ, ⊤, List, All}
+use Rattle.std.specs.Prelude.{⊤, List, All}
 use Rattle.ld_trace.specs.declared.event.Event.{Event}
 use Rattle.ld_task.specs.WellFormed.{IsWellFormed}
 use Rattle.ld_graph.specs.FactBits.{FactParts, HasFact}

@@ -22,9 +22,12 @@ use crate::board_fault::BoardFault;
 use crate::seat::Seat;
 use crate::view::{BoardRule, BoardSize, Claim, Cut, Look, Put, View};
 use atomic_table::{Closed, Table};
-use ld_graph::Facts;
+use ld_graph::{Fact, Facts};
 use ld_task::Chain;
 use std::alloc::Global;
+
+// How many held locks are few: the words of a chain with no more are found as quickly as its facts are looked for one by one.
+const FEW_HELD: usize = 6;
 
 /// The most seats of a board.
 pub const MAX_SEATS: usize = 65;
@@ -128,7 +131,7 @@ impl Board {
     }
 
     // Puts those facts of a chain on the board whose words lack some, and answers whether there were any: what `covers` and then `put`
-    // do, with the chain's words found and loaded once. A word that lacks none is only loaded.
+    // do, for workers. A word that lacks none is only loaded.
     pub(crate) fn put_unless_covered(&self, seat: &mut Seat, chain: &Chain) -> bool
         requires seat { IsSeatOf self.now seat.old }
         requires below { ChainKeysBelow (keys_of self.now) chain.now }
@@ -139,6 +142,9 @@ impl Board {
         ensures covered { IsFalse result → ((view seat.new).put ≡ (view seat.old).put)
             × Holds (SeenHas (keys_of self.now) (view seat.new)) (ChainHas chain.now) }
     {
+        if self.has_long(seat, chain) {
+            return false;
+        }
         seat.words.set_to(chain, self.keys);
         self.put_lacking_words(seat)
     }
@@ -219,6 +225,49 @@ impl Board {
             };
             self.put_word(seat, word, bits);
         }
+    }
+
+    // Looks for the facts of a chain with many held locks one after the other, up to the first that isn't there, and answers whether
+    // all are. Most are, and then the chain's words need not be found. For a chain with few held locks, whose words are found as
+    // quickly, it answers no.
+    fn has_long(&self, seat: &mut Seat, chain: &Chain) -> bool
+        requires seat { IsSeatOf self.now seat.old }
+        ensures seat { IsSeatOf self.now seat.new }
+        ensures put { (view seat.new).put ≡ (view seat.old).put }
+        ensures claimed { (view seat.new).claimed ≡ (view seat.old).claimed }
+        ensures seen { (n : ℕ) → Within (bits_of n (view seat.old).seen) (bits_of n (view seat.new).seen) }
+        ensures covered { IsTrue result → Holds (SeenHas (keys_of self.now) (view seat.new)) (ChainHas chain.now) }
+    {
+        if chain.held_len() <= FEW_HELD {
+            return false;
+        }
+        ld_graph::slots_have_what_is_given();
+        for n in 0..ld_graph::fact_slots(chain) {
+            let Some(fact) = ld_graph::fact_in_slot(chain, n) else {
+                continue;
+            };
+            if !self.has_fact(seat, fact) {
+                return false;
+            }
+        }
+        true
+    }
+
+    // Loads the word of a fact, and answers whether the fact is there.
+    fn has_fact(&self, seat: &mut Seat, fact: Fact) -> bool
+        requires seat { IsSeatOf self.now seat.old }
+        ensures seat { IsSeatOf self.now seat.new }
+        ensures put { (view seat.new).put ≡ (view seat.old).put }
+        ensures claimed { (view seat.new).claimed ≡ (view seat.old).claimed }
+        ensures seen { (n : ℕ) → Within (bits_of n (view seat.old).seen) (bits_of n (view seat.new).seen) }
+        ensures there { IsTrue result → SeenHas (keys_of self.now) (view seat.new) fact }
+    {
+        if !fact.is_below(self.keys) {
+            return false;
+        }
+        let n = fact.number(self.keys);
+        let found = self.look_word(seat, n / 64);
+        found >> (n % 64) & 1 == 1
     }
 
     // Puts those of the seat's words whose bits aren't all there, and answers whether there were any.

@@ -1,4 +1,4 @@
-use Rattle.std.proofs.Common.{◌∙◌, ◌+◌, ap, arith, sym, subst, Ok, Err}
+use Rattle.std.proofs.Common.{◌∙◌, ◌+◌, ap, arith, sym, subst, Ok}
 use Rattle.ld_task.specs.Chains.{ChainKeysBelow}
 use Rattle.ld_task.specs.Steps.{GoesOn}
 use Rattle.ld_run.proofs.Summing.{IsSumming, IsSumming-chain, IsSumming-none, IsSumming-same, IsSumming-well_formed, IsSumming-whole}

@@ -1,4 +1,4 @@
-use Rattle.std.proofs.Common.{◌≡◌, Some, arith, get_or, refl, length, slice_get, subst, sym}
+use Rattle.std.proofs.Common.{arith, refl, length, subst, sym}
 use Rattle.std.proofs.lemmas.Option.{slice_get_read}
 use Rattle.ld_trace.specs.Events.{KeysBelow}
 use Rattle.ld_run.specs.Surveys.{StopsSurvey}
