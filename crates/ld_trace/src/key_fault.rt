@@ -15,7 +15,7 @@ pub enum KeyFault {
     #[error("a subclass is at most 7")]
     BadSub,
     /// The key would be one more than the table has room for: of a table of `KeyTable::new`, the 257th.
-    #[error("there are 256 lock keys already")]
+    #[error("the table has no room for another lock key")]
     Full,
     /// Memory for a new key was refused.
     #[error("out of memory")]

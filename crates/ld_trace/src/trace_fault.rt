@@ -24,7 +24,7 @@ pub enum TraceFaultKind {
     #[error("no such mode")]
     BadMode,
     /// The record would add one more key than the table has room for: to a table of `KeyTable::new`, a 257th.
-    #[error("there are 256 lock keys already")]
+    #[error("the table has no room for another lock key")]
     TooManyKeys,
     /// It is the 1,000,001st record of an event, whatever its fields.
     #[error("a trace has at most 1,000,000 events")]

@@ -38,7 +38,7 @@ use std::marker::Model;
 use std::sync::Wait;
 use std::thread::Threads;
 
-// As many events as one worker walks in about a millisecond. Starting another costs up to that.
+// As many events as one worker walks in about a millisecond. With fewer for each, more workers take as long as one.
 const EVENTS_PER_WORKER: u128 = 32_768;
 
 /// Traces that were read, and the names of their keys.
