@@ -7,6 +7,7 @@
 #   deep        nests of up to 40 locks, drawn anew each time: most chains are new
 #   nested      nests of 1 to 6 locks of 200, drawn anew each time, taken in the order of their keys
 #   dense       an order over 256 keys without a circle: each pair in that order, as a dependency of each kind
+#   pairs       the same dependencies, in four files of one kind each and one pair at a time: each fourth event brings a new one
 #   tangled     each pair of 256 keys in both orders, of each kind, and each key taken in a hardirq and in a softirq
 
 # The next of a fixed sequence of numbers, 0 to bound - 1.
@@ -66,6 +67,17 @@ function tell_nested(    left, depth) {
 function tell_dense(    from) {
     for (from = 0; from < 256; from++)
         hold(from, from + 1)
+}
+
+# One pair at a time, as a dependency of one kind for each file: a writer or a reader, and under it a recursive reader or a writer.
+function tell_pairs(    from, to) {
+    for (from = 0; from < 256; from++)
+        for (to = from + 1; to < 256; to++) {
+            take(from, number % 2 ? "w" : "r")
+            take(to, number > 2 ? "rr" : "w")
+            give_back(to)
+            give_back(from)
+        }
 }
 
 function handle(irq, key) {
@@ -152,6 +164,7 @@ BEGIN {
         else if (story == "deep") tell_deep()
         else if (story == "nested") tell_nested()
         else if (story == "dense") tell_dense()
+        else if (story == "pairs") tell_pairs()
         else if (story == "tangled") tell_tangled()
         else exit 1
         close(file)
