@@ -1,21 +1,19 @@
 -- A journal that keeps each distinct chain once, and one entry more in it.
-use Rattle.std.proofs.Common.{◌≡◌, ℕ, ◌<◌, ◌≤◌, ◌⊎◌, ◌↔◌, List, [], ◌∷◌, ◌++◌, length, length-append, get_or, slice_get, true, false, Some, refl, sym, ap, ◌∙◌, true≢false, inl, inr, arith, if◌then◌else◌}
+use Rattle.std.proofs.Common.{◌≡◌, ℕ, ◌<◌, ◌≤◌, ◌↔◌, List, [], ◌∷◌, ◌++◌, length, length-append, get_or, slice_get, true, Some, refl, sym, ap, ◌∙◌, inl, inr, arith}
 use Rattle.std.specs.Prelude.{All, Contains}
 use Rattle.std.specs.List.{list_any, IsDistinct}
-use Rattle.std.proofs.lemmas.Bool.{cases_Bool, cases_lt}
-use Rattle.std.proofs.lemmas.List.{length-map, map-append, get_or-map, get_or_append_left, get_or_default, append-nil}
+use Rattle.std.proofs.lemmas.List.{length-map, map-append, get_or-map, get_or_append_left, get_or_default}
 use Rattle.std.proofs.lemmas.List.Elements.{All-head, All-tail, All-push, All-weaker}
 use Rattle.std.proofs.lemmas.Map.Made.{AllPairs-from_IsDistinct}
 use Rattle.std.proofs.lemmas.Map.Views.{Contains-from_any, list_any-from_Contains}
-use Rattle.std.proofs.lemmas.Option.{get_or_from_slice_get}
-use Rattle.indexmap.specs.IndexSet.{insert_key}
+use Rattle.std.proofs.lemmas.Option.{get_or_from_slice_get, slice_get_within}
 use Rattle.ld_task.specs.Chains.{ChainParts}
 use Rattle.ld_task.specs.ChainEquality.{chain_eq}
 use Rattle.ld_task.specs.Inside.ChainEqualityLaws.{chain_eq-decides, chain_eq-equivalence}
 use Rattle.ld_graph.specs.Counting.{IsNumberOf}
 use Rattle.ld_graph.specs.FactLaws.{Any-push}
 use Rattle.ld_book.specs.Books.{StandsIn}
-use Rattle.ld_book.specs.Inside.Journals.{EntryParts, no_chain, entry_of, journal_of, IsJournal}
+use Rattle.ld_book.specs.Inside.Journals.{EntryParts, no_chain, entry_of, journal_of, IsJournal, PutsChain}
 
 -- the entries mean the same where more chains follow
 journal_of-more : (chains more : List ChainParts) (entries : List EntryParts) → All (λ (e : EntryParts). e.number < length chains) entries →
@@ -51,6 +49,9 @@ module _ (chains : List ChainParts) (entries : List EntryParts) (is_journal : Is
         get_or_default chains entry.number chain no_chain within ∙ ap (λ (e : ℕ × ChainParts). e.1) same ∙ is,
       )
 
+  pub StandsIn-at : (n : ℕ) → slice_get chains n ≡ Some chain → StandsIn (journal_of chains entries) chain
+  StandsIn-at n at = stands (n, slice_get_within chains n chain at, get_or_from_slice_get chains n chain chain at)
+
   pub Contains-iff : Contains chains chain ↔ StandsIn (journal_of chains entries) chain
   Contains-iff = (stands, contains)
 
@@ -72,53 +73,6 @@ IsNumberOf-kept chains entries is_journal distinct = record {
 }
 
 -- ---- one entry more
--- the later chains are the earlier ones, with this one at that place: there already, or behind them
-pub record PutsChain (old new : List ChainParts) (number : ℕ) (chain : ChainParts) : Type 0 where
-  pub more : List ChainParts
-  pub extends : new ≡ old ++ more
-  pub within : number < length new
-  pub is : get_or new number no_chain ≡ chain
-  pub only : (n : ℕ) → n < length new → (n < length old) ⊎ (n ≡ number)
-
-module _ (old new : List ChainParts) (number : ℕ) (chain kept : ChainParts) (inserted : new ≡ insert_key chain_eq old chain)
-    (within : number < length new) (at : slice_get new number ≡ Some kept) (same : chain_eq chain kept ≡ true) where
-  is_there : get_or new number no_chain ≡ chain
-  is_there = get_or_from_slice_get new number kept no_chain at ∙ sym ((chain_eq-decides chain kept).0 same)
-
-  -- a chain that is new stands behind the others
-  behind : list_any (chain_eq chain) old ≡ false → new ≡ old ++ chain ∷ [] → number ≡ length old
-  behind absent is = elim (cases_lt number (length old)) [
-    | inl l ↦
-        let found : get_or old number no_chain ≡ chain =
-        sym (get_or_append_left old (chain ∷ []) no_chain number l) ∙ ap (λ xs. get_or xs number no_chain) (sym is) ∙ is_there in
-        let has : Contains old chain = (number, l, get_or_default old number chain no_chain l ∙ found) in
-        absurd (true≢false (sym (list_any-from_Contains chain_eq-equivalence chain old has) ∙ absent))
-    | inr past ↦ omega (arith, length-append old (chain ∷ []), ap length is)
-  ]
-
-  pub PutsChain-inserted : PutsChain old new number chain
-  PutsChain-inserted = elim (cases_Bool (list_any (chain_eq chain) old)) [
-    | inl found ↦
-        let stays : new ≡ old = inserted ∙ ap (λ c. if c then old else old ++ chain ∷ []) found in record {
-          more = [];
-          extends = stays ∙ sym (append-nil old);
-          within = within;
-          is = is_there;
-          only = λ n l. inl (omega (arith, ap length stays));
-        }
-    | inr absent ↦
-        let grows : new ≡ old ++ chain ∷ [] = inserted ∙ ap (λ c. if c then old else old ++ chain ∷ []) absent in record {
-          more = chain ∷ [];
-          extends = grows;
-          within = within;
-          is = is_there;
-          only = λ n l. elim (cases_lt n (length old)) [
-            | inl below ↦ inl below
-            | inr past ↦ inr (omega (arith, behind absent grows, length-append old (chain ∷ []), ap length grows))
-          ];
-        }
-  ]
-
 module _ (old new : List ChainParts) (entries : List EntryParts) (is_journal : IsJournal old entries) (trace number : ℕ) (chain : ChainParts)
     (puts : PutsChain old new number chain) where
   abbrev entered : EntryParts

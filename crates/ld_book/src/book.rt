@@ -8,13 +8,14 @@ ghost use Rattle.ld_graph.specs.Facts.{Adds, AreSame, ChainHas, DependenciesOf, 
 ghost use Rattle.ld_graph.specs.Links.{IsClean};
 ghost use Rattle.ld_graph.specs.declared.fact.Fact.{Fact};
 ghost use Rattle.ld_book.specs.Books.{JournalHas, StandsIn, acquisition_count, opening_count};
+ghost use Rattle.ld_book.specs.Inside.Journals.{HasRoomForNew};
 
 use crate::fault::BookFault;
 use crate::journal::Journal;
 use ld_graph::Graph;
 use ld_task::{Chain, Kind, Mark};
 use ld_trace::MAX_KEYS;
-use std::alloc::Global;
+use std::alloc::{AllocError, Global};
 use std::marker::Model;
 
 /// What an entry brought.
@@ -57,12 +58,12 @@ impl Model for Book {
     ghost Value = { BookParts };
 
     ghost view = { λ b. record {
-      journal = b.journal;
+      journal = b.journal.written;
       keys = b.graph.facts.keys;
       limit = b.limit;
     } };
 
-    ghost invariant = { λ b. IsLawful b.graph.facts b.journal b.acquisitions b.limit };
+    ghost invariant = { λ b. IsLawful b.graph.facts b.journal.written b.acquisitions b.limit };
 }
 
 impl Book {
@@ -91,8 +92,10 @@ impl Book {
     /// Puts a chain of a trace behind the other entries, and answers what it brought. The chain is consumed in every case.
     ///
     /// Refusals, in this order: B1 exactly where the journal has as many entries as the limit, B3 exactly where a key of
-    /// the chain isn't below the book's bound, B2 where memory was refused. After each nothing is changed. A chain that
-    /// the book knows costs one look-up.
+    /// the chain isn't below the book's bound, B2 where memory was refused. After each nothing is changed.
+    ///
+    /// A chain that brings a new fact is kept without a look-up, since no chain before it had that fact. Where one comes that brings none,
+    /// those that were kept so move to the set of known chains; a chain that is there costs one look-up.
     pub fn record(&mut self, trace: u32, chain: Chain) -> Result<News, BookFault>
         ensures recorded { OnOk result (self.new ≡ record {
           journal = self.old.journal ++ (trace, chain) ∷ [];
@@ -109,19 +112,20 @@ impl Book {
             ↔ (¬ (length self.old.journal ≡ self.old.limit) × ¬ ChainKeysBelow self.old.keys chain) }
         ensures refused { OnErr result (self.new ≡ self.old) }
     {
-        let place = self.len();
-        if place as u64 == self.limit {
+        if self.len() as u64 == self.limit {
             return Err(BookFault::Full);
         }
         if !chain.keys_below(self.keys()) {
             return Err(BookFault::BadKey);
         }
+        if self.journal.make_room().is_err() {
+            return Err(BookFault::Memory);
+        }
         let is_acquisition = chain.taken().is_some();
-        let Ok(is_new) = self.journal.push(trace, chain) else {
+        let Ok(fresh) = enter(&mut self.journal, &mut self.graph, trace, chain) else {
             return Err(BookFault::Memory);
         };
         self.acquisitions += u64::from(is_acquisition);
-        let fresh = add_if_new(&mut self.graph, self.journal.chain(place), is_new);
         Ok(News {
             fresh,
             clean: self.is_clean(),
@@ -207,13 +211,32 @@ impl Book {
     }
 }
 
-// Adds the facts of a chain, and returns whether one of them is new. A chain that isn't new brings none.
-fn add_if_new(graph: &mut Graph, chain: &Chain, is_new: bool) -> bool
-    requires below { ChainKeysBelow graph.old.facts.keys chain.now }
-    requires known { IsFalse is_new → Holds (HasFact graph.old.facts) (ChainHas chain.now) }
+// Puts a chain behind the entries of a journal that has room for it, adds its facts to those of the journal, and answers whether
+// one of them is new. If so, no entry before it has that chain. Where memory is refused nothing is changed.
+fn enter(
+    journal: &mut Journal,
+    graph: &mut Graph,
+    trace: u32,
+    chain: Chain,
+) -> Result<bool, AllocError>
+    requires room { HasRoomForNew journal.old }
+    requires below { ChainKeysBelow graph.old.facts.keys chain }
+    requires facts { AreSame (HasFact graph.old.facts) (JournalHas journal.old.written) }
     ensures keys { graph.new.facts.keys ≡ graph.old.facts.keys }
-    ensures adds { Adds (HasFact graph.old.facts) (HasFact graph.new.facts) (ChainHas chain.now) }
-    ensures fresh { IsFalse result ↔ Holds (HasFact graph.old.facts) (ChainHas chain.now) }
+    ensures entered { OnOk result (journal.new.written ≡ journal.old.written ++ (trace, chain) ∷ []) }
+    ensures adds { OnOk result (Adds (HasFact graph.old.facts) (HasFact graph.new.facts) (ChainHas chain)) }
+    ensures fresh { IfOk result (λ fresh. IsFalse fresh ↔ Holds (HasFact graph.old.facts) (ChainHas chain)) }
+    ensures left { OnErr result (journal.new.written ≡ journal.old.written) }
+    ensures unchanged { OnErr result (graph.new ≡ graph.old) }
 {
-    is_new && graph.add_chain(chain)
+    if journal.push_indexed(trace, &chain) {
+        return Ok(false);
+    }
+    let fresh = graph.add_chain(&chain);
+    if fresh {
+        journal.push_new(trace, chain);
+    } else {
+        journal.push(trace, chain)?;
+    }
+    Ok(fresh)
 }

@@ -1,10 +1,11 @@
 //! Entries in order, with each distinct chain kept once.
 
-ghost use Rattle.std.specs.Prelude.{◌≡◌, ◌<◌, ◌++◌, ◌↔◌, [], ◌∷◌, length, option_map, slice_get, IfOk, OnOk, OnErr, IsFalse, Some};
+ghost use Rattle.std.specs.Prelude.{◌≡◌, ◌<◌, ◌++◌, [], ◌∷◌, length, option_map, slice_get, OnOk, OnErr, IsTrue, IsFalse, Some};
 ghost use Rattle.ld_graph.specs.Counting.{IsNumberOf};
 ghost use Rattle.ld_book.specs.Books.{StandsIn};
+ghost use Rattle.ld_book.specs.Inside.Journals.{HasRoom, HasRoomForNew};
 
-use indexmap::IndexSet;
+use crate::chains::Chains;
 use ld_task::Chain;
 use std::alloc::{AllocError, Global};
 use std::marker::Model;
@@ -58,75 +59,99 @@ impl Entry {
 #[derive(Drop)]
 pub(crate) struct Journal {
     entries: Vec<Entry>,
-    chains: IndexSet<Chain>,
+    chains: Chains,
 }
 
 impl Model for Journal {
-    ghost use Rattle.std.specs.Prelude.{ℕ, List};
-    ghost use Rattle.ld_task.specs.Chains.{ChainParts};
-    ghost use Rattle.ld_book.specs.Inside.Journals.{journal_of, IsJournal};
+    ghost use Rattle.std.specs.Prelude.{◌-◌, length};
+    ghost use Rattle.ld_book.specs.Inside.Journals.{journal_of, IsJournal, JournalParts};
 
-    ghost Value = { List (ℕ × ChainParts) };
+    ghost Value = { JournalParts };
 
-    ghost view = { λ j. journal_of j.chains.keys j.entries.items };
+    ghost view = { λ j. record {
+      written = journal_of j.chains.all j.entries.items;
+      entry_room = j.entries.cap - length j.entries.items;
+      chain_room = j.chains.room;
+    } };
 
-    ghost invariant = { λ j. IsJournal j.chains.keys j.entries.items };
+    ghost invariant = { λ j. IsJournal j.chains.all j.entries.items };
 }
 
 impl Journal {
     // No entries. It takes no memory yet.
     pub(crate) fn new(alloc: Global) -> Journal
-        ensures { result ≡ [] }
+        ensures { result.written ≡ [] }
     {
         Journal {
             entries: Vec::new(alloc),
-            chains: IndexSet::new(alloc),
+            chains: Chains::new(alloc),
         }
     }
 
     // The number of entries.
     pub(crate) fn len(&self) -> usize
-        ensures { result ≡ length self.now }
+        ensures { result ≡ length self.now.written }
     {
         self.entries.len()
     }
 
     // The number of distinct chains.
     pub(crate) fn distinct(&self) -> usize
-        ensures { IsNumberOf (StandsIn self.now) result }
+        ensures { IsNumberOf (StandsIn self.now.written) result }
     {
         self.chains.len()
     }
 
     // The entry at place `i`, or None where there is none.
     pub(crate) fn entry(&self, i: usize) -> Option<(u32, &Chain)>
-        ensures { option_map (λ e. (e.0, e.1.now)) result ≡ slice_get self.now i }
+        ensures { option_map (λ e. (e.0, e.1.now)) result ≡ slice_get self.now.written i }
     {
         let entry = self.entries.as_slice().get(i)?;
-        Some((entry.trace(), &self.chains.as_slice()[entry.number()]))
+        Some((entry.trace(), self.chains.get(entry.number())))
     }
 
-    // The chain of the entry at place `i`.
-    pub(crate) fn chain(&self, i: usize) -> &Chain
-        requires { i < length self.now }
-        ensures { option_map (λ e. e.1) (slice_get self.now i) ≡ Some result.now }
-    {
-        &self.chains.as_slice()[self.entries[i].number()]
-    }
-
-    // Puts an entry behind the others, and answers whether its chain is new. Where memory is refused nothing is changed.
-    pub(crate) fn push(&mut self, trace: u32, chain: Chain) -> Result<bool, AllocError>
-        ensures pushed { OnOk result (self.new ≡ self.old ++ (trace, chain) ∷ []) }
-        ensures new { IfOk result (λ new. IsFalse new ↔ StandsIn self.old chain) }
-        ensures refused { OnErr result (self.new ≡ self.old) }
+    // Makes room for one entry more, also for one with a chain that is new.
+    pub(crate) fn make_room(&mut self) -> Result<(), AllocError>
+        ensures same { self.new.written ≡ self.old.written }
+        ensures room { OnOk result (HasRoomForNew self.new) }
     {
         self.entries.reserve(1)?;
-        match self.chains.insert_full(chain) {
-            Ok((number, new)) => {
-                self.entries.push_reserved(Entry::new(trace, number));
-                Ok(new)
-            }
-            Err(_) => Err(AllocError),
-        }
+        self.chains.make_room()
+    }
+
+    // Puts an entry behind the others if the set of chains has its chain, and answers whether it has. If it hasn't, nothing is changed.
+    pub(crate) fn push_indexed(&mut self, trace: u32, chain: &Chain) -> bool
+        requires room { HasRoom self.old }
+        ensures pushed { IsTrue result → self.new.written ≡ self.old.written ++ (trace, chain.now) ∷ [] }
+        ensures known { IsTrue result → StandsIn self.old.written chain.now }
+        ensures same { IsFalse result → self.new ≡ self.old }
+    {
+        let Some(number) = self.chains.find_indexed(chain) else {
+            return false;
+        };
+        self.entries.push_reserved(Entry::new(trace, number));
+        true
+    }
+
+    // Puts an entry behind the others, with a chain that no other has.
+    pub(crate) fn push_new(&mut self, trace: u32, chain: Chain)
+        requires room { HasRoomForNew self.old }
+        requires new { ¬ StandsIn self.old.written chain }
+        ensures { self.new.written ≡ self.old.written ++ (trace, chain) ∷ [] }
+    {
+        let number = self.chains.len();
+        self.chains.push_new(chain);
+        self.entries.push_reserved(Entry::new(trace, number));
+    }
+
+    // Puts an entry behind the others. Where memory is refused nothing is changed.
+    pub(crate) fn push(&mut self, trace: u32, chain: Chain) -> Result<(), AllocError>
+        requires room { HasRoom self.old }
+        ensures pushed { OnOk result (self.new.written ≡ self.old.written ++ (trace, chain) ∷ []) }
+        ensures refused { OnErr result (self.new.written ≡ self.old.written) }
+    {
+        let number = self.chains.insert(chain)?;
+        self.entries.push_reserved(Entry::new(trace, number));
+        Ok(())
     }
 }

@@ -152,6 +152,26 @@ fn a_known_chain_is_kept_once(rt: HostRuntime) -> Result<(), Fail> {
     Ok(())
 }
 
+// The third chain is new and brings no fact, so that the first two move to the set; the fourth comes after it; and then known chains
+// come, of both.
+#[test]
+fn chains_keep_their_entries_when_they_move_to_the_set(rt: HostRuntime) -> Result<(), Fail> {
+    let places = [0usize, 1, 2, 3, 1, 3, 0, 2];
+    let mut book = Book::new(rt.alloc(), 2, 10)?;
+    for place in places {
+        book.record(place as u32, chain_at(place)?)?;
+    }
+    for i in 0..places.len() {
+        let (trace, chain) = book.entry(i).ok_or("an entry")?;
+        assert!(rt;
+            trace == places[i] as u32 && *chain == chain_at(places[i])?,
+            "at {i}"
+        );
+    }
+    assert!(rt; told(&book) == (are(8, 8, 0, 2), 4, 8));
+    Ok(())
+}
+
 #[test]
 fn an_opening_is_counted_as_one(rt: HostRuntime) -> Result<(), Fail> {
     let mut book = Book::new(rt.alloc(), 1, 1)?;

@@ -1,0 +1,14 @@
+use Rattle.std.proofs.Common.{◌≡◌, ◌++◌, ◌≤◌, length}
+use Rattle.std.specs.List.{IsDistinct}
+use Rattle.std.specs.Vec.Iter.{drain_items}
+use Rattle.indexmap.specs.IndexSet.{spare}
+use Rattle.ld_task.specs.ChainEquality.{chain_eq}
+use Rattle.ld_book.proofs.chains.move_behind.Given as goal
+
+-- those that are in the set and those that aren't yet are those of before, and for those that aren't there is room
+abbrev pub invariant-loop-chain : goal.invariant-loop-chain
+invariant-loop-chain l = goal.iterator-loop-chain.can_next l.chain-iterator
+    × goal.iterator-loop-chain.is_finite l.chain-iterator
+    × (l.indexed.keys ++ drain_items l.chain-iterator ≡ l.initial.indexed.keys ++ drain_items l.initial.chain-iterator)
+    × IsDistinct chain_eq (l.indexed.keys ++ drain_items l.chain-iterator)
+    × (length (drain_items l.chain-iterator) ≤ spare l.indexed)
