@@ -1,6 +1,6 @@
 -- The facts and the totals of a journal, and what one entry more does to them.
 use Rattle.std.proofs.Common.{◌≡◌, ℕ, ◌+◌, ◌↔◌, List, [], ◌∷◌, ◌++◌, length, length-append, Bool, true, false, cond, Option, Some, None, is_some, refl, sym, ap, subst, ◌∙◌, inl, inr, arith}
-use Rattle.std.specs.Prelude.{is_none, option_map, slice_get}
+use Rattle.std.specs.Prelude.{is_none, option_map}
 use Rattle.std.specs.Int.{from_bool}
 use Rattle.std.proofs.lemmas.List.Sums.{sum_by_push, sum_by-cons}
 use Rattle.ld_task.specs.Chains.{ChainParts}
@@ -8,7 +8,7 @@ use Rattle.ld_graph.specs.FactBits.{FactParts, HasFact}
 use Rattle.ld_graph.specs.FactLaws.{Any-push}
 use Rattle.ld_graph.specs.Facts.{Adds, AreSame, ChainHas, Holds}
 use Rattle.ld_graph.specs.declared.fact.Fact.{Fact}
-use Rattle.ld_book.specs.Books.{JournalHas, StandsIn, IsLawful, acquisition_count, opening_count}
+use Rattle.ld_book.specs.Books.{JournalHas, IsLawful, acquisition_count, opening_count}
 
 -- ---- facts
 -- no facts are those of a journal without entries
@@ -28,10 +28,6 @@ module _ (facts : FactParts) (journal : List (ℕ × ChainParts)) (are : AreSame
   -- a chain's facts are there if they were recorded
   pub Holds-iff : (chain : ChainParts) → Holds (HasFact facts) (ChainHas chain) ↔ Holds (JournalHas journal) (ChainHas chain)
   Holds-iff chain = ((λ held x has. (are x).0 (held x has)), (λ recorded x has. (are x).1 (recorded x has)))
-
--- the facts of a chain that stands in the journal are recorded
-pub Holds-standing : (journal : List (ℕ × ChainParts)) (chain : ChainParts) → StandsIn journal chain → Holds (JournalHas journal) (ChainHas chain)
-Holds-standing journal chain (k, e, l, at, is) = λ x has. (k, e, l, at, subst (λ c. ChainHas c x) (sym is) has)
 
 -- a chain without facts is recorded by every journal
 pub Holds-none : (journal : List (ℕ × ChainParts)) (chain : ChainParts) → Holds (JournalHas []) (ChainHas chain) → Holds (JournalHas journal) (ChainHas chain)
@@ -59,20 +55,6 @@ counts-length (e ∷ journal) =
     one : {A : Type 0} (new : Option A) → cond (is_some new) 1 0 + cond (is_none new) 1 0 ≡ 1
     one None = refl
     one (Some _) = refl
-
--- ---- what is told of the entry that is put
-slice_get-push : {A : Type 0} (xs : List A) (y : A) → slice_get (xs ++ y ∷ []) (length xs) ≡ Some y
-slice_get-push [] y = refl
-slice_get-push (x ∷ xs) y = slice_get-push xs y
-
--- the chain of the entry that was put last is the one put
-pub chain-entered : (journal entered : List (ℕ × ChainParts)) (trace place : ℕ) (chain shown : ChainParts) →
-    entered ≡ journal ++ (trace, chain) ∷ [] → place ≡ length journal →
-    option_map (λ (e : ℕ × ChainParts). e.1) (slice_get entered place) ≡ Some shown → shown ≡ chain
-chain-entered journal entered trace place chain shown is at shows =
-    let e : Some chain ≡ Some shown =
-    sym (ap (option_map (λ (e : ℕ × ChainParts). e.1)) ((λ i. slice_get (is i) (at i)) ∙ slice_get-push journal (trace, chain))) ∙ shows in
-    cc
 
 -- an acquisition is told by its new lock
 pub from_bool-taken : {A B : Type 0} (f : A → B) (new : Option A) (taken : Option B) (is_acquisition : Bool) (n : ℕ) →

@@ -56,12 +56,22 @@ GrowsBy-hidden P line text no_line = record { part = []; shows = inr (no_line, r
 pub GrowsBy-shown : (P : Type 0) (line old new : List ℕ) → P → new ≡ old ++ line → GrowsBy (ShowsWhere P line) old new
 GrowsBy-shown P line old new holds is = record { part = line; shows = inl (holds, refl); grew = is }
 
+-- where no text is allowed none was added
+pub GrowsBy-nothing : (Q : List ℕ → Type 0) (text : List ℕ) → Q [] → GrowsBy Q text text
+GrowsBy-nothing Q text allowed = record { part = []; shows = allowed; grew = sym (append-nil text) }
+
+pub InTurn-nothing : {X : Type 0} (R : X → List ℕ → Type 0) → ((x : X) → R x []) → (xs : List X) → InTurn R xs []
+unfolding InSequence
+InTurn-nothing R allowed [] = refl
+InTurn-nothing R allowed (x ∷ xs) = ([], [], allowed x, InTurn-nothing R allowed xs, refl)
+
 -- where all is false there is no line
 module _ {X : Type 0} (P : X → Type 0) (line : X → List ℕ) (never : (x : X) → ¬ P x) where
-  InTurn-hidden : (xs : List X) → InTurn (λ x. ShowsWhere (P x) (line x)) xs []
-  unfolding InSequence
-  InTurn-hidden [] = refl
-  InTurn-hidden (x ∷ xs) = ([], [], inr (never x, refl), InTurn-hidden xs, refl)
+  hidden : (x : X) → ShowsWhere (P x) (line x) []
+  hidden x = inr (never x, refl)
+
+  pub InTurn-hidden : (xs : List X) → InTurn (λ x. ShowsWhere (P x) (line x)) xs []
+  InTurn-hidden xs = InTurn-nothing (λ x. ShowsWhere (P x) (line x)) hidden xs
 
   pub GrowsBy-all_hidden : (xs : List X) (text : List ℕ) → GrowsBy (InTurn (λ x. ShowsWhere (P x) (line x)) xs) text text
-  GrowsBy-all_hidden xs text = record { part = []; shows = InTurn-hidden xs; grew = sym (append-nil text) }
+  GrowsBy-all_hidden xs text = GrowsBy-nothing (InTurn (λ x. ShowsWhere (P x) (line x)) xs) text (InTurn-hidden xs)

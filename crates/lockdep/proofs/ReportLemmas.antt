@@ -1,5 +1,5 @@
 -- Reports of equal facts.
-use Rattle.std.proofs.Common.{ℕ, Bool, List, [], ◌∷◌, IsTrue, ◌↔◌, inl, inr, length, subst}
+use Rattle.std.proofs.Common.{ℕ, Bool, List, [], ◌∷◌, IsTrue, ◌↔◌, inl, inr, length, refl, subst}
 use Rattle.ld_trace.specs.Names.{Name}
 use Rattle.ld_trace.specs.declared.event.Irq.{Irq}
 use Rattle.ld_task.specs.declared.mark.Mark.TheVariants.{UsedIn, Enabled}
@@ -7,11 +7,12 @@ use Rattle.ld_graph.specs.Arrows.{Arrow, arrow}
 use Rattle.ld_graph.specs.Facts.{AreSame, DependenciesOf}
 use Rattle.ld_graph.specs.FactLaws.{IsClean-same, IsDouble-same, IsInversion-same, IsNumberOf-same, IsShortestCircle-same, OnCircle-same, StrongWalk-members}
 use Rattle.ld_graph.specs.Walks.{OnCircle}
-use Rattle.ld_graph.specs.Links.{IsClean}
+use Rattle.ld_graph.specs.Links.{IsClean, IsDouble, IsInversion}
 use Rattle.ld_graph.specs.declared.fact.Fact.{Fact}
 use Rattle.ld_graph.specs.declared.fact.Fact.TheVariants.{Dependency, Marked}
-use Rattle.lockdep.specs.Groups.{InSequence, InTurn, ShowsWhere}
-use Rattle.lockdep.specs.Report.{AreCircles, AreDoubles, AreInversions, AreTotals, IsReport, ShowsBecause, IsUsageCharacter, IsUsageLine, circle_line, double_line, forms, inversion_line, kinds, states}
+use Rattle.lockdep.specs.Groups.{GrowsBy, InSequence, InTurn, ShowsWhere}
+use Rattle.lockdep.specs.Report.{AreCircles, AreDoubles, AreInversions, AreTotals, IsReport, ShowsBecause, ShowsCircle, ShowsDouble, ShowsInversion, IsUsageCharacter, IsUsageLine, circle_line, double_line, findings, forms, inversion_line, kinds, states}
+use Rattle.lockdep.proofs.GroupLemmas.{GrowsBy-none, GrowsBy-nothing, GrowsBy-then, InTurn-hidden, InTurn-nothing}
 
 -- groups whose parts mean the same
 pub InTurn-same : {X : Type 0} (R S : X → List ℕ → Type 0) → ((x : X) (text : List ℕ) → R x text → S x text) → (xs : List X) (text : List ℕ) → InTurn R xs text → InTurn S xs text
@@ -123,3 +124,30 @@ module _ (P Q : Fact → Type 0) (same : AreSame P Q) where
 pub OnCircle-dependency : (Has : Fact → Type 0) (d : Arrow) → OnCircle Has d → DependenciesOf Has d
 OnCircle-dependency Has d (a, rest, closed, (k, within, is)) =
     subst (DependenciesOf Has) is (StrongWalk-members (DependenciesOf Has) a rest closed.0 k d within)
+
+-- ---- clean facts
+-- there is nothing to find
+module _ (Has : Fact → Type 0) (names : List Name) (keys : List ℕ) (clean : IsClean Has) where
+  no_circles : AreCircles Has names keys []
+  no_circles = InTurn-nothing (λ from. InTurn (λ to. InTurn (ShowsCircle Has names from to) kinds) keys)
+      (λ from. InTurn-nothing (λ to. InTurn (ShowsCircle Has names from to) kinds)
+      (λ to. InTurn-hidden (λ kind. OnCircle Has (arrow from to kind)) (circle_line names from to) (λ kind. clean.circles (arrow from to kind)) kinds) keys) keys
+
+  no_doubles : AreDoubles Has names keys []
+  no_doubles = InTurn-nothing (λ irq. InTurn (ShowsDouble Has names irq) keys)
+      (λ irq. InTurn-hidden (IsDouble Has irq) (double_line names irq) (clean.doubles irq) keys) states
+
+  no_inversions : AreInversions Has names keys []
+  no_inversions = InTurn-nothing (λ irq. InTurn (λ a. InTurn (ShowsInversion Has names irq a) keys) keys)
+      (λ irq. InTurn-nothing (λ a. InTurn (ShowsInversion Has names irq a) keys)
+      (λ a. InTurn-hidden (IsInversion Has irq a) (inversion_line names irq a) (clean.inversions irq a) keys) keys) states
+
+  no_because : ShowsBecause Has names []
+  no_because = inr (clean.circles, refl)
+
+  pub GrowsBy-no_findings : (text : List ℕ) → GrowsBy (InSequence (findings Has names keys)) text text
+  GrowsBy-no_findings text =
+      GrowsBy-then _ _ _ _ _ (GrowsBy-nothing (AreCircles Has names keys) text no_circles)
+      (GrowsBy-then _ _ _ _ _ (GrowsBy-nothing (ShowsBecause Has names) text no_because)
+      (GrowsBy-then _ _ _ _ _ (GrowsBy-nothing (AreDoubles Has names keys) text no_doubles)
+      (GrowsBy-then _ _ _ _ _ (GrowsBy-nothing (AreInversions Has names keys) text no_inversions) (GrowsBy-none text))))

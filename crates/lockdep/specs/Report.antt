@@ -150,6 +150,17 @@ abbrev pub AreInversions : (Fact → Type 0) → List Name → (keys : List ℕ)
 AreInversions Has names keys =
     InTurn (λ irq. InTurn (λ a. InTurn (ShowsInversion Has names irq a) keys) keys) states
 
+-- The findings.
+
+-- the circle lines, that of a shortest circle, the doubles and the inversions
+abbrev pub findings : (Fact → Type 0) → List Name → (keys : List ℕ) → List (List ℕ → Type 0)
+findings Has names keys =
+    AreCircles Has names keys
+    ∷ ShowsBecause Has names
+    ∷ AreDoubles Has names keys
+    ∷ AreInversions Has names keys
+    ∷ []
+
 -- The whole text.
 
 -- the text is the report of these facts, of so many traces and events, for the keys with these names
@@ -159,11 +170,7 @@ pub record IsReport (Has : Fact → Type 0) (traces events : ℕ) (names : List 
   pub text_is : InSequence (
       AreTotals Has traces events (length names)
       ∷ InTurn (IsUsageLine Has names) keys
-      ∷ AreCircles Has names keys
-      ∷ ShowsBecause Has names
-      ∷ AreDoubles Has names keys
-      ∷ AreInversions Has names keys
-      ∷ []) text
+      ∷ findings Has names keys) text
 
 -- the text is the report of all these traces together
 abbrev pub IsReportOf : List (List Event) → List Name → List ℕ → Type 0

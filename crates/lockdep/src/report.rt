@@ -8,9 +8,9 @@ ghost use Rattle.ld_graph.specs.Links.{IsInversion};
 ghost use Rattle.ld_graph.specs.Walks.{OnCircle};
 ghost use Rattle.ld_task.specs.declared.kind.Kind.{Kind};
 ghost use Rattle.lockdep.specs.Faults.{StopsWriting};
-ghost use Rattle.lockdep.specs.Groups.{GrowsBy, InTurn};
+ghost use Rattle.lockdep.specs.Groups.{GrowsBy, InSequence, InTurn};
 ghost use Rattle.lockdep.specs.Inside.Ends.{circle_start, inversion_start, line_end};
-ghost use Rattle.lockdep.specs.Report.{AreCircles, AreDoubles, AreInversions, AreTotals, IsReport, IsUsageCharacter, IsUsageLine, ShowsBecause, ShowsCircle, ShowsDouble, ShowsInversion, clean_line, forms, kinds, total_line, usage_character};
+ghost use Rattle.lockdep.specs.Report.{AreCircles, AreDoubles, AreInversions, AreTotals, IsReport, IsUsageCharacter, IsUsageLine, ShowsBecause, ShowsCircle, ShowsDouble, ShowsInversion, clean_line, findings, forms, kinds, total_line, usage_character};
 
 use crate::because;
 use crate::fault::WriteFault;
@@ -337,6 +337,22 @@ impl ReportView<'_> {
         Ok(())
     }
 
+    // The findings, which stand behind the usage lines. Where the facts are clean there are none, and no dependency or key is asked for.
+    fn add_findings(self, text: &mut String, start: &mut String) -> Result<(), AllocError>
+        ensures { OnOk result (GrowsBy
+            (InSequence (findings (HasFact self.entry.settled.now) self.entry.names.now.names self.entry.keys.now))
+            (string_bytes text.old) (string_bytes text.new)) }
+    {
+        if self.settled.is_clean() {
+            return Ok(());
+        }
+        self.add_circles(text, start)?;
+        self.add_because(text)?;
+        self.add_doubles(text)?;
+        self.add_inversions(text, start)?;
+        Ok(())
+    }
+
     // The five lines that every report begins with.
     fn add_totals(self, text: &mut String, traces: usize, events: u128) -> Result<(), AllocError>
         ensures { OnOk result (GrowsBy
@@ -376,10 +392,7 @@ fn report_text(
     let mut start = String::new(alloc);
     view.add_totals(&mut text, traces, events)?;
     view.add_usage(&mut text)?;
-    view.add_circles(&mut text, &mut start)?;
-    view.add_because(&mut text)?;
-    view.add_doubles(&mut text)?;
-    view.add_inversions(&mut text, &mut start)?;
+    view.add_findings(&mut text, &mut start)?;
     Ok(text)
 }
 

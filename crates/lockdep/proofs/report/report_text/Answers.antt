@@ -1,6 +1,6 @@
 use Rattle.std.proofs.Common.{◌≡◌, ◌∙◌, ◌++◌, List, ℕ, [], ap, sym, subst}
 use Rattle.lockdep.specs.Groups.{GrowsBy}
-use Rattle.lockdep.proofs.GroupLemmas.{GrowsBy-none, GrowsBy-then}
+use Rattle.lockdep.proofs.GroupLemmas.{GrowsBy-then}
 use Rattle.lockdep.proofs.report.report_text.Goals as goal
 
 -- what grew from nothing
@@ -13,9 +13,5 @@ returns c = record {
   keys_are = c.in_ok-keys.ensures;
   text_is = rw c.as_slice-keys.ensures.value at (whole _ _ _ c.new-text.ensures.bytes
       (GrowsBy-then _ _ _ _ _ c.in_ok-add_totals.ensures
-      (GrowsBy-then _ _ _ _ _ c.in_ok-add_usage.ensures
-      (GrowsBy-then _ _ _ _ _ c.in_ok-add_circles.ensures
-      (GrowsBy-then _ _ _ _ _ c.in_ok-add_because.ensures
-      (GrowsBy-then _ _ _ _ _ c.in_ok-add_doubles.ensures
-      (GrowsBy-then _ _ _ _ _ c.in_ok-add_inversions.ensures (GrowsBy-none _))))))));
+      (GrowsBy-then _ _ _ _ _ c.in_ok-add_usage.ensures c.in_ok-add_findings.ensures)));
 }

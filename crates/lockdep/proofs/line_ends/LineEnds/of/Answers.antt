@@ -1,4 +1,4 @@
-use Rattle.std.proofs.Common.{◌≡◌, ◌<◌, ◌∷◌, [], ◌∙◌, ap, arith, map, string_bytes, sym}
+use Rattle.std.proofs.Common.{◌<◌, ◌∷◌, [], ◌∙◌, ap, arith, map, string_bytes}
 use Rattle.std.proofs.lemmas.List.{map-append}
 use Rattle.lockdep.specs.Inside.Ends.{line_end}
 use Rattle.lockdep.specs.Words.{name_at}

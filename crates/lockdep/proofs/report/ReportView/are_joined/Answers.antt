@@ -1,4 +1,4 @@
-use Rattle.std.proofs.Common.{◌≡◌, ◌↔◌, ℕ, Bool, false, IsFalse, IsTrue}
+use Rattle.std.proofs.Common.{◌≡◌, ◌↔◌, ℕ, Bool, false, IsTrue}
 use Rattle.ld_graph.specs.Arrows.{arrow}
 use Rattle.ld_graph.specs.FactBits.{HasFact}
 use Rattle.ld_graph.specs.declared.fact.Fact.{Fact}
