@@ -1,12 +1,13 @@
 //! What no clause says: worked examples with their whole texts, the program's words and lines, and writers that fail.
 
-mod condensing;
+mod chains;
 mod gates;
 mod helpers;
 mod lines;
-mod pictures;
+mod long;
 mod programs;
 mod refusals;
 mod reports;
+mod texts;
 mod want_of_memory;
 mod writers;

@@ -1,13 +1,9 @@
 //! Sessions whose gate tells that the workers really run side by side.
 
-use crate::session::Session;
 use crate::tests::helpers::{session_of, text_in};
 use ld_run::Gate;
-use std::process::Abort;
-use std::sync::Wait;
 use std::sync::atomic::{AtomicBool, AtomicU64, Ordering};
 use std::test::Fail;
-use std::thread::Threads;
 
 // What one of the two workers did at the gate.
 #[derive(Drop)]
@@ -55,32 +51,28 @@ impl Gate for Meeting {
     }
 }
 
-// Asserts what the report of the session says where its workers go through this gate.
-fn assert_report_at(
-    rt: &(impl Threads + Wait + Sync + Abort + AllocGlobal),
-    gate: &Meeting,
-    session: Session,
-    report: &str,
-) -> Result<(), Fail> {
-    let mut text = Vec::new(rt.alloc());
-    assert!(rt; session.report(rt, rt.alloc(), 2, gate, &mut text)?);
-    assert_eq!(rt; text_in(text.as_slice()), report);
-    Ok(())
-}
+// The report of two locks that were taken by two tasks.
+const REPORT: &str =
+    "traces 2\nevents 2\nkeys 2\ndependencies 0\nclean yes\nusage A/0 {+.+.}\nusage B/0 {+.+.}\n";
 
 #[test]
 fn two_workers_meet_in_the_gate(rt: HostRuntime) -> Result<(), Fail> {
-    let session = session_of(rt.alloc(), &["acq,A,0,w", "acq,B,0,w"])?;
+    let session = session_of(rt.alloc(), &["1 acq,A,0,w", "1 acq,B,0,w"])?;
     let gate = Meeting {
         first: Visit::none(),
         second: Visit::none(),
         missed: AtomicBool::new(false),
     };
-    let report =
-        "traces 2\nevents 2\nkeys 2\ndependencies 0\nclean yes\nusage A/0 {+.+.}\nusage B/0 {+.+.}\n";
-    assert_report_at(&rt, &gate, session, report)?;
-    assert_eq!(rt; gate.first.calls.load(Ordering::SeqCst), 1);
-    assert_eq!(rt; gate.second.calls.load(Ordering::SeqCst), 1);
-    assert!(rt; !gate.missed.load(Ordering::SeqCst));
+    let mut text = Vec::new(rt.alloc());
+    let returned = session.report(&rt, rt.alloc(), 2, &gate, &mut text);
+    let visits = (
+        gate.first.calls.load(Ordering::SeqCst),
+        gate.second.calls.load(Ordering::SeqCst),
+        gate.missed.load(Ordering::SeqCst),
+    );
+    assert_eq!(rt;
+        (returned, text_in(text.as_slice()), visits),
+        (Ok(true), REPORT, (1, 1, false))
+    );
     Ok(())
 }

@@ -1,6 +1,8 @@
-//! Traces as the tests write them, and what is made of them.
+//! Traces as the tables of the tests have them, and what sessions say of them.
 
+use crate::fault::ReportFault;
 use crate::session::Session;
+use crate::wanted::Wanted;
 use ld_run::OpenGate;
 use std::alloc::{AllocError, Global};
 use std::process::Abort;
@@ -9,22 +11,21 @@ use std::sync::Wait;
 use std::test::Fail;
 use std::thread::Threads;
 
-/// The text of a trace whose records stand in one line, with spaces between them.
-pub(crate) fn trace_text(alloc: Global, records: &str) -> Result<Vec<u8>, AllocError> {
+/// The text of a trace that a table has in one line: the version of its header and then its records, with spaces between them.
+pub(crate) fn trace_text(alloc: Global, trace: &str) -> Result<Vec<u8>, AllocError> {
     let mut text = Vec::new(alloc);
-    text.extend_from_slice(b"lockdep,1\n".as_slice())?;
-    for byte in records.as_bytes() {
+    text.extend_from_slice(b"lockdep,".as_slice())?;
+    for byte in trace.as_bytes() {
         text.push(if *byte == b' ' { b'\n' } else { *byte })?;
     }
-    text.push(b'\n')?;
     Ok(text)
 }
 
 /// A session with these traces.
 pub(crate) fn session_of(alloc: Global, traces: &[&str]) -> Result<Session, Fail> {
     let mut session = Session::new(alloc)?;
-    for records in traces {
-        let text = trace_text(alloc, records)?;
+    for trace in traces {
+        let text = trace_text(alloc, trace)?;
         session.add(text.as_slice())?;
     }
     Ok(session)
@@ -35,34 +36,35 @@ pub(crate) fn text_in(written: &[u8]) -> &str {
     str::from_utf8(written).unwrap_or("no UTF-8")
 }
 
-/// Traces and the report of them all.
-#[derive(Clone, Copy)]
-pub(crate) struct Example<'t> {
-    pub traces: &'t [&'t str],
-    pub report: &'t str,
-}
-
-/// Asserts that each list of traces has its report.
-pub(crate) fn assert_reports(
-    rt: &(impl Threads + Wait + Sync + Abort + AllocGlobal),
-    examples: &[Example<'_>],
-) -> Result<(), Fail> {
-    for example in examples {
-        let session = session_of(rt.alloc(), example.traces)?;
-        assert_report(rt, session, example.report)?;
+// Writes the wanted text of the session's traces. The first two come from files, and the others have no names.
+fn write_wanted(
+    rt: &(impl Threads + Wait + Sync + AllocGlobal),
+    session: Session,
+    wanted: Wanted,
+    workers: u16,
+    w: &mut Vec<u8>,
+) -> Result<bool, ReportFault> {
+    match wanted {
+        Wanted::Report => session.report(rt, rt.alloc(), workers, &OpenGate, w),
+        Wanted::Explanation => {
+            session.explain(rt, rt.alloc(), workers, &OpenGate, &["a.txt", "b.txt"], w)
+        }
+        Wanted::Picture { findings } => {
+            session.graph(rt, rt.alloc(), workers, &OpenGate, findings, w)
+        }
+        Wanted::Condensed => session.condense(rt, rt.alloc(), workers, &OpenGate, w),
     }
-    Ok(())
 }
 
-// Asserts that the session has this report.
-fn assert_report(
+/// Asserts what the session, asked for this text by so many workers, returns and writes.
+pub(crate) fn assert_text(
     rt: &(impl Threads + Wait + Sync + Abort + AllocGlobal),
     session: Session,
-    report: &str,
-) -> Result<(), Fail> {
-    let mut text = Vec::new(rt.alloc());
-    let clean = session.report(rt, rt.alloc(), 4, &OpenGate, &mut text)?;
-    assert_eq!(rt; text_in(text.as_slice()), report);
-    assert_eq!(rt; clean, report.contains("clean yes"), "{report}");
-    Ok(())
+    wanted: Wanted,
+    workers: u16,
+    (returned, text): (Result<bool, ReportFault>, &str),
+) {
+    let mut written = Vec::new(rt.alloc());
+    let got = write_wanted(rt, session, wanted, workers, &mut written);
+    assert_eq!(rt; (got, text_in(written.as_slice())), (returned, text));
 }

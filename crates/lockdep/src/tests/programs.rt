@@ -1,4 +1,4 @@
-//! The program's status and its lines; `tests/runs` runs it on many more lines, and on files.
+//! The program's status and what it writes; `tests/runs` runs it on many more lines, and on files.
 
 use crate::program::program;
 use crate::tests::helpers::text_in;
@@ -9,92 +9,113 @@ use std::rt::Files;
 use std::sync::Wait;
 use std::thread::Threads;
 
-// Asserts the status of the program and what it wrote on its two outputs.
-fn assert_output(
-    rt: &(impl Files + Threads + Wait + Sync + Abort + AllocGlobal),
-    words: &[&str],
-    input: &[u8],
-    (status, out, err): (u8, &str, &str),
-) {
-    let (mut got_out, mut got_err) = (Vec::new(rt.alloc()), Vec::new(rt.alloc()));
-    let got = program(rt, rt.alloc(), words, input, &mut got_out, &mut got_err);
-    assert_eq!(rt; text_in(got_err.as_slice()), err, "{words:?}");
-    assert_eq!(rt; text_in(got_out.as_slice()), out, "{words:?}");
-    assert_eq!(rt; got, status, "{words:?}");
-}
+// A run of the program: its words, its standard input, the calls at which its two outputs fail (none, if 0), its status, and what it
+// has written on the two outputs by then.
+type Run<'t> = (
+    &'t [&'t str],
+    &'t str,
+    (usize, usize),
+    (u8, &'t str, &'t str),
+);
 
-#[test]
-fn check_writes_a_report_and_its_status(rt: HostRuntime) {
-    assert_output(
-        &rt,
+const RUNS: [Run<'_>; 12] = [
+    (
         &["lockdep", "check"],
-        b"lockdep,1\nacq,A,0,w\nenter,hardirq\nacq,B,0,w\nrel,B,0\nleave\n",
+        "lockdep,1\nacq,A,0,w\nenter,hardirq\nacq,B,0,w\nrel,B,0\nleave\n",
+        (0, 0),
         (
             0,
             "traces 1\nevents 5\nkeys 2\ndependencies 0\nclean yes\nusage A/0 {+.+.}\nusage B/0 {-...}\n",
             "",
         ),
-    );
-    assert_output(
-        &rt,
+    ),
+    (
         &["lockdep", "check"],
-        b"lockdep,1\nacq,A,0,w\nacq,A,0,rr\n",
+        "lockdep,1\nacq,A,0,w\nacq,A,0,rr\n",
+        (0, 0),
         (
             1,
             "traces 1\nevents 2\nkeys 1\ndependencies 1\nclean no\nusage A/0 {++++}\ncircle A/0 ER A/0\nbecause A/0 ER A/0\n",
             "",
         ),
-    );
-    assert_output(
-        &rt,
+    ),
+    (
         &["lockdep", "chains"],
-        b"lockdep,1\nrel,A,0\n",
+        "lockdep,1\nrel,A,0\n",
+        (0, 0),
         (2, "", "lockdep: stdin: record 2: S1 NotHeld\n"),
-    );
-}
-
-// A caller needn't name the program, but a shell always does.
-#[test]
-fn no_words_at_all_are_refused(rt: HostRuntime) {
-    assert_output(
-        &rt,
+    ),
+    // A caller needn't name the program, but a shell always does.
+    (
         &[],
-        b"lockdep,1\n",
+        "lockdep,1\n",
+        (0, 0),
         (2, "", "lockdep: P1 BadCommandLine\n"),
-    );
-}
+    ),
+    (
+        &["lockdep", "check", "nofile"],
+        "",
+        (0, 0),
+        (2, "", "lockdep: nofile: P2 CannotOpen\n"),
+    ),
+    (
+        &["lockdep", "check", "--workers", "0"],
+        "lockdep,1\nacq,A,0,w\n",
+        (0, 0),
+        (2, "", "lockdep: N1 BadWorkers\n"),
+    ),
+    (
+        &["lockdep", "check", "--workers", "65"],
+        "lockdep,1\nacq,A,0,w\n",
+        (0, 0),
+        (2, "", "lockdep: N1 BadWorkers\n"),
+    ),
+    // Outputs that fail when they have taken a few bytes.
+    (
+        &["lockdep", "check"],
+        "lockdep,1\nacq,A,0,w\n",
+        (3, 0),
+        (2, "tr", "lockdep: P3 Output\n"),
+    ),
+    (
+        &["lockdep", "chains"],
+        "lockdep,1\nacq,A,0,w\n",
+        (3, 0),
+        (2, "ac", "lockdep: P3 Output\n"),
+    ),
+    (
+        &["lockdep", "help"],
+        "",
+        (3, 0),
+        (2, "Ch", "lockdep: P3 Output\n"),
+    ),
+    (
+        &["lockdep", "-V"],
+        "",
+        (3, 0),
+        (2, "lo", "lockdep: P3 Output\n"),
+    ),
+    (&["lockdep"], "", (0, 9), (2, "", "lockdep:")),
+];
 
-// Asserts that an output that fails at its third call ends the program with its line.
-fn assert_failing_output(
+// Asserts how a run ends whose outputs fail in this way.
+fn assert_run(
     rt: &(impl Files + Threads + Wait + Sync + Abort + AllocGlobal),
-    word: &str,
+    (words, input, (out_fails_at, err_fails_at), ends): Run<'_>,
     failure: Option<io::ErrorKind>,
 ) {
-    let mut out = Narrow::new(rt.alloc(), 3, failure);
-    let mut err = Vec::new(rt.alloc());
-    let words = ["lockdep", word];
-    let input = b"lockdep,1\nacq,A,0,w\n".as_slice();
-    let status = program(rt, rt.alloc(), &words, input, &mut out, &mut err);
-    assert_eq!(rt; status, 2, "{word}");
-    assert_eq!(rt; text_in(err.as_slice()), "lockdep: P3 Output\n", "{word}");
-    assert_eq!(rt; out.taken.len(), 2, "{word}");
+    let mut out = Narrow::new(rt.alloc(), out_fails_at, failure);
+    let mut err = Narrow::new(rt.alloc(), err_fails_at, failure);
+    let status = program(rt, rt.alloc(), words, input.as_bytes(), &mut out, &mut err);
+    let (out, err) = (text_in(out.taken.as_slice()), text_in(err.taken.as_slice()));
+    assert_eq!(rt; (status, out, err), ends, "{words:?}");
 }
 
 #[test]
-fn a_failing_output(rt: HostRuntime) {
-    for word in ["check", "chains", "help", "-V"] {
+fn runs_of_the_program(rt: HostRuntime) {
+    for run in RUNS {
         for (failure, _) in FAILURES {
-            assert_failing_output(&rt, word, failure);
+            assert_run(&rt, run, failure);
         }
     }
-}
-
-#[test]
-fn a_failing_error_output(rt: HostRuntime) {
-    let mut out = Vec::new(rt.alloc());
-    let mut err = Narrow::new(rt.alloc(), 9, None);
-    let words = ["lockdep"];
-    let status = program(&rt, rt.alloc(), &words, b"".as_slice(), &mut out, &mut err);
-    assert_eq!(rt; status, 2);
-    assert_eq!(rt; text_in(err.taken.as_slice()), "lockdep:");
 }

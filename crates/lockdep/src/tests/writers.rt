@@ -1,16 +1,15 @@
 //! A writer that takes one byte a call and fails at one.
 
-use crate::chains_text::write_chains;
 use crate::fault::{ReportFault, WriteFault};
 use crate::tests::helpers::session_of;
 use ld_run::OpenGate;
-use ld_task::{Trace, check};
-use ld_trace::{KeyTable, read_trace};
 use std::alloc::Global;
 use std::io;
 use std::io::Write;
 use std::process::Abort;
+use std::sync::Wait;
 use std::test::Fail;
+use std::thread::Threads;
 
 // Each way in which a writer can fail at one call: by an error of this kind, or by taking nothing.
 pub(crate) const FAILURES: [(Option<io::ErrorKind>, WriteFault); 3] = [
@@ -60,60 +59,42 @@ impl Write for Narrow {
     }
 }
 
-#[test]
-fn a_report_on_a_writer_that_fails_at_each_call(rt: HostRuntime) -> Result<(), Fail> {
-    let traces = [
-        "acq,A,0,w acq,B,0,w rel,B,0 rel,A,0",
-        "acq,B,0,w acq,A,0,w rel,A,0 rel,B,0",
-    ];
-    let report =
-        b"traces 2\nevents 8\nkeys 2\ndependencies 2\nclean no\nusage A/0 {+.+.}\nusage B/0 {+.+.}\ncircle A/0 EN B/0\ncircle B/0 EN A/0\nbecause A/0 EN B/0 EN A/0\n".as_slice();
-    for done in 0..report.len() {
-        for (failure, fault) in FAILURES {
-            let session = session_of(rt.alloc(), &traces)?;
-            let mut w = Narrow::new(rt.alloc(), done + 1, failure);
-            assert_eq!(rt;
-                session.report(&rt, rt.alloc(), 4, &OpenGate, &mut w),
-                Err(ReportFault::Out(fault))
-            );
-            assert_eq!(rt; w.taken.as_slice(), &report[..done]);
-        }
-    }
-    let mut w = Narrow::new(rt.alloc(), report.len() + 1, None);
-    assert_eq!(rt;
-        session_of(rt.alloc(), &traces)?.report(&rt, rt.alloc(), 4, &OpenGate, &mut w),
+// Both orders of two locks, and the report of them.
+const TRACES: [&str; 2] = [
+    "1 acq,A,0,w acq,B,0,w rel,B,0 rel,A,0",
+    "1 acq,B,0,w acq,A,0,w rel,A,0 rel,B,0",
+];
+
+const REPORT: &str =
+    "traces 2\nevents 8\nkeys 2\ndependencies 2\nclean no\nusage A/0 {+.+.}\nusage B/0 {+.+.}\ncircle A/0 EN B/0\ncircle B/0 EN A/0\nbecause A/0 EN B/0 EN A/0\n";
+
+// Asserts what a report returns whose writer fails in this way when it has taken so many bytes, and that it has these.
+fn assert_report(
+    rt: &(impl Threads + Wait + Sync + Abort + AllocGlobal),
+    done: usize,
+    (failure, fault): (Option<io::ErrorKind>, WriteFault),
+) -> Result<(), Fail> {
+    let session = session_of(rt.alloc(), &TRACES)?;
+    let mut w = Narrow::new(rt.alloc(), done.saturating_add(1), failure);
+    let returned = session.report(rt, rt.alloc(), 4, &OpenGate, &mut w);
+    let wanted = if done < REPORT.len() {
+        Err(ReportFault::Out(fault))
+    } else {
         Ok(false)
+    };
+    assert_eq!(rt;
+        (returned, Some(w.taken.as_slice())),
+        (wanted, REPORT.as_bytes().get(..done))
     );
-    assert_eq!(rt; w.taken.as_slice(), report);
     Ok(())
 }
 
-// Asserts what writing the chains on this writer answers, and what the writer then has.
-fn assert_chains(
-    rt: &(impl Abort + AllocGlobal),
-    (trace, keys): (&Trace, &KeyTable),
-    mut w: Narrow,
-    taken: &[u8],
-    answer: Result<(), WriteFault>,
-) {
-    assert_eq!(rt; write_chains(&mut w, trace, keys), answer);
-    assert_eq!(rt; w.taken.as_slice(), taken);
-}
-
 #[test]
-fn chains_on_a_writer_that_fails_at_each_call(rt: HostRuntime) -> Result<(), Fail> {
-    let text = b"lockdep,1\nacq,A,0,w\nacq,B,0,w\nrel,A,0\nacq,C,0,w\n".as_slice();
-    let mut keys = KeyTable::new(rt.alloc())?;
-    let trace = check(read_trace(rt.alloc(), text, &mut keys)?)?;
-    let chains =
-        b"acq A/0 w task on on held 0\nacq B/0 w task on on held 1 A/0 w\nacq C/0 w task on on held 1 B/0 w\n".as_slice();
-    for done in 0..chains.len() {
-        for (failure, fault) in FAILURES {
-            let w = Narrow::new(rt.alloc(), done + 1, failure);
-            assert_chains(&rt, (&trace, &keys), w, &chains[..done], Err(fault));
+fn a_report_on_a_writer_that_fails_at_each_call(rt: HostRuntime) -> Result<(), Fail> {
+    for done in 0..=REPORT.len() {
+        for failure in FAILURES {
+            assert_report(&rt, done, failure)?;
         }
     }
-    let w = Narrow::new(rt.alloc(), chains.len() + 1, None);
-    assert_chains(&rt, (&trace, &keys), w, chains, Ok(()));
     Ok(())
 }
