@@ -2,7 +2,7 @@ use Rattle.std.proofs.Common.{◌≡◌, ◌<◌, ◌∙◌, sym, subst, ℕ, Li
 use Rattle.std.proofs.lemmas.Option.{slice_get_within, get_or_from_slice_get}
 use Rattle.std.specs.Prelude.{All, slice_get, Some}
 use Rattle.ld_graph.specs.WordPairs.{word_total, NonePast}
-use Rattle.ld_graph.proofs.tests.unite_words.Goals as goal
+use Rattle.ld_graph.proofs.tests.facts.unite_words.Goals as goal
 
 -- what holds of all pairs holds of one that is got
 of_got : (P : ℕ × ℕ → Type 0) (pairs : List (ℕ × ℕ)) (i : ℕ) (p : ℕ × ℕ) → All P pairs → slice_get pairs i ≡ Some p → P p
