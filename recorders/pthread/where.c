@@ -1,24 +1,121 @@
-/* Puts source lines behind the records and classes of a text: where [FOLDER] <TEXT
+/* Puts source lines under the records and classes of a text: where [FOLDER] <TEXT
 
-   Behind each `FILE: record N`, and each later ` record N` of the same line, comes the place of that record, by
-   FILE.places; behind each name of a class the place by which it is called that, by FOLDER/classes (`traces` if it isn't
-   given, else beside the traces that the text names), once in a line and the indented lines under it. Lines come from
-   addr2line. */
+   Under a line with `FILE: record N`, and each later ` record N` of the same line, comes the place of that record, by
+   FILE.places; under one with names of classes the places by which they are called that, by FOLDER/classes (`traces` if it
+   isn't given, and those beside the traces that the text names), once in a line and the indented lines under it. Lines come
+   from addr2line. */
 #define _GNU_SOURCE
+#include <ctype.h>
+#include <dlfcn.h>
+#include <stdarg.h>
 #include <stdbool.h>
 #include <stdint.h>
 #include <stdio.h>
 #include <stdlib.h>
 #include <string.h>
+#include <unistd.h>
 
 #define PATH 4096
 
+/* Lines longer than this are broken where they have a space. */
+#define WIDTH 120
+
+/* How far the rest of a broken line, and what is put under a line, stand to the right of it. */
+#define INDENT 4
+
+static void refuse(const char *format, ...) {
+    va_list words;
+    va_start(words, format);
+    fputs("where: ", stderr);
+    vfprintf(stderr, format, words);
+    fputc('\n', stderr);
+    va_end(words);
+    exit(2);
+}
+
+static void *checked(void *p) {
+    if (!p)
+        refuse("out of memory");
+    return p;
+}
+
+/* ---- A text that grows. */
+
+struct text {
+    char *bytes;
+    size_t length, room;
+};
+
+static void add_bytes(struct text *text, const char *bytes, size_t length) {
+    if (text->length + length + 1 > text->room) {
+        text->room = 2 * (text->length + length + 1);
+        text->bytes = checked(realloc(text->bytes, text->room));
+    }
+    memcpy(text->bytes + text->length, bytes, length);
+    text->length += length;
+    text->bytes[text->length] = 0;
+}
+
+static void add(struct text *text, const char *word) { add_bytes(text, word, strlen(word)); }
+
+static void empty(struct text *text) {
+    text->length = 0;
+    add(text, "");
+}
+
+/* ---- Names of C++, as a person writes them. */
+
+typedef char *demangler(const char *name, char *room, size_t *size, int *status);
+
+/* The C++ library's function, if that library is there. */
+static demangler *find_demangler(void) {
+    static bool is_known;
+    static demangler *found;
+    if (!is_known) {
+        void *library = dlopen("libstdc++.so.6", RTLD_LAZY);
+        void *function = library ? dlsym(library, "__cxa_demangle") : NULL;
+        memcpy(&found, &function, sizeof found);
+        is_known = true;
+    }
+    return found;
+}
+
+/* Adds a symbol, demangled if it can be. */
+static void add_symbol(struct text *text, const char *symbol, size_t length) {
+    char *name = checked(strndup(symbol, length));
+    int status = -1;
+    demangler *demangle = find_demangler();
+    char *told = demangle ? demangle(name, NULL, NULL, &status) : NULL;
+    if (told && status == 0)
+        add(text, told);
+    else
+        add_bytes(text, symbol, length);
+    free(told);
+    free(name);
+}
+
+/* Adds a text in which each symbol that begins with _Z is demangled. One with a cut-off end isn't a symbol and stays. */
+static void add_demangled(struct text *text, const char *from) {
+    while (*from) {
+        size_t length = 0;
+        while (isalnum((unsigned char)from[length]) || from[length] == '_')
+            length++;
+        if (length > 2 && from[0] == '_' && from[1] == 'Z')
+            add_symbol(text, from, length);
+        else
+            add_bytes(text, from, length ? length : 1);
+        from += length ? length : 1;
+    }
+}
+
 /* ---- What addr2line says of an address, asked once. */
 
+/* A place: the functions that the address is in, inlined ones first, each with its line. */
 struct answer {
     char *module;
     uint64_t offset;
-    char *text;
+    struct text text;
+    bool is_wrapper; /* all of its functions are */
     struct answer *next;
 };
 
@@ -44,46 +141,87 @@ static void quote(char *to, size_t room, const char *text) {
     to[n] = 0;
 }
 
-static char *ask(const char *module, uint64_t offset, bool is_code) {
-    char name[PATH], command[PATH + 128], function[2048] = "", line[PATH] = "", *text = NULL;
-    quote(name, sizeof name, module);
-    snprintf(command, sizeof command, "addr2line -f -C -e %s 0x%lx 2>/dev/null", name, (unsigned long)(offset - is_code));
-    FILE *pipe = popen(command, "r");
-    if (pipe) {
-        if (fgets(function, sizeof function, pipe) && fgets(line, sizeof line, pipe)) {
-            chomp(function);
-            chomp(line);
-        }
-        pclose(pipe);
-    }
+static bool begins_with(const char *text, const char *start) { return strncmp(text, start, strlen(start)) == 0; }
+
+/* A function of the C++ library or of a header of the system's: where it is in the program tells nothing. */
+static bool is_wrapper(const char *function, const char *line) {
+    return begins_with(function, "std::") || begins_with(function, "__gthread") || begins_with(function, "__gnu_cxx::") ||
+           begins_with(line, "/usr/include/") || begins_with(line, "/usr/lib/gcc") || strstr(line, "/include/c++/");
+}
+
+/* What separates a function from its caller. */
+#define CALLED_FROM " < "
+
+/* One function of a place with its line, if either is known. */
+static void add_frame(struct text *text, const char *function, char *line, bool is_code) {
+    bool has_line = line[0] && line[0] != '?', has_function = is_code && function[0] && function[0] != '?';
     char *discriminator = strstr(line, " (discriminator");
     if (discriminator)
         *discriminator = 0;
-    bool has_line = line[0] && line[0] != '?';
-    bool has_function = is_code && function[0] && function[0] != '?';
-    int n;
-    if (has_line)
-        n = asprintf(&text, "%s%s%s", has_function ? function : "", has_function ? " at " : "", base_of(line));
-    else if (has_function)
-        n = asprintf(&text, "%s in %s+%lx", function, base_of(module), (unsigned long)offset);
-    else
-        n = asprintf(&text, "%s+%lx", base_of(module), (unsigned long)offset);
-    if (n < 0)
-        exit(2);
-    return text;
+    if (!has_line && !has_function)
+        return;
+    if (text->length)
+        add(text, CALLED_FROM);
+    if (has_function)
+        add(text, function);
+    if (has_line) {
+        add(text, has_function ? " at " : "");
+        add(text, base_of(line));
+    }
 }
 
-static const char *line_of(const char *module, uint64_t offset, bool is_code) {
-    size_t slot = (offset * 31 + strlen(module)) % 4096;
+/* Asks addr2line. Wrappers are left out if there is another function. */
+static void ask(struct answer *answer, bool is_code) {
+    char name[PATH], command[PATH + 128], function[PATH], line[PATH];
+    struct text all = {0}, *text = &answer->text;
+    empty(text);
+    empty(&all);
+    quote(name, sizeof name, answer->module);
+    snprintf(command, sizeof command, "addr2line -i -f -C -e %s 0x%lx 2>/dev/null", name,
+             (unsigned long)(answer->offset - is_code));
+    FILE *pipe = popen(command, "r");
+    while (pipe && fgets(function, sizeof function, pipe) && fgets(line, sizeof line, pipe)) {
+        chomp(function);
+        chomp(line);
+        add_frame(&all, function, line, is_code);
+        if (!is_wrapper(function, line))
+            add_frame(text, function, line, is_code);
+    }
+    if (pipe)
+        pclose(pipe);
+    answer->is_wrapper = all.length && !text->length;
+    if (!text->length)
+        add(text, all.bytes);
+    free(all.bytes);
+}
+
+/* Adds the module and the offset, which are all that is known without a line. */
+static void add_address(struct answer *answer) {
+    char address[32];
+    snprintf(address, sizeof address, "+%lx", (unsigned long)answer->offset);
+    add(&answer->text, answer->text.length ? " in " : "");
+    add(&answer->text, base_of(answer->module));
+    add(&answer->text, address);
+}
+
+static const struct answer *answer_of(const char *module, uint64_t offset, bool is_code) {
+    size_t slot = (offset * 31 + strlen(module)) % (sizeof answers / sizeof answers[0]);
     for (struct answer *a = answers[slot]; a; a = a->next)
         if (a->offset == offset && strcmp(a->module, module) == 0)
-            return a->text;
-    struct answer *a = malloc(sizeof *a);
-    if (!a)
-        exit(2);
-    *a = (struct answer){strdup(module), offset, ask(module, offset, is_code), answers[slot]};
+            return a;
+    struct answer *a = checked(calloc(1, sizeof *a));
+    *a = (struct answer){.module = checked(strdup(module)), .offset = offset, .next = answers[slot]};
+    ask(a, is_code);
+    if (!a->text.length || (is_code && !strstr(a->text.bytes, " at ")))
+        add_address(a);
     answers[slot] = a;
-    return a->text;
+    return a;
+}
+
+/* Says so if no place can be told by a line of source. */
+static void look_for_addr2line(void) {
+    if (system("addr2line --version >/dev/null 2>&1") != 0)
+        fputs("where: addr2line isn't there, so places are modules and offsets; it is a part of binutils\n", stderr);
 }
 
 /* ---- Places of a trace. */
@@ -118,9 +256,7 @@ static bool read_places(struct places *p, FILE *file) {
     uint64_t word;
     while (fread(&word, sizeof word, 1, file) == 1) {
         if ((p->count & (p->count - 1)) == 0)
-            p->words = realloc(p->words, (p->count ? 2 * p->count : 1) * sizeof word);
-        if (!p->words)
-            exit(2);
+            p->words = checked(realloc(p->words, (p->count ? 2 * p->count : 1) * sizeof word));
         p->words[p->count++] = word;
     }
     return true;
@@ -130,10 +266,8 @@ static struct places *places_of(const char *trace) {
     for (struct places *p = all_places; p; p = p->next)
         if (strcmp(p->file, trace) == 0)
             return p;
-    struct places *p = calloc(1, sizeof *p);
-    if (!p)
-        exit(2);
-    p->file = strdup(trace);
+    struct places *p = checked(calloc(1, sizeof *p));
+    p->file = checked(strdup(trace));
     char path[PATH + 16];
     snprintf(path, sizeof path, "%s.places", trace);
     FILE *file = fopen(path, "r");
@@ -147,20 +281,29 @@ static struct places *places_of(const char *trace) {
     return p;
 }
 
-static void tell_record(const char *trace, unsigned long number) {
-    const struct places *p = places_of(trace);
-    if (number == 0 || p->count < number * p->frames)
-        return;
-    const char *before = " (";
+/* The callers of a record, innermost first. Those that are wrappers are added only if they are asked for. */
+static void add_callers(struct text *text, const struct places *p, unsigned long number, bool with_wrappers) {
     for (uint32_t i = 0; i < p->frames; i++) {
         uint64_t word = p->words[(number - 1) * p->frames + i];
         if (word == UINT64_MAX || word >> 48 >= p->module_count)
             continue;
-        printf("%s%s", before, line_of(p->modules[word >> 48], word & UINT64_C(0xffffffffffff), true));
-        before = " < ";
+        const struct answer *caller = answer_of(p->modules[word >> 48], word & UINT64_C(0xffffffffffff), true);
+        if (caller->is_wrapper && !with_wrappers)
+            continue;
+        if (text->length)
+            add(text, CALLED_FROM);
+        add(text, caller->text.bytes);
     }
-    if (before[1] == '<')
-        putchar(')');
+}
+
+/* The place of a record; empty if it isn't known. */
+static void place_of(struct text *text, const char *trace, unsigned long number) {
+    const struct places *p = places_of(trace);
+    if (number == 0 || p->count < number * p->frames)
+        return;
+    add_callers(text, p, number, false);
+    if (!text->length)
+        add_callers(text, p, number, true);
 }
 
 /* ---- Classes. */
@@ -172,54 +315,114 @@ struct class {
     struct class *next;
 };
 
+#define NOT_TOLD (~0UL)
+
 static struct class *classes;
 static unsigned long block; /* a line that isn't indented begins one */
 static char *read_folders[256];
-static size_t folder_count;
+static size_t folder_count, recording_count;
 
-static void read_classes(const char *folder) {
+/* A line of `classes`: name, module, offset and kind, with tabs between them. */
+static void read_class(char *line) {
+    chomp(line);
+    char *rest = line, *name = strsep(&rest, "\t"), *module = strsep(&rest, "\t"), *offset = strsep(&rest, "\t");
+    char *kind = strsep(&rest, "\t");
+    if (!kind)
+        return;
+    struct class *c = checked(malloc(sizeof *c));
+    *c = (struct class){strdup(name), strdup(module), strdup(kind), strtoull(offset, NULL, 16), NOT_TOLD, classes};
+    checked(c->name);
+    checked(c->module);
+    checked(c->kind);
+    classes = c;
+}
+
+static bool read_classes(const char *folder) {
     for (size_t i = 0; i < folder_count; i++)
         if (strcmp(read_folders[i], folder) == 0)
-            return;
-    if (folder_count == 256)
-        return;
-    read_folders[folder_count++] = strdup(folder);
+            return true;
+    if (folder_count == sizeof read_folders / sizeof read_folders[0])
+        return false;
+    read_folders[folder_count++] = checked(strdup(folder));
     char path[PATH + 16], line[PATH * 2];
     snprintf(path, sizeof path, "%s/classes", folder);
     FILE *file = fopen(path, "r");
     if (!file)
-        return;
-    while (fgets(line, sizeof line, file)) {
-        chomp(line);
-        char *name = line, *module = strchr(name, '\t'), *offset = module ? strchr(module + 1, '\t') : NULL;
-        char *kind = offset ? strchr(offset + 1, '\t') : NULL;
-        if (!kind)
-            continue;
-        *module++ = *offset++ = *kind++ = 0;
-        struct class *c = malloc(sizeof *c);
-        if (!c)
-            exit(2);
-        *c = (struct class){strdup(name), strdup(module), strdup(kind), strtoull(offset, NULL, 16), 0, classes};
-        classes = c;
-    }
+        return false;
+    while (fgets(line, sizeof line, file))
+        read_class(line);
     fclose(file);
+    recording_count++;
+    return true;
 }
 
 /* Of several folders with the class the last that was read counts. */
-static void tell_class(const char *name) {
-    struct class *found = NULL;
-    bool is_told = false;
+static struct class *class_named(const char *name) {
     for (struct class *c = classes; c; c = c->next)
-        if (strcmp(c->name, name) == 0) {
-            found = found ? found : c;
-            is_told |= c->told_in == block;
-            c->told_in = block;
-        }
-    if (found && !is_told && strcmp(found->module, "-") != 0)
-        printf(" [%s %s]", found->kind, line_of(found->module, found->offset, strcmp(found->kind, "static") != 0));
+        if (strcmp(c->name, name) == 0)
+            return c;
+    return NULL;
+}
+
+/* The class of a name, which may be that of a single lock: NAME#NUMBER, NAME#rest, or either with ^PROCESS. */
+static struct class *class_of(const char *name) {
+    struct class *found = class_named(name);
+    if (found || !strrchr(name, '#'))
+        return found;
+    char *whole = checked(strndup(name, (size_t)(strrchr(name, '#') - name)));
+    found = class_named(whole);
+    free(whole);
+    return found;
 }
 
 /* ---- The text. */
+
+/* What is put under a line: each of these is a line of its own, unless it is too long. */
+struct note {
+    struct text text;
+};
+
+static struct note *notes;
+static size_t note_count, note_room;
+
+static struct text *new_note(void) {
+    if (note_count == note_room) {
+        note_room = note_room ? 2 * note_room : 16;
+        notes = checked(realloc(notes, note_room * sizeof *notes));
+        memset(notes + note_count, 0, (note_room - note_count) * sizeof *notes);
+    }
+    struct text *text = &notes[note_count++].text;
+    empty(text);
+    return text;
+}
+
+/* Notes where a class is made, unless that was told in this block. */
+static void note_class(const char *name) {
+    struct class *class = class_of(name);
+    if (!class || class->told_in == block || strcmp(class->module, "-") == 0)
+        return;
+    class->told_in = block;
+    struct text *text = new_note();
+    add_demangled(text, class->name);
+    add(text, ": ");
+    add(text, class->kind);
+    add(text, " ");
+    add(text, answer_of(class->module, class->offset, strcmp(class->kind, "static") != 0)->text.bytes);
+}
+
+/* Notes where a record comes from, if that is known. */
+static void note_record(const char *trace, unsigned long number) {
+    struct text place = {0};
+    place_of(&place, trace, number);
+    if (place.length) {
+        char word[40];
+        snprintf(word, sizeof word, "record %lu: ", number);
+        struct text *text = new_note();
+        add(text, word);
+        add(text, place.bytes);
+    }
+    free(place.bytes);
+}
 
 /* The number behind `record `, if the text goes on with one. */
 static bool is_record(const char *text, unsigned long *number, size_t *length) {
@@ -231,6 +434,7 @@ static bool is_record(const char *text, unsigned long *number, size_t *length) {
     return true;
 }
 
+/* The folder that a file is in. */
 static void folder_of(char *to, const char *file) {
     snprintf(to, PATH, "%s", file);
     char *slash = strrchr(to, '/');
@@ -240,70 +444,150 @@ static void folder_of(char *to, const char *file) {
         strcpy(to, ".");
 }
 
-/* The file in front of a record: its records and classes are those that the line goes on with. */
+/* The file in front of a record: its records and classes are those that the line goes on with. The traces of single locks
+   are in a folder of the recording's. */
 static void take_file(char *file, const char *word) {
     snprintf(file, PATH, "%s", word);
-    char folder[PATH];
+    char folder[PATH], outside[PATH];
     folder_of(folder, file);
     read_classes(folder);
+    if (strcmp(base_of(folder), "objects") == 0) {
+        folder_of(outside, folder);
+        read_classes(outside);
+    }
 }
 
-/* A word that may be a class with its subclass; what ends the word stays behind the place. */
-static void tell_word(char *word) {
+/* A word that may be a class with its subclass, and a mark behind it. */
+static void note_word(char *word) {
     size_t length = strlen(word);
-    char end[2] = "";
-    if (word[length - 1] == ':' || word[length - 1] == ',') {
-        end[0] = word[--length];
-        word[length] = 0;
-    }
-    fputs(word, stdout);
+    while (length > 0 && strchr(":,", word[length - 1]))
+        word[--length] = 0;
     if (length > 2 && word[length - 2] == '/' && word[length - 1] >= '0' && word[length - 1] <= '7') {
         word[length - 2] = 0;
-        tell_class(word);
+        note_class(word);
     }
-    fputs(end, stdout);
 }
 
 /* Goes through the words of a line: the file in front of a record, the record, or a class with its subclass. */
-static void tell_line(const char *line) {
+static void note_line(const char *line) {
     char file[PATH] = "", word[PATH];
     const char *p = line;
     while (*p) {
         unsigned long number;
         size_t length;
         if (is_record(p, &number, &length)) {
-            printf("%.*s", (int)length, p);
             if (file[0])
-                tell_record(file, number);
+                note_record(file, number);
             p += length;
             continue;
         }
         length = strcspn(p, " \n");
         if (length == 0 || length >= PATH) {
-            putchar(*p++);
+            p++;
             continue;
         }
         snprintf(word, sizeof word, "%.*s", (int)length, p);
         p += length;
         size_t ignored;
         if (word[length - 1] == ':' && is_record(p + (*p == ' '), &number, &ignored)) {
-            printf("%s", word);
             word[length - 1] = 0;
             take_file(file, word);
         } else {
-            tell_word(word);
+            note_word(word);
         }
     }
 }
 
+/* Where a line that is too long is broken: at the last space within the width, else at the first one behind it. */
+static size_t break_of(const char *text, size_t indent) {
+    size_t room = WIDTH > indent ? WIDTH - indent : 1, found = 0, i = 0;
+    for (; text[i] && (i <= room || !found); i++)
+        if (text[i] == ' ')
+            found = i;
+    return text[i] || i > room ? found : 0;
+}
+
+/* Writes a line at an indentation. What is too long goes on in lines that are indented further. */
+static void write_broken(const char *text, size_t indent) {
+    size_t end = break_of(text, indent);
+    printf("%*s%.*s\n", (int)indent, "", (int)(end ? end : strlen(text)), text);
+    indent += INDENT;
+    while (end) {
+        text += end + 1;
+        end = break_of(text, indent);
+        printf("%*s%.*s\n", (int)indent, "", (int)(end ? end : strlen(text)), text);
+    }
+}
+
+/* Writes a note. A chain of callers that is too long has a line for each. */
+static void write_note(const char *text, size_t indent) {
+    const char *caller = strstr(text, CALLED_FROM);
+    if (!caller || strlen(text) + indent <= WIDTH) {
+        write_broken(text, indent);
+        return;
+    }
+    printf("%*s%.*s\n", (int)indent, "", (int)(caller - text), text);
+    while (caller) {
+        const char *next = strstr(caller + 1, CALLED_FROM);
+        printf("%*s%.*s\n", (int)(indent + INDENT - 1), "", (int)(next ? next - caller : (long)strlen(caller)), caller);
+        caller = next;
+    }
+}
+
+static void tell_line(char *line) {
+    static struct text told;
+    chomp(line);
+    note_count = 0;
+    note_line(line);
+    size_t indent = strspn(line, " ");
+    empty(&told);
+    add_demangled(&told, line + indent);
+    write_broken(told.bytes, indent);
+    for (size_t i = 0; i < note_count; i++)
+        write_note(notes[i].text.bytes, indent + INDENT);
+}
+
+/* Whether the line says that something was found, as `explain` and `check` say it. */
+static bool is_finding(const char *line) {
+    return (begins_with(line, "findings ") && strcmp(line, "findings 0\n") != 0) || strcmp(line, "clean no\n") == 0;
+}
+
+static const char usage[] =
+    "Puts under each line of a text where its locks and records are in the source.\n"
+    "\n"
+    "Usage: where [FOLDER] <TEXT\n"
+    "\n"
+    "  FOLDER  the recording, `traces` if it isn't given. Recordings whose traces the text names are found by that\n"
+    "\n"
+    "The text is mostly what `lockdep explain` writes. The status is 0; 1 if the text says that something was found; and 2 if\n"
+    "there is no text, as from a command that failed, or no recording.\n";
+
 int main(int argc, char **argv) {
-    read_classes(argc > 1 ? argv[1] : "traces");
+    if (argc > 1 && (strcmp(argv[1], "--help") == 0 || strcmp(argv[1], "-h") == 0)) {
+        fputs(usage, stdout);
+        return 0;
+    }
+    if (argc > 2)
+        refuse("one folder, and not %d; `where --help` says how to call this", argc - 1);
+    if (argc > 1 && !read_classes(argv[1]))
+        refuse("%s has no recording", argv[1]);
+    if (argc <= 1)
+        read_classes("traces");
+    look_for_addr2line();
     char *line = NULL;
-    size_t room = 0;
-    while (getline(&line, &room, stdin) >= 0) {
+    size_t room = 0, lines = 0;
+    bool is_found = false;
+    for (; getline(&line, &room, stdin) >= 0; lines++) {
         block += line[0] != ' ';
+        is_found |= is_finding(line);
         tell_line(line);
     }
     free(line);
-    return 0;
+    if (lines == 0)
+        refuse("there is no text: was what should write it refused?");
+    if (recording_count == 0)
+        refuse("there is no recording: no folder was given, `traces` has none, and the text names no trace of one");
+    if (fflush(stdout) != 0)
+        refuse("the text can't be written");
+    return is_found ? 1 : 0;
 }

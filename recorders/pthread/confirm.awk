@@ -1,0 +1,282 @@
+# Tells of each finding of an explanation by classes what was seen of it between single locks. It reads, each behind the word
+# that names it:
+#
+#   mode=keys       the report by classes
+#   mode=circles    the report by single locks
+#   mode=chains     what `lockdep chains` writes of each trace of single locks, behind a line `task N`
+#   mode=classes    the explanation by classes
+#   mode=locks      the explanation by single locks
+#
+# With is_strict=1 the status is 1 only if a finding was seen between locks that nothing keeps apart.
+
+# How many steps the search for circles of one finding may take.
+BEGIN { MOST_STEPS = 20000; CONFIRMED = 1; GATED = 2; ALONE = 3; ONLY_CLASSES = 4; WORST = 5 }
+
+# ---- What is read.
+
+mode == "keys" && $1 == "usage" { is_class[$2] = 1 }
+
+# The class of a key of single locks: NAME#NUMBER/SUB or NAME#rest/SUB, with ^PROCESS before the slash or not.
+function class_of(key,    name, sub_class) {
+    if (key in is_class) return key
+    match(key, /\/[0-7]$/)
+    name = substr(key, 1, RSTART - 1)
+    sub_class = substr(key, RSTART)
+    sub(/\^[0-9]+$/, "", name)
+    if (!((name sub_class) in is_class)) sub(/#([0-9]+|rest)$/, "", name)
+    return name sub_class
+}
+
+mode == "circles" && $1 == "circle" {
+    count++
+    number_of[$2 " " $3 " " $4] = count
+    from[count] = $2
+    kind[count] = $3
+    to[count] = $4
+    class[count] = class_of($2) " " $3 " " class_of($4)
+    leaving[$2] = leaving[$2] " " count
+}
+
+mode == "chains" && $1 == "task" { task = $2 }
+
+# An acquisition: the dependencies on circles that it gives, each with its task and with what else was held as a writer.
+mode == "chains" && $1 == "acq" && $3 !~ /^t/ && $8 > 0 {
+    split("", writers)
+    for (i = 9; i < NF; i += 2) if ($(i + 1) ~ /^t?w$/) writers[$i] = 1
+    for (i = 9; i < NF; i += 2) {
+        order = $i " " ($(i + 1) ~ /^t?w$/ ? "E" : "S") ($3 == "rr" ? "R" : "N") " " $2
+        if (order in number_of) note_order(number_of[order])
+    }
+}
+
+function note_order(d,    key) {
+    seen[d]++
+    if (!((d, task) in is_of_task)) {
+        is_of_task[d, task] = 1
+        tasks_of[d] = tasks_of[d] " " task
+    }
+    for (key in writers) if (key != from[d] && key != to[d]) under[d, key]++
+    if (seen[d] == 1) for (key in writers) gates_of[d] = gates_of[d] " " key
+}
+
+# The blocks of both explanations.
+mode == "classes" || mode == "locks" {
+    if ($1 == "findings" || NF == 0) next
+    if ($0 !~ /^ /) {
+        blocks++
+        first[blocks] = $0
+        is_of_locks[blocks] = mode == "locks"
+    }
+    text[blocks] = text[blocks] $0 "\n"
+}
+
+# ---- Circles of single locks.
+
+# Whether the second order may follow the first: it begins with the lock that the first waits for, and is blocked there.
+function may_follow(i, j) { return to[i] == from[j] && !(substr(kind[i], 2) == "R" && substr(kind[j], 1, 1) == "S") }
+
+# A lock that all orders of a circle are taken under. Locks that share a name are no gate.
+function gate(circle, length_of,    candidates, n, i, k) {
+    n = split(gates_of[circle[1]], candidates, " ")
+    for (k = 1; k <= n; k++) {
+        if (candidates[k] ~ /#rest(\^[0-9]+)?\/[0-7]$/) continue
+        for (i = 1; i <= length_of; i++)
+            if (under[circle[i], candidates[k]] != seen[circle[i]] || candidates[k] == from[circle[i]]) break
+        if (i > length_of) return candidates[k]
+    }
+    return ""
+}
+
+function count_tasks(circle, length_of,    all, found, list, n, i, k) {
+    for (i = 1; i <= length_of; i++) {
+        n = split(tasks_of[circle[i]], list, " ")
+        for (k = 1; k <= n; k++) if (!(list[k] in all)) {
+            all[list[k]] = 1
+            found++
+        }
+    }
+    return found + 0
+}
+
+# The key without its subclass, if that is 0.
+function plain(key) {
+    sub(/\/0$/, "", key)
+    return key
+}
+
+# The locks of a circle, beginning with an order of the class that the finding begins with.
+function locks_of(circle, length_of, begin,    i, start, list, rest, key) {
+    start = 1
+    for (i = 1; i <= length_of; i++) if (class[circle[i]] == begin) { start = i; break }
+    for (i = 0; i < length_of; i++) {
+        key = from[circle[(start - 1 + i) % length_of + 1]]
+        list = list (i ? ", " : "") plain(key)
+        if (key ~ /#rest(\^[0-9]+)?\/[0-7]$/ && !rest) rest = plain(key)
+    }
+    return list (rest ? " (" rest " is several locks)" : "")
+}
+
+# Keeps the line of a circle for the finding if none that is worse was kept.
+function judge(circle, length_of,    threads, rank, locks, line, passes) {
+    threads = count_tasks(circle, length_of)
+    locks = locks_of(circle, length_of, wanted[1])
+    passes = gate(circle, length_of)
+    if (length_of == 1 && locks !~ / is several locks/) {
+        rank = CONFIRMED
+        line = locks " under itself, by " threads " thread" (threads == 1 ? "" : "s")
+    } else if (passes != "") {
+        rank = GATED
+        line = locks ", under " plain(passes)
+    } else if (threads <= 1) {
+        rank = ALONE
+        line = locks ", by one thread"
+    } else {
+        rank = CONFIRMED
+        line = locks ", by " threads " threads"
+    }
+    if (rank < best_rank || (rank == best_rank && length_of < best_length)) {
+        best_rank = rank
+        best_length = length_of
+        best_line = "seen between locks: " line
+    }
+}
+
+# Takes the circle on the path if it has all orders of the finding.
+function take(length_of,    i, found, classes) {
+    for (i = 1; i <= length_of; i++) if (!(class[path[i]] in classes)) {
+        classes[class[path[i]]] = 1
+        found++
+    }
+    if (found < wanted_count) return
+    for (i = 1; i <= length_of; i++) is_told[path[i]] = 1
+    judge(path, length_of)
+}
+
+# Goes on from the last order of the path through locks that aren't on it, until it is back where it began. A circle is found
+# from the order that has the least number of its orders.
+function search(length_of,    last, next_orders, n, k, d) {
+    if (++steps > MOST_STEPS) return
+    last = path[length_of]
+    if (to[last] == from[path[1]]) {
+        if (may_follow(last, path[1])) take(length_of)
+        return
+    }
+    n = split(leaving[to[last]], next_orders, " ")
+    for (k = 1; k <= n; k++) {
+        d = next_orders[k] + 0
+        if (d <= path[1] || !(class[d] in is_wanted) || to[d] in is_on_path || !may_follow(last, d)) continue
+        path[length_of + 1] = d
+        is_on_path[to[d]]
+        search(length_of + 1)
+        delete is_on_path[to[d]]
+    }
+}
+
+function search_from(d) {
+    split("", is_on_path)
+    path[1] = d
+    is_on_path[to[d]]
+    search(1)
+}
+
+# The circles that the explanation by single locks tells: they may pass a lock twice, which the search doesn't.
+function search_blocks(    b, words, n, i, length_of) {
+    for (b = 1; b <= blocks; b++) if (is_of_locks[b] && first[b] ~ /^circle /) {
+        n = split(first[b], words, " ")
+        length_of = 0
+        for (i = 2; i + 2 <= n; i += 2) {
+            path[++length_of] = number_of[words[i] " " words[i + 1] " " words[i + 2]]
+            if (!(class[path[length_of]] in is_wanted)) break
+        }
+        if (i + 2 > n) take(length_of)
+    }
+}
+
+# The orders of a finding's first line, `circle KEY KIND KEY ...`, as they are in the table of orders.
+function read_walk(line,    words, n, i, order) {
+    split("", is_wanted)
+    split("", wanted)
+    wanted_count = 0
+    n = split(line, words, " ")
+    for (i = 2; i + 2 <= n; i += 2) {
+        order = words[i] " " words[i + 1] " " words[i + 2]
+        wanted[++walk_length] = order
+        if (order in is_wanted) continue
+        is_wanted[order] = 1
+        wanted_count++
+    }
+}
+
+# ---- Findings.
+
+function begin_finding(b) {
+    walk_length = steps = 0
+    best_rank = WORST
+    best_length = 0
+    best_line = ""
+    read_walk(first[b])
+}
+
+function end_finding(b) {
+    rank_of[b] = best_rank
+    line_of[b] = best_line
+    findings++
+}
+
+# A finding by classes: the worst circle of locks with just its orders.
+function tell_classes(b,    d) {
+    begin_finding(b)
+    search_blocks()
+    for (d = 1; d <= count; d++) if (class[d] in is_wanted) search_from(d)
+    if (best_rank == WORST) {
+        best_rank = ONLY_CLASSES
+        best_line = "seen only between classes; no two locks were taken both ways"
+    }
+    if (steps > MOST_STEPS && best_rank != CONFIRMED) {
+        best_rank = CONFIRMED
+        best_line = "not known whether seen between locks: there are more circles than were looked at"
+        for (d = 1; d <= count; d++) if (class[d] in is_wanted) is_told[d] = 1
+    }
+    end_finding(b)
+}
+
+# A finding by locks, if it has an order that no finding by classes told: its own circle.
+function tell_locks(b,    i, is_new) {
+    begin_finding(b)
+    for (i = 1; i <= walk_length; i++) {
+        path[i] = number_of[wanted[i]]
+        if (!is_told[path[i]]) is_new = 1
+    }
+    if (!is_new) return
+    for (i = 1; i <= walk_length; i++) is_told[path[i]] = 1
+    wanted[1] = class[path[1]]
+    judge(path, walk_length)
+    end_finding(b)
+}
+
+# What isn't a circle is told as it is.
+function tell(b) {
+    if (first[b] !~ /^circle /) {
+        if (!is_of_locks[b]) {
+            rank_of[b] = CONFIRMED
+            findings++
+        }
+    } else if (is_refused) {
+        rank_of[b] = CONFIRMED
+        line_of[b] = "not known whether seen between locks: the traces of single locks were refused"
+        findings++
+    } else if (is_of_locks[b]) tell_locks(b)
+    else tell_classes(b)
+}
+
+END {
+    for (b = 1; b <= blocks; b++) tell(b)
+    print "findings " findings + 0
+    for (rank = CONFIRMED; rank <= ONLY_CLASSES; rank++)
+        for (b = 1; b <= blocks; b++) if (rank_of[b] == rank) {
+            printf "\n%s", text[b]
+            if (line_of[b] != "") print "  " line_of[b]
+            confirmed += rank == CONFIRMED
+        }
+    exit (is_strict ? confirmed > 0 : findings > 0)
+}

@@ -1,0 +1,207 @@
+/* Says why a recording of a program may see none of its locks, as far as its file shows that: look FILE
+
+   Writes one word a line: `static`, `setuid`, `other-machine`, `other-libc`, `go`, `rust`, `libpython`, `libjvm`, and
+   `no-pthread-import` if the program itself calls no function of a pthread lock. Of a script the interpreter is looked at. */
+#define _GNU_SOURCE
+#include <elf.h>
+#include <fcntl.h>
+#include <limits.h>
+#include <stdbool.h>
+#include <stdint.h>
+#include <stdio.h>
+#include <stdlib.h>
+#include <string.h>
+#include <sys/mman.h>
+#include <sys/stat.h>
+#include <sys/xattr.h>
+#include <unistd.h>
+
+/* How many interpreters of interpreters are followed. */
+#define MOST_SCRIPTS 4
+
+/* The machine that this program was built for, which is that of the preload library. */
+#if defined(__x86_64__)
+#define MACHINE EM_X86_64
+#elif defined(__aarch64__)
+#define MACHINE EM_AARCH64
+#elif defined(__riscv)
+#define MACHINE EM_RISCV
+#elif defined(__powerpc64__)
+#define MACHINE EM_PPC64
+#elif defined(__s390x__)
+#define MACHINE EM_S390
+#else
+#define MACHINE EM_NONE
+#endif
+
+struct file {
+    const char *bytes;
+    size_t size;
+};
+
+static bool open_file(const char *path, struct file *file) {
+    int fd = open(path, O_RDONLY | O_CLOEXEC);
+    struct stat about;
+    if (fd < 0)
+        return false;
+    bool is_read = fstat(fd, &about) == 0 && about.st_size > 0;
+    void *bytes = is_read ? mmap(NULL, (size_t)about.st_size, PROT_READ, MAP_PRIVATE, fd, 0) : MAP_FAILED;
+    close(fd);
+    *file = (struct file){bytes, (size_t)about.st_size};
+    return bytes != MAP_FAILED;
+}
+
+/* A part of the file, or nothing if it doesn't lie within it. */
+static const void *part(const struct file *file, uint64_t offset, uint64_t size) {
+    return offset <= file->size && size <= file->size - offset ? file->bytes + offset : NULL;
+}
+
+static bool has(const struct file *file, const char *text) { return memmem(file->bytes, file->size, text, strlen(text)); }
+
+/* ---- Scripts. */
+
+/* The file of a name that `env` is given, on the PATH. */
+static bool find(const char *name, char *found) {
+    const char *folders = getenv("PATH");
+    for (; folders; folders = strchr(folders, ':') ? strchr(folders, ':') + 1 : NULL) {
+        snprintf(found, PATH_MAX, "%.*s/%s", (int)strcspn(folders, ":"), folders, name);
+        if (access(found, X_OK) == 0)
+            return true;
+    }
+    return false;
+}
+
+/* The interpreter that the first line of a script names; behind `env` the first word that is neither an option nor a
+   variable. */
+static bool interpreter(const struct file *file, char *found) {
+    char line[256], *rest = NULL;
+    if (file->size < 2 || memcmp(file->bytes, "#!", 2) != 0)
+        return false;
+    size_t length = file->size - 2 < sizeof line - 1 ? file->size - 2 : sizeof line - 1;
+    memcpy(line, file->bytes + 2, length);
+    line[length] = 0;
+    line[strcspn(line, "\n")] = 0;
+    const char *word = strtok_r(line, " \t", &rest);
+    if (!word)
+        return false;
+    const char *slash = strrchr(word, '/');
+    if (strcmp(slash ? slash + 1 : word, "env") != 0) {
+        snprintf(found, PATH_MAX, "%s", word);
+        return true;
+    }
+    do
+        word = strtok_r(NULL, " \t", &rest);
+    while (word && (word[0] == '-' || strchr(word, '=')));
+    return word && find(word, found);
+}
+
+/* ---- Programs. */
+
+/* Whether the loader will pass over what is preloaded, since the program gets rights that its caller doesn't have. */
+static bool gets_rights(const char *path) {
+    struct stat about;
+    if (stat(path, &about) != 0)
+        return false;
+    return ((about.st_mode & S_ISUID) && about.st_uid != getuid()) ||
+           ((about.st_mode & S_ISGID) && about.st_gid != getgid()) ||
+           (geteuid() != 0 && getxattr(path, "security.capability", NULL, 0) > 0);
+}
+
+/* The name of the loader that the program asks for; empty if it asks for none. */
+static void read_loader(const struct file *file, const Elf64_Ehdr *head, char *loader, size_t room) {
+    loader[0] = 0;
+    const Elf64_Phdr *parts = part(file, head->e_phoff, (uint64_t)head->e_phnum * sizeof *parts);
+    for (int i = 0; parts && i < head->e_phnum; i++) {
+        const char *name = parts[i].p_type == PT_INTERP ? part(file, parts[i].p_offset, parts[i].p_filesz) : NULL;
+        if (name)
+            snprintf(loader, room, "%.*s", (int)parts[i].p_filesz, name);
+    }
+}
+
+/* The program's dynamic symbols with their names, or none. */
+struct symbols {
+    const Elf64_Sym *list;
+    size_t count;
+    const char *names;
+    size_t names_size;
+};
+
+static struct symbols read_symbols(const struct file *file, const Elf64_Ehdr *head) {
+    struct symbols none = {0}, found = {0};
+    const Elf64_Shdr *parts = part(file, head->e_shoff, (uint64_t)head->e_shnum * sizeof *parts);
+    for (int i = 0; parts && i < head->e_shnum; i++) {
+        if (parts[i].sh_type != SHT_DYNSYM || parts[i].sh_link >= head->e_shnum)
+            continue;
+        const Elf64_Shdr *names = &parts[parts[i].sh_link];
+        found.list = part(file, parts[i].sh_offset, parts[i].sh_size);
+        found.count = parts[i].sh_size / sizeof *found.list;
+        found.names = part(file, names->sh_offset, names->sh_size);
+        found.names_size = names->sh_size;
+    }
+    bool is_whole = found.list && found.names && found.names_size && !found.names[found.names_size - 1];
+    return is_whole ? found : none;
+}
+
+static bool begins_with(const char *text, const char *start) { return strncmp(text, start, strlen(start)) == 0; }
+
+static bool is_lock_call(const char *name) {
+    static const char *const starts[] = {"pthread_mutex_", "pthread_rwlock_", "pthread_spin_", "mtx_", "pthread_once"};
+    for (size_t i = 0; i < sizeof starts / sizeof starts[0]; i++)
+        if (begins_with(name, starts[i]))
+            return true;
+    return false;
+}
+
+static bool calls_locks(const struct symbols *symbols) {
+    for (size_t i = 0; i < symbols->count; i++)
+        if (symbols->list[i].st_shndx == SHN_UNDEF && symbols->list[i].st_name < symbols->names_size &&
+            is_lock_call(symbols->names + symbols->list[i].st_name))
+            return true;
+    return false;
+}
+
+static bool names_any(const struct symbols *symbols, const char *text) {
+    return symbols->names && memmem(symbols->names, symbols->names_size, text, strlen(text));
+}
+
+static void say(bool is_so, const char *word) {
+    if (is_so)
+        puts(word);
+}
+
+static void look_at_program(const struct file *file) {
+    const Elf64_Ehdr *head = part(file, 0, sizeof *head);
+    if (!head || memcmp(head->e_ident, ELFMAG, SELFMAG) != 0)
+        return;
+    if (head->e_ident[EI_CLASS] != ELFCLASS64 || (MACHINE != EM_NONE && head->e_machine != MACHINE)) {
+        puts("other-machine");
+        return;
+    }
+    char loader[PATH_MAX];
+    read_loader(file, head, loader, sizeof loader);
+    struct symbols symbols = read_symbols(file, head);
+    say(!loader[0], "static");
+    say(strstr(loader, "musl"), "other-libc");
+    say(has(file, "\xff Go buildinf:"), "go");
+    say(has(file, "RUST_BACKTRACE"), "rust");
+    say(names_any(&symbols, "libpython") || names_any(&symbols, "Py_BytesMain"), "libpython");
+    say(names_any(&symbols, "libjvm") || names_any(&symbols, "libjli"), "libjvm");
+    say(loader[0] && symbols.count > 0 && !calls_locks(&symbols), "no-pthread-import");
+}
+
+int main(int argc, char **argv) {
+    if (argc != 2) {
+        fputs("look: this is a part of `record`\n", stderr);
+        return 2;
+    }
+    char path[PATH_MAX];
+    snprintf(path, sizeof path, "%s", argv[1]);
+    struct file file;
+    bool is_open = open_file(path, &file);
+    for (int scripts = 0; is_open && scripts < MOST_SCRIPTS && interpreter(&file, path); scripts++)
+        is_open = open_file(path, &file);
+    say(gets_rights(path), "setuid");
+    if (is_open)
+        look_at_program(&file);
+    return 0;
+}

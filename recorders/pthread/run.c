@@ -1,0 +1,303 @@
+/* What `record` needs besides a shell:
+
+     run find COMMAND                    writes the file that COMMAND is. Status 127 if there is none, 126 if it can't be run
+     run lock                            locks the file that is open as number 9, for as long as anybody has it open. Status 1 if
+                                         somebody else holds the lock
+     run go [--no-wait] RECORD FOLDER COMMAND...
+                                         runs COMMAND with the preload library, passes signals on to it, waits for what it leaves
+                                         in the background, and becomes `RECORD --end FOLDER STATUS`, with `left` behind it if
+                                         something is still running. The library is PRELOAD of the environment */
+#define _GNU_SOURCE
+#include <ctype.h>
+#include <dirent.h>
+#include <errno.h>
+#include <signal.h>
+#include <stdbool.h>
+#include <stdio.h>
+#include <stdlib.h>
+#include <string.h>
+#include <sys/file.h>
+#include <sys/prctl.h>
+#include <sys/stat.h>
+#include <sys/wait.h>
+#include <time.h>
+#include <unistd.h>
+
+#define PATH 4096
+
+/* The open file whose lock says that a recording is under way. */
+#define LOCK 9
+
+#define NOT_FOUND 127
+#define NOT_RUNNABLE 126
+
+/* How long the end of what was left in the background is waited for without a word. */
+#define PATIENCE_NANOSECONDS 500000000
+
+/* ---- Finding the command. */
+
+static bool is_file(const char *path) {
+    struct stat about;
+    return stat(path, &about) == 0 && S_ISREG(about.st_mode);
+}
+
+/* Whether the path can be run. If it is there and can't be, `status` says so. */
+static bool is_runnable(const char *path, int *status) {
+    struct stat about;
+    if (stat(path, &about) != 0)
+        return false;
+    if (is_file(path) && access(path, X_OK) == 0)
+        return true;
+    *status = NOT_RUNNABLE;
+    return false;
+}
+
+/* Looks through the folders of PATH, an empty one being the current folder, as execvp does. */
+static bool is_on_path(const char *command, char *found, int *status) {
+    const char *folders = getenv("PATH");
+    if (!folders)
+        folders = "/bin:/usr/bin";
+    for (;;) {
+        size_t length = strcspn(folders, ":");
+        snprintf(found, PATH, "%.*s%s%s", (int)length, folders, length ? "/" : "./", command);
+        if (is_runnable(found, status))
+            return true;
+        if (!folders[length])
+            return false;
+        folders += length + 1;
+    }
+}
+
+static int find(const char *command) {
+    char found[PATH];
+    int status = NOT_FOUND;
+    snprintf(found, sizeof found, "%s", command);
+    if (strchr(command, '/') ? is_runnable(found, &status) : (*command && is_on_path(command, found, &status))) {
+        puts(found);
+        return 0;
+    }
+    fprintf(stderr, "record: %s: %s\n", command, status == NOT_FOUND ? "there is no such command" : "it can't be run");
+    return status;
+}
+
+/* ---- Processes that are left in the background. */
+
+/* The parent and the name of a process, from `PID (NAME) STATE PARENT`; the name may have anything in it. */
+static bool read_process(const char *number, pid_t *parent, char *name, size_t room) {
+    char path[300], line[512];
+    snprintf(path, sizeof path, "/proc/%s/stat", number);
+    FILE *file = fopen(path, "r");
+    if (!file)
+        return false;
+    size_t length = fread(line, 1, sizeof line - 1, file);
+    fclose(file);
+    line[length] = 0;
+    char *begin = strchr(line, '('), *end = strrchr(line, ')');
+    if (!begin || !end || end < begin)
+        return false;
+    *end = 0;
+    snprintf(name, room, "%s", begin + 1);
+    char state;
+    int number_of_parent;
+    if (sscanf(end + 1, " %c %d", &state, &number_of_parent) != 2)
+        return false;
+    *parent = number_of_parent;
+    return true;
+}
+
+/* Goes through the processes that came to this one when their parents ended: signals them, or names them. */
+static void each_left(int signal_number, bool is_named) {
+    DIR *processes = opendir("/proc");
+    if (!processes)
+        return;
+    const char *before = " ";
+    for (struct dirent *entry; (entry = readdir(processes));) {
+        pid_t parent;
+        char name[64];
+        if (!isdigit((unsigned char)entry->d_name[0]) || !read_process(entry->d_name, &parent, name, sizeof name) ||
+            parent != getpid())
+            continue;
+        if (signal_number)
+            kill(atoi(entry->d_name), signal_number);
+        if (is_named)
+            fprintf(stderr, "%s%s (%s)", before, entry->d_name, name);
+        before = ", ";
+    }
+    closedir(processes);
+}
+
+static void say_waiting(void) {
+    fputs("record: the command has ended; waiting for what it left in the background:", stderr);
+    each_left(0, true);
+    fputs("\nrecord: a signal goes on to that, and a second one ends the recording\n", stderr);
+}
+
+static void say_left(void) {
+    fputs("record: still running, and recorded only up to here:", stderr);
+    each_left(0, true);
+    fputs("\n", stderr);
+}
+
+/* ---- Running the command. */
+
+static const int passed_on[] = {SIGHUP, SIGINT, SIGQUIT, SIGTERM, SIGUSR1, SIGUSR2};
+#define PASSED_ON (sizeof passed_on / sizeof passed_on[0])
+
+/* What the child sees of this one's preparations: nothing but two variables. */
+static void become(char **command, const sigset_t *mask, const struct sigaction *child_ended) {
+    const char *preload = getenv("PRELOAD"), *others = getenv("LD_PRELOAD");
+    char all[2 * PATH];
+    snprintf(all, sizeof all, "%s%s%s", preload ? preload : "", others && *others ? ":" : "", others ? others : "");
+    setenv("LD_PRELOAD", all, 1);
+    unsetenv("PRELOAD");
+    close(LOCK);
+    sigaction(SIGCHLD, child_ended, NULL);
+    sigprocmask(SIG_SETMASK, mask, NULL);
+    execvp(command[0], command);
+    int status = errno == ENOENT ? NOT_FOUND : NOT_RUNNABLE;
+    fprintf(stderr, "record: %s: %s\n", command[0], strerror(errno));
+    _exit(status);
+}
+
+struct run {
+    pid_t command;
+    bool has_ended, is_waiting, is_told, is_over;
+    int status; /* the command's, once it has ended */
+    unsigned signals; /* how many came after the command's end */
+};
+
+static int status_of(int waited) { return WIFSIGNALED(waited) ? 128 + WTERMSIG(waited) : WEXITSTATUS(waited); }
+
+/* Takes note of every process that has ended. */
+static void reap(struct run *run) {
+    for (;;) {
+        int waited;
+        pid_t ended = waitpid(-1, &waited, WNOHANG);
+        if (ended == run->command) {
+            run->has_ended = true;
+            run->status = status_of(waited);
+            run->is_over |= !run->is_waiting;
+        }
+        if (ended == 0)
+            return;
+        if (ended < 0 && errno != EINTR) {
+            run->is_over = true;
+            return;
+        }
+    }
+}
+
+/* A signal of the terminal's goes to its whole foreground group: the command has it already if it is in this one's. */
+static bool has_it_already(const struct run *run, const siginfo_t *info) {
+    return info->si_code == SI_KERNEL && getpgid(run->command) == getpgrp();
+}
+
+static void pass_on(struct run *run, const siginfo_t *info) {
+    if (!run->has_ended) {
+        if (!has_it_already(run, info))
+            kill(run->command, info->si_signo);
+        return;
+    }
+    run->signals++;
+    if (run->signals == 1)
+        each_left(info->si_signo, false);
+    else
+        run->is_over = true;
+}
+
+/* Waits for the next signal. After the command's end what is left is named once, if it doesn't end soon. */
+static void step(struct run *run, const sigset_t *awaited) {
+    siginfo_t info;
+    struct timespec patience = {0, PATIENCE_NANOSECONDS};
+    int signal_number;
+    if (run->has_ended && !run->is_told)
+        signal_number = sigtimedwait(awaited, &info, &patience);
+    else
+        signal_number = sigwaitinfo(awaited, &info);
+    if (signal_number > 0 && signal_number != SIGCHLD)
+        pass_on(run, &info);
+    if (signal_number < 0 && errno == EAGAIN) {
+        say_waiting();
+        run->is_told = true;
+    }
+    reap(run);
+}
+
+/* Becomes `RECORD --end`, which the signals that were passed on don't disturb. */
+static int end(const struct run *run, const char *record, const char *folder, bool is_left) {
+    for (size_t i = 0; i < PASSED_ON; i++)
+        signal(passed_on[i], SIG_IGN);
+    sigset_t none;
+    sigemptyset(&none);
+    sigprocmask(SIG_SETMASK, &none, NULL);
+    char status[16];
+    snprintf(status, sizeof status, "%d", run->status);
+    execl(record, record, "--end", folder, status, is_left ? "left" : NULL, (char *)NULL);
+    fprintf(stderr, "record: %s: %s\n", record, strerror(errno));
+    return 2;
+}
+
+/* A signal that this one was told to ignore, as by nohup, is the command's affair alone: it ignores it too. */
+static void await_signals(sigset_t *awaited) {
+    sigemptyset(awaited);
+    sigaddset(awaited, SIGCHLD);
+    for (size_t i = 0; i < PASSED_ON; i++) {
+        struct sigaction action;
+        if (sigaction(passed_on[i], NULL, &action) == 0 && action.sa_handler != SIG_IGN)
+            sigaddset(awaited, passed_on[i]);
+    }
+}
+
+/* Whether a process that was left to this one is still running. */
+static bool is_something_left(void) {
+    pid_t ended;
+    do
+        ended = waitpid(-1, NULL, WNOHANG);
+    while (ended > 0);
+    return ended == 0;
+}
+
+static int go(bool is_waiting, const char *record, const char *folder, char **command) {
+    sigset_t awaited, before;
+    struct sigaction child_ended;
+    sigaction(SIGCHLD, NULL, &child_ended);
+    signal(SIGCHLD, SIG_DFL);
+    await_signals(&awaited);
+    sigprocmask(SIG_BLOCK, &awaited, &before);
+    prctl(PR_SET_CHILD_SUBREAPER, 1);
+    struct run run = {.command = fork(), .is_waiting = is_waiting};
+    if (run.command < 0) {
+        fprintf(stderr, "record: no process can be started: %s\n", strerror(errno));
+        run = (struct run){.status = NOT_RUNNABLE, .has_ended = true, .is_over = true};
+    }
+    if (run.command == 0)
+        become(command, &before, &child_ended);
+    while (!run.is_over)
+        step(&run, &awaited);
+    bool is_left = is_something_left();
+    if (is_left)
+        say_left();
+    return end(&run, record, folder, is_left);
+}
+
+static int lock(void) {
+    if (flock(LOCK, LOCK_EX | LOCK_NB) == 0)
+        return 0;
+    if (errno == EWOULDBLOCK)
+        return 1;
+    fprintf(stderr, "record: the folder can't be locked: %s\n", strerror(errno));
+    return 2;
+}
+
+int main(int argc, char **argv) {
+    if (argc == 3 && strcmp(argv[1], "find") == 0)
+        return find(argv[2]);
+    if (argc == 2 && strcmp(argv[1], "lock") == 0)
+        return lock();
+    bool is_waiting = argc < 3 || strcmp(argv[2], "--no-wait") != 0;
+    int first = is_waiting ? 2 : 3;
+    if (argc > first + 2 && strcmp(argv[1], "go") == 0)
+        return go(is_waiting, argv[first], argv[first + 1], argv + first + 2);
+    fputs("run: this is a part of `record`\n", stderr);
+    return 2;
+}
