@@ -65,6 +65,8 @@ static void tell_losses(FILE *file) {
     tell_loss(file, "beyond-held", sums.deep + raw->deep,
               "acquisitions with 48 locks held already: an order among them may be missing");
     tell_loss(file, "tries", sums.tries, "try acquisitions, which version 1 of the format can't say: orders that begin with one are missing");
+    tell_loss(file, "retried-tries", raw->retried,
+              "tries of a lock right after one that failed, with other locks held: a thread that waits so is in no trace");
     tell_loss(file, "reentered", raw->reentered,
               "calls from a signal handler that interrupted the recorder: an order among them may be missing");
     tell_loss(file, "unseen-releases", raw->releases,

@@ -63,15 +63,40 @@ static inline bool resolved(void) { return LIKELY(LOAD(&resolve_state) == 2) || 
 
 static inline bool took(int answer) { return answer == 0 || answer == EOWNERDEAD; }
 
-#define TAKING(name, mode, exclusive, parameters, arguments)                                                           \
+/* A call that takes a lock or fails at once. */
+#define TRYING(name, mode, parameters, arguments)                                                                      \
     EXPORT int name parameters {                                                                                       \
         if (!resolved())                                                                                               \
             return 0;                                                                                                  \
         int answer = real_##name arguments;                                                                            \
+        tried((uintptr_t)lock, !took(answer));                                                                         \
         if (took(answer))                                                                                              \
-            acquired((uintptr_t)lock, mode, exclusive, HERE);                                                          \
+            acquired((uintptr_t)lock, mode, IS_EXCLUSIVE(lock), HERE);                                                 \
         return answer;                                                                                                 \
     }
+
+/* A call that may wait. The lock is tried first; only if it is taken by another is it waited for, and that is written before. What
+   a call would refuse for another reason than that, it refuses as before: `is_sound` says that it may be tried. */
+#define TAKING(name, try, taken, mode, is_sound, parameters, arguments)                                                \
+    EXPORT int name parameters {                                                                                       \
+        if (!resolved())                                                                                               \
+            return 0;                                                                                                  \
+        int answer = is_sound ? real_##try(lock) : taken;                                                              \
+        if (answer != taken) {                                                                                         \
+            if (took(answer))                                                                                          \
+                acquired((uintptr_t)lock, mode, IS_EXCLUSIVE(lock), HERE);                                             \
+            return answer;                                                                                             \
+        }                                                                                                              \
+        bool is_wish = begin_wish((uintptr_t)lock, mode, HERE);                                                        \
+        answer = real_##name arguments;                                                                                \
+        if (is_wish)                                                                                                   \
+            end_wish((uintptr_t)lock, took(answer), HERE);                                                             \
+        return answer;                                                                                                 \
+    }
+
+/* A mutex that its holder takes again is a recursive one, and is taken once. */
+#define IS_EXCLUSIVE(lock) _Generic((lock), pthread_mutex_t *: true, mtx_t *: true, default: false)
+#define IS_CLOCK(clock) ((clock) == CLOCK_REALTIME || (clock) == CLOCK_MONOTONIC)
 
 #define RELEASING(name, type)                                                                                          \
     EXPORT int name(type *lock) {                                                                                      \
@@ -105,10 +130,10 @@ typedef const struct timespec *deadline;
 
 INITIALISING(pthread_mutex_init, pthread_mutex_t, const pthread_mutexattr_t *how, how)
 DESTROYING(pthread_mutex_destroy, pthread_mutex_t)
-TAKING(pthread_mutex_lock, MODE_WRITE, true, (pthread_mutex_t * lock), (lock))
-TAKING(pthread_mutex_trylock, MODE_TRY_WRITE, true, (pthread_mutex_t * lock), (lock))
-TAKING(pthread_mutex_timedlock, MODE_WRITE, true, (pthread_mutex_t * lock, deadline until), (lock, until))
-TAKING(pthread_mutex_clocklock, MODE_WRITE, true, (pthread_mutex_t * lock, clockid_t clock, deadline until), (lock, clock, until))
+TAKING(pthread_mutex_lock, pthread_mutex_trylock, EBUSY, MODE_WRITE, true, (pthread_mutex_t * lock), (lock))
+TRYING(pthread_mutex_trylock, MODE_TRY_WRITE, (pthread_mutex_t * lock), (lock))
+TAKING(pthread_mutex_timedlock, pthread_mutex_trylock, EBUSY, MODE_WRITE, true, (pthread_mutex_t * lock, deadline until), (lock, until))
+TAKING(pthread_mutex_clocklock, pthread_mutex_trylock, EBUSY, MODE_WRITE, IS_CLOCK(clock), (pthread_mutex_t * lock, clockid_t clock, deadline until), (lock, clock, until))
 RELEASING(pthread_mutex_unlock, pthread_mutex_t)
 
 /* A read-write lock of glibc lets readers pass waiting writers, unless it was made to prefer writers. */
@@ -120,20 +145,20 @@ static uint8_t reads(const pthread_rwlock_t *lock) {
 
 INITIALISING(pthread_rwlock_init, pthread_rwlock_t, const pthread_rwlockattr_t *how, how)
 DESTROYING(pthread_rwlock_destroy, pthread_rwlock_t)
-TAKING(pthread_rwlock_rdlock, reads(lock), false, (pthread_rwlock_t * lock), (lock))
-TAKING(pthread_rwlock_tryrdlock, (uint8_t)(reads(lock) + TRIES), false, (pthread_rwlock_t * lock), (lock))
-TAKING(pthread_rwlock_timedrdlock, reads(lock), false, (pthread_rwlock_t * lock, deadline until), (lock, until))
-TAKING(pthread_rwlock_clockrdlock, reads(lock), false, (pthread_rwlock_t * lock, clockid_t clock, deadline until), (lock, clock, until))
-TAKING(pthread_rwlock_wrlock, MODE_WRITE, false, (pthread_rwlock_t * lock), (lock))
-TAKING(pthread_rwlock_trywrlock, MODE_TRY_WRITE, false, (pthread_rwlock_t * lock), (lock))
-TAKING(pthread_rwlock_timedwrlock, MODE_WRITE, false, (pthread_rwlock_t * lock, deadline until), (lock, until))
-TAKING(pthread_rwlock_clockwrlock, MODE_WRITE, false, (pthread_rwlock_t * lock, clockid_t clock, deadline until), (lock, clock, until))
+TAKING(pthread_rwlock_rdlock, pthread_rwlock_tryrdlock, EBUSY, reads(lock), true, (pthread_rwlock_t * lock), (lock))
+TRYING(pthread_rwlock_tryrdlock, (uint8_t)(reads(lock) + TRIES), (pthread_rwlock_t * lock), (lock))
+TAKING(pthread_rwlock_timedrdlock, pthread_rwlock_tryrdlock, EBUSY, reads(lock), true, (pthread_rwlock_t * lock, deadline until), (lock, until))
+TAKING(pthread_rwlock_clockrdlock, pthread_rwlock_tryrdlock, EBUSY, reads(lock), IS_CLOCK(clock), (pthread_rwlock_t * lock, clockid_t clock, deadline until), (lock, clock, until))
+TAKING(pthread_rwlock_wrlock, pthread_rwlock_trywrlock, EBUSY, MODE_WRITE, true, (pthread_rwlock_t * lock), (lock))
+TRYING(pthread_rwlock_trywrlock, MODE_TRY_WRITE, (pthread_rwlock_t * lock), (lock))
+TAKING(pthread_rwlock_timedwrlock, pthread_rwlock_trywrlock, EBUSY, MODE_WRITE, true, (pthread_rwlock_t * lock, deadline until), (lock, until))
+TAKING(pthread_rwlock_clockwrlock, pthread_rwlock_trywrlock, EBUSY, MODE_WRITE, IS_CLOCK(clock), (pthread_rwlock_t * lock, clockid_t clock, deadline until), (lock, clock, until))
 RELEASING(pthread_rwlock_unlock, pthread_rwlock_t)
 
 INITIALISING(pthread_spin_init, pthread_spinlock_t volatile, int shared, shared)
 DESTROYING(pthread_spin_destroy, pthread_spinlock_t volatile)
-TAKING(pthread_spin_lock, MODE_WRITE, false, (pthread_spinlock_t volatile *lock), (lock))
-TAKING(pthread_spin_trylock, MODE_TRY_WRITE, false, (pthread_spinlock_t volatile *lock), (lock))
+TAKING(pthread_spin_lock, pthread_spin_trylock, EBUSY, MODE_WRITE, true, (pthread_spinlock_t volatile *lock), (lock))
+TRYING(pthread_spin_trylock, MODE_TRY_WRITE, (pthread_spinlock_t volatile *lock), (lock))
 RELEASING(pthread_spin_unlock, pthread_spinlock_t volatile)
 
 /* C11's locks are the same objects, but glibc takes them without calling the functions above. */
@@ -153,9 +178,9 @@ EXPORT void mtx_destroy(mtx_t *lock) {
     destroyed((uintptr_t)lock);
 }
 
-TAKING(mtx_lock, MODE_WRITE, true, (mtx_t * lock), (lock))
-TAKING(mtx_timedlock, MODE_WRITE, true, (mtx_t * restrict lock, const struct timespec *restrict until), (lock, until))
-TAKING(mtx_trylock, MODE_TRY_WRITE, true, (mtx_t * lock), (lock))
+TAKING(mtx_lock, mtx_trylock, thrd_busy, MODE_WRITE, true, (mtx_t * lock), (lock))
+TAKING(mtx_timedlock, mtx_trylock, thrd_busy, MODE_WRITE, true, (mtx_t * restrict lock, const struct timespec *restrict until), (lock, until))
+TRYING(mtx_trylock, MODE_TRY_WRITE, (mtx_t * lock), (lock))
 RELEASING(mtx_unlock, mtx_t)
 
 /* ---- Waiting on a condition releases the mutex and takes it again, also if the thread is cancelled meanwhile. */

@@ -121,11 +121,11 @@ extern EARLY_THREAD_LOCAL volatile bool busy;
 bool is_recording(void);
 void acquired(uintptr_t lock, uint8_t mode, bool exclusive, struct call call);
 bool begin_wish(uintptr_t lock, uint8_t mode, struct call call);
-void end_wish(uintptr_t lock, bool taken);
+void end_wish(uintptr_t lock, bool is_taken, struct call call);
 void releasing(uintptr_t lock, struct call call);
 void initialised(uintptr_t lock, struct call call);
 void destroyed(uintptr_t lock);
-void try_failed(uintptr_t lock);
+void tried(uintptr_t lock, bool has_failed);
 bool is_held_once(uintptr_t lock);
 void begin_threads(void);
 

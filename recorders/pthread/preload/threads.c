@@ -13,11 +13,12 @@
 struct held {
     uintptr_t lock;
     uint64_t record; /* the number of its record */
+    uint64_t fresh_before; /* where the last record of something new ended then */
     uint32_t object, foreign;
     uint32_t depth;  /* of a recursive mutex: how often it was taken again */
     uint8_t mode;
     bool is_written; /* there is a record of it */
-    bool is_wish;    /* the thread waits for it */
+    bool is_wish;    /* the thread still waits for it */
 };
 
 /* A held lock as a reader of a trace knows it: there a release ends the newest of its name, so the order may be another. */
@@ -265,14 +266,16 @@ static bool is_seen(const struct thread *t, uint64_t way) {
     return false;
 }
 
-static void see(struct thread *t, uint64_t way) {
+/* Whether the way is new. It isn't any more. */
+static bool see(struct thread *t, uint64_t way) {
     if (is_seen(t, way))
-        return;
+        return false;
     if (!t->seen || 2 * (t->seen_used + 1) > t->seen_mask)
         if (!grow_seen(t))
-            return;
+            return true;
     put_seen(t->seen, t->seen_mask, way);
     t->seen_used++;
+    return true;
 }
 
 /* ---- Releases. */
@@ -356,7 +359,8 @@ static void tell_apart(struct thread *t, uint32_t i) {
     t->entries[at].links[BY_OBJECTS].what = raw_what(object, (enum mode)h->mode);
     rehash(t, BY_OBJECTS, at, t->depth);
     for (uint32_t depth = at + 1; depth <= t->depth; depth++)
-        see(t, way_of(hash_of(t, depth)));
+        if (see(t, way_of(hash_of(t, depth))))
+            t->fresh_end = t->raw->count;
 }
 
 /* Where the lock is taken: one caller, and more if it is taken in a new way. */
@@ -394,13 +398,11 @@ static void push_held(struct thread *t, uintptr_t lock, uint32_t object, uint8_t
     push_link(t, BY_CLASSES, raw_what(class_of(object), (enum mode)mode));
     t->entries[t->depth].level = (struct level){.start = start, .hash = before};
     struct held *h = &t->entries[t->depth++].held;
-    *h = (struct held){.lock = lock, .record = start, .object = object, .foreign = foreign ? LOAD(foreign) : 0, .mode = mode,
-                       .is_wish = is_wish};
+    *h = (struct held){.lock = lock, .record = start, .fresh_before = t->fresh_end, .object = object,
+                       .foreign = foreign ? LOAD(foreign) : 0, .mode = mode, .is_wish = is_wish};
     uint64_t way = way_of(hash_of(t, t->depth));
-    bool is_new = !is_seen(t, way);
+    bool is_new = is_wish ? !is_seen(t, way) : see(t, way);
     h->is_written = write_acquisition(t, what, call, is_new);
-    if (is_new && !is_wish)
-        see(t, way);
     if (is_new)
         t->fresh_end = t->raw->count;
 }
@@ -436,6 +438,65 @@ void acquired(uintptr_t lock, uint8_t mode, bool exclusive, struct call call) {
     if (!t)
         return;
     take_lock(t, lock, mode, exclusive, call);
+    leave();
+}
+
+/* ---- Wishes. What a thread waits for is written before it waits, as if it had taken it. If the call fails it is withdrawn. */
+
+/* Whether the wish was recorded; end_wish is to follow then. */
+bool begin_wish(uintptr_t lock, uint8_t mode, struct call call) {
+    struct thread *t = enter();
+    if (!t)
+        return false;
+    t->raw->calls++;
+    if (RARELY(t->epoch != __atomic_load_n(&foreign_epoch, __ATOMIC_RELAXED)))
+        drop_released(t, call.caller);
+    uint32_t object = object_to_hold(t, lock, call);
+    if (object) {
+        push_held(t, lock, object, mode, call, true);
+        STORE(&t->raw->waits, 1);
+    }
+    leave();
+    return object != 0;
+}
+
+/* Nothing is left of a wish that is the newest record. Else a signal's handler has recorded something since. */
+static void withdraw(struct thread *t, uint32_t i, uintptr_t caller) {
+    struct held h = t->entries[i].held;
+    if (i + 1 != t->depth || t->raw->count != h.record + h.is_written) {
+        release_at(t, i, caller);
+        return;
+    }
+    pop_link(t, BY_OBJECTS, h.object);
+    pop_link(t, BY_CLASSES, class_of(h.object));
+    t->depth--;
+    t->raw->count = h.record;
+    t->fresh_end = h.fresh_before;
+}
+
+void end_wish(uintptr_t lock, bool is_taken, struct call call) {
+    struct thread *t = enter();
+    if (!t)
+        return;
+    STORE(&t->raw->waits, 0);
+    uint32_t i = find_held(t, lock);
+    if (i != RAW_HELD && !is_taken)
+        withdraw(t, i, call.caller);
+    else if (i != RAW_HELD) {
+        t->entries[i].held.is_wish = false;
+        see(t, way_of(hash_of(t, i + 1)));
+    }
+    leave();
+}
+
+/* A lock was tried. One that is tried again and again, with others held, is waited for in another way. */
+void tried(uintptr_t lock, bool has_failed) {
+    struct thread *t = has_failed || (own && own->failed) ? enter() : NULL;
+    if (!t)
+        return;
+    if (t->failed == lock && t->depth)
+        t->raw->left_out.retried++;
+    t->failed = has_failed ? lock : 0;
     leave();
 }
 
