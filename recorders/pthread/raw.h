@@ -1,12 +1,21 @@
-/* What the preload library leaves in FOLDER/raw for `finish`: for each process image a text file of definitions, and for
-   each of its threads a file of records. Both are written so that a process that dies loses nothing. */
+/* What the preload library leaves for `finish`: one file for each program that was run, FOLDER/raw/PROCESS-N.arena. The file is
+   sparse and mapped whole when the program starts. Threads, records and definitions take their parts of it by atomic additions,
+   so it needs no descriptor and no system call later, and a process that dies loses nothing. A forked child goes on in its
+   parent's file. FOLDER/raw/PROCESS-N.refused stands for a program whose file couldn't be made.
+
+   Numbers of places, classes, objects, modules, processes and threads count from 1; 0 is none. */
 #ifndef LOCKDEP_RAW_H
 #define LOCKDEP_RAW_H
 
 #include <stdint.h>
 
-/* "lockrec1", little endian. */
-#define RAW_MAGIC UINT64_C(0x316365726b636f6c)
+/* "lockrec2", little endian. */
+#define RAW_MAGIC UINT64_C(0x326365726b636f6c)
+
+/* The file's size, if no limit forbids it, and the size under which a recording may well be too small. */
+#define RAW_BYTES (UINT64_C(4) << 30)
+#define RAW_SMALL (UINT64_C(16) << 20)
+#define RAW_LEAST (UINT64_C(32) << 10)
 
 /* How many records of one thread are kept. A trace may have 1,000,000 events; the rest is room for the releases of locks
    that are held when this is reached. */
@@ -18,17 +27,72 @@
 /* The most callers that are recorded for one place. */
 #define RAW_FRAMES 16
 
+/* Objects of one class that are told apart; the rest of them share a name. */
+#define RAW_APART 32
+
+/* A thread's records lie in chunks: the first has room for so many, and each further one for twice as many. */
+#define RAW_FIRST_CHUNK 64
+#define RAW_CHUNKS 14
+
+#define RAW_PATH 500
+
 enum mode { MODE_WRITE, MODE_READ, MODE_REC_READ, MODE_TRY_WRITE, MODE_TRY_READ, MODE_TRY_REC_READ, MODE_RELEASE };
 
-/* One acquisition or release: the class in the low 24 bits and the mode above them, and where it happened. */
+/* One acquisition or release: the object in the low 27 bits and the mode above them, and where it happened. */
 struct raw_record {
     uint32_t what;
     uint32_t place;
 };
 
-static inline uint32_t raw_what(uint32_t class, enum mode mode) { return (uint32_t)mode << 24 | class; }
-static inline uint32_t raw_class(uint32_t what) { return what & 0xffffff; }
-static inline enum mode raw_mode(uint32_t what) { return (enum mode)(what >> 24); }
+#define RAW_OBJECT_BITS 27
+
+static inline uint32_t raw_what(uint32_t object, enum mode mode) { return (uint32_t)mode << RAW_OBJECT_BITS | object; }
+static inline uint32_t raw_object(uint32_t what) { return what & ((UINT32_C(1) << RAW_OBJECT_BITS) - 1); }
+static inline enum mode raw_mode(uint32_t what) { return (enum mode)(what >> RAW_OBJECT_BITS); }
+
+/* An address as a module's number and an offset in its file, in 16 bits and 48; RAW_NOWHERE where it is in no module. */
+#define RAW_NOWHERE UINT64_C(0xffff)
+
+static inline uint64_t raw_word(uint64_t module, uint64_t offset) {
+    return module << 48 | (offset & UINT64_C(0xffffffffffff));
+}
+static inline uint32_t raw_word_module(uint64_t word) { return (uint32_t)(word >> 48); }
+static inline uint64_t raw_word_offset(uint64_t word) { return word & UINT64_C(0xffffffffffff); }
+
+/* The kinds of parts that are numbered. Each kind has its region of the file. */
+enum raw_kind { RAW_PROCESSES, RAW_MODULES, RAW_PLACES, RAW_CLASSES, RAW_OBJECTS, RAW_THREADS, RAW_KINDS };
+
+struct raw_process {
+    uint32_t id; /* the system's number of it; written last */
+    uint32_t parent;
+};
+
+struct raw_module {
+    uint32_t is_ready;
+    uint32_t process; /* which process found it */
+    char path[RAW_PATH + 4];
+};
+
+struct raw_place {
+    uint64_t count; /* how many callers there are; written last */
+    uint64_t callers[RAW_FRAMES];
+};
+
+/* By what a lock is known: where it was initialised, its symbol, where its memory was allocated, the function in whose frame
+   it lies, or, if nothing else is known of it, where it was taken first. */
+enum class_kind { CLASS_NONE, CLASS_INIT, CLASS_STATIC, CLASS_HEAP, CLASS_STACK, CLASS_TAKE, CLASS_NAMED, CLASS_KINDS };
+
+struct raw_class {
+    uint32_t kind; /* written last */
+    uint32_t place;  /* of CLASS_INIT, CLASS_HEAP and CLASS_TAKE; of CLASS_NAMED the number of the name */
+    uint64_t word;   /* of CLASS_STATIC the lock's address, of CLASS_STACK the function's */
+    uint64_t offset; /* of CLASS_HEAP in the piece of memory, of CLASS_STACK down from the frame's end */
+};
+
+struct raw_object {
+    uint32_t class;   /* written last */
+    uint32_t ordinal; /* among the objects of the class that are told apart, from 1; 0 for all the others together */
+};
 
 /* What was left out of a thread's records, and how often. */
 struct raw_left_out {
@@ -36,18 +100,53 @@ struct raw_left_out {
     uint64_t full;      /* an acquisition after RAW_LIMIT records */
     uint64_t deep;      /* an acquisition beyond RAW_HELD held locks */
     uint64_t reentered; /* a call from a signal handler that interrupted the recorder */
-    uint64_t no_memory; /* an acquisition for which memory was refused */
+    uint64_t no_room;   /* an acquisition for which there was no room in the file or in memory */
+    uint64_t retried;   /* a try that failed, of the lock of the last failed try, with locks held */
     uint64_t repeated;  /* records that repeated what the thread had done before: nothing is lost by these */
 };
 
-/* The beginning of a thread's file; the records follow. */
-struct raw_header {
-    uint64_t magic;
-    uint32_t process; /* the number of the process image: its definitions are in `NUMBER.defs` */
-    uint32_t thread;  /* the number of the thread in it, from 0 in the order in which they first took a lock */
-    uint64_t count;   /* how many records there are */
-    uint64_t calls;   /* how many acquisitions and releases were seen */
+struct raw_thread {
+    uint32_t process;
+    uint32_t is_ready;
+    uint32_t waits; /* its last record is a lock that it waits for */
+    uint32_t ended; /* it came to its end, and the process went on */
+    uint64_t count; /* how many records there are */
+    uint64_t calls; /* how many acquisitions and releases were seen */
     struct raw_left_out left_out;
+    uint64_t chunks[RAW_CHUNKS]; /* where they begin in the file; 0 if there is none yet */
 };
+
+struct raw_region {
+    uint64_t from;
+    uint32_t room;
+    uint32_t used;
+    uint64_t refused; /* how often there was no more room */
+};
+
+/* The file's beginning. */
+struct raw_arena {
+    uint64_t magic; /* written last */
+    uint64_t bytes;
+    uint64_t started; /* a time by which the programs of a recording are ordered */
+    struct raw_region regions[RAW_KINDS];
+    uint64_t records_used, records_end, records_refused; /* in bytes; the records come after all regions */
+    uint64_t no_thread;   /* calls of threads for which there was no room */
+    uint64_t deep_bound;  /* libraries that were to be loaded with RTLD_DEEPBIND, which was taken away */
+    uint64_t namespaces;  /* libraries that were loaded into a namespace of their own, by dlmopen */
+    uint64_t unknown;     /* pieces of memory for which there was no room in the recorder's table */
+};
+
+static inline uint32_t raw_size(enum raw_kind kind) {
+    static const uint32_t sizes[RAW_KINDS] = {sizeof(struct raw_process), sizeof(struct raw_module), sizeof(struct raw_place),
+                                              sizeof(struct raw_class),   sizeof(struct raw_object), sizeof(struct raw_thread)};
+    return sizes[kind];
+}
+
+/* In which chunk a record lies; its place in it is `index` less chunk_start. */
+static inline uint32_t raw_chunk(uint64_t index) {
+    return 63 - (uint32_t)__builtin_clzll(index / RAW_FIRST_CHUNK + 1);
+}
+static inline uint64_t raw_chunk_start(uint32_t chunk) { return RAW_FIRST_CHUNK * ((UINT64_C(1) << chunk) - 1); }
+static inline uint64_t raw_chunk_room(uint32_t chunk) { return (uint64_t)RAW_FIRST_CHUNK << chunk; }
 
 #endif

@@ -1,0 +1,168 @@
+/* What the preload library left: one file for each program that was run. */
+#include "finish.h"
+
+#include <dirent.h>
+#include <fcntl.h>
+#include <string.h>
+#include <sys/mman.h>
+#include <sys/stat.h>
+#include <unistd.h>
+
+struct arena *arenas;
+size_t arena_count;
+uint64_t process_count, refused_count;
+
+uint32_t count_of(const struct arena *a, enum raw_kind kind) {
+    const struct raw_region *region = &a->raw->regions[kind];
+    return region->used < region->room ? region->used : region->room;
+}
+
+const void *part_of(const struct arena *a, enum raw_kind kind, uint32_t number) {
+    if (number == 0 || number > count_of(a, kind))
+        return NULL;
+    return (const char *)a->raw + a->raw->regions[kind].from + (uint64_t)(number - 1) * raw_size(kind);
+}
+
+/* ---- Reading a file. */
+
+static bool is_sound(const struct arena *a) {
+    if (a->bytes < sizeof *a->raw || a->raw->magic != RAW_MAGIC)
+        return false;
+    for (int kind = 0; kind < RAW_KINDS; kind++) {
+        const struct raw_region *region = &a->raw->regions[kind];
+        if (region->from > a->bytes || (uint64_t)region->room * raw_size((enum raw_kind)kind) > a->bytes - region->from)
+            return false;
+    }
+    return true;
+}
+
+/* A process that was killed while it noted a module may have left one that isn't ready. */
+static void read_modules(struct arena *a) {
+    uint32_t count = count_of(a, RAW_MODULES);
+    a->modules = checked(calloc(count + 1, sizeof *a->modules));
+    for (uint32_t i = 1; i <= count; i++) {
+        const struct raw_module *m = part_of(a, RAW_MODULES, i);
+        char path[RAW_PATH + 1] = "unknown";
+        if (m->is_ready)
+            memcpy(path, m->path, RAW_PATH);
+        a->modules[i] = module_named(path);
+    }
+}
+
+static void open_arena(const char *path) {
+    int fd = open(path, O_RDONLY);
+    struct stat about;
+    if (fd < 0 || fstat(fd, &about) != 0) {
+        if (fd >= 0)
+            close(fd);
+        refused_count++;
+        return;
+    }
+    void *p = about.st_size > 0 ? mmap(NULL, (size_t)about.st_size, PROT_READ, MAP_PRIVATE, fd, 0) : MAP_FAILED;
+    close(fd);
+    if (p != MAP_FAILED)
+        madvise(p, (size_t)about.st_size, MADV_RANDOM); /* else holes are read ahead */
+    struct arena a = {.raw = p, .bytes = (uint64_t)about.st_size};
+    if (p == MAP_FAILED || !is_sound(&a)) {
+        refused_count++;
+        return;
+    }
+    PUSH(arenas, arena_count, a);
+}
+
+/* A program is a process, and so is each of its forked children that locked something. Others have no number. */
+static void number_processes(struct arena *a) {
+    a->processes = checked(calloc(count_of(a, RAW_PROCESSES) + 2, sizeof *a->processes));
+    a->processes[1] = (uint32_t)++process_count;
+    for (uint32_t n = 1; n <= count_of(a, RAW_THREADS); n++) {
+        const struct raw_thread *t = part_of(a, RAW_THREADS, n);
+        if (part_of(a, RAW_PROCESSES, t->process) && !a->processes[t->process])
+            a->processes[t->process] = (uint32_t)++process_count;
+    }
+}
+
+static int by_start(const void *a, const void *b) {
+    const struct arena *x = a, *y = b;
+    return x->raw->started < y->raw->started ? -1 : x->raw->started > y->raw->started;
+}
+
+static bool ends_with(const char *name, const char *end) {
+    size_t n = strlen(name), m = strlen(end);
+    return n >= m && strcmp(name + n - m, end) == 0;
+}
+
+void read_arenas(const char *folder) {
+    char raw[4096];
+    snprintf(raw, sizeof raw, "%s/raw", folder);
+    struct dirent **names;
+    int n = scandir(raw, &names, NULL, alphasort);
+    if (n < 0)
+        refuse("can't be read", raw);
+    for (int i = 0; i < n; i++) {
+        char path[4096 + 300];
+        snprintf(path, sizeof path, "%s/%s", raw, names[i]->d_name);
+        if (ends_with(path, ".arena"))
+            open_arena(path);
+        refused_count += ends_with(path, ".refused");
+    }
+    if (arena_count)
+        qsort(arenas, arena_count, sizeof *arenas, by_start);
+    for (size_t i = 0; i < arena_count; i++) {
+        struct arena *a = &arenas[i];
+        read_modules(a);
+        a->places = checked(calloc(count_of(a, RAW_PLACES) + 1, sizeof *a->places));
+        a->keys = checked(calloc(count_of(a, RAW_CLASSES) + 1, sizeof *a->keys));
+        number_processes(a);
+    }
+}
+
+/* ---- Places. */
+
+/* An address with the module's number among all recordings; UINT64_MAX if it is in none. */
+uint64_t told_word(const struct arena *a, uint64_t raw) {
+    uint32_t module = raw_word_module(raw);
+    if (module == 0 || module > count_of(a, RAW_MODULES) || a->modules[module] >= RAW_NOWHERE)
+        return UINT64_MAX;
+    return raw_word(a->modules[module], raw_word_offset(raw));
+}
+
+/* The callers without the frames that start a thread or a program, and without the wrappers that are innermost. */
+static void read_place(struct arena *a, struct place *to, const struct raw_place *from) {
+    uint32_t last = from->count < RAW_FRAMES ? (uint32_t)from->count : RAW_FRAMES, first = 0;
+    while (last > 1 && is_outermost(told_word(a, from->callers[last - 1])))
+        last--;
+    while (first + 1 < last && is_wrapper(told_word(a, from->callers[first])))
+        first++;
+    if (first + 1 == last && is_wrapper(told_word(a, from->callers[first])))
+        first = 0;
+    for (uint32_t i = first; i < last; i++)
+        to->words[to->count++] = told_word(a, from->callers[i]);
+}
+
+const struct place *place_numbered(struct arena *a, uint32_t number) {
+    static const struct place none;
+    const struct raw_place *raw = part_of(a, RAW_PLACES, number);
+    if (!raw)
+        return &none;
+    struct place *place = &a->places[number];
+    if (!place->is_read)
+        read_place(a, place, raw);
+    place->is_read = true;
+    return place;
+}
+
+/* ---- Records. */
+
+const struct raw_record *record_of(const struct arena *a, const struct raw_thread *t, uint64_t index) {
+    uint32_t chunk = raw_chunk(index);
+    uint64_t in = index - raw_chunk_start(chunk), from = chunk < RAW_CHUNKS ? t->chunks[chunk] : 0;
+    if (!from || from > a->bytes || raw_chunk_room(chunk) * sizeof(struct raw_record) > a->bytes - from)
+        return NULL;
+    const struct raw_record *r = (const struct raw_record *)((const char *)a->raw + from) + in;
+    return raw_mode(r->what) <= MODE_RELEASE && class_of(a, raw_object(r->what)) ? r : NULL;
+}
+
+uint32_t class_of(const struct arena *a, uint32_t object) {
+    const struct raw_object *o = part_of(a, RAW_OBJECTS, object);
+    return o && part_of(a, RAW_CLASSES, o->class) ? o->class : 0;
+}

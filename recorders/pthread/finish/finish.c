@@ -1,0 +1,131 @@
+/* Makes traces of what the preload library left in FOLDER/raw:
+
+     finish FOLDER VERSION [FRAMES]
+
+   FOLDER/task-NNNN.csv        the trace of one thread, in version 1 or 2 of the format
+   FOLDER/task-NNNN.csv.places for each of its records, where the call came from
+   FOLDER/classes              for each class's name, where that is
+   FOLDER/SUMMARY              what was recorded, and what was left out
+
+   A place is told by FRAMES callers, 3 if it isn't given. */
+#include "finish.h"
+
+#include <string.h>
+#include <unistd.h>
+
+#define DEFAULT_FRAMES 3
+
+void refuse(const char *what, const char *name) {
+    fprintf(stderr, "finish: %s %s\n", name, what);
+    exit(2);
+}
+
+void *checked(void *p) {
+    if (!p) {
+        fputs("finish: out of memory\n", stderr);
+        exit(2);
+    }
+    return p;
+}
+
+/* ---- SUMMARY. */
+
+static void tell(FILE *file, const char *name, uint64_t count) { fprintf(file, "%s %lu\n", name, (unsigned long)count); }
+
+/* What isn't 0 gets a line, and one that says what it means. */
+static void tell_loss(FILE *file, const char *name, uint64_t count, const char *meaning) {
+    if (!count)
+        return;
+    tell(file, name, count);
+    fprintf(file, "  %s\n", meaning);
+}
+
+static uint64_t sum_of(uint64_t (*of)(const struct raw_arena *)) {
+    uint64_t sum = 0;
+    for (size_t i = 0; i < arena_count; i++)
+        sum += of(arenas[i].raw);
+    return sum;
+}
+
+static uint64_t lost_threads(const struct raw_arena *a) { return a->no_thread; }
+static uint64_t is_small(const struct raw_arena *a) { return a->bytes < RAW_SMALL; }
+
+static void tell_losses(FILE *file) {
+    const struct raw_left_out *raw = &sums.raw;
+    tell_loss(file, "refused-processes", refused_count,
+              "programs for which no file could be made, as under a limit: nothing of them was recorded");
+    tell_loss(file, "small-files", sum_of(is_small),
+              "programs with a limit that left little room for their recording: what didn't fit is counted below");
+    tell_loss(file, "lost-threads", sum_of(lost_threads),
+              "calls of threads for which there was no room: none of their orders was recorded");
+    tell_loss(file, "no-room", raw->no_room, "acquisitions for which there was no room: an order among them may be missing");
+    tell_loss(file, "full-traces", raw->full, "acquisitions after a thread's first 1,000,000 events: an order among them may be missing");
+    tell_loss(file, "beyond-classes", sums.classes,
+              "acquisitions of classes beyond 8,192: no order that they are part of was recorded");
+    tell_loss(file, "beyond-held", sums.deep + raw->deep,
+              "acquisitions with 48 locks held already: an order among them may be missing");
+    tell_loss(file, "tries", sums.tries, "try acquisitions, which version 1 of the format can't say: orders that begin with one are missing");
+    tell_loss(file, "retried-tries", raw->retried,
+              "tries of a lock right after one that failed, with other locks held: a thread that waits so is in no trace");
+    tell_loss(file, "reentered", raw->reentered,
+              "calls from a signal handler that interrupted the recorder: an order among them may be missing");
+    tell_loss(file, "unseen-releases", raw->releases,
+              "releases of locks that the thread wasn't seen to take: another thread, or nobody, was seen to hold them");
+    tell_loss(file, "repeats", raw->repeated, "records that repeat what their thread had done before: nothing is lost by these");
+}
+
+static void tell_text(FILE *file, const char *name, uint64_t count, const char *text) {
+    if (!count)
+        return;
+    tell(file, name, count);
+    fputs(text, file);
+}
+
+static void write_summary(const char *folder) {
+    char path[4300];
+    snprintf(path, sizeof path, "%s/SUMMARY", folder);
+    FILE *file = created(path);
+    tell(file, "processes", process_count);
+    tell(file, "threads", sums.threads);
+    tell(file, "operations", sums.operations);
+    tell(file, "events", sums.events);
+    tell(file, "classes", key_count < MAX_KEYS ? key_count : MAX_KEYS);
+    tell_text(file, "waiting", sums.waiting, waiting_text);
+    tell_text(file, "held-at-end", sums.held_at_end, held_text);
+    tell_losses(file);
+    closed(file, path);
+}
+
+/* The folder in which this program's own folder lies: that of the recorder. */
+static void find_recorder(char *folder, size_t room) {
+    ssize_t length = readlink("/proc/self/exe", folder, room - 1);
+    folder[length > 0 ? length : 0] = 0;
+    for (int i = 0; i < 2; i++) {
+        char *slash = strrchr(folder, '/');
+        if (slash)
+            *slash = 0;
+    }
+}
+
+static int number_of(const char *text, int most) {
+    char *end;
+    long number = strtol(text, &end, 10);
+    return *text && !*end && number >= 1 && number <= most ? (int)number : 0;
+}
+
+int main(int argc, char **argv) {
+    int version = argc > 2 ? number_of(argv[2], 2) : 0;
+    frames = argc > 3 ? number_of(argv[3], RAW_FRAMES) : DEFAULT_FRAMES;
+    if (argc < 3 || argc > 4 || !version || !frames) {
+        fprintf(stderr, "usage: finish FOLDER VERSION [FRAMES], with VERSION 1 or 2 and FRAMES 1 to %d\n", RAW_FRAMES);
+        return 2;
+    }
+    char recorder[4096];
+    find_recorder(recorder, sizeof recorder);
+    read_wrappers(recorder);
+    read_arenas(argv[1]);
+    write_traces(argv[1], version);
+    write_classes(argv[1]);
+    write_summary(argv[1]);
+    return 0;
+}

@@ -1,0 +1,120 @@
+/* What the parts of `finish` share. */
+#ifndef LOCKDEP_FINISH_H
+#define LOCKDEP_FINISH_H
+#ifndef _GNU_SOURCE
+#define _GNU_SOURCE
+#endif
+
+#include "../raw.h"
+
+#include <stdbool.h>
+#include <stddef.h>
+#include <stdint.h>
+#include <stdio.h>
+#include <stdlib.h>
+
+#define MAX_KEYS 8192 /* of a checked run */
+#define MAX_HELD 48   /* of a task */
+#define MAX_NAME 64   /* of a class, in bytes */
+
+void refuse(const char *what, const char *name) __attribute__((noreturn));
+void *checked(void *p);
+
+/* A list's room, doubled as it grows. */
+#define PUSH(list, count, value)                                                                                       \
+    do {                                                                                                               \
+        if (((count) & ((count)-1)) == 0)                                                                              \
+            (list) = checked(realloc((list), ((count) ? 2 * (count) : 1) * sizeof *(list)));                           \
+        (list)[(count)++] = (value);                                                                                   \
+    } while (0)
+
+/* ---- symbols.c: modules and their symbols. */
+
+struct symbol {
+    uint64_t value, size;
+    const char *name;
+    bool is_code;
+};
+
+struct module {
+    char *path;
+    const char *base; /* the path's last part */
+    struct symbol *symbols;
+    size_t symbol_count;
+    bool takes_locks; /* it imports a function that takes one */
+    bool is_go, is_rust;
+};
+
+extern struct module *modules;
+extern size_t module_count;
+
+uint32_t module_named(const char *path);
+const struct symbol *symbol_at(uint32_t module, uint64_t offset, bool is_code);
+
+/* ---- arenas.c: what the preload library left. */
+
+#define NO_KEY (-1)
+
+struct place { /* the callers that are told, from the innermost one, with modules of all recordings */
+    uint32_t count;
+    bool is_read;
+    uint64_t words[RAW_FRAMES];
+};
+
+struct arena {
+    const struct raw_arena *raw;
+    uint64_t bytes;
+    uint32_t *modules; /* from its numbers to those of all */
+    struct place *places;
+    int *keys;         /* of its classes: one more than the key's number, 0 if it has none yet */
+    uint32_t *processes; /* from its numbers to those of all; 0 if it locked nothing */
+};
+
+extern struct arena *arenas;
+extern size_t arena_count;
+extern uint64_t process_count, refused_count;
+
+void read_arenas(const char *folder);
+uint32_t count_of(const struct arena *a, enum raw_kind kind);
+const void *part_of(const struct arena *a, enum raw_kind kind, uint32_t number);
+uint64_t told_word(const struct arena *a, uint64_t raw);
+const struct place *place_numbered(struct arena *a, uint32_t number);
+
+/* A thread's records. */
+const struct raw_record *record_of(const struct arena *a, const struct raw_thread *t, uint64_t index);
+uint32_t class_of(const struct arena *a, uint32_t object);
+
+/* ---- names.c */
+
+struct key {
+    char name[MAX_NAME + 1];
+    char *identity; /* what the name stands for: two classes of one name aren't mixed up */
+    uint64_t at;
+    enum class_kind kind;
+};
+
+extern struct key *keys;
+extern size_t key_count;
+extern int frames;
+
+void read_wrappers(const char *beside);
+bool is_wrapper(uint64_t word);
+bool is_outermost(uint64_t word);
+int key_of(struct arena *a, uint32_t class);
+
+/* ---- traces.c */
+
+struct sums {
+    uint64_t threads, operations, events, tries, classes, deep, waiting, held_at_end;
+    struct raw_left_out raw;
+};
+
+extern struct sums sums;
+extern char *waiting_text, *held_text; /* lines of SUMMARY */
+
+void write_traces(const char *folder, int version);
+void write_classes(const char *folder);
+FILE *created(const char *path);
+void closed(FILE *file, const char *path);
+
+#endif

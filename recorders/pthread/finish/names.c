@@ -1,0 +1,294 @@
+/* Names of classes. */
+#include "finish.h"
+
+#include <dlfcn.h>
+#include <fnmatch.h>
+#include <string.h>
+
+struct key *keys;
+size_t key_count;
+int frames;
+
+#define LONGEST 4096 /* of a name before it is shortened */
+
+/* ---- Names of functions. */
+
+typedef char *demangler(const char *, char *, size_t *, int *);
+
+/* libstdc++'s, if it is on the machine. */
+static demangler *find_demangler(void) {
+    void *library = dlopen("libstdc++.so.6", RTLD_LAZY);
+    return library ? (demangler *)dlsym(library, "__cxa_demangle") : NULL;
+}
+
+/* How deep in brackets a name's byte is, going on from how deep the one before was. A `>` that ends an arrow closes nothing. */
+static int deeper(int depth, const char *name, size_t i) {
+    char c = name[i];
+    if (c == '<' || c == '(' || c == '{' || c == '[')
+        return depth + 1;
+    if (c == ')' || c == '}' || c == ']' || (c == '>' && !(i > 0 && name[i - 1] == '-')))
+        return depth - 1;
+    return depth;
+}
+
+/* Takes off the parameters and what comes after them. */
+static void cut_parameters(char *name) {
+    char *end = strrchr(name, ')');
+    int depth = 0;
+    for (char *p = end; p && p >= name; p--) {
+        depth += *p == ')' ? 1 : *p == '(' ? -1 : 0;
+        if (depth == 0) {
+            if (p > name && strncmp(p, "(anonymous", 10) != 0)
+                *p = 0;
+            return;
+        }
+    }
+}
+
+/* Takes off the type that a template function is said to return. */
+static void cut_type(char *name) {
+    int depth = 0;
+    char *from = name;
+    for (size_t i = 0; name[i]; i++) {
+        depth = deeper(depth, name, i);
+        if (depth == 0 && strncmp(&name[i], "operator", 8) == 0)
+            break;
+        if (depth == 0 && name[i] == ' ')
+            from = &name[i + 1];
+    }
+    memmove(name, from, strlen(from) + 1);
+}
+
+static void replace(char *name, const char *what, const char *with) {
+    for (char *p; (p = strstr(name, what));) {
+        memmove(p + strlen(with), p + strlen(what), strlen(p + strlen(what)) + 1);
+        memcpy(p, with, strlen(with));
+    }
+}
+
+static void fill_spaces(char *name) {
+    replace(name, ", ", ",");
+    for (; *name; name++)
+        if (*name < 0x21 || *name > 0x7e)
+            *name = '_';
+}
+
+/* A symbol's name as one reads it, without parameters. */
+static void tell_symbol(char *text, size_t room, const char *symbol) {
+    static demangler *demangle;
+    static bool is_looked_for;
+    if (!is_looked_for)
+        demangle = find_demangler();
+    is_looked_for = true;
+    char *plain = demangle && strncmp(symbol, "_Z", 2) == 0 ? demangle(symbol, NULL, NULL, NULL) : NULL;
+    snprintf(text, room, "%s", plain ? plain : symbol);
+    if (plain) {
+        replace(text, "(anonymous namespace)", "{anonymous}");
+        cut_parameters(text);
+        cut_type(text);
+    }
+    fill_spaces(text);
+    free(plain);
+}
+
+/* ---- Wrappers: functions that are passed over where a place is told. */
+
+static char **wrappers; /* patterns of functions; one that begins with `in ` is of modules */
+static size_t wrapper_count;
+
+static void read_list(const char *path) {
+    FILE *file = fopen(path, "r");
+    if (!file)
+        return;
+    char line[1024];
+    while (fgets(line, sizeof line, file)) {
+        line[strcspn(line, "\n")] = 0;
+        if (line[0] && line[0] != '#')
+            PUSH(wrappers, wrapper_count, checked(strdup(line)));
+    }
+    fclose(file);
+}
+
+void read_wrappers(const char *beside) {
+    char path[4096];
+    snprintf(path, sizeof path, "%s/wrappers", beside);
+    read_list(path);
+    const char *more = getenv("LOCKDEP_WRAPPERS");
+    if (more && more[0])
+        read_list(more);
+}
+
+static bool fits_list(uint64_t word) {
+    const struct symbol *s = symbol_at(raw_word_module(word), raw_word_offset(word) - 1, true);
+    char name[LONGEST] = "";
+    if (s)
+        tell_symbol(name, sizeof name, s->name);
+    for (size_t i = 0; i < wrapper_count; i++) {
+        const char *pattern = wrappers[i];
+        if (strncmp(pattern, "in ", 3) == 0 && fnmatch(pattern + 3, modules[raw_word_module(word)].base, 0) == 0)
+            return true;
+        if (s && (fnmatch(pattern, name, 0) == 0 || fnmatch(pattern, s->name, 0) == 0))
+            return true;
+    }
+    return false;
+}
+
+/* What was found of an address is kept. */
+#define REMEMBERED 65536
+static struct {
+    uint64_t word;
+    bool is_known, fits;
+} remembered[REMEMBERED];
+
+bool is_wrapper(uint64_t word) {
+    if (word == UINT64_MAX)
+        return false;
+    size_t slot = (word ^ word >> 16 ^ word >> 48) % REMEMBERED;
+    if (!remembered[slot].is_known || remembered[slot].word != word) {
+        remembered[slot].word = word;
+        remembered[slot].fits = fits_list(word);
+        remembered[slot].is_known = true;
+    }
+    return remembered[slot].fits;
+}
+
+/* The frames of the C library that begin a program or a thread. */
+bool is_outermost(uint64_t word) {
+    if (word == UINT64_MAX)
+        return false;
+    const char *base = modules[raw_word_module(word)].base;
+    const struct symbol *s = symbol_at(raw_word_module(word), raw_word_offset(word) - 1, true);
+    return fnmatch("libc.so*", base, 0) == 0 || fnmatch("libc-2*", base, 0) == 0 || fnmatch("libpthread*", base, 0) == 0 ||
+           fnmatch("ld-linux*", base, 0) == 0 || fnmatch("ld-2*", base, 0) == 0 || (s && strcmp(s->name, "_start") == 0);
+}
+
+/* ---- A class in words. */
+
+/* `function+0x1c`, `object`, or `module+1c` where the module has no symbol there. A call's address is the one after it. */
+static void tell_address(char *text, size_t room, uint64_t word, bool is_call, bool is_code, bool plainly) {
+    if (word == UINT64_MAX) {
+        snprintf(text, room, "unknown");
+        return;
+    }
+    uint64_t offset = raw_word_offset(word);
+    const struct symbol *s = plainly ? NULL : symbol_at(raw_word_module(word), offset - is_call, is_code);
+    char name[LONGEST];
+    if (s)
+        tell_symbol(name, sizeof name, s->name);
+    else
+        snprintf(name, sizeof name, "%s", modules[raw_word_module(word)].base);
+    fill_spaces(name);
+    if (!s)
+        snprintf(text, room, "%s+%lx", name, (unsigned long)offset);
+    else if (offset == s->value)
+        snprintf(text, room, "%s", name);
+    else
+        snprintf(text, room, "%s+0x%lx", name, (unsigned long)(offset - s->value));
+}
+
+static void tell_place(char *text, size_t room, const struct place *place, bool plainly) {
+    snprintf(text, room, "unknown");
+    for (uint32_t i = 0; i < place->count && i < (uint32_t)frames; i++) {
+        size_t have = i ? strlen(text) : 0;
+        if (i && have + 1 < room)
+            text[have++] = '~';
+        tell_address(text + have, room - have, place->words[i], true, true, plainly);
+    }
+}
+
+/* What follows the place: where in its memory or frame the lock is. */
+static void tell_offset(char *text, size_t room, const struct raw_class *class) {
+    text[0] = 0;
+    if (class->kind == CLASS_HEAP)
+        snprintf(text, room, ".m%lu", (unsigned long)class->offset);
+    else if (class->kind == CLASS_STACK)
+        snprintf(text, room, ".s%lu", (unsigned long)class->offset);
+}
+
+static const char *const own_names[] = {"unknown", "loader"};
+
+static void tell_class(char *text, size_t room, struct arena *a, const struct raw_class *class, bool plainly) {
+    char offset[32];
+    if (class->kind == CLASS_NAMED)
+        snprintf(text, room, "%s", own_names[class->place < sizeof own_names / sizeof *own_names ? class->place : 0]);
+    else if (class->kind == CLASS_STATIC || class->kind == CLASS_STACK)
+        tell_address(text, room, told_word(a, class->word), false, class->kind == CLASS_STACK, plainly);
+    else
+        tell_place(text, room, place_numbered(a, class->place), plainly);
+    tell_offset(offset, sizeof offset, class);
+    size_t have = strlen(text);
+    snprintf(text + have, room - have, "%s", offset);
+}
+
+/* ---- Keys. */
+
+static uint32_t hash_of(const char *text) {
+    uint64_t hash = UINT64_C(14695981039346656037);
+    for (; *text; text++)
+        hash = (hash ^ (unsigned char)*text) * UINT64_C(1099511628211);
+    return (uint32_t)(hash ^ hash >> 32);
+}
+
+#define MARK 9 /* the bytes of `#` and eight digits */
+
+/* A name that is too long for the format is cut, and ends with a number made of all of it. */
+static void put_name(char *to, const char *name, const char *all) {
+    if (strlen(name) <= MAX_NAME && name == all)
+        snprintf(to, MAX_NAME + 1, "%s", name);
+    else
+        snprintf(to, MAX_NAME + 1, "%.*s#%08x", MAX_NAME - MARK, name, hash_of(all));
+}
+
+/* Keys by the hash of their name: the first of each hash, and from each key the next. */
+#define HASHES 4096
+static int first_of[HASHES], *next_of; /* one more than the key; 0 is none */
+static size_t next_count;
+
+static int key_named(const char *name) {
+    for (int i = first_of[hash_of(name) % HASHES]; i; i = next_of[i - 1])
+        if (strcmp(keys[i - 1].name, name) == 0)
+            return i - 1;
+    return NO_KEY;
+}
+
+static int add_key(struct key key) {
+    int *first = &first_of[hash_of(key.name) % HASHES];
+    PUSH(keys, key_count, key);
+    PUSH(next_of, next_count, *first);
+    *first = (int)key_count;
+    return (int)key_count - 1;
+}
+
+static uint64_t first_word(struct arena *a, const struct raw_class *class) {
+    if (class->kind == CLASS_STATIC || class->kind == CLASS_STACK)
+        return told_word(a, class->word);
+    const struct place *place = place_numbered(a, class->place);
+    return class->kind != CLASS_NAMED && place->count ? place->words[0] : UINT64_MAX;
+}
+
+/* The key of a class: that of its name, or a new one. If another class has the name, a number of its own comes after it. */
+static int make_key(struct arena *a, const struct raw_class *class) {
+    char name[LONGEST], identity[LONGEST];
+    tell_class(identity, sizeof identity, a, class, true);
+    tell_class(name, sizeof name, a, class, false);
+    struct key key = {.at = first_word(a, class), .kind = (enum class_kind)class->kind};
+    put_name(key.name, name, name);
+    int there = key_named(key.name);
+    if (there != NO_KEY && strcmp(keys[there].identity, identity) != 0) {
+        put_name(key.name, name, identity);
+        there = key_named(key.name);
+    }
+    if (there != NO_KEY)
+        return there;
+    key.identity = checked(strdup(identity));
+    return add_key(key);
+}
+
+/* A class that has no key yet is marked by 0, and others by what is one more than their key. */
+int key_of(struct arena *a, uint32_t class) {
+    if (!a->keys[class]) {
+        const struct raw_class *c = part_of(a, RAW_CLASSES, class);
+        a->keys[class] = make_key(a, c) + 1;
+    }
+    return a->keys[class] - 1;
+}

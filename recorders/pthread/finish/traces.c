@@ -1,0 +1,253 @@
+/* Traces of threads. */
+#include "finish.h"
+
+#include <string.h>
+#include <unistd.h>
+
+struct sums sums;
+char *waiting_text, *held_text;
+
+static const char *const mode_words[] = {"w", "r", "rr", "tw", "tr", "trr"};
+
+FILE *created(const char *path) {
+    FILE *file = fopen(path, "w");
+    if (!file)
+        refuse("can't be written", path);
+    return file;
+}
+
+void closed(FILE *file, const char *path) {
+    bool is_bad = ferror(file);
+    if (fclose(file) != 0 || is_bad)
+        refuse("can't be written", path);
+}
+
+struct held {
+    uint32_t object;
+    int key;
+    bool is_written;
+};
+
+struct trace {
+    struct arena *arena;
+    const struct raw_thread *raw;
+    FILE *text, *places;
+    struct held held[RAW_HELD + 8];
+    size_t depth, written;
+    uint64_t events;
+    int version;
+};
+
+static bool is_try(enum mode mode) { return mode >= MODE_TRY_WRITE && mode <= MODE_TRY_REC_READ; }
+
+static void write_name(FILE *file, const char *name) {
+    if (!strpbrk(name, ",\"")) {
+        fputs(name, file);
+        return;
+    }
+    putc('"', file);
+    for (; *name; name++) {
+        if (*name == '"')
+            putc('"', file);
+        putc(*name, file);
+    }
+    putc('"', file);
+}
+
+/* ---- The places' file: a word, the modules, how many callers a record has, and eight bytes for each. */
+
+static void begin_places(FILE *file) {
+    uint32_t many = (uint32_t)module_count, each = (uint32_t)frames;
+    fwrite("places1\n", 8, 1, file);
+    fwrite(&many, sizeof many, 1, file);
+    for (size_t i = 0; i < module_count; i++) {
+        uint32_t length = (uint32_t)strlen(modules[i].path);
+        fwrite(&length, sizeof length, 1, file);
+        fwrite(modules[i].path, length, 1, file);
+    }
+    fwrite(&each, sizeof each, 1, file);
+}
+
+static void write_place(FILE *file, const struct place *place) {
+    for (uint32_t i = 0; i < (uint32_t)frames; i++) {
+        uint64_t word = place && i < place->count ? place->words[i] : UINT64_MAX;
+        fwrite(&word, sizeof word, 1, file);
+    }
+}
+
+/* ---- Records. */
+
+static void write_event(struct trace *t, const struct held *h, const char *mode, uint32_t place) {
+    fputs(mode ? "acq," : "rel,", t->text);
+    write_name(t->text, keys[h->key].name);
+    if (mode)
+        fprintf(t->text, ",0,%s\n", mode);
+    else
+        fputs(",0\n", t->text);
+    write_place(t->places, place_numbered(t->arena, place));
+    t->events++;
+}
+
+static void take(struct trace *t, const struct raw_record *r) {
+    enum mode mode = raw_mode(r->what);
+    struct held h = {raw_object(r->what), 0, false};
+    if (t->depth == RAW_HELD)
+        return;
+    h.key = key_of(t->arena, class_of(t->arena, h.object));
+    if (is_try(mode) && t->version == 1)
+        sums.tries++;
+    else if (h.key >= MAX_KEYS)
+        sums.classes++;
+    else if (t->written == MAX_HELD)
+        sums.deep++;
+    else
+        h.is_written = true;
+    t->held[t->depth++] = h;
+    if (h.is_written) {
+        t->written++;
+        write_event(t, &h, mode_words[mode], r->place);
+    }
+}
+
+/* A release ends the newest acquisition of its object. */
+static void give_back(struct trace *t, const struct raw_record *r) {
+    size_t i = t->depth;
+    while (i > 0 && t->held[i - 1].object != raw_object(r->what))
+        i--;
+    if (i == 0)
+        return;
+    struct held h = t->held[i - 1];
+    if (h.is_written) {
+        t->written--;
+        write_event(t, &h, NULL, r->place);
+    }
+    memmove(&t->held[i - 1], &t->held[i], (t->depth - i) * sizeof t->held[0]);
+    t->depth--;
+}
+
+/* ---- How a thread ended. */
+
+static void tell_held(FILE *file, const struct trace *t, size_t count) {
+    for (size_t i = 0; i < count; i++)
+        fprintf(file, "%s%s", i ? ", " : "", keys[t->held[i].key].name);
+}
+
+/* Adds what `tell` writes to a text. */
+static void add_line(char **text, const struct trace *t, const char *name, void (*tell)(FILE *, const struct trace *)) {
+    char *line = NULL;
+    size_t length = 0, had = *text ? strlen(*text) : 0;
+    FILE *file = checked(open_memstream(&line, &length));
+    fprintf(file, "  %s ", name);
+    tell(file, t);
+    putc('\n', file);
+    fclose(file);
+    *text = checked(realloc(*text, had + length + 1));
+    memcpy(*text + had, line, length + 1);
+    free(line);
+}
+
+static void tell_wait(FILE *file, const struct trace *t) {
+    fprintf(file, "waits for %s", keys[t->held[t->depth - 1].key].name);
+    if (t->depth > 1)
+        fputs(", holding ", file);
+    tell_held(file, t, t->depth - 1);
+}
+
+static void tell_end(FILE *file, const struct trace *t) {
+    fputs("ended holding ", file);
+    tell_held(file, t, t->depth);
+}
+
+static void tell_last(const struct trace *t, const char *name) {
+    if (t->raw->waits && t->depth) {
+        sums.waiting++;
+        add_line(&waiting_text, t, name, tell_wait);
+    } else if (t->raw->ended && t->depth) {
+        sums.held_at_end++;
+        add_line(&held_text, t, name, tell_end);
+    }
+}
+
+/* ---- A trace. */
+
+static void write_records(struct trace *t) {
+    for (uint64_t i = 0; i < t->raw->count; i++) {
+        const struct raw_record *r = record_of(t->arena, t->raw, i);
+        if (!r)
+            continue;
+        if (raw_mode(r->what) == MODE_RELEASE)
+            give_back(t, r);
+        else
+            take(t, r);
+    }
+}
+
+static void write_trace(const char *folder, struct trace *t) {
+    char name[32], path[4300], places[4400];
+    snprintf(name, sizeof name, "task-%04lu", (unsigned long)sums.threads + 1);
+    snprintf(path, sizeof path, "%s/%s.csv", folder, name);
+    snprintf(places, sizeof places, "%s.places", path);
+    t->text = created(path);
+    t->places = created(places);
+    fprintf(t->text, "lockdep,%d\n", t->version);
+    begin_places(t->places);
+    write_place(t->places, NULL);
+    write_records(t);
+    closed(t->text, path);
+    closed(t->places, places);
+    if (t->events == 0) {
+        unlink(path);
+        unlink(places);
+        return;
+    }
+    sums.threads++;
+    sums.events += t->events;
+    tell_last(t, name);
+}
+
+static void add_left_out(const struct raw_left_out *from) {
+    sums.raw.releases += from->releases;
+    sums.raw.full += from->full;
+    sums.raw.deep += from->deep;
+    sums.raw.reentered += from->reentered;
+    sums.raw.no_room += from->no_room;
+    sums.raw.retried += from->retried;
+    sums.raw.repeated += from->repeated;
+}
+
+void write_traces(const char *folder, int version) {
+    static struct trace t;
+    for (size_t i = 0; i < arena_count; i++)
+        for (uint32_t n = 1; n <= count_of(&arenas[i], RAW_THREADS); n++) {
+            const struct raw_thread *raw = part_of(&arenas[i], RAW_THREADS, n);
+            if (!raw->is_ready)
+                continue;
+            sums.operations += raw->calls;
+            add_left_out(&raw->left_out);
+            memset(&t, 0, sizeof t);
+            t.arena = &arenas[i];
+            t.raw = raw;
+            t.version = version;
+            write_trace(folder, &t);
+        }
+}
+
+/* ---- The classes. */
+
+static const char *const kind_words[CLASS_KINDS] = {"unknown", "init", "static", "heap", "stack", "take", "named"};
+
+/* Where the class is. Of code it is an address after a call, and so of a function the second one. */
+static void write_class(FILE *file, const struct key *key) {
+    uint64_t offset = key->at == UINT64_MAX ? 0 : raw_word_offset(key->at) + (key->kind == CLASS_STACK);
+    fprintf(file, "%s\t%s\t%lx\t%s\n", key->name, key->at == UINT64_MAX ? "-" : modules[raw_word_module(key->at)].path,
+            (unsigned long)offset, kind_words[key->kind < CLASS_KINDS ? key->kind : 0]);
+}
+
+void write_classes(const char *folder) {
+    char path[4300];
+    snprintf(path, sizeof path, "%s/classes", folder);
+    FILE *file = created(path);
+    for (size_t i = 0; i < key_count && i < MAX_KEYS; i++)
+        write_class(file, &keys[i]);
+    closed(file, path);
+}

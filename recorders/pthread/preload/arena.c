@@ -1,0 +1,229 @@
+/* The file of a recorded program and the library's own memory: both are mapped once, before the program begins. */
+#include "own.h"
+
+#include <errno.h>
+#include <fcntl.h>
+#include <pthread.h>
+#include <stdio.h>
+#include <stdlib.h>
+#include <string.h>
+#include <sys/mman.h>
+#include <sys/resource.h>
+#include <sys/stat.h>
+#include <sys/statfs.h>
+#include <time.h>
+#include <unistd.h>
+
+struct raw_arena *arena;
+uint32_t own_process;
+
+/* ---- Parts of the file. */
+
+void *part_of(enum raw_kind kind, uint32_t number) {
+    return (char *)arena + arena->regions[kind].from + (uint64_t)(number - 1) * raw_size(kind);
+}
+
+uint32_t take_part(enum raw_kind kind) {
+    struct raw_region *region = &arena->regions[kind];
+    if (LOAD(&region->used) < region->room) {
+        uint32_t number = ADD(&region->used, 1) + 1;
+        if (number <= region->room)
+            return number;
+    }
+    ADD(&region->refused, 1);
+    return 0;
+}
+
+struct raw_record *take_chunk(uint32_t chunk) {
+    uint64_t bytes = raw_chunk_room(chunk) * sizeof(struct raw_record);
+    if (LOAD(&arena->records_used) + bytes <= arena->records_end) {
+        uint64_t from = ADD(&arena->records_used, bytes);
+        if (from + bytes <= arena->records_end)
+            return (struct raw_record *)((char *)arena + from);
+    }
+    ADD(&arena->records_refused, 1);
+    return NULL;
+}
+
+/* How the file is shared out: of each kind a share of it in 64ths, and no more than so many. The rest is for records. */
+static const struct {
+    uint32_t share, most;
+} plan[RAW_KINDS] = {
+    [RAW_PROCESSES] = {1, 1 << 16}, [RAW_MODULES] = {10, 1 << 13}, [RAW_PLACES] = {12, 1 << 20},
+    [RAW_CLASSES] = {4, 0xffff},    [RAW_OBJECTS] = {2, 1 << 22},  [RAW_THREADS] = {8, 1 << 20},
+};
+
+static uint64_t rounded(uint64_t n, uint64_t to) { return (n + to - 1) / to * to; }
+
+/* Regions begin at a page of their own, unless the file is so small that this would waste it. */
+static void share_out(struct raw_arena *a, uint64_t bytes) {
+    uint64_t page = bytes < RAW_SMALL ? 64 : 4096, at = rounded(sizeof *a, page);
+    for (int kind = 0; kind < RAW_KINDS; kind++) {
+        uint64_t room = bytes * plan[kind].share / 64 / raw_size((enum raw_kind)kind);
+        a->regions[kind].room = room < plan[kind].most ? (uint32_t)room : plan[kind].most;
+        a->regions[kind].from = at;
+        at = rounded(at + (uint64_t)a->regions[kind].room * raw_size((enum raw_kind)kind), page);
+    }
+    a->records_used = at;
+    a->records_end = bytes;
+    a->bytes = bytes;
+}
+
+/* ---- Limits. */
+
+static uint64_t limit_of(int which) {
+    struct rlimit limit;
+    return getrlimit((__rlimit_resource_t)which, &limit) == 0 ? limit.rlim_cur : RLIM_INFINITY;
+}
+
+static uint64_t least(uint64_t a, uint64_t b) { return a < b ? a : b; }
+
+/* Of the memory that the program may have, the recorder takes no more than a sixteenth for each of its mappings. */
+static uint64_t allowed_memory(void) { return least(limit_of(RLIMIT_AS), limit_of(RLIMIT_DATA)) / 16; }
+
+/* No more than half of what is free on the disk, since a file with holes needs its room when they are written. */
+static uint64_t allowed_on_disk(int file) {
+    struct statfs disk;
+    if (fstatfs(file, &disk) != 0 || disk.f_blocks == 0)
+        return UINT64_MAX;
+    return (uint64_t)disk.f_bavail * (uint64_t)disk.f_bsize / 2;
+}
+
+/* Gives the file its size. A limit that the program was given for itself is lifted meanwhile, as far as it can be. */
+static bool extend(int file, uint64_t bytes) {
+    struct rlimit limit, lifted;
+    bool is_lifted = getrlimit(RLIMIT_FSIZE, &limit) == 0 && limit.rlim_cur < bytes && limit.rlim_max > limit.rlim_cur;
+    if (is_lifted) {
+        lifted = (struct rlimit){limit.rlim_max, limit.rlim_max};
+        is_lifted = setrlimit(RLIMIT_FSIZE, &lifted) == 0;
+    }
+    bool is_allowed = limit_of(RLIMIT_FSIZE) >= bytes; /* a file beyond it would be the program's death */
+    bool is_extended = is_allowed && ftruncate(file, (off_t)bytes) == 0;
+    if (is_lifted)
+        setrlimit(RLIMIT_FSIZE, &limit);
+    return is_extended;
+}
+
+/* ---- The library's own memory. */
+
+#define PRIVATE_BYTES (UINT64_C(8) << 30)
+#define PRIVATE_LEAST (UINT64_C(1) << 20)
+
+static char *private_from;
+static uint64_t private_room, private_used;
+
+static void map_private(void) {
+    uint64_t bytes = least(PRIVATE_BYTES, allowed_memory());
+    for (; bytes >= PRIVATE_LEAST; bytes /= 2) {
+        void *p = mmap(NULL, bytes, PROT_READ | PROT_WRITE, MAP_PRIVATE | MAP_ANONYMOUS | MAP_NORESERVE, -1, 0);
+        if (p == MAP_FAILED)
+            continue;
+        madvise(p, bytes, MADV_DONTDUMP);
+        private_from = p;
+        private_room = bytes;
+        return;
+    }
+}
+
+void *take_private(size_t bytes) {
+    bytes = rounded(bytes, 64);
+    if (LOAD(&private_used) + bytes > private_room)
+        return NULL;
+    uint64_t at = ADD(&private_used, bytes);
+    return at + bytes <= private_room ? private_from + at : NULL;
+}
+
+/* ---- The beginning. */
+
+static struct raw_arena *map_file(int file) {
+    uint64_t bytes = least(least(RAW_BYTES, allowed_memory()), allowed_on_disk(file));
+    for (; bytes >= RAW_LEAST; bytes /= 2) {
+        bytes &= ~UINT64_C(4095);
+        if (!extend(file, bytes))
+            continue;
+        void *p = mmap(NULL, bytes, PROT_READ | PROT_WRITE, MAP_SHARED | MAP_NORESERVE, file, 0);
+        if (p == MAP_FAILED)
+            continue;
+        madvise(p, bytes, MADV_DONTDUMP);
+        madvise(p, bytes, MADV_RANDOM); /* else the system fills the holes around each page that is written */
+        share_out(p, bytes);
+        return p;
+    }
+    return NULL;
+}
+
+#define MOST_PROGRAMS 100000 /* that one process runs, one after the other */
+
+/* Makes the process's file. The name has the process's number, and how many programs that process has run before. */
+static struct raw_arena *make_file(const char *folder) {
+    char path[4096];
+    int file = -1;
+    for (unsigned n = 0; n < MOST_PROGRAMS; n++) {
+        snprintf(path, sizeof path, "%s/%d-%u.arena", folder, (int)getpid(), n);
+        file = open(path, O_RDWR | O_CREAT | O_EXCL | O_CLOEXEC, 0644);
+        if (file >= 0 || errno != EEXIST)
+            break;
+    }
+    struct raw_arena *made = NULL;
+    if (file >= 0) {
+        fchmod(file, 0644);
+        made = map_file(file);
+        close(file);
+        if (!made)
+            unlink(path);
+    }
+    if (!made) {
+        strcpy(strrchr(path, '.'), ".refused");
+        mknod(path, S_IFREG | 0644, 0); /* it needs no descriptor */
+    }
+    return made;
+}
+
+static void note_process(uint32_t parent) {
+    own_process = take_part(RAW_PROCESSES);
+    if (!own_process)
+        return;
+    struct raw_process *process = part_of(RAW_PROCESSES, own_process);
+    process->parent = parent;
+    STORE(&process->id, (uint32_t)getpid());
+}
+
+/* A child goes on in its parent's file, and knows what its parent knew. */
+static void after_fork_in_child(void) {
+    note_process(own_process);
+    begin_threads();
+}
+
+static void begin(void) {
+    const char *folder = getenv("LOCKDEP_RECORD");
+    if (!folder || !folder[0] || strlen(folder) + 64 > 4096)
+        return;
+    map_private();
+    struct raw_arena *made = private_from ? make_file(folder) : NULL;
+    if (!made)
+        return;
+    struct timespec now;
+    clock_gettime(CLOCK_REALTIME, &now);
+    made->started = (uint64_t)now.tv_sec * 1000000000 + (uint64_t)now.tv_nsec;
+    arena = made;
+    note_process(0);
+    note_modules();
+    begin_threads();
+    pthread_atfork(NULL, NULL, after_fork_in_child);
+    STORE(&made->magic, RAW_MAGIC);
+}
+
+static int begin_state; /* 0 not begun, 1 under way, 2 done */
+
+/* Whoever comes first begins. A call that comes meanwhile isn't recorded. */
+void begin_once(void) {
+    int state = 0;
+    if (LIKELY(LOAD(&begin_state) == 2) || !SWAP(&begin_state, &state, 1))
+        return;
+    int saved = errno;
+    busy = true;
+    begin();
+    busy = false;
+    errno = saved;
+    STORE(&begin_state, 2);
+}

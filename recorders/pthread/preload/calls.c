@@ -1,0 +1,240 @@
+/* The functions that programs call in place of glibc's. */
+#include "own.h"
+
+#include <dlfcn.h>
+#include <errno.h>
+#include <pthread.h>
+#include <sched.h>
+#include <string.h>
+#include <threads.h>
+#include <time.h>
+
+/* ---- The functions behind ours. */
+
+#define REALS(X)                                                                                                       \
+    X(pthread_mutex_init) X(pthread_mutex_destroy) X(pthread_mutex_lock) X(pthread_mutex_trylock)                       \
+    X(pthread_mutex_timedlock) X(pthread_mutex_clocklock) X(pthread_mutex_unlock) X(pthread_rwlock_init)                 \
+    X(pthread_rwlock_destroy) X(pthread_rwlock_rdlock) X(pthread_rwlock_tryrdlock) X(pthread_rwlock_timedrdlock)          \
+    X(pthread_rwlock_clockrdlock) X(pthread_rwlock_wrlock) X(pthread_rwlock_trywrlock) X(pthread_rwlock_timedwrlock)      \
+    X(pthread_rwlock_clockwrlock) X(pthread_rwlock_unlock) X(pthread_spin_init) X(pthread_spin_destroy)                   \
+    X(pthread_spin_lock) X(pthread_spin_trylock) X(pthread_spin_unlock) X(pthread_cond_wait) X(pthread_cond_timedwait)    \
+    X(pthread_cond_clockwait) X(mtx_init) X(mtx_destroy) X(mtx_lock) X(mtx_timedlock) X(mtx_trylock) X(mtx_unlock)        \
+    X(cnd_wait) X(cnd_timedwait) X(dlclose)
+
+#define DECLARE(name) static __typeof__(&name) real_##name;
+REALS(DECLARE)
+
+static int resolve_state; /* 0 not begun, 1 under way, 2 done */
+/* Volatile, since the C library declares its functions as if none of them could call us. */
+static EARLY_THREAD_LOCAL volatile bool resolving;
+
+/* Some functions have an older version beside the one that programs mean. */
+static void *find_real(const char *name) {
+    bool is_double = strcmp(name, "pthread_cond_wait") == 0 || strcmp(name, "pthread_cond_timedwait") == 0;
+    void *found = is_double ? dlvsym(RTLD_NEXT, name, "GLIBC_2.3.2") : NULL;
+    return found ? found : dlsym(RTLD_NEXT, name);
+}
+
+#define FIND(name) real_##name = (__typeof__(&name))find_real(#name);
+
+/* Whether the functions behind ours are known. The look-up itself may call malloc, and a malloc of the program's own may
+   lock: such a call of the thread that looks them up does nothing. Others wait. */
+static bool look_up(void) {
+    if (resolving)
+        return false;
+    int state = 0;
+    if (SWAP(&resolve_state, &state, 1)) {
+        resolving = true;
+        REALS(FIND)
+        resolving = false;
+        STORE(&resolve_state, 2);
+        begin_once();
+    }
+    while (LOAD(&resolve_state) != 2)
+        sched_yield();
+    return true;
+}
+
+__attribute__((constructor)) static void at_start(void) { look_up(); }
+
+static inline bool resolved(void) { return LIKELY(LOAD(&resolve_state) == 2) || look_up(); }
+
+/* ---- Acquisitions. `took` of an answer: 0, or the owner died with a robust mutex held. */
+
+static inline bool took(int answer) { return answer == 0 || answer == EOWNERDEAD; }
+
+/* A call that takes a lock or fails at once. */
+#define TRYING(name, mode, parameters, arguments)                                                                      \
+    EXPORT int name parameters {                                                                                       \
+        if (!resolved())                                                                                               \
+            return 0;                                                                                                  \
+        int answer = real_##name arguments;                                                                            \
+        tried((uintptr_t)lock, !took(answer));                                                                         \
+        if (took(answer))                                                                                              \
+            acquired((uintptr_t)lock, mode, IS_EXCLUSIVE(lock), HERE);                                                 \
+        return answer;                                                                                                 \
+    }
+
+/* A call that may wait. The lock is tried first; only if it is taken by another is it waited for, and that is written before. What
+   a call would refuse for another reason than that, it refuses as before: `is_sound` says that it may be tried. */
+#define TAKING(name, try, taken, mode, is_sound, parameters, arguments)                                                \
+    EXPORT int name parameters {                                                                                       \
+        if (!resolved())                                                                                               \
+            return 0;                                                                                                  \
+        int answer = is_sound ? real_##try(lock) : taken;                                                              \
+        if (answer != taken) {                                                                                         \
+            if (took(answer))                                                                                          \
+                acquired((uintptr_t)lock, mode, IS_EXCLUSIVE(lock), HERE);                                             \
+            return answer;                                                                                             \
+        }                                                                                                              \
+        bool is_wish = begin_wish((uintptr_t)lock, mode, HERE);                                                        \
+        answer = real_##name arguments;                                                                                \
+        if (is_wish)                                                                                                   \
+            end_wish((uintptr_t)lock, took(answer), HERE);                                                             \
+        return answer;                                                                                                 \
+    }
+
+/* A mutex that its holder takes again is a recursive one, and is taken once. */
+#define IS_EXCLUSIVE(lock) _Generic((lock), pthread_mutex_t *: true, mtx_t *: true, default: false)
+#define IS_CLOCK(clock) ((clock) == CLOCK_REALTIME || (clock) == CLOCK_MONOTONIC)
+
+#define RELEASING(name, type)                                                                                          \
+    EXPORT int name(type *lock) {                                                                                      \
+        if (!resolved())                                                                                               \
+            return 0;                                                                                                  \
+        releasing((uintptr_t)lock, HERE);                                                                              \
+        return real_##name(lock);                                                                                      \
+    }
+
+#define DESTROYING(name, type)                                                                                         \
+    EXPORT int name(type *lock) {                                                                                      \
+        if (!resolved())                                                                                               \
+            return 0;                                                                                                  \
+        int answer = real_##name(lock);                                                                                \
+        if (answer == 0)                                                                                               \
+            destroyed((uintptr_t)lock);                                                                                \
+        return answer;                                                                                                 \
+    }
+
+#define INITIALISING(name, type, parameter, argument)                                                                  \
+    EXPORT int name(type *lock, parameter) {                                                                           \
+        if (!resolved())                                                                                               \
+            return 0;                                                                                                  \
+        int answer = real_##name(lock, argument);                                                                      \
+        if (answer == 0)                                                                                               \
+            initialised((uintptr_t)lock, HERE);                                                                        \
+        return answer;                                                                                                 \
+    }
+
+typedef const struct timespec *deadline;
+
+INITIALISING(pthread_mutex_init, pthread_mutex_t, const pthread_mutexattr_t *how, how)
+DESTROYING(pthread_mutex_destroy, pthread_mutex_t)
+TAKING(pthread_mutex_lock, pthread_mutex_trylock, EBUSY, MODE_WRITE, true, (pthread_mutex_t * lock), (lock))
+TRYING(pthread_mutex_trylock, MODE_TRY_WRITE, (pthread_mutex_t * lock), (lock))
+TAKING(pthread_mutex_timedlock, pthread_mutex_trylock, EBUSY, MODE_WRITE, true, (pthread_mutex_t * lock, deadline until), (lock, until))
+TAKING(pthread_mutex_clocklock, pthread_mutex_trylock, EBUSY, MODE_WRITE, IS_CLOCK(clock), (pthread_mutex_t * lock, clockid_t clock, deadline until), (lock, clock, until))
+RELEASING(pthread_mutex_unlock, pthread_mutex_t)
+
+/* A read-write lock of glibc lets readers pass waiting writers, unless it was made to prefer writers. */
+static uint8_t reads(const pthread_rwlock_t *lock) {
+    return lock->__data.__flags == PTHREAD_RWLOCK_PREFER_WRITER_NONRECURSIVE_NP ? MODE_READ : MODE_REC_READ;
+}
+
+#define TRIES (MODE_TRY_WRITE - MODE_WRITE)
+
+INITIALISING(pthread_rwlock_init, pthread_rwlock_t, const pthread_rwlockattr_t *how, how)
+DESTROYING(pthread_rwlock_destroy, pthread_rwlock_t)
+TAKING(pthread_rwlock_rdlock, pthread_rwlock_tryrdlock, EBUSY, reads(lock), true, (pthread_rwlock_t * lock), (lock))
+TRYING(pthread_rwlock_tryrdlock, (uint8_t)(reads(lock) + TRIES), (pthread_rwlock_t * lock), (lock))
+TAKING(pthread_rwlock_timedrdlock, pthread_rwlock_tryrdlock, EBUSY, reads(lock), true, (pthread_rwlock_t * lock, deadline until), (lock, until))
+TAKING(pthread_rwlock_clockrdlock, pthread_rwlock_tryrdlock, EBUSY, reads(lock), IS_CLOCK(clock), (pthread_rwlock_t * lock, clockid_t clock, deadline until), (lock, clock, until))
+TAKING(pthread_rwlock_wrlock, pthread_rwlock_trywrlock, EBUSY, MODE_WRITE, true, (pthread_rwlock_t * lock), (lock))
+TRYING(pthread_rwlock_trywrlock, MODE_TRY_WRITE, (pthread_rwlock_t * lock), (lock))
+TAKING(pthread_rwlock_timedwrlock, pthread_rwlock_trywrlock, EBUSY, MODE_WRITE, true, (pthread_rwlock_t * lock, deadline until), (lock, until))
+TAKING(pthread_rwlock_clockwrlock, pthread_rwlock_trywrlock, EBUSY, MODE_WRITE, IS_CLOCK(clock), (pthread_rwlock_t * lock, clockid_t clock, deadline until), (lock, clock, until))
+RELEASING(pthread_rwlock_unlock, pthread_rwlock_t)
+
+INITIALISING(pthread_spin_init, pthread_spinlock_t volatile, int shared, shared)
+DESTROYING(pthread_spin_destroy, pthread_spinlock_t volatile)
+TAKING(pthread_spin_lock, pthread_spin_trylock, EBUSY, MODE_WRITE, true, (pthread_spinlock_t volatile *lock), (lock))
+TRYING(pthread_spin_trylock, MODE_TRY_WRITE, (pthread_spinlock_t volatile *lock), (lock))
+RELEASING(pthread_spin_unlock, pthread_spinlock_t volatile)
+
+/* C11's locks are the same objects, but glibc takes them without calling the functions above. */
+EXPORT int mtx_init(mtx_t *lock, int kind) {
+    if (!resolved())
+        return thrd_success;
+    int answer = real_mtx_init(lock, kind);
+    if (answer == thrd_success)
+        initialised((uintptr_t)lock, HERE);
+    return answer;
+}
+
+EXPORT void mtx_destroy(mtx_t *lock) {
+    if (!resolved())
+        return;
+    real_mtx_destroy(lock);
+    destroyed((uintptr_t)lock);
+}
+
+TAKING(mtx_lock, mtx_trylock, thrd_busy, MODE_WRITE, true, (mtx_t * lock), (lock))
+TAKING(mtx_timedlock, mtx_trylock, thrd_busy, MODE_WRITE, true, (mtx_t * restrict lock, const struct timespec *restrict until), (lock, until))
+TRYING(mtx_trylock, MODE_TRY_WRITE, (mtx_t * lock), (lock))
+RELEASING(mtx_unlock, mtx_t)
+
+/* ---- Waiting on a condition releases the mutex and takes it again, also if the thread is cancelled meanwhile. */
+
+struct waiting {
+    uintptr_t lock;
+    struct call call;
+    bool is_released;
+};
+
+static void begin_wait(struct waiting *w) {
+    w->is_released = is_held_once(w->lock);
+    if (w->is_released)
+        releasing(w->lock, w->call);
+}
+
+static void end_wait(void *value) {
+    struct waiting *w = value;
+    if (w->is_released)
+        acquired(w->lock, MODE_WRITE, true, w->call);
+}
+
+#define WAITING(name, parameters, arguments)                                                                           \
+    EXPORT int name parameters {                                                                                       \
+        if (!resolved())                                                                                               \
+            return 0;                                                                                                  \
+        struct waiting w = {(uintptr_t)lock, HERE, false};                                                             \
+        int answer;                                                                                                    \
+        begin_wait(&w);                                                                                                \
+        pthread_cleanup_push(end_wait, &w);                                                                            \
+        answer = real_##name arguments;                                                                                \
+        pthread_cleanup_pop(1);                                                                                        \
+        return answer;                                                                                                 \
+    }
+
+WAITING(pthread_cond_wait, (pthread_cond_t * condition, pthread_mutex_t *lock), (condition, lock))
+WAITING(pthread_cond_timedwait, (pthread_cond_t * condition, pthread_mutex_t *lock, deadline until), (condition, lock, until))
+WAITING(pthread_cond_clockwait, (pthread_cond_t * condition, pthread_mutex_t *lock, clockid_t clock, deadline until), (condition, lock, clock, until))
+WAITING(cnd_wait, (cnd_t * condition, mtx_t *lock), (condition, lock))
+WAITING(cnd_timedwait, (cnd_t *restrict condition, mtx_t *restrict lock, const struct timespec *restrict until), (condition, lock, until))
+
+/* ---- Libraries. */
+
+/* A library that goes takes its addresses with it. */
+EXPORT int dlclose(void *handle) {
+    if (!resolved())
+        return 0;
+    int answer = real_dlclose(handle);
+    if (is_recording() && !busy) {
+        int saved = errno;
+        busy = true;
+        forget_closed_modules();
+        busy = false;
+        errno = saved;
+    }
+    return answer;
+}

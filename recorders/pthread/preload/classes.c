@@ -1,0 +1,219 @@
+/* Places, classes and objects.
+
+   A class is where a lock was initialised; else what static lock it is; else where its memory was allocated, and where in that
+   memory it is; else in which function's frame it lies; else where it was first taken. An object is one of the class's locks that
+   was ever nested with others, as long as no more than RAW_APART are alive: all others of the class are one object. */
+#include "own.h"
+
+/* ---- Places. */
+
+static struct names places;
+
+static uint64_t stack_key(const struct stack *stack) {
+    uint64_t key = stack->callers[0];
+    for (uint32_t i = 1; i < stack->count; i++)
+        key = mixed(key) ^ stack->callers[i];
+    return key | 1;
+}
+
+static uint32_t define_place(const struct stack *stack) {
+    uint32_t number = take_part(RAW_PLACES);
+    if (!number)
+        return 0;
+    struct raw_place *place = part_of(RAW_PLACES, number);
+    for (uint32_t i = 0; i < stack->count; i++)
+        place->callers[i] = word_of(stack->callers[i]);
+    STORE(&place->count, stack->count);
+    return number;
+}
+
+/* The value of a slot, or the new one if it has none. Of two that are put at once the first counts. */
+static uint32_t settled(uint32_t *slot, uint32_t new) {
+    uint32_t there = 0;
+    return !new || SWAP(slot, &there, new) ? new : there;
+}
+
+uint32_t place_of(const struct stack *stack) {
+    uint32_t *slot = added_slot(&places, stack_key(stack));
+    if (!slot)
+        return 0;
+    uint32_t place = LOAD(slot);
+    return LIKELY(place) ? place : settled(slot, define_place(stack));
+}
+
+uint32_t place_of_caller(uintptr_t caller) {
+    struct stack stack = {.count = 1, .callers = {caller}};
+    return place_of(&stack);
+}
+
+static uint32_t place_here(struct call call) {
+    struct stack stack;
+    take_stack(&stack, call, RAW_FRAMES);
+    return place_of(&stack);
+}
+
+/* ---- What the library keeps of each class and of each object, in blocks that are made when they are needed. */
+
+#define CLASS_BLOCK 64
+#define OBJECT_BLOCK 4096
+#define BLOCKS 1024
+
+struct kept_of_class {
+    uint32_t alive; /* a bit for each ordinal, 1 being the lowest */
+    uint32_t objects[RAW_APART + 1];
+};
+
+static struct kept_of_class *class_blocks[BLOCKS];
+static uint32_t *object_blocks[BLOCKS];
+
+static void *block_at(void **at, size_t bytes) {
+    void *block = LOAD(at);
+    if (LIKELY(block))
+        return block;
+    void *made = take_private(bytes);
+    return made && SWAP(at, &block, made) ? made : block;
+}
+
+static struct kept_of_class *kept_of(uint32_t class) {
+    struct kept_of_class *block = block_at((void **)&class_blocks[class / CLASS_BLOCK % BLOCKS], sizeof *block * CLASS_BLOCK);
+    return block ? &block[class % CLASS_BLOCK] : NULL;
+}
+
+/* How often the object was released by somebody who wasn't seen to hold it. */
+uint32_t *foreign_releases(uint32_t object) {
+    uint32_t *block = block_at((void **)&object_blocks[object / OBJECT_BLOCK % BLOCKS], sizeof *block * OBJECT_BLOCK);
+    return block ? &block[object % OBJECT_BLOCK] : NULL;
+}
+
+/* ---- Classes. */
+
+static struct names classes;
+
+static uint64_t class_key(const struct raw_class *c) {
+    return mixed(mixed(mixed(c->word + c->kind) + c->offset) + c->place) | 1;
+}
+
+static uint32_t define_class(const struct raw_class *new) {
+    uint32_t number = take_part(RAW_CLASSES);
+    if (!number)
+        return 0;
+    struct raw_class *class = part_of(RAW_CLASSES, number);
+    class->place = new->place;
+    class->word = new->word;
+    class->offset = new->offset;
+    STORE(&class->kind, new->kind);
+    return number;
+}
+
+static uint32_t known_class(struct raw_class class) {
+    uint32_t *slot = added_slot(&classes, class_key(&class));
+    if (!slot)
+        return 0;
+    uint32_t number = LOAD(slot);
+    return number ? number : settled(slot, define_class(&class));
+}
+
+static uint32_t class_of_lock(uintptr_t lock, struct call call) {
+    if (module_of(lock))
+        return known_class((struct raw_class){.kind = CLASS_STATIC, .word = word_of(lock)});
+    uint32_t place = place_here(call);
+    return place ? known_class((struct raw_class){.kind = CLASS_TAKE, .place = place}) : 0;
+}
+
+/* ---- Objects. */
+
+static uint32_t define_object(uint32_t class, uint32_t ordinal) {
+    uint32_t number = take_part(RAW_OBJECTS);
+    if (!number)
+        return 0;
+    struct raw_object *object = part_of(RAW_OBJECTS, number);
+    object->ordinal = ordinal;
+    STORE(&object->class, class);
+    return number;
+}
+
+uint32_t class_of(uint32_t object) { return ((struct raw_object *)part_of(RAW_OBJECTS, object))->class; }
+
+static uint32_t ordinal_of(uint32_t object) { return ((struct raw_object *)part_of(RAW_OBJECTS, object))->ordinal; }
+
+static uint32_t object_numbered(uint32_t class, uint32_t ordinal) {
+    struct kept_of_class *kept = kept_of(class);
+    if (!kept)
+        return 0;
+    uint32_t object = LOAD(&kept->objects[ordinal]);
+    return object ? object : settled(&kept->objects[ordinal], define_object(class, ordinal));
+}
+
+static uint32_t new_object(uintptr_t lock, uint32_t class) {
+    uint32_t object = class ? object_numbered(class, 0) : 0;
+    return object ? put_lock(lock, object) : 0;
+}
+
+uint32_t object_of_lock(uintptr_t lock, struct call call) {
+    uint32_t object = lock_object(lock);
+    return LIKELY(object) ? object : new_object(lock, class_of_lock(lock, call));
+}
+
+/* The smallest ordinal that no other object of the class has, or 0. */
+static uint32_t taken_ordinal(struct kept_of_class *kept) {
+    uint32_t alive = LOAD(&kept->alive);
+    while (~alive) {
+        uint32_t free = (uint32_t)__builtin_ctz(~alive);
+        if (SWAP(&kept->alive, &alive, alive | UINT32_C(1) << free))
+            return free + 1;
+    }
+    return 0;
+}
+
+static void give_ordinal(uint32_t class, uint32_t ordinal) {
+    struct kept_of_class *kept = kept_of(class);
+    if (kept && ordinal)
+        __atomic_fetch_and(&kept->alive, ~(UINT32_C(1) << (ordinal - 1)), __ATOMIC_ACQ_REL);
+}
+
+uint32_t apart(uintptr_t lock, uint32_t object) {
+    if (LIKELY(ordinal_of(object)))
+        return object;
+    uint32_t there = lock_object(lock), class = class_of(object);
+    if (there != object)
+        return there && class_of(there) == class ? there : object; /* another thread was first */
+    struct kept_of_class *kept = kept_of(class);
+    uint32_t ordinal = kept ? taken_ordinal(kept) : 0;
+    uint32_t own = ordinal ? object_numbered(class, ordinal) : 0;
+    if (own && put_lock(lock, own) == own)
+        return own;
+    give_ordinal(class, ordinal);
+    return object;
+}
+
+/* ---- Locks that are initialised, and those that are no more. */
+
+static void give_object_back(uint32_t object) { give_ordinal(class_of(object), ordinal_of(object)); }
+
+void forget_lock(uintptr_t lock) { drop_lock(lock, give_object_back); }
+
+void forget_locks_between(uintptr_t from, uintptr_t to) { drop_locks_between(from, to, give_object_back); }
+
+void know_by_place(uintptr_t lock, struct call call) {
+    forget_lock(lock);
+    uint32_t place = place_here(call);
+    if (place)
+        new_object(lock, known_class((struct raw_class){.kind = CLASS_INIT, .place = place}));
+}
+
+/* ---- A library was closed: places in it, and classes by them, are to be defined anew if the same addresses come again. */
+
+static bool is_place_gone(uint32_t number) {
+    const struct raw_place *place = part_of(RAW_PLACES, number);
+    for (uint32_t i = 0; i < place->count; i++)
+        if (is_gone(raw_word_module(place->callers[i])))
+            return true;
+    return false;
+}
+
+static void forget_gone_place(uint32_t *value) {
+    if (is_place_gone(*value))
+        STORE(value, 0);
+}
+
+void forget_places_in_closed_modules(void) { each_name(&places, forget_gone_place); }

@@ -1,0 +1,195 @@
+/* Modules: what is mapped where. They are found when the program starts, when a library is loaded, and else by the loader's own
+   table, which is read without a lock if it is that of glibc 2.35 or later. */
+#include "own.h"
+
+#include <dlfcn.h>
+#include <elf.h>
+#include <limits.h>
+#include <link.h>
+#include <stdio.h>
+#include <string.h>
+#include <unistd.h>
+
+#ifdef __GLIBC_PREREQ
+#if __GLIBC_PREREQ(2, 35)
+#define HAS_FIND_OBJECT
+#endif
+#endif
+
+#define MODULES 8192
+static struct module modules[MODULES];
+static uint32_t module_count;
+
+static const struct module *known_module(uintptr_t address) {
+    uint32_t count = LOAD(&module_count);
+    for (uint32_t i = 0; i < count && i < MODULES; i++)
+        if (address >= modules[i].from && address < modules[i].to && LOAD(&modules[i].is_ready) && !LOAD(&modules[i].is_gone))
+            return &modules[i];
+    return NULL;
+}
+
+static const char *recorded_path(const struct module *m) {
+    return ((struct raw_module *)part_of(RAW_MODULES, m->number))->path;
+}
+
+/* The path from the root, as far as there is room. The program itself has no name among the loader's. */
+static void put_path(char *path, const char *name) {
+    path[0] = 0;
+    if (!name[0]) {
+        ssize_t length = readlink("/proc/self/exe", path, RAW_PATH);
+        path[length > 0 ? length : 0] = 0;
+        return;
+    }
+    if (name[0] != '/' && strchr(name, '/') && getcwd(path, RAW_PATH - 1))
+        strcat(path, "/");
+    size_t length = strlen(path);
+    snprintf(path + length, RAW_PATH - length, "%s", name);
+}
+
+static void add_module(const struct module *new, const char *path) {
+    uint32_t number = take_part(RAW_MODULES);
+    if (!number)
+        return;
+    struct raw_module *raw = part_of(RAW_MODULES, number);
+    raw->process = own_process;
+    memcpy(raw->path, path, RAW_PATH);
+    STORE(&raw->is_ready, 1);
+    uint32_t i = ADD(&module_count, 1);
+    if (i >= MODULES)
+        return;
+    modules[i] = *new;
+    modules[i].number = number;
+    STORE(&modules[i].is_ready, true);
+}
+
+/* Notes a module. One that was closed and lies at the same place again is known already. */
+static void note_module(const struct module *new, const char *name) {
+    const struct module *there = known_module(new->from);
+    if (there && there->bias == new->bias && there->to == new->to)
+        return;
+    char path[RAW_PATH + PATH_MAX];
+    put_path(path, name);
+    for (uint32_t i = 0; i < LOAD(&module_count) && i < MODULES; i++)
+        if (LOAD(&modules[i].is_gone) && modules[i].from == new->from && modules[i].to == new->to &&
+            strcmp(recorded_path(&modules[i]), path) == 0) {
+            STORE(&modules[i].is_gone, false);
+            return;
+        }
+    add_module(new, path);
+}
+
+/* Its segments as the loader tells them. */
+static struct module module_told(const struct dl_phdr_info *info) {
+    struct module m = {.from = UINTPTR_MAX, .bias = info->dlpi_addr};
+    for (int i = 0; i < info->dlpi_phnum; i++) {
+        const ElfW(Phdr) *part = &info->dlpi_phdr[i];
+        uintptr_t from = info->dlpi_addr + part->p_vaddr, to = from + part->p_memsz;
+        if (part->p_type == PT_GNU_EH_FRAME)
+            m.unwinding = (const uint8_t *)from;
+        if (part->p_type != PT_LOAD)
+            continue;
+        m.from = from < m.from ? from : m.from;
+        m.to = to > m.to ? to : m.to;
+    }
+    return m;
+}
+
+static int note_told(struct dl_phdr_info *info, size_t size, void *unused) {
+    (void)size, (void)unused;
+    struct module m = module_told(info);
+    if (m.from < m.to)
+        note_module(&m, info->dlpi_name);
+    return 0;
+}
+
+void note_modules(void) { dl_iterate_phdr(note_told, NULL); }
+
+#ifdef HAS_FIND_OBJECT
+
+static bool is_mapped(const struct module *m) {
+    struct dl_find_object found;
+    return _dl_find_object((void *)m->from, &found) == 0 && found.dlfo_link_map->l_addr == m->bias &&
+           (uintptr_t)found.dlfo_map_end >= m->to;
+}
+
+static void look_for_module(uintptr_t address) {
+    struct dl_find_object found;
+    if (_dl_find_object((void *)address, &found) != 0)
+        return;
+    struct module m = {.from = (uintptr_t)found.dlfo_map_start, .to = (uintptr_t)found.dlfo_map_end,
+                       .bias = found.dlfo_link_map->l_addr, .unwinding = found.dlfo_eh_frame};
+    note_module(&m, found.dlfo_link_map->l_name);
+}
+
+#else
+
+/* Without that table the loader is asked, which takes a lock of its own. It counts what it loads, so it goes through its modules
+   only if there are other ones than before. */
+static unsigned long long last_added, last_removed;
+
+static int note_if_changed(struct dl_phdr_info *info, size_t size, void *unused) {
+    if (info->dlpi_adds == last_added && info->dlpi_subs == last_removed)
+        return 1;
+    return note_told(info, size, unused);
+}
+
+static int note_counters(struct dl_phdr_info *info, size_t size, void *unused) {
+    (void)size, (void)unused;
+    last_added = info->dlpi_adds;
+    last_removed = info->dlpi_subs;
+    return 1;
+}
+
+static void look_for_module(uintptr_t address) {
+    (void)address;
+    dl_iterate_phdr(note_if_changed, NULL);
+    dl_iterate_phdr(note_counters, NULL);
+}
+
+static int is_told(struct dl_phdr_info *info, size_t size, void *module) {
+    (void)size;
+    struct module told = module_told(info);
+    return told.bias == ((const struct module *)module)->bias && told.to == ((const struct module *)module)->to;
+}
+
+static bool is_mapped(const struct module *m) { return dl_iterate_phdr(is_told, (void *)m) != 0; }
+
+#endif
+
+const struct module *module_of(uintptr_t address) {
+    const struct module *m = known_module(address);
+    if (RARELY(!m)) {
+        look_for_module(address);
+        m = known_module(address);
+    }
+    return m;
+}
+
+uint64_t word_of(uintptr_t address) {
+    const struct module *m = module_of(address);
+    return m ? raw_word(m->number, address - m->bias) : raw_word(RAW_NOWHERE, address);
+}
+
+/* What was known of addresses in a library that is closed isn't known any more, since another may come to lie there. */
+void forget_closed_modules(void) {
+    bool is_any = false;
+    for (uint32_t i = 0; i < LOAD(&module_count) && i < MODULES; i++) {
+        struct module *m = &modules[i];
+        if (!LOAD(&m->is_ready) || LOAD(&m->is_gone) || is_mapped(m))
+            continue;
+        STORE(&m->is_gone, true);
+        forget_locks_between(m->from, m->to);
+        is_any = true;
+    }
+    if (!is_any)
+        return;
+    forget_rules();
+    forget_places_in_closed_modules();
+}
+
+bool is_gone(uint32_t number) {
+    for (uint32_t i = 0; i < LOAD(&module_count) && i < MODULES; i++)
+        if (modules[i].number == number)
+            return LOAD(&modules[i].is_gone);
+    return false;
+}

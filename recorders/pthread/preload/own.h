@@ -1,0 +1,132 @@
+/* What the parts of the preload library share.
+
+   The rules that keep a recorder out of its program's way:
+   - No descriptor is kept. After a thread's start no system call is made for recording, apart from what dlopen and dlclose bring.
+   - No lock is taken. What threads share is changed by single atomic operations, so a signal handler that jumps away, a fork, or
+     a thread that dies leaves nothing locked.
+   - No memory is taken from malloc. The library's own comes from one mapping that is made at the start.
+   - A signal handler that interrupts the recorder and takes a lock is passed through and counted.
+   - errno is left as it was. */
+#ifndef LOCKDEP_OWN_H
+#define LOCKDEP_OWN_H
+#ifndef _GNU_SOURCE
+#define _GNU_SOURCE
+#endif
+
+#include "../raw.h"
+
+#include <stdbool.h>
+#include <stddef.h>
+#include <stdint.h>
+
+#define CALLER ((uintptr_t)__builtin_return_address(0))
+#define FRAME ((uintptr_t)__builtin_frame_address(0))
+#define EXPORT __attribute__((visibility("default")))
+#define LIKELY(x) __builtin_expect(!!(x), 1)
+#define RARELY(x) __builtin_expect(!!(x), 0)
+#define EARLY_THREAD_LOCAL __thread __attribute__((tls_model("initial-exec")))
+
+#define LOAD(at) __atomic_load_n(at, __ATOMIC_ACQUIRE)
+#define STORE(at, value) __atomic_store_n(at, value, __ATOMIC_RELEASE)
+#define ADD(at, value) __atomic_fetch_add(at, value, __ATOMIC_RELAXED)
+
+/* Puts `value` where `*expected` was; if something else is there, that is put into *expected. */
+#define SWAP(at, expected, value)                                                                                      \
+    __atomic_compare_exchange_n(at, expected, value, false, __ATOMIC_ACQ_REL, __ATOMIC_ACQUIRE)
+
+/* ---- arena.c */
+
+extern struct raw_arena *arena; /* NULL if nothing is recorded */
+extern uint32_t own_process;    /* the number of this process in it */
+
+void begin_once(void);
+uint32_t take_part(enum raw_kind kind); /* the number of a new part, or 0 */
+void *part_of(enum raw_kind kind, uint32_t number);
+struct raw_record *take_chunk(uint32_t chunk);
+void *take_private(size_t bytes); /* zeroed memory that is never given back, or NULL */
+
+/* ---- tables.c */
+
+static inline uint64_t mixed(uint64_t x) {
+    x ^= x >> 31;
+    x *= UINT64_C(0x9e3779b97f4a7c15);
+    return x ^ x >> 29;
+}
+
+#define NAMES_LEVELS 5
+struct names; /* from a number to a number, for what is defined once */
+struct names_line;
+struct names {
+    struct names_line *levels[NAMES_LEVELS];
+};
+uint32_t *name_slot(struct names *names, uint64_t key);  /* the value of a key that is there, or NULL */
+uint32_t *added_slot(struct names *names, uint64_t key); /* the same, with value 0 if it wasn't there; NULL: no room */
+void each_name(struct names *names, void (*visit)(uint32_t *value));
+
+uint32_t lock_object(uintptr_t lock); /* the object of a lock, or 0 */
+uint32_t put_lock(uintptr_t lock, uint32_t object); /* the object that it is then, or 0 if there is no room */
+void drop_lock(uintptr_t lock, void (*dropped)(uint32_t object));
+void drop_locks_between(uintptr_t from, uintptr_t to, void (*dropped)(uint32_t object));
+
+/* ---- modules.c */
+
+struct module {
+    uintptr_t from, to; /* all segments, the zeroed data after the file's included */
+    uintptr_t bias;     /* an address less this is an address in the file */
+    const uint8_t *unwinding; /* its .eh_frame_hdr, or NULL */
+    uint32_t number;
+    bool is_ready, is_gone;
+};
+
+void note_modules(void);
+const struct module *module_of(uintptr_t address);
+uint64_t word_of(uintptr_t address);
+void forget_closed_modules(void);
+bool is_gone(uint32_t module);
+
+/* ---- stacks.c */
+
+/* Where one of our functions was called. */
+struct call {
+    uintptr_t caller, frame;
+};
+#define HERE ((struct call){CALLER, FRAME})
+
+struct stack {
+    uint32_t count;
+    uintptr_t callers[RAW_FRAMES];
+};
+
+void take_stack(struct stack *stack, struct call call, uint32_t most);
+bool function_around(struct call call, uintptr_t address, uintptr_t *function, uintptr_t *end);
+void forget_rules(void);
+
+/* ---- classes.c */
+
+uint32_t place_of(const struct stack *stack);
+uint32_t place_of_caller(uintptr_t caller);
+uint32_t object_of_lock(uintptr_t lock, struct call call); /* makes one of a new lock; 0: no room */
+uint32_t apart(uintptr_t lock, uint32_t object); /* an object of its own for a nested lock, or the same */
+uint32_t class_of(uint32_t object);
+uint32_t *foreign_releases(uint32_t object);
+void know_by_place(uintptr_t lock, struct call call);
+void forget_lock(uintptr_t lock);
+void forget_locks_between(uintptr_t from, uintptr_t to);
+void forget_places_in_closed_modules(void);
+
+/* ---- threads.c */
+
+extern EARLY_THREAD_LOCAL volatile bool busy;
+
+bool is_recording(void);
+void acquired(uintptr_t lock, uint8_t mode, bool exclusive, struct call call);
+bool begin_wish(uintptr_t lock, uint8_t mode, struct call call);
+void end_wish(uintptr_t lock, bool is_taken, struct call call);
+void releasing(uintptr_t lock, struct call call);
+void initialised(uintptr_t lock, struct call call);
+void destroyed(uintptr_t lock);
+void tried(uintptr_t lock, bool has_failed);
+bool is_held_once(uintptr_t lock);
+void begin_threads(void);
+
+#endif

@@ -1,0 +1,550 @@
+/* Threads and their records.
+
+   Each acquisition and release becomes a record in the file. A stretch of records that comes back to the locks that were held at its
+   start, and takes nothing in a way in which this thread hadn't taken it before, is taken back: it adds no fact. Stacks are looked
+   at only for what is new. */
+#include "own.h"
+
+#include <errno.h>
+#include <limits.h>
+#include <pthread.h>
+#include <string.h>
+
+struct held {
+    uintptr_t lock;
+    uint64_t record; /* the number of its record */
+    uint64_t fresh_before; /* where the last record of something new ended then */
+    uint32_t object, foreign;
+    uint32_t depth;  /* of a recursive mutex: how often it was taken again */
+    uint8_t mode;
+    bool is_written; /* there is a record of it */
+    bool is_wish;    /* the thread still waits for it */
+};
+
+/* A held lock as a reader of a trace knows it: there a release ends the newest of its name, so the order may be another. */
+struct link {
+    uint64_t hash; /* of the locks up to this one */
+    uint32_t what;
+};
+
+enum reader { BY_OBJECTS, BY_CLASSES, READERS };
+
+/* The last time that a lock was taken on top of so many others. */
+struct level {
+    uint64_t start; /* how many records there were before it */
+    uint64_t hash;  /* of the locks that were held then */
+};
+
+/* What is known at one depth of nesting. */
+struct entry {
+    struct held held;
+    struct level level;
+    struct link links[READERS];
+};
+
+struct thread {
+    struct raw_thread *raw;
+    struct raw_record *chunks[RAW_CHUNKS];
+    uint32_t is_taken; /* some thread has this */
+    uint32_t depth;
+    uint64_t fresh_end; /* after the last record of something new */
+    uint64_t *seen;     /* a set of the ways in which a lock was taken under others */
+    size_t seen_mask, seen_used;
+    uint32_t epoch;
+    int destructor_rounds;
+    uintptr_t failed; /* the lock of the last try that failed */
+    struct thread *next;
+    struct entry entries[RAW_HELD];
+};
+
+static EARLY_THREAD_LOCAL struct thread *own;
+static EARLY_THREAD_LOCAL bool is_ended;
+EARLY_THREAD_LOCAL volatile bool busy;
+static uint32_t foreign_epoch;
+static pthread_key_t thread_end;
+static bool has_thread_end;
+
+/* ---- Making a thread, and its end. */
+
+static struct thread *threads; /* all that were made, in use or not */
+
+static struct thread *unused_thread(void) {
+    for (struct thread *t = LOAD(&threads); t; t = t->next) {
+        uint32_t is_taken = LOAD(&t->is_taken);
+        if (!is_taken && SWAP(&t->is_taken, &is_taken, 1))
+            return t;
+    }
+    struct thread *t = take_private(sizeof *t);
+    if (!t)
+        return NULL;
+    t->is_taken = 1;
+    t->next = LOAD(&threads);
+    while (!SWAP(&threads, &t->next, t))
+        continue;
+    return t;
+}
+
+static bool begin_trace(struct thread *t) {
+    uint32_t number = take_part(RAW_THREADS);
+    if (!number)
+        return false;
+    t->raw = part_of(RAW_THREADS, number);
+    t->raw->process = own_process;
+    memset(t->chunks, 0, sizeof t->chunks);
+    if (t->seen)
+        memset(t->seen, 0, (t->seen_mask + 1) * sizeof *t->seen);
+    t->seen_used = 0;
+    t->fresh_end = 0;
+    t->depth = 0;
+    t->failed = 0;
+    t->destructor_rounds = 0;
+    t->epoch = LOAD(&foreign_epoch);
+    STORE(&t->raw->is_ready, 1);
+    return true;
+}
+
+static struct thread *make_thread(void) {
+    struct thread *t = unused_thread();
+    if (!t || !begin_trace(t)) {
+        if (t)
+            STORE(&t->is_taken, 0);
+        ADD(&arena->no_thread, 1);
+        return NULL;
+    }
+    own = t;
+    if (has_thread_end)
+        pthread_setspecific(thread_end, t);
+    return t;
+}
+
+/* Other destructors of the thread may still lock, so the last round of them is waited for. */
+static void at_thread_end(void *value) {
+    struct thread *t = value;
+    if (t != own)
+        return;
+    if (++t->destructor_rounds < PTHREAD_DESTRUCTOR_ITERATIONS) {
+        pthread_setspecific(thread_end, t);
+        return;
+    }
+    is_ended = true;
+    own = NULL;
+    t->raw->ended = 1;
+    STORE(&t->is_taken, 0);
+}
+
+/* Enters the recorder. NULL if this call isn't to be recorded. */
+static struct thread *enter(void) {
+    if (!arena || RARELY(is_ended))
+        return NULL;
+    if (RARELY(busy)) {
+        if (own)
+            own->raw->left_out.reentered++;
+        return NULL;
+    }
+    busy = true;
+    __atomic_signal_fence(__ATOMIC_SEQ_CST);
+    struct thread *t = own;
+    if (RARELY(!t)) {
+        int saved = errno;
+        t = make_thread();
+        errno = saved;
+        if (!t)
+            busy = false;
+    }
+    return t;
+}
+
+static void leave(void) {
+    __atomic_signal_fence(__ATOMIC_SEQ_CST);
+    busy = false;
+}
+
+/* ---- Records. */
+
+static struct raw_record *record_at(struct thread *t, uint64_t index) {
+    uint32_t chunk = raw_chunk(index);
+    return &t->chunks[chunk][index - raw_chunk_start(chunk)];
+}
+
+static bool make_room(struct thread *t) {
+    uint32_t chunk = raw_chunk(t->raw->count);
+    if (LIKELY(chunk < RAW_CHUNKS && t->chunks[chunk]))
+        return true;
+    struct raw_record *made = chunk < RAW_CHUNKS ? take_chunk(chunk) : NULL;
+    if (!made)
+        return false;
+    t->chunks[chunk] = made;
+    t->raw->chunks[chunk] = (uint64_t)((char *)made - (char *)arena);
+    return true;
+}
+
+static void put_record(struct thread *t, uint32_t what, uint32_t place) {
+    *record_at(t, t->raw->count) = (struct raw_record){what, place};
+    __atomic_signal_fence(__ATOMIC_RELEASE);
+    t->raw->count++;
+}
+
+/* Takes back the records from `start` on, if they repeat what was done before. */
+static bool take_back(struct thread *t, uint64_t start) {
+    if (start < t->fresh_end)
+        return false;
+    t->raw->left_out.repeated += t->raw->count - start;
+    t->raw->count = start;
+    return true;
+}
+
+/* ---- What is held, and the ways in which a lock was taken. */
+
+static inline uint64_t hash_with(uint64_t hash, uint32_t what) { return mixed(hash * UINT64_C(0x100000001b3) + what + 1); }
+
+static void rehash(struct thread *t, enum reader reader, uint32_t from, uint32_t depth) {
+    for (uint32_t i = from; i < depth; i++) {
+        struct link *link = &t->entries[i].links[reader];
+        link->hash = hash_with(i ? t->entries[i - 1].links[reader].hash : 0, link->what);
+    }
+}
+
+static void push_link(struct thread *t, enum reader reader, uint32_t what) {
+    t->entries[t->depth].links[reader].what = what;
+    rehash(t, reader, t->depth, t->depth + 1);
+}
+
+static uint32_t newest_of(const struct thread *t, enum reader reader, uint32_t number) {
+    for (uint32_t i = t->depth; i-- > 0;)
+        if (raw_object(t->entries[i].links[reader].what) == number)
+            return i;
+    return RAW_HELD;
+}
+
+static void pop_link(struct thread *t, enum reader reader, uint32_t number) {
+    uint32_t from = newest_of(t, reader, number);
+    if (from == RAW_HELD)
+        return;
+    for (uint32_t i = from; i + 1 < t->depth; i++)
+        t->entries[i].links[reader].what = t->entries[i + 1].links[reader].what;
+    rehash(t, reader, from, t->depth - 1);
+}
+
+/* Of the oldest so many that are held. */
+static inline uint64_t hash_of(const struct thread *t, uint32_t depth) {
+    if (!depth)
+        return 0;
+    const struct link *links = t->entries[depth - 1].links;
+    return links[BY_OBJECTS].hash ^ mixed(links[BY_CLASSES].hash);
+}
+
+static void put_seen(uint64_t *seen, size_t mask, uint64_t way) {
+    size_t i = way >> 1 & mask;
+    while (seen[i])
+        i = (i + 1) & mask;
+    seen[i] = way;
+}
+
+#define FIRST_SEEN 256
+
+static bool grow_seen(struct thread *t) {
+    size_t size = t->seen ? 2 * (t->seen_mask + 1) : FIRST_SEEN;
+    uint64_t *seen = take_private(size * sizeof *seen);
+    if (!seen)
+        return false;
+    for (size_t i = 0; t->seen && i <= t->seen_mask; i++)
+        if (t->seen[i])
+            put_seen(seen, size - 1, t->seen[i]);
+    t->seen = seen;
+    t->seen_mask = size - 1;
+    return true;
+}
+
+/* A way is never 0, and its low bits choose its place. */
+static inline uint64_t way_of(uint64_t hash) { return mixed(hash) | 1; }
+
+static bool is_seen(const struct thread *t, uint64_t way) {
+    if (t->seen)
+        for (size_t i = way >> 1 & t->seen_mask; t->seen[i]; i = (i + 1) & t->seen_mask)
+            if (t->seen[i] == way)
+                return true;
+    return false;
+}
+
+/* Whether the way is new. It isn't any more. */
+static bool see(struct thread *t, uint64_t way) {
+    if (is_seen(t, way))
+        return false;
+    if (!t->seen || 2 * (t->seen_used + 1) > t->seen_mask)
+        if (!grow_seen(t))
+            return true;
+    put_seen(t->seen, t->seen_mask, way);
+    t->seen_used++;
+    return true;
+}
+
+/* ---- Releases. */
+
+static void release_at(struct thread *t, uint32_t i, uintptr_t caller) {
+    struct held gone = t->entries[i].held;
+    bool was_newest = i + 1 == t->depth;
+    for (; i + 1 < t->depth; i++)
+        t->entries[i].held = t->entries[i + 1].held;
+    pop_link(t, BY_OBJECTS, gone.object);
+    pop_link(t, BY_CLASSES, class_of(gone.object));
+    t->depth--;
+    const struct level *last = &t->entries[t->depth].level;
+    if (was_newest && hash_of(t, t->depth) == last->hash && take_back(t, last->start))
+        return;
+    if (gone.is_written && make_room(t))
+        put_record(t, raw_what(gone.object, MODE_RELEASE), place_of_caller(caller));
+}
+
+/* Drops the locks that another thread released meanwhile. */
+static void drop_released(struct thread *t, uintptr_t caller) {
+    t->epoch = LOAD(&foreign_epoch);
+    for (uint32_t i = t->depth; i-- > 0;) {
+        const struct held *h = &t->entries[i].held;
+        const uint32_t *foreign = foreign_releases(h->object);
+        if (foreign && LOAD(foreign) != h->foreign && lock_object(h->lock) == h->object) {
+            release_at(t, i, caller);
+            i = t->depth;
+        }
+    }
+}
+
+/* The newest held entry of a lock, or RAW_HELD. */
+static uint32_t find_held(const struct thread *t, uintptr_t lock) {
+    for (uint32_t i = t->depth; i-- > 0;)
+        if (t->entries[i].held.lock == lock)
+            return i;
+    return RAW_HELD;
+}
+
+/* Somebody releases a lock that this thread wasn't seen to take: it may be one that another thread holds. */
+static void released_foreign(struct thread *t, uintptr_t lock) {
+    t->raw->left_out.releases++;
+    uint32_t object = lock_object(lock), *foreign = object ? foreign_releases(object) : NULL;
+    if (foreign) {
+        ADD(foreign, 1);
+        ADD(&foreign_epoch, 1);
+    }
+    t->epoch = LOAD(&foreign_epoch) - 1;
+}
+
+void releasing(uintptr_t lock, struct call call) {
+    struct thread *t = enter();
+    if (!t)
+        return;
+    t->raw->calls++;
+    uint32_t i = find_held(t, lock);
+    if (i == RAW_HELD)
+        released_foreign(t, lock);
+    else if (t->entries[i].held.depth)
+        t->entries[i].held.depth--;
+    else
+        release_at(t, i, call.caller);
+    leave();
+}
+
+/* ---- Acquisitions. */
+
+/* A held lock is nested now: it becomes an object of its own, and so do its record and the ways that it is part of. */
+static void tell_apart(struct thread *t, uint32_t i) {
+    struct held *h = &t->entries[i].held;
+    uint32_t before = h->object, object = apart(h->lock, before);
+    if (object == before)
+        return;
+    h->object = object;
+    if (h->is_written)
+        record_at(t, h->record)->what = raw_what(object, (enum mode)h->mode);
+    uint32_t at = newest_of(t, BY_OBJECTS, before);
+    if (at == RAW_HELD)
+        return;
+    t->entries[at].links[BY_OBJECTS].what = raw_what(object, (enum mode)h->mode);
+    rehash(t, BY_OBJECTS, at, t->depth);
+    for (uint32_t depth = at + 1; depth <= t->depth; depth++)
+        if (see(t, way_of(hash_of(t, depth))))
+            t->fresh_end = t->raw->count;
+}
+
+/* Where the lock is taken: one caller, and more if it is taken in a new way. */
+static uint32_t place_of_acquisition(struct call call, bool is_new) {
+    if (!is_new)
+        return place_of_caller(call.caller);
+    struct stack stack;
+    take_stack(&stack, call, RAW_FRAMES);
+    return place_of(&stack);
+}
+
+static bool write_acquisition(struct thread *t, uint32_t what, struct call call, bool is_new) {
+    if (t->raw->count >= RAW_LIMIT) {
+        t->raw->left_out.full++;
+        return false;
+    }
+    if (!make_room(t)) {
+        t->raw->left_out.no_room++;
+        return false;
+    }
+    put_record(t, what, place_of_acquisition(call, is_new));
+    return true;
+}
+
+static void push_held(struct thread *t, uintptr_t lock, uint32_t object, uint8_t mode, struct call call, bool is_wish) {
+    if (t->depth) {
+        object = apart(lock, object);
+        for (uint32_t i = 0; i < t->depth; i++)
+            tell_apart(t, i);
+    }
+    const uint32_t *foreign = foreign_releases(object);
+    uint32_t what = raw_what(object, (enum mode)mode);
+    uint64_t before = hash_of(t, t->depth), start = t->raw->count;
+    push_link(t, BY_OBJECTS, what);
+    push_link(t, BY_CLASSES, raw_what(class_of(object), (enum mode)mode));
+    t->entries[t->depth].level = (struct level){.start = start, .hash = before};
+    struct held *h = &t->entries[t->depth++].held;
+    *h = (struct held){.lock = lock, .record = start, .fresh_before = t->fresh_end, .object = object,
+                       .foreign = foreign ? LOAD(foreign) : 0, .mode = mode, .is_wish = is_wish};
+    uint64_t way = way_of(hash_of(t, t->depth));
+    bool is_new = is_wish ? !is_seen(t, way) : see(t, way);
+    h->is_written = write_acquisition(t, what, call, is_new);
+    if (is_new)
+        t->fresh_end = t->raw->count;
+}
+
+/* The lock's object, if there is room for one more that is held. */
+static uint32_t object_to_hold(struct thread *t, uintptr_t lock, struct call call) {
+    if (t->depth == RAW_HELD) {
+        t->raw->left_out.deep++;
+        return 0;
+    }
+    uint32_t object = object_of_lock(lock, call);
+    if (!object)
+        t->raw->left_out.no_room++;
+    return object;
+}
+
+static void take_lock(struct thread *t, uintptr_t lock, uint8_t mode, bool exclusive, struct call call) {
+    t->raw->calls++;
+    if (RARELY(t->epoch != __atomic_load_n(&foreign_epoch, __ATOMIC_RELAXED)))
+        drop_released(t, call.caller);
+    uint32_t again = exclusive && t->depth ? find_held(t, lock) : RAW_HELD;
+    if (again != RAW_HELD) {
+        t->entries[again].held.depth++;
+        return;
+    }
+    uint32_t object = object_to_hold(t, lock, call);
+    if (object)
+        push_held(t, lock, object, mode, call, false);
+}
+
+void acquired(uintptr_t lock, uint8_t mode, bool exclusive, struct call call) {
+    struct thread *t = enter();
+    if (!t)
+        return;
+    take_lock(t, lock, mode, exclusive, call);
+    leave();
+}
+
+/* ---- Wishes. What a thread waits for is written before it waits, as if it had taken it. If the call fails it is withdrawn. */
+
+/* Whether the wish was recorded; end_wish is to follow then. */
+bool begin_wish(uintptr_t lock, uint8_t mode, struct call call) {
+    struct thread *t = enter();
+    if (!t)
+        return false;
+    t->raw->calls++;
+    if (RARELY(t->epoch != __atomic_load_n(&foreign_epoch, __ATOMIC_RELAXED)))
+        drop_released(t, call.caller);
+    uint32_t object = object_to_hold(t, lock, call);
+    if (object) {
+        push_held(t, lock, object, mode, call, true);
+        STORE(&t->raw->waits, 1);
+    }
+    leave();
+    return object != 0;
+}
+
+/* Nothing is left of a wish that is the newest record. Else a signal's handler has recorded something since. */
+static void withdraw(struct thread *t, uint32_t i, uintptr_t caller) {
+    struct held h = t->entries[i].held;
+    if (i + 1 != t->depth || t->raw->count != h.record + h.is_written) {
+        release_at(t, i, caller);
+        return;
+    }
+    pop_link(t, BY_OBJECTS, h.object);
+    pop_link(t, BY_CLASSES, class_of(h.object));
+    t->depth--;
+    t->raw->count = h.record;
+    t->fresh_end = h.fresh_before;
+}
+
+void end_wish(uintptr_t lock, bool is_taken, struct call call) {
+    struct thread *t = enter();
+    if (!t)
+        return;
+    STORE(&t->raw->waits, 0);
+    uint32_t i = find_held(t, lock);
+    if (i != RAW_HELD && !is_taken)
+        withdraw(t, i, call.caller);
+    else if (i != RAW_HELD) {
+        t->entries[i].held.is_wish = false;
+        see(t, way_of(hash_of(t, i + 1)));
+    }
+    leave();
+}
+
+/* A lock was tried. One that is tried again and again, with others held, is waited for in another way. */
+void tried(uintptr_t lock, bool has_failed) {
+    struct thread *t = has_failed || (own && own->failed) ? enter() : NULL;
+    if (!t)
+        return;
+    if (t->failed == lock && t->depth)
+        t->raw->left_out.retried++;
+    t->failed = has_failed ? lock : 0;
+    leave();
+}
+
+bool is_recording(void) { return arena != NULL; }
+
+/* Whether this thread holds the lock, and a single release gives it back. */
+bool is_held_once(uintptr_t lock) {
+    uint32_t i = own ? find_held(own, lock) : RAW_HELD;
+    return i != RAW_HELD && own->entries[i].held.depth == 0;
+}
+
+/* ---- Locks that are initialised, and those that are no more. */
+
+void initialised(uintptr_t lock, struct call call) {
+    if (!enter())
+        return;
+    know_by_place(lock, call);
+    leave();
+}
+
+void destroyed(uintptr_t lock) {
+    if (!enter())
+        return;
+    forget_lock(lock);
+    leave();
+}
+
+/* ---- The beginning, and a fork. */
+
+/* Takes again what its thread held before the fork. */
+static void begin_in_child(struct thread *old) {
+    static struct held held[RAW_HELD];
+    uint32_t depth = old->depth;
+    for (uint32_t i = 0; i < depth; i++)
+        held[i] = old->entries[i].held;
+    busy = true;
+    for (struct thread *t = threads; t; t = t->next)
+        t->is_taken = 0;
+    own = NULL;
+    struct thread *t = make_thread();
+    for (uint32_t i = 0; t && i < depth; i++)
+        push_held(t, held[i].lock, held[i].object, held[i].mode, HERE, false);
+    busy = false;
+}
+
+void begin_threads(void) {
+    if (own)
+        begin_in_child(own);
+    else
+        has_thread_end = has_thread_end || pthread_key_create(&thread_end, at_thread_end) == 0;
+}

@@ -1,0 +1,46 @@
+/* Children by fork, vfork and posix_spawn, and one that is forked while another thread locks all the time. */
+#include "common.h"
+#include <spawn.h>
+#include <stdatomic.h>
+static pthread_mutex_t a = PTHREAD_MUTEX_INITIALIZER, b = PTHREAD_MUTEX_INITIALIZER;
+static atomic_int is_done;
+extern char **environ;
+
+static void *locks(void *unused) {
+    while (!is_done) {
+        pthread_mutex_lock(&a);
+        pthread_mutex_unlock(&a);
+    }
+    return unused;
+}
+
+static void in_child(void) {
+    pthread_mutex_lock(&b);
+    pthread_mutex_unlock(&b);
+    _exit(0);
+}
+
+int main(int argc, char **argv) {
+    if (argc > 1)
+        in_child();
+    pthread_t t;
+    pthread_create(&t, NULL, locks, NULL);
+    for (int i = 0; i < 20; i++) {
+        pid_t child = fork();
+        if (child == 0)
+            in_child();
+        waitpid(child, NULL, 0);
+    }
+    char *again[] = {argv[0], "again", NULL};
+    pid_t child = vfork();
+    if (child == 0) {
+        execv("/proc/self/exe", again);
+        _exit(1);
+    }
+    waitpid(child, NULL, 0);
+    if (posix_spawn(&child, "/proc/self/exe", NULL, NULL, again, environ) != 0)
+        abort();
+    waitpid(child, NULL, 0);
+    is_done = 1;
+    pthread_join(t, NULL);
+}
