@@ -89,18 +89,18 @@ const CASES: [Case<'_>; 10] = [
             "",
         ),
     },
-    // The same, with 40,000 events in each of four traces: 1, 2 or 4 workers really walk them.
+    // The same, with 16,400 events in each of four traces: so many that two workers really walk them. More than two: `tests/runs`.
     Case {
         many: false,
         traces: &[
-            (FORTH, 19_998, "acq,A,0,w\nrel,A,0\n", ""),
-            (BACK, 19_998, "acq,A,0,w\nrel,A,0\n", ""),
+            (FORTH, 8_198, "acq,A,0,w\nrel,A,0\n", ""),
+            (BACK, 8_198, "acq,A,0,w\nrel,A,0\n", ""),
         ],
         copies: 2,
-        workers: &[1, 2, 4, 8, 64],
+        workers: &[1, 2, 64],
         returned: Ok(false),
         text: (
-            "traces 4\nevents 160000\nkeys 2\ndependencies 2\nclean no\nusage A/0 {+.+.}\nusage B/0 {+.+.}\ncircle A/0 EN B/0\ncircle B/0 EN A/0\nbecause A/0 EN B/0 EN A/0\n",
+            "traces 4\nevents 65600\nkeys 2\ndependencies 2\nclean no\nusage A/0 {+.+.}\nusage B/0 {+.+.}\ncircle A/0 EN B/0\ncircle B/0 EN A/0\nbecause A/0 EN B/0 EN A/0\n",
             0,
             "",
             "",
