@@ -10,7 +10,7 @@ use clap::{Arg, ArgAction, ArgMatches, Command, value_parser};
 use std::alloc::{AllocError, Global};
 
 /// The program's version.
-pub const VERSION: &str = "0.5.3";
+pub const VERSION: &str = "0.6.0";
 
 /// What a command line asks for.
 #[derive(Debug, Drop)]
