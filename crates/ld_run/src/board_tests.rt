@@ -6,17 +6,24 @@ ghost use Rattle.ld_run.specs.Boards.{keys_of, IsSeatOf};
 ghost use Rattle.ld_run.specs.Seats.{view};
 ghost use Rattle.ld_run.specs.Views.{newcomer};
 
-use crate::tests::{A, B, Meeting, one_lock_each, released_between};
+use crate::tests::gates::{Meeting, one_lock_each};
+use crate::tests::steps::Step::{Give, Write};
+use crate::tests::steps::{A, B, C, chains_of};
 use crate::{Board, BoardFault, MAX_TRACES, Seat, Worked, work};
 use ld_book::{Book, LockedBook};
 use ld_graph::{Facts, Mark};
+use ld_task::Chain;
 use ld_trace::RawTrace;
 use std::alloc::{AllocError, Global};
-use std::process::Abort;
 use std::sync::Wait;
 use std::test::Fail;
 use std::thread;
 use std::thread::Threads;
+
+// The chains of one trace that takes the first lock, the second under it, gives the first back and takes the third.
+fn released_between(alloc: Global) -> Result<Vec<Chain>, Fail> {
+    Ok(chains_of(alloc, &[&[Write(A), Write(B), Give(A), Write(C)]]).ok_or("no chains")?)
+}
 
 // How many numbers a thread claims.
 const CLAIMS: usize = 1000;
@@ -151,7 +158,6 @@ fn seats_that_are_refused(rt: HostRuntime) -> Result<(), Fail> {
     };
     drop(seats.pop());
     assert!(rt; matches!(board.close(seats), Err(BoardFault::Seats)));
-    assert!(rt; BoardFault::Seats.code() == "C1 Seats" && BoardFault::Memory.code() == "C2 Memory");
     Ok(())
 }
 
@@ -188,7 +194,7 @@ fn work_in_threads<R: Threads + Wait + Sync>(
 
 #[test]
 fn two_workers_in_threads_of_the_callers_own(rt: HostRuntime) -> Result<(), Fail> {
-    let traces = one_lock_each(rt.alloc())?;
+    let traces = one_lock_each(rt.alloc()).ok_or("no traces")?;
     assert!(rt; traces.len() == 2);
     let Ok((board, seats)) = Board::open(rt.alloc(), 2, 2) else {
         panic!(rt; "no board")

@@ -4,6 +4,7 @@ use super::steps::Step::{TurnOff, TurnOn, Write};
 use super::steps::{A, B, C, Step, chains_of, last_chain};
 use crate::finding::find_ranks;
 use crate::{Fact, Facts, Graph, Kind, Mark, PartedGraph, are_ranked, fact_words};
+use ld_task::Chain;
 use ld_trace::Irq::Hard;
 use ld_trace::MAX_KEYS;
 use std::alloc::Global;
@@ -16,15 +17,19 @@ fn take_forty_eight(trace: &mut Vec<Step>, apart: u16) -> Option<()> {
     Some(())
 }
 
-// A graph of the trace, if all of its keys are in range.
-fn graph_of(alloc: Global, trace: &[Step]) -> Option<Graph> {
-    let mut graph = Graph::new(alloc, MAX_KEYS).ok()?;
-    for chain in &chains_of(alloc, &[trace])? {
-        if !chain.keys_below(graph.keys()) {
-            return None;
+// Adds the chains whose keys are in range.
+fn add_chains(graph: &mut Graph, chains: &[Chain]) {
+    for chain in chains {
+        if chain.keys_below(graph.keys()) {
+            graph.add_chain(chain);
         }
-        graph.add_chain(chain);
     }
+}
+
+fn graph_of(alloc: Global, trace: &[Step]) -> Option<Graph> {
+    let chains = chains_of(alloc, &[trace])?;
+    let mut graph = Graph::new(alloc, MAX_KEYS).ok()?;
+    add_chains(&mut graph, &chains);
     Some(graph)
 }
 

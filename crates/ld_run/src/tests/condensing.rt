@@ -1,219 +1,252 @@
 //! That condensing refuses none of the facts that traces have, and what the trace of small facts is.
 
-use crate::tests::{A, B, C, both_orders, give, run_over, trace_of, write};
+use super::run_over;
+use super::steps::Step::{Enter, Give, Leave, Reread, TurnOff, TurnOn, Write};
+use super::steps::{A, B, C, Step, trace_of, traces_of};
 use crate::{CondenseFault, OpenGate, Settled, condense};
-use ld_graph::{Kind, Mark};
 use ld_task::TaskState;
 use ld_trace::{Event, Irq, KeyId, Mode, RawTrace};
 use std::alloc::Global;
-use std::io::Print;
 use std::process::Abort;
 use std::sync::Wait;
 use std::test::Fail;
 use std::thread::Threads;
 
+// Traces, and the trace that has their facts, with the last key first.
+struct Row {
+    about: &'static str,
+    keys: u16,
+    traces: &'static [&'static [Step]],
+    trace: &'static [Step],
+}
+
+static ROWS: [Row; 4] = [
+    Row {
+        about: "no facts at all",
+        keys: 3,
+        traces: &[],
+        trace: &[
+            TurnOff(Irq::Hard),
+            TurnOn(Irq::Hard),
+            TurnOff(Irq::Soft),
+            TurnOn(Irq::Soft),
+        ],
+    },
+    Row {
+        about: "two locks in both orders",
+        keys: 2,
+        traces: &[
+            &[Write(A), Write(B), Give(B), Give(A)],
+            &[Write(B), Write(A), Give(A), Give(B)],
+        ],
+        trace: &[
+            TurnOff(Irq::Hard),
+            Write(B),
+            Write(A),
+            Give(A),
+            Give(B),
+            Write(A),
+            Write(B),
+            Give(B),
+            Give(A),
+            TurnOn(Irq::Hard),
+            TurnOff(Irq::Soft),
+            Write(B),
+            Give(B),
+            Write(A),
+            Give(A),
+            TurnOn(Irq::Soft),
+            Write(B),
+            Give(B),
+            Write(A),
+            Give(A),
+        ],
+    },
+    Row {
+        about: "each kind of dependency",
+        keys: 3,
+        traces: &[&[
+            TurnOff(Irq::Hard),
+            Write(A),
+            Write(B),
+            Reread(B),
+            Give(B),
+            Give(B),
+            Give(A),
+            Reread(A),
+            Write(B),
+            Reread(B),
+            Give(B),
+            Give(B),
+            Give(A),
+            Write(C),
+        ]],
+        trace: &[
+            TurnOff(Irq::Hard),
+            Write(C),
+            Give(C),
+            Write(B),
+            Reread(B),
+            Give(B),
+            Give(B),
+            Write(A),
+            Reread(B),
+            Give(B),
+            Write(B),
+            Give(B),
+            Give(A),
+            Reread(A),
+            Reread(B),
+            Give(B),
+            Write(B),
+            Give(B),
+            Give(A),
+            TurnOn(Irq::Hard),
+            TurnOff(Irq::Soft),
+            TurnOn(Irq::Soft),
+        ],
+    },
+    Row {
+        about: "each mark",
+        keys: 3,
+        traces: &[&[
+            TurnOff(Irq::Soft),
+            Write(A),
+            Give(A),
+            TurnOn(Irq::Soft),
+            Reread(B),
+            Give(B),
+            Enter(Irq::Hard),
+            Reread(A),
+            Give(A),
+            Leave,
+            Enter(Irq::Soft),
+            TurnOff(Irq::Hard),
+            Write(C),
+            Give(C),
+            Leave,
+        ]],
+        trace: &[
+            TurnOff(Irq::Hard),
+            Write(C),
+            Give(C),
+            Write(B),
+            Give(B),
+            Write(A),
+            Give(A),
+            TurnOn(Irq::Hard),
+            TurnOff(Irq::Soft),
+            Reread(B),
+            Give(B),
+            Write(A),
+            Give(A),
+            TurnOn(Irq::Soft),
+            Reread(B),
+            Give(B),
+            Enter(Irq::Hard),
+            Reread(A),
+            Give(A),
+            Leave,
+            Enter(Irq::Soft),
+            TurnOff(Irq::Hard),
+            Write(C),
+            Give(C),
+            Leave,
+        ],
+    },
+];
+
 // The keys below the bound, the last first.
-fn backwards(alloc: Global, keys: u16) -> Result<Vec<KeyId>, Fail> {
+fn backwards(alloc: Global, keys: u16) -> Option<Vec<KeyId>> {
     let mut order = Vec::new(alloc);
     for number in (0..keys).rev() {
-        order.push(KeyId::new(number).ok_or("no key")?)?;
+        order.push(KeyId::new(number)?).ok()?;
     }
-    Ok(order)
+    Some(order)
 }
 
-fn read(number: u16) -> Event {
-    Event::Acquire {
-        key: KeyId::new(number).unwrap_or(KeyId::default()),
-        mode: Mode::RecRead,
-    }
-}
-
-fn off(irq: Irq) -> Event {
-    Event::TurnOff { irq }
-}
-
-fn on(irq: Irq) -> Event {
-    Event::TurnOn { irq }
-}
-
-fn enter(irq: Irq) -> Event {
-    Event::Enter { irq }
+// The facts of the traces.
+fn settled_of<R: Threads + Wait + Sync + Abort>(
+    rt: &R,
+    alloc: Global,
+    traces: &[RawTrace],
+    keys: u16,
+) -> Option<Settled> {
+    run_over(rt, alloc, traces, keys, 2, &OpenGate).ok()
 }
 
 // The facts of one trace.
-fn settled_of(
-    rt: &(impl Threads + Wait + Sync + Abort + AllocGlobal),
+fn settled_of_one<R: Threads + Wait + Sync + Abort>(
+    rt: &R,
+    alloc: Global,
     trace: RawTrace,
     keys: u16,
-) -> Result<Settled, Fail> {
-    let mut traces = Vec::new(rt.alloc());
-    traces.push(trace)?;
-    Ok(run_over(rt, rt.alloc(), &traces, keys, 1, &OpenGate)?)
+) -> Option<Settled> {
+    let mut traces = Vec::new(alloc);
+    traces.push(trace).ok()?;
+    settled_of(rt, alloc, &traces, keys)
 }
 
-// Condenses, and condenses what came of it again.
-fn condense_twice(
-    rt: &(impl Threads + Wait + Sync + Abort + AllocGlobal),
+// Condenses. None if what comes of it isn't condensed to the same, or has other facts.
+fn condensed<R: Threads + Wait + Sync + Abort>(
+    rt: &R,
+    alloc: Global,
     settled: &Settled,
-) -> Result<RawTrace, Fail> {
-    let order = backwards(rt.alloc(), settled.facts().keys())?;
-    let once = condense(rt.alloc(), settled, &order)?;
-    let again = condense(rt.alloc(), settled, &order)?;
-    let of_once = settled_of(rt, again, settled.facts().keys())?;
-    let twice = condense(rt.alloc(), &of_once, &order)?;
-    assert!(rt; once.as_slice() == twice.as_slice());
-    Ok(once)
+) -> Option<RawTrace> {
+    let keys = settled.facts().keys();
+    let order = backwards(alloc, keys)?;
+    let once = condense(alloc, settled, &order).ok()?;
+    let again = condense(alloc, settled, &order).ok()?;
+    let of_once = settled_of_one(rt, alloc, again, keys)?;
+    let twice = condense(alloc, &of_once, &order).ok()?;
+    let same = of_once.facts().same(settled.facts()) && of_once.is_clean() == settled.is_clean();
+    if same && once.as_slice() == twice.as_slice() {
+        Some(once)
+    } else {
+        None
+    }
+}
+
+fn is_condensed<R: Threads + Wait + Sync + Abort>(
+    rt: &R,
+    alloc: Global,
+    row: &Row,
+) -> Option<bool> {
+    let traces = traces_of(alloc, row.traces, 1)?;
+    let settled = settled_of(rt, alloc, &traces, row.keys)?;
+    let trace = condensed(rt, alloc, &settled)?;
+    Some(trace.as_slice() == trace_of(alloc, row.trace, 1)?.as_slice())
+}
+
+// The first of these whose facts are condensed to another trace.
+fn misfit<R: Threads + Wait + Sync + Abort>(
+    rt: &R,
+    alloc: Global,
+    rows: &[Row],
+) -> Option<&'static str> {
+    for row in rows {
+        if is_condensed(rt, alloc, row) != Some(true) {
+            return Some(row.about);
+        }
+    }
+    None
 }
 
 #[test]
-fn no_facts_at_all(rt: HostRuntime) -> Result<(), Fail> {
-    let settled = run_over(&rt, rt.alloc(), &[], 3, 1, &OpenGate)?;
-    let trace = condense_twice(&rt, &settled)?;
-    let want = [off(Irq::Hard), on(Irq::Hard), off(Irq::Soft), on(Irq::Soft)];
-    assert!(rt; trace.as_slice() == want.as_slice());
-    Ok(())
+fn small_facts_are_condensed(rt: HostRuntime) {
+    assert_eq!(rt; misfit(&rt, rt.alloc(), &ROWS), None);
+}
+
+// Why facts aren't condensed in an order that lacks a key.
+fn lacking<R: Threads + Wait + Sync + Abort>(rt: &R, alloc: Global) -> Option<CondenseFault> {
+    let traces = traces_of(alloc, &[&[Write(A), Write(B)]], 1)?;
+    let settled = settled_of(rt, alloc, &traces, 2)?;
+    condense(alloc, &settled, &backwards(alloc, 1)?).err()
 }
 
 #[test]
-fn two_locks_in_both_orders(rt: HostRuntime) -> Result<(), Fail> {
-    let traces = both_orders(rt.alloc())?;
-    let settled = run_over(&rt, rt.alloc(), &traces, 2, 2, &OpenGate)?;
-    let trace = condense_twice(&rt, &settled)?;
-    let want = [
-        off(Irq::Hard),
-        write(B),
-        write(A),
-        give(A),
-        give(B),
-        write(A),
-        write(B),
-        give(B),
-        give(A),
-        on(Irq::Hard),
-        off(Irq::Soft),
-        write(B),
-        give(B),
-        write(A),
-        give(A),
-        on(Irq::Soft),
-        write(B),
-        give(B),
-        write(A),
-        give(A),
-    ];
-    assert!(rt; trace.as_slice() == want.as_slice());
-    Ok(())
-}
-
-#[test]
-fn each_kind_of_dependency(rt: HostRuntime) -> Result<(), Fail> {
-    let events = [
-        off(Irq::Hard),
-        write(A),
-        write(B),
-        read(B),
-        give(B),
-        give(B),
-        give(A),
-        read(A),
-        write(B),
-        read(B),
-        give(B),
-        give(B),
-        give(A),
-        write(C),
-    ];
-    let settled = settled_of(&rt, trace_of(rt.alloc(), &events)?, 3)?;
-    let trace = condense_twice(&rt, &settled)?;
-    let want = [
-        off(Irq::Hard),
-        write(C),
-        give(C),
-        write(B),
-        read(B),
-        give(B),
-        give(B),
-        write(A),
-        read(B),
-        give(B),
-        write(B),
-        give(B),
-        give(A),
-        read(A),
-        read(B),
-        give(B),
-        write(B),
-        give(B),
-        give(A),
-        on(Irq::Hard),
-        off(Irq::Soft),
-        on(Irq::Soft),
-    ];
-    assert!(rt; trace.as_slice() == want.as_slice());
-    Ok(())
-}
-
-#[test]
-fn each_mark(rt: HostRuntime) -> Result<(), Fail> {
-    let events = [
-        off(Irq::Soft),
-        write(A),
-        give(A),
-        on(Irq::Soft),
-        read(B),
-        give(B),
-        enter(Irq::Hard),
-        read(A),
-        give(A),
-        Event::Leave,
-        enter(Irq::Soft),
-        off(Irq::Hard),
-        write(C),
-        give(C),
-        Event::Leave,
-    ];
-    let settled = settled_of(&rt, trace_of(rt.alloc(), &events)?, 3)?;
-    let trace = condense_twice(&rt, &settled)?;
-    let want = [
-        off(Irq::Hard),
-        write(C),
-        give(C),
-        write(B),
-        give(B),
-        write(A),
-        give(A),
-        on(Irq::Hard),
-        off(Irq::Soft),
-        read(B),
-        give(B),
-        write(A),
-        give(A),
-        on(Irq::Soft),
-        read(B),
-        give(B),
-        enter(Irq::Hard),
-        read(A),
-        give(A),
-        Event::Leave,
-        enter(Irq::Soft),
-        off(Irq::Hard),
-        write(C),
-        give(C),
-        Event::Leave,
-    ];
-    assert!(rt; trace.as_slice() == want.as_slice());
-    Ok(())
-}
-
-#[test]
-fn an_order_that_lacks_a_key(rt: HostRuntime) -> Result<(), Fail> {
-    let traces = both_orders(rt.alloc())?;
-    let settled = run_over(&rt, rt.alloc(), &traces, 2, 2, &OpenGate)?;
-    let order = backwards(rt.alloc(), 1)?;
-    let refused = condense(rt.alloc(), &settled, &order);
-    assert!(rt; matches!(refused, Err(CondenseFault::Unequal)));
-    assert!(rt; CondenseFault::Unequal.code() == "E1 Unequal");
-    Ok(())
+fn an_order_that_lacks_a_key(rt: HostRuntime) {
+    assert_eq!(rt; lacking(&rt, rt.alloc()), Some(CondenseFault::Unequal));
 }
 
 // Numbers that look like chance, the same in every run.
@@ -282,20 +315,30 @@ fn any_trace(alloc: Global, chance: &mut Chance, tried: usize) -> Result<RawTrac
     Ok(RawTrace::from_events(events).ok_or("too many events")?)
 }
 
+fn any_traces(alloc: Global, chance: &mut Chance, turn: usize) -> Result<Vec<RawTrace>, Fail> {
+    let mut traces = Vec::new(alloc);
+    for _ in 0..turn % 4 + 1 {
+        traces.push(any_trace(alloc, chance, turn.saturating_add(20))?)?;
+    }
+    Ok(traces)
+}
+
+// Whether the facts of the traces of five keys are condensed.
+fn are_condensed<R: Threads + Wait + Sync + Abort>(
+    rt: &R,
+    alloc: Global,
+    traces: &[RawTrace],
+) -> Option<bool> {
+    condensed(rt, alloc, &settled_of(rt, alloc, traces, 5)?)?;
+    Some(true)
+}
+
 #[test]
 fn the_facts_of_any_traces(rt: HostRuntime) -> Result<(), Fail> {
     let mut chance = Chance { state: 1 };
     for turn in 0..60 {
-        let mut traces = Vec::new(rt.alloc());
-        for _ in 0..turn % 4 + 1 {
-            traces.push(any_trace(rt.alloc(), &mut chance, 20 + turn)?)?;
-        }
-        let settled = run_over(&rt, rt.alloc(), &traces, 5, 2, &OpenGate)?;
-        let trace = condense_twice(&rt, &settled)?;
-        let of_one = settled_of(&rt, trace, 5)?;
-        assert!(rt;
-            of_one.is_clean() == settled.is_clean() && of_one.facts().same(settled.facts())
-        );
+        let traces = any_traces(rt.alloc(), &mut chance, turn)?;
+        assert!(rt; are_condensed(&rt, rt.alloc(), &traces) == Some(true));
     }
     Ok(())
 }

@@ -1,7 +1,9 @@
 //! What a refused request for memory, or for a thread, leaves. In an ordinary run none is refused: `tests/sweep` runs each of
 //! these tests with its first request refused, its second, and so on, and counts the lines that they print.
 
-use crate::tests::{A, B, give, is_both_orders, run_over, write};
+use super::run_over;
+use super::steps::Step::{Give, Write};
+use super::steps::{A, B, traces_of};
 use crate::{Board, BoardFault, OpenGate, RunFault};
 use ld_graph::Facts;
 use ld_trace::RawTrace;
@@ -14,15 +16,14 @@ use std::thread::Threads;
 
 // Two locks that two traces take in both orders; None where memory was refused.
 fn traces(alloc: Global) -> Option<Vec<RawTrace>> {
-    let mut traces = Vec::new(alloc);
-    for (first, second) in [(A, B), (B, A)] {
-        let mut events = Vec::new(alloc);
-        for event in [write(first), write(second), give(second), give(first)] {
-            events.push(event).ok()?;
-        }
-        traces.push(RawTrace::from_events(events)?).ok()?;
-    }
-    Some(traces)
+    traces_of(
+        alloc,
+        &[
+            &[Write(A), Write(B), Give(B), Give(A)],
+            &[Write(B), Write(A), Give(A), Give(B)],
+        ],
+        1,
+    )
 }
 
 // Runs two locks that two traces take in both orders. A run that is refused says N4, and the same run then goes through.
@@ -42,7 +43,7 @@ fn runs(
             run_over(rt, rt.alloc(), &both, 2, workers, &OpenGate)?
         }
     };
-    assert!(rt; is_both_orders(&settled));
+    assert!(rt; settled.dependencies() == 2 && !settled.is_clean());
     Ok(())
 }
 
