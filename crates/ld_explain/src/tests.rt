@@ -1,258 +1,301 @@
 //! Where the facts of small traces come from.
 
+mod steps;
 mod want_of_memory;
 
+use crate::tests::steps::Step::{Enter, Give, Reread, TryRead, TryWrite, TurnOff, TurnOn, Write};
+use crate::tests::steps::{A, B, C, Step, traces_of};
 use crate::{Origin, Origins};
+use ld_graph::Kind::{En, Er, Sn, Sr};
 use ld_graph::{Kind, Mark};
 use ld_run::{OpenGate, run};
-use ld_trace::{Event, Irq, KeyId, MAX_KEYS, Mode, RawTrace};
+use ld_trace::{Irq, RawTrace};
 use std::alloc::Global;
 use std::process::Abort;
 use std::sync::Wait;
-use std::test::Fail;
 use std::thread::Threads;
 
-// The first keys, by the letters of the examples.
-pub(crate) const A: u16 = 0;
-
-pub(crate) const B: u16 = 1;
-
-const C: u16 = 2;
-
-const ENTER_HARD: Event = Event::Enter { irq: Irq::Hard };
-
-const HARD_OFF: Event = Event::TurnOff { irq: Irq::Hard };
-
-const HARD_ON: Event = Event::TurnOn { irq: Irq::Hard };
-
-const SOFT_OFF: Event = Event::TurnOff { irq: Irq::Soft };
-
-const SOFT_ON: Event = Event::TurnOn { irq: Irq::Soft };
-
-fn key(number: u16) -> KeyId {
-    KeyId::new(number).unwrap_or(KeyId::default())
+// Where a fact comes from.
+#[derive(Clone, Copy)]
+enum Place {
+    // From a held lock: its trace, the event that took the lock, and the event that gives the fact.
+    By(u32, u32, u32),
+    // From an acquisition alone: its trace, and the event.
+    At(u32, u32),
+    // It isn't there.
+    Nowhere,
 }
 
-fn take(number: u16, mode: Mode) -> Event {
-    Event::Acquire {
-        key: key(number),
-        mode,
+use Place::{At, By, Nowhere};
+
+impl Place {
+    fn origin(self) -> Option<Origin> {
+        match self {
+            By(trace, held, place) => Some(Origin {
+                trace,
+                place,
+                held: Some(held),
+            }),
+            At(trace, place) => Some(Origin {
+                trace,
+                place,
+                held: None,
+            }),
+            Nowhere => None,
+        }
     }
 }
 
-pub(crate) fn write(number: u16) -> Event {
-    take(number, Mode::Write)
+// A fact, and where it comes from.
+#[derive(Clone, Copy)]
+enum Known {
+    Dependency(u16, u16, Kind, Place),
+    Marked(u16, Mark, Place),
 }
 
-pub(crate) fn give(number: u16) -> Event {
-    Event::Release { key: key(number) }
+use Known::{Dependency, Marked};
+
+// Traces of three keys, and where facts of them come from.
+struct Row {
+    about: &'static str,
+    traces: &'static [&'static [Step]],
+    facts: &'static [Known],
 }
 
-// Taken by a recursive reader.
-fn again(number: u16) -> Event {
-    take(number, Mode::RecRead)
-}
+static ROWS: [Row; 8] = [
+    Row {
+        about: "two orders come from two traces",
+        traces: &[
+            &[Write(A), Write(B), Give(B), Give(A)],
+            &[Write(C), Give(C), Write(B), Write(A), Give(A), Give(B)],
+            &[Write(B), Write(A)],
+        ],
+        facts: &[
+            Dependency(A, B, En, By(0, 0, 1)),
+            Dependency(B, A, En, By(1, 2, 3)),
+            Marked(A, Mark::Used, At(0, 0)),
+            Marked(B, Mark::Used, At(0, 1)),
+            Marked(C, Mark::Used, At(1, 0)),
+            Marked(
+                B,
+                Mark::Enabled {
+                    irq: Irq::Hard,
+                    read: false,
+                },
+                At(0, 1),
+            ),
+        ],
+    },
+    Row {
+        about: "what isn't there has no origin",
+        traces: &[&[Write(A), Write(B), Give(A), Write(C)]],
+        facts: &[
+            Dependency(B, C, En, By(0, 1, 3)),
+            Dependency(A, C, En, Nowhere),
+            Dependency(A, B, Er, Nowhere),
+            Dependency(B, A, En, Nowhere),
+            Dependency(A, 3, En, Nowhere),
+            Marked(
+                A,
+                Mark::Enabled {
+                    irq: Irq::Hard,
+                    read: true,
+                },
+                Nowhere,
+            ),
+            Marked(
+                A,
+                Mark::UsedIn {
+                    irq: Irq::Hard,
+                    read: false,
+                },
+                Nowhere,
+            ),
+            Marked(3, Mark::Used, Nowhere),
+        ],
+    },
+    Row {
+        about: "of two held locks of a key it is the newest",
+        traces: &[&[Reread(A), Write(B), Reread(A), Give(B), Write(C)]],
+        facts: &[
+            Dependency(A, C, Sn, By(0, 2, 4)),
+            Dependency(B, A, Er, By(0, 1, 2)),
+            Dependency(B, C, En, Nowhere),
+        ],
+    },
+    Row {
+        about: "the newest that is left is the one",
+        traces: &[&[Reread(A), Reread(A), Give(A), Write(B)]],
+        facts: &[
+            Dependency(A, B, Sn, By(0, 0, 3)),
+            Dependency(A, A, Sr, By(0, 0, 1)),
+        ],
+    },
+    Row {
+        about: "a release takes out the place of its own lock",
+        traces: &[&[
+            Write(A),
+            TurnOn(Irq::Hard),
+            Write(B),
+            Give(A),
+            Write(C),
+            Give(B),
+            Write(A),
+        ]],
+        facts: &[
+            Dependency(B, C, En, By(0, 2, 4)),
+            Dependency(C, A, En, By(0, 4, 6)),
+            Dependency(B, A, En, Nowhere),
+        ],
+    },
+    Row {
+        about: "held locks are those of the frame",
+        traces: &[&[Write(A), Enter(Irq::Hard), Write(B), Write(C)]],
+        facts: &[
+            Dependency(B, C, En, By(0, 2, 3)),
+            Dependency(A, C, En, Nowhere),
+            Marked(
+                B,
+                Mark::UsedIn {
+                    irq: Irq::Hard,
+                    read: false,
+                },
+                At(0, 2),
+            ),
+            Marked(
+                A,
+                Mark::Enabled {
+                    irq: Irq::Hard,
+                    read: false,
+                },
+                At(0, 0),
+            ),
+            Marked(
+                B,
+                Mark::Enabled {
+                    irq: Irq::Hard,
+                    read: false,
+                },
+                Nowhere,
+            ),
+        ],
+    },
+    Row {
+        about: "an opening is where a held lock is marked",
+        traces: &[&[
+            TurnOff(Irq::Hard),
+            TurnOff(Irq::Soft),
+            Reread(A),
+            Reread(A),
+            Write(B),
+            TurnOn(Irq::Hard),
+            TurnOn(Irq::Soft),
+            Write(C),
+        ]],
+        facts: &[
+            Marked(A, Mark::Used, At(0, 2)),
+            Marked(
+                A,
+                Mark::Enabled {
+                    irq: Irq::Hard,
+                    read: true,
+                },
+                By(0, 3, 5),
+            ),
+            Marked(
+                B,
+                Mark::Enabled {
+                    irq: Irq::Hard,
+                    read: false,
+                },
+                By(0, 4, 5),
+            ),
+            Marked(
+                A,
+                Mark::Enabled {
+                    irq: Irq::Soft,
+                    read: true,
+                },
+                By(0, 3, 6),
+            ),
+            Marked(
+                C,
+                Mark::Enabled {
+                    irq: Irq::Soft,
+                    read: false,
+                },
+                At(0, 7),
+            ),
+            Marked(
+                C,
+                Mark::Enabled {
+                    irq: Irq::Hard,
+                    read: true,
+                },
+                Nowhere,
+            ),
+        ],
+    },
+    Row {
+        about: "a try begins dependencies and ends none",
+        traces: &[&[TryWrite(A), Write(B), TryRead(C), Give(B), Give(A)]],
+        facts: &[
+            Dependency(A, B, En, By(0, 0, 1)),
+            Dependency(A, C, En, Nowhere),
+            Dependency(B, C, En, Nowhere),
+            Marked(C, Mark::Used, At(0, 2)),
+        ],
+    },
+];
 
-// The mark of a key that is used with the state enabled.
-fn enabled(irq: Irq, read: bool) -> Mark {
-    Mark::Enabled { irq, read }
-}
-
-fn trace_of(alloc: Global, events: &[Event]) -> Result<RawTrace, Fail> {
-    let mut all = Vec::new(alloc);
-    for event in events {
-        all.push(*event)?;
-    }
-    Ok(RawTrace::from_events(all).ok_or("too many events")?)
-}
-
-// Where a fact comes from that a held lock gives.
-pub(crate) fn by(trace: u32, held: u32, place: u32) -> Option<Origin> {
-    Some(Origin {
-        trace,
-        place,
-        held: Some(held),
-    })
-}
-
-// Where a mark comes from that an acquisition gives.
-fn at(trace: u32, place: u32) -> Option<Origin> {
-    Some(Origin {
-        trace,
-        place,
-        held: None,
-    })
-}
-
-// The origins of the facts of traces that a run completes, so that they are well formed.
-fn origins_of(
-    rt: &(impl Threads + Wait + Sync + Abort),
+// The origins of the facts of traces of three keys, if a run completes them, so that they are well formed.
+fn origins_of<R: Threads + Wait + Sync + Abort>(
+    rt: &R,
     alloc: Global,
     traces: &[RawTrace],
-) -> Result<Origins, Fail> {
-    assert!(rt; 3 <= MAX_KEYS && traces.iter().all(|trace| trace.keys_below(3)));
-    let settled = run(rt, alloc, traces, 3, 1, &OpenGate)?;
-    assert!(rt; settled.dependencies() <= 36);
-    Ok(Origins::of(alloc, traces, 3)?)
+) -> Option<Origins> {
+    assert!(rt; traces.iter().all(|trace| trace.keys_below(3)));
+    run(rt, alloc, traces, 3, 1, &OpenGate).ok()?;
+    Origins::of(alloc, traces, 3).ok()
 }
 
-// The origins of the facts of one trace.
-fn of_one(
-    rt: &(impl Threads + Wait + Sync + Abort),
+fn is_known(origins: &Origins, known: Known) -> bool {
+    match known {
+        Dependency(from, to, kind, place) => origins.dependency(from, to, kind) == place.origin(),
+        Marked(key, mark, place) => origins.mark(key, mark) == place.origin(),
+    }
+}
+
+fn are_known(origins: &Origins, facts: &[Known]) -> bool {
+    for known in facts {
+        if !is_known(origins, *known) {
+            return false;
+        }
+    }
+    true
+}
+
+fn is_as_told<R: Threads + Wait + Sync + Abort>(rt: &R, alloc: Global, row: &Row) -> Option<bool> {
+    let traces = traces_of(alloc, row.traces)?;
+    let origins = origins_of(rt, alloc, &traces)?;
+    Some(are_known(&origins, row.facts))
+}
+
+// The first of these whose facts come from elsewhere.
+fn misfit<R: Threads + Wait + Sync + Abort>(
+    rt: &R,
     alloc: Global,
-    events: &[Event],
-) -> Result<Origins, Fail> {
-    let mut traces = Vec::new(alloc);
-    traces.push(trace_of(alloc, events)?)?;
-    origins_of(rt, alloc, &traces)
+    rows: &[Row],
+) -> Option<&'static str> {
+    for row in rows {
+        if is_as_told(rt, alloc, row) != Some(true) {
+            return Some(row.about);
+        }
+    }
+    None
 }
 
 #[test]
-fn two_orders_come_from_two_traces(rt: HostRuntime) -> Result<(), Fail> {
-    let alloc = rt.alloc();
-    let mut traces = Vec::new(alloc);
-    traces.push(trace_of(alloc, &[write(A), write(B), give(B), give(A)])?)?;
-    traces.push(trace_of(
-        alloc,
-        &[write(C), give(C), write(B), write(A), give(A), give(B)],
-    )?)?;
-    traces.push(trace_of(alloc, &[write(B), write(A)])?)?;
-    let origins = origins_of(&rt, alloc, &traces)?;
-    assert_eq!(rt; origins.dependency(A, B, Kind::En), by(0, 0, 1));
-    assert_eq!(rt; origins.dependency(B, A, Kind::En), by(1, 2, 3));
-    assert_eq!(rt; origins.mark(A, Mark::Used), at(0, 0));
-    assert_eq!(rt; origins.mark(B, Mark::Used), at(0, 1));
-    assert_eq!(rt; origins.mark(C, Mark::Used), at(1, 0));
-    assert_eq!(rt; origins.mark(B, enabled(Irq::Hard, false)), at(0, 1));
-    Ok(())
-}
-
-#[test]
-fn what_isnt_there_has_no_origin(rt: HostRuntime) -> Result<(), Fail> {
-    let origins = of_one(&rt, rt.alloc(), &[write(A), write(B), give(A), write(C)])?;
-    assert_eq!(rt; origins.dependency(B, C, Kind::En), by(0, 1, 3));
-    assert_eq!(rt; origins.dependency(A, C, Kind::En), None);
-    assert_eq!(rt; origins.dependency(A, B, Kind::Er), None);
-    assert_eq!(rt; origins.dependency(B, A, Kind::En), None);
-    assert_eq!(rt; origins.dependency(A, 3, Kind::En), None);
-    assert_eq!(rt; origins.mark(A, enabled(Irq::Hard, true)), None);
-    assert_eq!(rt;
-        origins.mark(
-            A,
-            Mark::UsedIn {
-                irq: Irq::Hard,
-                read: false
-            }
-        ),
-        None
-    );
-    assert_eq!(rt; origins.mark(3, Mark::Used), None);
-    Ok(())
-}
-
-#[test]
-fn of_two_held_locks_of_a_key_it_is_the_newest(rt: HostRuntime) -> Result<(), Fail> {
-    let origins = of_one(
-        &rt,
-        rt.alloc(),
-        &[again(A), write(B), again(A), give(B), write(C)],
-    )?;
-    assert_eq!(rt; origins.dependency(A, C, Kind::Sn), by(0, 2, 4));
-    assert_eq!(rt; origins.dependency(B, A, Kind::Er), by(0, 1, 2));
-    assert_eq!(rt; origins.dependency(B, C, Kind::En), None);
-    Ok(())
-}
-
-#[test]
-fn the_newest_that_is_left_is_the_one(rt: HostRuntime) -> Result<(), Fail> {
-    let origins = of_one(&rt, rt.alloc(), &[again(A), again(A), give(A), write(B)])?;
-    assert_eq!(rt; origins.dependency(A, B, Kind::Sn), by(0, 0, 3));
-    assert_eq!(rt; origins.dependency(A, A, Kind::Sr), by(0, 0, 1));
-    Ok(())
-}
-
-#[test]
-fn a_release_takes_out_the_place_of_its_own_lock(rt: HostRuntime) -> Result<(), Fail> {
-    let origins = of_one(
-        &rt,
-        rt.alloc(),
-        &[
-            write(A),
-            HARD_ON,
-            write(B),
-            give(A),
-            write(C),
-            give(B),
-            write(A),
-        ],
-    )?;
-    assert_eq!(rt; origins.dependency(B, C, Kind::En), by(0, 2, 4));
-    assert_eq!(rt; origins.dependency(C, A, Kind::En), by(0, 4, 6));
-    assert_eq!(rt; origins.dependency(B, A, Kind::En), None);
-    Ok(())
-}
-
-#[test]
-fn held_locks_are_those_of_the_frame(rt: HostRuntime) -> Result<(), Fail> {
-    let origins = of_one(&rt, rt.alloc(), &[write(A), ENTER_HARD, write(B), write(C)])?;
-    assert_eq!(rt; origins.dependency(B, C, Kind::En), by(0, 2, 3));
-    assert_eq!(rt; origins.dependency(A, C, Kind::En), None);
-    assert_eq!(rt;
-        origins.mark(
-            B,
-            Mark::UsedIn {
-                irq: Irq::Hard,
-                read: false
-            }
-        ),
-        at(0, 2)
-    );
-    assert_eq!(rt; origins.mark(A, enabled(Irq::Hard, false)), at(0, 0));
-    assert_eq!(rt; origins.mark(B, enabled(Irq::Hard, false)), None);
-    Ok(())
-}
-
-#[test]
-fn an_opening_is_where_a_held_lock_is_marked(rt: HostRuntime) -> Result<(), Fail> {
-    let origins = of_one(
-        &rt,
-        rt.alloc(),
-        &[
-            HARD_OFF,
-            SOFT_OFF,
-            again(A),
-            again(A),
-            write(B),
-            HARD_ON,
-            SOFT_ON,
-            write(C),
-        ],
-    )?;
-    assert_eq!(rt; origins.mark(A, Mark::Used), at(0, 2));
-    assert_eq!(rt; origins.mark(A, enabled(Irq::Hard, true)), by(0, 3, 5));
-    assert_eq!(rt; origins.mark(B, enabled(Irq::Hard, false)), by(0, 4, 5));
-    assert_eq!(rt; origins.mark(A, enabled(Irq::Soft, true)), by(0, 3, 6));
-    assert_eq!(rt; origins.mark(C, enabled(Irq::Soft, false)), at(0, 7));
-    assert_eq!(rt; origins.mark(C, enabled(Irq::Hard, true)), None);
-    Ok(())
-}
-
-#[test]
-fn a_try_begins_dependencies_and_ends_none(rt: HostRuntime) -> Result<(), Fail> {
-    let origins = of_one(
-        &rt,
-        rt.alloc(),
-        &[
-            take(A, Mode::TryWrite),
-            write(B),
-            take(C, Mode::TryRead),
-            give(B),
-            give(A),
-        ],
-    )?;
-    assert_eq!(rt; origins.dependency(A, B, Kind::En), by(0, 0, 1));
-    assert_eq!(rt; origins.dependency(A, C, Kind::En), None);
-    assert_eq!(rt; origins.dependency(B, C, Kind::En), None);
-    assert_eq!(rt; origins.mark(C, Mark::Used), at(0, 2));
-    Ok(())
+fn facts_have_their_origins(rt: HostRuntime) {
+    assert_eq!(rt; misfit(&rt, rt.alloc(), &ROWS), None);
 }

@@ -1,7 +1,8 @@
 //! What a refused request for memory leaves. In an ordinary run none is refused: `tests/sweep` runs this test with its first
 //! request refused, its second, and so on, and counts the lines that it prints.
 
-use crate::tests::{A, B, by, give, write};
+use crate::tests::steps::Step::{Give, Write};
+use crate::tests::steps::{A, B, traces_of};
 use crate::{Origin, Origins};
 use ld_graph::Kind;
 use ld_run::{OpenGate, run};
@@ -15,13 +16,7 @@ use std::thread::Threads;
 
 // A trace of two locks; None where memory was refused.
 fn traces(alloc: Global) -> Option<Vec<RawTrace>> {
-    let mut events = Vec::new(alloc);
-    for event in [write(A), write(B), give(B), give(A)] {
-        events.push(event).ok()?;
-    }
-    let mut traces = Vec::new(alloc);
-    traces.push(RawTrace::from_events(events)?).ok()?;
-    Some(traces)
+    traces_of(alloc, &[&[Write(A), Write(B), Give(B), Give(A)]])
 }
 
 // The origin of the one dependency; None where memory was refused.
@@ -49,6 +44,11 @@ fn want_of_memory_for_origins(rt: HostRuntime) -> Result<(), Fail> {
             origin(&rt, &both).ok_or("no origins")?
         }
     };
-    assert_eq!(rt; found, by(0, 0, 1));
+    let expected = Origin {
+        trace: 0,
+        place: 1,
+        held: Some(0),
+    };
+    assert_eq!(rt; found, Some(expected));
     Ok(())
 }
