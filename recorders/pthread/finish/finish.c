@@ -124,6 +124,7 @@ int main(int argc, char **argv) {
     find_recorder(recorder, sizeof recorder);
     read_wrappers(recorder);
     read_arenas(argv[1]);
+    find_arrays();
     write_traces(argv[1], version);
     write_classes(argv[1]);
     write_summary(argv[1]);

@@ -30,10 +30,12 @@ void *checked(void *p);
 
 /* ---- symbols.c: modules and their symbols. */
 
+enum symbol_kind { SYMBOL_CODE, SYMBOL_DATA, SYMBOL_THREAD };
+
 struct symbol {
-    uint64_t value, size;
+    uint64_t value, size; /* of SYMBOL_THREAD the value is an offset in the module's thread-local part */
     const char *name;
-    bool is_code;
+    enum symbol_kind kind;
 };
 
 struct module {
@@ -49,7 +51,7 @@ extern struct module *modules;
 extern size_t module_count;
 
 uint32_t module_named(const char *path);
-const struct symbol *symbol_at(uint32_t module, uint64_t offset, bool is_code);
+const struct symbol *symbol_at(uint32_t module, uint64_t offset, enum symbol_kind kind);
 
 /* ---- arenas.c: what the preload library left. */
 
@@ -83,6 +85,11 @@ const struct place *place_numbered(struct arena *a, uint32_t number);
 /* A thread's records. */
 const struct raw_record *record_of(const struct arena *a, const struct raw_thread *t, uint64_t index);
 uint32_t class_of(const struct arena *a, uint32_t object);
+
+/* ---- arrays.c */
+
+void find_arrays(void);
+uint64_t element_size(const struct place *place);
 
 /* ---- names.c */
 

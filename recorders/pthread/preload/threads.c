@@ -42,6 +42,8 @@ struct entry {
     struct link links[READERS];
 };
 
+#define PLACES 16
+
 struct thread {
     struct raw_thread *raw;
     struct raw_record *chunks[RAW_CHUNKS];
@@ -54,6 +56,10 @@ struct thread {
     int destructor_rounds;
     uintptr_t failed; /* the lock of the last try that failed */
     struct thread *next;
+    struct {
+        uintptr_t caller;
+        uint32_t epoch, place;
+    } places[PLACES]; /* of callers that it met last */
     struct entry entries[RAW_HELD];
 };
 
@@ -278,6 +284,19 @@ static bool see(struct thread *t, uint64_t way) {
     return true;
 }
 
+static uint32_t cached_place(struct thread *t, uintptr_t caller) {
+    uint32_t i = (uint32_t)(caller ^ caller >> 5) % PLACES, epoch = LOAD(&rules_epoch);
+    if (LIKELY(t->places[i].caller == caller && t->places[i].epoch == epoch))
+        return t->places[i].place;
+    uint32_t place = place_of_caller(caller);
+    if (place) {
+        t->places[i].caller = caller;
+        t->places[i].epoch = epoch;
+        t->places[i].place = place;
+    }
+    return place;
+}
+
 /* ---- Releases. */
 
 static void release_at(struct thread *t, uint32_t i, uintptr_t caller) {
@@ -292,7 +311,7 @@ static void release_at(struct thread *t, uint32_t i, uintptr_t caller) {
     if (was_newest && hash_of(t, t->depth) == last->hash && take_back(t, last->start))
         return;
     if (gone.is_written && make_room(t))
-        put_record(t, raw_what(gone.object, MODE_RELEASE), place_of_caller(caller));
+        put_record(t, raw_what(gone.object, MODE_RELEASE), cached_place(t, caller));
 }
 
 /* Drops the locks that another thread released meanwhile. */
@@ -364,9 +383,9 @@ static void tell_apart(struct thread *t, uint32_t i) {
 }
 
 /* Where the lock is taken: one caller, and more if it is taken in a new way. */
-static uint32_t place_of_acquisition(struct call call, bool is_new) {
+static uint32_t place_of_acquisition(struct thread *t, struct call call, bool is_new) {
     if (!is_new)
-        return place_of_caller(call.caller);
+        return cached_place(t, call.caller);
     struct stack stack;
     take_stack(&stack, call, RAW_FRAMES);
     return place_of(&stack);
@@ -381,7 +400,7 @@ static bool write_acquisition(struct thread *t, uint32_t what, struct call call,
         t->raw->left_out.no_room++;
         return false;
     }
-    put_record(t, what, place_of_acquisition(call, is_new));
+    put_record(t, what, place_of_acquisition(t, call, is_new));
     return true;
 }
 
