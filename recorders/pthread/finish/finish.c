@@ -4,6 +4,7 @@
 
    FOLDER/task-NNNN.csv        the trace of one thread, in version 1 or 2 of the format
    FOLDER/task-NNNN.csv.places for each of its records, where the call came from
+   FOLDER/objects              the same traces with the names of single locks
    FOLDER/classes              for each class's name, where that is
    FOLDER/SUMMARY              what was recorded, and what was left out
 
@@ -125,6 +126,7 @@ int main(int argc, char **argv) {
     read_wrappers(recorder);
     read_arenas(argv[1]);
     find_arrays();
+    name_objects();
     write_traces(argv[1], version);
     write_classes(argv[1]);
     write_summary(argv[1]);

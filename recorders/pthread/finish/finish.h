@@ -15,7 +15,8 @@
 
 #define MAX_KEYS 8192 /* of a checked run */
 #define MAX_HELD 48   /* of a task */
-#define MAX_NAME 64   /* of a class, in bytes */
+#define MAX_NAME 53   /* of a class, in bytes: the format's 64 less what tells its objects apart, as `#rest^12345` */
+#define MAX_OBJECT_NAME 64
 
 void refuse(const char *what, const char *name) __attribute__((noreturn));
 void *checked(void *p);
@@ -69,6 +70,7 @@ struct arena {
     uint32_t *modules; /* from its numbers to those of all */
     struct place *places;
     int *keys;         /* of its classes: one more than the key's number, 0 if it has none yet */
+    int **object_keys; /* of each of its processes, and there of each object: one more than the key's number, 0 if it has none yet */
     uint32_t *processes; /* from its numbers to those of all; 0 if it locked nothing */
 };
 
@@ -108,6 +110,12 @@ void read_wrappers(const char *beside);
 bool is_wrapper(uint64_t word);
 bool is_outermost(uint64_t word);
 int key_of(struct arena *a, uint32_t class);
+
+/* ---- objects.c */
+
+void name_objects(void);
+int key_of_object(struct arena *a, uint32_t process, uint32_t object);
+void tell_object(char *text, size_t room, int number);
 
 /* ---- traces.c */
 
