@@ -35,6 +35,8 @@ static int deeper(int depth, const char *name, size_t i) {
 static void cut_parameters(char *name) {
     char *end = strrchr(name, ')');
     int depth = 0;
+    if (end && strncmp(end + 1, "::", 2) == 0)
+        return; /* it is something in the function */
     for (char *p = end; p && p >= name; p--) {
         depth += *p == ')' ? 1 : *p == '(' ? -1 : 0;
         if (depth == 0) {
@@ -49,6 +51,8 @@ static void cut_parameters(char *name) {
 static void cut_type(char *name) {
     int depth = 0;
     char *from = name;
+    if (strncmp(name, "guard variable ", 15) == 0)
+        return;
     for (size_t i = 0; name[i]; i++) {
         depth = deeper(depth, name, i);
         if (depth == 0 && strncmp(&name[i], "operator", 8) == 0)
@@ -215,13 +219,9 @@ static bool is_by_word(const struct raw_class *class) {
     return class->kind == CLASS_STATIC || class->kind == CLASS_STACK || class->kind == CLASS_THREAD;
 }
 
-static const char *const own_names[] = {"unknown", "loader"};
-
 static void tell_class(char *text, size_t room, struct arena *a, const struct raw_class *class, bool plainly) {
     char offset[32];
-    if (class->kind == CLASS_NAMED)
-        snprintf(text, room, "%s", own_names[class->place < sizeof own_names / sizeof *own_names ? class->place : 0]);
-    else if (is_by_word(class))
+    if (is_by_word(class))
         tell_address(text, room, told_word(a, class->word), false, symbol_kinds[class->kind], plainly);
     else
         tell_place(text, room, place_numbered(a, class->place), plainly);
@@ -275,7 +275,7 @@ static uint64_t first_word(struct arena *a, const struct raw_class *class) {
     if (is_by_word(class))
         return told_word(a, class->word);
     const struct place *place = place_numbered(a, class->place);
-    return class->kind != CLASS_NAMED && place->count ? place->words[0] : UINT64_MAX;
+    return place->count ? place->words[0] : UINT64_MAX;
 }
 
 /* The key of a class: that of its name, or a new one. If another class has the name, a number of its own comes after it. */

@@ -59,7 +59,7 @@ static int object_key_of(int key, uint32_t process, bool is_apart) {
 
 /* ---- The key of an object in a process, found once. */
 
-static bool is_alone(enum class_kind kind) { return kind == CLASS_STATIC || kind == CLASS_NAMED; }
+static bool is_alone(enum class_kind kind) { return kind == CLASS_STATIC; }
 
 static int *known_key(struct arena *a, uint32_t process, uint32_t object) {
     int **known = &a->object_keys[process];

@@ -288,7 +288,7 @@ void write_traces(const char *folder, int version) {
 
 /* ---- The classes. */
 
-static const char *const kind_words[CLASS_KINDS] = {"unknown", "init", "static", "heap", "stack", "thread", "take", "named"};
+static const char *const kind_words[CLASS_KINDS] = {"unknown", "init", "static", "heap", "stack", "thread", "take"};
 
 /* Where the class is. Of code it is an address after a call, and so of a function the second one. */
 static void write_class(FILE *file, const struct key *key) {

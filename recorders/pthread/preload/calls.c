@@ -19,7 +19,7 @@
     X(pthread_rwlock_clockwrlock) X(pthread_rwlock_unlock) X(pthread_spin_init) X(pthread_spin_destroy)                   \
     X(pthread_spin_lock) X(pthread_spin_trylock) X(pthread_spin_unlock) X(pthread_cond_wait) X(pthread_cond_timedwait)    \
     X(pthread_cond_clockwait) X(mtx_init) X(mtx_destroy) X(mtx_lock) X(mtx_timedlock) X(mtx_trylock) X(mtx_unlock)        \
-    X(cnd_wait) X(cnd_timedwait) X(dlclose) X(pthread_create)
+    X(cnd_wait) X(cnd_timedwait) X(pthread_create)
 
 #define DECLARE(name) static __typeof__(&name) real_##name;
 REALS(DECLARE)
@@ -230,21 +230,4 @@ EXPORT int pthread_create(pthread_t *thread, const pthread_attr_t *how, void *(*
     if (is_recording())
         note_frames(HERE);
     return real_pthread_create(thread, how, run, with);
-}
-
-/* ---- Libraries. */
-
-/* A library that goes takes its addresses with it. */
-EXPORT int dlclose(void *handle) {
-    if (!resolved())
-        return 0;
-    int answer = real_dlclose(handle);
-    if (is_recording() && !busy) {
-        int saved = errno;
-        busy = true;
-        forget_closed_modules();
-        busy = false;
-        errno = saved;
-    }
-    return answer;
 }

@@ -55,6 +55,8 @@ struct thread {
     uint32_t epoch;
     int destructor_rounds;
     uintptr_t failed; /* the lock of the last try that failed */
+    uintptr_t loader; /* the loader's lock, if the thread may still be in it */
+    struct call loading; /* from where */
     struct thread *next;
     struct {
         uintptr_t caller;
@@ -103,6 +105,7 @@ static bool begin_trace(struct thread *t) {
     t->fresh_end = 0;
     t->depth = 0;
     t->failed = 0;
+    t->loader = 0;
     t->destructor_rounds = 0;
     t->epoch = LOAD(&foreign_epoch);
     STORE(&t->raw->is_ready, 1);
@@ -123,6 +126,8 @@ static struct thread *make_thread(void) {
     return t;
 }
 
+static void leave_loader(struct thread *t, uintptr_t frame);
+
 /* Other destructors of the thread may still lock, so the last round of them is waited for. */
 static void at_thread_end(void *value) {
     struct thread *t = value;
@@ -132,6 +137,7 @@ static void at_thread_end(void *value) {
         pthread_setspecific(thread_end, t);
         return;
     }
+    leave_loader(t, UINTPTR_MAX);
     is_ended = true;
     own = NULL;
     t->raw->ended = 1;
@@ -346,10 +352,23 @@ static void released_foreign(struct thread *t, uintptr_t lock) {
     t->epoch = LOAD(&foreign_epoch) - 1;
 }
 
+/* The loader has been left if its frame has. */
+static void leave_loader(struct thread *t, uintptr_t frame) {
+    if (LIKELY(!t->loader || frame < t->loading.frame))
+        return;
+    uint32_t i = find_held(t, t->loader);
+    t->loader = 0;
+    if (i == RAW_HELD)
+        return;
+    t->entries[i].held.depth = 0;
+    release_at(t, i, t->loading.caller);
+}
+
 void releasing(uintptr_t lock, struct call call) {
     struct thread *t = enter();
     if (!t)
         return;
+    leave_loader(t, call.frame);
     t->raw->calls++;
     uint32_t i = find_held(t, lock);
     if (i == RAW_HELD)
@@ -440,6 +459,7 @@ static uint32_t object_to_hold(struct thread *t, uintptr_t lock, struct call cal
 
 static void take_lock(struct thread *t, uintptr_t lock, uint8_t mode, bool exclusive, struct call call) {
     t->raw->calls++;
+    leave_loader(t, call.frame);
     if (RARELY(t->epoch != __atomic_load_n(&foreign_epoch, __ATOMIC_RELAXED)))
         drop_released(t, call.caller);
     uint32_t again = exclusive && t->depth ? find_held(t, lock) : RAW_HELD;
@@ -468,6 +488,7 @@ bool begin_wish(uintptr_t lock, uint8_t mode, struct call call) {
     if (!t)
         return false;
     t->raw->calls++;
+    leave_loader(t, call.frame);
     if (RARELY(t->epoch != __atomic_load_n(&foreign_epoch, __ATOMIC_RELAXED)))
         drop_released(t, call.caller);
     uint32_t object = object_to_hold(t, lock, call);
@@ -516,6 +537,18 @@ void tried(uintptr_t lock, bool has_failed) {
     if (t->failed == lock && t->depth)
         t->raw->left_out.retried++;
     t->failed = has_failed ? lock : 0;
+    leave();
+}
+
+void enter_loader(uintptr_t loader, struct call call) {
+    struct thread *t = enter();
+    if (!t)
+        return;
+    take_lock(t, loader, MODE_WRITE, true, call);
+    if (!t->loader && find_held(t, loader) != RAW_HELD) {
+        t->loader = loader;
+        t->loading = call;
+    }
     leave();
 }
 
