@@ -9,12 +9,13 @@
 #include <stdio.h>
 #include <stdlib.h>
 #include <string.h>
+#include <sys/mman.h>
 #include <threads.h>
 #include <time.h>
 
 #define REALS(X)                                                                                                       \
     X(pthread_once) X(call_once) X(dlopen) X(dlmopen) X(dlclose) X(sem_init) X(sem_destroy) X(sem_wait) X(sem_timedwait)  \
-    X(sem_clockwait) X(sem_trywait) X(sem_post) X(flockfile) X(ftrylockfile) X(funlockfile)
+    X(sem_clockwait) X(sem_trywait) X(sem_post) X(mlockall) X(flockfile) X(ftrylockfile) X(funlockfile)
 
 #define DECLARE(name) static __typeof__(&name) real_##name;
 REALS(DECLARE)
@@ -205,6 +206,14 @@ EXPORT int dlclose(void *handle) {
         errno = saved;
     }
     return answer;
+}
+
+/* ---- Memory that is kept in the machine: of the recorder's only what it uses. The system is asked to keep each page from when it is
+   used first, of the program's too. */
+
+EXPORT int mlockall(int what) {
+    find_reals();
+    return real_mlockall(is_recording() ? what | MCL_ONFAULT : what);
 }
 
 /* ---- By option. A semaphore is taken as a mutex is; one that another thread posts isn't held any more. */

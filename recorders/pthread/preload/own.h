@@ -39,6 +39,10 @@
 extern struct raw_arena *arena; /* NULL if nothing is recorded */
 extern uint32_t own_process;    /* the number of this process in it */
 
+/* Not 0 while this process is recorded. The system makes it 0 in a child, whichever way it was forked. */
+extern volatile uint32_t *alive;
+bool revived(void); /* whether the process is recorded after all */
+
 void begin_once(void);
 uint32_t take_part(enum raw_kind kind); /* the number of a new part, or 0 */
 void *part_of(enum raw_kind kind, uint32_t number);

@@ -146,7 +146,7 @@ static void at_thread_end(void *value) {
 
 /* Enters the recorder. NULL if this call isn't to be recorded. */
 static struct thread *enter(void) {
-    if (!arena || RARELY(is_ended))
+    if (RARELY(is_ended) || (RARELY(!*alive) && !revived()))
         return NULL;
     if (RARELY(busy)) {
         if (own)
