@@ -79,13 +79,14 @@ struct raw_place {
 };
 
 /* By what a lock is known: where it was initialised, its symbol, where its memory was allocated, the function in whose frame
-   it lies, or, if nothing else is known of it, where it was taken first. */
-enum class_kind { CLASS_NONE, CLASS_INIT, CLASS_STATIC, CLASS_HEAP, CLASS_STACK, CLASS_TAKE, CLASS_NAMED, CLASS_KINDS };
+   it lies, the thread-local symbol, or, if nothing else is known of it, where it was taken first. */
+enum class_kind { CLASS_NONE, CLASS_INIT, CLASS_STATIC, CLASS_HEAP, CLASS_STACK, CLASS_THREAD, CLASS_TAKE, CLASS_KINDS };
 
 struct raw_class {
     uint32_t kind; /* written last */
-    uint32_t place;  /* of CLASS_INIT, CLASS_HEAP and CLASS_TAKE; of CLASS_NAMED the number of the name */
-    uint64_t word;   /* of CLASS_STATIC the lock's address, of CLASS_STACK the function's */
+    uint32_t place;  /* of CLASS_INIT, CLASS_HEAP and CLASS_TAKE */
+    uint64_t word;   /* of CLASS_STATIC the lock's address, of CLASS_STACK the function's, of CLASS_THREAD that in the module's
+                        thread-local part */
     uint64_t offset; /* of CLASS_HEAP in the piece of memory, of CLASS_STACK down from the frame's end */
 };
 

@@ -4,6 +4,7 @@
 
    FOLDER/task-NNNN.csv        the trace of one thread, in version 1 or 2 of the format
    FOLDER/task-NNNN.csv.places for each of its records, where the call came from
+   FOLDER/objects              the same traces with the names of single locks
    FOLDER/classes              for each class's name, where that is
    FOLDER/SUMMARY              what was recorded, and what was left out
 
@@ -48,6 +49,8 @@ static uint64_t sum_of(uint64_t (*of)(const struct raw_arena *)) {
 }
 
 static uint64_t lost_threads(const struct raw_arena *a) { return a->no_thread; }
+static uint64_t namespaces(const struct raw_arena *a) { return a->namespaces; }
+static uint64_t deep_bound(const struct raw_arena *a) { return a->deep_bound; }
 static uint64_t is_small(const struct raw_arena *a) { return a->bytes < RAW_SMALL; }
 
 static void tell_losses(FILE *file) {
@@ -71,6 +74,10 @@ static void tell_losses(FILE *file) {
               "calls from a signal handler that interrupted the recorder: an order among them may be missing");
     tell_loss(file, "unseen-releases", raw->releases,
               "releases of locks that the thread wasn't seen to take: another thread, or nobody, was seen to hold them");
+    tell_loss(file, "deep-binding", sum_of(deep_bound),
+              "libraries that asked to be bound to themselves first, which was taken away so that their locks are seen: nothing is lost by these");
+    tell_loss(file, "namespaces", sum_of(namespaces),
+              "libraries loaded by dlmopen into a namespace of their own: their locks aren't seen");
     tell_loss(file, "repeats", raw->repeated, "records that repeat what their thread had done before: nothing is lost by these");
 }
 
@@ -79,6 +86,36 @@ static void tell_text(FILE *file, const char *name, uint64_t count, const char *
         return;
     tell(file, name, count);
     fputs(text, file);
+}
+
+/* ---- Why no lock was seen, as far as the modules of the recorded programs suggest it. */
+
+/* The C library and the recorder take locks, or name the functions that do, whatever the program does. */
+static bool is_own_module(const struct module *m) {
+    static const char *const names[] = {"libc.so", "libpthread", "ld-linux", "libstdc++.so", "preload.so", "linux-vdso"};
+    for (size_t i = 0; i < sizeof names / sizeof *names; i++)
+        if (strncmp(m->base, names[i], strlen(names[i])) == 0)
+            return true;
+    return false;
+}
+
+static void tell_unseen(FILE *file) {
+    bool is_python = false, is_java = false, is_go = false, is_rust = false, takes_locks = false;
+    for (size_t i = 0; i < module_count; i++) {
+        is_python |= strncmp(modules[i].base, "libpython", 9) == 0 || strncmp(modules[i].base, "python", 6) == 0;
+        is_java |= strcmp(modules[i].base, "libjvm.so") == 0;
+        is_go |= modules[i].is_go;
+        is_rust |= modules[i].is_rust;
+        takes_locks |= modules[i].takes_locks && !is_own_module(&modules[i]);
+    }
+    const struct {
+        const char *name;
+        bool is_one;
+    } reasons[] = {{"static", process_count == 0}, {"libpython", is_python}, {"libjvm", is_java}, {"go", is_go}, {"rust", is_rust},
+                   {"no-pthread-import", process_count > 0 && !takes_locks}};
+    for (size_t i = 0; i < sizeof reasons / sizeof *reasons; i++)
+        if (reasons[i].is_one)
+            fprintf(file, "unseen %s\n", reasons[i].name);
 }
 
 static void write_summary(const char *folder) {
@@ -92,6 +129,8 @@ static void write_summary(const char *folder) {
     tell(file, "classes", key_count < MAX_KEYS ? key_count : MAX_KEYS);
     tell_text(file, "waiting", sums.waiting, waiting_text);
     tell_text(file, "held-at-end", sums.held_at_end, held_text);
+    if (sums.operations == 0)
+        tell_unseen(file);
     tell_losses(file);
     closed(file, path);
 }
@@ -124,6 +163,8 @@ int main(int argc, char **argv) {
     find_recorder(recorder, sizeof recorder);
     read_wrappers(recorder);
     read_arenas(argv[1]);
+    find_arrays();
+    name_objects();
     write_traces(argv[1], version);
     write_classes(argv[1]);
     write_summary(argv[1]);

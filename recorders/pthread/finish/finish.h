@@ -15,7 +15,8 @@
 
 #define MAX_KEYS 8192 /* of a checked run */
 #define MAX_HELD 48   /* of a task */
-#define MAX_NAME 64   /* of a class, in bytes */
+#define MAX_NAME 53   /* of a class, in bytes: the format's 64 less what tells its objects apart, as `#rest^12345` */
+#define MAX_OBJECT_NAME 64
 
 void refuse(const char *what, const char *name) __attribute__((noreturn));
 void *checked(void *p);
@@ -30,10 +31,12 @@ void *checked(void *p);
 
 /* ---- symbols.c: modules and their symbols. */
 
+enum symbol_kind { SYMBOL_CODE, SYMBOL_DATA, SYMBOL_THREAD };
+
 struct symbol {
-    uint64_t value, size;
+    uint64_t value, size; /* of SYMBOL_THREAD the value is an offset in the module's thread-local part */
     const char *name;
-    bool is_code;
+    enum symbol_kind kind;
 };
 
 struct module {
@@ -49,7 +52,7 @@ extern struct module *modules;
 extern size_t module_count;
 
 uint32_t module_named(const char *path);
-const struct symbol *symbol_at(uint32_t module, uint64_t offset, bool is_code);
+const struct symbol *symbol_at(uint32_t module, uint64_t offset, enum symbol_kind kind);
 
 /* ---- arenas.c: what the preload library left. */
 
@@ -67,6 +70,7 @@ struct arena {
     uint32_t *modules; /* from its numbers to those of all */
     struct place *places;
     int *keys;         /* of its classes: one more than the key's number, 0 if it has none yet */
+    int **object_keys; /* of each of its processes, and there of each object: one more than the key's number, 0 if it has none yet */
     uint32_t *processes; /* from its numbers to those of all; 0 if it locked nothing */
 };
 
@@ -83,6 +87,11 @@ const struct place *place_numbered(struct arena *a, uint32_t number);
 /* A thread's records. */
 const struct raw_record *record_of(const struct arena *a, const struct raw_thread *t, uint64_t index);
 uint32_t class_of(const struct arena *a, uint32_t object);
+
+/* ---- arrays.c */
+
+void find_arrays(void);
+uint64_t element_size(const struct place *place);
 
 /* ---- names.c */
 
@@ -101,6 +110,12 @@ void read_wrappers(const char *beside);
 bool is_wrapper(uint64_t word);
 bool is_outermost(uint64_t word);
 int key_of(struct arena *a, uint32_t class);
+
+/* ---- objects.c */
+
+void name_objects(void);
+int key_of_object(struct arena *a, uint32_t process, uint32_t object);
+void tell_object(char *text, size_t room, int number);
 
 /* ---- traces.c */
 

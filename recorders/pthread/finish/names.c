@@ -35,6 +35,8 @@ static int deeper(int depth, const char *name, size_t i) {
 static void cut_parameters(char *name) {
     char *end = strrchr(name, ')');
     int depth = 0;
+    if (end && strncmp(end + 1, "::", 2) == 0)
+        return; /* it is something in the function */
     for (char *p = end; p && p >= name; p--) {
         depth += *p == ')' ? 1 : *p == '(' ? -1 : 0;
         if (depth == 0) {
@@ -49,6 +51,8 @@ static void cut_parameters(char *name) {
 static void cut_type(char *name) {
     int depth = 0;
     char *from = name;
+    if (strncmp(name, "guard variable ", 15) == 0)
+        return;
     for (size_t i = 0; name[i]; i++) {
         depth = deeper(depth, name, i);
         if (depth == 0 && strncmp(&name[i], "operator", 8) == 0)
@@ -119,7 +123,7 @@ void read_wrappers(const char *beside) {
 }
 
 static bool fits_list(uint64_t word) {
-    const struct symbol *s = symbol_at(raw_word_module(word), raw_word_offset(word) - 1, true);
+    const struct symbol *s = symbol_at(raw_word_module(word), raw_word_offset(word) - 1, SYMBOL_CODE);
     char name[LONGEST] = "";
     if (s)
         tell_symbol(name, sizeof name, s->name);
@@ -157,7 +161,7 @@ bool is_outermost(uint64_t word) {
     if (word == UINT64_MAX)
         return false;
     const char *base = modules[raw_word_module(word)].base;
-    const struct symbol *s = symbol_at(raw_word_module(word), raw_word_offset(word) - 1, true);
+    const struct symbol *s = symbol_at(raw_word_module(word), raw_word_offset(word) - 1, SYMBOL_CODE);
     return fnmatch("libc.so*", base, 0) == 0 || fnmatch("libc-2*", base, 0) == 0 || fnmatch("libpthread*", base, 0) == 0 ||
            fnmatch("ld-linux*", base, 0) == 0 || fnmatch("ld-2*", base, 0) == 0 || (s && strcmp(s->name, "_start") == 0);
 }
@@ -165,13 +169,13 @@ bool is_outermost(uint64_t word) {
 /* ---- A class in words. */
 
 /* `function+0x1c`, `object`, or `module+1c` where the module has no symbol there. A call's address is the one after it. */
-static void tell_address(char *text, size_t room, uint64_t word, bool is_call, bool is_code, bool plainly) {
+static void tell_address(char *text, size_t room, uint64_t word, bool is_call, enum symbol_kind kind, bool plainly) {
     if (word == UINT64_MAX) {
         snprintf(text, room, "unknown");
         return;
     }
     uint64_t offset = raw_word_offset(word);
-    const struct symbol *s = plainly ? NULL : symbol_at(raw_word_module(word), offset - is_call, is_code);
+    const struct symbol *s = plainly ? NULL : symbol_at(raw_word_module(word), offset - is_call, kind);
     char name[LONGEST];
     if (s)
         tell_symbol(name, sizeof name, s->name);
@@ -192,30 +196,36 @@ static void tell_place(char *text, size_t room, const struct place *place, bool 
         size_t have = i ? strlen(text) : 0;
         if (i && have + 1 < room)
             text[have++] = '~';
-        tell_address(text + have, room - have, place->words[i], true, true, plainly);
+        tell_address(text + have, room - have, place->words[i], true, SYMBOL_CODE, plainly);
     }
 }
 
-/* What follows the place: where in its memory or frame the lock is. */
-static void tell_offset(char *text, size_t room, const struct raw_class *class) {
+/* What follows the place: where in its memory or frame the lock is. Of an array, where in an element. */
+static void tell_offset(char *text, size_t room, struct arena *a, const struct raw_class *class) {
     text[0] = 0;
-    if (class->kind == CLASS_HEAP)
+    uint64_t element = class->kind == CLASS_HEAP ? element_size(place_numbered(a, class->place)) : 0;
+    if (element)
+        snprintf(text, room, "[].m%lu", (unsigned long)(class->offset % element));
+    else if (class->kind == CLASS_HEAP)
         snprintf(text, room, ".m%lu", (unsigned long)class->offset);
     else if (class->kind == CLASS_STACK)
         snprintf(text, room, ".s%lu", (unsigned long)class->offset);
 }
 
-static const char *const own_names[] = {"unknown", "loader"};
+static const enum symbol_kind symbol_kinds[CLASS_KINDS] = {
+    [CLASS_STATIC] = SYMBOL_DATA, [CLASS_STACK] = SYMBOL_CODE, [CLASS_THREAD] = SYMBOL_THREAD};
+
+static bool is_by_word(const struct raw_class *class) {
+    return class->kind == CLASS_STATIC || class->kind == CLASS_STACK || class->kind == CLASS_THREAD;
+}
 
 static void tell_class(char *text, size_t room, struct arena *a, const struct raw_class *class, bool plainly) {
     char offset[32];
-    if (class->kind == CLASS_NAMED)
-        snprintf(text, room, "%s", own_names[class->place < sizeof own_names / sizeof *own_names ? class->place : 0]);
-    else if (class->kind == CLASS_STATIC || class->kind == CLASS_STACK)
-        tell_address(text, room, told_word(a, class->word), false, class->kind == CLASS_STACK, plainly);
+    if (is_by_word(class))
+        tell_address(text, room, told_word(a, class->word), false, symbol_kinds[class->kind], plainly);
     else
         tell_place(text, room, place_numbered(a, class->place), plainly);
-    tell_offset(offset, sizeof offset, class);
+    tell_offset(offset, sizeof offset, a, class);
     size_t have = strlen(text);
     snprintf(text + have, room - have, "%s", offset);
 }
@@ -260,10 +270,12 @@ static int add_key(struct key key) {
 }
 
 static uint64_t first_word(struct arena *a, const struct raw_class *class) {
-    if (class->kind == CLASS_STATIC || class->kind == CLASS_STACK)
+    if (class->kind == CLASS_THREAD)
+        return UINT64_MAX; /* it is at another address in each thread */
+    if (is_by_word(class))
         return told_word(a, class->word);
     const struct place *place = place_numbered(a, class->place);
-    return class->kind != CLASS_NAMED && place->count ? place->words[0] : UINT64_MAX;
+    return place->count ? place->words[0] : UINT64_MAX;
 }
 
 /* The key of a class: that of its name, or a new one. If another class has the name, a number of its own comes after it. */

@@ -66,8 +66,9 @@ static void add_symbols(struct module *m, const struct file *file, const Elf64_S
         bool is_code = type == STT_FUNC || type == STT_GNU_IFUNC;
         if (symbols[i].st_shndx == SHN_UNDEF)
             m->takes_locks |= takes_lock(name);
-        else if ((is_code || type == STT_OBJECT) && is_plain(name)) {
-            struct symbol s = {symbols[i].st_value, symbols[i].st_size, name, is_code};
+        else if ((is_code || type == STT_OBJECT || type == STT_TLS) && is_plain(name)) {
+            enum symbol_kind kind = is_code ? SYMBOL_CODE : type == STT_TLS ? SYMBOL_THREAD : SYMBOL_DATA;
+            struct symbol s = {symbols[i].st_value, symbols[i].st_size, name, kind};
             PUSH(m->symbols, m->symbol_count, s);
         }
     }
@@ -121,8 +122,8 @@ uint32_t module_named(const char *path) {
 
 #define MOST_NESTED 64 /* symbols that may begin between one and an address in it */
 
-/* The symbol that has the address in it: a function's code, or an object. */
-const struct symbol *symbol_at(uint32_t module, uint64_t offset, bool is_code) {
+/* The symbol of a kind that has the address in it. */
+const struct symbol *symbol_at(uint32_t module, uint64_t offset, enum symbol_kind kind) {
     const struct module *m = &modules[module];
     size_t low = 0, high = m->symbol_count;
     while (low < high) {
@@ -133,7 +134,7 @@ const struct symbol *symbol_at(uint32_t module, uint64_t offset, bool is_code) {
             high = middle;
     }
     for (size_t i = low; i-- > 0 && low - i < MOST_NESTED;)
-        if (m->symbols[i].is_code == is_code && offset < m->symbols[i].value + m->symbols[i].size)
+        if (m->symbols[i].kind == kind && offset < m->symbols[i].value + m->symbols[i].size)
             return &m->symbols[i];
     return NULL;
 }

@@ -1,7 +1,9 @@
 /* Traces of threads. */
 #include "finish.h"
 
+#include <errno.h>
 #include <string.h>
+#include <sys/stat.h>
 #include <unistd.h>
 
 struct sums sums;
@@ -31,7 +33,7 @@ struct held {
 struct trace {
     struct arena *arena;
     const struct raw_thread *raw;
-    FILE *text, *places;
+    FILE *text, *objects, *places;
     struct held held[RAW_HELD + 8];
     size_t depth, written;
     uint64_t events;
@@ -77,13 +79,20 @@ static void write_place(FILE *file, const struct place *place) {
 
 /* ---- Records. */
 
-static void write_event(struct trace *t, const struct held *h, const char *mode, uint32_t place) {
-    fputs(mode ? "acq," : "rel,", t->text);
-    write_name(t->text, keys[h->key].name);
+static void write_line(FILE *file, const char *name, const char *mode) {
+    fputs(mode ? "acq," : "rel,", file);
+    write_name(file, name);
     if (mode)
-        fprintf(t->text, ",0,%s\n", mode);
+        fprintf(file, ",0,%s\n", mode);
     else
-        fputs(",0\n", t->text);
+        fputs(",0\n", file);
+}
+
+static void write_event(struct trace *t, const struct held *h, const char *mode, uint32_t place) {
+    char object[MAX_OBJECT_NAME + 1];
+    tell_object(object, sizeof object, key_of_object(t->arena, t->raw->process, h->object));
+    write_line(t->text, keys[h->key].name, mode);
+    write_line(t->objects, object, mode);
     write_place(t->places, place_numbered(t->arena, place));
     t->events++;
 }
@@ -182,27 +191,64 @@ static void write_records(struct trace *t) {
     }
 }
 
-static void write_trace(const char *folder, struct trace *t) {
-    char name[32], path[4300], places[4400];
-    snprintf(name, sizeof name, "task-%04lu", (unsigned long)sums.threads + 1);
-    snprintf(path, sizeof path, "%s/%s.csv", folder, name);
-    snprintf(places, sizeof places, "%s.places", path);
-    t->text = created(path);
-    t->places = created(places);
+/* The files of a trace: by classes and by objects, and the places, which are the same for both. */
+struct names {
+    char trace[32], text[4300], objects[4300], places[4400], object_places[4400];
+};
+
+static void open_files(struct trace *t, const struct names *n) {
+    t->text = created(n->text);
+    t->objects = created(n->objects);
+    t->places = created(n->places);
     fprintf(t->text, "lockdep,%d\n", t->version);
+    fprintf(t->objects, "lockdep,%d\n", t->version);
     begin_places(t->places);
     write_place(t->places, NULL);
-    write_records(t);
-    closed(t->text, path);
-    closed(t->places, places);
-    if (t->events == 0) {
-        unlink(path);
-        unlink(places);
+}
+
+/* A second name for the same file, or a copy where the disk doesn't take that. */
+static void give_second_name(const char *path, const char *second) {
+    unlink(second);
+    if (link(path, second) == 0)
         return;
+    FILE *from = fopen(path, "r"), *to = created(second);
+    char bytes[65536];
+    for (size_t n; from && (n = fread(bytes, 1, sizeof bytes, from)) > 0;)
+        fwrite(bytes, 1, n, to);
+    if (!from || ferror(from))
+        refuse("can't be read", path);
+    fclose(from);
+    closed(to, second);
+}
+
+static void close_files(struct trace *t, const struct names *n) {
+    closed(t->text, n->text);
+    closed(t->objects, n->objects);
+    closed(t->places, n->places);
+    if (t->events)
+        give_second_name(n->places, n->object_places);
+    else {
+        unlink(n->text);
+        unlink(n->objects);
+        unlink(n->places);
     }
+}
+
+static void write_trace(const char *folder, struct trace *t) {
+    struct names n;
+    snprintf(n.trace, sizeof n.trace, "task-%04lu", (unsigned long)sums.threads + 1);
+    snprintf(n.text, sizeof n.text, "%s/%s.csv", folder, n.trace);
+    snprintf(n.objects, sizeof n.objects, "%s/objects/%s.csv", folder, n.trace);
+    snprintf(n.places, sizeof n.places, "%s.places", n.text);
+    snprintf(n.object_places, sizeof n.object_places, "%s.places", n.objects);
+    open_files(t, &n);
+    write_records(t);
+    close_files(t, &n);
+    if (t->events == 0)
+        return;
     sums.threads++;
     sums.events += t->events;
-    tell_last(t, name);
+    tell_last(t, n.trace);
 }
 
 static void add_left_out(const struct raw_left_out *from) {
@@ -215,8 +261,16 @@ static void add_left_out(const struct raw_left_out *from) {
     sums.raw.repeated += from->repeated;
 }
 
+static void make_folder(const char *folder) {
+    char path[4300];
+    snprintf(path, sizeof path, "%s/objects", folder);
+    if (mkdir(path, 0777) != 0 && errno != EEXIST)
+        refuse("can't be made", path);
+}
+
 void write_traces(const char *folder, int version) {
     static struct trace t;
+    make_folder(folder);
     for (size_t i = 0; i < arena_count; i++)
         for (uint32_t n = 1; n <= count_of(&arenas[i], RAW_THREADS); n++) {
             const struct raw_thread *raw = part_of(&arenas[i], RAW_THREADS, n);
@@ -234,7 +288,7 @@ void write_traces(const char *folder, int version) {
 
 /* ---- The classes. */
 
-static const char *const kind_words[CLASS_KINDS] = {"unknown", "init", "static", "heap", "stack", "take", "named"};
+static const char *const kind_words[CLASS_KINDS] = {"unknown", "init", "static", "heap", "stack", "thread", "take"};
 
 /* Where the class is. Of code it is an address after a call, and so of a function the second one. */
 static void write_class(FILE *file, const struct key *key) {

@@ -17,6 +17,9 @@
 struct raw_arena *arena;
 uint32_t own_process;
 
+static volatile uint32_t not_alive, always_alive = 1;
+volatile uint32_t *alive = &not_alive;
+
 /* ---- Parts of the file. */
 
 void *part_of(enum raw_kind kind, uint32_t number) {
@@ -188,10 +191,32 @@ static void note_process(uint32_t parent) {
     STORE(&process->id, (uint32_t)getpid());
 }
 
+#define PAGE 4096
+
+static void begin_life(void) {
+    void *page = mmap(NULL, PAGE, PROT_READ | PROT_WRITE, MAP_PRIVATE | MAP_ANONYMOUS, -1, 0);
+    if (page == MAP_FAILED) {
+        alive = &always_alive;
+        return;
+    }
+    madvise(page, PAGE, MADV_WIPEONFORK);
+    alive = page;
+    *alive = 1;
+}
+
 /* A child goes on in its parent's file, and knows what its parent knew. */
 static void after_fork_in_child(void) {
+    *alive = 1;
     note_process(own_process);
     begin_threads();
+}
+
+/* In a child that was forked without the C library's knowledge. */
+bool revived(void) {
+    if (!arena || alive == &not_alive)
+        return false;
+    after_fork_in_child();
+    return true;
 }
 
 static void begin(void) {
@@ -210,6 +235,7 @@ static void begin(void) {
     note_modules();
     begin_threads();
     pthread_atfork(NULL, NULL, after_fork_in_child);
+    begin_life();
     STORE(&made->magic, RAW_MAGIC);
 }
 

@@ -19,7 +19,7 @@
     X(pthread_rwlock_clockwrlock) X(pthread_rwlock_unlock) X(pthread_spin_init) X(pthread_spin_destroy)                   \
     X(pthread_spin_lock) X(pthread_spin_trylock) X(pthread_spin_unlock) X(pthread_cond_wait) X(pthread_cond_timedwait)    \
     X(pthread_cond_clockwait) X(mtx_init) X(mtx_destroy) X(mtx_lock) X(mtx_timedlock) X(mtx_trylock) X(mtx_unlock)        \
-    X(cnd_wait) X(cnd_timedwait) X(dlclose)
+    X(cnd_wait) X(cnd_timedwait) X(pthread_create)
 
 #define DECLARE(name) static __typeof__(&name) real_##name;
 REALS(DECLARE)
@@ -222,19 +222,12 @@ WAITING(pthread_cond_clockwait, (pthread_cond_t * condition, pthread_mutex_t *lo
 WAITING(cnd_wait, (cnd_t * condition, mtx_t *lock), (condition, lock))
 WAITING(cnd_timedwait, (cnd_t *restrict condition, mtx_t *restrict lock, const struct timespec *restrict until), (condition, lock, until))
 
-/* ---- Libraries. */
+/* ---- Threads. Where the frames of their starter are is noted, since locks in them are mostly for the new thread too. */
 
-/* A library that goes takes its addresses with it. */
-EXPORT int dlclose(void *handle) {
+EXPORT int pthread_create(pthread_t *thread, const pthread_attr_t *how, void *(*run)(void *), void *with) {
     if (!resolved())
-        return 0;
-    int answer = real_dlclose(handle);
-    if (is_recording() && !busy) {
-        int saved = errno;
-        busy = true;
-        forget_closed_modules();
-        busy = false;
-        errno = saved;
-    }
-    return answer;
+        return EAGAIN;
+    if (is_recording())
+        note_frames(HERE);
+    return real_pthread_create(thread, how, run, with);
 }

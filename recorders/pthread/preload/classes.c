@@ -46,6 +46,67 @@ uint32_t place_of_caller(uintptr_t caller) {
     return place_of(&stack);
 }
 
+/* ---- Stacks that were met before, so that they aren't followed again: if all return addresses of one still stand where they were
+   found, it is the same. The sum of all of it tells a reader that comes while it is written. */
+
+#define MEMOS 1024
+
+struct memo {
+    uintptr_t caller, frame;
+    uint64_t sum;
+    uint32_t count, place;
+    uint32_t at[RAW_FRAMES];
+    uintptr_t callers[RAW_FRAMES];
+};
+
+static struct memo memos[MEMOS];
+
+static uint64_t sum_start(struct call call, uint32_t count, uint32_t place) {
+    return (call.caller ^ call.frame << 16) + ((uint64_t)LOAD(&rules_epoch) << 48 ^ (uint64_t)count << 32 ^ place) + 1;
+}
+
+static bool is_same_stack(const struct memo *memo, struct call call, uint32_t most) {
+    uint32_t count = LOAD(&memo->count);
+    if (memo->caller != call.caller || memo->frame != call.frame || count == 0 || count > most ||
+        !is_in_stack(call, memo->at[count - 1]))
+        return false;
+    uint64_t sum = sum_start(call, count, memo->place);
+    for (uint32_t i = 1; i < count; i++) {
+        uint32_t at = memo->at[i];
+        if (at > memo->at[count - 1] || *(const uintptr_t *)(call.frame + (at & ~7u)) != memo->callers[i])
+            return false;
+        sum += memo->callers[i] ^ (uint64_t)at << 32;
+    }
+    return sum == LOAD(&memo->sum);
+}
+
+static void remember(struct memo *memo, const struct stack *stack, struct call call, uint32_t place) {
+    uint64_t sum = sum_start(call, stack->count, place);
+    STORE(&memo->sum, 0);
+    memo->caller = call.caller;
+    memo->frame = call.frame;
+    memo->place = place;
+    for (uint32_t i = 1; i < stack->count; i++) {
+        memo->at[i] = stack->at[i];
+        memo->callers[i] = stack->callers[i];
+        sum += stack->callers[i] ^ (uint64_t)stack->at[i] << 32;
+    }
+    STORE(&memo->count, stack->count);
+    STORE(&memo->sum, sum);
+}
+
+uint32_t place_of_call(struct call call, uint32_t most) {
+    struct memo *memo = &memos[(call.caller ^ call.caller >> 10 ^ call.frame >> 3) % MEMOS];
+    if (LIKELY(is_same_stack(memo, call, most)))
+        return memo->place;
+    struct stack stack;
+    take_stack(&stack, call, most);
+    uint32_t place = place_of(&stack);
+    if (place && stack.is_bounded && stack.count > 1)
+        remember(memo, &stack, call, place);
+    return place;
+}
+
 static uint32_t place_here(struct call call) {
     struct stack stack;
     take_stack(&stack, call, RAW_FRAMES);
@@ -113,11 +174,24 @@ static uint32_t known_class(struct raw_class class) {
     return number ? number : settled(slot, define_class(&class));
 }
 
+static uint32_t class_in_frame(uintptr_t lock, struct call call) {
+    struct raw_class class = {.kind = CLASS_STACK};
+    return frame_with(lock, call, &class.word, &class.offset) ? known_class(class) : 0;
+}
+
+/* The class of a lock that no call initialised. */
 static uint32_t class_of_lock(uintptr_t lock, struct call call) {
+    struct raw_class class = {.kind = CLASS_HEAP};
     if (module_of(lock))
         return known_class((struct raw_class){.kind = CLASS_STATIC, .word = word_of(lock)});
-    uint32_t place = place_here(call);
-    return place ? known_class((struct raw_class){.kind = CLASS_TAKE, .place = place}) : 0;
+    if (find_memory(lock, &class.place, &class.offset))
+        return known_class(class);
+    if (own_part_with(lock, &class.word)) {
+        class = (struct raw_class){.kind = CLASS_THREAD, .word = class.word};
+        return known_class(class);
+    }
+    uint32_t in_frame = class_in_frame(lock, call), place = in_frame ? 0 : place_here(call);
+    return place ? known_class((struct raw_class){.kind = CLASS_TAKE, .place = place}) : in_frame;
 }
 
 /* ---- Objects. */
@@ -144,14 +218,32 @@ static uint32_t object_numbered(uint32_t class, uint32_t ordinal) {
     return object ? object : settled(&kept->objects[ordinal], define_object(class, ordinal));
 }
 
+/* Of a lock that isn't known. */
 static uint32_t new_object(uintptr_t lock, uint32_t class) {
     uint32_t object = class ? object_numbered(class, 0) : 0;
-    return object ? put_lock(lock, object) : 0;
+    return object ? add_lock(lock, object) : 0;
+}
+
+static enum class_kind kind_of(uint32_t class) {
+    return (enum class_kind)((struct raw_class *)part_of(RAW_CLASSES, class))->kind;
+}
+
+/* Whether another lock lay there before: in a frame they come and go without a word. */
+static bool is_outdated(uintptr_t lock, uint32_t object, struct call call) {
+    uint32_t class = class_of(object);
+    if (LIKELY(kind_of(class) != CLASS_STACK) || !is_on_stack(lock, call))
+        return false;
+    uint32_t now = class_in_frame(lock, call);
+    return now && now != class;
 }
 
 uint32_t object_of_lock(uintptr_t lock, struct call call) {
     uint32_t object = lock_object(lock);
-    return LIKELY(object) ? object : new_object(lock, class_of_lock(lock, call));
+    if (LIKELY(object && !is_outdated(lock, object, call)))
+        return object;
+    if (object)
+        forget_lock(lock);
+    return new_object(lock, class_of_lock(lock, call));
 }
 
 /* The smallest ordinal that no other object of the class has, or 0. */
@@ -194,8 +286,12 @@ void forget_lock(uintptr_t lock) { drop_lock(lock, give_object_back); }
 
 void forget_locks_between(uintptr_t from, uintptr_t to) { drop_locks_between(from, to, give_object_back); }
 
+/* The memory that the lock is in is marked, so that it is forgotten with that. */
 void know_by_place(uintptr_t lock, struct call call) {
+    uint32_t memory;
+    uint64_t offset;
     forget_lock(lock);
+    find_memory(lock, &memory, &offset);
     uint32_t place = place_here(call);
     if (place)
         new_object(lock, known_class((struct raw_class){.kind = CLASS_INIT, .place = place}));

@@ -4,6 +4,7 @@
 
 #include <dlfcn.h>
 #include <elf.h>
+#include <errno.h>
 #include <limits.h>
 #include <link.h>
 #include <stdio.h>
@@ -18,7 +19,7 @@
 
 #define MODULES 8192
 static struct module modules[MODULES];
-static uint32_t module_count;
+static uint32_t module_count, module_count_at_start;
 
 static const struct module *known_module(uintptr_t address) {
     uint32_t count = LOAD(&module_count);
@@ -68,7 +69,9 @@ static void note_module(const struct module *new, const char *name) {
     if (there && there->bias == new->bias && there->to == new->to)
         return;
     char path[RAW_PATH + PATH_MAX];
+    int saved = errno;
     put_path(path, name);
+    errno = saved;
     for (uint32_t i = 0; i < LOAD(&module_count) && i < MODULES; i++)
         if (LOAD(&modules[i].is_gone) && modules[i].from == new->from && modules[i].to == new->to &&
             strcmp(recorded_path(&modules[i]), path) == 0) {
@@ -84,6 +87,10 @@ static struct module module_told(const struct dl_phdr_info *info) {
     for (int i = 0; i < info->dlpi_phnum; i++) {
         const ElfW(Phdr) *part = &info->dlpi_phdr[i];
         uintptr_t from = info->dlpi_addr + part->p_vaddr, to = from + part->p_memsz;
+        if (part->p_type == PT_TLS && info->dlpi_tls_data && !LOAD(&module_count_at_start)) {
+            m.own_from = (uintptr_t)info->dlpi_tls_data - (uintptr_t)__builtin_thread_pointer();
+            m.own_bytes = part->p_memsz;
+        }
         if (part->p_type == PT_GNU_EH_FRAME)
             m.unwinding = (const uint8_t *)from;
         if (part->p_type != PT_LOAD)
@@ -102,7 +109,21 @@ static int note_told(struct dl_phdr_info *info, size_t size, void *unused) {
     return 0;
 }
 
-void note_modules(void) { dl_iterate_phdr(note_told, NULL); }
+/* At the start: what is loaded then has its thread-local part at the same distance from the pointer of each thread. */
+void note_modules(void) {
+    dl_iterate_phdr(note_told, NULL);
+    STORE(&module_count_at_start, LOAD(&module_count));
+}
+
+/* The thread-local lock that is so far from the thread pointer, as a module and an offset in its thread-local part. */
+bool own_part_word(intptr_t from_pointer, uint64_t *word) {
+    for (uint32_t i = 0; i < LOAD(&module_count_at_start) && i < MODULES; i++)
+        if ((uintptr_t)from_pointer - modules[i].own_from < modules[i].own_bytes) {
+            *word = raw_word(modules[i].number, (uintptr_t)from_pointer - modules[i].own_from);
+            return true;
+        }
+    return false;
+}
 
 #ifdef HAS_FIND_OBJECT
 

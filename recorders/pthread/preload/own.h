@@ -39,6 +39,10 @@
 extern struct raw_arena *arena; /* NULL if nothing is recorded */
 extern uint32_t own_process;    /* the number of this process in it */
 
+/* Not 0 while this process is recorded. The system makes it 0 in a child, whichever way it was forked. */
+extern volatile uint32_t *alive;
+bool revived(void); /* whether the process is recorded after all */
+
 void begin_once(void);
 uint32_t take_part(enum raw_kind kind); /* the number of a new part, or 0 */
 void *part_of(enum raw_kind kind, uint32_t number);
@@ -63,8 +67,14 @@ uint32_t *name_slot(struct names *names, uint64_t key);  /* the value of a key t
 uint32_t *added_slot(struct names *names, uint64_t key); /* the same, with value 0 if it wasn't there; NULL: no room */
 void each_name(struct names *names, void (*visit)(uint32_t *value));
 
+/* New entries go to one level, the main one, and to the next ones only if their line is full there. When that has happened often enough
+   the next level is the main one. Entries are looked for in the main level, then in the ones before it, and then after it. */
+static inline int nth_level(int main_level, int n) { return n <= main_level ? main_level - n : n; }
+static inline bool is_crowded(uint64_t overflows, uint32_t line_bits) { return overflows > UINT64_C(1) << line_bits >> 3; }
+
 uint32_t lock_object(uintptr_t lock); /* the object of a lock, or 0 */
 uint32_t put_lock(uintptr_t lock, uint32_t object); /* the object that it is then, or 0 if there is no room */
+uint32_t add_lock(uintptr_t lock, uint32_t object); /* the same of a lock that isn't there */
 void drop_lock(uintptr_t lock, void (*dropped)(uint32_t object));
 void drop_locks_between(uintptr_t from, uintptr_t to, void (*dropped)(uint32_t object));
 
@@ -76,6 +86,8 @@ struct module {
     const uint8_t *unwinding; /* its .eh_frame_hdr, or NULL */
     uint32_t number;
     bool is_ready, is_gone;
+    uintptr_t own_from, own_bytes; /* of its thread-local part, where that begins from the thread pointer on; 0 bytes: none, or not
+                                      always there */
 };
 
 void note_modules(void);
@@ -83,6 +95,7 @@ const struct module *module_of(uintptr_t address);
 uint64_t word_of(uintptr_t address);
 void forget_closed_modules(void);
 bool is_gone(uint32_t module);
+bool own_part_word(intptr_t from_pointer, uint64_t *word);
 
 /* ---- stacks.c */
 
@@ -94,17 +107,37 @@ struct call {
 
 struct stack {
     uint32_t count;
+    bool is_bounded; /* the end of the stack's memory is known */
     uintptr_t callers[RAW_FRAMES];
+    uint32_t at[RAW_FRAMES]; /* where each was found, from the first frame on; nothing of the first, 0 of one that is too far */
 };
 
 void take_stack(struct stack *stack, struct call call, uint32_t most);
-bool function_around(struct call call, uintptr_t address, uintptr_t *function, uintptr_t *end);
+struct span { /* the frame of a function that was called */
+    uintptr_t from, to, function;
+};
+uint32_t take_spans(struct span *spans, struct call call, uint32_t most);
+bool span_around(struct call call, uintptr_t address, struct span *span);
 void forget_rules(void);
+extern uint32_t rules_epoch; /* changes when a library is closed */
+bool is_in_stack(struct call call, uint32_t from_frame);
+
+/* ---- frames.c */
+
+void note_frames(struct call call);
+bool frame_with(uintptr_t lock, struct call call, uint64_t *function, uint64_t *offset);
+bool own_part_with(uintptr_t lock, uint64_t *word);
+bool is_on_stack(uintptr_t lock, struct call call);
+
+/* ---- heap.c */
+
+bool find_memory(uintptr_t lock, uint32_t *place, uint64_t *offset);
 
 /* ---- classes.c */
 
 uint32_t place_of(const struct stack *stack);
 uint32_t place_of_caller(uintptr_t caller);
+uint32_t place_of_call(struct call call, uint32_t most);
 uint32_t object_of_lock(uintptr_t lock, struct call call); /* makes one of a new lock; 0: no room */
 uint32_t apart(uintptr_t lock, uint32_t object); /* an object of its own for a nested lock, or the same */
 uint32_t class_of(uint32_t object);
@@ -127,6 +160,7 @@ void initialised(uintptr_t lock, struct call call);
 void destroyed(uintptr_t lock);
 void tried(uintptr_t lock, bool has_failed);
 bool is_held_once(uintptr_t lock);
+void enter_loader(uintptr_t loader, struct call call);
 void begin_threads(void);
 
 #endif

@@ -6,9 +6,11 @@
 
 #include <string.h>
 
-#ifdef __x86_64__
+uint32_t rules_epoch;
 
-#include <pthread.h>
+void forget_rules(void) { ADD(&rules_epoch, 1); }
+
+#ifdef __x86_64__
 
 /* ---- The rule of a return address: where the frame ends, and where the caller's rbp is. */
 
@@ -306,11 +308,9 @@ static struct rule unpacked(uint64_t word) {
                          field(word & FIELD_MASK)};
 }
 
-static uint32_t rules_epoch; /* changes when a library is closed */
-
 static struct rule rule_of(uintptr_t caller) {
-    uint64_t key = mixed(caller + ((uint64_t)LOAD(&rules_epoch) << 48)) | 1;
-    size_t slot = key >> 20 & (RULES - 1);
+    uint64_t key = (caller << 16 ^ LOAD(&rules_epoch)) | 1;
+    size_t slot = (caller ^ caller >> 11) & (RULES - 1);
     uint64_t word = __atomic_load_n(&rules[slot].word, __ATOMIC_RELAXED);
     if (LIKELY((__atomic_load_n(&rules[slot].check, __ATOMIC_RELAXED) ^ word) == key))
         return unpacked(word);
@@ -321,24 +321,42 @@ static struct rule rule_of(uintptr_t caller) {
     return rule;
 }
 
-void forget_rules(void) { ADD(&rules_epoch, 1); }
-
 /* ---- Following. */
 
 #define LARGEST_FRAME (UINT64_C(16) << 20)
+#define LARGEST_STACK (UINT64_C(1) << 30)
 
 struct frame {
     uintptr_t caller, sp, bp; /* the function that goes on at `caller`, and its registers there */
+    uintptr_t limit;          /* the stack ends here at the latest */
 };
 
 static uintptr_t word_at(uintptr_t address) { return *(const uintptr_t *)address; }
 
-static bool is_near(uintptr_t address, uintptr_t sp) {
-    return address >= sp && address - sp < LARGEST_FRAME && (address & 7) == 0;
+
+extern void *__libc_stack_end; /* of the program's first thread */
+
+/* No frame ends beyond this. A thread's stack ends where its thread pointer points to. */
+static uintptr_t known_stack_end(uintptr_t sp) {
+    uintptr_t pointer = (uintptr_t)__builtin_thread_pointer(), first = (uintptr_t)__libc_stack_end;
+    if (first >= sp && first - sp < LARGEST_FRAME)
+        return first;
+    return pointer >= sp && pointer - sp < LARGEST_STACK ? pointer : 0;
+}
+
+static uintptr_t stack_end(uintptr_t sp) {
+    uintptr_t end = known_stack_end(sp);
+    return end ? end : sp + LARGEST_FRAME;
+}
+
+bool is_in_stack(struct call call, uint32_t from_frame) { return call.frame + from_frame < known_stack_end(call.frame); }
+
+static bool is_near(const struct frame *f, uintptr_t address) {
+    return address >= f->sp && address <= f->limit && (address & 7) == 0;
 }
 
 static struct frame first_frame(struct call call) {
-    return (struct frame){call.caller, call.frame + 16, word_at(call.frame)};
+    return (struct frame){call.caller, call.frame + 16, word_at(call.frame), stack_end(call.frame)};
 }
 
 /* Where the frame ends, or 0 if that isn't known. */
@@ -348,9 +366,9 @@ static uintptr_t end_of(const struct frame *f, struct rule rule) {
         end = f->sp + (uintptr_t)(intptr_t)rule.offset;
     else if (rule.base == BASE_BP)
         end = f->bp + (uintptr_t)(intptr_t)rule.offset;
-    else if (rule.base == BASE_AT_BP && is_near(f->bp + (uintptr_t)(intptr_t)rule.offset, f->sp))
+    else if (rule.base == BASE_AT_BP && is_near(f, f->bp + (uintptr_t)(intptr_t)rule.offset))
         end = word_at(f->bp + (uintptr_t)(intptr_t)rule.offset);
-    return end > f->sp && is_near(end, f->sp) ? end : 0;
+    return end > f->sp && is_near(f, end) ? end : 0;
 }
 
 static bool to_caller(struct frame *f) {
@@ -361,7 +379,7 @@ static bool to_caller(struct frame *f) {
     uintptr_t at = rule.saved == SAVED_IN_FRAME ? end + (uintptr_t)(intptr_t)rule.saved_at
                                                 : f->bp + (uintptr_t)(intptr_t)rule.saved_at;
     if (rule.saved != SAVED_NOT)
-        f->bp = is_near(at, f->sp) ? word_at(at) : 0;
+        f->bp = is_near(f, at) ? word_at(at) : 0;
     f->caller = word_at(end - 8);
     f->sp = end;
     return f->caller != 0;
@@ -370,25 +388,45 @@ static bool to_caller(struct frame *f) {
 void take_stack(struct stack *stack, struct call call, uint32_t most) {
     struct frame f = first_frame(call);
     stack->count = 0;
-    do
+    stack->is_bounded = known_stack_end(call.frame) != 0;
+    do {
+        uintptr_t at = f.sp - 8 - call.frame;
+        stack->at[stack->count] = at <= UINT32_MAX ? (uint32_t)at : 0;
         stack->callers[stack->count++] = f.caller;
-    while (stack->count < most && to_caller(&f));
+    } while (stack->count < most && to_caller(&f));
 }
+
+/* ---- Which function's frame is where. */
 
 #define DEEPEST 64
 
-/* The function in whose frame the address lies, if it is one of the callers, and where that frame ends. */
-bool function_around(struct call call, uintptr_t address, uintptr_t *function, uintptr_t *end) {
+/* Where the function begins that goes on at `caller`, whose rule was read. */
+static uintptr_t function_of(uintptr_t caller) {
+    struct description d;
+    return describe(caller - 1, &d) ? d.from : 0;
+}
+
+uint32_t take_spans(struct span *spans, struct call call, uint32_t most) {
+    struct frame f = first_frame(call);
+    uint32_t count = 0;
+    while (count < most) {
+        uintptr_t caller = f.caller, from = f.sp;
+        if (!to_caller(&f))
+            break;
+        spans[count++] = (struct span){from, f.sp, function_of(caller)};
+    }
+    return count;
+}
+
+bool span_around(struct call call, uintptr_t address, struct span *span) {
     struct frame f = first_frame(call);
     for (int depth = 0; depth < DEEPEST; depth++) {
         uintptr_t caller = f.caller, from = f.sp;
         if (!to_caller(&f))
             return false;
-        if (address >= from && address < f.sp) {
-            struct description d;
-            *function = describe(caller - 1, &d) ? d.from : 0;
-            *end = f.sp;
-            return *function != 0;
+        if (address < f.sp) {
+            *span = (struct span){from, f.sp, function_of(caller)};
+            return address >= from && span->function;
         }
     }
     return false;
@@ -406,6 +444,7 @@ void take_stack(struct stack *stack, struct call call, uint32_t most) {
     while (first < count && (uintptr_t)all[first] != call.caller)
         first++;
     stack->count = 1;
+    stack->is_bounded = false;
     stack->callers[0] = call.caller;
     while (stack->count < most && first + (int)stack->count < count) {
         stack->callers[stack->count] = (uintptr_t)all[first + (int)stack->count];
@@ -413,11 +452,19 @@ void take_stack(struct stack *stack, struct call call, uint32_t most) {
     }
 }
 
-bool function_around(struct call call, uintptr_t address, uintptr_t *function, uintptr_t *end) {
-    (void)call, (void)address, (void)function, (void)end;
+bool is_in_stack(struct call call, uint32_t from_frame) {
+    (void)call, (void)from_frame;
     return false;
 }
 
-void forget_rules(void) {}
+uint32_t take_spans(struct span *spans, struct call call, uint32_t most) {
+    (void)spans, (void)call, (void)most;
+    return 0;
+}
+
+bool span_around(struct call call, uintptr_t address, struct span *span) {
+    (void)call, (void)address, (void)span;
+    return false;
+}
 
 #endif

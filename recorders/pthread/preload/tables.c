@@ -111,11 +111,16 @@ static uint64_t *lock_line(uint64_t *slots, int level, uint64_t key) {
     return &slots[(key & ((UINT64_C(1) << lock_bits[level]) - 1)) * LOCK_WAYS];
 }
 
+static int lock_main;
+static uint64_t lock_overflows;
+
 static uint64_t *find_lock(uint64_t key) {
-    for (int level = 0; level < LOCK_LEVELS; level++) {
+    int main_level = LOAD(&lock_main);
+    for (int n = 0; n < LOCK_LEVELS; n++) {
+        int level = nth_level(main_level, n);
         uint64_t *slots = lock_level(level, false);
         if (!slots)
-            return NULL;
+            continue;
         uint64_t *line = lock_line(slots, level, key);
         for (int i = 0; i < LOCK_WAYS; i++) {
             uint64_t there = __atomic_load_n(&line[i], __ATOMIC_RELAXED);
@@ -131,30 +136,69 @@ uint32_t lock_object(uintptr_t lock) {
     return slot ? raw_object((uint32_t)LOAD(slot)) : 0;
 }
 
-static bool fill_lock(uint64_t key, uint32_t object) {
-    uint64_t word = key >> FEWEST_BITS << RAW_OBJECT_BITS | object;
-    for (int level = 0; level < LOCK_LEVELS; level++) {
-        uint64_t *slots = lock_level(level, true);
-        if (!slots)
-            return false;
-        uint64_t *line = lock_line(slots, level, key);
-        for (int i = 0; i < LOCK_WAYS; i++) {
-            uint64_t empty = LOAD(&line[i]);
-            if (!empty && SWAP(&line[i], &empty, word))
-                return true;
-        }
+static bool fill_in_level(int level, uint64_t key, uint64_t word) {
+    uint64_t *slots = lock_level(level, true), *line = slots ? lock_line(slots, level, key) : NULL;
+    for (int i = 0; line && i < LOCK_WAYS; i++) {
+        uint64_t empty = LOAD(&line[i]);
+        if (!empty && SWAP(&line[i], &empty, word))
+            return true;
     }
     return false;
 }
 
+static bool fill_lock(uint64_t key, uint32_t object) {
+    uint64_t word = key >> FEWEST_BITS << RAW_OBJECT_BITS | object;
+    int main_level = LOAD(&lock_main);
+    if (LIKELY(fill_in_level(main_level, key, word)))
+        return true;
+    if (main_level + 1 < LOCK_LEVELS && is_crowded(ADD(&lock_overflows, 1), lock_bits[main_level])) {
+        STORE(&lock_overflows, 0);
+        STORE(&lock_main, main_level + 1);
+    }
+    for (int level = main_level + 1; level < LOCK_LEVELS; level++)
+        if (fill_in_level(level, key, word))
+            return true;
+    return false;
+}
+
+/* ---- Which parts of the memory have had a lock, in parts of a megabyte. Several parts share a bit. */
+
+#define PART_BITS 20
+#define PARTS 65536
+static uint64_t parts[PARTS / 64];
+
+static void mark_part(uintptr_t lock) {
+    uint64_t part = (lock >> PART_BITS) % PARTS, bit = UINT64_C(1) << part % 64;
+    if (!(LOAD(&parts[part / 64]) & bit))
+        __atomic_fetch_or(&parts[part / 64], bit, __ATOMIC_ACQ_REL);
+}
+
+static bool has_marked_part(uintptr_t from, uintptr_t to) {
+    uint64_t last = (to - 1) >> PART_BITS;
+    if (last - (from >> PART_BITS) >= PARTS)
+        return true;
+    for (uint64_t part = from >> PART_BITS; part <= last; part++)
+        if (LOAD(&parts[part % PARTS / 64]) >> part % 64 & 1)
+            return true;
+    return false;
+}
+
+/* ---- Putting locks in, and taking them out. */
+
 /* Two threads that put the same lock at once may each fill a slot: the first slot counts, and both find that. */
 uint32_t put_lock(uintptr_t lock, uint32_t object) {
     uint64_t key = stirred(lock), *slot = find_lock(key);
+    mark_part(lock);
     if (slot)
         STORE(slot, key >> FEWEST_BITS << RAW_OBJECT_BITS | object);
     else if (!fill_lock(key, object))
         return 0;
     return lock_object(lock);
+}
+
+uint32_t add_lock(uintptr_t lock, uint32_t object) {
+    mark_part(lock);
+    return fill_lock(stirred(lock), object) ? lock_object(lock) : 0;
 }
 
 static void empty_slot(uint64_t *slot, void (*dropped)(uint32_t object)) {
@@ -185,11 +229,14 @@ static void drop_in_level(int level, uintptr_t from, uintptr_t to, void (*droppe
 #define FEW_BYTES 65536 /* up to so many are gone through by address, more by what the table has */
 
 void drop_locks_between(uintptr_t from, uintptr_t to, void (*dropped)(uint32_t object)) {
+    if (from >= to || !has_marked_part(from, to))
+        return;
     if (to - from <= FEW_BYTES) {
         for (uintptr_t lock = from & ~(uintptr_t)3; lock < to; lock += 4)
             drop_lock(lock, dropped);
         return;
     }
-    for (int level = 0; level < LOCK_LEVELS && lock_level(level, false); level++)
-        drop_in_level(level, from, to, dropped);
+    for (int level = 0; level < LOCK_LEVELS; level++)
+        if (lock_level(level, false))
+            drop_in_level(level, from, to, dropped);
 }

@@ -42,6 +42,8 @@ struct entry {
     struct link links[READERS];
 };
 
+#define PLACES 16
+
 struct thread {
     struct raw_thread *raw;
     struct raw_record *chunks[RAW_CHUNKS];
@@ -53,7 +55,13 @@ struct thread {
     uint32_t epoch;
     int destructor_rounds;
     uintptr_t failed; /* the lock of the last try that failed */
+    uintptr_t loader; /* the loader's lock, if the thread may still be in it */
+    struct call loading; /* from where */
     struct thread *next;
+    struct {
+        uintptr_t caller;
+        uint32_t epoch, place;
+    } places[PLACES]; /* of callers that it met last */
     struct entry entries[RAW_HELD];
 };
 
@@ -97,6 +105,7 @@ static bool begin_trace(struct thread *t) {
     t->fresh_end = 0;
     t->depth = 0;
     t->failed = 0;
+    t->loader = 0;
     t->destructor_rounds = 0;
     t->epoch = LOAD(&foreign_epoch);
     STORE(&t->raw->is_ready, 1);
@@ -117,6 +126,8 @@ static struct thread *make_thread(void) {
     return t;
 }
 
+static void leave_loader(struct thread *t, uintptr_t frame);
+
 /* Other destructors of the thread may still lock, so the last round of them is waited for. */
 static void at_thread_end(void *value) {
     struct thread *t = value;
@@ -126,6 +137,7 @@ static void at_thread_end(void *value) {
         pthread_setspecific(thread_end, t);
         return;
     }
+    leave_loader(t, UINTPTR_MAX);
     is_ended = true;
     own = NULL;
     t->raw->ended = 1;
@@ -134,7 +146,7 @@ static void at_thread_end(void *value) {
 
 /* Enters the recorder. NULL if this call isn't to be recorded. */
 static struct thread *enter(void) {
-    if (!arena || RARELY(is_ended))
+    if (RARELY(is_ended) || (RARELY(!*alive) && !revived()))
         return NULL;
     if (RARELY(busy)) {
         if (own)
@@ -278,6 +290,19 @@ static bool see(struct thread *t, uint64_t way) {
     return true;
 }
 
+static uint32_t cached_place(struct thread *t, uintptr_t caller) {
+    uint32_t i = (uint32_t)(caller ^ caller >> 5) % PLACES, epoch = LOAD(&rules_epoch);
+    if (LIKELY(t->places[i].caller == caller && t->places[i].epoch == epoch))
+        return t->places[i].place;
+    uint32_t place = place_of_caller(caller);
+    if (place) {
+        t->places[i].caller = caller;
+        t->places[i].epoch = epoch;
+        t->places[i].place = place;
+    }
+    return place;
+}
+
 /* ---- Releases. */
 
 static void release_at(struct thread *t, uint32_t i, uintptr_t caller) {
@@ -292,7 +317,7 @@ static void release_at(struct thread *t, uint32_t i, uintptr_t caller) {
     if (was_newest && hash_of(t, t->depth) == last->hash && take_back(t, last->start))
         return;
     if (gone.is_written && make_room(t))
-        put_record(t, raw_what(gone.object, MODE_RELEASE), place_of_caller(caller));
+        put_record(t, raw_what(gone.object, MODE_RELEASE), cached_place(t, caller));
 }
 
 /* Drops the locks that another thread released meanwhile. */
@@ -327,10 +352,23 @@ static void released_foreign(struct thread *t, uintptr_t lock) {
     t->epoch = LOAD(&foreign_epoch) - 1;
 }
 
+/* The loader has been left if its frame has. */
+static void leave_loader(struct thread *t, uintptr_t frame) {
+    if (LIKELY(!t->loader || frame < t->loading.frame))
+        return;
+    uint32_t i = find_held(t, t->loader);
+    t->loader = 0;
+    if (i == RAW_HELD)
+        return;
+    t->entries[i].held.depth = 0;
+    release_at(t, i, t->loading.caller);
+}
+
 void releasing(uintptr_t lock, struct call call) {
     struct thread *t = enter();
     if (!t)
         return;
+    leave_loader(t, call.frame);
     t->raw->calls++;
     uint32_t i = find_held(t, lock);
     if (i == RAW_HELD)
@@ -364,9 +402,9 @@ static void tell_apart(struct thread *t, uint32_t i) {
 }
 
 /* Where the lock is taken: one caller, and more if it is taken in a new way. */
-static uint32_t place_of_acquisition(struct call call, bool is_new) {
+static uint32_t place_of_acquisition(struct thread *t, struct call call, bool is_new) {
     if (!is_new)
-        return place_of_caller(call.caller);
+        return cached_place(t, call.caller);
     struct stack stack;
     take_stack(&stack, call, RAW_FRAMES);
     return place_of(&stack);
@@ -381,7 +419,7 @@ static bool write_acquisition(struct thread *t, uint32_t what, struct call call,
         t->raw->left_out.no_room++;
         return false;
     }
-    put_record(t, what, place_of_acquisition(call, is_new));
+    put_record(t, what, place_of_acquisition(t, call, is_new));
     return true;
 }
 
@@ -421,6 +459,7 @@ static uint32_t object_to_hold(struct thread *t, uintptr_t lock, struct call cal
 
 static void take_lock(struct thread *t, uintptr_t lock, uint8_t mode, bool exclusive, struct call call) {
     t->raw->calls++;
+    leave_loader(t, call.frame);
     if (RARELY(t->epoch != __atomic_load_n(&foreign_epoch, __ATOMIC_RELAXED)))
         drop_released(t, call.caller);
     uint32_t again = exclusive && t->depth ? find_held(t, lock) : RAW_HELD;
@@ -449,6 +488,7 @@ bool begin_wish(uintptr_t lock, uint8_t mode, struct call call) {
     if (!t)
         return false;
     t->raw->calls++;
+    leave_loader(t, call.frame);
     if (RARELY(t->epoch != __atomic_load_n(&foreign_epoch, __ATOMIC_RELAXED)))
         drop_released(t, call.caller);
     uint32_t object = object_to_hold(t, lock, call);
@@ -497,6 +537,18 @@ void tried(uintptr_t lock, bool has_failed) {
     if (t->failed == lock && t->depth)
         t->raw->left_out.retried++;
     t->failed = has_failed ? lock : 0;
+    leave();
+}
+
+void enter_loader(uintptr_t loader, struct call call) {
+    struct thread *t = enter();
+    if (!t)
+        return;
+    take_lock(t, loader, MODE_WRITE, true, call);
+    if (!t->loader && find_held(t, loader) != RAW_HELD) {
+        t->loader = loader;
+        t->loading = call;
+    }
     leave();
 }
 

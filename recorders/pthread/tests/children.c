@@ -1,7 +1,8 @@
-/* Children by fork, vfork and posix_spawn, and one that is forked while another thread locks all the time. */
+/* Children by fork, a bare system call, vfork and posix_spawn, and one that is forked while another thread locks all the time. */
 #include "common.h"
 #include <spawn.h>
 #include <stdatomic.h>
+#include <sys/syscall.h>
 static pthread_mutex_t a = PTHREAD_MUTEX_INITIALIZER, b = PTHREAD_MUTEX_INITIALIZER;
 static atomic_int is_done;
 extern char **environ;
@@ -31,6 +32,10 @@ int main(int argc, char **argv) {
             in_child();
         waitpid(child, NULL, 0);
     }
+    long bare = syscall(SYS_clone, SIGCHLD, 0, 0, 0, 0);
+    if (bare == 0)
+        in_child();
+    waitpid((pid_t)bare, NULL, 0);
     char *again[] = {argv[0], "again", NULL};
     pid_t child = vfork();
     if (child == 0) {

@@ -1,5 +1,5 @@
 /* A class is where a lock is initialised: all of a loop are one. A static lock is known by its symbol, one on the heap that
-   nobody initialised by where it is first taken. A name with a comma or a quote can't come out of C. */
+   nobody initialised by where its memory was allocated and where in that it is. A name with a comma or a quote can't come out of C. */
 #include "common.h"
 static pthread_mutex_t named = PTHREAD_MUTEX_INITIALIZER;
 static struct pair {

@@ -1,0 +1,321 @@
+/* What isn't a lock by name: routines that run once, the loader, and, if LOCKDEP_ALSO asks for them, semaphores and streams. */
+#include "own.h"
+
+#include <dlfcn.h>
+#include <errno.h>
+#include <pthread.h>
+#include <sched.h>
+#include <semaphore.h>
+#include <stdio.h>
+#include <stdlib.h>
+#include <string.h>
+#include <sys/mman.h>
+#include <threads.h>
+#include <time.h>
+
+#define REALS(X)                                                                                                       \
+    X(pthread_once) X(call_once) X(dlopen) X(dlmopen) X(dlclose) X(sem_init) X(sem_destroy) X(sem_wait) X(sem_timedwait)  \
+    X(sem_clockwait) X(sem_trywait) X(sem_post) X(mlockall) X(flockfile) X(ftrylockfile) X(funlockfile)
+
+#define DECLARE(name) static __typeof__(&name) real_##name;
+REALS(DECLARE)
+
+#define FIND(name) STORE(&real_##name, (__typeof__(&name))dlsym(RTLD_NEXT, #name));
+static void look_up(void) { REALS(FIND) }
+
+/* Finds the functions behind ours. They are found when the library begins, or by whoever calls one before that. */
+static void find_reals(void) {
+    if (RARELY(!LOAD(&real_funlockfile))) {
+        look_up();
+        begin_once();
+    }
+}
+
+__attribute__((constructor)) static void at_start(void) { find_reals(); }
+
+/* ---- Routines that run once. Who runs one holds the control meanwhile, and who comes then waits for it. Who finds that it has run
+   waits for nobody, and nothing is recorded. */
+
+#define IS_DONE 2 /* the bit of glibc's control that says so */
+
+struct once {
+    uintptr_t control;
+    struct call call;
+    void (*routine)(void);
+    bool is_recorded;
+    struct once *before;
+};
+
+static EARLY_THREAD_LOCAL struct once *running;
+
+static void run_once(void) {
+    struct once *once = running;
+    running = once->before;
+    if (once->is_recorded)
+        end_wish(once->control, true, once->call);
+    once->routine();
+}
+
+static void end_once(struct once *once) {
+    if (running == once)
+        running = once->before;
+    if (!once->is_recorded)
+        return;
+    end_wish(once->control, true, once->call);
+    releasing(once->control, once->call);
+}
+
+/* The routine may throw. */
+#define ONCE(name, answer, type)                                                                                       \
+    EXPORT answer name(type *control, void (*routine)(void)) {                                                         \
+        find_reals();                                                                                                  \
+        if (!is_recording() || *(volatile int *)control & IS_DONE)                                                     \
+            return real_##name(control, routine);                                                                      \
+        struct once once __attribute__((cleanup(end_once))) = {(uintptr_t)control, HERE, routine, false, running};     \
+        once.is_recorded = begin_wish(once.control, MODE_WRITE, once.call);                                            \
+        running = &once;                                                                                               \
+        return real_##name(control, run_once);                                                                         \
+    }
+
+ONCE(pthread_once, int, pthread_once_t)
+ONCE(call_once, void, once_flag)
+
+/* ---- Variables of functions that are made when they are reached first. libstdc++ may have been loaded for one library alone, so it is
+   looked for by its name too; if there is none, the guard is kept here. */
+
+typedef union {
+    uint64_t word;
+    uint8_t bytes[8]; /* the first one: it is made; the second one: somebody makes it */
+} guard;
+
+EXPORT int __cxa_guard_acquire(guard *g);
+EXPORT void __cxa_guard_release(guard *g);
+EXPORT void __cxa_guard_abort(guard *g);
+
+static int acquire_here(guard *g) {
+    for (;;) {
+        uint8_t nobody = 0;
+        if (LOAD(&g->bytes[0]))
+            return 0;
+        if (SWAP(&g->bytes[1], &nobody, 1))
+            return 1;
+        sched_yield();
+    }
+}
+
+static void release_here(guard *g) {
+    STORE(&g->bytes[0], 1);
+    STORE(&g->bytes[1], 0);
+}
+
+static void abort_here(guard *g) { STORE(&g->bytes[1], 0); }
+
+static int (*real_acquire)(guard *);
+static void (*real_release)(guard *), (*real_abort)(guard *);
+
+static void *find_in_libraries(const char *name) {
+    static const char *const libraries[] = {"libstdc++.so.6", "libc++abi.so.1"};
+    void *found = dlsym(RTLD_NEXT, name);
+    for (size_t i = 0; !found && i < sizeof libraries / sizeof *libraries; i++) {
+        void *library = real_dlopen(libraries[i], RTLD_LAZY | RTLD_NOLOAD);
+        found = library ? dlsym(library, name) : NULL;
+    }
+    return found;
+}
+
+/* Once found they stay the same, so that what is begun by one is ended by the same. */
+static void find_guards(void) {
+    find_reals();
+    if (LIKELY(LOAD(&real_acquire)))
+        return;
+    void *acquire = find_in_libraries("__cxa_guard_acquire"), *release = find_in_libraries("__cxa_guard_release"),
+         *give_up = find_in_libraries("__cxa_guard_abort");
+    bool is_found = acquire && release && give_up;
+    real_release = is_found ? (void (*)(guard *))release : release_here;
+    real_abort = is_found ? (void (*)(guard *))give_up : abort_here;
+    STORE(&real_acquire, is_found ? (int (*)(guard *))acquire : acquire_here);
+}
+
+EXPORT int __cxa_guard_acquire(guard *g) {
+    find_guards();
+    if (!is_recording() || LOAD(&g->bytes[0]))
+        return real_acquire(g);
+    bool is_recorded = begin_wish((uintptr_t)g, MODE_WRITE, HERE);
+    int is_ours = real_acquire(g);
+    if (is_recorded) {
+        end_wish((uintptr_t)g, true, HERE);
+        if (!is_ours)
+            releasing((uintptr_t)g, HERE);
+    }
+    return is_ours;
+}
+
+EXPORT void __cxa_guard_release(guard *g) {
+    find_guards();
+    if (is_recording())
+        releasing((uintptr_t)g, HERE);
+    real_release(g);
+}
+
+EXPORT void __cxa_guard_abort(guard *g) {
+    find_guards();
+    if (is_recording())
+        releasing((uintptr_t)g, HERE);
+    real_abort(g);
+}
+
+/* ---- The loader. It runs constructors with its own lock held. That lock has the name of this variable. */
+
+static uint64_t loader;
+
+/* glibc looks where dlopen was called from, to know whose paths to search. So ours jumps to it, with nothing to be done afterwards:
+   that the loader is left is seen by where the stack is when the thread comes again. */
+EXPORT void *dlopen(const char *name, int mode) {
+    find_reals();
+    if (is_recording()) {
+        if (mode & RTLD_DEEPBIND)
+            ADD(&arena->deep_bound, 1);
+        enter_loader((uintptr_t)&loader, HERE);
+    }
+    return real_dlopen(name, mode & ~RTLD_DEEPBIND);
+}
+
+EXPORT void *dlmopen(Lmid_t space, const char *name, int mode) {
+    find_reals();
+    if (is_recording()) {
+        if (space != LM_ID_BASE)
+            ADD(&arena->namespaces, 1);
+        enter_loader((uintptr_t)&loader, HERE);
+    }
+    return real_dlmopen(space, name, mode & ~RTLD_DEEPBIND);
+}
+
+/* A library that goes takes its addresses with it. */
+EXPORT int dlclose(void *handle) {
+    find_reals();
+    if (!is_recording())
+        return real_dlclose(handle);
+    acquired((uintptr_t)&loader, MODE_WRITE, true, HERE);
+    int answer = real_dlclose(handle);
+    releasing((uintptr_t)&loader, HERE);
+    if (!busy) {
+        int saved = errno;
+        busy = true;
+        forget_closed_modules();
+        busy = false;
+        errno = saved;
+    }
+    return answer;
+}
+
+/* ---- Memory that is kept in the machine: of the recorder's only what it uses. The system is asked to keep each page from when it is
+   used first, of the program's too. */
+
+EXPORT int mlockall(int what) {
+    find_reals();
+    return real_mlockall(is_recording() ? what | MCL_ONFAULT : what);
+}
+
+/* ---- By option. A semaphore is taken as a mutex is; one that another thread posts isn't held any more. */
+
+static bool asks_for(const char *what) {
+    const char *also = getenv("LOCKDEP_ALSO");
+    size_t length = strlen(what);
+    for (const char *p = also; p; p = strchr(p, ',') ? strchr(p, ',') + 1 : NULL)
+        if (strncmp(p, what, length) == 0 && (p[length] == ',' || !p[length]))
+            return is_recording();
+    return false;
+}
+
+/* Whether it is asked for is found once: 1 no, 2 yes. */
+static bool is_asked(int *known, const char *what) {
+    find_reals();
+    if (RARELY(!LOAD(known)))
+        STORE(known, asks_for(what) ? 2 : 1);
+    return LOAD(known) == 2;
+}
+
+static int semaphores, streams;
+#define SEMAPHORES is_asked(&semaphores, "sem")
+#define STREAMS is_asked(&streams, "flockfile")
+
+EXPORT int sem_init(sem_t *lock, int shared, unsigned value) {
+    bool is_seen = SEMAPHORES;
+    int answer = real_sem_init(lock, shared, value);
+    if (is_seen && answer == 0)
+        initialised((uintptr_t)lock, HERE);
+    return answer;
+}
+
+EXPORT int sem_destroy(sem_t *lock) {
+    bool is_seen = SEMAPHORES;
+    int answer = real_sem_destroy(lock);
+    if (is_seen && answer == 0)
+        destroyed((uintptr_t)lock);
+    return answer;
+}
+
+/* Tries first, as with a mutex. A wait that a signal ends is withdrawn. */
+#define WAITING(name, parameters, arguments)                                                                           \
+    EXPORT int name parameters {                                                                                       \
+        if (!SEMAPHORES)                                                                                               \
+            return real_##name arguments;                                                                              \
+        int saved = errno, answer = real_sem_trywait(lock);                                                            \
+        if (answer == 0) {                                                                                             \
+            acquired((uintptr_t)lock, MODE_WRITE, false, HERE);                                                        \
+            return 0;                                                                                                  \
+        }                                                                                                              \
+        errno = saved;                                                                                                 \
+        bool is_wish = begin_wish((uintptr_t)lock, MODE_WRITE, HERE);                                                  \
+        answer = real_##name arguments;                                                                                \
+        if (is_wish)                                                                                                   \
+            end_wish((uintptr_t)lock, answer == 0, HERE);                                                              \
+        return answer;                                                                                                 \
+    }
+
+WAITING(sem_wait, (sem_t * lock), (lock))
+WAITING(sem_timedwait, (sem_t *restrict lock, const struct timespec *restrict until), (lock, until))
+WAITING(sem_clockwait, (sem_t *restrict lock, clockid_t clock, const struct timespec *restrict until), (lock, clock, until))
+
+EXPORT int sem_trywait(sem_t *lock) {
+    bool is_seen = SEMAPHORES;
+    int answer = real_sem_trywait(lock);
+    if (is_seen)
+        tried((uintptr_t)lock, answer != 0);
+    if (is_seen && answer == 0)
+        acquired((uintptr_t)lock, MODE_TRY_WRITE, false, HERE);
+    return answer;
+}
+
+EXPORT int sem_post(sem_t *lock) {
+    if (SEMAPHORES)
+        releasing((uintptr_t)lock, HERE);
+    return real_sem_post(lock);
+}
+
+EXPORT void flockfile(FILE *lock) {
+    if (!STREAMS) {
+        real_flockfile(lock);
+    } else if (real_ftrylockfile(lock) == 0) {
+        acquired((uintptr_t)lock, MODE_WRITE, true, HERE);
+    } else {
+        bool is_wish = begin_wish((uintptr_t)lock, MODE_WRITE, HERE);
+        real_flockfile(lock);
+        if (is_wish)
+            end_wish((uintptr_t)lock, true, HERE);
+    }
+}
+
+EXPORT int ftrylockfile(FILE *lock) {
+    bool is_seen = STREAMS;
+    int answer = real_ftrylockfile(lock);
+    if (is_seen && answer == 0)
+        acquired((uintptr_t)lock, MODE_TRY_WRITE, true, HERE);
+    return answer;
+}
+
+EXPORT void funlockfile(FILE *lock) {
+    if (STREAMS)
+        releasing((uintptr_t)lock, HERE);
+    real_funlockfile(lock);
+}

@@ -1,0 +1,363 @@
+/* Memory: for each live piece that malloc and its like have given out, and that has room for a lock, where that was and how long it
+   is. The operators `new` of C++ call malloc, so their callers are among the callers of that.
+
+   Pieces are kept by address, in lines of some slots, in levels of which each has more lines than the one before. */
+#include "own.h"
+
+#include <dlfcn.h>
+#include <errno.h>
+#include <malloc.h>
+#include <stdlib.h>
+#include <string.h>
+#include <sys/mman.h>
+
+#define LEAST_PIECE 40 /* the bytes of a mutex */
+#define PIECE_FRAMES 12
+
+/* ---- The table. */
+
+#define WAYS 8
+#define LEVELS 4
+
+struct slot {
+    uint64_t address; /* 0: empty; 1: about to be filled */
+    uint64_t about;
+};
+
+static const uint32_t bits[LEVELS] = {9, 13, 17, 20}; /* of the number of lines */
+static struct slot *levels[LEVELS];
+static int main_level;
+static uint64_t overflows;
+
+/* What is noted of a piece: its place, the locks that are known in it, and its size. Of one lock that isn't far in, it is one more than
+   a fourth of its offset; of others it is SOME_LOCKS. */
+#define PLACE_BITS 21
+#define LOCKS_BITS 8
+#define SIZE_SHIFT (PLACE_BITS + LOCKS_BITS)
+#define SOME_LOCKS ((UINT64_C(1) << LOCKS_BITS) - 1)
+#define ALL_LOCKS (SOME_LOCKS << PLACE_BITS)
+
+static uint64_t locks_of(uint64_t about) { return about >> PLACE_BITS & SOME_LOCKS; }
+
+static struct slot *level_at(int level) {
+    struct slot *slots = LOAD(&levels[level]);
+    if (LIKELY(slots))
+        return slots;
+    struct slot *made = take_private(sizeof *made * WAYS << bits[level]);
+    return made && SWAP(&levels[level], &slots, made) ? made : slots;
+}
+
+static inline struct slot *line_of(struct slot *slots, int level, uintptr_t address) {
+    return &slots[(mixed(address >> 4) >> 20 & ((UINT64_C(1) << bits[level]) - 1)) * WAYS];
+}
+
+static bool put_in_level(int level, uintptr_t address, uint64_t about) {
+    struct slot *slots = level_at(level);
+    if (!slots)
+        return false;
+    struct slot *line = line_of(slots, level, address);
+    for (int i = 0; i < WAYS; i++) {
+        uint64_t empty = __atomic_load_n(&line[i].address, __ATOMIC_RELAXED);
+        if (!empty && SWAP(&line[i].address, &empty, 1)) {
+            __atomic_store_n(&line[i].about, about, __ATOMIC_RELAXED);
+            STORE(&line[i].address, address);
+            return true;
+        }
+    }
+    return false;
+}
+
+static void put_piece(uintptr_t address, uint64_t about) {
+    int level = LOAD(&main_level);
+    if (LIKELY(put_in_level(level, address, about)))
+        return;
+    if (level + 1 < LEVELS && is_crowded(ADD(&overflows, 1), bits[level])) {
+        STORE(&overflows, 0);
+        STORE(&main_level, level + 1);
+    }
+    while (++level < LEVELS)
+        if (put_in_level(level, address, about))
+            return;
+    ADD(&arena->unknown, 1);
+}
+
+/* Where a search goes on: in which level, as they are gone through, and in its line. */
+struct search {
+    int main_level, n, way;
+};
+
+static struct search new_search(void) { return (struct search){LOAD(&main_level), 0, 0}; }
+
+/* The next slot of a key; there may be several. */
+static struct slot *next_slot(uint64_t key, struct search *search) {
+    for (; search->n < LEVELS; search->n++, search->way = 0) {
+        int level = nth_level(search->main_level, search->n);
+        struct slot *slots = LOAD(&levels[level]);
+        struct slot *line = slots ? line_of(slots, level, key) : NULL;
+        while (line && search->way < WAYS) {
+            struct slot *slot = &line[search->way++];
+            if (__atomic_load_n(&slot->address, __ATOMIC_RELAXED) == key)
+                return slot;
+        }
+    }
+    return NULL;
+}
+
+static struct slot *find_piece(uintptr_t address) {
+    struct search search = new_search();
+    return next_slot(address, &search);
+}
+
+/* ---- Long pieces are also known by what they touch of the memory as it is cut into parts of their own size, rounded down to a
+   power of two: that is one to three parts. */
+
+#define LONG_BITS 12
+#define LONG_PIECE (UINT64_C(1) << LONG_BITS)
+#define MOST_BITS 35 /* of a size that is noted: 64 less what else is noted with it */
+
+static uint64_t part_key(int size_bits, uint64_t part) { return UINT64_C(1) << 63 | (uint64_t)size_bits << 56 | part << 4; }
+
+static int bits_of(uint64_t size) { return 63 - __builtin_clzll(size); }
+
+static void put_parts(uintptr_t start, uint64_t size) {
+    int size_bits = bits_of(size);
+    for (uint64_t part = start >> size_bits; part <= (start + size - 1) >> size_bits; part++)
+        put_piece(part_key(size_bits, part), start);
+}
+
+static void take_part_out(uint64_t key, uintptr_t start) {
+    struct search search = new_search();
+    for (struct slot *slot; (slot = next_slot(key, &search));)
+        if (LOAD(&slot->about) == start) {
+            STORE(&slot->address, 0);
+            return;
+        }
+}
+
+static void take_parts_out(uintptr_t start, uint64_t size) {
+    int size_bits = bits_of(size);
+    for (uint64_t part = start >> size_bits; part <= (start + size - 1) >> size_bits; part++)
+        take_part_out(part_key(size_bits, part), start);
+}
+
+/* ---- Pieces that come and go. */
+
+static void note_piece(void *piece, size_t size, struct call call) {
+    if (RARELY(size >> MOST_BITS))
+        return;
+    put_piece((uintptr_t)piece, (uint64_t)size << SIZE_SHIFT | place_of_call(call, PIECE_FRAMES));
+    if (RARELY(size >= LONG_PIECE))
+        put_parts((uintptr_t)piece, size);
+}
+
+/* What was known of a piece, which is taken out; 0 if nothing was. */
+static uint64_t taken_piece(uintptr_t address) {
+    struct slot *slot = find_piece(address);
+    if (!slot)
+        return 0;
+    uint64_t about = LOAD(&slot->about);
+    STORE(&slot->address, 0);
+    if (RARELY(about >> SIZE_SHIFT >= LONG_PIECE))
+        take_parts_out(address, about >> SIZE_SHIFT);
+    return about;
+}
+
+static void forget_piece(uintptr_t address, uint64_t about) {
+    uint64_t locks = locks_of(about);
+    if (RARELY(locks == SOME_LOCKS))
+        forget_locks_between(address, address + (about >> SIZE_SHIFT));
+    else if (RARELY(locks))
+        forget_lock(address + (locks - 1) * 4);
+}
+
+/* ---- The piece of a lock. */
+
+#define ALIGNMENT 16
+
+static struct slot *piece_at(uintptr_t start, uintptr_t lock) {
+    struct slot *slot = start <= lock ? find_piece(start) : NULL;
+    return slot && lock - start < LOAD(&slot->about) >> SIZE_SHIFT ? slot : NULL;
+}
+
+static struct slot *long_piece_in(uint64_t key, uintptr_t lock) {
+    struct search search = new_search();
+    for (struct slot *part; (part = next_slot(key, &search));) {
+        struct slot *slot = piece_at(LOAD(&part->about), lock);
+        if (slot)
+            return slot;
+    }
+    return NULL;
+}
+
+/* A short piece is found by going back from the lock through all addresses at which one can begin. */
+static struct slot *piece_around(uintptr_t lock) {
+    struct slot *slot = NULL;
+    uintptr_t last = lock & ~(uintptr_t)(ALIGNMENT - 1);
+    for (uintptr_t back = 0; !slot && back < LONG_PIECE && back <= last; back += ALIGNMENT)
+        slot = piece_at(last - back, lock);
+    for (int size_bits = LONG_BITS; !slot && size_bits < MOST_BITS; size_bits++)
+        slot = long_piece_in(part_key(size_bits, lock >> size_bits), lock);
+    return slot;
+}
+
+/* Notes that the piece has this lock. What was noted before is returned. */
+static uint64_t mark_lock(uint64_t *at, uint64_t offset) {
+    uint64_t about = LOAD(at), mark, new;
+    do {
+        mark = offset / 4 + 1 < SOME_LOCKS ? offset / 4 + 1 : SOME_LOCKS;
+        if (locks_of(about) && locks_of(about) != mark)
+            mark = SOME_LOCKS;
+        new = (about & ~ALL_LOCKS) | mark << PLACE_BITS;
+    } while (about != new && !SWAP(at, &about, new));
+    return about;
+}
+
+/* Whether the lock is in a piece that is known, and where that was allocated. The piece is marked as one with locks. */
+bool find_memory(uintptr_t lock, uint32_t *place, uint64_t *offset) {
+    struct slot *slot = piece_around(lock);
+    if (!slot)
+        return false;
+    *offset = lock - LOAD(&slot->address);
+    *place = (uint32_t)(mark_lock(&slot->about, *offset) & ((UINT64_C(1) << PLACE_BITS) - 1));
+    return *place != 0;
+}
+
+/* ---- The functions behind ours. Looking them up may itself need memory: that comes from a few pages of our own. */
+
+#define REALS(X) X(malloc) X(calloc) X(realloc) X(free) X(memalign) X(aligned_alloc) X(posix_memalign) X(malloc_usable_size) X(munmap)
+#define DECLARE(name) static __typeof__(&name) real_##name;
+REALS(DECLARE)
+
+static int resolve_state; /* 0 not begun, 1 under way, 2 done */
+
+#define EARLY_BYTES 65536
+static char early[EARLY_BYTES] __attribute__((aligned(16)));
+static size_t early_used;
+
+static void *early_memory(size_t size) {
+    size_t from = ADD(&early_used, (size + 31) & ~(size_t)15);
+    if (from + size + 16 > EARLY_BYTES)
+        return NULL;
+    memcpy(early + from, &size, sizeof size);
+    return early + from + 16;
+}
+
+static bool is_early(const void *p) { return (const char *)p >= early && (const char *)p < early + EARLY_BYTES; }
+
+#define FIND(name) real_##name = (__typeof__(&name))dlsym(RTLD_NEXT, #name);
+
+/* The allocator's own function, if it has one: that of another may not be asked. */
+static void check_usable_size(void) {
+    Dl_info of_size, of_malloc;
+    if (!dladdr((void *)real_malloc_usable_size, &of_size) || !dladdr((void *)real_malloc, &of_malloc) ||
+        of_size.dli_fbase != of_malloc.dli_fbase)
+        real_malloc_usable_size = NULL;
+}
+
+static bool look_up(void) {
+    int state = 0;
+    if (SWAP(&resolve_state, &state, 1)) {
+        REALS(FIND)
+        check_usable_size();
+        STORE(&resolve_state, 2);
+    }
+    return LOAD(&resolve_state) == 2;
+}
+
+static inline bool resolved(void) { return LIKELY(LOAD(&resolve_state) == 2) || look_up(); }
+
+static inline void *noted(void *piece, size_t size, struct call call) {
+    if (LIKELY(piece && size >= LEAST_PIECE && arena))
+        note_piece(piece, size, call);
+    return piece;
+}
+
+/* ---- malloc and its like. */
+
+EXPORT void *malloc(size_t size) {
+    return resolved() ? noted(real_malloc(size), size, HERE) : early_memory(size);
+}
+
+EXPORT void *calloc(size_t count, size_t size) {
+    if (resolved())
+        return noted(real_calloc(count, size), count * size, HERE);
+    return size && count > EARLY_BYTES / size ? NULL : early_memory(count * size);
+}
+
+/* What is too short to have been noted isn't looked for. */
+static uint64_t taken_if_noted(void *piece) {
+    if (!arena || !piece || (real_malloc_usable_size && real_malloc_usable_size(piece) < LEAST_PIECE))
+        return 0;
+    return taken_piece((uintptr_t)piece);
+}
+
+EXPORT void free(void *piece) {
+    if (RARELY(is_early(piece)) || !resolved())
+        return;
+    forget_piece((uintptr_t)piece, taken_if_noted(piece));
+    real_free(piece);
+}
+
+static void *grown_early(void *piece, size_t size) {
+    size_t had;
+    memcpy(&had, (char *)piece - 16, sizeof had);
+    void *made = malloc(size);
+    return made ? memcpy(made, piece, had < size ? had : size) : NULL;
+}
+
+/* The locks in it are forgotten first, since the memory may be another thread's as soon as it is given back. */
+static void *reallocated(void *piece, size_t size, struct call call) {
+    uint64_t about = taken_if_noted(piece);
+    forget_piece((uintptr_t)piece, about);
+    void *made = real_realloc(piece, size);
+    if (!made && size && about) {
+        put_piece((uintptr_t)piece, about & ~ALL_LOCKS);
+        if (about >> SIZE_SHIFT >= LONG_PIECE)
+            put_parts((uintptr_t)piece, about >> SIZE_SHIFT);
+    }
+    return noted(made, size, call);
+}
+
+EXPORT void *realloc(void *piece, size_t size) {
+    if (RARELY(is_early(piece)))
+        return grown_early(piece, size);
+    return resolved() ? reallocated(piece, size, HERE) : early_memory(size);
+}
+
+EXPORT void *reallocarray(void *piece, size_t count, size_t size) {
+    size_t bytes;
+    if (__builtin_mul_overflow(count, size, &bytes)) {
+        errno = ENOMEM;
+        return NULL;
+    }
+    return resolved() ? reallocated(piece, bytes, HERE) : NULL;
+}
+
+EXPORT void *memalign(size_t alignment, size_t size) {
+    return resolved() ? noted(real_memalign(alignment, size), size, HERE) : NULL;
+}
+
+EXPORT void *aligned_alloc(size_t alignment, size_t size) {
+    return resolved() ? noted(real_aligned_alloc(alignment, size), size, HERE) : NULL;
+}
+
+EXPORT int posix_memalign(void **piece, size_t alignment, size_t size) {
+    if (!resolved())
+        return ENOMEM;
+    int answer = real_posix_memalign(piece, alignment, size);
+    if (answer == 0)
+        noted(*piece, size, HERE);
+    return answer;
+}
+
+/* ---- Memory that is unmapped takes its locks with it. */
+
+EXPORT int munmap(void *from, size_t length) {
+    if (!resolved()) {
+        errno = EINVAL;
+        return -1;
+    }
+    if (arena)
+        forget_locks_between((uintptr_t)from, (uintptr_t)from + length);
+    return real_munmap(from, length);
+}
