@@ -1,9 +1,9 @@
-# Tells of each finding of an explanation by classes what was seen of it between single locks. It reads, each behind the word
+# Says of each finding of an explanation by classes what was seen of it between single locks. It reads, each after the word
 # that names it:
 #
 #   mode=keys       the report by classes
 #   mode=circles    the report by single locks
-#   mode=chains     what `lockdep chains` writes of each trace of single locks, behind a line `task N`
+#   mode=chains     what `lockdep chains` writes of each trace of single locks, after a line `task N`
 #   mode=classes    the explanation by classes
 #   mode=locks      the explanation by single locks
 #
@@ -240,7 +240,7 @@ function tell_classes(b,    d) {
     end_finding(b)
 }
 
-# A finding by locks, if it has an order that no finding by classes told: its own circle.
+# A finding by locks, if it has an order that no circle of a finding by classes has: its own circle.
 function tell_locks(b,    i, is_new) {
     begin_finding(b)
     for (i = 1; i <= walk_length; i++) {
@@ -254,7 +254,7 @@ function tell_locks(b,    i, is_new) {
     end_finding(b)
 }
 
-# What isn't a circle is told as it is.
+# What isn't a circle is written as it is.
 function tell(b) {
     if (first[b] !~ /^circle /) {
         if (!is_of_locks[b]) {

@@ -72,7 +72,7 @@ static bool find(const char *name, char *found) {
     return false;
 }
 
-/* The interpreter that the first line of a script names; behind `env` the first word that is neither an option nor a
+/* The interpreter that the first line of a script names; after `env` the first word that is neither an option nor a
    variable. */
 static bool interpreter(const struct file *file, char *found) {
     char line[256], *rest = NULL;
