@@ -1,9 +1,9 @@
-# Tells of each finding of an explanation by classes what was seen of it between single locks. It reads, each behind the word
+# Says of each finding of an explanation by classes what was seen of it between single locks. It reads, each after the word
 # that names it:
 #
 #   mode=keys       the report by classes
 #   mode=circles    the report by single locks
-#   mode=chains     what `lockdep chains` writes of each trace of single locks, behind a line `task N`
+#   mode=traces     the traces of single locks, which the checker has accepted
 #   mode=classes    the explanation by classes
 #   mode=locks      the explanation by single locks
 #
@@ -37,26 +37,76 @@ mode == "circles" && $1 == "circle" {
     leaving[$2] = leaving[$2] " " count
 }
 
-mode == "chains" && $1 == "task" { task = $2 }
+# The name of a record, which may stand between double quotes; what follows it is left in `rest`.
+function name_of(line,    name, fields) {
+    sub(/\r$/, "", line)
+    if (line !~ /^...,"/) {
+        split(line, fields, ",")
+        rest = substr(line, length(fields[1] fields[2]) + 3)
+        return fields[2]
+    }
+    rest = substr(line, 6)
+    while (match(rest, /"/)) {
+        name = name substr(rest, 1, RSTART - 1)
+        rest = substr(rest, RSTART + 1)
+        if (rest !~ /^"/) break
+        name = name "\""
+        rest = substr(rest, 2)
+    }
+    rest = substr(rest, 2)
+    return name
+}
 
-# An acquisition: the dependencies on circles that it gives, each with its task and with what else was held as a writer.
-mode == "chains" && $1 == "acq" && $3 !~ /^t/ && $8 > 0 {
-    split("", writers)
-    for (i = 9; i < NF; i += 2) if ($(i + 1) ~ /^t?w$/) writers[$i] = 1
-    for (i = 9; i < NF; i += 2) {
-        order = $i " " ($(i + 1) ~ /^t?w$/ ? "E" : "S") ($3 == "rr" ? "R" : "N") " " $2
+# Goes through a trace: what the task holds, newest last, and from where on in the current frame.
+mode == "traces" {
+    if (FNR == 1) {
+        task++
+        depth = base = frames = 0
+    } else if (/^acq,/) {
+        key = name_of($0) "/" substr(rest, 1, 1)
+        note_orders(key, substr(rest, 3))
+        held[++depth] = key
+        how[depth] = substr(rest, 3)
+    } else if (/^rel,/) {
+        key = name_of($0) "/" substr(rest, 1, 1)
+        give_back(key)
+    } else if (/^enter,/) {
+        bases[++frames] = base
+        base = depth
+    } else if (/^leave/) base = bases[frames--]
+}
+
+function give_back(key,    i) {
+    for (i = depth; held[i] != key; i--) ;
+    for (; i < depth; i++) {
+        held[i] = held[i + 1]
+        how[i] = how[i + 1]
+    }
+    depth--
+}
+
+function is_writer(how_taken) { return how_taken == "w" || how_taken == "tw" }
+
+# The dependencies on circles that an acquisition gives, each with its task and with what else was held as a writer.
+function note_orders(key, how_taken,    i, order) {
+    if (how_taken ~ /^t/) return
+    for (i = base + 1; i <= depth; i++) {
+        order = held[i] " " (is_writer(how[i]) ? "E" : "S") (how_taken == "rr" ? "R" : "N") " " key
         if (order in number_of) note_order(number_of[order])
     }
 }
 
-function note_order(d,    key) {
+function note_order(d,    i, writers, key) {
     seen[d]++
     if (!((d, task) in is_of_task)) {
-        is_of_task[d, task] = 1
+        is_of_task[d, task]
         tasks_of[d] = tasks_of[d] " " task
     }
-    for (key in writers) if (key != from[d] && key != to[d]) under[d, key]++
-    if (seen[d] == 1) for (key in writers) gates_of[d] = gates_of[d] " " key
+    for (i = 1; i <= depth; i++) if (is_writer(how[i]) && held[i] != from[d] && held[i] != to[d]) writers[held[i]]
+    for (key in writers) {
+        under[d, key]++
+        if (seen[d] == 1) gates_of[d] = gates_of[d] " " key
+    }
 }
 
 # The blocks of both explanations.
@@ -240,7 +290,7 @@ function tell_classes(b,    d) {
     end_finding(b)
 }
 
-# A finding by locks, if it has an order that no finding by classes told: its own circle.
+# A finding by locks, if it has an order that no circle of a finding by classes has: its own circle.
 function tell_locks(b,    i, is_new) {
     begin_finding(b)
     for (i = 1; i <= walk_length; i++) {
@@ -254,7 +304,7 @@ function tell_locks(b,    i, is_new) {
     end_finding(b)
 }
 
-# What isn't a circle is told as it is.
+# What isn't a circle is written as it is.
 function tell(b) {
     if (first[b] !~ /^circle /) {
         if (!is_of_locks[b]) {

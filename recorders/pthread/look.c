@@ -1,7 +1,8 @@
 /* Says why a recording of a program may see none of its locks, as far as its file shows that: look FILE
 
-   Writes one word a line: `static`, `setuid`, `other-machine`, `other-libc`, `go`, `rust`, `libpython`, `libjvm`, and
-   `no-pthread-import` if the program itself calls no function of a pthread lock. Of a script the interpreter is looked at. */
+   Writes one word a line: `static`, `setuid`, `other-machine`, `other-libc`, `go`, `rust`, `libpython`, `libjvm`; or, if it is none
+   of these and the program itself calls no function of a pthread lock, `no-pthread-import`. Of a script the interpreter is
+   looked at. */
 #define _GNU_SOURCE
 #include <elf.h>
 #include <fcntl.h>
@@ -71,7 +72,7 @@ static bool find(const char *name, char *found) {
     return false;
 }
 
-/* The interpreter that the first line of a script names; behind `env` the first word that is neither an option nor a
+/* The interpreter that the first line of a script names; after `env` the first word that is neither an option nor a
    variable. */
 static bool interpreter(const struct file *file, char *found) {
     char line[256], *rest = NULL;
@@ -164,9 +165,13 @@ static bool names_any(const struct symbols *symbols, const char *text) {
     return symbols->names && memmem(symbols->names, symbols->names_size, text, strlen(text));
 }
 
+static bool is_something_said;
+
 static void say(bool is_so, const char *word) {
-    if (is_so)
-        puts(word);
+    if (!is_so)
+        return;
+    puts(word);
+    is_something_said = true;
 }
 
 static void look_at_program(const struct file *file) {
@@ -186,7 +191,7 @@ static void look_at_program(const struct file *file) {
     say(has(file, "RUST_BACKTRACE"), "rust");
     say(names_any(&symbols, "libpython") || names_any(&symbols, "Py_BytesMain"), "libpython");
     say(names_any(&symbols, "libjvm") || names_any(&symbols, "libjli"), "libjvm");
-    say(loader[0] && symbols.count > 0 && !calls_locks(&symbols), "no-pthread-import");
+    say(!is_something_said && symbols.count > 0 && !calls_locks(&symbols), "no-pthread-import");
 }
 
 int main(int argc, char **argv) {

@@ -5,7 +5,7 @@
                                          somebody else holds the lock
      run go [--no-wait] RECORD FOLDER COMMAND...
                                          runs COMMAND with the preload library, passes signals on to it, waits for what it leaves
-                                         in the background, and becomes `RECORD --end FOLDER STATUS`, with `left` behind it if
+                                         in the background, and becomes `RECORD --end FOLDER STATUS`, with `left` after it if
                                          something is still running. The library is PRELOAD of the environment */
 #define _GNU_SOURCE
 #include <ctype.h>
@@ -237,7 +237,7 @@ static int end(const struct run *run, const char *record, const char *folder, bo
     return 2;
 }
 
-/* A signal that this one was told to ignore, as by nohup, is the command's affair alone: it ignores it too. */
+/* A signal that this process ignores from its start, as after nohup, isn't awaited: the command ignores it too. */
 static void await_signals(sigset_t *awaited) {
     sigemptyset(awaited);
     sigaddset(awaited, SIGCHLD);

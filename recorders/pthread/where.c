@@ -218,7 +218,7 @@ static const struct answer *answer_of(const char *module, uint64_t offset, bool 
     return a;
 }
 
-/* Says so if no place can be told by a line of source. */
+/* Says so if no place can be given as a line of source. */
 static void look_for_addr2line(void) {
     if (system("addr2line --version >/dev/null 2>&1") != 0)
         fputs("where: addr2line isn't there, so places are modules and offsets; it is a part of binutils\n", stderr);
@@ -396,7 +396,7 @@ static struct text *new_note(void) {
     return text;
 }
 
-/* Notes where a class is made, unless that was told in this block. */
+/* Notes where a class is made, unless that was written in this block. */
 static void note_class(const char *name) {
     struct class *class = class_of(name);
     if (!class || class->told_in == block || strcmp(class->module, "-") == 0)
@@ -457,7 +457,7 @@ static void take_file(char *file, const char *word) {
     }
 }
 
-/* A word that may be a class with its subclass, and a mark behind it. */
+/* A word that may be a class with its subclass, and a mark after it. */
 static void note_word(char *word) {
     size_t length = strlen(word);
     while (length > 0 && strchr(":,", word[length - 1]))
@@ -498,7 +498,7 @@ static void note_line(const char *line) {
     }
 }
 
-/* Where a line that is too long is broken: at the last space within the width, else at the first one behind it. */
+/* Where a line that is too long is broken: at the last space within the width, else at the first one after it. */
 static size_t break_of(const char *text, size_t indent) {
     size_t room = WIDTH > indent ? WIDTH - indent : 1, found = 0, i = 0;
     for (; text[i] && (i <= room || !found); i++)
