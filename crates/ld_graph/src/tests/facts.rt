@@ -294,9 +294,36 @@ fn misfit(alloc: Global, lasts: &[Last]) -> Option<&'static str> {
     None
 }
 
+// Whether uniting the words of each of these traces' last chains gives what adding the chains gives, over the facts of those before.
+fn are_united_in_turn(alloc: Global, traces: &[&[Step]]) -> Option<bool> {
+    let mut facts = Facts::new(alloc, 3).ok()?;
+    let mut by_words = Facts::new(alloc, 3).ok()?;
+    for trace in traces {
+        let chain = last_chain(trace)?;
+        if !chain.keys_below(3) || facts.keys() != 3 || by_words.keys() != 3 {
+            return None;
+        }
+        facts.add_chain(&chain);
+        if by_words.same(&facts) {
+            return Some(false);
+        }
+        unite_words(&mut by_words, &chain);
+        if !by_words.same(&facts) {
+            return Some(false);
+        }
+    }
+    Some(true)
+}
+
+static IN_TURN: [&[Step]; 2] = [
+    &[Write(A), Reread(C), Read(B)],
+    &[TurnOff(Soft), Read(C), Write(A), TurnOn(Soft)],
+];
+
 #[test]
 fn the_facts_of_a_chain_are_bits(rt: HostRuntime) {
     assert_eq!(rt; misfit(rt.alloc(), &LASTS), None);
+    assert_eq!(rt; are_united_in_turn(rt.alloc(), &IN_TURN), Some(true));
 }
 
 // Facts about keys below a bound, those that aren't there, and how many words hold them.

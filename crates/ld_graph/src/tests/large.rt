@@ -3,10 +3,10 @@
 use super::steps::Step::{TurnOff, TurnOn, Write};
 use super::steps::{A, B, C, Step, chains_of, last_chain};
 use crate::finding::find_ranks;
-use crate::{Fact, Facts, Graph, Kind, Mark, PartedGraph, are_ranked, fact_words};
+use crate::{Fact, Facts, Graph, Kind, Mark, PartedGraph, Ranks, are_ranked, fact_words};
 use ld_task::Chain;
 use ld_trace::Irq::Hard;
-use ld_trace::MAX_KEYS;
+use ld_trace::{MAX_KEYS, MAX_MANY};
 use std::alloc::Global;
 
 // Takes 48 locks, one under the other, whose keys are so far apart.
@@ -143,6 +143,20 @@ fn have_the_numbers_of_their_places(alloc: Global) -> Option<bool> {
     Some(counted && among.has_mark(0, Mark::Used) && graph.on_circle(1, 0, Kind::En))
 }
 
+// Facts about the last of all keys there may be: with one rank for all keys nothing goes down, and with a greater one for the last
+// the dependency from it does.
+fn go_down_from_the_last_key(alloc: Global) -> Option<bool> {
+    let last = MAX_MANY - 1;
+    let mut facts = Facts::new(alloc, MAX_MANY).ok()?;
+    for (from, to) in [(last, last), (last, 300)] {
+        add(&mut facts, from, to)?;
+    }
+    let mut ranks = Ranks::new(alloc, MAX_MANY).ok()?;
+    let level = are_ranked(&facts, &ranks);
+    ranks.set(last, 1);
+    Some(level && !are_ranked(&facts, &ranks))
+}
+
 // The first of these that doesn't hold.
 fn misfit(alloc: Global) -> Option<&'static str> {
     for (about, holds) in [
@@ -161,6 +175,10 @@ fn misfit(alloc: Global) -> Option<&'static str> {
         (
             "300 keys in one order have two ranks",
             have_two_ranks(alloc),
+        ),
+        (
+            "a dependency goes down from the last of all keys",
+            go_down_from_the_last_key(alloc),
         ),
         (
             "two of 300 keys are on a circle",

@@ -12,7 +12,7 @@ use std::process::Abort;
 use std::test::Fail;
 
 // Traces, each with the version of its header and its records, and their chains.
-const CHAINS: [(&str, &str); 6] = [
+static CHAINS: [(&str, &str); 6] = [
     (
         "1 acq,A,0,w acq,B,0,w rel,A,0 acq,C,0,w",
         "acq A/0 w task on on held 0\nacq B/0 w task on on held 1 A/0 w\nacq C/0 w task on on held 1 B/0 w\n",
@@ -77,8 +77,8 @@ fn assert_all_chains(rt: &(impl Abort + AllocGlobal), example: (&str, &str)) -> 
 
 #[test]
 fn chains_of_small_traces(rt: HostRuntime) -> Result<(), Fail> {
-    for example in CHAINS {
-        assert_all_chains(&rt, example)?;
+    for example in &CHAINS {
+        assert_all_chains(&rt, *example)?;
     }
     Ok(())
 }

@@ -43,7 +43,7 @@ fn asked<'l, 'a>(line: &'l Result<Line<'a>, LineFault>) -> Asked<'l, 'a> {
 }
 
 // Words, and what they ask for.
-const LINES: [(&[&str], Asked<'_, '_>); 28] = [
+static LINES: [(&[&str], Asked<'_, '_>); 28] = [
     (&["lockdep", "check"], ("check", 4, false, false, &[])),
     (
         &["lockdep", "check", "a.txt"],
@@ -139,7 +139,8 @@ const LINES: [(&[&str], Asked<'_, '_>); 28] = [
 
 #[test]
 fn what_lines_ask_for(rt: HostRuntime) {
-    for (words, wanted) in LINES {
+    for line_and_wanted in &LINES {
+        let (words, wanted) = *line_and_wanted;
         let line = command_line(rt.alloc(), words);
         assert_eq!(rt; asked(&line), wanted, "{words:?}");
     }

@@ -74,7 +74,7 @@ const FORTH: &str = "lockdep,1\nacq,A,0,w\nacq,B,0,w\nrel,B,0\nrel,A,0\n";
 
 const BACK: &str = "lockdep,1\nacq,B,0,w\nacq,A,0,w\nrel,A,0\nrel,B,0\n";
 
-const CASES: [Case<'_>; 10] = [
+static CASES: [Case<'_>; 10] = [
     // Both orders of two locks.
     Case {
         many: false,

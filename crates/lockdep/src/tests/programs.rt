@@ -18,7 +18,7 @@ type Run<'t> = (
     (u8, &'t str, &'t str),
 );
 
-const RUNS: [Run<'_>; 12] = [
+static RUNS: [Run<'_>; 12] = [
     (
         &["lockdep", "check"],
         "lockdep,1\nacq,A,0,w\nenter,hardirq\nacq,B,0,w\nrel,B,0\nleave\n",
@@ -113,9 +113,9 @@ fn assert_run(
 
 #[test]
 fn runs_of_the_program(rt: HostRuntime) {
-    for run in RUNS {
+    for run in &RUNS {
         for (failure, _) in FAILURES {
-            assert_run(&rt, run, failure);
+            assert_run(&rt, *run, failure);
         }
     }
 }

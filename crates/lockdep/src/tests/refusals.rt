@@ -11,7 +11,7 @@ use ld_trace::{TraceFault, TraceFaultKind};
 use std::test::Fail;
 
 // Traces that are refused in reading by a session with room for two keys, why, and the report of what the session keeps.
-const READINGS: [(&str, TraceFaultKind, usize, &str); 5] = [
+static READINGS: [(&str, TraceFaultKind, usize, &str); 5] = [
     (
         "",
         TraceFaultKind::NoHeader,
@@ -46,7 +46,8 @@ const READINGS: [(&str, TraceFaultKind, usize, &str); 5] = [
 
 #[test]
 fn traces_refused_in_reading(rt: HostRuntime) -> Result<(), Fail> {
-    for (text, kind, at, report) in READINGS {
+    for reading in &READINGS {
+        let (text, kind, at, report) = *reading;
         let mut session = Session::with_room(rt.alloc(), 2)?;
         assert_eq!(rt; session.add(text.as_bytes()), Err(TraceFault { kind, at }));
         assert_text(&rt, session, Wanted::Report, 4, (Ok(true), report));
@@ -55,7 +56,7 @@ fn traces_refused_in_reading(rt: HostRuntime) -> Result<(), Fail> {
 }
 
 // Refusals, and their lines.
-const LINES: [(Refusal<'_>, &str); 8] = [
+static LINES: [(Refusal<'_>, &str); 8] = [
     (Refusal::BadCommandLine, "lockdep: P1 BadCommandLine\n"),
     (
         Refusal::CannotOpen { file: "a b" },
@@ -87,7 +88,8 @@ const LINES: [(Refusal<'_>, &str); 8] = [
 
 #[test]
 fn lines_and_codes_of_refusals(rt: HostRuntime) {
-    for (refusal, line) in LINES {
+    for refusal_and_line in &LINES {
+        let (refusal, line) = *refusal_and_line;
         let mut text = Vec::new(rt.alloc());
         let status = refuse(&mut text, refusal);
         assert_eq!(rt; (status, text_in(text.as_slice())), (2, line));

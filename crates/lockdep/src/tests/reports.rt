@@ -5,7 +5,7 @@ use crate::wanted::Wanted;
 use std::test::Fail;
 
 // Traces, each with the version of its header and its records, and the report of them all.
-const REPORTS: [(&[&str], &str); 35] = [
+static REPORTS: [(&[&str], &str); 35] = [
     // Circles, which recursive readers may break, and dependencies off them.
     (
         &[
@@ -220,7 +220,8 @@ const REPORTS: [(&[&str], &str); 35] = [
 
 #[test]
 fn reports_of_small_traces(rt: HostRuntime) -> Result<(), Fail> {
-    for (traces, report) in REPORTS {
+    for example in &REPORTS {
+        let (traces, report) = *example;
         let session = session_of(rt.alloc(), traces)?;
         let returned = Ok(report.contains("clean yes"));
         assert_text(&rt, session, Wanted::Report, 4, (returned, report));

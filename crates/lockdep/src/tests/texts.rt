@@ -20,7 +20,7 @@ const INVERSION: [&str; 3] = [
 ];
 
 // What is wanted of some traces, what is returned, and the text.
-const TEXTS: [(Wanted, &[&str], Result<bool, ReportFault>, &str); 12] = [
+static TEXTS: [(Wanted, &[&str], Result<bool, ReportFault>, &str); 12] = [
     // A dependency off a circle isn't told.
     (
         Wanted::Explanation,
@@ -126,7 +126,8 @@ const TEXTS: [(Wanted, &[&str], Result<bool, ReportFault>, &str); 12] = [
 
 #[test]
 fn texts_and_refusals_of_small_traces(rt: HostRuntime) -> Result<(), Fail> {
-    for (wanted, traces, returned, text) in TEXTS {
+    for row in &TEXTS {
+        let (wanted, traces, returned, text) = *row;
         let session = session_of(rt.alloc(), traces)?;
         assert_text(&rt, session, wanted, 4, (returned, text));
     }
