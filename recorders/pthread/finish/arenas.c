@@ -126,7 +126,7 @@ uint64_t told_word(const struct arena *a, uint64_t raw) {
     return raw_word(a->modules[module], raw_word_offset(raw));
 }
 
-/* The callers without the frames that start a thread or a program, and without the wrappers that are innermost. */
+/* The callers without the frames that start a thread or a program, and without the innermost wrappers. */
 static void read_place(struct arena *a, struct place *to, const struct raw_place *from) {
     uint32_t last = from->count < RAW_FRAMES ? (uint32_t)from->count : RAW_FRAMES, first = 0;
     while (last > 1 && is_outermost(told_word(a, from->callers[last - 1])))

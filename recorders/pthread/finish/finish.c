@@ -8,7 +8,7 @@
    FOLDER/classes              for each class's name, where that is
    FOLDER/SUMMARY              what was recorded, and what was left out
 
-   A place is told by FRAMES callers, 3 if it isn't given. */
+   A place is named by FRAMES callers, 3 if it isn't given. */
 #include "finish.h"
 
 #include <string.h>
@@ -51,6 +51,7 @@ static uint64_t sum_of(uint64_t (*of)(const struct raw_arena *)) {
 static uint64_t lost_threads(const struct raw_arena *a) { return a->no_thread; }
 static uint64_t namespaces(const struct raw_arena *a) { return a->namespaces; }
 static uint64_t deep_bound(const struct raw_arena *a) { return a->deep_bound; }
+static uint64_t unknown_pieces(const struct raw_arena *a) { return a->unknown; }
 static uint64_t is_small(const struct raw_arena *a) { return a->bytes < RAW_SMALL; }
 
 static void tell_losses(FILE *file) {
@@ -62,6 +63,8 @@ static void tell_losses(FILE *file) {
     tell_loss(file, "lost-threads", sum_of(lost_threads),
               "calls of threads for which there was no room: none of their orders was recorded");
     tell_loss(file, "no-room", raw->no_room, "acquisitions for which there was no room: an order among them may be missing");
+    tell_loss(file, "unknown-memory", sum_of(unknown_pieces),
+              "pieces of memory for which there was no room in a table: locks in them are known by who takes them first");
     tell_loss(file, "full-traces", raw->full, "acquisitions after a thread's first 1,000,000 events: an order among them may be missing");
     tell_loss(file, "beyond-classes", sums.classes,
               "acquisitions of classes beyond 8,192: no order that they are part of was recorded");

@@ -58,7 +58,7 @@ const struct symbol *symbol_at(uint32_t module, uint64_t offset, enum symbol_kin
 
 #define NO_KEY (-1)
 
-struct place { /* the callers that are told, from the innermost one, with modules of all recordings */
+struct place { /* the callers that name it, from the innermost one, with modules of all recordings */
     uint32_t count;
     bool is_read;
     uint64_t words[RAW_FRAMES];

@@ -95,7 +95,7 @@ static void tell_symbol(char *text, size_t room, const char *symbol) {
     free(plain);
 }
 
-/* ---- Wrappers: functions that are passed over where a place is told. */
+/* ---- Wrappers: functions that are passed over when a place is named. */
 
 static char **wrappers; /* patterns of functions; one that begins with `in ` is of modules */
 static size_t wrapper_count;
@@ -168,7 +168,7 @@ bool is_outermost(uint64_t word) {
 
 /* ---- A class in words. */
 
-/* `function+0x1c`, `object`, or `module+1c` where the module has no symbol there. A call's address is the one after it. */
+/* `function+0x1c`, `object`, or `module+1c` if the module has no symbol there. A call's address is the one after it. */
 static void tell_address(char *text, size_t room, uint64_t word, bool is_call, enum symbol_kind kind, bool plainly) {
     if (word == UINT64_MAX) {
         snprintf(text, room, "unknown");

@@ -206,7 +206,7 @@ static void open_files(struct trace *t, const struct names *n) {
     write_place(t->places, NULL);
 }
 
-/* A second name for the same file, or a copy where the disk doesn't take that. */
+/* A second name for the same file, or a copy if the file system has no such names. */
 static void give_second_name(const char *path, const char *second) {
     unlink(second);
     if (link(path, second) == 0)

@@ -23,7 +23,7 @@ REALS(DECLARE)
 #define FIND(name) STORE(&real_##name, (__typeof__(&name))dlsym(RTLD_NEXT, #name));
 static void look_up(void) { REALS(FIND) }
 
-/* Finds the functions behind ours. They are found when the library begins, or by whoever calls one before that. */
+/* Finds the real functions when the library begins, or when one is called before that. */
 static void find_reals(void) {
     if (RARELY(!LOAD(&real_funlockfile))) {
         look_up();

@@ -122,6 +122,7 @@ static void map_private(void) {
         if (p == MAP_FAILED)
             continue;
         madvise(p, bytes, MADV_DONTDUMP);
+        madvise(p, bytes, MADV_NOHUGEPAGE); /* else the first use of it takes two megabytes */
         private_from = p;
         private_room = bytes;
         return;

@@ -1,4 +1,4 @@
-/* The functions that programs call in place of glibc's. */
+/* The functions that programs call instead of glibc's. */
 #include "own.h"
 
 #include <dlfcn.h>
@@ -9,7 +9,7 @@
 #include <threads.h>
 #include <time.h>
 
-/* ---- The functions behind ours. */
+/* ---- The real functions. */
 
 #define REALS(X)                                                                                                       \
     X(pthread_mutex_init) X(pthread_mutex_destroy) X(pthread_mutex_lock) X(pthread_mutex_trylock)                       \
@@ -37,7 +37,7 @@ static void *find_real(const char *name) {
 
 #define FIND(name) real_##name = (__typeof__(&name))find_real(#name);
 
-/* Whether the functions behind ours are known. The look-up itself may call malloc, and a malloc of the program's own may
+/* Whether the real functions are known. The look-up itself may call malloc, and a malloc of the program's own may
    lock: such a call of the thread that looks them up does nothing. Others wait. */
 static bool look_up(void) {
     if (resolving)
@@ -59,7 +59,7 @@ __attribute__((constructor)) static void at_start(void) { look_up(); }
 
 static inline bool resolved(void) { return LIKELY(LOAD(&resolve_state) == 2) || look_up(); }
 
-/* ---- Acquisitions. `took` of an answer: 0, or the owner died with a robust mutex held. */
+/* ---- Acquisitions. A call has taken the lock if it returns 0, or if the owner died with a robust mutex held. */
 
 static inline bool took(int answer) { return answer == 0 || answer == EOWNERDEAD; }
 

@@ -18,7 +18,7 @@ static bool is_noted(const struct span *span) {
     return false;
 }
 
-/* The function is written last, and taken away first where something older stood. */
+/* The function is written last, and cleared first if something older was there. */
 static void note(const struct span *span) {
     struct span *to = &noted[ADD(&noted_count, 1) % NOTED];
     STORE(&to->function, 0);

@@ -222,7 +222,7 @@ bool find_memory(uintptr_t lock, uint32_t *place, uint64_t *offset) {
     return *place != 0;
 }
 
-/* ---- The functions behind ours. Looking them up may itself need memory: that comes from a few pages of our own. */
+/* ---- The real functions. Looking them up may itself need memory, which comes from a few pages of our own. */
 
 #define REALS(X) X(malloc) X(calloc) X(realloc) X(free) X(memalign) X(aligned_alloc) X(posix_memalign) X(malloc_usable_size) X(munmap)
 #define DECLARE(name) static __typeof__(&name) real_##name;
