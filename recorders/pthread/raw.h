@@ -60,7 +60,7 @@ static inline uint32_t raw_word_module(uint64_t word) { return (uint32_t)(word >
 static inline uint64_t raw_word_offset(uint64_t word) { return word & UINT64_C(0xffffffffffff); }
 
 /* The kinds of parts that are numbered. Each kind has its region of the file. */
-enum raw_kind { RAW_PROCESSES, RAW_MODULES, RAW_PLACES, RAW_CLASSES, RAW_OBJECTS, RAW_THREADS, RAW_KINDS };
+enum raw_kind { RAW_PROCESSES, RAW_MODULES, RAW_PLACES, RAW_CLASSES, RAW_OBJECTS, RAW_TAKES, RAW_THREADS, RAW_KINDS };
 
 struct raw_process {
     uint32_t id; /* the system's number of it; written last */
@@ -73,8 +73,14 @@ struct raw_module {
     char path[RAW_PATH + 4];
 };
 
+/* What is asked of an allocator for an array: the size of an element, or RAW_ARRAY if only that it is one is known. */
+#define RAW_ARRAY 1
+
 struct raw_place {
     uint64_t count; /* how many callers there are; written last */
+    uint64_t element; /* where an array was allocated; else 0 */
+    uint64_t bytes;   /* of a piece of memory with a lock that was allocated there; 0 if there was none */
+    uint64_t steps;   /* by multiples of this other such pieces are longer or shorter */
     uint64_t callers[RAW_FRAMES];
 };
 
@@ -93,6 +99,12 @@ struct raw_class {
 struct raw_object {
     uint32_t class;   /* written last */
     uint32_t ordinal; /* among the objects of the class that are told apart, from 1; 0 for all the others together */
+};
+
+/* A lock in allocated memory was taken there. Who takes the locks of one piece tells an array from an object of several locks. */
+struct raw_take {
+    uint32_t class; /* written last */
+    uint32_t place;
 };
 
 /* What was left out of a thread's records, and how often. */
@@ -139,7 +151,8 @@ struct raw_arena {
 
 static inline uint32_t raw_size(enum raw_kind kind) {
     static const uint32_t sizes[RAW_KINDS] = {sizeof(struct raw_process), sizeof(struct raw_module), sizeof(struct raw_place),
-                                              sizeof(struct raw_class),   sizeof(struct raw_object), sizeof(struct raw_thread)};
+                                              sizeof(struct raw_class),   sizeof(struct raw_object), sizeof(struct raw_take),
+                                              sizeof(struct raw_thread)};
     return sizes[kind];
 }
 

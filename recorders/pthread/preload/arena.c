@@ -53,7 +53,8 @@ static const struct {
     uint32_t share, most;
 } plan[RAW_KINDS] = {
     [RAW_PROCESSES] = {1, 1 << 16}, [RAW_MODULES] = {10, 1 << 13}, [RAW_PLACES] = {12, 1 << 20},
-    [RAW_CLASSES] = {4, 0xffff},    [RAW_OBJECTS] = {2, 1 << 22},  [RAW_THREADS] = {8, 1 << 20},
+    [RAW_CLASSES] = {4, 0xffff},    [RAW_OBJECTS] = {2, 1 << 22},  [RAW_TAKES] = {2, 1 << 20},
+    [RAW_THREADS] = {8, 1 << 20},
 };
 
 static uint64_t rounded(uint64_t n, uint64_t to) { return (n + to - 1) / to * to; }

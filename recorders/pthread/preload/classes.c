@@ -10,7 +10,7 @@
 static struct names places;
 
 static uint64_t stack_key(const struct stack *stack) {
-    uint64_t key = stack->callers[0];
+    uint64_t key = stack->callers[0] + stack->element;
     for (uint32_t i = 1; i < stack->count; i++)
         key = mixed(key) ^ stack->callers[i];
     return key | 1;
@@ -23,6 +23,7 @@ static uint32_t define_place(const struct stack *stack) {
     struct raw_place *place = part_of(RAW_PLACES, number);
     for (uint32_t i = 0; i < stack->count; i++)
         place->callers[i] = word_of(stack->callers[i]);
+    place->element = stack->element;
     STORE(&place->count, stack->count);
     return number;
 }
@@ -107,6 +108,21 @@ uint32_t place_of_call(struct call call, uint32_t most) {
     return place;
 }
 
+/* By a place and the size of an element: the place of arrays. */
+static struct names arrays;
+
+uint32_t place_of_array(struct call call, uint32_t most, uint64_t element) {
+    uint32_t plain = place_of_call(call, most);
+    uint32_t *slot = plain ? added_slot(&arrays, mixed(plain) ^ element) : NULL;
+    uint32_t place = slot ? LOAD(slot) : 0;
+    if (LIKELY(place || !slot))
+        return place;
+    struct stack stack;
+    take_stack(&stack, call, most);
+    stack.element = element;
+    return settled(slot, place_of(&stack));
+}
+
 static uint32_t place_here(struct call call) {
     struct stack stack;
     take_stack(&stack, call, RAW_FRAMES);
@@ -154,10 +170,17 @@ static uint64_t class_key(const struct raw_class *c) {
     return mixed(mixed(mixed(c->word + c->kind) + c->offset) + c->place) | 1;
 }
 
+/* Of each class how often its locks will still be looked at when they are taken. That is done for locks in allocated memory, until
+   it has brought nothing new for so long. */
+#define MOST_CLASSES 65536
+#define LOOKS 255
+static uint8_t looks_left[MOST_CLASSES];
+
 static uint32_t define_class(const struct raw_class *new) {
     uint32_t number = take_part(RAW_CLASSES);
     if (!number)
         return 0;
+    looks_left[number % MOST_CLASSES] = new->kind == CLASS_HEAP ? LOOKS : 0;
     struct raw_class *class = part_of(RAW_CLASSES, number);
     class->place = new->place;
     class->word = new->word;
@@ -172,6 +195,59 @@ static uint32_t known_class(struct raw_class class) {
         return 0;
     uint32_t number = LOAD(slot);
     return number ? number : settled(slot, define_class(&class));
+}
+
+/* ---- The sizes of pieces with locks. An array's are multiples of an element's. */
+
+static uint64_t common_part(uint64_t a, uint64_t b) {
+    while (b) {
+        uint64_t rest = a % b;
+        a = b;
+        b = rest;
+    }
+    return a;
+}
+
+void note_size(uint32_t number, uint64_t bytes) {
+    if (!number)
+        return;
+    struct raw_place *place = part_of(RAW_PLACES, number);
+    uint64_t first = LOAD(&place->bytes), steps = LOAD(&place->steps), new;
+    if (!first && SWAP(&place->bytes, &first, bytes))
+        return;
+    do
+        new = common_part(first > bytes ? first - bytes : bytes - first, steps);
+    while (new != steps && !SWAP(&place->steps, &steps, new));
+}
+
+/* ---- Who takes a lock in allocated memory. */
+
+static struct names takes;
+
+#define TAKE_FRAMES 8
+
+/* Of a class and a place, once. */
+static void note_take(uint32_t class, uint32_t place) {
+    uint32_t *slot = added_slot(&takes, mixed((uint64_t)class << 32 | place)), none = 0;
+    if (!slot || LOAD(slot) || !SWAP(slot, &none, 1))
+        return;
+    looks_left[class % MOST_CLASSES] = LOOKS;
+    uint32_t number = take_part(RAW_TAKES);
+    if (!number)
+        return;
+    struct raw_take *take = part_of(RAW_TAKES, number);
+    take->place = place;
+    STORE(&take->class, class);
+}
+
+void look_at_taker(uint32_t class, struct call call) {
+    uint8_t *left = &looks_left[class % MOST_CLASSES];
+    if (LIKELY(!*left))
+        return;
+    (*left)--;
+    uint32_t place = place_of_call(call, TAKE_FRAMES);
+    if (place)
+        note_take(class, place);
 }
 
 static uint32_t class_in_frame(uintptr_t lock, struct call call) {
@@ -312,4 +388,7 @@ static void forget_gone_place(uint32_t *value) {
         STORE(value, 0);
 }
 
-void forget_places_in_closed_modules(void) { each_name(&places, forget_gone_place); }
+void forget_places_in_closed_modules(void) {
+    each_name(&places, forget_gone_place);
+    each_name(&arrays, forget_gone_place);
+}

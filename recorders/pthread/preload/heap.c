@@ -12,6 +12,7 @@
 #include <sys/mman.h>
 
 #define LEAST_PIECE 40 /* the bytes of a mutex */
+#define LEAST_LOCK 4
 #define PIECE_FRAMES 12
 
 /* ---- The table. */
@@ -142,10 +143,12 @@ static void take_parts_out(uintptr_t start, uint64_t size) {
 
 /* ---- Pieces that come and go. */
 
-static void note_piece(void *piece, size_t size, struct call call) {
+/* `element` is that of an array, as in raw_place. */
+static void note_piece(void *piece, size_t size, uint64_t element, struct call call) {
     if (RARELY(size >> MOST_BITS))
         return;
-    put_piece((uintptr_t)piece, (uint64_t)size << SIZE_SHIFT | place_of_call(call, PIECE_FRAMES));
+    uint64_t place = RARELY(element) ? place_of_array(call, PIECE_FRAMES, element) : place_of_call(call, PIECE_FRAMES);
+    put_piece((uintptr_t)piece, (uint64_t)size << SIZE_SHIFT | place);
     if (RARELY(size >= LONG_PIECE))
         put_parts((uintptr_t)piece, size);
 }
@@ -218,7 +221,9 @@ bool find_memory(uintptr_t lock, uint32_t *place, uint64_t *offset) {
     if (!slot)
         return false;
     *offset = lock - LOAD(&slot->address);
-    *place = (uint32_t)(mark_lock(&slot->about, *offset) & ((UINT64_C(1) << PLACE_BITS) - 1));
+    uint64_t about = mark_lock(&slot->about, *offset);
+    *place = (uint32_t)(about & ((UINT64_C(1) << PLACE_BITS) - 1));
+    note_size(*place, about >> SIZE_SHIFT);
     return *place != 0;
 }
 
@@ -266,9 +271,17 @@ static bool look_up(void) {
 
 static inline bool resolved(void) { return LIKELY(LOAD(&resolve_state) == 2) || look_up(); }
 
+/* The size of an array that C++ asks for, from its operator `new[]` to the malloc that this comes to. */
+EARLY_THREAD_LOCAL size_t array_asked_for;
+
 static inline void *noted(void *piece, size_t size, struct call call) {
+    uint64_t element = 0;
+    if (RARELY(array_asked_for)) {
+        element = array_asked_for == size ? RAW_ARRAY : 0;
+        array_asked_for = 0;
+    }
     if (LIKELY(piece && size >= LEAST_PIECE && arena))
-        note_piece(piece, size, call);
+        note_piece(piece, size, element, call);
     return piece;
 }
 
@@ -279,8 +292,12 @@ EXPORT void *malloc(size_t size) {
 }
 
 EXPORT void *calloc(size_t count, size_t size) {
-    if (resolved())
-        return noted(real_calloc(count, size), count * size, HERE);
+    if (resolved()) {
+        void *piece = real_calloc(count, size);
+        if (LIKELY(piece && count * size >= LEAST_PIECE && arena))
+            note_piece(piece, count * size, count > 1 && size >= LEAST_LOCK ? size : 0, HERE);
+        return piece;
+    }
     return size && count > EARLY_BYTES / size ? NULL : early_memory(count * size);
 }
 

@@ -106,6 +106,7 @@ struct call {
 #define HERE ((struct call){CALLER, FRAME})
 
 struct stack {
+    uint64_t element; /* of an array that is allocated there, as in raw_place */
     uint32_t count;
     bool is_bounded; /* the end of the stack's memory is known */
     uintptr_t callers[RAW_FRAMES];
@@ -131,16 +132,24 @@ bool is_on_stack(uintptr_t lock, struct call call);
 
 /* ---- heap.c */
 
+extern EARLY_THREAD_LOCAL size_t array_asked_for;
 bool find_memory(uintptr_t lock, uint32_t *place, uint64_t *offset);
+
+/* ---- also.c */
+
+void *find_in_libraries(const char *name);
 
 /* ---- classes.c */
 
 uint32_t place_of(const struct stack *stack);
 uint32_t place_of_caller(uintptr_t caller);
 uint32_t place_of_call(struct call call, uint32_t most);
+uint32_t place_of_array(struct call call, uint32_t most, uint64_t element);
 uint32_t object_of_lock(uintptr_t lock, struct call call); /* makes one of a new lock; 0: no room */
 uint32_t apart(uintptr_t lock, uint32_t object); /* an object of its own for a nested lock, or the same */
 uint32_t class_of(uint32_t object);
+void note_size(uint32_t place, uint64_t bytes);
+void look_at_taker(uint32_t class, struct call call);
 uint32_t *foreign_releases(uint32_t object);
 void know_by_place(uintptr_t lock, struct call call);
 void forget_lock(uintptr_t lock);
