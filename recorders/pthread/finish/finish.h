@@ -110,6 +110,7 @@ struct key {
     char *identity; /* what the name stands for: two classes of one name aren't mixed up */
     uint64_t at;
     enum class_kind kind;
+    const char *path; /* of a file that the lock is in, `at` being where */
 };
 
 extern struct key *keys;
@@ -121,6 +122,13 @@ bool is_wrapper(uint64_t word);
 bool is_outermost(uint64_t word);
 void tell_symbol(char *text, size_t room, const char *symbol);
 int key_of(struct arena *a, uint32_t class);
+
+/* ---- shared.c */
+
+void find_shared(void);
+int class_key_of(struct arena *a, uint32_t object);
+int *shared_number(struct arena *a, uint32_t object);
+void forget_shared_numbers(void);
 
 /* ---- objects.c */
 

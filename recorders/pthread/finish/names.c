@@ -217,8 +217,26 @@ static bool is_by_word(const struct raw_class *class) {
     return class->kind == CLASS_STATIC || class->kind == CLASS_STACK || class->kind == CLASS_THREAD;
 }
 
+/* The file's name and where in it the lock is. What tells the file from others of that name is its number. */
+static void tell_file(char *text, size_t room, struct arena *a, const struct raw_class *class, bool plainly) {
+    const struct raw_file *file = part_of(a, RAW_FILES, class->place);
+    const char *path = file && file->path[0] ? file->path : "file", *slash = strrchr(path, '/');
+    char offset[32] = "";
+    if (class->offset != RAW_WHOLE_FILE)
+        snprintf(offset, sizeof offset, ".m%lu", (unsigned long)class->offset);
+    if (plainly)
+        snprintf(text, room, "%lx:%lx%s", file ? (unsigned long)file->device : 0, file ? (unsigned long)file->inode : 0, offset);
+    else
+        snprintf(text, room, "%s%s", slash ? slash + 1 : path, offset);
+    fill_spaces(text);
+}
+
 static void tell_class(char *text, size_t room, struct arena *a, const struct raw_class *class, bool plainly) {
     char offset[32];
+    if (class->kind == CLASS_FILE) {
+        tell_file(text, room, a, class, plainly);
+        return;
+    }
     if (is_by_word(class))
         tell_address(text, room, told_word(a, class->word), false, symbol_kinds[class->kind], plainly);
     else
@@ -270,10 +288,19 @@ static int add_key(struct key key) {
 static uint64_t first_word(struct arena *a, const struct raw_class *class) {
     if (class->kind == CLASS_THREAD)
         return UINT64_MAX; /* it is at another address in each thread */
+    if (class->kind == CLASS_FILE)
+        return class->offset == RAW_WHOLE_FILE ? 0 : class->offset;
     if (is_by_word(class))
         return told_word(a, class->word);
     const struct place *place = place_numbered(a, class->place);
     return place->count ? place->words[0] : UINT64_MAX;
+}
+
+static const char *file_path(struct arena *a, const struct raw_class *class) {
+    const struct raw_file *file = part_of(a, RAW_FILES, class->place);
+    if (class->kind != CLASS_FILE)
+        return NULL;
+    return file && file->path[0] ? file->path : "-";
 }
 
 /* The key of a class: that of its name, or a new one. If another class has the name, a number of its own comes after it. */
@@ -281,7 +308,7 @@ static int make_key(struct arena *a, const struct raw_class *class) {
     char name[LONGEST_NAME], identity[LONGEST_NAME];
     tell_class(identity, sizeof identity, a, class, true);
     tell_class(name, sizeof name, a, class, false);
-    struct key key = {.at = first_word(a, class), .kind = (enum class_kind)class->kind};
+    struct key key = {.at = first_word(a, class), .kind = (enum class_kind)class->kind, .path = file_path(a, class)};
     put_name(key.name, name, name);
     int there = key_named(key.name);
     if (there != NO_KEY && strcmp(keys[there].identity, identity) != 0) {

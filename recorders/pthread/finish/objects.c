@@ -2,7 +2,9 @@
 
      NAME#1, NAME#2^3   of those that were nested with others: the first ones of each class and process
      NAME#rest          all others of the class
-     NAME               a static lock, which is the only one of its class
+     NAME               a static lock, which is the only one of its class, or a file
+
+   A lock that processes share has no process in its name.
 
    So what stands before the mark is the class's name. */
 #include "finish.h"
@@ -47,7 +49,7 @@ static struct counted *counted_of(int key, uint32_t process) {
 }
 
 static int object_key_of(int key, uint32_t process, bool is_apart) {
-    struct counted *c = counted_of(key, tells_process ? process : NO_PROCESS);
+    struct counted *c = counted_of(key, tells_process && process_count > 1 ? process : NO_PROCESS);
     uint32_t ordinal = is_apart && c->count < apart ? ++c->count : 0;
     if (!c->by_ordinal[ordinal]) {
         struct object_key o = {key, c->process, ordinal};
@@ -59,7 +61,7 @@ static int object_key_of(int key, uint32_t process, bool is_apart) {
 
 /* ---- The key of an object in a process, found once. */
 
-static bool is_alone(enum class_kind kind) { return kind == CLASS_STATIC; }
+static bool is_alone(enum class_kind kind) { return kind == CLASS_STATIC || kind == CLASS_FILE; }
 
 static int *known_key(struct arena *a, uint32_t process, uint32_t object) {
     int **known = &a->object_keys[process];
@@ -69,12 +71,19 @@ static int *known_key(struct arena *a, uint32_t process, uint32_t object) {
 }
 
 int key_of_object(struct arena *a, uint32_t process, uint32_t object) {
+    int *shared = shared_number(a, object);
+    if (shared && *shared != NO_KEY)
+        return *shared;
+    if (shared) {
+        int key = class_key_of(a, object);
+        return *shared = object_key_of(key, NO_PROCESS, !is_alone(keys[key].kind));
+    }
     if (process > count_of(a, RAW_PROCESSES))
         process = 0;
     int *known = known_key(a, process, object);
     if (!*known) {
         const struct raw_object *o = part_of(a, RAW_OBJECTS, object);
-        int key = key_of(a, o->class);
+        int key = class_key_of(a, object);
         *known = object_key_of(key, a->processes[process], o->ordinal && !is_alone(keys[key].kind)) + 1;
     }
     return *known - 1;
@@ -88,7 +97,7 @@ void tell_object(char *text, size_t room, int number) {
         snprintf(mark, sizeof mark, "#%u", o->ordinal);
     else if (!is_alone(key->kind))
         snprintf(mark, sizeof mark, "#rest");
-    if (o->process != NO_PROCESS && process_count > 1)
+    if (o->process != NO_PROCESS)
         snprintf(process, sizeof process, "^%u", o->process);
     snprintf(text, room, "%s%s%s", key->name, mark, process);
 }
@@ -101,6 +110,7 @@ static void forget_all(void) {
         counted[i] = NULL;
     }
     object_key_count = 0;
+    forget_shared_numbers();
     for (size_t i = 0; i < arena_count; i++)
         for (uint32_t p = 0; p <= count_of(&arenas[i], RAW_PROCESSES); p++) {
             free(arenas[i].object_keys[p]);

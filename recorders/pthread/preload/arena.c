@@ -54,7 +54,7 @@ static const struct {
 } plan[RAW_KINDS] = {
     [RAW_PROCESSES] = {1, 1 << 16}, [RAW_MODULES] = {10, 1 << 13}, [RAW_PLACES] = {12, 1 << 20},
     [RAW_CLASSES] = {4, 0xffff},    [RAW_OBJECTS] = {2, 1 << 22},  [RAW_TAKES] = {2, 1 << 20},
-    [RAW_THREADS] = {8, 1 << 20},
+    [RAW_FILES] = {1, 1 << 12},     [RAW_THREADS] = {8, 1 << 20},
 };
 
 static uint64_t rounded(uint64_t n, uint64_t to) { return (n + to - 1) / to * to; }
@@ -119,7 +119,7 @@ static uint64_t private_room, private_used;
 static void map_private(void) {
     uint64_t bytes = least(PRIVATE_BYTES, allowed_memory());
     for (; bytes >= PRIVATE_LEAST; bytes /= 2) {
-        void *p = mmap(NULL, bytes, PROT_READ | PROT_WRITE, MAP_PRIVATE | MAP_ANONYMOUS | MAP_NORESERVE, -1, 0);
+        void *p = map_own(bytes, MAP_PRIVATE | MAP_ANONYMOUS | MAP_NORESERVE, -1);
         if (p == MAP_FAILED)
             continue;
         madvise(p, bytes, MADV_DONTDUMP);
@@ -146,7 +146,7 @@ static struct raw_arena *map_file(int file) {
         bytes &= ~UINT64_C(4095);
         if (!extend(file, bytes))
             continue;
-        void *p = mmap(NULL, bytes, PROT_READ | PROT_WRITE, MAP_SHARED | MAP_NORESERVE, file, 0);
+        void *p = map_own(bytes, MAP_SHARED | MAP_NORESERVE, file);
         if (p == MAP_FAILED)
             continue;
         madvise(p, bytes, MADV_DONTDUMP);
@@ -196,7 +196,7 @@ static void note_process(uint32_t parent) {
 #define PAGE 4096
 
 static void begin_life(void) {
-    void *page = mmap(NULL, PAGE, PROT_READ | PROT_WRITE, MAP_PRIVATE | MAP_ANONYMOUS, -1, 0);
+    void *page = map_own(PAGE, MAP_PRIVATE | MAP_ANONYMOUS, -1);
     if (page == MAP_FAILED) {
         alive = &always_alive;
         return;

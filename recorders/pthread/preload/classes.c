@@ -208,9 +208,9 @@ static uint64_t common_part(uint64_t a, uint64_t b) {
     return a;
 }
 
+bool is_mapped_place(uint32_t number) { return ((struct raw_place *)part_of(RAW_PLACES, number))->element == RAW_MAPPED; }
+
 void note_size(uint32_t number, uint64_t bytes) {
-    if (!number)
-        return;
     struct raw_place *place = part_of(RAW_PLACES, number);
     uint64_t first = LOAD(&place->bytes), steps = LOAD(&place->steps), new;
     if (!first && SWAP(&place->bytes, &first, bytes))
@@ -255,11 +255,21 @@ static uint32_t class_in_frame(uintptr_t lock, struct call call) {
     return frame_with(lock, call, &class.word, &class.offset) ? known_class(class) : 0;
 }
 
+/* Memory that has no file is known by where it was mapped. */
+static uint32_t class_in_file(uint32_t file, uint64_t offset) {
+    uint32_t place = ((struct raw_file *)part_of(RAW_FILES, file))->place;
+    return known_class(place ? (struct raw_class){.kind = CLASS_HEAP, .place = place, .offset = offset}
+                             : (struct raw_class){.kind = CLASS_FILE, .place = file, .offset = offset});
+}
+
 /* The class of a lock that no call initialised. */
 static uint32_t class_of_lock(uintptr_t lock, struct call call) {
     struct raw_class class = {.kind = CLASS_HEAP};
+    uint32_t file;
     if (module_of(lock))
         return known_class((struct raw_class){.kind = CLASS_STATIC, .word = word_of(lock)});
+    if (find_shared(lock, &file, &class.offset))
+        return class_in_file(file, class.offset);
     if (find_memory(lock, &class.place, &class.offset))
         return known_class(class);
     if (own_part_with(lock, &class.word)) {
@@ -272,12 +282,14 @@ static uint32_t class_of_lock(uintptr_t lock, struct call call) {
 
 /* ---- Objects. */
 
-static uint32_t define_object(uint32_t class, uint32_t ordinal) {
+static uint32_t define_object(uint32_t class, uint32_t ordinal, uint32_t file, uint64_t offset) {
     uint32_t number = take_part(RAW_OBJECTS);
     if (!number)
         return 0;
     struct raw_object *object = part_of(RAW_OBJECTS, number);
     object->ordinal = ordinal;
+    object->file = file;
+    object->offset = offset;
     STORE(&object->class, class);
     return number;
 }
@@ -291,12 +303,24 @@ static uint32_t object_numbered(uint32_t class, uint32_t ordinal) {
     if (!kept)
         return 0;
     uint32_t object = LOAD(&kept->objects[ordinal]);
-    return object ? object : settled(&kept->objects[ordinal], define_object(class, ordinal));
+    return object ? object : settled(&kept->objects[ordinal], define_object(class, ordinal, 0, 0));
+}
+
+/* A lock that processes share is an object of its own from the first. */
+static struct names shared;
+
+static uint32_t object_in_file(uint32_t class, uint32_t file, uint64_t offset) {
+    uint32_t *slot = added_slot(&shared, mixed(mixed(offset) + file) + class);
+    uint32_t object = slot ? LOAD(slot) : 0;
+    return object || !slot ? object : settled(slot, define_object(class, RAW_SHARED, file, offset));
 }
 
 /* Of a lock that isn't known. */
 static uint32_t new_object(uintptr_t lock, uint32_t class) {
-    uint32_t object = class ? object_numbered(class, 0) : 0;
+    uint32_t file, object = 0;
+    uint64_t offset;
+    if (class)
+        object = find_shared(lock, &file, &offset) ? object_in_file(class, file, offset) : object_numbered(class, 0);
     return object ? add_lock(lock, object) : 0;
 }
 
@@ -335,7 +359,7 @@ static uint32_t taken_ordinal(struct kept_of_class *kept) {
 
 static void give_ordinal(uint32_t class, uint32_t ordinal) {
     struct kept_of_class *kept = kept_of(class);
-    if (kept && ordinal)
+    if (kept && ordinal && ordinal != RAW_SHARED)
         __atomic_fetch_and(&kept->alive, ~(UINT32_C(1) << (ordinal - 1)), __ATOMIC_ACQ_REL);
 }
 

@@ -144,7 +144,7 @@ static void take_parts_out(uintptr_t start, uint64_t size) {
 /* ---- Pieces that come and go. */
 
 /* `element` is that of an array, as in raw_place. */
-static void note_piece(void *piece, size_t size, uint64_t element, struct call call) {
+void note_piece(void *piece, size_t size, uint64_t element, struct call call) {
     if (RARELY(size >> MOST_BITS))
         return;
     uint64_t place = RARELY(element) ? place_of_array(call, PIECE_FRAMES, element) : place_of_call(call, PIECE_FRAMES);
@@ -163,6 +163,13 @@ static uint64_t taken_piece(uintptr_t address) {
     if (RARELY(about >> SIZE_SHIFT >= LONG_PIECE))
         take_parts_out(address, about >> SIZE_SHIFT);
     return about;
+}
+
+/* A piece that ends where it was told to. */
+void drop_piece(uintptr_t address, size_t size) {
+    const struct slot *slot = find_piece(address);
+    if (slot && LOAD(&slot->about) >> SIZE_SHIFT <= size)
+        taken_piece(address);
 }
 
 static void forget_piece(uintptr_t address, uint64_t about) {
@@ -215,6 +222,9 @@ static uint64_t mark_lock(uint64_t *at, uint64_t offset) {
     return about;
 }
 
+/* Of memory that a program maps itself only the beginning is known by that: further on its own allocator gives out what it likes. */
+#define KNOWN_OF_MAPPED 4096
+
 /* Whether the lock is in a piece that is known, and where that was allocated. The piece is marked as one with locks. */
 bool find_memory(uintptr_t lock, uint32_t *place, uint64_t *offset) {
     struct slot *slot = piece_around(lock);
@@ -223,13 +233,15 @@ bool find_memory(uintptr_t lock, uint32_t *place, uint64_t *offset) {
     *offset = lock - LOAD(&slot->address);
     uint64_t about = mark_lock(&slot->about, *offset);
     *place = (uint32_t)(about & ((UINT64_C(1) << PLACE_BITS) - 1));
+    if (!*place || (*offset >= KNOWN_OF_MAPPED && is_mapped_place(*place)))
+        return false;
     note_size(*place, about >> SIZE_SHIFT);
-    return *place != 0;
+    return true;
 }
 
 /* ---- The real functions. Looking them up may itself need memory, which comes from a few pages of our own. */
 
-#define REALS(X) X(malloc) X(calloc) X(realloc) X(free) X(memalign) X(aligned_alloc) X(posix_memalign) X(malloc_usable_size) X(munmap)
+#define REALS(X) X(malloc) X(calloc) X(realloc) X(free) X(memalign) X(aligned_alloc) X(posix_memalign) X(malloc_usable_size)
 #define DECLARE(name) static __typeof__(&name) real_##name;
 REALS(DECLARE)
 
@@ -365,16 +377,4 @@ EXPORT int posix_memalign(void **piece, size_t alignment, size_t size) {
     if (answer == 0)
         noted(*piece, size, HERE);
     return answer;
-}
-
-/* ---- Memory that is unmapped takes its locks with it. */
-
-EXPORT int munmap(void *from, size_t length) {
-    if (!resolved()) {
-        errno = EINVAL;
-        return -1;
-    }
-    if (arena)
-        forget_locks_between((uintptr_t)from, (uintptr_t)from + length);
-    return real_munmap(from, length);
 }

@@ -133,7 +133,15 @@ bool is_on_stack(uintptr_t lock, struct call call);
 /* ---- heap.c */
 
 extern EARLY_THREAD_LOCAL size_t array_asked_for;
+void note_piece(void *piece, size_t size, uint64_t element, struct call call);
+void drop_piece(uintptr_t address, size_t size);
 bool find_memory(uintptr_t lock, uint32_t *place, uint64_t *offset);
+
+/* ---- mapped.c */
+
+void *map_own(size_t bytes, int how, int file);
+uint32_t file_of(int descriptor);
+bool find_shared(uintptr_t lock, uint32_t *file, uint64_t *offset);
 
 /* ---- also.c */
 
@@ -148,6 +156,7 @@ uint32_t place_of_array(struct call call, uint32_t most, uint64_t element);
 uint32_t object_of_lock(uintptr_t lock, struct call call); /* makes one of a new lock; 0: no room */
 uint32_t apart(uintptr_t lock, uint32_t object); /* an object of its own for a nested lock, or the same */
 uint32_t class_of(uint32_t object);
+bool is_mapped_place(uint32_t place);
 void note_size(uint32_t place, uint64_t bytes);
 void look_at_taker(uint32_t class, struct call call);
 uint32_t *foreign_releases(uint32_t object);
