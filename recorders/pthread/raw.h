@@ -149,9 +149,10 @@ struct raw_thread {
     uint64_t chunks[RAW_CHUNKS]; /* where they begin in the file; 0 if there is none yet */
 };
 
+/* The first parts of each kind lie close together at the file's beginning, since the first use of each of its pages is dear. */
 struct raw_region {
-    uint64_t from;
-    uint32_t room;
+    uint64_t from, first_from;
+    uint32_t room, first; /* so many parts lie at the beginning */
     uint32_t used;
     uint64_t refused; /* how often there was no more room */
 };
@@ -162,7 +163,8 @@ struct raw_arena {
     uint64_t bytes;
     uint64_t started; /* a time by which the programs of a recording are ordered */
     struct raw_region regions[RAW_KINDS];
-    uint64_t records_used, records_end, records_refused; /* in bytes; the records come after all regions */
+    uint64_t first_records, first_records_end; /* in bytes: the first records come after the first parts */
+    uint64_t records_used, records_end, records_refused; /* the others come after all regions */
     uint64_t no_thread;   /* calls of threads for which there was no room */
     uint64_t deep_bound;  /* libraries that were to be loaded with RTLD_DEEPBIND, which was taken away */
     uint64_t namespaces;  /* libraries that were loaded into a namespace of their own, by dlmopen */
@@ -174,6 +176,11 @@ static inline uint32_t raw_size(enum raw_kind kind) {
                                               sizeof(struct raw_class),   sizeof(struct raw_object), sizeof(struct raw_take),
                                               sizeof(struct raw_file),    sizeof(struct raw_thread)};
     return sizes[kind];
+}
+
+static inline uint64_t raw_at(const struct raw_region *region, enum raw_kind kind, uint32_t number) {
+    uint64_t from = number <= region->first ? region->first_from : region->from;
+    return from + (uint64_t)(number - 1) * raw_size(kind);
 }
 
 /* In which chunk a record lies; its place in it is `index` less chunk_start. */

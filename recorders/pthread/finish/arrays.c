@@ -14,7 +14,7 @@ struct taking {
 
 struct site {
     uint64_t site;
-    bool is_array;
+    bool is_array, is_object; /* what was asked for, if that is known */
     uint64_t distance; /* of all locks; 0: it has parts that are arrays */
     uint64_t head;     /* what stands before the first element */
     uint64_t bytes, steps; /* the sizes of its pieces, as in raw_place */
@@ -196,14 +196,20 @@ static int by_first(const void *a, const void *b) {
     return x->first != y->first ? (x->first < y->first ? -1 : 1) : x->last < y->last ? -1 : x->last > y->last;
 }
 
-/* A part is told by where its locks are in an element, or by where it begins if another is told like that. */
-static void tell_parts(struct part *p, size_t count) {
+/* Whether the elements of a part fill the memory, as those of an array that was asked for do. */
+static bool is_filled(const struct site *s, const struct part *p) {
+    return !s->is_object && s->bytes && s->bytes % p->distance == 0 && s->steps % p->distance == 0;
+}
+
+/* A part is told by where its locks are in an element. If another is told like that, the two are one array of which each is taken by
+   other calls, if it fills the memory; else they are two, and the second one is told by where it begins. */
+static void tell_parts(const struct site *s, struct part *p, size_t count) {
     if (count)
         qsort(p, count, sizeof *p, by_first);
     for (size_t i = 0; i < count; i++) {
         p[i].told = p[i].first % p[i].distance;
         for (size_t k = 0; k < i; k++)
-            if (p[k].told == p[i].told)
+            if (p[k].told == p[i].told && !(p[k].distance == p[i].distance && is_filled(s, &p[i])))
                 p[i].told = p[i].first;
     }
 }
@@ -217,7 +223,7 @@ static void find_parts(struct site *s, const struct taking *t, size_t count) {
             add_part(s, (struct part){t[i].at, t[i + n - 1].at, distance, 0});
     }
     s->to = part_count;
-    tell_parts(parts + s->from, s->to - s->from);
+    tell_parts(s, parts + s->from, s->to - s->from);
 }
 
 /* ---- All sites. */
@@ -297,7 +303,11 @@ static void each_class(void (*visit)(struct arena *, uint32_t place, struct site
         }
 }
 
-static void note_request(struct arena *a, uint32_t place, struct site *s) { s->is_array |= request_of(a, place) == ASKED_ARRAY; }
+static void note_request(struct arena *a, uint32_t place, struct site *s) {
+    enum request request = request_of(a, place);
+    s->is_array |= request == ASKED_ARRAY;
+    s->is_object |= request == ASKED_OBJECT;
+}
 
 static void note_sizes(struct arena *a, uint32_t place, struct site *s) {
     const struct raw_place *raw = part_of(a, RAW_PLACES, place);

@@ -61,7 +61,11 @@ static int object_key_of(int key, uint32_t process, bool is_apart) {
 
 /* ---- The key of an object in a process, found once. */
 
-static bool is_alone(enum class_kind kind) { return kind == CLASS_STATIC || kind == CLASS_FILE; }
+/* Whether the object is the only one of its class. Of a file that is locked its ranges aren't. */
+static bool is_alone(const struct arena *a, const struct raw_object *o, int key) {
+    const struct raw_class *class = part_of(a, RAW_CLASSES, o->class);
+    return keys[key].kind == CLASS_STATIC || (keys[key].kind == CLASS_FILE && class->offset == o->offset);
+}
 
 static int *known_key(struct arena *a, uint32_t process, uint32_t object) {
     int **known = &a->object_keys[process];
@@ -71,20 +75,20 @@ static int *known_key(struct arena *a, uint32_t process, uint32_t object) {
 }
 
 int key_of_object(struct arena *a, uint32_t process, uint32_t object) {
-    int *shared = shared_number(a, object);
+    const struct raw_object *o = part_of(a, RAW_OBJECTS, object);
+    int *shared = shared_number(a, object), key = NO_KEY;
     if (shared && *shared != NO_KEY)
         return *shared;
     if (shared) {
-        int key = class_key_of(a, object);
-        return *shared = object_key_of(key, NO_PROCESS, !is_alone(keys[key].kind));
+        key = class_key_of(a, object);
+        return *shared = object_key_of(key, NO_PROCESS, !is_alone(a, o, key));
     }
     if (process > count_of(a, RAW_PROCESSES))
         process = 0;
     int *known = known_key(a, process, object);
     if (!*known) {
-        const struct raw_object *o = part_of(a, RAW_OBJECTS, object);
-        int key = class_key_of(a, object);
-        *known = object_key_of(key, a->processes[process], o->ordinal && !is_alone(keys[key].kind)) + 1;
+        key = class_key_of(a, object);
+        *known = object_key_of(key, a->processes[process], o->ordinal && !is_alone(a, o, key)) + 1;
     }
     return *known - 1;
 }
@@ -95,7 +99,7 @@ void tell_object(char *text, size_t room, int number) {
     char mark[16] = "", process[16] = "";
     if (o->ordinal)
         snprintf(mark, sizeof mark, "#%u", o->ordinal);
-    else if (!is_alone(key->kind))
+    else if (key->kind != CLASS_STATIC && key->kind != CLASS_FILE)
         snprintf(mark, sizeof mark, "#rest");
     if (o->process != NO_PROCESS)
         snprintf(process, sizeof process, "^%u", o->process);

@@ -44,7 +44,8 @@ static bool is_better(const struct shared *a, const struct shared *b) {
     bool a_is_made = kind_of(a) == CLASS_INIT, b_is_made = kind_of(b) == CLASS_INIT;
     if (a_is_made != b_is_made)
         return a_is_made;
-    return a->class != b->class && strcmp(keys[key_of(a->arena, a->class)].name, keys[key_of(b->arena, b->class)].name) < 0;
+    int first = key_of(a->arena, a->class), second = key_of(b->arena, b->class); /* either may move the list */
+    return strcmp(keys[first].name, keys[second].name) < 0;
 }
 
 static const struct raw_file *file_of(const struct arena *a, uint32_t object) {

@@ -229,7 +229,7 @@ static bool asks_for(const char *what) {
 }
 
 /* Whether it is asked for is found once: 1 no, 2 yes. */
-static bool is_asked(int *known, const char *what) {
+bool is_asked(int *known, const char *what) {
     find_reals();
     if (RARELY(!LOAD(known)))
         STORE(known, asks_for(what) ? 2 : 1);

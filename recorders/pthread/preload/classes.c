@@ -10,10 +10,10 @@
 static struct names places;
 
 static uint64_t stack_key(const struct stack *stack) {
-    uint64_t key = stack->callers[0] + stack->element;
+    uint64_t key = mixed(stack->element) ^ stack->callers[0];
     for (uint32_t i = 1; i < stack->count; i++)
         key = mixed(key) ^ stack->callers[i];
-    return key | 1;
+    return mixed(key);
 }
 
 static uint32_t define_place(const struct stack *stack) {
@@ -113,7 +113,7 @@ static struct names arrays;
 
 uint32_t place_of_array(struct call call, uint32_t most, uint64_t element) {
     uint32_t plain = place_of_call(call, most);
-    uint32_t *slot = plain ? added_slot(&arrays, mixed(plain) ^ element) : NULL;
+    uint32_t *slot = plain ? added_slot(&arrays, mixed(mixed(plain) ^ element)) : NULL;
     uint32_t place = slot ? LOAD(slot) : 0;
     if (LIKELY(place || !slot))
         return place;
@@ -213,6 +213,8 @@ bool is_mapped_place(uint32_t number) { return ((struct raw_place *)part_of(RAW_
 void note_size(uint32_t number, uint64_t bytes) {
     struct raw_place *place = part_of(RAW_PLACES, number);
     uint64_t first = LOAD(&place->bytes), steps = LOAD(&place->steps), new;
+    if (LIKELY(first == bytes))
+        return;
     if (!first && SWAP(&place->bytes, &first, bytes))
         return;
     do
@@ -262,16 +264,17 @@ static uint32_t class_in_file(uint32_t file, uint64_t offset) {
                              : (struct raw_class){.kind = CLASS_FILE, .place = file, .offset = offset});
 }
 
-/* The class of a lock that no call initialised. */
+/* The class of a lock that no call initialised. Modules that aren't known yet are looked for last, since that is slow. */
 static uint32_t class_of_lock(uintptr_t lock, struct call call) {
     struct raw_class class = {.kind = CLASS_HEAP};
     uint32_t file;
-    if (module_of(lock))
-        return known_class((struct raw_class){.kind = CLASS_STATIC, .word = word_of(lock)});
-    if (find_shared(lock, &file, &class.offset))
+    bool is_static = known_module(lock) != NULL;
+    if (!is_static && find_shared(lock, &file, &class.offset))
         return class_in_file(file, class.offset);
-    if (find_memory(lock, &class.place, &class.offset))
+    if (!is_static && find_memory(lock, &class.place, &class.offset))
         return known_class(class);
+    if (is_static || module_of(lock))
+        return known_class((struct raw_class){.kind = CLASS_STATIC, .word = word_of(lock)});
     if (own_part_with(lock, &class.word)) {
         class = (struct raw_class){.kind = CLASS_THREAD, .word = class.word};
         return known_class(class);
@@ -294,8 +297,6 @@ static uint32_t define_object(uint32_t class, uint32_t ordinal, uint32_t file, u
     return number;
 }
 
-uint32_t class_of(uint32_t object) { return ((struct raw_object *)part_of(RAW_OBJECTS, object))->class; }
-
 static uint32_t ordinal_of(uint32_t object) { return ((struct raw_object *)part_of(RAW_OBJECTS, object))->ordinal; }
 
 static uint32_t object_numbered(uint32_t class, uint32_t ordinal) {
@@ -310,7 +311,7 @@ static uint32_t object_numbered(uint32_t class, uint32_t ordinal) {
 static struct names shared;
 
 static uint32_t object_in_file(uint32_t class, uint32_t file, uint64_t offset) {
-    uint32_t *slot = added_slot(&shared, mixed(mixed(offset) + file) + class);
+    uint32_t *slot = added_slot(&shared, mixed(mixed(mixed(offset) + file) + class));
     uint32_t object = slot ? LOAD(slot) : 0;
     return object || !slot ? object : settled(slot, define_object(class, RAW_SHARED, file, offset));
 }
@@ -395,6 +396,14 @@ void know_by_place(uintptr_t lock, struct call call) {
     uint32_t place = place_here(call);
     if (place)
         new_object(lock, known_class((struct raw_class){.kind = CLASS_INIT, .place = place}));
+}
+
+/* A lock of a file, of which a class is all of it. */
+void know_by_file(uintptr_t lock, uint32_t file, uint64_t offset) {
+    uint32_t class = known_class((struct raw_class){.kind = CLASS_FILE, .place = file, .offset = RAW_WHOLE_FILE});
+    uint32_t object = class ? object_in_file(class, file, offset) : 0;
+    if (object)
+        add_lock(lock, object);
 }
 
 /* ---- A library was closed: places in it, and classes by them, are to be defined anew if the same addresses come again. */

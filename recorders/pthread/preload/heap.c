@@ -1,5 +1,5 @@
-/* Memory: for each live piece that malloc and its like have given out, and that has room for a lock, where that was and how long it
-   is. The operators `new` of C++ call malloc, so their callers are among the callers of that.
+/* Memory: for each live piece that malloc and its like have given out, and that has room for a lock, where that was and how long
+   it is. The operators `new` of C++ call malloc, so their callers are among the callers of that.
 
    Pieces are kept by address, in lines of some slots, in levels of which each has more lines than the one before. */
 #include "own.h"
@@ -9,23 +9,21 @@
 #include <malloc.h>
 #include <stdlib.h>
 #include <string.h>
-#include <sys/mman.h>
 
-#define LEAST_PIECE 40 /* the bytes of a mutex */
-#define LEAST_LOCK 4
+#define LEAST_LOCK 4 /* the bytes of a spin lock */
 #define PIECE_FRAMES 12
 
 /* ---- The table. */
 
 #define WAYS 8
-#define LEVELS 4
+#define LEVELS 5
 
 struct slot {
     uint64_t address; /* 0: empty; 1: about to be filled */
     uint64_t about;
 };
 
-static const uint32_t bits[LEVELS] = {9, 13, 17, 20}; /* of the number of lines */
+static const uint32_t bits[LEVELS] = {9, 13, 17, 20, 23}; /* of the number of lines */
 static struct slot *levels[LEVELS];
 static int main_level;
 static uint64_t overflows;
@@ -144,7 +142,7 @@ static void take_parts_out(uintptr_t start, uint64_t size) {
 /* ---- Pieces that come and go. */
 
 /* `element` is that of an array, as in raw_place. */
-void note_piece(void *piece, size_t size, uint64_t element, struct call call) {
+static inline void put_noted(void *piece, size_t size, uint64_t element, struct call call) {
     if (RARELY(size >> MOST_BITS))
         return;
     uint64_t place = RARELY(element) ? place_of_array(call, PIECE_FRAMES, element) : place_of_call(call, PIECE_FRAMES);
@@ -164,6 +162,8 @@ static uint64_t taken_piece(uintptr_t address) {
         take_parts_out(address, about >> SIZE_SHIFT);
     return about;
 }
+
+void note_piece(void *piece, size_t size, uint64_t element, struct call call) { put_noted(piece, size, element, call); }
 
 /* A piece that ends where it was told to. */
 void drop_piece(uintptr_t address, size_t size) {
@@ -241,7 +241,7 @@ bool find_memory(uintptr_t lock, uint32_t *place, uint64_t *offset) {
 
 /* ---- The real functions. Looking them up may itself need memory, which comes from a few pages of our own. */
 
-#define REALS(X) X(malloc) X(calloc) X(realloc) X(free) X(memalign) X(aligned_alloc) X(posix_memalign) X(malloc_usable_size)
+#define REALS(X) X(malloc) X(calloc) X(realloc) X(free) X(memalign) X(aligned_alloc) X(posix_memalign)
 #define DECLARE(name) static __typeof__(&name) real_##name;
 REALS(DECLARE)
 
@@ -263,19 +263,10 @@ static bool is_early(const void *p) { return (const char *)p >= early && (const 
 
 #define FIND(name) real_##name = (__typeof__(&name))dlsym(RTLD_NEXT, #name);
 
-/* The allocator's own function, if it has one: that of another may not be asked. */
-static void check_usable_size(void) {
-    Dl_info of_size, of_malloc;
-    if (!dladdr((void *)real_malloc_usable_size, &of_size) || !dladdr((void *)real_malloc, &of_malloc) ||
-        of_size.dli_fbase != of_malloc.dli_fbase)
-        real_malloc_usable_size = NULL;
-}
-
 static bool look_up(void) {
     int state = 0;
     if (SWAP(&resolve_state, &state, 1)) {
         REALS(FIND)
-        check_usable_size();
         STORE(&resolve_state, 2);
     }
     return LOAD(&resolve_state) == 2;
@@ -292,8 +283,8 @@ static inline void *noted(void *piece, size_t size, struct call call) {
         element = array_asked_for == size ? RAW_ARRAY : 0;
         array_asked_for = 0;
     }
-    if (LIKELY(piece && size >= LEAST_PIECE && arena))
-        note_piece(piece, size, element, call);
+    if (LIKELY(piece && size >= LEAST_LOCK && arena))
+        put_noted(piece, size, element, call);
     return piece;
 }
 
@@ -306,19 +297,14 @@ EXPORT void *malloc(size_t size) {
 EXPORT void *calloc(size_t count, size_t size) {
     if (resolved()) {
         void *piece = real_calloc(count, size);
-        if (LIKELY(piece && count * size >= LEAST_PIECE && arena))
-            note_piece(piece, count * size, count > 1 && size >= LEAST_LOCK ? size : 0, HERE);
+        if (LIKELY(piece && count * size >= LEAST_LOCK && arena))
+            put_noted(piece, count * size, count > 1 && size >= LEAST_LOCK ? size : 0, HERE);
         return piece;
     }
     return size && count > EARLY_BYTES / size ? NULL : early_memory(count * size);
 }
 
-/* What is too short to have been noted isn't looked for. */
-static uint64_t taken_if_noted(void *piece) {
-    if (!arena || !piece || (real_malloc_usable_size && real_malloc_usable_size(piece) < LEAST_PIECE))
-        return 0;
-    return taken_piece((uintptr_t)piece);
-}
+static inline uint64_t taken_if_noted(void *piece) { return arena && piece ? taken_piece((uintptr_t)piece) : 0; }
 
 EXPORT void free(void *piece) {
     if (RARELY(is_early(piece)) || !resolved())

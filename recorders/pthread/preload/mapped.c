@@ -47,7 +47,7 @@ static uint32_t define_file(const struct raw_file *new) {
 
 /* The number of a file of this name, or of one that was known before. */
 static uint32_t known_file(const struct raw_file *file) {
-    uint32_t *slot = added_slot(&files, mixed(file->device) ^ file->inode), none = 0;
+    uint32_t *slot = added_slot(&files, mixed(mixed(file->device) ^ file->inode)), none = 0;
     if (!slot || LOAD(slot))
         return slot ? LOAD(slot) : 0;
     uint32_t number = define_file(file);
