@@ -9,8 +9,8 @@
 
 #include <stdint.h>
 
-/* "lockrec2", little endian. */
-#define RAW_MAGIC UINT64_C(0x326365726b636f6c)
+/* "lockrec3", little endian. */
+#define RAW_MAGIC UINT64_C(0x336365726b636f6c)
 
 /* The file's size, if no limit forbids it, and the size under which a recording may well be too small. */
 #define RAW_BYTES (UINT64_C(4) << 30)

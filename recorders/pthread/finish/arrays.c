@@ -47,7 +47,7 @@ static uint64_t site_of(const struct place *place) { return number_of(place, (ui
 
 static uint64_t element_at(struct arena *a, uint32_t place) {
     const struct raw_place *raw = part_of(a, RAW_PLACES, place);
-    return raw && raw->element != RAW_ARRAY ? raw->element : 0;
+    return raw && raw->element > RAW_MAPPED ? raw->element : 0;
 }
 
 /* Whether it isn't known yet what element the class's locks are in. */

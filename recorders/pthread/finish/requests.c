@@ -140,9 +140,7 @@ enum request request_of(struct arena *a, uint32_t number) {
     const struct place *place = place_numbered(a, number);
     if (!raw || !place->count)
         return ASKED_UNKNOWN;
-    if (raw->element)
-        return ASKED_ARRAY;
-    enum request request = ASKED_UNKNOWN;
+    enum request request = raw->element == RAW_ARRAY ? ASKED_ARRAY : ASKED_UNKNOWN;
     for (uint32_t i = 0; i < raw->count && i < RAW_FRAMES && request == ASKED_UNKNOWN; i++) {
         uint64_t word = told_word(a, raw->callers[i]);
         if (word == place->words[0])

@@ -359,8 +359,8 @@ static uint32_t taken_ordinal(struct kept_of_class *kept) {
 }
 
 static void give_ordinal(uint32_t class, uint32_t ordinal) {
-    struct kept_of_class *kept = kept_of(class);
-    if (kept && ordinal && ordinal != RAW_SHARED)
+    struct kept_of_class *kept = ordinal && ordinal != RAW_SHARED ? kept_of(class) : NULL;
+    if (kept)
         __atomic_fetch_and(&kept->alive, ~(UINT32_C(1) << (ordinal - 1)), __ATOMIC_ACQ_REL);
 }
 

@@ -24,6 +24,9 @@ static void find_reals(void) {
     }
 }
 
+/* At once, since the loader's lock may not be waited for later. */
+__attribute__((constructor)) static void at_start(void) { find_reals(); }
+
 static int is_wanted;
 #define FILES is_asked(&is_wanted, "flock")
 

@@ -23,6 +23,9 @@ static void find_reals(void) {
     }
 }
 
+/* At once, since the loader's lock may not be waited for later. */
+__attribute__((constructor)) static void at_start(void) { find_reals(); }
+
 void *map_own(size_t bytes, int how, int file) {
     find_reals();
     return real_mmap(NULL, bytes, PROT_READ | PROT_WRITE, how, file, 0);
@@ -159,6 +162,7 @@ static void note_mapped(void *at, size_t bytes, int rights, int how, int file, u
         return;
     bool is_shared = (how & MAP_TYPE) == MAP_SHARED || (how & MAP_TYPE) == MAP_SHARED_VALIDATE;
     if (!is_shared) {
+        drop_piece((uintptr_t)at, SIZE_MAX); /* of which only a part was unmapped */
         note_piece(at, bytes, RAW_MAPPED, call);
         return;
     }

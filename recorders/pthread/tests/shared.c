@@ -1,8 +1,10 @@
-/* Two mutexes that two processes share, in memory without a file that is inherited or in a file that each maps where it likes. The
-   processes take them in both orders, and hang: each has one when it waits for the other. A signal ends them. */
+/* Two mutexes that two processes share, in memory without a file that is inherited (initialised or not: `unmade`), or in a file that
+   each maps where it likes. The processes take them in both orders, and hang: each has one when it waits for the other. A signal
+   ends them. */
 #include "common.h"
 #include <fcntl.h>
 #include <stdatomic.h>
+#include <stdbool.h>
 #include <sys/mman.h>
 
 struct both {
@@ -53,13 +55,16 @@ int main(int argc, char **argv) {
         audits(map(argv[1]));
         return 1;
     }
-    struct both *b = map(argv[1]);
-    make_accounts(b);
-    make_journal(b);
+    bool is_made = argc < 2 || strcmp(argv[1], "unmade") != 0, has_file = argc > 1 && is_made;
+    struct both *b = map(has_file ? argv[1] : NULL);
+    if (is_made) {
+        make_accounts(b);
+        make_journal(b);
+    }
     signal(SIGALRM, SIG_DFL);
     pid_t child = fork();
     alarm(3);
-    if (child == 0 && argc > 1)
+    if (child == 0 && has_file)
         execl("/proc/self/exe", argv[0], argv[1], "again", NULL);
     if (child == 0) {
         audits(b);
