@@ -1,8 +1,10 @@
 /* Arrays: a piece of memory may hold many like objects, or one with several locks. The locks of all elements are one class, for each of
    an element's locks; those of one object are classes of their own.
 
-   A piece is an array if it was asked for as one. Else, if one call takes locks at several equal distances, these are an array in it:
-   what is written out in a program as two locks is taken by two calls. Else it is an array if locks lie at one distance eight times. */
+   A piece is an array if it was asked for as one: by calloc of several, by `new[]`, or by a vector or deque. Else locks of it that one
+   call takes, told by three callers, at distances that are multiples of one of at least a mutex's size are an array in it: what is
+   written out in a program as two locks is taken by two calls. Of what was asked for as one object these are to be three locks at
+   least. Else it is an array if locks lie at one distance eight times. */
 #include "finish.h"
 
 #include <string.h>
@@ -219,7 +221,7 @@ static void find_parts(struct site *s, const struct taking *t, size_t count) {
     for (size_t i = 0, n; i < count; i += n) {
         uint64_t distance;
         n = next_taker(&t[i], count - i, &distance);
-        if (distance >= MUTEX_BYTES)
+        if (distance >= MUTEX_BYTES && n >= (s->is_object ? 3 : 2))
             add_part(s, (struct part){t[i].at, t[i + n - 1].at, distance, 0});
     }
     s->to = part_count;

@@ -294,11 +294,14 @@ EXPORT void *malloc(size_t size) {
     return resolved() ? noted(real_malloc(size), size, HERE) : early_memory(size);
 }
 
+/* The size of an array's elements, or 0 if it is one object or one of bytes. */
+static uint64_t element_of(size_t count, size_t size) { return count > 1 && size >= LEAST_LOCK ? size : 0; }
+
 EXPORT void *calloc(size_t count, size_t size) {
     if (resolved()) {
         void *piece = real_calloc(count, size);
         if (LIKELY(piece && count * size >= LEAST_LOCK && arena))
-            put_noted(piece, count * size, count > 1 && size >= LEAST_LOCK ? size : 0, HERE);
+            put_noted(piece, count * size, element_of(count, size), HERE);
         return piece;
     }
     return size && count > EARLY_BYTES / size ? NULL : early_memory(count * size);
@@ -321,7 +324,7 @@ static void *grown_early(void *piece, size_t size) {
 }
 
 /* The locks in it are forgotten first, since the memory may be another thread's as soon as it is given back. */
-static void *reallocated(void *piece, size_t size, struct call call) {
+static void *reallocated(void *piece, size_t size, uint64_t element, struct call call) {
     uint64_t about = taken_if_noted(piece);
     forget_piece((uintptr_t)piece, about);
     void *made = real_realloc(piece, size);
@@ -330,13 +333,15 @@ static void *reallocated(void *piece, size_t size, struct call call) {
         if (about >> SIZE_SHIFT >= LONG_PIECE)
             put_parts((uintptr_t)piece, about >> SIZE_SHIFT);
     }
-    return noted(made, size, call);
+    if (LIKELY(made && size >= LEAST_LOCK && arena))
+        put_noted(made, size, element, call);
+    return made;
 }
 
 EXPORT void *realloc(void *piece, size_t size) {
     if (RARELY(is_early(piece)))
         return grown_early(piece, size);
-    return resolved() ? reallocated(piece, size, HERE) : early_memory(size);
+    return resolved() ? reallocated(piece, size, 0, HERE) : early_memory(size);
 }
 
 EXPORT void *reallocarray(void *piece, size_t count, size_t size) {
@@ -345,7 +350,7 @@ EXPORT void *reallocarray(void *piece, size_t count, size_t size) {
         errno = ENOMEM;
         return NULL;
     }
-    return resolved() ? reallocated(piece, bytes, HERE) : NULL;
+    return resolved() ? reallocated(piece, bytes, element_of(count, size), HERE) : NULL;
 }
 
 EXPORT void *memalign(size_t alignment, size_t size) {

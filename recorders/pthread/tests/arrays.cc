@@ -108,7 +108,15 @@ APART void shards() {
         guard one(shards->shard[i]);
 }
 
+APART void members() {
+    auto pair = std::make_unique<Pair>();
+    for (auto *lock : {&pair->first, &pair->second})
+        guard one(*lock);
+    guard first(pair->first);
+    guard second(pair->second);
+}
+
 int main(int argc, char **argv) {
-    void (*cases[])() = {by_vector, by_deque, by_new, by_calloc, by_malloc, pairs, lines, at_once, shards};
+    void (*cases[])() = {by_vector, by_deque, by_new, by_calloc, by_malloc, pairs, lines, at_once, shards, members};
     cases[argc > 1 ? atoi(argv[1]) : 0]();
 }
