@@ -9,8 +9,8 @@
 
 #include <stdint.h>
 
-/* "lockrec2", little endian. */
-#define RAW_MAGIC UINT64_C(0x326365726b636f6c)
+/* "lockrec3", little endian. */
+#define RAW_MAGIC UINT64_C(0x336365726b636f6c)
 
 /* The file's size, if no limit forbids it, and the size under which a recording may well be too small. */
 #define RAW_BYTES (UINT64_C(4) << 30)
@@ -60,7 +60,7 @@ static inline uint32_t raw_word_module(uint64_t word) { return (uint32_t)(word >
 static inline uint64_t raw_word_offset(uint64_t word) { return word & UINT64_C(0xffffffffffff); }
 
 /* The kinds of parts that are numbered. Each kind has its region of the file. */
-enum raw_kind { RAW_PROCESSES, RAW_MODULES, RAW_PLACES, RAW_CLASSES, RAW_OBJECTS, RAW_THREADS, RAW_KINDS };
+enum raw_kind { RAW_PROCESSES, RAW_MODULES, RAW_PLACES, RAW_CLASSES, RAW_OBJECTS, RAW_TAKES, RAW_FILES, RAW_THREADS, RAW_KINDS };
 
 struct raw_process {
     uint32_t id; /* the system's number of it; written last */
@@ -73,26 +73,58 @@ struct raw_module {
     char path[RAW_PATH + 4];
 };
 
+/* What is asked of an allocator: for an array the size of an element, or RAW_ARRAY if only that it is one is known. */
+#define RAW_ARRAY 1
+#define RAW_MAPPED 2 /* it isn't an array: the program mapped the memory itself */
+
 struct raw_place {
     uint64_t count; /* how many callers there are; written last */
+    uint64_t element; /* what was asked for there; 0 if it is nothing of these */
+    uint64_t bytes;   /* of a piece of memory with a lock that was allocated there; 0 if there was none */
+    uint64_t steps;   /* by multiples of this other such pieces are longer or shorter */
     uint64_t callers[RAW_FRAMES];
 };
 
 /* By what a lock is known: where it was initialised, its symbol, where its memory was allocated, the function in whose frame
-   it lies, the thread-local symbol, or, if nothing else is known of it, where it was taken first. */
-enum class_kind { CLASS_NONE, CLASS_INIT, CLASS_STATIC, CLASS_HEAP, CLASS_STACK, CLASS_THREAD, CLASS_TAKE, CLASS_KINDS };
+   it lies, the thread-local symbol, the file that it is in, or, if nothing else is known of it, where it was taken first. */
+enum class_kind { CLASS_NONE, CLASS_INIT, CLASS_STATIC, CLASS_HEAP, CLASS_STACK, CLASS_THREAD, CLASS_TAKE, CLASS_FILE, CLASS_KINDS };
 
 struct raw_class {
     uint32_t kind; /* written last */
-    uint32_t place;  /* of CLASS_INIT, CLASS_HEAP and CLASS_TAKE */
+    uint32_t place;  /* of CLASS_INIT, CLASS_HEAP and CLASS_TAKE; of CLASS_FILE the file */
     uint64_t word;   /* of CLASS_STATIC the lock's address, of CLASS_STACK the function's, of CLASS_THREAD that in the module's
                         thread-local part */
-    uint64_t offset; /* of CLASS_HEAP in the piece of memory, of CLASS_STACK down from the frame's end */
+    uint64_t offset; /* of CLASS_HEAP in the piece of memory, of CLASS_STACK down from the frame's end, of CLASS_FILE in the file */
 };
 
 struct raw_object {
     uint32_t class;   /* written last */
     uint32_t ordinal; /* among the objects of the class that are told apart, from 1; 0 for all the others together */
+    uint64_t offset;  /* in the file */
+    uint32_t file;    /* of a lock that processes share; else 0 */
+};
+
+/* The ordinal of an object that processes share. It has no other one. */
+#define RAW_SHARED (RAW_APART + 1)
+
+/* Memory that processes share, or a file that is locked itself. */
+struct raw_file {
+    uint32_t is_ready;
+    uint32_t place; /* where memory was mapped that has no file, and is shared with forked children alone; else 0 */
+    uint64_t device, inode;
+    char path[RAW_PATH + 4];
+};
+
+/* The offset of a file that is locked itself. */
+#define RAW_WHOLE_FILE UINT64_MAX
+
+/* The device of what has a number of the system's, but isn't a file. */
+#define RAW_SYSTEM_V UINT64_MAX
+
+/* A lock in allocated memory was taken there. Who takes the locks of one piece tells an array from an object of several locks. */
+struct raw_take {
+    uint32_t class; /* written last */
+    uint32_t place;
 };
 
 /* What was left out of a thread's records, and how often. */
@@ -117,9 +149,10 @@ struct raw_thread {
     uint64_t chunks[RAW_CHUNKS]; /* where they begin in the file; 0 if there is none yet */
 };
 
+/* The first parts of each kind lie close together at the file's beginning, since the first use of each of its pages is dear. */
 struct raw_region {
-    uint64_t from;
-    uint32_t room;
+    uint64_t from, first_from;
+    uint32_t room, first; /* so many parts lie at the beginning */
     uint32_t used;
     uint64_t refused; /* how often there was no more room */
 };
@@ -130,7 +163,8 @@ struct raw_arena {
     uint64_t bytes;
     uint64_t started; /* a time by which the programs of a recording are ordered */
     struct raw_region regions[RAW_KINDS];
-    uint64_t records_used, records_end, records_refused; /* in bytes; the records come after all regions */
+    uint64_t first_records, first_records_end; /* in bytes: the first records come after the first parts */
+    uint64_t records_used, records_end, records_refused; /* the others come after all regions */
     uint64_t no_thread;   /* calls of threads for which there was no room */
     uint64_t deep_bound;  /* libraries that were to be loaded with RTLD_DEEPBIND, which was taken away */
     uint64_t namespaces;  /* libraries that were loaded into a namespace of their own, by dlmopen */
@@ -139,8 +173,14 @@ struct raw_arena {
 
 static inline uint32_t raw_size(enum raw_kind kind) {
     static const uint32_t sizes[RAW_KINDS] = {sizeof(struct raw_process), sizeof(struct raw_module), sizeof(struct raw_place),
-                                              sizeof(struct raw_class),   sizeof(struct raw_object), sizeof(struct raw_thread)};
+                                              sizeof(struct raw_class),   sizeof(struct raw_object), sizeof(struct raw_take),
+                                              sizeof(struct raw_file),    sizeof(struct raw_thread)};
     return sizes[kind];
+}
+
+static inline uint64_t raw_at(const struct raw_region *region, enum raw_kind kind, uint32_t number) {
+    uint64_t from = number <= region->first ? region->first_from : region->from;
+    return from + (uint64_t)(number - 1) * raw_size(kind);
 }
 
 /* In which chunk a record lies; its place in it is `index` less chunk_start. */

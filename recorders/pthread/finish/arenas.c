@@ -20,7 +20,7 @@ uint32_t count_of(const struct arena *a, enum raw_kind kind) {
 const void *part_of(const struct arena *a, enum raw_kind kind, uint32_t number) {
     if (number == 0 || number > count_of(a, kind))
         return NULL;
-    return (const char *)a->raw + a->raw->regions[kind].from + (uint64_t)(number - 1) * raw_size(kind);
+    return (const char *)a->raw + raw_at(&a->raw->regions[kind], kind, number);
 }
 
 /* ---- Reading a file. */
@@ -30,7 +30,9 @@ static bool is_sound(const struct arena *a) {
         return false;
     for (int kind = 0; kind < RAW_KINDS; kind++) {
         const struct raw_region *region = &a->raw->regions[kind];
-        if (region->from > a->bytes || (uint64_t)region->room * raw_size((enum raw_kind)kind) > a->bytes - region->from)
+        uint64_t size = raw_size((enum raw_kind)kind);
+        if (region->from > a->bytes || region->room * size > a->bytes - region->from || region->first_from > a->bytes ||
+            region->first * size > a->bytes - region->first_from)
             return false;
     }
     return true;

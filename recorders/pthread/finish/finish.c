@@ -167,6 +167,7 @@ int main(int argc, char **argv) {
     read_wrappers(recorder);
     read_arenas(argv[1]);
     find_arrays();
+    find_shared();
     name_objects();
     write_traces(argv[1], version);
     write_classes(argv[1]);

@@ -91,15 +91,26 @@ uint32_t class_of(const struct arena *a, uint32_t object);
 /* ---- arrays.c */
 
 void find_arrays(void);
-uint64_t element_size(const struct place *place);
+bool in_element(struct arena *a, const struct raw_class *class, uint64_t *told);
+
+/* ---- requests.c */
+
+enum request { ASKED_UNKNOWN, ASKED_OBJECT, ASKED_ARRAY };
+
+void ask_about(const struct place *place);
+void ask_all(void);
+enum request request_of(struct arena *a, uint32_t place);
 
 /* ---- names.c */
+
+#define LONGEST_NAME 4096 /* before it is shortened */
 
 struct key {
     char name[MAX_NAME + 1];
     char *identity; /* what the name stands for: two classes of one name aren't mixed up */
     uint64_t at;
     enum class_kind kind;
+    const char *path; /* of a file that the lock is in, `at` being where */
 };
 
 extern struct key *keys;
@@ -109,7 +120,15 @@ extern int frames;
 void read_wrappers(const char *beside);
 bool is_wrapper(uint64_t word);
 bool is_outermost(uint64_t word);
+void tell_symbol(char *text, size_t room, const char *symbol);
 int key_of(struct arena *a, uint32_t class);
+
+/* ---- shared.c */
+
+void find_shared(void);
+int class_key_of(struct arena *a, uint32_t object);
+int *shared_number(struct arena *a, uint32_t object);
+void forget_shared_numbers(void);
 
 /* ---- objects.c */
 

@@ -9,8 +9,6 @@ struct key *keys;
 size_t key_count;
 int frames;
 
-#define LONGEST 4096 /* of a name before it is shortened */
-
 /* ---- Names of functions. */
 
 typedef char *demangler(const char *, char *, size_t *, int *);
@@ -78,7 +76,7 @@ static void fill_spaces(char *name) {
 }
 
 /* A symbol's name as one reads it, without parameters. */
-static void tell_symbol(char *text, size_t room, const char *symbol) {
+void tell_symbol(char *text, size_t room, const char *symbol) {
     static demangler *demangle;
     static bool is_looked_for;
     if (!is_looked_for)
@@ -124,7 +122,7 @@ void read_wrappers(const char *beside) {
 
 static bool fits_list(uint64_t word) {
     const struct symbol *s = symbol_at(raw_word_module(word), raw_word_offset(word) - 1, SYMBOL_CODE);
-    char name[LONGEST] = "";
+    char name[LONGEST_NAME] = "";
     if (s)
         tell_symbol(name, sizeof name, s->name);
     for (size_t i = 0; i < wrapper_count; i++) {
@@ -176,7 +174,7 @@ static void tell_address(char *text, size_t room, uint64_t word, bool is_call, e
     }
     uint64_t offset = raw_word_offset(word);
     const struct symbol *s = plainly ? NULL : symbol_at(raw_word_module(word), offset - is_call, kind);
-    char name[LONGEST];
+    char name[LONGEST_NAME];
     if (s)
         tell_symbol(name, sizeof name, s->name);
     else
@@ -203,9 +201,9 @@ static void tell_place(char *text, size_t room, const struct place *place, bool 
 /* What follows the place: where in its memory or frame the lock is. Of an array, where in an element. */
 static void tell_offset(char *text, size_t room, struct arena *a, const struct raw_class *class) {
     text[0] = 0;
-    uint64_t element = class->kind == CLASS_HEAP ? element_size(place_numbered(a, class->place)) : 0;
-    if (element)
-        snprintf(text, room, "[].m%lu", (unsigned long)(class->offset % element));
+    uint64_t told = 0;
+    if (class->kind == CLASS_HEAP && in_element(a, class, &told))
+        snprintf(text, room, "[].m%lu", (unsigned long)told);
     else if (class->kind == CLASS_HEAP)
         snprintf(text, room, ".m%lu", (unsigned long)class->offset);
     else if (class->kind == CLASS_STACK)
@@ -219,8 +217,26 @@ static bool is_by_word(const struct raw_class *class) {
     return class->kind == CLASS_STATIC || class->kind == CLASS_STACK || class->kind == CLASS_THREAD;
 }
 
+/* The file's name and where in it the lock is. What tells the file from others of that name is its number. */
+static void tell_file(char *text, size_t room, struct arena *a, const struct raw_class *class, bool plainly) {
+    const struct raw_file *file = part_of(a, RAW_FILES, class->place);
+    const char *path = file && file->path[0] ? file->path : "file", *slash = strrchr(path, '/');
+    char offset[32] = "";
+    if (class->offset != RAW_WHOLE_FILE)
+        snprintf(offset, sizeof offset, ".m%lu", (unsigned long)class->offset);
+    if (plainly)
+        snprintf(text, room, "%lx:%lx%s", file ? (unsigned long)file->device : 0, file ? (unsigned long)file->inode : 0, offset);
+    else
+        snprintf(text, room, "%s%s", slash ? slash + 1 : path, offset);
+    fill_spaces(text);
+}
+
 static void tell_class(char *text, size_t room, struct arena *a, const struct raw_class *class, bool plainly) {
     char offset[32];
+    if (class->kind == CLASS_FILE) {
+        tell_file(text, room, a, class, plainly);
+        return;
+    }
     if (is_by_word(class))
         tell_address(text, room, told_word(a, class->word), false, symbol_kinds[class->kind], plainly);
     else
@@ -272,18 +288,27 @@ static int add_key(struct key key) {
 static uint64_t first_word(struct arena *a, const struct raw_class *class) {
     if (class->kind == CLASS_THREAD)
         return UINT64_MAX; /* it is at another address in each thread */
+    if (class->kind == CLASS_FILE)
+        return class->offset == RAW_WHOLE_FILE ? 0 : class->offset;
     if (is_by_word(class))
         return told_word(a, class->word);
     const struct place *place = place_numbered(a, class->place);
     return place->count ? place->words[0] : UINT64_MAX;
 }
 
+static const char *file_path(struct arena *a, const struct raw_class *class) {
+    const struct raw_file *file = part_of(a, RAW_FILES, class->place);
+    if (class->kind != CLASS_FILE)
+        return NULL;
+    return file && file->path[0] ? file->path : "-";
+}
+
 /* The key of a class: that of its name, or a new one. If another class has the name, a number of its own comes after it. */
 static int make_key(struct arena *a, const struct raw_class *class) {
-    char name[LONGEST], identity[LONGEST];
+    char name[LONGEST_NAME], identity[LONGEST_NAME];
     tell_class(identity, sizeof identity, a, class, true);
     tell_class(name, sizeof name, a, class, false);
-    struct key key = {.at = first_word(a, class), .kind = (enum class_kind)class->kind};
+    struct key key = {.at = first_word(a, class), .kind = (enum class_kind)class->kind, .path = file_path(a, class)};
     put_name(key.name, name, name);
     int there = key_named(key.name);
     if (there != NO_KEY && strcmp(keys[there].identity, identity) != 0) {

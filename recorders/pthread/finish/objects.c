@@ -2,7 +2,9 @@
 
      NAME#1, NAME#2^3   of those that were nested with others: the first ones of each class and process
      NAME#rest          all others of the class
-     NAME               a static lock, which is the only one of its class
+     NAME               a static lock, which is the only one of its class, or a file
+
+   A lock that processes share has no process in its name.
 
    So what stands before the mark is the class's name. */
 #include "finish.h"
@@ -47,7 +49,7 @@ static struct counted *counted_of(int key, uint32_t process) {
 }
 
 static int object_key_of(int key, uint32_t process, bool is_apart) {
-    struct counted *c = counted_of(key, tells_process ? process : NO_PROCESS);
+    struct counted *c = counted_of(key, tells_process && process_count > 1 ? process : NO_PROCESS);
     uint32_t ordinal = is_apart && c->count < apart ? ++c->count : 0;
     if (!c->by_ordinal[ordinal]) {
         struct object_key o = {key, c->process, ordinal};
@@ -59,7 +61,11 @@ static int object_key_of(int key, uint32_t process, bool is_apart) {
 
 /* ---- The key of an object in a process, found once. */
 
-static bool is_alone(enum class_kind kind) { return kind == CLASS_STATIC; }
+/* Whether the object is the only one of its class. Of a file that is locked its ranges aren't. */
+static bool is_alone(const struct arena *a, const struct raw_object *o, int key) {
+    const struct raw_class *class = part_of(a, RAW_CLASSES, o->class);
+    return keys[key].kind == CLASS_STATIC || (keys[key].kind == CLASS_FILE && class->offset == o->offset);
+}
 
 static int *known_key(struct arena *a, uint32_t process, uint32_t object) {
     int **known = &a->object_keys[process];
@@ -69,13 +75,20 @@ static int *known_key(struct arena *a, uint32_t process, uint32_t object) {
 }
 
 int key_of_object(struct arena *a, uint32_t process, uint32_t object) {
+    const struct raw_object *o = part_of(a, RAW_OBJECTS, object);
+    int *shared = shared_number(a, object), key = NO_KEY;
+    if (shared && *shared != NO_KEY)
+        return *shared;
+    if (shared) {
+        key = class_key_of(a, object);
+        return *shared = object_key_of(key, NO_PROCESS, !is_alone(a, o, key));
+    }
     if (process > count_of(a, RAW_PROCESSES))
         process = 0;
     int *known = known_key(a, process, object);
     if (!*known) {
-        const struct raw_object *o = part_of(a, RAW_OBJECTS, object);
-        int key = key_of(a, o->class);
-        *known = object_key_of(key, a->processes[process], o->ordinal && !is_alone(keys[key].kind)) + 1;
+        key = class_key_of(a, object);
+        *known = object_key_of(key, a->processes[process], o->ordinal && !is_alone(a, o, key)) + 1;
     }
     return *known - 1;
 }
@@ -86,9 +99,9 @@ void tell_object(char *text, size_t room, int number) {
     char mark[16] = "", process[16] = "";
     if (o->ordinal)
         snprintf(mark, sizeof mark, "#%u", o->ordinal);
-    else if (!is_alone(key->kind))
+    else if (key->kind != CLASS_STATIC && key->kind != CLASS_FILE)
         snprintf(mark, sizeof mark, "#rest");
-    if (o->process != NO_PROCESS && process_count > 1)
+    if (o->process != NO_PROCESS)
         snprintf(process, sizeof process, "^%u", o->process);
     snprintf(text, room, "%s%s%s", key->name, mark, process);
 }
@@ -101,6 +114,7 @@ static void forget_all(void) {
         counted[i] = NULL;
     }
     object_key_count = 0;
+    forget_shared_numbers();
     for (size_t i = 0; i < arena_count; i++)
         for (uint32_t p = 0; p <= count_of(&arenas[i], RAW_PROCESSES); p++) {
             free(arenas[i].object_keys[p]);

@@ -102,7 +102,7 @@ static void take(struct trace *t, const struct raw_record *r) {
     struct held h = {raw_object(r->what), 0, false};
     if (t->depth == RAW_HELD)
         return;
-    h.key = key_of(t->arena, class_of(t->arena, h.object));
+    h.key = class_key_of(t->arena, h.object);
     if (is_try(mode) && t->version == 1)
         sums.tries++;
     else if (h.key >= MAX_KEYS)
@@ -288,10 +288,14 @@ void write_traces(const char *folder, int version) {
 
 /* ---- The classes. */
 
-static const char *const kind_words[CLASS_KINDS] = {"unknown", "init", "static", "heap", "stack", "thread", "take"};
+static const char *const kind_words[CLASS_KINDS] = {"unknown", "init", "static", "heap", "stack", "thread", "take", "file"};
 
 /* Where the class is. Of code it is an address after a call, and so of a function the second one. */
 static void write_class(FILE *file, const struct key *key) {
+    if (key->path) {
+        fprintf(file, "%s\t%s\t%lx\t%s\n", key->name, key->path, (unsigned long)key->at, kind_words[key->kind]);
+        return;
+    }
     uint64_t offset = key->at == UINT64_MAX ? 0 : raw_word_offset(key->at) + (key->kind == CLASS_STACK);
     fprintf(file, "%s\t%s\t%lx\t%s\n", key->name, key->at == UINT64_MAX ? "-" : modules[raw_word_module(key->at)].path,
             (unsigned long)offset, kind_words[key->kind < CLASS_KINDS ? key->kind : 0]);

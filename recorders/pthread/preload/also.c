@@ -113,8 +113,9 @@ static void abort_here(guard *g) { STORE(&g->bytes[1], 0); }
 static int (*real_acquire)(guard *);
 static void (*real_release)(guard *), (*real_abort)(guard *);
 
-static void *find_in_libraries(const char *name) {
+void *find_in_libraries(const char *name) {
     static const char *const libraries[] = {"libstdc++.so.6", "libc++abi.so.1"};
+    find_reals();
     void *found = dlsym(RTLD_NEXT, name);
     for (size_t i = 0; !found && i < sizeof libraries / sizeof *libraries; i++) {
         void *library = real_dlopen(libraries[i], RTLD_LAZY | RTLD_NOLOAD);
@@ -228,7 +229,7 @@ static bool asks_for(const char *what) {
 }
 
 /* Whether it is asked for is found once: 1 no, 2 yes. */
-static bool is_asked(int *known, const char *what) {
+bool is_asked(int *known, const char *what) {
     find_reals();
     if (RARELY(!LOAD(known)))
         STORE(known, asks_for(what) ? 2 : 1);

@@ -22,10 +22,6 @@ volatile uint32_t *alive = &not_alive;
 
 /* ---- Parts of the file. */
 
-void *part_of(enum raw_kind kind, uint32_t number) {
-    return (char *)arena + arena->regions[kind].from + (uint64_t)(number - 1) * raw_size(kind);
-}
-
 uint32_t take_part(enum raw_kind kind) {
     struct raw_region *region = &arena->regions[kind];
     if (LOAD(&region->used) < region->room) {
@@ -39,6 +35,11 @@ uint32_t take_part(enum raw_kind kind) {
 
 struct raw_record *take_chunk(uint32_t chunk) {
     uint64_t bytes = raw_chunk_room(chunk) * sizeof(struct raw_record);
+    if (LOAD(&arena->first_records) + bytes <= arena->first_records_end) {
+        uint64_t from = ADD(&arena->first_records, bytes);
+        if (from + bytes <= arena->first_records_end)
+            return (struct raw_record *)((char *)arena + from);
+    }
     if (LOAD(&arena->records_used) + bytes <= arena->records_end) {
         uint64_t from = ADD(&arena->records_used, bytes);
         if (from + bytes <= arena->records_end)
@@ -48,19 +49,39 @@ struct raw_record *take_chunk(uint32_t chunk) {
     return NULL;
 }
 
-/* How the file is shared out: of each kind a share of it in 64ths, and no more than so many. The rest is for records. */
+/* How the file is shared out: of each kind a share of it in 64ths, and no more than so many, the first of them close together. The rest
+   is for records. */
 static const struct {
-    uint32_t share, most;
+    uint32_t share, most, first;
 } plan[RAW_KINDS] = {
-    [RAW_PROCESSES] = {1, 1 << 16}, [RAW_MODULES] = {10, 1 << 13}, [RAW_PLACES] = {12, 1 << 20},
-    [RAW_CLASSES] = {4, 0xffff},    [RAW_OBJECTS] = {2, 1 << 22},  [RAW_THREADS] = {8, 1 << 20},
+    [RAW_PROCESSES] = {1, 1 << 16, 8}, [RAW_CLASSES] = {4, 0xffff, 32},   [RAW_OBJECTS] = {2, 1 << 22, 32},
+    [RAW_TAKES] = {2, 1 << 20, 32},    [RAW_THREADS] = {8, 1 << 20, 4},   [RAW_FILES] = {1, 1 << 12, 0},
+    [RAW_MODULES] = {10, 1 << 13, 8},  [RAW_PLACES] = {12, 1 << 20, 24},
 };
 
 static uint64_t rounded(uint64_t n, uint64_t to) { return (n + to - 1) / to * to; }
 
-/* Regions begin at a page of their own, unless the file is so small that this would waste it. */
+#define FIRST_RECORDS 4096 /* bytes of records that come after the first parts */
+
+static uint64_t place_first(struct raw_arena *a, uint64_t at) {
+    for (int kind = 0; kind < RAW_KINDS; kind++) {
+        a->regions[kind].first = plan[kind].first;
+        a->regions[kind].first_from = at;
+        at = rounded(at + (uint64_t)plan[kind].first * raw_size((enum raw_kind)kind), 64);
+    }
+    return at;
+}
+
+/* Regions begin at a page of their own, unless the file is so small that this would waste it. Records begin among the first parts, and
+   go on after all regions. */
 static void share_out(struct raw_arena *a, uint64_t bytes) {
-    uint64_t page = bytes < RAW_SMALL ? 64 : 4096, at = rounded(sizeof *a, page);
+    bool is_small = bytes < RAW_SMALL;
+    uint64_t page = is_small ? 64 : 4096, at = rounded(sizeof *a, 64);
+    if (!is_small) {
+        a->first_records = place_first(a, at);
+        a->first_records_end = rounded(a->first_records + FIRST_RECORDS, page);
+        at = a->first_records_end;
+    }
     for (int kind = 0; kind < RAW_KINDS; kind++) {
         uint64_t room = bytes * plan[kind].share / 64 / raw_size((enum raw_kind)kind);
         a->regions[kind].room = room < plan[kind].most ? (uint32_t)room : plan[kind].most;
@@ -118,7 +139,7 @@ static uint64_t private_room, private_used;
 static void map_private(void) {
     uint64_t bytes = least(PRIVATE_BYTES, allowed_memory());
     for (; bytes >= PRIVATE_LEAST; bytes /= 2) {
-        void *p = mmap(NULL, bytes, PROT_READ | PROT_WRITE, MAP_PRIVATE | MAP_ANONYMOUS | MAP_NORESERVE, -1, 0);
+        void *p = map_own(bytes, MAP_PRIVATE | MAP_ANONYMOUS | MAP_NORESERVE, -1);
         if (p == MAP_FAILED)
             continue;
         madvise(p, bytes, MADV_DONTDUMP);
@@ -145,7 +166,7 @@ static struct raw_arena *map_file(int file) {
         bytes &= ~UINT64_C(4095);
         if (!extend(file, bytes))
             continue;
-        void *p = mmap(NULL, bytes, PROT_READ | PROT_WRITE, MAP_SHARED | MAP_NORESERVE, file, 0);
+        void *p = map_own(bytes, MAP_SHARED | MAP_NORESERVE, file);
         if (p == MAP_FAILED)
             continue;
         madvise(p, bytes, MADV_DONTDUMP);
@@ -158,7 +179,8 @@ static struct raw_arena *map_file(int file) {
 
 #define MOST_PROGRAMS 100000 /* that one process runs, one after the other */
 
-/* Makes the process's file. The name has the process's number, and how many programs that process has run before. */
+/* Makes the process's file. The name has the process's number, and how many programs that process has run before. Without memory of
+   its own the library can't use it, and says so by the file that it leaves. */
 static struct raw_arena *make_file(const char *folder) {
     char path[4096];
     int file = -1;
@@ -171,7 +193,7 @@ static struct raw_arena *make_file(const char *folder) {
     struct raw_arena *made = NULL;
     if (file >= 0) {
         fchmod(file, 0644);
-        made = map_file(file);
+        made = private_from ? map_file(file) : NULL;
         close(file);
         if (!made)
             unlink(path);
@@ -195,7 +217,7 @@ static void note_process(uint32_t parent) {
 #define PAGE 4096
 
 static void begin_life(void) {
-    void *page = mmap(NULL, PAGE, PROT_READ | PROT_WRITE, MAP_PRIVATE | MAP_ANONYMOUS, -1, 0);
+    void *page = map_own(PAGE, MAP_PRIVATE | MAP_ANONYMOUS, -1);
     if (page == MAP_FAILED) {
         alive = &always_alive;
         return;
@@ -225,7 +247,7 @@ static void begin(void) {
     if (!folder || !folder[0] || strlen(folder) + 64 > 4096)
         return;
     map_private();
-    struct raw_arena *made = private_from ? make_file(folder) : NULL;
+    struct raw_arena *made = make_file(folder);
     if (!made)
         return;
     struct timespec now;

@@ -10,10 +10,10 @@
 static struct names places;
 
 static uint64_t stack_key(const struct stack *stack) {
-    uint64_t key = stack->callers[0];
+    uint64_t key = mixed(stack->element) ^ stack->callers[0];
     for (uint32_t i = 1; i < stack->count; i++)
         key = mixed(key) ^ stack->callers[i];
-    return key | 1;
+    return mixed(key);
 }
 
 static uint32_t define_place(const struct stack *stack) {
@@ -23,6 +23,7 @@ static uint32_t define_place(const struct stack *stack) {
     struct raw_place *place = part_of(RAW_PLACES, number);
     for (uint32_t i = 0; i < stack->count; i++)
         place->callers[i] = word_of(stack->callers[i]);
+    place->element = stack->element;
     STORE(&place->count, stack->count);
     return number;
 }
@@ -107,6 +108,21 @@ uint32_t place_of_call(struct call call, uint32_t most) {
     return place;
 }
 
+/* By a place and the size of an element: the place of arrays. */
+static struct names arrays;
+
+uint32_t place_of_array(struct call call, uint32_t most, uint64_t element) {
+    uint32_t plain = place_of_call(call, most);
+    uint32_t *slot = plain ? added_slot(&arrays, mixed(mixed(plain) ^ element)) : NULL;
+    uint32_t place = slot ? LOAD(slot) : 0;
+    if (LIKELY(place || !slot))
+        return place;
+    struct stack stack;
+    take_stack(&stack, call, most);
+    stack.element = element;
+    return settled(slot, place_of(&stack));
+}
+
 static uint32_t place_here(struct call call) {
     struct stack stack;
     take_stack(&stack, call, RAW_FRAMES);
@@ -154,10 +170,17 @@ static uint64_t class_key(const struct raw_class *c) {
     return mixed(mixed(mixed(c->word + c->kind) + c->offset) + c->place) | 1;
 }
 
+/* Of each class how often its locks will still be looked at when they are taken. That is done for locks in allocated memory, until
+   it has brought nothing new for so long. */
+#define MOST_CLASSES 65536
+#define LOOKS 255
+static uint8_t looks_left[MOST_CLASSES];
+
 static uint32_t define_class(const struct raw_class *new) {
     uint32_t number = take_part(RAW_CLASSES);
     if (!number)
         return 0;
+    looks_left[number % MOST_CLASSES] = new->kind == CLASS_HEAP ? LOOKS : 0;
     struct raw_class *class = part_of(RAW_CLASSES, number);
     class->place = new->place;
     class->word = new->word;
@@ -174,18 +197,84 @@ static uint32_t known_class(struct raw_class class) {
     return number ? number : settled(slot, define_class(&class));
 }
 
+/* ---- The sizes of pieces with locks. An array's are multiples of an element's. */
+
+static uint64_t common_part(uint64_t a, uint64_t b) {
+    while (b) {
+        uint64_t rest = a % b;
+        a = b;
+        b = rest;
+    }
+    return a;
+}
+
+bool is_mapped_place(uint32_t number) { return ((struct raw_place *)part_of(RAW_PLACES, number))->element == RAW_MAPPED; }
+
+void note_size(uint32_t number, uint64_t bytes) {
+    struct raw_place *place = part_of(RAW_PLACES, number);
+    uint64_t first = LOAD(&place->bytes), steps = LOAD(&place->steps), new;
+    if (LIKELY(first == bytes))
+        return;
+    if (!first && SWAP(&place->bytes, &first, bytes))
+        return;
+    do
+        new = common_part(first > bytes ? first - bytes : bytes - first, steps);
+    while (new != steps && !SWAP(&place->steps, &steps, new));
+}
+
+/* ---- Who takes a lock in allocated memory. */
+
+static struct names takes;
+
+#define TAKE_FRAMES 8
+
+/* Of a class and a place, once. */
+static void note_take(uint32_t class, uint32_t place) {
+    uint32_t *slot = added_slot(&takes, mixed((uint64_t)class << 32 | place)), none = 0;
+    if (!slot || LOAD(slot) || !SWAP(slot, &none, 1))
+        return;
+    looks_left[class % MOST_CLASSES] = LOOKS;
+    uint32_t number = take_part(RAW_TAKES);
+    if (!number)
+        return;
+    struct raw_take *take = part_of(RAW_TAKES, number);
+    take->place = place;
+    STORE(&take->class, class);
+}
+
+void look_at_taker(uint32_t class, struct call call) {
+    uint8_t *left = &looks_left[class % MOST_CLASSES];
+    if (LIKELY(!*left))
+        return;
+    (*left)--;
+    uint32_t place = place_of_call(call, TAKE_FRAMES);
+    if (place)
+        note_take(class, place);
+}
+
 static uint32_t class_in_frame(uintptr_t lock, struct call call) {
     struct raw_class class = {.kind = CLASS_STACK};
     return frame_with(lock, call, &class.word, &class.offset) ? known_class(class) : 0;
 }
 
-/* The class of a lock that no call initialised. */
+/* Memory that has no file is known by where it was mapped. */
+static uint32_t class_in_file(uint32_t file, uint64_t offset) {
+    uint32_t place = ((struct raw_file *)part_of(RAW_FILES, file))->place;
+    return known_class(place ? (struct raw_class){.kind = CLASS_HEAP, .place = place, .offset = offset}
+                             : (struct raw_class){.kind = CLASS_FILE, .place = file, .offset = offset});
+}
+
+/* The class of a lock that no call initialised. Modules that aren't known yet are looked for last, since that is slow. */
 static uint32_t class_of_lock(uintptr_t lock, struct call call) {
     struct raw_class class = {.kind = CLASS_HEAP};
-    if (module_of(lock))
-        return known_class((struct raw_class){.kind = CLASS_STATIC, .word = word_of(lock)});
-    if (find_memory(lock, &class.place, &class.offset))
+    uint32_t file;
+    bool is_static = known_module(lock) != NULL;
+    if (!is_static && find_shared(lock, &file, &class.offset))
+        return class_in_file(file, class.offset);
+    if (!is_static && find_memory(lock, &class.place, &class.offset))
         return known_class(class);
+    if (is_static || module_of(lock))
+        return known_class((struct raw_class){.kind = CLASS_STATIC, .word = word_of(lock)});
     if (own_part_with(lock, &class.word)) {
         class = (struct raw_class){.kind = CLASS_THREAD, .word = class.word};
         return known_class(class);
@@ -196,17 +285,17 @@ static uint32_t class_of_lock(uintptr_t lock, struct call call) {
 
 /* ---- Objects. */
 
-static uint32_t define_object(uint32_t class, uint32_t ordinal) {
+static uint32_t define_object(uint32_t class, uint32_t ordinal, uint32_t file, uint64_t offset) {
     uint32_t number = take_part(RAW_OBJECTS);
     if (!number)
         return 0;
     struct raw_object *object = part_of(RAW_OBJECTS, number);
     object->ordinal = ordinal;
+    object->file = file;
+    object->offset = offset;
     STORE(&object->class, class);
     return number;
 }
-
-uint32_t class_of(uint32_t object) { return ((struct raw_object *)part_of(RAW_OBJECTS, object))->class; }
 
 static uint32_t ordinal_of(uint32_t object) { return ((struct raw_object *)part_of(RAW_OBJECTS, object))->ordinal; }
 
@@ -215,12 +304,24 @@ static uint32_t object_numbered(uint32_t class, uint32_t ordinal) {
     if (!kept)
         return 0;
     uint32_t object = LOAD(&kept->objects[ordinal]);
-    return object ? object : settled(&kept->objects[ordinal], define_object(class, ordinal));
+    return object ? object : settled(&kept->objects[ordinal], define_object(class, ordinal, 0, 0));
+}
+
+/* A lock that processes share is an object of its own from the first. */
+static struct names shared;
+
+static uint32_t object_in_file(uint32_t class, uint32_t file, uint64_t offset) {
+    uint32_t *slot = added_slot(&shared, mixed(mixed(mixed(offset) + file) + class));
+    uint32_t object = slot ? LOAD(slot) : 0;
+    return object || !slot ? object : settled(slot, define_object(class, RAW_SHARED, file, offset));
 }
 
 /* Of a lock that isn't known. */
 static uint32_t new_object(uintptr_t lock, uint32_t class) {
-    uint32_t object = class ? object_numbered(class, 0) : 0;
+    uint32_t file, object = 0;
+    uint64_t offset;
+    if (class)
+        object = find_shared(lock, &file, &offset) ? object_in_file(class, file, offset) : object_numbered(class, 0);
     return object ? add_lock(lock, object) : 0;
 }
 
@@ -258,8 +359,8 @@ static uint32_t taken_ordinal(struct kept_of_class *kept) {
 }
 
 static void give_ordinal(uint32_t class, uint32_t ordinal) {
-    struct kept_of_class *kept = kept_of(class);
-    if (kept && ordinal)
+    struct kept_of_class *kept = ordinal && ordinal != RAW_SHARED ? kept_of(class) : NULL;
+    if (kept)
         __atomic_fetch_and(&kept->alive, ~(UINT32_C(1) << (ordinal - 1)), __ATOMIC_ACQ_REL);
 }
 
@@ -297,6 +398,14 @@ void know_by_place(uintptr_t lock, struct call call) {
         new_object(lock, known_class((struct raw_class){.kind = CLASS_INIT, .place = place}));
 }
 
+/* A lock of a file, of which a class is all of it. */
+void know_by_file(uintptr_t lock, uint32_t file, uint64_t offset) {
+    uint32_t class = known_class((struct raw_class){.kind = CLASS_FILE, .place = file, .offset = RAW_WHOLE_FILE});
+    uint32_t object = class ? object_in_file(class, file, offset) : 0;
+    if (object)
+        add_lock(lock, object);
+}
+
 /* ---- A library was closed: places in it, and classes by them, are to be defined anew if the same addresses come again. */
 
 static bool is_place_gone(uint32_t number) {
@@ -312,4 +421,7 @@ static void forget_gone_place(uint32_t *value) {
         STORE(value, 0);
 }
 
-void forget_places_in_closed_modules(void) { each_name(&places, forget_gone_place); }
+void forget_places_in_closed_modules(void) {
+    each_name(&places, forget_gone_place);
+    each_name(&arrays, forget_gone_place);
+}

@@ -1,5 +1,5 @@
-/* Memory: for each live piece that malloc and its like have given out, and that has room for a lock, where that was and how long it
-   is. The operators `new` of C++ call malloc, so their callers are among the callers of that.
+/* Memory: for each live piece that malloc and its like have given out, and that has room for a lock, where that was and how long
+   it is. The operators `new` of C++ call malloc, so their callers are among the callers of that.
 
    Pieces are kept by address, in lines of some slots, in levels of which each has more lines than the one before. */
 #include "own.h"
@@ -9,22 +9,21 @@
 #include <malloc.h>
 #include <stdlib.h>
 #include <string.h>
-#include <sys/mman.h>
 
-#define LEAST_PIECE 40 /* the bytes of a mutex */
+#define LEAST_LOCK 4 /* the bytes of a spin lock */
 #define PIECE_FRAMES 12
 
 /* ---- The table. */
 
 #define WAYS 8
-#define LEVELS 4
+#define LEVELS 5
 
 struct slot {
     uint64_t address; /* 0: empty; 1: about to be filled */
     uint64_t about;
 };
 
-static const uint32_t bits[LEVELS] = {9, 13, 17, 20}; /* of the number of lines */
+static const uint32_t bits[LEVELS] = {9, 13, 17, 20, 23}; /* of the number of lines */
 static struct slot *levels[LEVELS];
 static int main_level;
 static uint64_t overflows;
@@ -142,10 +141,12 @@ static void take_parts_out(uintptr_t start, uint64_t size) {
 
 /* ---- Pieces that come and go. */
 
-static void note_piece(void *piece, size_t size, struct call call) {
+/* `element` is that of an array, as in raw_place. */
+static inline void put_noted(void *piece, size_t size, uint64_t element, struct call call) {
     if (RARELY(size >> MOST_BITS))
         return;
-    put_piece((uintptr_t)piece, (uint64_t)size << SIZE_SHIFT | place_of_call(call, PIECE_FRAMES));
+    uint64_t place = RARELY(element) ? place_of_array(call, PIECE_FRAMES, element) : place_of_call(call, PIECE_FRAMES);
+    put_piece((uintptr_t)piece, (uint64_t)size << SIZE_SHIFT | place);
     if (RARELY(size >= LONG_PIECE))
         put_parts((uintptr_t)piece, size);
 }
@@ -160,6 +161,15 @@ static uint64_t taken_piece(uintptr_t address) {
     if (RARELY(about >> SIZE_SHIFT >= LONG_PIECE))
         take_parts_out(address, about >> SIZE_SHIFT);
     return about;
+}
+
+void note_piece(void *piece, size_t size, uint64_t element, struct call call) { put_noted(piece, size, element, call); }
+
+/* A piece that ends where it was told to. */
+void drop_piece(uintptr_t address, size_t size) {
+    const struct slot *slot = find_piece(address);
+    if (slot && LOAD(&slot->about) >> SIZE_SHIFT <= size)
+        taken_piece(address);
 }
 
 static void forget_piece(uintptr_t address, uint64_t about) {
@@ -212,19 +222,26 @@ static uint64_t mark_lock(uint64_t *at, uint64_t offset) {
     return about;
 }
 
+/* Of memory that a program maps itself only the beginning is known by that: further on its own allocator gives out what it likes. */
+#define KNOWN_OF_MAPPED 4096
+
 /* Whether the lock is in a piece that is known, and where that was allocated. The piece is marked as one with locks. */
 bool find_memory(uintptr_t lock, uint32_t *place, uint64_t *offset) {
     struct slot *slot = piece_around(lock);
     if (!slot)
         return false;
     *offset = lock - LOAD(&slot->address);
-    *place = (uint32_t)(mark_lock(&slot->about, *offset) & ((UINT64_C(1) << PLACE_BITS) - 1));
-    return *place != 0;
+    uint64_t about = mark_lock(&slot->about, *offset);
+    *place = (uint32_t)(about & ((UINT64_C(1) << PLACE_BITS) - 1));
+    if (!*place || (*offset >= KNOWN_OF_MAPPED && is_mapped_place(*place)))
+        return false;
+    note_size(*place, about >> SIZE_SHIFT);
+    return true;
 }
 
 /* ---- The real functions. Looking them up may itself need memory, which comes from a few pages of our own. */
 
-#define REALS(X) X(malloc) X(calloc) X(realloc) X(free) X(memalign) X(aligned_alloc) X(posix_memalign) X(malloc_usable_size) X(munmap)
+#define REALS(X) X(malloc) X(calloc) X(realloc) X(free) X(memalign) X(aligned_alloc) X(posix_memalign)
 #define DECLARE(name) static __typeof__(&name) real_##name;
 REALS(DECLARE)
 
@@ -246,19 +263,10 @@ static bool is_early(const void *p) { return (const char *)p >= early && (const 
 
 #define FIND(name) real_##name = (__typeof__(&name))dlsym(RTLD_NEXT, #name);
 
-/* The allocator's own function, if it has one: that of another may not be asked. */
-static void check_usable_size(void) {
-    Dl_info of_size, of_malloc;
-    if (!dladdr((void *)real_malloc_usable_size, &of_size) || !dladdr((void *)real_malloc, &of_malloc) ||
-        of_size.dli_fbase != of_malloc.dli_fbase)
-        real_malloc_usable_size = NULL;
-}
-
 static bool look_up(void) {
     int state = 0;
     if (SWAP(&resolve_state, &state, 1)) {
         REALS(FIND)
-        check_usable_size();
         STORE(&resolve_state, 2);
     }
     return LOAD(&resolve_state) == 2;
@@ -266,9 +274,17 @@ static bool look_up(void) {
 
 static inline bool resolved(void) { return LIKELY(LOAD(&resolve_state) == 2) || look_up(); }
 
+/* The size of an array that C++ asks for, from its operator `new[]` to the malloc that this comes to. */
+EARLY_THREAD_LOCAL size_t array_asked_for;
+
 static inline void *noted(void *piece, size_t size, struct call call) {
-    if (LIKELY(piece && size >= LEAST_PIECE && arena))
-        note_piece(piece, size, call);
+    uint64_t element = 0;
+    if (RARELY(array_asked_for)) {
+        element = array_asked_for == size ? RAW_ARRAY : 0;
+        array_asked_for = 0;
+    }
+    if (LIKELY(piece && size >= LEAST_LOCK && arena))
+        put_noted(piece, size, element, call);
     return piece;
 }
 
@@ -278,18 +294,20 @@ EXPORT void *malloc(size_t size) {
     return resolved() ? noted(real_malloc(size), size, HERE) : early_memory(size);
 }
 
+/* The size of an array's elements, or 0 if it is one object or one of bytes. */
+static uint64_t element_of(size_t count, size_t size) { return count > 1 && size >= LEAST_LOCK ? size : 0; }
+
 EXPORT void *calloc(size_t count, size_t size) {
-    if (resolved())
-        return noted(real_calloc(count, size), count * size, HERE);
+    if (resolved()) {
+        void *piece = real_calloc(count, size);
+        if (LIKELY(piece && count * size >= LEAST_LOCK && arena))
+            put_noted(piece, count * size, element_of(count, size), HERE);
+        return piece;
+    }
     return size && count > EARLY_BYTES / size ? NULL : early_memory(count * size);
 }
 
-/* What is too short to have been noted isn't looked for. */
-static uint64_t taken_if_noted(void *piece) {
-    if (!arena || !piece || (real_malloc_usable_size && real_malloc_usable_size(piece) < LEAST_PIECE))
-        return 0;
-    return taken_piece((uintptr_t)piece);
-}
+static inline uint64_t taken_if_noted(void *piece) { return arena && piece ? taken_piece((uintptr_t)piece) : 0; }
 
 EXPORT void free(void *piece) {
     if (RARELY(is_early(piece)) || !resolved())
@@ -306,7 +324,7 @@ static void *grown_early(void *piece, size_t size) {
 }
 
 /* The locks in it are forgotten first, since the memory may be another thread's as soon as it is given back. */
-static void *reallocated(void *piece, size_t size, struct call call) {
+static void *reallocated(void *piece, size_t size, uint64_t element, struct call call) {
     uint64_t about = taken_if_noted(piece);
     forget_piece((uintptr_t)piece, about);
     void *made = real_realloc(piece, size);
@@ -315,13 +333,15 @@ static void *reallocated(void *piece, size_t size, struct call call) {
         if (about >> SIZE_SHIFT >= LONG_PIECE)
             put_parts((uintptr_t)piece, about >> SIZE_SHIFT);
     }
-    return noted(made, size, call);
+    if (LIKELY(made && size >= LEAST_LOCK && arena))
+        put_noted(made, size, element, call);
+    return made;
 }
 
 EXPORT void *realloc(void *piece, size_t size) {
     if (RARELY(is_early(piece)))
         return grown_early(piece, size);
-    return resolved() ? reallocated(piece, size, HERE) : early_memory(size);
+    return resolved() ? reallocated(piece, size, 0, HERE) : early_memory(size);
 }
 
 EXPORT void *reallocarray(void *piece, size_t count, size_t size) {
@@ -330,7 +350,7 @@ EXPORT void *reallocarray(void *piece, size_t count, size_t size) {
         errno = ENOMEM;
         return NULL;
     }
-    return resolved() ? reallocated(piece, bytes, HERE) : NULL;
+    return resolved() ? reallocated(piece, bytes, element_of(count, size), HERE) : NULL;
 }
 
 EXPORT void *memalign(size_t alignment, size_t size) {
@@ -348,16 +368,4 @@ EXPORT int posix_memalign(void **piece, size_t alignment, size_t size) {
     if (answer == 0)
         noted(*piece, size, HERE);
     return answer;
-}
-
-/* ---- Memory that is unmapped takes its locks with it. */
-
-EXPORT int munmap(void *from, size_t length) {
-    if (!resolved()) {
-        errno = EINVAL;
-        return -1;
-    }
-    if (arena)
-        forget_locks_between((uintptr_t)from, (uintptr_t)from + length);
-    return real_munmap(from, length);
 }

@@ -21,7 +21,7 @@
 static struct module modules[MODULES];
 static uint32_t module_count, module_count_at_start;
 
-static const struct module *known_module(uintptr_t address) {
+const struct module *known_module(uintptr_t address) {
     uint32_t count = LOAD(&module_count);
     for (uint32_t i = 0; i < count && i < MODULES; i++)
         if (address >= modules[i].from && address < modules[i].to && LOAD(&modules[i].is_ready) && !LOAD(&modules[i].is_gone))

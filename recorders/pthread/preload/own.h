@@ -45,7 +45,9 @@ bool revived(void); /* whether the process is recorded after all */
 
 void begin_once(void);
 uint32_t take_part(enum raw_kind kind); /* the number of a new part, or 0 */
-void *part_of(enum raw_kind kind, uint32_t number);
+static inline void *part_of(enum raw_kind kind, uint32_t number) {
+    return (char *)arena + raw_at(&arena->regions[kind], kind, number);
+}
 struct raw_record *take_chunk(uint32_t chunk);
 void *take_private(size_t bytes); /* zeroed memory that is never given back, or NULL */
 
@@ -58,7 +60,7 @@ static inline uint64_t mixed(uint64_t x) {
 }
 
 #define NAMES_LEVELS 5
-struct names; /* from a number to a number, for what is defined once */
+struct names; /* from a number, the lowest bit of which doesn't matter, to a number, for what is defined once */
 struct names_line;
 struct names {
     struct names_line *levels[NAMES_LEVELS];
@@ -91,6 +93,7 @@ struct module {
 };
 
 void note_modules(void);
+const struct module *known_module(uintptr_t address); /* of those that were found, or NULL */
 const struct module *module_of(uintptr_t address);
 uint64_t word_of(uintptr_t address);
 void forget_closed_modules(void);
@@ -106,6 +109,7 @@ struct call {
 #define HERE ((struct call){CALLER, FRAME})
 
 struct stack {
+    uint64_t element; /* of an array that is allocated there, as in raw_place */
     uint32_t count;
     bool is_bounded; /* the end of the stack's memory is known */
     uintptr_t callers[RAW_FRAMES];
@@ -131,18 +135,37 @@ bool is_on_stack(uintptr_t lock, struct call call);
 
 /* ---- heap.c */
 
+extern EARLY_THREAD_LOCAL size_t array_asked_for;
+void note_piece(void *piece, size_t size, uint64_t element, struct call call);
+void drop_piece(uintptr_t address, size_t size);
 bool find_memory(uintptr_t lock, uint32_t *place, uint64_t *offset);
+
+/* ---- mapped.c */
+
+void *map_own(size_t bytes, int how, int file);
+uint32_t file_of(int descriptor);
+bool find_shared(uintptr_t lock, uint32_t *file, uint64_t *offset);
+
+/* ---- also.c */
+
+void *find_in_libraries(const char *name);
+bool is_asked(int *known, const char *what); /* by LOCKDEP_ALSO */
 
 /* ---- classes.c */
 
 uint32_t place_of(const struct stack *stack);
 uint32_t place_of_caller(uintptr_t caller);
 uint32_t place_of_call(struct call call, uint32_t most);
+uint32_t place_of_array(struct call call, uint32_t most, uint64_t element);
 uint32_t object_of_lock(uintptr_t lock, struct call call); /* makes one of a new lock; 0: no room */
 uint32_t apart(uintptr_t lock, uint32_t object); /* an object of its own for a nested lock, or the same */
-uint32_t class_of(uint32_t object);
+static inline uint32_t class_of(uint32_t object) { return ((struct raw_object *)part_of(RAW_OBJECTS, object))->class; }
+bool is_mapped_place(uint32_t place);
+void note_size(uint32_t place, uint64_t bytes);
+void look_at_taker(uint32_t class, struct call call);
 uint32_t *foreign_releases(uint32_t object);
 void know_by_place(uintptr_t lock, struct call call);
+void know_by_file(uintptr_t lock, uint32_t file, uint64_t offset);
 void forget_lock(uintptr_t lock);
 void forget_locks_between(uintptr_t from, uintptr_t to);
 void forget_places_in_closed_modules(void);

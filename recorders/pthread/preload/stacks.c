@@ -387,6 +387,7 @@ static bool to_caller(struct frame *f) {
 
 void take_stack(struct stack *stack, struct call call, uint32_t most) {
     struct frame f = first_frame(call);
+    stack->element = 0;
     stack->count = 0;
     stack->is_bounded = known_stack_end(call.frame) != 0;
     do {
@@ -443,6 +444,7 @@ void take_stack(struct stack *stack, struct call call, uint32_t most) {
     int count = backtrace(all, RAW_FRAMES + OWN_FRAMES), first = 0;
     while (first < count && (uintptr_t)all[first] != call.caller)
         first++;
+    stack->element = 0;
     stack->count = 1;
     stack->is_bounded = false;
     stack->callers[0] = call.caller;

@@ -61,14 +61,14 @@ void each_name(struct names *names, void (*visit)(uint32_t *value)) {
 
 /* ---- Locks: from an address to an object, in one word, so that a slot can be emptied and used again. An address is that of at
    least four bytes, and has 47 bits. The 45 that are left are stirred, so that each stirred value is that of one address: the
-   lowest eight choose the line, and the slot has the other 37, and an object of 27 bits. */
+   lowest ten choose the line, and the slot has the other 35, and an object of 27 bits. */
 
-#define LOCK_WAYS 16
+#define LOCK_WAYS 8 /* the bytes of a line of the processor's */
 #define LOCK_LEVELS 4
 #define ADDRESS_BITS 45
-#define FEWEST_BITS 8
+#define FEWEST_BITS 10
 
-static const uint32_t lock_bits[LOCK_LEVELS] = {FEWEST_BITS, 12, 16, 20};
+static const uint32_t lock_bits[LOCK_LEVELS] = {FEWEST_BITS, 13, 17, 21};
 static uint64_t *lock_levels[LOCK_LEVELS];
 
 static const uint64_t address_mask = (UINT64_C(1) << ADDRESS_BITS) - 1;
@@ -111,6 +111,8 @@ static uint64_t *lock_line(uint64_t *slots, int level, uint64_t key) {
     return &slots[(key & ((UINT64_C(1) << lock_bits[level]) - 1)) * LOCK_WAYS];
 }
 
+static inline bool is_of(uint64_t word, uint64_t key) { return word >> RAW_OBJECT_BITS == key >> FEWEST_BITS && word; }
+
 static int lock_main;
 static uint64_t lock_overflows;
 
@@ -124,7 +126,7 @@ static uint64_t *find_lock(uint64_t key) {
         uint64_t *line = lock_line(slots, level, key);
         for (int i = 0; i < LOCK_WAYS; i++) {
             uint64_t there = __atomic_load_n(&line[i], __ATOMIC_RELAXED);
-            if (there >> RAW_OBJECT_BITS == key >> FEWEST_BITS && there)
+            if (is_of(there, key))
                 return &line[i];
         }
     }
@@ -209,8 +211,12 @@ static void empty_slot(uint64_t *slot, void (*dropped)(uint32_t object)) {
 
 void drop_lock(uintptr_t lock, void (*dropped)(uint32_t object)) {
     uint64_t key = stirred(lock);
-    for (uint64_t *slot; (slot = find_lock(key));)
-        empty_slot(slot, dropped);
+    for (int level = 0; level < LOCK_LEVELS; level++) {
+        uint64_t *slots = lock_level(level, false), *line = slots ? lock_line(slots, level, key) : NULL;
+        for (int i = 0; line && i < LOCK_WAYS; i++)
+            if (is_of(LOAD(&line[i]), key))
+                empty_slot(&line[i], dropped);
+    }
 }
 
 static void drop_in_level(int level, uintptr_t from, uintptr_t to, void (*dropped)(uint32_t object)) {

@@ -429,6 +429,8 @@ static void push_held(struct thread *t, uintptr_t lock, uint32_t object, uint8_t
         for (uint32_t i = 0; i < t->depth; i++)
             tell_apart(t, i);
     }
+    if (mode < MODE_TRY_WRITE && t->failed != lock) /* else it may be std::lock, which takes what it is given in any order */
+        look_at_taker(class_of(object), call);
     const uint32_t *foreign = foreign_releases(object);
     uint32_t what = raw_what(object, (enum mode)mode);
     uint64_t before = hash_of(t, t->depth), start = t->raw->count;

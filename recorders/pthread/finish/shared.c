@@ -1,0 +1,109 @@
+/* Locks that processes share. Each process may know such a lock by something else: who initialised it, or only the file that it is in. It
+   has one class in all of them, that of who initialised it if anybody did. */
+#include "finish.h"
+
+#include <string.h>
+
+struct shared {
+    uint64_t device, inode, offset;
+    struct arena *arena;
+    uint32_t class;
+    int key; /* NO_KEY until it is asked for */
+    int number; /* of the key of the single lock, or NO_KEY */
+};
+
+static struct shared *shared;
+static size_t shared_count;
+
+/* Memory without a file has the arena and its number there. */
+static struct shared identity_of(struct arena *a, const struct raw_object *o, const struct raw_file *file) {
+    struct shared s = {.device = file->device, .inode = file->inode, .offset = o->offset, .arena = a, .class = o->class};
+    if (file->place) {
+        s.device = (uint64_t)(a - arenas);
+        s.inode = UINT64_MAX - o->file;
+    }
+    s.key = s.number = NO_KEY;
+    return s;
+}
+
+static int by_identity(const void *a, const void *b) {
+    const struct shared *x = a, *y = b;
+    if (x->device != y->device)
+        return x->device < y->device ? -1 : 1;
+    if (x->inode != y->inode)
+        return x->inode < y->inode ? -1 : 1;
+    return x->offset < y->offset ? -1 : x->offset > y->offset;
+}
+
+static enum class_kind kind_of(const struct shared *s) {
+    return (enum class_kind)((const struct raw_class *)part_of(s->arena, RAW_CLASSES, s->class))->kind;
+}
+
+/* Whether the first class is the better name: one that somebody initialised, or of two of these the first of the alphabet. */
+static bool is_better(const struct shared *a, const struct shared *b) {
+    bool a_is_made = kind_of(a) == CLASS_INIT, b_is_made = kind_of(b) == CLASS_INIT;
+    if (a_is_made != b_is_made)
+        return a_is_made;
+    int first = key_of(a->arena, a->class), second = key_of(b->arena, b->class); /* either may move the list */
+    return strcmp(keys[first].name, keys[second].name) < 0;
+}
+
+static const struct raw_file *file_of(const struct arena *a, uint32_t object) {
+    const struct raw_object *o = part_of(a, RAW_OBJECTS, object);
+    const struct raw_file *file = o && o->file ? part_of(a, RAW_FILES, o->file) : NULL;
+    return file && file->is_ready && class_of(a, object) ? file : NULL;
+}
+
+static void collect(struct arena *a) {
+    for (uint32_t n = 1; n <= count_of(a, RAW_OBJECTS); n++) {
+        const struct raw_file *file = file_of(a, n);
+        if (!file)
+            continue;
+        struct shared s = identity_of(a, part_of(a, RAW_OBJECTS, n), file);
+        PUSH(shared, shared_count, s);
+    }
+}
+
+void find_shared(void) {
+    size_t kept = 0;
+    for (size_t i = 0; i < arena_count; i++)
+        collect(&arenas[i]);
+    if (shared_count)
+        qsort(shared, shared_count, sizeof *shared, by_identity);
+    for (size_t i = 0; i < shared_count; i++) {
+        if (i == 0 || by_identity(&shared[i], &shared[kept - 1]) != 0)
+            shared[kept++] = shared[i];
+        else if (is_better(&shared[i], &shared[kept - 1]))
+            shared[kept - 1] = shared[i];
+    }
+    shared_count = kept;
+}
+
+static struct shared *shared_of(struct arena *a, uint32_t object) {
+    const struct raw_file *file = file_of(a, object);
+    if (!file)
+        return NULL;
+    struct shared wanted = identity_of(a, part_of(a, RAW_OBJECTS, object), file);
+    return shared_count ? bsearch(&wanted, shared, shared_count, sizeof *shared, by_identity) : NULL;
+}
+
+/* The key of the object's class. */
+int class_key_of(struct arena *a, uint32_t object) {
+    struct shared *s = shared_of(a, object);
+    if (!s)
+        return key_of(a, class_of(a, object));
+    if (s->key == NO_KEY)
+        s->key = key_of(s->arena, s->class);
+    return s->key;
+}
+
+/* Where the number of the single lock is kept that processes share; NULL of another lock. */
+int *shared_number(struct arena *a, uint32_t object) {
+    struct shared *s = shared_of(a, object);
+    return s ? &s->number : NULL;
+}
+
+void forget_shared_numbers(void) {
+    for (size_t i = 0; i < shared_count; i++)
+        shared[i].number = NO_KEY;
+}
