@@ -424,7 +424,7 @@ static void note_record(const char *trace, unsigned long number) {
     free(place.bytes);
 }
 
-/* The number behind `record `, if the text goes on with one. */
+/* The number after `record `, if the text goes on with one. */
 static bool is_record(const char *text, unsigned long *number, size_t *length) {
     if (strncmp(text, "record ", 7) != 0 || text[7] < '0' || text[7] > '9')
         return false;
@@ -444,10 +444,32 @@ static void folder_of(char *to, const char *file) {
         strcpy(to, ".");
 }
 
-/* The file in front of a record: its records and classes are those that the line goes on with. The traces of single locks
+/* Whether there is a trace of this name, or places of one. */
+static bool is_trace(const char *file) {
+    char places[PATH + 16];
+    snprintf(places, sizeof places, "%s.places", file);
+    return access(places, F_OK) == 0 || access(file, F_OK) == 0;
+}
+
+/* The file's name before a record, which ends at `end` and may have spaces: the longest that there is. If there is none, it is the
+   last word. */
+static void find_file(char *file, const char *line, const char *end) {
+    for (const char *from = line + strspn(line, " "); from < end; from++) {
+        if (from != line && from[-1] != ' ')
+            continue;
+        snprintf(file, PATH, "%.*s", (int)(end - from), from);
+        if (is_trace(file))
+            return;
+    }
+    const char *space = memrchr(line, ' ', (size_t)(end - line));
+    const char *word = space ? space + 1 : line;
+    snprintf(file, PATH, "%.*s", (int)(end - word), word);
+}
+
+/* The file before a record: its records and classes are those that the line goes on with. The traces of single locks
    are in a folder of the recording's. */
-static void take_file(char *file, const char *word) {
-    snprintf(file, PATH, "%s", word);
+static void take_file(char *file, const char *line, const char *end) {
+    find_file(file, line, end);
     char folder[PATH], outside[PATH];
     folder_of(folder, file);
     read_classes(folder);
@@ -468,7 +490,7 @@ static void note_word(char *word) {
     }
 }
 
-/* Goes through the words of a line: the file in front of a record, the record, or a class with its subclass. */
+/* Goes through the words of a line: the file before a record, the record, or a class with its subclass. */
 static void note_line(const char *line) {
     char file[PATH] = "", word[PATH];
     const char *p = line;
@@ -490,8 +512,7 @@ static void note_line(const char *line) {
         p += length;
         size_t ignored;
         if (word[length - 1] == ':' && is_record(p + (*p == ' '), &number, &ignored)) {
-            word[length - 1] = 0;
-            take_file(file, word);
+            take_file(file, line, p - 1);
         } else {
             note_word(word);
         }
