@@ -451,8 +451,20 @@ static bool is_trace(const char *file) {
     return access(places, F_OK) == 0 || access(file, F_OK) == 0;
 }
 
-/* The file's name before a record, which ends at `end` and may have spaces: the longest that there is. If there is none, it is the
-   last word. */
+/* The folder that was given on the command line. */
+static const char *given = "traces";
+
+/* The given folder's trace of this name, if it has one: the text may come from somewhere else. */
+static void look_in_given(char *file) {
+    char folder[PATH], there[3 * PATH];
+    folder_of(folder, file);
+    snprintf(there, sizeof there, "%s%s/%s", given, strcmp(base_of(folder), "objects") == 0 ? "/objects" : "", base_of(file));
+    if (strlen(there) < PATH && is_trace(there))
+        strcpy(file, there);
+}
+
+/* The file's name before a record, which ends at `end` and may have spaces: the longest that there is. If there is none, the last
+   word is looked for in the given folder. */
 static void find_file(char *file, const char *line, const char *end) {
     for (const char *from = line + strspn(line, " "); from < end; from++) {
         if (from != line && from[-1] != ' ')
@@ -464,6 +476,7 @@ static void find_file(char *file, const char *line, const char *end) {
     const char *space = memrchr(line, ' ', (size_t)(end - line));
     const char *word = space ? space + 1 : line;
     snprintf(file, PATH, "%.*s", (int)(end - word), word);
+    look_in_given(file);
 }
 
 /* The file before a record: its records and classes are those that the line goes on with. The traces of single locks
@@ -592,8 +605,10 @@ int main(int argc, char **argv) {
         refuse("one folder, and not %d; `where --help` says how to call this", argc - 1);
     if (argc > 1 && !read_classes(argv[1]))
         refuse("%s has no recording", argv[1]);
-    if (argc <= 1)
-        read_classes("traces");
+    if (argc > 1)
+        given = argv[1];
+    else
+        read_classes(given);
     look_for_addr2line();
     char *line = NULL;
     size_t room = 0, lines = 0;
