@@ -1,5 +1,5 @@
-# Says of each finding of an explanation by classes what was seen of it between single locks. It reads, each after the word
-# that names it:
+# Says of each finding of an explanation by classes what was seen of it between single locks. It reads, each after the
+# word that names it:
 #
 #   mode=keys       the report by classes
 #   mode=circles    the report by single locks
@@ -42,7 +42,7 @@ mode == "circles" && $1 == "circle" {
     leaving[$2] = leaving[$2] " " count
 }
 
-# The name of a record, which may stand between double quotes; what follows it is left in `rest`.
+# The name of a record, which may be between double quotes; what follows it is left in `rest`.
 function name_of(line,    name, fields) {
     sub(/\r$/, "", line)
     if (line !~ /^...,"/) {
@@ -114,14 +114,15 @@ function note_order(d,    i, writers, key) {
     }
 }
 
-# The name that the recording's traces have for what is called otherwise with more callers. If that isn't one name for each, or a
-# record has no counterpart, nothing can be said.
+# The name that the recording's traces have for what is called otherwise with more callers. If that isn't one name for
+# each, or a record has no counterpart, nothing can be said.
 mode == "names" {
     if (!is_deeper[depth]++) depths[++depth_count] = depth
     if ($1 !~ /^(acq|rel),/) next
     shallow = name_of($1)
     deep = name_of($2)
-    if (substr($1, 1, 4) != substr($2, 1, 4) || ((depth, deep) in shallow_of && shallow_of[depth, deep] != shallow)) is_unlike[depth]
+    if (substr($1, 1, 4) != substr($2, 1, 4)) is_unlike[depth]
+    if ((depth, deep) in shallow_of && shallow_of[depth, deep] != shallow) is_unlike[depth]
     shallow_of[depth, deep] = shallow
 }
 
@@ -211,7 +212,8 @@ function judge(circle, length_of,    threads, rank, locks, line, passes, rest) {
         best_rank = rank
         best_length = length_of
         is_best_sure = rest == ""
-        best_line = (rest == "" ? "" : "perhaps ") "seen between locks: " line (rest == "" ? "" : "; " rest " is several locks")
+        best_line = "seen between locks: " line
+        if (rest != "") best_line = "perhaps " best_line "; " rest " is several locks"
     }
 }
 
@@ -226,8 +228,8 @@ function take(length_of,    i, found, classes) {
     judge(path, length_of)
 }
 
-# Goes on from the last order of the path through locks that aren't on it, until it is back where it began. A circle is found
-# from the order that has the least number of its orders.
+# Goes on from the last order of the path through locks that aren't on it, until it is back where it began. A circle is
+# found from the order that has the least number of its orders.
 function search(length_of,    last, next_orders, n, k, d) {
     if (++steps > MOST_STEPS) return
     last = path[length_of]
@@ -253,7 +255,7 @@ function search_from(d) {
     search(1)
 }
 
-# The circles that the explanation by single locks tells: they may pass a lock twice, which the search doesn't.
+# The circles that the explanation by single locks has: they may pass a lock twice, which the search doesn't.
 function search_blocks(    b, words, n, i, length_of) {
     for (b = 1; b <= blocks; b++) if (is_of_locks[b] && first[b] ~ /^circle /) {
         n = split(first[b], words, " ")
@@ -298,8 +300,8 @@ function end_finding(b) {
     findings++
 }
 
-# The least depth at which the finding is gone, since one of its orders is on no circle any more; 0 if there is none. What was
-# surely seen between single locks is there at each depth.
+# The least depth at which the finding is gone, since one of its orders is on no circle any more; 0 if there is none.
+# What was surely seen between single locks is there at each depth.
 function depth_without(    i, k) {
     for (i = 1; i <= depth_count; i++) if (!(depths[i] in is_unlike))
         for (k = 1; k <= walk_length; k++) if (!((depths[i], wanted[k]) in is_still_there)) return depths[i]

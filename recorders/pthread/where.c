@@ -143,7 +143,7 @@ static void quote(char *to, size_t room, const char *text) {
 
 static bool begins_with(const char *text, const char *start) { return strncmp(text, start, strlen(start)) == 0; }
 
-/* A function of the C++ library or of a header of the system's: where it is in the program tells nothing. */
+/* A function of the C++ library or of a header of the system's: where it is in the program says nothing. */
 static bool is_wrapper(const char *function, const char *line) {
     return begins_with(function, "std::") || begins_with(function, "__gthread") || begins_with(function, "__gnu_cxx::") ||
            begins_with(line, "/usr/include/") || begins_with(line, "/usr/lib/gcc") || strstr(line, "/include/c++/");
