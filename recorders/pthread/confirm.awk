@@ -1,16 +1,21 @@
-# Says of each finding of an explanation by classes what was seen of it between single locks. It reads, each after the word
-# that names it:
+# Says of each finding of an explanation by classes what was seen of it between single locks. It reads, each after the
+# word that names it:
 #
 #   mode=keys       the report by classes
 #   mode=circles    the report by single locks
 #   mode=traces     the traces of single locks, which the checker has accepted
+#   mode=names      for depth=N, each line of the traces by classes beside that of the traces with N callers
+#   mode=deeper     for depth=N, the report with N callers
 #   mode=classes    the explanation by classes
 #   mode=locks      the explanation by single locks
 #
 # With is_strict=1 the status is 1 only if a finding was seen between locks that nothing keeps apart.
 
 # How many steps the search for circles of one finding may take.
-BEGIN { MOST_STEPS = 20000; CONFIRMED = 1; GATED = 2; ALONE = 3; ONLY_CLASSES = 4; WORST = 5 }
+BEGIN { MOST_STEPS = 20000 }
+
+# What is said of a finding, what to look at first coming first.
+BEGIN { CONFIRMED = 1; PERHAPS = 2; GATED = 3; ALONE = 4; ONLY_CLASSES = 5; WRAPPED = 6; WORST = 7 }
 
 # ---- What is read.
 
@@ -37,7 +42,7 @@ mode == "circles" && $1 == "circle" {
     leaving[$2] = leaving[$2] " " count
 }
 
-# The name of a record, which may stand between double quotes; what follows it is left in `rest`.
+# The name of a record, which may be between double quotes; what follows it is left in `rest`.
 function name_of(line,    name, fields) {
     sub(/\r$/, "", line)
     if (line !~ /^...,"/) {
@@ -109,6 +114,22 @@ function note_order(d,    i, writers, key) {
     }
 }
 
+# The name that the recording's traces have for what is called otherwise with more callers. If that isn't one name for
+# each, or a record has no counterpart, nothing can be said.
+mode == "names" {
+    if (!is_deeper[depth]++) depths[++depth_count] = depth
+    if ($1 !~ /^(acq|rel),/) next
+    shallow = name_of($1)
+    deep = name_of($2)
+    if (substr($1, 1, 4) != substr($2, 1, 4)) is_unlike[depth]
+    if ((depth, deep) in shallow_of && shallow_of[depth, deep] != shallow) is_unlike[depth]
+    shallow_of[depth, deep] = shallow
+}
+
+function shallow_key(key) { return shallow_of[depth, substr(key, 1, length(key) - 2)] substr(key, length(key) - 1) }
+
+mode == "deeper" && $1 == "circle" { is_still_there[depth, shallow_key($2) " " $3 " " shallow_key($4)] }
+
 # The blocks of both explanations.
 mode == "classes" || mode == "locks" {
     if ($1 == "findings" || NF == 0) next
@@ -125,11 +146,14 @@ mode == "classes" || mode == "locks" {
 # Whether the second order may follow the first: it begins with the lock that the first waits for, and is blocked there.
 function may_follow(i, j) { return to[i] == from[j] && !(substr(kind[i], 2) == "R" && substr(kind[j], 1, 1) == "S") }
 
+# Whether a name stands for all locks of a class that aren't told apart.
+function is_several(key) { return key ~ /#rest(\^[0-9]+)?\/[0-7]$/ }
+
 # A lock that all orders of a circle are taken under. Locks that share a name are no gate.
 function gate(circle, length_of,    candidates, n, i, k) {
     n = split(gates_of[circle[1]], candidates, " ")
     for (k = 1; k <= n; k++) {
-        if (candidates[k] ~ /#rest(\^[0-9]+)?\/[0-7]$/) continue
+        if (is_several(candidates[k])) continue
         for (i = 1; i <= length_of; i++)
             if (under[circle[i], candidates[k]] != seen[circle[i]] || candidates[k] == from[circle[i]]) break
         if (i > length_of) return candidates[k]
@@ -155,24 +179,27 @@ function plain(key) {
 }
 
 # The locks of a circle, beginning with an order of the class that the finding begins with.
-function locks_of(circle, length_of, begin,    i, start, list, rest, key) {
+function locks_of(circle, length_of, begin,    i, start, list) {
     start = 1
     for (i = 1; i <= length_of; i++) if (class[circle[i]] == begin) { start = i; break }
-    for (i = 0; i < length_of; i++) {
-        key = from[circle[(start - 1 + i) % length_of + 1]]
-        list = list (i ? ", " : "") plain(key)
-        if (key ~ /#rest(\^[0-9]+)?\/[0-7]$/ && !rest) rest = plain(key)
-    }
-    return list (rest ? " (" rest " is several locks)" : "")
+    for (i = 0; i < length_of; i++) list = list (i ? ", " : "") plain(from[circle[(start - 1 + i) % length_of + 1]])
+    return list
+}
+
+# A name on a circle that stands for several locks, if there is one.
+function several(circle, length_of,    i) {
+    for (i = 1; i <= length_of; i++) if (is_several(from[circle[i]])) return plain(from[circle[i]])
+    return ""
 }
 
 # Keeps the line of a circle for the finding if none that is worse was kept.
-function judge(circle, length_of,    threads, rank, locks, line, passes) {
+function judge(circle, length_of,    threads, rank, locks, line, passes, rest) {
     threads = count_tasks(circle, length_of)
     locks = locks_of(circle, length_of, wanted[1])
     passes = gate(circle, length_of)
-    if (length_of == 1 && locks !~ / is several locks/) {
-        rank = CONFIRMED
+    rest = several(circle, length_of)
+    rank = rest == "" ? CONFIRMED : PERHAPS
+    if (length_of == 1 && rest == "") {
         line = locks " under itself, by " threads " thread" (threads == 1 ? "" : "s")
     } else if (passes != "") {
         rank = GATED
@@ -180,14 +207,13 @@ function judge(circle, length_of,    threads, rank, locks, line, passes) {
     } else if (threads <= 1) {
         rank = ALONE
         line = locks ", by one thread"
-    } else {
-        rank = CONFIRMED
-        line = locks ", by " threads " threads"
-    }
+    } else line = locks ", by " threads " threads"
     if (rank < best_rank || (rank == best_rank && length_of < best_length)) {
         best_rank = rank
         best_length = length_of
+        is_best_sure = rest == ""
         best_line = "seen between locks: " line
+        if (rest != "") best_line = "perhaps " best_line "; " rest " is several locks"
     }
 }
 
@@ -202,8 +228,8 @@ function take(length_of,    i, found, classes) {
     judge(path, length_of)
 }
 
-# Goes on from the last order of the path through locks that aren't on it, until it is back where it began. A circle is found
-# from the order that has the least number of its orders.
+# Goes on from the last order of the path through locks that aren't on it, until it is back where it began. A circle is
+# found from the order that has the least number of its orders.
 function search(length_of,    last, next_orders, n, k, d) {
     if (++steps > MOST_STEPS) return
     last = path[length_of]
@@ -229,7 +255,7 @@ function search_from(d) {
     search(1)
 }
 
-# The circles that the explanation by single locks tells: they may pass a lock twice, which the search doesn't.
+# The circles that the explanation by single locks has: they may pass a lock twice, which the search doesn't.
 function search_blocks(    b, words, n, i, length_of) {
     for (b = 1; b <= blocks; b++) if (is_of_locks[b] && first[b] ~ /^circle /) {
         n = split(first[b], words, " ")
@@ -264,6 +290,7 @@ function begin_finding(b) {
     best_rank = WORST
     best_length = 0
     best_line = ""
+    is_best_sure = 0
     read_walk(first[b])
 }
 
@@ -271,6 +298,21 @@ function end_finding(b) {
     rank_of[b] = best_rank
     line_of[b] = best_line
     findings++
+}
+
+# The least depth at which the finding is gone, since one of its orders is on no circle any more; 0 if there is none.
+# What was surely seen between single locks is there at each depth.
+function depth_without(    i, k) {
+    for (i = 1; i <= depth_count; i++) if (!(depths[i] in is_unlike))
+        for (k = 1; k <= walk_length; k++) if (!((depths[i], wanted[k]) in is_still_there)) return depths[i]
+    return 0
+}
+
+function note_depth(    least) {
+    least = is_best_sure ? 0 : depth_without()
+    if (!least) return
+    best_rank = WRAPPED
+    best_line = best_line ", and not if places are " least " callers deep"
 }
 
 # A finding by classes: the worst circle of locks with just its orders.
@@ -285,8 +327,10 @@ function tell_classes(b,    d) {
     if (steps > MOST_STEPS && best_rank != CONFIRMED) {
         best_rank = CONFIRMED
         best_line = "not known whether seen between locks: there are more circles than were looked at"
+        is_best_sure = 0
         for (d = 1; d <= count; d++) if (class[d] in is_wanted) is_told[d] = 1
     }
+    note_depth()
     end_finding(b)
 }
 
@@ -312,9 +356,11 @@ function tell(b) {
             findings++
         }
     } else if (is_refused) {
-        rank_of[b] = CONFIRMED
-        line_of[b] = "not known whether seen between locks: the traces of single locks were refused"
-        findings++
+        begin_finding(b)
+        best_rank = CONFIRMED
+        best_line = "not known whether seen between locks: the traces of single locks were refused"
+        note_depth()
+        end_finding(b)
     } else if (is_of_locks[b]) tell_locks(b)
     else tell_classes(b)
 }
@@ -322,7 +368,7 @@ function tell(b) {
 END {
     for (b = 1; b <= blocks; b++) tell(b)
     print "findings " findings + 0
-    for (rank = CONFIRMED; rank <= ONLY_CLASSES; rank++)
+    for (rank = CONFIRMED; rank < WORST; rank++)
         for (b = 1; b <= blocks; b++) if (rank_of[b] == rank) {
             printf "\n%s", text[b]
             if (line_of[b] != "") print "  " line_of[b]

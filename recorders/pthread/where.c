@@ -143,7 +143,7 @@ static void quote(char *to, size_t room, const char *text) {
 
 static bool begins_with(const char *text, const char *start) { return strncmp(text, start, strlen(start)) == 0; }
 
-/* A function of the C++ library or of a header of the system's: where it is in the program tells nothing. */
+/* A function of the C++ library or of a header of the system's: where it is in the program says nothing. */
 static bool is_wrapper(const char *function, const char *line) {
     return begins_with(function, "std::") || begins_with(function, "__gthread") || begins_with(function, "__gnu_cxx::") ||
            begins_with(line, "/usr/include/") || begins_with(line, "/usr/lib/gcc") || strstr(line, "/include/c++/");
@@ -424,7 +424,7 @@ static void note_record(const char *trace, unsigned long number) {
     free(place.bytes);
 }
 
-/* The number behind `record `, if the text goes on with one. */
+/* The number after `record `, if the text goes on with one. */
 static bool is_record(const char *text, unsigned long *number, size_t *length) {
     if (strncmp(text, "record ", 7) != 0 || text[7] < '0' || text[7] > '9')
         return false;
@@ -444,10 +444,45 @@ static void folder_of(char *to, const char *file) {
         strcpy(to, ".");
 }
 
-/* The file in front of a record: its records and classes are those that the line goes on with. The traces of single locks
+/* Whether there is a trace of this name, or places of one. */
+static bool is_trace(const char *file) {
+    char places[PATH + 16];
+    snprintf(places, sizeof places, "%s.places", file);
+    return access(places, F_OK) == 0 || access(file, F_OK) == 0;
+}
+
+/* The folder that was given on the command line. */
+static const char *given = "traces";
+
+/* The given folder's trace of this name, if it has one: the text may come from somewhere else. */
+static void look_in_given(char *file) {
+    char folder[PATH], there[3 * PATH];
+    folder_of(folder, file);
+    snprintf(there, sizeof there, "%s%s/%s", given, strcmp(base_of(folder), "objects") == 0 ? "/objects" : "", base_of(file));
+    if (strlen(there) < PATH && is_trace(there))
+        strcpy(file, there);
+}
+
+/* The file's name before a record, which ends at `end` and may have spaces: the longest that there is. If there is none, the last
+   word is looked for in the given folder. */
+static void find_file(char *file, const char *line, const char *end) {
+    for (const char *from = line + strspn(line, " "); from < end; from++) {
+        if (from != line && from[-1] != ' ')
+            continue;
+        snprintf(file, PATH, "%.*s", (int)(end - from), from);
+        if (is_trace(file))
+            return;
+    }
+    const char *space = memrchr(line, ' ', (size_t)(end - line));
+    const char *word = space ? space + 1 : line;
+    snprintf(file, PATH, "%.*s", (int)(end - word), word);
+    look_in_given(file);
+}
+
+/* The file before a record: its records and classes are those that the line goes on with. The traces of single locks
    are in a folder of the recording's. */
-static void take_file(char *file, const char *word) {
-    snprintf(file, PATH, "%s", word);
+static void take_file(char *file, const char *line, const char *end) {
+    find_file(file, line, end);
     char folder[PATH], outside[PATH];
     folder_of(folder, file);
     read_classes(folder);
@@ -468,7 +503,7 @@ static void note_word(char *word) {
     }
 }
 
-/* Goes through the words of a line: the file in front of a record, the record, or a class with its subclass. */
+/* Goes through the words of a line: the file before a record, the record, or a class with its subclass. */
 static void note_line(const char *line) {
     char file[PATH] = "", word[PATH];
     const char *p = line;
@@ -490,8 +525,7 @@ static void note_line(const char *line) {
         p += length;
         size_t ignored;
         if (word[length - 1] == ':' && is_record(p + (*p == ' '), &number, &ignored)) {
-            word[length - 1] = 0;
-            take_file(file, word);
+            take_file(file, line, p - 1);
         } else {
             note_word(word);
         }
@@ -571,8 +605,10 @@ int main(int argc, char **argv) {
         refuse("one folder, and not %d; `where --help` says how to call this", argc - 1);
     if (argc > 1 && !read_classes(argv[1]))
         refuse("%s has no recording", argv[1]);
-    if (argc <= 1)
-        read_classes("traces");
+    if (argc > 1)
+        given = argv[1];
+    else
+        read_classes(given);
     look_for_addr2line();
     char *line = NULL;
     size_t room = 0, lines = 0;
