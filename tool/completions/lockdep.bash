@@ -26,7 +26,7 @@ _lockdep() {
             return
             ;;
         run | record)
-            # After `--`, or the first word that is neither an option nor an option's value, there is a command.
+            # What comes after `--`, or from the first word on that is neither an option nor an option's value, is a command.
             for ((place = 2; place < COMP_CWORD; place++)); do
                 case ${COMP_WORDS[place]} in
                     --)
@@ -38,7 +38,7 @@ _lockdep() {
                     *) break ;;
                 esac
             done
-            if [ "$place" -lt "$COMP_CWORD" ] || [ "${COMP_WORDS[place - 1]}" = -- ]; then
+            if [ "$place" -lt "$COMP_CWORD" ] || { [ "$place" -eq "$COMP_CWORD" ] && { [[ $word != -* ]] || [ "$before" = -- ]; }; }; then
                 if declare -F _command_offset >/dev/null; then
                     _command_offset "$place"
                 else
