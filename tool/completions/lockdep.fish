@@ -41,3 +41,6 @@ complete -c lockdep -n '__lockdep_in record' -l summary -x -a '(__fish_complete_
 
 complete -c lockdep -n '__lockdep_in confirm' -l strict -d 'Status 1 only for what was seen between locks'
 complete -c lockdep -n '__lockdep_in confirm where' -f -a '(__fish_complete_directories)'
+
+# The command that is recorded, and its words.
+complete -c lockdep -n '__lockdep_in run record' -x -a '(__fish_complete_subcommand --fcs-skip=2)'
