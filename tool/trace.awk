@@ -186,12 +186,50 @@ function tell_all() {
 
 # ---- The file, a line at a time.
 
+# Begins a record with this line.
+function begin() {
+    record++
+    split("", fields)
+    count = 0
+    field = ""
+    state = "start"
+    first = NR
+    text = line
+}
+
+# Sets the fields of a record that is this line alone and was met before, which saves looking at each of its characters: traces repeat
+# themselves. No field of an accepted record has a SUBSEP in it.
+function is_repeated() {
+    if (!(line in kept)) return 0
+    count = split(kept[line], fields, SUBSEP)
+    return 1
+}
+
+function keep(    i, all) {
+    if (kept_count++ >= 10000) return
+    all = fields[1]
+    for (i = 2; i <= count; i++) all = all SUBSEP fields[i]
+    kept[line] = all
+}
+
+# Takes in the line, which has double quotes or stands between some. Returns whether it ends a record.
+function ends_record() {
+    take(line)
+    is_open = state == "quoted"
+    if (is_open) {
+        if (ends_with_cr) field = field "\r"
+        return 0
+    }
+    fields[++count] = field
+    if (record < number && first == NR) keep()
+    return 1
+}
+
 BEGIN {
     RS = "\n"
     FS = "\001"
     for (i = 1; i < 256; i++) number_of[sprintf("%c", i)] = i
-    record = 0
-    is_open = 0
+    needs_events = substr(code, 1, 1) == "S"
 }
 
 NR == 1 && substr($0, 1, 3) == "\357\273\277" { $0 = substr($0, 4) }
@@ -200,33 +238,19 @@ NR == 1 && substr($0, 1, 3) == "\357\273\277" { $0 = substr($0, 4) }
     line = $0
     if (index(line, "\r") && index(line, "\r") < length(line)) exit
     ends_with_cr = sub(/\r$/, "", line)
-    if (!is_open) {
-        if (line == "") next
-        record++
-        split("", fields)
-        count = 0
-        field = ""
-        state = "start"
-        first = NR
-        text = line
-    } else {
+    if (is_open) {
         field = field "\n"
         text = text "\n" line
-    }
-    if (!is_open && !index(line, "\"")) {
-        count = split(line, fields, ",")
+        if (!ends_record()) next
     } else {
-        take(line)
-        is_open = state == "quoted"
-        if (is_open) {
-            if (ends_with_cr) field = field "\r"
-            next
-        }
-        fields[++count] = field
+        if (line == "") next
+        begin()
+        if (!index(line, "\"")) count = split(line, fields, ",")
+        else if (!is_repeated() && !ends_record()) next
     }
     last = NR
     if (record < number) {
-        if (substr(code, 1, 1) == "S" && record > 1) step()
+        if (needs_events && record > 1) step()
         next
     }
     tell_all()
