@@ -11,8 +11,6 @@ mod chains;
 mod fault;
 mod journal;
 mod locked;
-#[cfg(test)]
-mod tests;
 
 pub use book::{Book, News, Totals};
 pub use fault::BookFault;

@@ -2,7 +2,5 @@
 #![tactic(auto)]
 
 mod origins;
-#[cfg(test)]
-mod tests;
 
 pub use origins::{Origin, Origins};

@@ -16,8 +16,8 @@ use ld_trace::Irq;
 use std::alloc::{AllocError, Global};
 
 impl Graph {
-    // The facts that are about keys of the list alone, each key by its place there. It fails only where memory is refused.
-    pub(crate) fn of_keys(alloc: Global, facts: &Facts, keys: &[u16]) -> Result<Graph, AllocError>
+    /// The facts that are about keys of the list alone, each key by its place there. It fails only if memory is refused.
+    pub fn of_keys(alloc: Global, facts: &Facts, keys: &[u16]) -> Result<Graph, AllocError>
         requires few { length keys.now ≤ MAX_KEYS }
         ensures keys { IfOk result (λ g. g.facts.keys ≡ length keys.now) }
         ensures facts { IfOk result (λ g.

@@ -9,18 +9,14 @@ use std::alloc::{AllocError, Global};
 
 // Ranks by which no arrow of the facts goes down, numbered from 0 on. Keys that arrows lead round between have one rank.
 // Neighbouring parts are put together as long as they have at most 256 keys, so that there are few ranks: one for at most
-// 256 keys, and at most 63 for 8,192 where no part has more than 256. It fails only where memory is refused. No contract
+// 256 keys, and at most 63 for 8,192 where no part has more than 256. It fails only if memory is refused. No contract
 // says what is found: a caller asks `are_ranked`.
-pub(crate) fn find_ranks(alloc: Global, facts: &Facts) -> Result<Ranks, AllocError> {
+pub fn find_ranks(alloc: Global, facts: &Facts) -> Result<Ranks, AllocError> {
     find_ranks_of(alloc, facts, usize::from(MAX_KEYS))
 }
 
-// Such ranks, where parts with at most so many keys are put together.
-pub(crate) fn find_ranks_of(
-    alloc: Global,
-    facts: &Facts,
-    most: usize,
-) -> Result<Ranks, AllocError> {
+// Such ranks, if parts with at most `most` keys are put together.
+pub fn find_ranks_of(alloc: Global, facts: &Facts, most: usize) -> Result<Ranks, AllocError> {
     let keys = usize::from(facts.keys());
     let mut ranking = Ranking {
         ranks: vec![in alloc; 0; keys]?,

@@ -39,8 +39,8 @@ impl Ranks {
         })
     }
 
-    // These ranks, in the order of the keys.
-    pub(crate) fn of(ranks: Vec<u16>) -> Ranks
+    /// These ranks, in the order of the keys.
+    pub fn of(ranks: Vec<u16>) -> Ranks
         ensures { result ≡ ranks.items }
     {
         Ranks { ranks }

@@ -4,8 +4,6 @@
 mod adding;
 mod board;
 mod board_fault;
-#[cfg(test)]
-mod board_tests;
 mod condense_fault;
 mod condensing;
 mod fault;
@@ -15,8 +13,6 @@ mod seat;
 mod settled;
 mod survey_fault;
 mod surveys;
-#[cfg(test)]
-mod tests;
 mod view;
 mod worker;
 

@@ -8,7 +8,7 @@ use Rattle.lockdep.specs.Condensed.{IsCondensedText}
 use Rattle.lockdep.specs.Faults.{IsBeforeWriting, StopsSettled}
 use Rattle.lockdep.specs.declared.fault.ReportFault.{ReportFault}
 use Rattle.lockdep.specs.declared.fault.ReportFault.TheVariants.{Step, Run, Survey, Condensing, Out}
-use Rattle.lockdep.specs.declared.fault.WriteFault.TheVariants.{Failed, Stuck, Memory}
+use Rattle.ld_text.specs.declared.write_fault.WriteFault.TheVariants.{Failed, Stuck, Memory}
 use Rattle.lockdep.specs.declared.wanted.Wanted.TheVariants.{Condensed}
 
 -- a trace that has the one has the other

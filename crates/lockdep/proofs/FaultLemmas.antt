@@ -1,8 +1,8 @@
--- What a refused write leaves.
+-- What a refused text leaves.
 use Rattle.std.proofs.Common.{◌≡◌, ◌<◌, ◌≤◌, ◌↔◌, ℕ, Bool, List, Option, Result, All, Ok, Err, OnOk, OnErr, IfErr, IsErrOf, length, refl, subst, sym, arith}
 use Rattle.std.specs.Bool.{⊤}
 use Rattle.std.specs.Io.KnownBytes.{Appends}
-use Rattle.clap.specs.Words.{Text}
+use Rattle.ld_text.specs.Words.{Text}
 use Rattle.ld_trace.specs.Names.{Name}
 use Rattle.ld_trace.specs.declared.event.Event.{Event}
 use Rattle.ld_task.specs.WellFormed.{IsWellFormed}
@@ -11,24 +11,12 @@ use Rattle.ld_run.specs.declared.runs.TheConstants.{MAX_TRACES}
 use Rattle.ld_run.specs.declared.fault.RunFault.TheVariants as run
 use Rattle.lockdep.specs.declared.fault.ReportFault.{ReportFault}
 use Rattle.lockdep.specs.declared.fault.ReportFault.TheVariants.{Step, Run, Survey, Condensing, Out}
-use Rattle.lockdep.specs.declared.fault.WriteFault.{WriteFault}
-use Rattle.lockdep.specs.declared.fault.WriteFault.TheVariants.{Failed, Stuck, Memory}
-use Rattle.lockdep.specs.Faults.{StopsReport, StopsSettled, StopsText, StopsWriting, out_of}
-use Rattle.lockdep.specs.Output.{AppendsBeginning}
+use Rattle.ld_text.specs.declared.write_fault.WriteFault.{WriteFault}
+use Rattle.lockdep.specs.Faults.{StopsReport, StopsSettled, StopsText, out_of}
+use Rattle.ld_text.specs.WriteFaults.{StopsWriting}
+use Rattle.ld_text.proofs.WriteFaultLemmas.{StopsWriting-same}
 use Rattle.lockdep.specs.Texts.{IsTextOf}
 use Rattle.lockdep.specs.declared.wanted.Wanted.{Wanted}
-
-pub StopsWriting-begun : {T : Type 0} (IsText : List ℕ → Type 0) (old new : Option (List ℕ)) (text : List ℕ) (r : Result T WriteFault) → IsText text → ¬ (r ≡ Err Memory) → OnErr r (AppendsBeginning old new text) → IfErr r (StopsWriting IsText old new)
-StopsWriting-begun IsText old new text (Ok x) is_text never begun = tt
-StopsWriting-begun IsText old new text (Err Failed) is_text never begun = (text, is_text, begun)
-StopsWriting-begun IsText old new text (Err Stuck) is_text never begun = (text, is_text, begun)
-StopsWriting-begun IsText old new text (Err Memory) is_text never begun = absurd (never refl)
-
--- texts of which the same is said
-pub StopsWriting-same : (A B : List ℕ → Type 0) → ((text : List ℕ) → A text → B text) → (old new : Option (List ℕ)) (fault : WriteFault) → StopsWriting A old new fault → StopsWriting B old new fault
-StopsWriting-same A B same old new Failed (text, is_text, begun) = (text, same text is_text, begun)
-StopsWriting-same A B same old new Stuck (text, is_text, begun) = (text, same text is_text, begun)
-StopsWriting-same A B same old new Memory kept = kept
 
 pub StopsSettled-same : (wanted : Wanted) (A B : List ℕ → Type 0) → ((text : List ℕ) → A text → B text) → (old new : Option (List ℕ)) (fault : ReportFault) → StopsSettled wanted A old new fault → StopsSettled wanted B old new fault
 StopsSettled-same wanted A B same old new (Step trace at fault) stops = absurd stops

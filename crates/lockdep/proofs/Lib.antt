@@ -1,16 +1,3 @@
-pub mod OutputLemmas
-pub mod OrderLemmas
-pub mod GroupLemmas
-pub mod BecauseLemmas
-pub mod ChainLemmas
 pub mod CondensedLemmas
-pub mod ReportLemmas
-pub mod ExplanationLemmas
-pub mod PictureLemmas
 pub mod FaultLemmas
-pub mod LineLemmas
 pub mod ProgramLemmas
-pub mod TellingLemmas
-pub mod LeafLemmas
-pub mod PictureGrowing
-pub mod EndLemmas

@@ -1,6 +1,6 @@
 -- Which traces a refusal names.
 use Rattle.std.proofs.Common.{◌≡◌, ◌==◌, true, Result, Ok, Err, IfErr, IsErr, IsErrAnd, ℕ, zero, suc, ◌<◌, List, [], ◌∷◌, Option, None, Bor, Contains, codes, length, map, slice_index_or, refl, sym, subst, arith, inl, inr}
-use Rattle.clap.specs.Words.{Text}
+use Rattle.ld_text.specs.Words.{Text}
 use Rattle.ld_trace.specs.Names.{Name}
 use Rattle.lockdep.specs.Program.{IsReadingRefusal, StopsReading}
 use Rattle.lockdep.specs.declared.refusal.Refusal.{Refusal}

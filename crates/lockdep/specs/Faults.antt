@@ -1,16 +1,16 @@
--- The codes of refused writes, and what a refused report leaves [this project's own].
+-- What a refused text leaves [this project's own].
 use Rattle.std.specs.Prelude.{◌≡◌, ◌+◌, ◌<◌, ◌≤◌, ⊤, ℕ, List, [], Option, Result, Ok, Err, codes, All, length}
 use Rattle.std.specs.Io.KnownBytes.{Keeps}
-use Rattle.clap.specs.Words.{Text}
+use Rattle.ld_text.specs.Words.{Text}
 use Rattle.ld_trace.specs.Names.{Name}
 use Rattle.ld_trace.specs.declared.event.Event.{Event}
 use Rattle.ld_task.specs.WellFormed.{IsWellFormed}
-use Rattle.lockdep.specs.Output.{AppendsBeginning}
+use Rattle.ld_text.specs.WriteFaults.{StopsWriting}
 use Rattle.lockdep.specs.Texts.{IsTextOf}
 use Rattle.lockdep.specs.declared.wanted.Wanted.{Wanted}
 use Rattle.lockdep.specs.declared.wanted.Wanted.TheVariants.{Report, Condensed}
-use Rattle.lockdep.specs.declared.fault.WriteFault.{WriteFault}
-use Rattle.lockdep.specs.declared.fault.WriteFault.TheVariants.{Failed, Stuck, Memory}
+use Rattle.ld_text.specs.declared.write_fault.WriteFault.{WriteFault}
+use Rattle.ld_text.specs.declared.write_fault.WriteFault.TheVariants.{Memory}
 use Rattle.ld_run.specs.Runs.{IsCrew, StopsRun}
 use Rattle.ld_run.specs.declared.runs.TheConstants.{MAX_TRACES}
 use Rattle.ld_run.specs.declared.fault.RunFault.{RunFault}
@@ -21,18 +21,6 @@ use Rattle.ld_run.specs.Surveys.{StopsSurvey}
 use Rattle.ld_run.specs.declared.survey_fault.SurveyFault.{SurveyFault}
 use Rattle.ld_run.specs.declared.survey_fault.SurveyFault.TheVariants as survey
 use Rattle.ld_trace.specs.declared.key_id.TheConstants.{MAX_KEYS}
-
--- the number and name of a refused write
-abbrev pub write_code_of : WriteFault → List ℕ
-write_code_of Failed = codes "O1 Failed"
-write_code_of Stuck = codes "O2 Stuck"
-write_code_of Memory = codes "O3 Memory"
-
--- writing a text that is as said stopped so: a beginning of one was written, or nothing, where memory was refused
-abbrev pub StopsWriting : (List ℕ → Type 0) → Option (List ℕ) → Option (List ℕ) → WriteFault → Type 0
-StopsWriting IsText old new Failed = (text : List ℕ) × IsText text × AppendsBeginning old new text
-StopsWriting IsText old new Stuck = (text : List ℕ) × IsText text × AppendsBeginning old new text
-StopsWriting IsText old new Memory = Keeps old new
 
 -- a refused write, as the refusal of a text
 abbrev pub out_of : Result ⊤ WriteFault → Result ⊤ ReportFault

@@ -1,4 +1,1 @@
-pub mod Ends
 pub mod Sources
-pub mod Telling
-pub mod Turning

@@ -1,16 +1,7 @@
-pub mod ChainLines
-pub mod CommandLine
 pub mod Condensed
-pub mod Explanation
 pub mod FaultLines
 pub mod Faults
-pub mod Groups
 pub mod Inside
-pub mod Order
-pub mod Output
-pub mod Picture
 pub mod Program
-pub mod Report
 pub mod Sessions
 pub mod Texts
-pub mod Words

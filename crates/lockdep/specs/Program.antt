@@ -10,22 +10,22 @@ use Rattle.ld_task.specs.WellFormed.{IsFirstFault, IsWellFormed}
 use Rattle.ld_graph.specs.Links.{IsClean}
 use Rattle.ld_run.specs.Runs.{IsCrew}
 use Rattle.ld_run.specs.declared.runs.TheConstants.{MAX_TRACES}
-use Rattle.clap.specs.Words.{Text}
-use Rattle.lockdep.specs.ChainLines.{chains_text}
-use Rattle.lockdep.specs.CommandLine.{AskForText, IsLineOf}
+use Rattle.ld_text.specs.Words.{Text}
+use Rattle.ld_text.specs.ChainLines.{chains_text}
+use Rattle.ld_words.specs.CommandLine.{AskForText, IsLineOf}
 use Rattle.lockdep.specs.Faults.{StopsText}
-use Rattle.lockdep.specs.Output.{AppendsBeginning}
+use Rattle.ld_text.specs.Output.{AppendsBeginning}
 use Rattle.lockdep.specs.Texts.{IsTextOf}
-use Rattle.lockdep.specs.Words.{file_at}
+use Rattle.ld_text.specs.Words.{file_at}
 use Rattle.ld_run.specs.TraceFacts.{TracesHave}
-use Rattle.lockdep.specs.declared.command_line.Line.{Line}
-use Rattle.lockdep.specs.declared.command_line.Line.TheVariants.{Check, Chains, Condense, Explain, Graph}
+use Rattle.ld_words.specs.declared.words.Line.{Line}
+use Rattle.ld_words.specs.declared.words.Line.TheVariants.{Check, Chains, Condense, Explain, Graph}
 use Rattle.lockdep.specs.declared.wanted.Wanted.{Wanted}
 use Rattle.lockdep.specs.declared.wanted.Wanted.TheVariants.{Report, Explanation, Picture, Condensed}
 use Rattle.lockdep.specs.declared.fault.ReportFault.{ReportFault}
 use Rattle.lockdep.specs.declared.fault.ReportFault.TheVariants as report
-use Rattle.lockdep.specs.declared.fault.WriteFault.{WriteFault}
-use Rattle.lockdep.specs.declared.fault.WriteFault.TheVariants as write
+use Rattle.ld_text.specs.declared.write_fault.WriteFault.{WriteFault}
+use Rattle.ld_text.specs.declared.write_fault.WriteFault.TheVariants as write
 use Rattle.lockdep.specs.declared.refusal.Refusal.{Refusal}
 use Rattle.lockdep.specs.declared.refusal.Refusal.TheVariants.{BadCommandLine, CannotOpen, Output, Memory, Reading, Step, Run, Survey, Condensing}
 

@@ -1,12 +1,12 @@
 -- The texts that are written of all traces together [this project's own].
 use Rattle.std.specs.Prelude.{ℕ, List}
-use Rattle.clap.specs.Words.{Text}
+use Rattle.ld_text.specs.Words.{Text}
 use Rattle.ld_trace.specs.Names.{Name}
 use Rattle.ld_trace.specs.declared.event.Event.{Event}
 use Rattle.lockdep.specs.Condensed.{IsCondensedOf}
-use Rattle.lockdep.specs.Explanation.{IsExplanationOf}
-use Rattle.lockdep.specs.Picture.{IsPictureOf}
-use Rattle.lockdep.specs.Report.{IsReportOf}
+use Rattle.ld_text.specs.Explanation.{IsExplanationOf}
+use Rattle.ld_text.specs.Picture.{IsPictureOf}
+use Rattle.ld_text.specs.Report.{IsReportOf}
 use Rattle.lockdep.specs.declared.wanted.Wanted.{Wanted}
 use Rattle.lockdep.specs.declared.wanted.Wanted.TheVariants.{Report, Explanation, Picture, Condensed}
 

@@ -7,10 +7,9 @@ ghost use Rattle.lockdep.specs.Condensed.{IsCondensedText};
 ghost use Rattle.lockdep.specs.Faults.{IsBeforeWriting, StopsSettled};
 ghost use Rattle.lockdep.specs.declared.wanted.Wanted.{Wanted};
 
-use crate::fault::{ReportFault, WriteFault};
-use crate::order::sorted_keys;
-use crate::output::write_text;
+use crate::fault::ReportFault;
 use ld_run::{Settled, condense};
+use ld_text::{WriteFault, sorted_keys, write_text};
 use ld_trace::{KeyTable, trace_text};
 use std::alloc::Global;
 use std::io::Write;

@@ -7,25 +7,15 @@ use std::alloc::{AllocError, Global};
 use std::process::ExitCode;
 use std::{env, io};
 
-mod because;
-mod chains_text;
-mod command_line;
 mod condensed;
-mod explanation;
 mod fault;
-mod line_ends;
-mod order;
-mod output;
-mod picture;
 mod program;
 mod refusal;
-mod report;
 mod session;
 mod source;
 #[cfg(test)]
 mod tests;
 mod wanted;
-mod words;
 
 use program::program;
 use refusal::{Refusal, refuse};

@@ -4,13 +4,11 @@ ghost use Rattle.std.specs.Prelude.{◌≡◌, ◌+◌, ◌++◌, OnOk, OnErr, L
 ghost use Rattle.std.specs.List.{flat_map};
 ghost use Rattle.std.specs.Io.KnownBytes.{Appends};
 ghost use Rattle.lockdep.specs.FaultLines.{fault_line, record_line};
-ghost use Rattle.lockdep.specs.Output.{AppendsBeginning, PutsBehind};
+ghost use Rattle.ld_text.specs.Output.{AppendsBeginning, PutsBehind};
 
-use crate::fault::WriteFault;
-use crate::output::write_texts;
-use crate::words::digits_of;
 use ld_run::{CondenseFault, RunFault, SurveyFault};
 use ld_task::StepFault;
+use ld_text::{WriteFault, digits_of, write_texts};
 use ld_trace::TraceFault;
 use std::io::Write;
 

@@ -14,21 +14,19 @@ ghost use Rattle.ld_run.specs.Surveys.{StopsSurvey};
 ghost use Rattle.ld_graph.specs.FactBits.{HasFact};
 ghost use Rattle.ld_graph.specs.Facts.{AreSame};
 ghost use Rattle.lockdep.specs.Condensed.{IsCondensedOf};
-ghost use Rattle.lockdep.specs.Explanation.{IsExplanationOf};
+ghost use Rattle.ld_text.specs.Explanation.{IsExplanationOf};
 ghost use Rattle.lockdep.specs.Faults.{StopsReport, StopsSettled, StopsText, out_of};
-ghost use Rattle.lockdep.specs.Picture.{IsPictureOf};
-ghost use Rattle.lockdep.specs.Report.{IsReportOf};
+ghost use Rattle.ld_text.specs.Picture.{IsPictureOf};
+ghost use Rattle.ld_text.specs.Report.{IsReportOf};
 ghost use Rattle.lockdep.specs.Texts.{IsTextOf};
 ghost use Rattle.lockdep.specs.declared.wanted.Wanted.{Wanted};
 ghost use Rattle.ld_run.specs.TraceFacts.{TracesHave};
 
 use crate::condensed::write_condensed;
-use crate::explanation::write_explanation;
-use crate::fault::{ReportFault, WriteFault};
-use crate::picture::write_picture;
-use crate::report::{event_count, write_report};
+use crate::fault::ReportFault;
 use crate::wanted::Wanted;
 use ld_run::{Gate, MAX_TRACES, MAX_WORKERS, RunFault, Settled, SurveyFault, run, survey};
+use ld_text::{WriteFault, event_count, write_explanation, write_picture, write_report};
 use ld_trace::{
     KeyFault, KeyTable, MAX_KEYS, MAX_MANY, RawTrace, TraceFault, TraceFaultKind, read_trace,
 };

@@ -3,7 +3,6 @@
 mod chains;
 mod gates;
 mod helpers;
-mod lines;
 mod long;
 mod programs;
 mod refusals;

@@ -1,10 +1,9 @@
 //! The chains of small traces, each on writers that fail at each call and on one that doesn't.
 
-use crate::chains_text::write_chains;
-use crate::fault::WriteFault;
 use crate::tests::helpers::trace_text;
 use crate::tests::writers::{FAILURES, Narrow};
 use ld_task::check;
+use ld_text::{WriteFault, write_chains};
 use ld_trace::{KeyTable, read_trace};
 use std::alloc::Global;
 use std::io;

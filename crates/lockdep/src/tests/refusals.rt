@@ -1,12 +1,12 @@
 //! Traces that are refused in reading, and what is said of each refusal.
 
-use crate::fault::WriteFault;
 use crate::refusal::{Refusal, refuse};
 use crate::session::Session;
 use crate::tests::helpers::{assert_text, text_in};
 use crate::wanted::Wanted;
 use ld_run::RunFault;
 use ld_task::StepFault;
+use ld_text::WriteFault;
 use ld_trace::{TraceFault, TraceFaultKind};
 use std::test::Fail;
 

@@ -1,10 +1,10 @@
 //! What a refused request for memory, or for a thread, leaves. In an ordinary run none is refused: `tests/sweep` runs each of
 //! these tests with its first request refused, its second, and so on, and counts the lines that they print.
 
-use crate::fault::{ReportFault, WriteFault};
-use crate::report::write_report;
+use crate::fault::ReportFault;
 use crate::session::Session;
 use ld_run::{OpenGate, RunFault, Settled, run};
+use ld_text::{WriteFault, write_report};
 use ld_trace::{KeyTable, RawTrace, read_trace};
 use std::alloc::Global;
 use std::io;

@@ -1,8 +1,9 @@
 //! A writer that takes one byte a call and fails at one.
 
-use crate::fault::{ReportFault, WriteFault};
+use crate::fault::ReportFault;
 use crate::tests::helpers::session_of;
 use ld_run::OpenGate;
+use ld_text::WriteFault;
 use std::alloc::Global;
 use std::io;
 use std::io::Write;

@@ -1,6 +1,6 @@
 use Rattle.std.proofs.Common.{IfOk, subst, sym}
 use Rattle.lockdep.specs.Program.{DoesLine}
-use Rattle.lockdep.specs.declared.command_line.Line.{Line}
+use Rattle.ld_words.specs.declared.words.Line.{Line}
 use Rattle.lockdep.proofs.program.answer_line.Goals as goal
 
 pub returns-in-Check-clause-ok : goal.returns-in-Check-clause-ok

@@ -1,6 +1,6 @@
 use Rattle.ld_graph.specs.FactBits.{HasFact}
 use Rattle.ld_run.specs.TraceFacts.{TracesHave}
-use Rattle.lockdep.proofs.ReportLemmas.{clean_is-same}
+use Rattle.ld_text.proofs.ReportLemmas.{clean_is-same}
 use Rattle.lockdep.proofs.session.write_settled.Goals as goal
 
 pub returns-in-Ok-clause-ok : goal.returns-in-Ok-clause-ok

@@ -4,18 +4,18 @@ use Rattle.std.specs.Io.KnownBytes.{Appends}
 use Rattle.ld_graph.specs.FactBits.{HasFact}
 use Rattle.ld_run.specs.TraceFacts.{TracesHave}
 use Rattle.lockdep.specs.Condensed.{IsCondensedOf, IsCondensedText}
-use Rattle.lockdep.specs.Explanation.{IsExplanation, IsExplanationOf, Told}
+use Rattle.ld_text.specs.Explanation.{IsExplanation, IsExplanationOf, Told}
 use Rattle.lockdep.specs.Faults.{StopsSettled}
-use Rattle.lockdep.specs.Picture.{IsPicture, IsPictureOf}
-use Rattle.lockdep.specs.Report.{IsReport, IsReportOf}
+use Rattle.ld_text.specs.Picture.{IsPicture, IsPictureOf}
+use Rattle.ld_text.specs.Report.{IsReport, IsReportOf}
 use Rattle.lockdep.specs.Texts.{IsTextOf}
 use Rattle.lockdep.specs.declared.wanted.Wanted.{Wanted}
 use Rattle.lockdep.specs.declared.wanted.Wanted.TheVariants.{Report, Explanation, Picture, Condensed}
 use Rattle.lockdep.proofs.CondensedLemmas.{IsCondensedText-same}
-use Rattle.lockdep.proofs.ExplanationLemmas.{IsExplanation-same}
+use Rattle.ld_text.proofs.ExplanationLemmas.{IsExplanation-same}
 use Rattle.lockdep.proofs.FaultLemmas.{StopsSettled-same, written-err, written-ok}
-use Rattle.lockdep.proofs.PictureLemmas.{IsPicture-same}
-use Rattle.lockdep.proofs.ReportLemmas.{IsReport-same}
+use Rattle.ld_text.proofs.PictureLemmas.{IsPicture-same}
+use Rattle.ld_text.proofs.ReportLemmas.{IsReport-same}
 use Rattle.lockdep.proofs.session.write_text_of.Goals as goal
 
 pub returns-in-Report-clause-ok : goal.returns-in-Report-clause-ok

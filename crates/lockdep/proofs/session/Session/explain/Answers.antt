@@ -2,7 +2,7 @@ use Rattle.std.proofs.Common.{◌↔◌, List, ℕ, All, IfOk, IsTrue, map, subs
 use Rattle.std.specs.Io.KnownBytes.{Appends}
 use Rattle.ld_task.specs.WellFormed.{IsWellFormed}
 use Rattle.ld_graph.specs.Links.{IsClean}
-use Rattle.lockdep.specs.Explanation.{IsExplanationOf}
+use Rattle.ld_text.specs.Explanation.{IsExplanationOf}
 use Rattle.lockdep.specs.Sessions.{SessionParts}
 use Rattle.ld_run.specs.TraceFacts.{TracesHave}
 use Rattle.lockdep.proofs.session.Session.explain.Goals as goal

@@ -2,7 +2,7 @@ use Rattle.std.proofs.Common.{◌↔◌, List, ℕ, All, IfOk, IsTrue, subst}
 use Rattle.std.specs.Io.KnownBytes.{Appends}
 use Rattle.ld_task.specs.WellFormed.{IsWellFormed}
 use Rattle.ld_graph.specs.Links.{IsClean}
-use Rattle.lockdep.specs.Picture.{IsPictureOf}
+use Rattle.ld_text.specs.Picture.{IsPictureOf}
 use Rattle.lockdep.specs.Sessions.{SessionParts}
 use Rattle.ld_run.specs.TraceFacts.{TracesHave}
 use Rattle.lockdep.proofs.session.Session.graph.Goals as goal

@@ -3,7 +3,7 @@ use Rattle.std.specs.Io.KnownBytes.{Appends}
 use Rattle.ld_task.specs.WellFormed.{IsWellFormed}
 use Rattle.ld_graph.specs.Links.{IsClean}
 use Rattle.lockdep.specs.Faults.{StopsReport}
-use Rattle.lockdep.specs.Report.{IsReportOf}
+use Rattle.ld_text.specs.Report.{IsReportOf}
 use Rattle.lockdep.specs.Sessions.{SessionParts}
 use Rattle.ld_run.specs.TraceFacts.{TracesHave}
 use Rattle.ld_run.specs.Runs.{IsCrew}

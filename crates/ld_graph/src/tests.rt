@@ -1,9 +1,0 @@
-//! What graphs say of small traces.
-
-mod facts;
-mod finds;
-mod large;
-mod ranks;
-mod steps;
-mod stories;
-mod want_of_memory;

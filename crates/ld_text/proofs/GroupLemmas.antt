@@ -1,0 +1,77 @@
+-- Groups of lines that grow.
+use Rattle.std.proofs.Common.{◌≡◌, ℕ, ◌+◌, ◌<◌, List, [], ◌∷◌, ◌++◌, take, length, slice_index_or, refl, sym, ap, ◌∙◌, subst, inl, inr}
+use Rattle.std.specs.List.{flat_map}
+use Rattle.std.proofs.lemmas.List.{append_assoc, append-nil, take_more}
+use Rattle.ld_text.specs.Groups.{GrowsBy, InSequence, InTurn, ShowsWhere}
+
+pub flat_map-append : {X Y : Type 0} (f : Y → List X) (a b : List Y) → flat_map f (a ++ b) ≡ flat_map f a ++ flat_map f b
+flat_map-append f [] b = refl
+flat_map-append f (y ∷ a) b = ap (λ t. f y ++ t) (flat_map-append f a b) ∙ sym (append_assoc (f y) (flat_map f a) (flat_map f b))
+
+pub flat_map-next : {X Y : Type 0} (f : Y → List X) (keys : List Y) (i : ℕ) (d : Y) → i < length keys → flat_map f (take (i + 1) keys) ≡ flat_map f (take i keys) ++ f (slice_index_or keys i d)
+flat_map-next f keys i d within =
+    ap (flat_map f) (take_more keys i d within) ∙ flat_map-append f (take i keys) (slice_index_or keys i d ∷ [])
+    ∙ ap (λ t. flat_map f (take i keys) ++ t) (append-nil (f (slice_index_or keys i d)))
+
+-- nothing was added yet
+pub GrowsBy-none : (text : List ℕ) → GrowsBy (InSequence []) text text
+unfolding InSequence
+GrowsBy-none text = record { part = []; shows = refl; grew = sym (append-nil text) }
+
+-- one text, and then a sequence
+pub GrowsBy-then : (P : List ℕ → Type 0) (Ps : List (List ℕ → Type 0)) (old mid new : List ℕ) → GrowsBy P old mid → GrowsBy (InSequence Ps) mid new → GrowsBy (InSequence (P ∷ Ps)) old new
+unfolding InSequence
+GrowsBy-then P Ps old mid new first more = record {
+  part = first.part ++ more.part;
+  shows = (first.part, more.part, first.shows, more.shows, refl);
+  grew = more.grew ∙ ap (λ t. t ++ more.part) first.grew ∙ append_assoc old first.part more.part;
+}
+
+module _ {X : Type 0} (R : X → List ℕ → Type 0) where
+  InTurn-one_more : (xs : List X) (x : X) (a b : List ℕ) → InTurn R xs a → R x b → InTurn R (xs ++ x ∷ []) (a ++ b)
+  unfolding InSequence
+  InTurn-one_more [] x a b none shows = subst (λ t. InTurn R (x ∷ []) (t ++ b)) (sym none) (b, [], shows, refl, sym (append-nil b))
+  InTurn-one_more (y ∷ xs) x a b (first, rest, here, others, is) shows =
+      (first, rest ++ b, here, InTurn-one_more xs x rest b others shows, ap (λ t. t ++ b) is ∙ append_assoc first rest b)
+
+  -- one more thing of a list
+  pub GrowsBy-more : (xs : List X) (i : ℕ) (d : X) (old mid new : List ℕ) → i < length xs → GrowsBy (InTurn R (take i xs)) old mid → GrowsBy (R (slice_index_or xs i d)) mid new → GrowsBy (InTurn R (take (i + 1) xs)) old new
+  GrowsBy-more xs i d old mid new within before more =
+      subst (λ ys. GrowsBy (InTurn R ys) old new) (sym (take_more xs i d within)) record {
+        part = before.part ++ more.part;
+        shows = InTurn-one_more (take i xs) (slice_index_or xs i d) before.part more.part before.shows more.shows;
+        grew = more.grew ∙ ap (λ t. t ++ more.part) before.grew ∙ append_assoc old before.part more.part;
+      }
+
+  -- the same where the thing was read off the list
+  pub GrowsBy-more_item : (xs : List X) (i : ℕ) (x : X) (old mid new : List ℕ) → x ≡ slice_index_or xs i x → i < length xs → GrowsBy (InTurn R (take i xs)) old mid → GrowsBy (R x) mid new → GrowsBy (InTurn R (take (i + 1) xs)) old new
+  GrowsBy-more_item xs i x old mid new is within before more =
+      GrowsBy-more xs i x old mid new within before (subst (λ y. GrowsBy (R y) mid new) is more)
+
+-- what is false adds nothing
+pub GrowsBy-hidden : (P : Type 0) (line text : List ℕ) → ¬ P → GrowsBy (ShowsWhere P line) text text
+GrowsBy-hidden P line text no_line = record { part = []; shows = inr (no_line, refl); grew = sym (append-nil text) }
+
+-- the line of what is true
+pub GrowsBy-shown : (P : Type 0) (line old new : List ℕ) → P → new ≡ old ++ line → GrowsBy (ShowsWhere P line) old new
+GrowsBy-shown P line old new holds is = record { part = line; shows = inl (holds, refl); grew = is }
+
+-- where no text is allowed none was added
+pub GrowsBy-nothing : (Q : List ℕ → Type 0) (text : List ℕ) → Q [] → GrowsBy Q text text
+GrowsBy-nothing Q text allowed = record { part = []; shows = allowed; grew = sym (append-nil text) }
+
+pub InTurn-nothing : {X : Type 0} (R : X → List ℕ → Type 0) → ((x : X) → R x []) → (xs : List X) → InTurn R xs []
+unfolding InSequence
+InTurn-nothing R allowed [] = refl
+InTurn-nothing R allowed (x ∷ xs) = ([], [], allowed x, InTurn-nothing R allowed xs, refl)
+
+-- where all is false there is no line
+module _ {X : Type 0} (P : X → Type 0) (line : X → List ℕ) (never : (x : X) → ¬ P x) where
+  hidden : (x : X) → ShowsWhere (P x) (line x) []
+  hidden x = inr (never x, refl)
+
+  pub InTurn-hidden : (xs : List X) → InTurn (λ x. ShowsWhere (P x) (line x)) xs []
+  InTurn-hidden xs = InTurn-nothing (λ x. ShowsWhere (P x) (line x)) hidden xs
+
+  pub GrowsBy-all_hidden : (xs : List X) (text : List ℕ) → GrowsBy (InTurn (λ x. ShowsWhere (P x) (line x)) xs) text text
+  GrowsBy-all_hidden xs text = GrowsBy-nothing (InTurn (λ x. ShowsWhere (P x) (line x)) xs) text (InTurn-hidden xs)

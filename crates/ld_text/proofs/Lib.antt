@@ -1,0 +1,13 @@
+pub mod OutputLemmas
+pub mod OrderLemmas
+pub mod GroupLemmas
+pub mod BecauseLemmas
+pub mod ChainLemmas
+pub mod ReportLemmas
+pub mod ExplanationLemmas
+pub mod PictureLemmas
+pub mod TellingLemmas
+pub mod LeafLemmas
+pub mod PictureGrowing
+pub mod EndLemmas
+pub mod WriteFaultLemmas

@@ -1,0 +1,365 @@
+-- How an explanation grows, block by block.
+use Rattle.std.proofs.Common.{◌≡◌, ◌↔◌, ◌⊎◌, ℕ, Bool, suc, ◌+◌, ◌<◌, List, [], ◌∷◌, ◌++◌, All, Any, Contains, Some, codes, length, map, slice_get, slice_index_or, take, refl, sym, ap, ◌∙◌, subst, inl, inr, arith}
+use Rattle.std.specs.List.{flat_map}
+use Rattle.std.proofs.lemmas.List.{append_assoc, append-nil, length-append, map-append, take_more}
+use Rattle.std.proofs.lemmas.List.Elements.{Contains-push_cases, Contains-append_left, Contains-push}
+use Rattle.std.proofs.lemmas.Option.{get_or_from_slice_get}
+use Rattle.ld_trace.specs.Names.{Name}
+use Rattle.ld_trace.specs.declared.event.Irq.{Irq}
+use Rattle.ld_task.specs.Kinds.{is_r-kind_of_letters, is_s-kind_of_letters}
+use Rattle.ld_task.specs.declared.mark.Mark.TheVariants.{UsedIn, Enabled}
+use Rattle.ld_graph.specs.Arrows.{Arrow, arrow}
+use Rattle.ld_graph.specs.FactBits.{FactParts, HasFact}
+use Rattle.ld_graph.specs.FactLaws.{Any-push, StrongWalk-members}
+use Rattle.ld_graph.specs.Facts.{Adds, DependenciesOf}
+use Rattle.ld_graph.specs.Links.{IsDoubleBy, IsLink, IsShortestInversion, link_by}
+use Rattle.ld_graph.specs.Walks.{IsShortestFrom, OnCircle}
+use Rattle.ld_graph.specs.declared.fact.Fact.{Fact}
+use Rattle.ld_graph.specs.declared.fact.Fact.TheVariants.{Dependency, Marked}
+use Rattle.ld_text.specs.Explanation.{AreThose, AreTold, IsCircleBlock, IsDependencyLine, IsDoubleBlock, IsEnabledLine, IsInversionBlock, IsLeft, IsOriginLine, IsUsedLine, Told, comes_line, holds_line, waits_line, waits_text}
+use Rattle.ld_text.specs.Groups.{GrowsBy, InSequence, InTurn}
+use Rattle.ld_text.specs.Inside.Telling.{HasMembers, TellerParts, TellsCircles, TellsThose}
+use Rattle.ld_text.specs.Report.{double_line, inversion_line}
+use Rattle.ld_text.specs.Words.{irq_text}
+use Rattle.ld_text.proofs.GroupLemmas.{GrowsBy-none, GrowsBy-then, flat_map-next}
+
+-- Texts of two lists, one behind the other.
+module _ {X : Type 0} (R : X → List ℕ → Type 0) where
+  InTurn-append : (xs ys : List X) (a b : List ℕ) → InTurn R xs a → InTurn R ys b → InTurn R (xs ++ ys) (a ++ b)
+  unfolding InSequence
+  InTurn-append [] ys a b none h = subst (λ t. InTurn R ys (t ++ b)) (sym none) h
+  InTurn-append (x ∷ xs) ys a b (first, rest, here, others, is) h =
+      (first, rest ++ b, here, InTurn-append xs ys rest b others h, ap (λ t. t ++ b) is ∙ append_assoc first rest b)
+
+  pub GrowsBy-append : (xs ys : List X) (old mid new : List ℕ) → GrowsBy (InTurn R xs) old mid → GrowsBy (InTurn R ys) mid new → GrowsBy (InTurn R (xs ++ ys)) old new
+  GrowsBy-append xs ys old mid new first more = record {
+    part = first.part ++ more.part;
+    shows = InTurn-append xs ys first.part more.part first.shows more.shows;
+    grew = more.grew ∙ ap (λ t. t ++ more.part) first.grew ∙ append_assoc old first.part more.part;
+  }
+
+  pub GrowsBy-one : (x : X) (old new : List ℕ) → GrowsBy (R x) old new → GrowsBy (InTurn R (x ∷ [])) old new
+  unfolding InSequence
+  GrowsBy-one x old new one = record {
+    part = one.part;
+    shows = (one.part, [], one.shows, refl, sym (append-nil one.part));
+    grew = one.grew;
+  }
+
+-- one thing more of a list
+pub map-next : {X Y : Type 0} (f : X → Y) (xs : List X) (i : ℕ) (d : X) → i < length xs → map f (take (i + 1) xs) ≡ map f (take i xs) ++ f (slice_index_or xs i d) ∷ []
+map-next f xs i d within = ap (map f) (take_more xs i d within) ∙ map-append f (take i xs) (slice_index_or xs i d ∷ [])
+
+pub take-next : {X : Type 0} (xs : List X) (i : ℕ) (d : X) → slice_get xs i ≡ Some d → i < length xs → take (i + 1) xs ≡ take i xs ++ d ∷ []
+take-next xs i d is within = take_more xs i d within ∙ ap (λ x. take i xs ++ x ∷ []) (get_or_from_slice_get xs i d d is)
+
+-- Those that something holds of.
+module _ {X : Type 0} (P : X → Type 0) where
+  AreThose-append : (xs ys a b : List X) → AreThose P xs a → AreThose P ys b → AreThose P (xs ++ ys) (a ++ b)
+  AreThose-append [] ys a b none h = subst (λ t. AreThose P ys (t ++ b)) (sym none) h
+  AreThose-append (x ∷ xs) ys a b (inl (p, (rest, is, those))) h = inl (p, (rest ++ b, ap (λ t. t ++ b) is, AreThose-append xs ys rest b those h))
+  AreThose-append (x ∷ xs) ys a b (inr (isnt, those)) h = inr (isnt, AreThose-append xs ys a b those h)
+
+  -- nothing is one where it holds of none
+  pub AreThose-nothing : ((x : X) → ¬ P x) → (xs : List X) → AreThose P xs []
+  AreThose-nothing never [] = refl
+  AreThose-nothing never (x ∷ xs) = inr (never x, AreThose-nothing never xs)
+
+  module _ (Block : X → List ℕ → Type 0) where
+    pub TellsThose-none : (old : List ℕ) → TellsThose P Block [] old old 0
+    TellsThose-none old = record { those = []; are = refl; grew = GrowsBy-none old; count_is = refl }
+
+    pub TellsThose-off : (x : X) (old : List ℕ) → ¬ P x → TellsThose P Block (x ∷ []) old old 0
+    TellsThose-off x old isnt = record { those = []; are = inr (isnt, refl); grew = GrowsBy-none old; count_is = refl }
+
+    pub TellsThose-on : (x : X) (old new : List ℕ) → P x → GrowsBy (Block x) old new → TellsThose P Block (x ∷ []) old new 1
+    TellsThose-on x old new p block =
+        record { those = x ∷ []; are = inl (p, ([], refl, refl)); grew = GrowsBy-one Block x old new block; count_is = refl }
+
+    pub TellsThose-append : (xs ys : List X) (old mid new : List ℕ) (m n : ℕ) → TellsThose P Block xs old mid m → TellsThose P Block ys mid new n → TellsThose P Block (xs ++ ys) old new (m + n)
+    TellsThose-append xs ys old mid new m n first more = record {
+      those = first.those ++ more.those;
+      are = AreThose-append xs ys first.those more.those first.are more.are;
+      grew = GrowsBy-append Block first.those more.those old mid new first.grew more.grew;
+      count_is = ap (λ k. k + n) first.count_is ∙ ap (λ k. length first.those + k) more.count_is ∙ sym (length-append first.those more.those);
+    }
+
+    -- behind those that the things of a list so far lead to, those of one thing more
+    pub TellsThose-next : {Y : Type 0} (f : Y → List X) (keys : List Y) (i : ℕ) (d : Y) (old mid new : List ℕ) (m n : ℕ) → i < length keys →
+        TellsThose P Block (flat_map f (take i keys)) old mid m → TellsThose P Block (f (slice_index_or keys i d)) mid new n →
+        TellsThose P Block (flat_map f (take (i + 1) keys)) old new (m + n)
+    TellsThose-next f keys i d old mid new m n within first more =
+        subst (λ xs. TellsThose P Block xs old new (m + n)) (sym (flat_map-next f keys i d within))
+        (TellsThose-append (flat_map f (take i keys)) (f (slice_index_or keys i d)) old mid new m n first more)
+
+    -- the same where the thing was read off the list
+    pub TellsThose-next_item : {Y : Type 0} (f : Y → List X) (keys : List Y) (i : ℕ) (y : Y) (old mid new : List ℕ) (m n : ℕ) →
+        y ≡ slice_index_or keys i y → i < length keys → TellsThose P Block (flat_map f (take i keys)) old mid m → TellsThose P Block (f y) mid new n →
+        TellsThose P Block (flat_map f (take (i + 1) keys)) old new (m + n)
+    TellsThose-next_item f keys i y old mid new m n is within first more =
+        TellsThose-next f keys i y old mid new m n within first (subst (λ z. TellsThose P Block (f z) mid new n) is more)
+
+    -- the same where it leads to one
+    pub TellsThose-map_next_item : {Y : Type 0} (f : Y → X) (keys : List Y) (i : ℕ) (y : Y) (old mid new : List ℕ) (m n : ℕ) →
+        y ≡ slice_index_or keys i y → i < length keys → TellsThose P Block (map f (take i keys)) old mid m → TellsThose P Block (f y ∷ []) mid new n →
+        TellsThose P Block (map f (take (i + 1) keys)) old new (m + n)
+    TellsThose-map_next_item f keys i y old mid new m n is within first more =
+        subst (λ xs. TellsThose P Block xs old new (m + n)) (sym (map-next f keys i y within))
+        (TellsThose-append (map f (take i keys)) (f (slice_index_or keys i y) ∷ []) old mid new m n first
+        (subst (λ z. TellsThose P Block (f z ∷ []) mid new n) is more))
+
+-- Circles.
+
+AreTold-append : (Has : Fact → Type 0) (before : List (List Arrow)) (xs ys : List Arrow) (a b : List (List Arrow)) →
+    AreTold Has before xs a → AreTold Has (before ++ a) ys b → AreTold Has before (xs ++ ys) (a ++ b)
+AreTold-append Has before [] ys a b none h =
+    subst (λ t. AreTold Has before ys (t ++ b)) (sym none) (subst (λ t. AreTold Has t ys b) (ap (λ t. before ++ t) none ∙ append-nil before) h)
+AreTold-append Has before (d ∷ xs) ys a b (inl (left, (circle, rest, shortest, is, told))) h = inl (
+  left,
+  (
+    circle,
+    rest ++ b,
+    shortest,
+    ap (λ t. t ++ b) is,
+    AreTold-append Has (before ++ circle ∷ []) xs ys rest b told
+        (subst (λ t. AreTold Has t ys b) (ap (λ t. before ++ t) is ∙ sym (append_assoc before (circle ∷ []) rest)) h),
+  ),
+)
+AreTold-append Has before (d ∷ xs) ys a b (inr (isnt, told)) h = inr (isnt, AreTold-append Has before xs ys a b told h)
+
+-- none are told where none is on a circle
+pub AreTold-nothing : (Has : Fact → Type 0) → ((d : Arrow) → ¬ OnCircle Has d) → (ds : List Arrow) → AreTold Has [] ds []
+AreTold-nothing Has never [] = refl
+AreTold-nothing Has never (d ∷ ds) = inr (λ left. never d left.0, AreTold-nothing Has never ds)
+
+pub TellsCircles-none : (parts : TellerParts) (old : List ℕ) (set : FactParts) → TellsCircles parts [] old old set set 0
+TellsCircles-none parts old set = record {
+  keys = refl;
+  tells = λ before has. ([], refl, GrowsBy-none old, subst (HasMembers set) (sym (append-nil before)) has, refl);
+}
+
+-- the dependency is not left
+pub TellsCircles-off : (parts : TellerParts) (d : Arrow) (old : List ℕ) (set : FactParts) →
+    ((before : List (List Arrow)) → HasMembers set before → ¬ IsLeft (HasFact parts.facts) before d) → TellsCircles parts (d ∷ []) old old set set 0
+TellsCircles-off parts d old set isnt = record {
+  keys = refl;
+  tells = λ before has. ([], inr (isnt before has, refl), GrowsBy-none old, subst (HasMembers set) (sym (append-nil before)) has, refl);
+}
+
+-- it is
+pub TellsCircles-on : (parts : TellerParts) (d : Arrow) (circle : List Arrow) (old new : List ℕ) (set_old set_new : FactParts) →
+    set_new.keys ≡ set_old.keys → ((before : List (List Arrow)) → HasMembers set_old before → IsLeft (HasFact parts.facts) before d) →
+    IsShortestFrom (HasFact parts.facts) d circle → GrowsBy (IsCircleBlock parts.told circle) old new →
+    ((x : Arrow) → DependenciesOf (HasFact set_new) x ↔ (DependenciesOf (HasFact set_old) x ⊎ Contains circle x)) →
+    TellsCircles parts (d ∷ []) old new set_old set_new 1
+TellsCircles-on parts d circle old new set_old set_new keys left shortest block adds = record {
+  keys = keys;
+  tells = λ before has. (
+    circle ∷ [],
+    inl (left before has, (circle, [], shortest, refl, refl)),
+    GrowsBy-one (IsCircleBlock parts.told) circle old new block,
+    λ x. (
+      λ h. forth before has x ((adds x).0 h),
+      λ any. (adds x).1 (back before has x any),
+    ),
+    refl,
+  );
+}
+  where
+    forth : (before : List (List Arrow)) → HasMembers set_old before → (x : Arrow) → DependenciesOf (HasFact set_old) x ⊎ Contains circle x → Any (λ c. Contains c x) (before ++ circle ∷ [])
+    forth before has x (inl h) = (Any-push (λ c. Contains c x) before circle).1 (inl ((has x).0 h))
+    forth before has x (inr in_circle) = (Any-push (λ c. Contains c x) before circle).1 (inr in_circle)
+
+    back_cases : (before : List (List Arrow)) → HasMembers set_old before → (x : Arrow) → Any (λ c. Contains c x) before ⊎ Contains circle x → DependenciesOf (HasFact set_old) x ⊎ Contains circle x
+    back_cases before has x (inl h) = inl ((has x).1 h)
+    back_cases before has x (inr h) = inr h
+
+    back : (before : List (List Arrow)) → HasMembers set_old before → (x : Arrow) → Any (λ c. Contains c x) (before ++ circle ∷ []) → DependenciesOf (HasFact set_old) x ⊎ Contains circle x
+    back before has x any = back_cases before has x ((Any-push (λ c. Contains c x) before circle).0 any)
+
+pub TellsCircles-append : (parts : TellerParts) (xs ys : List Arrow) (old mid new : List ℕ) (set_old set_mid set_new : FactParts) (m n : ℕ) →
+    TellsCircles parts xs old mid set_old set_mid m → TellsCircles parts ys mid new set_mid set_new n → TellsCircles parts (xs ++ ys) old new set_old set_new (m + n)
+TellsCircles-append parts xs ys old mid new set_old set_mid set_new m n first more = record {
+  keys = more.keys ∙ first.keys;
+  tells = λ before has.
+      let (a, a_told, a_grew, a_has, a_count) = first.tells before has in
+      let (b, b_told, b_grew, b_has, b_count) = more.tells (before ++ a) a_has in (
+        a ++ b,
+        AreTold-append (HasFact parts.facts) before xs ys a b a_told b_told,
+        GrowsBy-append (IsCircleBlock parts.told) a b old mid new a_grew b_grew,
+        subst (HasMembers set_new) (append_assoc before a b) b_has,
+        ap (λ k. k + n) a_count ∙ ap (λ k. length a + k) b_count ∙ sym (length-append a b),
+      );
+}
+
+-- behind those of the things of a list so far, those of one thing more
+pub TellsCircles-next : {Y : Type 0} (parts : TellerParts) (f : Y → List Arrow) (keys : List Y) (i : ℕ) (d : Y) (old mid new : List ℕ) (set_old set_mid set_new : FactParts) (m n : ℕ) →
+    i < length keys → TellsCircles parts (flat_map f (take i keys)) old mid set_old set_mid m →
+    TellsCircles parts (f (slice_index_or keys i d)) mid new set_mid set_new n →
+    TellsCircles parts (flat_map f (take (i + 1) keys)) old new set_old set_new (m + n)
+TellsCircles-next parts f keys i d old mid new set_old set_mid set_new m n within first more =
+    subst (λ xs. TellsCircles parts xs old new set_old set_new (m + n)) (sym (flat_map-next f keys i d within))
+    (TellsCircles-append parts (flat_map f (take i keys)) (f (slice_index_or keys i d)) old mid new set_old set_mid set_new m n first more)
+
+-- the same where the thing was read off the list
+pub TellsCircles-next_item : {Y : Type 0} (parts : TellerParts) (f : Y → List Arrow) (keys : List Y) (i : ℕ) (y : Y) (old mid new : List ℕ) (set_old set_mid set_new : FactParts) (m n : ℕ) →
+    y ≡ slice_index_or keys i y → i < length keys → TellsCircles parts (flat_map f (take i keys)) old mid set_old set_mid m →
+    TellsCircles parts (f y) mid new set_mid set_new n → TellsCircles parts (flat_map f (take (i + 1) keys)) old new set_old set_new (m + n)
+TellsCircles-next_item parts f keys i y old mid new set_old set_mid set_new m n is within first more =
+    TellsCircles-next parts f keys i y old mid new set_old set_mid set_new m n within first
+    (subst (λ z. TellsCircles parts (f z) mid new set_mid set_new n) is more)
+
+-- the same where it leads to one
+pub TellsCircles-map_next : {Y : Type 0} (parts : TellerParts) (f : Y → Arrow) (keys : List Y) (i : ℕ) (d : Y) (old mid new : List ℕ) (set_old set_mid set_new : FactParts) (m n : ℕ) →
+    i < length keys → TellsCircles parts (map f (take i keys)) old mid set_old set_mid m →
+    TellsCircles parts (f (slice_index_or keys i d) ∷ []) mid new set_mid set_new n →
+    TellsCircles parts (map f (take (i + 1) keys)) old new set_old set_new (m + n)
+TellsCircles-map_next parts f keys i d old mid new set_old set_mid set_new m n within first more =
+    subst (λ xs. TellsCircles parts xs old new set_old set_new (m + n)) (sym (map-next f keys i d within))
+    (TellsCircles-append parts (map f (take i keys)) (f (slice_index_or keys i d) ∷ []) old mid new set_old set_mid set_new m n first more)
+
+-- a set of nothing has the members of no circles
+pub HasMembers-none : (set : FactParts) → ((x : Fact) → ¬ HasFact set x) → HasMembers set []
+HasMembers-none set none d = (λ h. absurd (none (Dependency d.start d.end d.kind) h), λ (k, y, l, e, h). absurd (omega (arith, l)))
+
+-- what was told isn't left
+pub told-not_left : (Has : Fact → Type 0) (set : FactParts) (d : Arrow) → DependenciesOf (HasFact set) d →
+    (before : List (List Arrow)) → HasMembers set before → ¬ IsLeft Has before d
+told-not_left Has set d had before has left = left.1 ((has d).0 had)
+
+-- what wasn't told is left where it is on a circle
+pub not_told-left : (Has : Fact → Type 0) (set : FactParts) (d : Arrow) → ¬ DependenciesOf (HasFact set) d → OnCircle Has d →
+    (before : List (List Arrow)) → HasMembers set before → IsLeft Has before d
+not_told-left Has set d not on before has = (on, λ any. not ((has d).1 any))
+
+-- what a shortest walk from a dependency is
+module _ (Has : Fact → Type 0) (d : Arrow) (walk : List Arrow) (shortest : IsShortestFrom Has d walk) where
+  pub shortest-on : OnCircle Has d
+  shortest-on = (d, shortest.rest, shortest.closed, (0, omega arith, refl))
+
+  pub shortest-some : 0 < length walk
+  shortest-some = subst (λ w. 0 < length w) (sym shortest.walk_is) (let l : 0 < length (d ∷ shortest.rest) = omega arith in l)
+
+  pub shortest-are : All (DependenciesOf Has) walk
+  shortest-are = subst (All (DependenciesOf Has)) (sym shortest.walk_is)
+      (StrongWalk-members (DependenciesOf Has) d shortest.rest shortest.closed.0)
+
+-- the arrow of a dependency
+abbrev arrow_from : Fact → Arrow → Arrow
+arrow_from (Dependency from to kind) d = arrow from to kind
+arrow_from (Marked key mark) d = d
+
+-- no member was told yet
+pub told-none : (set : FactParts) (walk : List Arrow) (d : Arrow) → DependenciesOf (HasFact set) d ↔ (DependenciesOf (HasFact set) d ⊎ Contains (take 0 walk) d)
+told-none set walk d = (λ h. inl h, λ h. back h)
+  where
+    back : DependenciesOf (HasFact set) d ⊎ Contains (take 0 walk) d → DependenciesOf (HasFact set) d
+    back (inl h) = h
+    back (inr (k, l, e)) = absurd (omega (arith, l))
+
+-- one member more was told
+pub told-next : (old mid new : FactParts) (walk : List Arrow) (i : ℕ) (x : Arrow) → slice_get walk i ≡ Some x → i < length walk →
+    ((d : Arrow) → DependenciesOf (HasFact mid) d ↔ (DependenciesOf (HasFact old) d ⊎ Contains (take i walk) d)) →
+    Adds (HasFact mid) (HasFact new) (λ y. y ≡ Dependency x.start x.end x.kind) →
+    (d : Arrow) → DependenciesOf (HasFact new) d ↔ (DependenciesOf (HasFact old) d ⊎ Contains (take (i + 1) walk) d)
+told-next old mid new walk i x is within so_far adds d =
+    subst (λ xs. DependenciesOf (HasFact new) d ↔ (DependenciesOf (HasFact old) d ⊎ Contains xs d)) (sym (take-next walk i x is within)) (
+      λ h. forth ((adds (Dependency d.start d.end d.kind)).0 h),
+      λ h. (adds (Dependency d.start d.end d.kind)).1 (back h),
+    )
+  where
+    before : DependenciesOf (HasFact old) d ⊎ Contains (take i walk) d → DependenciesOf (HasFact old) d ⊎ Contains (take i walk ++ x ∷ []) d
+    before (inl h) = inl h
+    before (inr h) = inr (Contains-append_left (take i walk) (x ∷ []) d h)
+
+    forth : DependenciesOf (HasFact mid) d ⊎ (Dependency d.start d.end d.kind ≡ Dependency x.start x.end x.kind) →
+        DependenciesOf (HasFact old) d ⊎ Contains (take i walk ++ x ∷ []) d
+    forth (inl h) = before ((so_far d).0 h)
+    forth (inr same) = let e : x ≡ d = sym (ap (λ y. arrow_from y d) same) in
+        inr (subst (Contains (take i walk ++ x ∷ [])) e (Contains-push (take i walk) x))
+
+    last_back : Contains (take i walk) d ⊎ (x ≡ d) → DependenciesOf (HasFact mid) d ⊎ (Dependency d.start d.end d.kind ≡ Dependency x.start x.end x.kind)
+    last_back (inl h) = inl ((so_far d).1 (inr h))
+    last_back (inr e) = inr (ap (λ y. Dependency y.start y.end y.kind) (sym e))
+
+    back : DependenciesOf (HasFact old) d ⊎ Contains (take i walk ++ x ∷ []) d → DependenciesOf (HasFact mid) d ⊎ (Dependency d.start d.end d.kind ≡ Dependency x.start x.end x.kind)
+    back (inl h) = inl ((so_far d).1 (inl h))
+    back (inr h) = last_back (Contains-push_cases (take i walk) x d h)
+
+-- Blocks.
+
+-- a line that is known
+pub GrowsBy-line : (line old new : List ℕ) → new ≡ old ++ line → GrowsBy (λ part. part ≡ line) old new
+GrowsBy-line line old new is = record { part = line; shows = refl; grew = is }
+
+-- the marks of a link by its forms
+pub link-used : (Has : Fact → Type 0) (irq : Irq) (b a : ℕ) (enabled used : Bool) → IsLink Has irq (link_by b a enabled used) → Has (Marked a (UsedIn irq used))
+link-used Has irq b a enabled used link = subst (λ r. Has (Marked a (UsedIn irq r))) (is_r-kind_of_letters enabled used) link.1
+
+pub link-enabled : (Has : Fact → Type 0) (irq : Irq) (b a : ℕ) (enabled used : Bool) → IsLink Has irq (link_by b a enabled used) → Has (Marked b (Enabled irq enabled))
+link-enabled Has irq b a enabled used link = subst (λ s. Has (Marked b (Enabled irq s))) (is_s-kind_of_letters enabled used) link.0
+
+-- the line of where a key is used in a state, by the form of a link, and of where it is used with it enabled
+used_line : (told : Told) (irq : Irq) (key b a : ℕ) (enabled used : Bool) (old new : List ℕ) →
+    GrowsBy (IsOriginLine told (codes "used in " ++ irq_text irq) (Marked key (UsedIn irq used))) old new →
+    GrowsBy (IsUsedLine told irq key (link_by b a enabled used)) old new
+used_line told irq key b a enabled used old new =
+    subst (λ r. GrowsBy (IsOriginLine told (codes "used in " ++ irq_text irq) (Marked key (UsedIn irq r))) old new) (sym (is_r-kind_of_letters enabled used))
+
+enabled_line : (told : Told) (irq : Irq) (key b a : ℕ) (enabled used : Bool) (old new : List ℕ) →
+    GrowsBy (IsOriginLine told (codes "used with " ++ (irq_text irq ++ codes "s on")) (Marked key (Enabled irq enabled))) old new →
+    GrowsBy (IsEnabledLine told irq key (link_by b a enabled used)) old new
+enabled_line told irq key b a enabled used old new =
+    subst (λ s. GrowsBy (IsOriginLine told (codes "used with " ++ (irq_text irq ++ codes "s on")) (Marked key (Enabled irq s))) old new) (sym (is_s-kind_of_letters enabled used))
+
+pub double-grows : (Has : Fact → Type 0) (told : Told) (irq : Irq) (key : ℕ) (enabled used : Bool) (old headed with_used with_enabled held new : List ℕ) →
+    IsDoubleBy Has irq key (link_by key key enabled used) →
+    headed ≡ old ++ (codes "\n" ++ double_line told.names irq key) →
+    GrowsBy (IsOriginLine told (codes "used in " ++ irq_text irq) (Marked key (UsedIn irq used))) headed with_used →
+    GrowsBy (IsOriginLine told (codes "used with " ++ (irq_text irq ++ codes "s on")) (Marked key (Enabled irq enabled))) with_used with_enabled →
+    held ≡ with_enabled ++ holds_line told.names key → new ≡ held ++ comes_line told.names irq key →
+    GrowsBy (IsDoubleBlock Has told (irq, key)) old new
+double-grows Has told irq key enabled used old headed with_used with_enabled held new by head used_in used_with hold come =
+    let end : new ≡ with_enabled ++ (holds_line told.names key ++ comes_line told.names irq key) =
+    come ∙ ap (λ t. t ++ comes_line told.names irq key) hold ∙ append_assoc with_enabled (holds_line told.names key) (comes_line told.names irq key) in
+    let all = GrowsBy-then _ _ old headed new (GrowsBy-line _ old headed head)
+    (GrowsBy-then _ _ headed with_used new (used_line told irq key key key enabled used headed with_used used_in)
+    (GrowsBy-then _ _ with_used with_enabled new (enabled_line told irq key key key enabled used with_used with_enabled used_with)
+    (GrowsBy-then _ _ with_enabled new new (GrowsBy-line _ with_enabled new end) (GrowsBy-none new)))) in
+    record { part = all.part; shows = record { l = link_by key key enabled used; by = by; text_is = all.shows }; grew = all.grew }
+
+pub inversion-grows : (Has : Fact → Type 0) (told : Told) (irq : Irq) (a b : ℕ) (enabled used : Bool) (walk : List Arrow) (old headed walked with_used with_enabled held waiting new : List ℕ) →
+    IsShortestInversion Has irq a b (link_by b a enabled used) walk →
+    headed ≡ old ++ (codes "\n" ++ inversion_line told.names irq a b) →
+    GrowsBy (InTurn (IsDependencyLine told) walk) headed walked →
+    GrowsBy (IsOriginLine told (codes "used in " ++ irq_text irq) (Marked a (UsedIn irq used))) walked with_used →
+    GrowsBy (IsOriginLine told (codes "used with " ++ (irq_text irq ++ codes "s on")) (Marked b (Enabled irq enabled))) with_used with_enabled →
+    held ≡ with_enabled ++ holds_line told.names b → waiting ≡ held ++ waits_text told.names 2 walk → new ≡ waiting ++ comes_line told.names irq a →
+    GrowsBy (IsInversionBlock Has told (irq, (a, b))) old new
+inversion-grows Has told irq a b enabled used walk old headed walked with_used with_enabled held waiting new by head walks used_in used_with hold wait come =
+    let end : new ≡ with_enabled ++ (holds_line told.names b ++ (waits_text told.names 2 walk ++ comes_line told.names irq a)) =
+    come ∙ ap (λ t. t ++ comes_line told.names irq a) wait
+    ∙ append_assoc held (waits_text told.names 2 walk) (comes_line told.names irq a)
+    ∙ ap (λ t. t ++ (waits_text told.names 2 walk ++ comes_line told.names irq a)) hold
+    ∙ append_assoc with_enabled (holds_line told.names b) (waits_text told.names 2 walk ++ comes_line told.names irq a) in
+    let all = GrowsBy-then _ _ old headed new (GrowsBy-line _ old headed head)
+    (GrowsBy-then _ _ headed walked new walks
+    (GrowsBy-then _ _ walked with_used new (used_line told irq a b a enabled used walked with_used used_in)
+    (GrowsBy-then _ _ with_used with_enabled new (enabled_line told irq b b a enabled used with_used with_enabled used_with)
+    (GrowsBy-then _ _ with_enabled new new (GrowsBy-line _ with_enabled new end) (GrowsBy-none new))))) in
+    record { part = all.part; shows = record { walk = walk; l = link_by b a enabled used; by = by; text_is = all.shows }; grew = all.grew }
+
+-- the walk of an inversion is of dependencies
+pub inversion-are : (Has : Fact → Type 0) (irq : Irq) (a b : ℕ) (l : Arrow) (walk : List Arrow) → IsShortestInversion Has irq a b l walk → All (DependenciesOf Has) walk
+inversion-are Has irq a b l walk shortest = subst (All (DependenciesOf Has)) (sym shortest.walk_is)
+    (StrongWalk-members (DependenciesOf Has) shortest.first shortest.rest shortest.closed.0.0)
+
+-- Tasks that wait.
+
+pub waits_text-next : (names : List Name) (task : ℕ) (walk : List Arrow) (d : Arrow) →
+    waits_text names task (walk ++ d ∷ []) ≡ waits_text names task walk ++ waits_line names (task + length walk) d
+waits_text-next names task [] d = append-nil (waits_line names task d) ∙ ap (λ k. waits_line names k d) (let e : task ≡ task + 0 = omega arith in e)
+waits_text-next names task (x ∷ walk) d =
+    ap (λ t. waits_line names task x ++ t) (waits_text-next names (suc task) walk d)
+    ∙ ap (λ k. waits_line names task x ++ (waits_text names (suc task) walk ++ waits_line names k d)) (let e : suc task + length walk ≡ task + suc (length walk) = omega arith in e)
+    ∙ sym (append_assoc (waits_line names task x) (waits_text names (suc task) walk) (waits_line names (task + suc (length walk)) d))

@@ -1,0 +1,18 @@
+-- What a refused write leaves.
+use Rattle.std.proofs.Common.{◌≡◌, ℕ, List, Option, Result, Ok, Err, OnErr, IfErr, refl}
+use Rattle.ld_text.specs.Output.{AppendsBeginning}
+use Rattle.ld_text.specs.WriteFaults.{StopsWriting}
+use Rattle.ld_text.specs.declared.write_fault.WriteFault.{WriteFault}
+use Rattle.ld_text.specs.declared.write_fault.WriteFault.TheVariants.{Failed, Stuck, Memory}
+
+pub StopsWriting-begun : {T : Type 0} (IsText : List ℕ → Type 0) (old new : Option (List ℕ)) (text : List ℕ) (r : Result T WriteFault) → IsText text → ¬ (r ≡ Err Memory) → OnErr r (AppendsBeginning old new text) → IfErr r (StopsWriting IsText old new)
+StopsWriting-begun IsText old new text (Ok x) is_text never begun = tt
+StopsWriting-begun IsText old new text (Err Failed) is_text never begun = (text, is_text, begun)
+StopsWriting-begun IsText old new text (Err Stuck) is_text never begun = (text, is_text, begun)
+StopsWriting-begun IsText old new text (Err Memory) is_text never begun = absurd (never refl)
+
+-- texts of which the same is said
+pub StopsWriting-same : (A B : List ℕ → Type 0) → ((text : List ℕ) → A text → B text) → (old new : Option (List ℕ)) (fault : WriteFault) → StopsWriting A old new fault → StopsWriting B old new fault
+StopsWriting-same A B same old new Failed (text, is_text, begun) = (text, same text is_text, begun)
+StopsWriting-same A B same old new Stuck (text, is_text, begun) = (text, same text is_text, begun)
+StopsWriting-same A B same old new Memory kept = kept

@@ -1,0 +1,19 @@
+use Rattle.std.proofs.Common.{◌≡◌, ◌-◌, ◌++◌, arith, codes, drop, subst, string_bytes, take}
+use Rattle.std.specs.List.{flat_map}
+use Rattle.std.proofs.lemmas.Grind.{common_steps}
+use Rattle.ld_graph.specs.Arrows.{Arrow, arrow}
+use Rattle.ld_text.specs.Report.{member_text}
+use Rattle.ld_text.specs.Words.{key_text, name_at}
+use Rattle.ld_text.proofs.BecauseLemmas.{TellsTurned-from}
+use Rattle.ld_text.proofs.because.add_line.Goals as goal
+
+pub returns : goal.returns
+returns c =
+    let a : Arrow = arrow c.member.result.0 c.member.result.1 c.member.result.2 in
+    let begun : string_bytes c.write.new.self ≡ string_bytes c.args.text.now ++ (codes "because " ++ key_text (name_at c.args.names.now.names a.start)) = grind (arith, common_steps) in
+    TellsTurned-from c.args.names.now.names c.args.circle.now c.least_start-least.result a (string_bytes c.args.text.now) (string_bytes c.write.new.self)
+    (string_bytes c.add_members.new.text) (string_bytes c.add_members-2.new.text) (string_bytes c.push_str.new.self)
+    c.member.ensures c.least_start-least.ensures begun
+    (subst (λ n. string_bytes c.add_members.new.text ≡ string_bytes c.write.new.self ++ flat_map (member_text c.args.names.now.names) (take (n - c.least_start-least.result) (drop c.least_start-least.result c.args.circle.now)))
+    c.len.ensures.exact c.in_ok-add_members.ensures)
+    c.in_ok-add_members-2.ensures c.in_ok-push_str.ensures.bytes

@@ -1,0 +1,27 @@
+use Rattle.std.proofs.Common.{◌≡◌, ◌++◌, sym, subst, arith, codes, string_bytes}
+use Rattle.std.proofs.lemmas.Grind.{common_steps}
+use Rattle.std.proofs.lemmas.Result.{on_ok_weaker}
+use Rattle.ld_task.specs.declared.mark.Mark.TheVariants.{UsedIn}
+use Rattle.ld_graph.specs.FactBits.{HasFact}
+use Rattle.ld_graph.specs.declared.fact.Fact.{Fact}
+use Rattle.ld_graph.specs.declared.fact.Fact.TheVariants.{Marked}
+use Rattle.ld_explain.specs.Origins.{IsFirst}
+use Rattle.ld_text.specs.Words.{irq_text}
+use Rattle.ld_text.proofs.LeafLemmas.{origin_line, origin_there}
+use Rattle.ld_text.proofs.explanation.Teller.add_used.Goals as goal
+
+pub unreachable-requires : goal.unreachable-requires
+unreachable-requires c =
+    let x : Fact = Marked c.args.key (UsedIn c.args.irq c.args.read) in
+    origin_there c.self.inside.settled.now c.self.inside.traces.now x c.mark.result c.self.invariant.1
+    (rw c.get.ensures.value at (c.mark.ensures c.self.inside.traces.now c.self.invariant.0))
+    (subst (λ p. HasFact p.facts x) (sym c.self.view_is) c.requires) c.in_default.is
+
+pub returns : goal.returns
+returns c =
+    let x : Fact = Marked c.args.key (UsedIn c.args.irq c.args.read) in
+    let wrote : string_bytes c.write.new.self ≡ string_bytes c.args.text.now ++ (codes "  " ++ (codes "used in " ++ irq_text c.args.irq)) = grind (arith, common_steps) in
+    on_ok_weaker c.add_origin.result (origin_line c.args.self.now.told (codes "used in " ++ irq_text c.args.irq) x c.in-Some.origin _ _ _
+    (subst (λ p. IsFirst p.told.traces x c.in-Some.origin) c.self.view_is
+    (rw c.get.ensures.value at (c.in-Some.ensures c.self.inside.traces.now c.self.invariant.0)).1)
+    wrote) c.add_origin.ensures

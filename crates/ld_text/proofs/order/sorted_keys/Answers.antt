@@ -1,0 +1,13 @@
+use Rattle.std.proofs.Common.{ℕ, List, subst, rules, IsPermutation, is_lt}
+use Rattle.std.proofs.lemmas.List.MinMax.{ranks_by}
+use Rattle.std.proofs.lemmas.Fn.{always_returns_same}
+use Rattle.ld_text.specs.Order.{name_cmp}
+use Rattle.ld_text.specs.Words.{name_at}
+use Rattle.ld_text.proofs.OrderLemmas.{name_cmp_total}
+use Rattle.ld_text.proofs.order.sorted_keys.Goals as goal
+
+pub returns : goal.returns
+returns c = record {
+  all = subst (λ (all : List ℕ). IsPermutation all c.sort_unstable_by.new.self.items) c.in_ok-sorted.ensures c.sort_unstable_by.ensures.permutation;
+  sorted = c.sort_unstable_by.ensures.sorted (λ a b. is_lt (name_cmp (name_at c.args.keys.now.names a) (name_at c.args.keys.now.names b))) (ranks_by name_cmp_total (name_at c.args.keys.now.names)) (always_returns_same _ _ _ (λ a r q k. search rules));
+}

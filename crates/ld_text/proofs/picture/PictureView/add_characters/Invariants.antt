@@ -1,0 +1,11 @@
+use Rattle.std.proofs.Common.{take}
+use Rattle.ld_graph.specs.FactBits.{HasFact}
+use Rattle.ld_text.specs.Groups.{GrowsBy, InTurn}
+use Rattle.ld_text.specs.Report.{IsUsageCharacter}
+use Rattle.ld_text.proofs.picture.PictureView.add_characters.Given as goal
+
+-- the characters so far
+abbrev pub invariant-loop-form : goal.invariant-loop-form
+invariant-loop-form l =
+    GrowsBy (InTurn (λ form. IsUsageCharacter (HasFact l.self.settled.now) l.key form.0 form.1) (take l.form-index l.form-items))
+    l.initial.text.items l.text.items

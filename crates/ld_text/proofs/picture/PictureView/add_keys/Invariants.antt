@@ -1,0 +1,11 @@
+use Rattle.std.proofs.Common.{take}
+use Rattle.ld_graph.specs.FactBits.{HasFact}
+use Rattle.ld_text.specs.Groups.{GrowsBy, InTurn}
+use Rattle.ld_text.specs.Picture.{ShowsKey}
+use Rattle.ld_text.proofs.picture.PictureView.add_keys.Given as goal
+
+-- the lines of the keys so far
+abbrev pub invariant-loop-key : goal.invariant-loop-key
+invariant-loop-key l =
+    GrowsBy (InTurn (ShowsKey (HasFact l.self.settled.now) l.self.names.now.names l.self.keys.now l.self.only) (take l.key-index l.key-items))
+    l.initial.text.items l.text.items

@@ -1,0 +1,8 @@
+use Rattle.std.proofs.Common.{Any, take}
+use Rattle.ld_graph.specs.FactBits.{HasFact}
+use Rattle.ld_graph.specs.Links.{IsDouble}
+use Rattle.ld_text.proofs.picture.PictureView.is_double.Given as goal
+
+-- none of the states so far
+abbrev pub invariant-loop-irq : goal.invariant-loop-irq
+invariant-loop-irq l = ¬ Any (λ irq. IsDouble (HasFact l.self.settled.now) irq l.key) (take l.irq-index l.irq-items)

@@ -1,0 +1,10 @@
+pub mod ChainLines
+pub mod Explanation
+pub mod Groups
+pub mod Inside
+pub mod Order
+pub mod Output
+pub mod Picture
+pub mod Report
+pub mod Words
+pub mod WriteFaults

@@ -1,0 +1,21 @@
+-- The order of keys in a report. This project's own.
+use Rattle.std.specs.Prelude.{ℕ, zero, suc, List, [], ◌∷◌, ◌++◌, length, IsPermutation, IsSorted}
+use Rattle.std.specs.Ordering.{nat_cmp, ordering_then}
+use Rattle.std.specs.declared.cmp.Ordering.{Ordering}
+use Rattle.std.specs.Cmp.Lexicographic.{slice_cmp}
+use Rattle.ld_trace.specs.Names.{Name}
+use Rattle.ld_text.specs.Words.{name_at}
+
+-- names are compared by their bytes, and then by their subclass
+abbrev pub name_cmp : Name → Name → Ordering
+name_cmp a b = ordering_then (slice_cmp nat_cmp a.0 b.0) (nat_cmp a.1 b.1)
+
+-- the numbers below n
+unfoldable pub numbers_below : ℕ → List ℕ
+numbers_below zero = []
+numbers_below (suc n) = numbers_below n ++ n ∷ []
+
+-- all keys of the table, in the order of their names
+pub record IsKeyOrder (names : List Name) (keys : List ℕ) : Type 0 where
+  pub all : IsPermutation (numbers_below (length names)) keys
+  pub sorted : IsSorted (λ a b. name_cmp (name_at names a) (name_at names b)) keys

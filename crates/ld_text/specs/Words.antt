@@ -1,0 +1,59 @@
+-- The words of the program's texts [this project's own].
+use Rattle.std.specs.Prelude.{ℕ, Bool, true, false, List, [], ◌++◌, codes, decimal, slice_get, unwrap_or}
+use Rattle.ld_trace.specs.Names.{Name}
+use Rattle.ld_trace.specs.declared.event.Irq.{Irq}
+use Rattle.ld_trace.specs.declared.event.Irq.TheVariants.{Hard, Soft}
+use Rattle.ld_trace.specs.declared.event.Mode.{Mode}
+use Rattle.ld_trace.specs.declared.event.Mode.TheVariants.{Write, Read, RecRead, TryWrite, TryRead, TryRecRead}
+use Rattle.ld_task.specs.declared.frame.Frame.{Frame}
+use Rattle.ld_task.specs.declared.frame.Frame.TheVariants.{Task, Softirq, Hardirq}
+use Rattle.ld_task.specs.declared.kind.Kind.{Kind}
+use Rattle.ld_task.specs.declared.kind.Kind.TheVariants.{Er, En, Sr, Sn}
+
+-- a text, as its bytes
+abbrev pub Text : Type 0
+Text = List ℕ
+
+-- what texts call the trace at this place: its file, or standard input where no file is named
+abbrev pub file_at : List Text → ℕ → Text
+file_at files place = unwrap_or (slice_get files place) (codes "stdin")
+
+-- the name of the key of this number; an empty one where there is no such key
+abbrev pub name_at : List Name → ℕ → Name
+name_at names key = unwrap_or (slice_get names key) ([], 0)
+
+-- a key: its class's name, a slash and its subclass
+abbrev pub key_text : Name → List ℕ
+key_text name = name.0 ++ (codes "/" ++ decimal name.1)
+
+-- a state's word
+abbrev pub irq_text : Irq → List ℕ
+irq_text Hard = codes "hardirq"
+irq_text Soft = codes "softirq"
+
+-- a kind's word
+abbrev pub kind_text : Kind → List ℕ
+kind_text Er = codes "ER"
+kind_text En = codes "EN"
+kind_text Sr = codes "SR"
+kind_text Sn = codes "SN"
+
+-- a mode's word
+abbrev pub mode_text : Mode → List ℕ
+mode_text Write = codes "w"
+mode_text Read = codes "r"
+mode_text RecRead = codes "rr"
+mode_text TryWrite = codes "tw"
+mode_text TryRead = codes "tr"
+mode_text TryRecRead = codes "trr"
+
+-- a frame's word
+abbrev pub frame_text : Frame → List ℕ
+frame_text Task = codes "task"
+frame_text Softirq = codes "softirq"
+frame_text Hardirq = codes "hardirq"
+
+-- a flag's word
+abbrev pub flag_text : Bool → List ℕ
+flag_text true = codes "on"
+flag_text false = codes "off"

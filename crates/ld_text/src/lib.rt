@@ -1,0 +1,23 @@
+//! The texts: what was found is put into words here, as a report, as an explanation and as a picture, and the chains of a
+//! trace as lines; and a text is written out.
+#![tactic(auto)]
+
+mod because;
+mod chains_text;
+mod explanation;
+mod line_ends;
+mod order;
+mod output;
+mod picture;
+mod report;
+mod words;
+mod write_fault;
+
+pub use chains_text::write_chains;
+pub use explanation::write_explanation;
+pub use order::sorted_keys;
+pub use output::{write_text, write_texts};
+pub use picture::write_picture;
+pub use report::{event_count, write_report};
+pub use words::{STDIN, digits_of, file_of};
+pub use write_fault::WriteFault;

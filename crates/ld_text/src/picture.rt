@@ -1,0 +1,428 @@
+//! The facts as a picture: a graph in the language DOT.
+
+ghost use Rattle.std.specs.Prelude.{◌≡◌, ◌++◌, ◌↔◌, List, ℕ, Any, IfErr, IfOk, IsTrue, OnOk, flat_map};
+ghost use Rattle.std.specs.Io.KnownBytes.{Appends};
+ghost use Rattle.ld_graph.specs.Arrows.{arrow};
+ghost use Rattle.ld_graph.specs.FactBits.{HasFact};
+ghost use Rattle.ld_graph.specs.Links.{IsDouble};
+ghost use Rattle.ld_text.specs.WriteFaults.{StopsWriting};
+ghost use Rattle.ld_text.specs.Groups.{GrowsBy, InTurn};
+ghost use Rattle.ld_text.specs.Picture.{AreJoined, IsFoundArrow, IsFoundKey, IsNode, IsPicture, ShowsDoubleLink, ShowsEdge, ShowsInversionLink, ShowsKey, arrow_text, end_text, escaped, quoted_key};
+ghost use Rattle.ld_text.specs.Report.{IsUsageCharacter, forms, kinds, states};
+ghost use Rattle.ld_text.specs.Words.{name_at};
+
+use crate::order::sorted_keys;
+use crate::output::write_text;
+use crate::report::{FORMS, KINDS, STATES, usage_character};
+use crate::words::{digits_of, irq_word, kind_word, name_of};
+use crate::write_fault::WriteFault;
+use ld_graph::Kind;
+use ld_run::Settled;
+use ld_trace::{Irq, KeyId, KeyTable};
+use std::alloc::{AllocError, Global};
+use std::io::Write;
+
+// How the line of a double or an inversion ends, behind its label.
+const LINK_END: &str = ", style=dashed, color=red, fontcolor=red];\n";
+
+// What a picture is written from.
+#[derive(Clone, Copy)]
+struct PictureView<'a> {
+    // The facts, with what they mean.
+    settled: &'a Settled,
+    // The names of the keys.
+    names: &'a KeyTable,
+    // All keys, in the order of their names.
+    keys: &'a [KeyId],
+    // Whether only what is part of a finding is shown.
+    only: bool,
+}
+
+// Appends a text.
+fn add(text: &mut Vec<u8>, more: &str) -> Result<(), AllocError>
+    ensures { OnOk result (text.new.items ≡ text.old.items ++ more.now) }
+{
+    text.extend_from_slice(more.as_bytes())
+}
+
+// Appends a byte as it stands between double quotes.
+fn add_escaped(text: &mut Vec<u8>, byte: u8) -> Result<(), AllocError>
+    ensures { OnOk result (text.new.items ≡ text.old.items ++ escaped byte) }
+{
+    match byte {
+        b'"' => add(text, "\\\""),
+        b'\\' => add(text, "\\\\"),
+        _ => Ok(text.push(byte)?),
+    }
+}
+
+// Appends the bytes of a class's name as they stand between double quotes.
+fn add_name(text: &mut Vec<u8>, name: &[u8]) -> Result<(), AllocError>
+    ensures { OnOk result (text.new.items ≡ text.old.items ++ flat_map escaped name.now) }
+{
+    for byte in name {
+        add_escaped(text, *byte)?;
+    }
+    Ok(())
+}
+
+// Appends how the line of a key or a dependency ends, behind its label.
+fn add_end(text: &mut Vec<u8>, red: bool) -> Result<(), AllocError>
+    ensures { OnOk result (text.new.items ≡ text.old.items ++ end_text red) }
+{
+    add(
+        text,
+        if red {
+            ", color=red, fontcolor=red];\n"
+        } else {
+            "];\n"
+        },
+    )
+}
+
+impl PictureView<'_> {
+    // Whether the dependency is part of a finding.
+    fn is_found(self, from: KeyId, to: KeyId, kind: Kind) -> bool
+        ensures { IsTrue result ↔ IsFoundArrow (HasFact self.entry.settled.now) (arrow from to kind) }
+    {
+        let (from, to) = (from.get(), to.get());
+        self.settled.on_circle(from, to, kind) || self.settled.in_inversion(from, to, kind)
+    }
+
+    // Whether a dependency that is part of a finding leads from the one key to the other or back.
+    fn are_joined(self, key: KeyId, other: KeyId) -> bool
+        ensures { IsTrue result ↔ AreJoined (HasFact self.entry.settled.now) key other }
+    {
+        for kind in KINDS {
+            if self.is_found(key, other, kind) || self.is_found(other, key, kind) {
+                return true;
+            }
+        }
+        false
+    }
+
+    // Whether a dependency that is part of a finding leads from the key or to it.
+    fn is_joined(self, key: KeyId) -> bool
+        ensures { IsTrue result ↔ Any (AreJoined (HasFact self.entry.settled.now) key) self.entry.keys.now }
+    {
+        for other in self.keys {
+            if self.are_joined(key, *other) {
+                return true;
+            }
+        }
+        false
+    }
+
+    // Whether the key is a double of some state.
+    fn is_double(self, key: KeyId) -> bool
+        ensures { IsTrue result ↔ Any (λ irq. IsDouble (HasFact self.entry.settled.now) irq key) states }
+    {
+        for irq in STATES {
+            if self.settled.is_double(irq, key.get()) {
+                return true;
+            }
+        }
+        false
+    }
+
+    // Whether the key is part of a finding.
+    fn is_found_key(self, key: KeyId) -> bool
+        ensures { IsTrue result ↔ IsFoundKey (HasFact self.entry.settled.now) self.entry.keys.now key }
+    {
+        self.is_double(key) || self.is_joined(key)
+    }
+
+    // A key as it stands between double quotes.
+    fn add_key(self, text: &mut Vec<u8>, key: KeyId) -> Result<(), AllocError>
+        ensures { OnOk result (text.new.items
+            ≡ text.old.items ++ quoted_key (name_at self.entry.names.now.names key)) }
+    {
+        let (name, sub) = name_of(self.names, key);
+        add_name(text, name.as_bytes())?;
+        add(text, "/")?;
+        add(text, digits_of(sub as usize).as_str())
+    }
+
+    // The four usage characters of a key.
+    fn add_characters(self, text: &mut Vec<u8>, key: KeyId) -> Result<(), AllocError>
+        ensures { OnOk result (GrowsBy
+            (InTurn (λ form. IsUsageCharacter (HasFact self.entry.settled.now) key form.0 form.1) forms)
+            text.old.items text.new.items) }
+    {
+        for form in FORMS {
+            add(text, usage_character(self.settled, key, form.0, form.1))?;
+        }
+        Ok(())
+    }
+
+    // The line of a key.
+    fn add_node(self, text: &mut Vec<u8>, key: KeyId, red: bool) -> Result<(), AllocError>
+        ensures { OnOk result (GrowsBy
+            (IsNode (HasFact self.entry.settled.now) self.entry.names.now.names key red)
+            text.old.items text.new.items) }
+    {
+        add(text, "  \"")?;
+        self.add_key(text, key)?;
+        add(text, "\" [label=\"")?;
+        self.add_key(text, key)?;
+        add(text, " {")?;
+        self.add_characters(text, key)?;
+        add(text, "}\"")?;
+        add_end(text, red)
+    }
+
+    // The line of a key, where it is shown.
+    fn add_shown_key(self, text: &mut Vec<u8>, key: KeyId) -> Result<(), AllocError>
+        ensures { OnOk result (GrowsBy
+            (ShowsKey (HasFact self.entry.settled.now) self.entry.names.now.names self.entry.keys.now self.entry.only key)
+            text.old.items text.new.items) }
+    {
+        let red = self.is_found_key(key);
+        if red || !self.only {
+            self.add_node(text, key, red)?;
+        }
+        Ok(())
+    }
+
+    // The lines of the keys.
+    fn add_keys(self, text: &mut Vec<u8>) -> Result<(), AllocError>
+        ensures { OnOk result (GrowsBy
+            (InTurn (ShowsKey (HasFact self.entry.settled.now) self.entry.names.now.names self.entry.keys.now
+            self.entry.only) self.entry.keys.now)
+            text.old.items text.new.items) }
+    {
+        for key in self.keys {
+            self.add_shown_key(text, *key)?;
+        }
+        Ok(())
+    }
+
+    // An arrow from a key to a key, with its label.
+    fn add_arrow(
+        self,
+        text: &mut Vec<u8>,
+        from: KeyId,
+        to: KeyId,
+        label: &str,
+    ) -> Result<(), AllocError>
+        ensures { OnOk result (text.new.items
+            ≡ text.old.items ++ arrow_text self.entry.names.now.names from to label.now) }
+    {
+        add(text, "  \"")?;
+        self.add_key(text, from)?;
+        add(text, "\" -> \"")?;
+        self.add_key(text, to)?;
+        add(text, "\" [label=\"")?;
+        add(text, label)?;
+        add(text, "\"")
+    }
+
+    // The line of a dependency, where there is one and it is shown.
+    fn add_edge(
+        self,
+        text: &mut Vec<u8>,
+        from: KeyId,
+        to: KeyId,
+        kind: Kind,
+    ) -> Result<(), AllocError>
+        ensures { OnOk result (GrowsBy
+            (ShowsEdge (HasFact self.entry.settled.now) self.entry.names.now.names self.entry.only (arrow from to kind))
+            text.old.items text.new.items) }
+    {
+        if !self.settled.has_dep(from.get(), to.get(), kind) {
+            return Ok(());
+        }
+        let red = self.is_found(from, to, kind);
+        if red || !self.only {
+            self.add_arrow(text, from, to, kind_word(kind))?;
+            add_end(text, red)?;
+        }
+        Ok(())
+    }
+
+    // The lines of the dependencies from the one key to the other.
+    fn add_edges_to(self, text: &mut Vec<u8>, from: KeyId, to: KeyId) -> Result<(), AllocError>
+        ensures { OnOk result (GrowsBy
+            (InTurn (λ kind. ShowsEdge (HasFact self.entry.settled.now) self.entry.names.now.names self.entry.only
+            (arrow from to kind)) kinds)
+            text.old.items text.new.items) }
+    {
+        for kind in KINDS {
+            self.add_edge(text, from, to, kind)?;
+        }
+        Ok(())
+    }
+
+    // The lines of the dependencies from the key.
+    fn add_edges_from(self, text: &mut Vec<u8>, from: KeyId) -> Result<(), AllocError>
+        ensures { OnOk result (GrowsBy
+            (InTurn (λ to. InTurn (λ kind. ShowsEdge (HasFact self.entry.settled.now) self.entry.names.now.names
+            self.entry.only (arrow from to kind)) kinds) self.entry.keys.now)
+            text.old.items text.new.items) }
+    {
+        for to in self.keys {
+            self.add_edges_to(text, from, *to)?;
+        }
+        Ok(())
+    }
+
+    // The lines of the dependencies.
+    fn add_edges(self, text: &mut Vec<u8>) -> Result<(), AllocError>
+        ensures { OnOk result (GrowsBy
+            (InTurn (λ from. InTurn (λ to. InTurn (λ kind. ShowsEdge (HasFact self.entry.settled.now)
+            self.entry.names.now.names self.entry.only (arrow from to kind)) kinds) self.entry.keys.now)
+            self.entry.keys.now)
+            text.old.items text.new.items) }
+    {
+        for from in self.keys {
+            self.add_edges_from(text, *from)?;
+        }
+        Ok(())
+    }
+
+    // The line of a key to itself, where it is a double.
+    fn add_double(self, text: &mut Vec<u8>, irq: Irq, key: KeyId) -> Result<(), AllocError>
+        ensures { OnOk result (GrowsBy
+            (ShowsDoubleLink (HasFact self.entry.settled.now) self.entry.names.now.names irq key)
+            text.old.items text.new.items) }
+    {
+        if self.settled.is_double(irq, key.get()) {
+            self.add_arrow(text, key, key, irq_word(irq))?;
+            add(text, LINK_END)?;
+        }
+        Ok(())
+    }
+
+    // The lines of the doubles of one state.
+    fn add_doubles_of(self, text: &mut Vec<u8>, irq: Irq) -> Result<(), AllocError>
+        ensures { OnOk result (GrowsBy
+            (InTurn (ShowsDoubleLink (HasFact self.entry.settled.now) self.entry.names.now.names irq) self.entry.keys.now)
+            text.old.items text.new.items) }
+    {
+        for key in self.keys {
+            self.add_double(text, irq, *key)?;
+        }
+        Ok(())
+    }
+
+    // The lines of the doubles.
+    fn add_doubles(self, text: &mut Vec<u8>) -> Result<(), AllocError>
+        ensures { OnOk result (GrowsBy
+            (InTurn (λ irq. InTurn (ShowsDoubleLink (HasFact self.entry.settled.now) self.entry.names.now.names irq)
+            self.entry.keys.now) states)
+            text.old.items text.new.items) }
+    {
+        for irq in STATES {
+            self.add_doubles_of(text, irq)?;
+        }
+        Ok(())
+    }
+
+    // The line from the second key to the first, where they are an inversion.
+    fn add_inversion(
+        self,
+        text: &mut Vec<u8>,
+        irq: Irq,
+        a: KeyId,
+        b: KeyId,
+    ) -> Result<(), AllocError>
+        ensures { OnOk result (GrowsBy
+            (ShowsInversionLink (HasFact self.entry.settled.now) self.entry.names.now.names irq a b)
+            text.old.items text.new.items) }
+    {
+        if self.settled.is_inversion(irq, a.get(), b.get()) {
+            self.add_arrow(text, b, a, irq_word(irq))?;
+            add(text, LINK_END)?;
+        }
+        Ok(())
+    }
+
+    // The lines of the inversions of one state and one first key.
+    fn add_inversions_from(self, text: &mut Vec<u8>, irq: Irq, a: KeyId) -> Result<(), AllocError>
+        ensures { OnOk result (GrowsBy
+            (InTurn (ShowsInversionLink (HasFact self.entry.settled.now) self.entry.names.now.names irq a)
+            self.entry.keys.now)
+            text.old.items text.new.items) }
+    {
+        for b in self.keys {
+            self.add_inversion(text, irq, a, *b)?;
+        }
+        Ok(())
+    }
+
+    // The lines of the inversions of one state.
+    fn add_inversions_of(self, text: &mut Vec<u8>, irq: Irq) -> Result<(), AllocError>
+        ensures { OnOk result (GrowsBy
+            (InTurn (λ a. InTurn (ShowsInversionLink (HasFact self.entry.settled.now) self.entry.names.now.names irq a)
+            self.entry.keys.now) self.entry.keys.now)
+            text.old.items text.new.items) }
+    {
+        for a in self.keys {
+            self.add_inversions_from(text, irq, *a)?;
+        }
+        Ok(())
+    }
+
+    // The lines of the inversions.
+    fn add_inversions(self, text: &mut Vec<u8>) -> Result<(), AllocError>
+        ensures { OnOk result (GrowsBy
+            (InTurn (λ irq. InTurn (λ a. InTurn (ShowsInversionLink (HasFact self.entry.settled.now)
+            self.entry.names.now.names irq a) self.entry.keys.now) self.entry.keys.now) states)
+            text.old.items text.new.items) }
+    {
+        for irq in STATES {
+            self.add_inversions_of(text, irq)?;
+        }
+        Ok(())
+    }
+}
+
+// The text of the picture of the settled facts.
+fn picture_text(
+    alloc: Global,
+    settled: &Settled,
+    names: &KeyTable,
+    findings: bool,
+) -> Result<Vec<u8>, AllocError>
+    ensures { IfOk result (λ text. IsPicture (HasFact settled.now) findings names.now.names text.items) }
+{
+    let keys = sorted_keys(alloc, names)?;
+    let keys = keys.as_slice();
+    let view = PictureView {
+        settled,
+        names,
+        keys,
+        only: findings,
+    };
+    let mut text = Vec::new(alloc);
+    add(&mut text, "digraph lockdep {\n  node [shape=box];\n")?;
+    view.add_keys(&mut text)?;
+    view.add_edges(&mut text)?;
+    view.add_doubles(&mut text)?;
+    view.add_inversions(&mut text)?;
+    add(&mut text, "}\n")?;
+    Ok(text)
+}
+
+/// Writes the picture of settled facts, with the names of the keys that are in the table: all of them, or where
+/// `findings` is set, only what is part of a circle, a double or an inversion.
+///
+/// Refusals: O3 where memory for the text is refused, before its first byte; O1 where the writer answers an error and O2
+/// where it takes nothing, after exactly a beginning of the text. This project's own.
+pub fn write_picture<W: Write>(
+    alloc: Global,
+    w: &mut W,
+    settled: &Settled,
+    names: &KeyTable,
+    findings: bool,
+) -> Result<(), WriteFault>
+    ensures ok { OnOk result ((text : List ℕ) × IsPicture (HasFact settled.now) findings names.now.names text
+        × Appends (W.contents w.old) (W.contents w.new) text) }
+    ensures err { IfErr result (StopsWriting (IsPicture (HasFact settled.now) findings names.now.names)
+        (W.contents w.old) (W.contents w.new)) }
+{
+    match picture_text(alloc, settled, names, findings) {
+        Ok(text) => write_text(w, text.as_slice()),
+        Err(_) => Err(WriteFault::Memory),
+    }
+}

@@ -1,0 +1,15 @@
+use Rattle.std.proofs.Common.{codes, refl}
+use Rattle.clap.specs.Words.{found_of}
+use Rattle.ld_words.proofs.LineLemmas.{flag-read}
+use Rattle.ld_words.proofs.words.graph_line.Goals as goal
+
+pub returns-clause-ok : goal.returns-clause-ok
+returns-clause-ok c =
+    let found = found_of c.args.found.now in (
+      refl,
+      (
+        c.in_ok-workers.ensures.ok,
+        flag-read found (codes "many") c.get_flag-many.result c.get_flag-many.ensures.value c.get_flag-many.ensures.other,
+        flag-read found (codes "findings") c.get_flag-findings.result c.get_flag-findings.ensures.value c.get_flag-findings.ensures.other,
+      ),
+    )

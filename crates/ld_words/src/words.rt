@@ -1,0 +1,336 @@
+//! What a command line asks for.
+
+ghost use Rattle.std.specs.Prelude.{◌≡◌, ◌↔◌, [], false, ℕ, List, IfOk, IfErr, map, unwrap_or, codes};
+ghost use Rattle.clap.specs.Words.{HasKind, all_of, app_of, fault_of as clap_faults, found_of, kind_of, rows_of, rule_of, shape_of, subcommand_rows_of};
+ghost use Rattle.clap.specs.declared.builder.command.Command.TheViews.{out-Command};
+ghost use Rattle.ld_words.specs.CommandLine.{IsLineFault, IsLineIn, IsLineOf, ReadsCheck, ReadsLine, chains_shape, check_shape, condense_shape, explain_shape, file_rule, files_rule, findings_rule, graph_shape, lockdep_app, many_rule, subcommand_word, workers_rule};
+
+use clap::error::ErrorKind;
+use clap::{Arg, ArgAction, ArgMatches, Command, value_parser};
+use std::alloc::{AllocError, Global};
+
+/// The program's version.
+pub const VERSION: &str = "0.6.0";
+
+/// What a command line asks for.
+#[derive(Debug, Drop)]
+pub enum Line<'a> {
+    /// The report of the traces in these files, or of the one on standard input where no file is named, by so many workers; of
+    /// many keys, if `many` is set.
+    Check {
+        workers: u16,
+        many: bool,
+        files: Vec<&'a str>,
+    },
+    /// What was found in these traces, and the records that it comes from.
+    Explain {
+        workers: u16,
+        many: bool,
+        files: Vec<&'a str>,
+    },
+    /// Their facts as a picture; only what is part of a finding, if `findings` is set.
+    Graph {
+        workers: u16,
+        many: bool,
+        findings: bool,
+        files: Vec<&'a str>,
+    },
+    /// One trace that has exactly their facts.
+    Condense {
+        workers: u16,
+        files: Vec<&'a str>,
+    },
+    /// The chains of the trace in this file, or of the one on standard input where no file is named.
+    Chains {
+        file: Option<&'a str>,
+    },
+}
+
+/// Why a command line asks for nothing that the program does with traces.
+#[derive(Debug, Drop)]
+pub enum LineFault {
+    /// Help or the version was asked for. The error's text is what to write.
+    Help(clap::Error),
+    /// P1: the words are no command line of the program.
+    Refused,
+    /// P4: memory was refused.
+    Memory,
+}
+
+// The number of workers, `--workers N`.
+fn workers_option<'a>(alloc: Global) -> Arg<'a>
+    ensures rule { rule_of result ≡ workers_rule }
+    ensures local { result.global ≡ false }
+{
+    Arg::new(alloc, "workers")
+        .long("workers")
+        .value_name("N")
+        .value_parser(value_parser!(u16))
+        .default_value("4")
+        .help("How many workers check the traces, from 1 to 64")
+}
+
+// Whether there may be many keys, `--many`.
+fn many_option<'a>(alloc: Global) -> Arg<'a>
+    ensures rule { rule_of result ≡ many_rule }
+    ensures local { result.global ≡ false }
+{
+    Arg::new(alloc, "many")
+        .long("many")
+        .action(ArgAction::SetTrue)
+        .help("Take up to 8192 lock keys in place of 256")
+}
+
+// The files of traces, in their order.
+fn files_argument<'a>(alloc: Global) -> Arg<'a>
+    ensures rule { rule_of result ≡ files_rule }
+    ensures local { result.global ≡ false }
+{
+    Arg::new(alloc, "FILE").num_args(0..).help(
+        "A file with a trace; without one, a trace is read from standard input",
+    )
+}
+
+// The one file of a trace.
+fn file_argument<'a>(alloc: Global) -> Arg<'a>
+    ensures rule { rule_of result ≡ file_rule }
+    ensures local { result.global ≡ false }
+{
+    Arg::new(alloc, "FILE").help(
+        "A file with a trace; without one, a trace is read from standard input",
+    )
+}
+
+// Whether only findings are wanted, `--findings`.
+fn findings_option<'a>(alloc: Global) -> Arg<'a>
+    ensures rule { rule_of result ≡ findings_rule }
+    ensures local { result.global ≡ false }
+{
+    Arg::new(alloc, "findings")
+        .long("findings")
+        .action(ArgAction::SetTrue)
+        .help("Show only what is part of a finding")
+}
+
+// The command lines of the report.
+fn check_command<'a>(alloc: Global) -> Result<Command<'a>, AllocError>
+    ensures shape { IfOk result (λ command. shape_of command ≡ check_shape) }
+    ensures local { IfOk result (λ command. (out-Command command).has_globals ≡ false) }
+{
+    Command::new(alloc, "check")
+        .about("Reads traces and writes the report of their lock order")
+        .arg(workers_option(alloc))?
+        .arg(many_option(alloc))?
+        .arg(files_argument(alloc))
+}
+
+// The command lines of the explanation.
+fn explain_command<'a>(alloc: Global) -> Result<Command<'a>, AllocError>
+    ensures shape { IfOk result (λ command. shape_of command ≡ explain_shape) }
+    ensures local { IfOk result (λ command. (out-Command command).has_globals ≡ false) }
+{
+    Command::new(alloc, "explain")
+        .about("Reads traces and writes what was found, with the records that it comes from")
+        .arg(workers_option(alloc))?
+        .arg(many_option(alloc))?
+        .arg(files_argument(alloc))
+}
+
+// The command lines of the picture.
+fn graph_command<'a>(alloc: Global) -> Result<Command<'a>, AllocError>
+    ensures shape { IfOk result (λ command. shape_of command ≡ graph_shape) }
+    ensures local { IfOk result (λ command. (out-Command command).has_globals ≡ false) }
+{
+    Command::new(alloc, "graph")
+        .about("Reads traces and writes their lock order as a graph in the language DOT")
+        .arg(workers_option(alloc))?
+        .arg(many_option(alloc))?
+        .arg(findings_option(alloc))?
+        .arg(files_argument(alloc))
+}
+
+// The command lines of the condensed trace.
+fn condense_command<'a>(alloc: Global) -> Result<Command<'a>, AllocError>
+    ensures shape { IfOk result (λ command. shape_of command ≡ condense_shape) }
+    ensures local { IfOk result (λ command. (out-Command command).has_globals ≡ false) }
+{
+    Command::new(alloc, "condense")
+        .about("Reads traces and writes one trace that has their lock order and usage")
+        .arg(workers_option(alloc))?
+        .arg(files_argument(alloc))
+}
+
+// The command lines of the chains.
+fn chains_command<'a>(alloc: Global) -> Result<Command<'a>, AllocError>
+    ensures shape { IfOk result (λ command. shape_of command ≡ chains_shape) }
+    ensures local { IfOk result (λ command. (out-Command command).has_globals ≡ false) }
+{
+    Command::new(alloc, "chains")
+        .about("Reads a trace and writes its chains")
+        .arg(file_argument(alloc))
+}
+
+// The command lines that the program takes.
+fn command<'a>(alloc: Global) -> Result<Command<'a>, AllocError>
+    ensures { IfOk result (λ command. app_of command ≡ lockdep_app) }
+{
+    let check = check_command(alloc)?;
+    let explain = explain_command(alloc)?;
+    let graph = graph_command(alloc)?;
+    let condense = condense_command(alloc)?;
+    let chains = chains_command(alloc)?;
+    Command::new(alloc, "lockdep")
+        .about("Checks recorded traces of tasks for lock orders that can deadlock")
+        .version(VERSION)
+        .subcommand_required(true)
+        .subcommand(check)?
+        .subcommand(explain)?
+        .subcommand(graph)?
+        .subcommand(condense)?
+        .subcommand(chains)
+}
+
+// The FILE words.
+fn files_of<'a>(alloc: Global, found: &ArgMatches<'a>) -> Result<Vec<&'a str>, AllocError>
+    ensures { IfOk result (λ files. map (λ file. file.now) files.items
+        ≡ unwrap_or (all_of (codes "FILE") (rows_of (found_of found.now))) []) }
+{
+    let mut files = Vec::new(alloc);
+    if let Some(given) = found.get_raw("FILE") {
+        files.extend_from_slice(given)?;
+    }
+    Ok(files)
+}
+
+// The workers and the files that the words of a subcommand say.
+fn workers_and_files<'a>(
+    alloc: Global,
+    found: &ArgMatches<'a>,
+) -> Result<(u16, Vec<&'a str>), LineFault>
+    ensures ok { IfOk result (λ read. ReadsCheck (rows_of (found_of found.now)) read.0
+        (map (λ file. file.now) read.1.items)) }
+    ensures no_help { IfErr result (λ fault. (words : List (List ℕ)) → IsLineFault words fault) }
+{
+    let Some(workers) = found.get_one::<u16>("workers") else {
+        return Err(LineFault::Refused);
+    };
+    match files_of(alloc, found) {
+        Ok(files) => Ok((workers, files)),
+        Err(_) => Err(LineFault::Memory),
+    }
+}
+
+// What the words of `check` ask for.
+fn check_line<'a>(alloc: Global, found: &ArgMatches<'a>) -> Result<Line<'a>, LineFault>
+    ensures ok { IfOk result (λ line. (subcommand_word line ≡ codes "check")
+        × ReadsLine (rows_of (found_of found.now)) line) }
+    ensures no_help { IfErr result (λ fault. (words : List (List ℕ)) → IsLineFault words fault) }
+{
+    let (workers, files) = workers_and_files(alloc, found)?;
+    let many = found.get_flag("many");
+    Ok(Line::Check {
+        workers,
+        many,
+        files,
+    })
+}
+
+// What the words of `explain` ask for.
+fn explain_line<'a>(alloc: Global, found: &ArgMatches<'a>) -> Result<Line<'a>, LineFault>
+    ensures ok { IfOk result (λ line. (subcommand_word line ≡ codes "explain")
+        × ReadsLine (rows_of (found_of found.now)) line) }
+    ensures no_help { IfErr result (λ fault. (words : List (List ℕ)) → IsLineFault words fault) }
+{
+    let (workers, files) = workers_and_files(alloc, found)?;
+    let many = found.get_flag("many");
+    Ok(Line::Explain {
+        workers,
+        many,
+        files,
+    })
+}
+
+// What the words of `graph` ask for.
+fn graph_line<'a>(alloc: Global, found: &ArgMatches<'a>) -> Result<Line<'a>, LineFault>
+    ensures ok { IfOk result (λ line. (subcommand_word line ≡ codes "graph")
+        × ReadsLine (rows_of (found_of found.now)) line) }
+    ensures no_help { IfErr result (λ fault. (words : List (List ℕ)) → IsLineFault words fault) }
+{
+    let (workers, files) = workers_and_files(alloc, found)?;
+    let many = found.get_flag("many");
+    let findings = found.get_flag("findings");
+    Ok(Line::Graph {
+        workers,
+        many,
+        findings,
+        files,
+    })
+}
+
+// What the words of `condense` ask for.
+fn condense_line<'a>(alloc: Global, found: &ArgMatches<'a>) -> Result<Line<'a>, LineFault>
+    ensures ok { IfOk result (λ line. (subcommand_word line ≡ codes "condense")
+        × ReadsLine (rows_of (found_of found.now)) line) }
+    ensures no_help { IfErr result (λ fault. (words : List (List ℕ)) → IsLineFault words fault) }
+{
+    let (workers, files) = workers_and_files(alloc, found)?;
+    Ok(Line::Condense { workers, files })
+}
+
+// What the words of a subcommand ask for.
+fn line_of<'a>(alloc: Global, matches: &ArgMatches<'a>) -> Result<Line<'a>, LineFault>
+    ensures ok { IfOk result (IsLineIn (subcommand_rows_of matches.now)) }
+    ensures no_help { IfErr result (λ fault. (words : List (List ℕ)) → IsLineFault words fault) }
+{
+    if let Some(found) = matches.subcommand_matches("check") {
+        return check_line(alloc, found);
+    }
+    if let Some(found) = matches.subcommand_matches("explain") {
+        return explain_line(alloc, found);
+    }
+    if let Some(found) = matches.subcommand_matches("graph") {
+        return graph_line(alloc, found);
+    }
+    if let Some(found) = matches.subcommand_matches("condense") {
+        return condense_line(alloc, found);
+    }
+    match matches.subcommand_matches("chains") {
+        Some(found) => Ok(Line::Chains {
+            file: found.get_str("FILE"),
+        }),
+        None => Err(LineFault::Refused),
+    }
+}
+
+// The fault for an error of clap.
+fn fault_of(error: clap::Error) -> LineFault
+    ensures fault { (words : List (List ℕ)) → HasKind (clap_faults lockdep_app words) error
+        → IsLineFault words result }
+    ensures memory { (result ≡ LineFault.Memory) ↔ (kind_of error ≡ ErrorKind.OutOfMemory) }
+{
+    match error.kind() {
+        ErrorKind::DisplayHelp | ErrorKind::DisplayVersion => LineFault::Help(error),
+        ErrorKind::OutOfMemory => LineFault::Memory,
+        _ => LineFault::Refused,
+    }
+}
+
+/// What the command line asks for. The words begin with the program's name, and are read as `clap` defines it: `check
+/// [--workers N] [--many] [FILE...]`, with N a whole number from 0 to 65,535 and 4 where it isn't given, `explain [--workers N]
+/// [--many] [FILE...]`, `graph [--workers N] [--many] [--findings] [FILE...]`, `condense [--workers N] [FILE...]` and `chains
+/// [FILE]`.
+///
+/// Refusals: `Help` where help or the version is asked for, `Memory` where memory is refused, and `Refused` for every other
+/// line that isn't taken [this project's own].
+pub fn command_line<'a>(alloc: Global, words: &'a [&'a str]) -> Result<Line<'a>, LineFault>
+    ensures ok { IfOk result (IsLineOf (map (λ word. word.now) words.entry.now)) }
+    ensures refused { IfErr result (IsLineFault (map (λ word. word.now) words.entry.now)) }
+{
+    let Ok(command) = command(alloc) else {
+        return Err(LineFault::Memory);
+    };
+    match command.try_get_matches_from(words) {
+        Ok(matches) => line_of(alloc, &matches),
+        Err(error) => Err(fault_of(error)),
+    }
+}

@@ -1,7 +1,0 @@
-use Rattle.std.specs.List.{IsFirstBest}
-use Rattle.lockdep.specs.Inside.Turning.{starts_before}
-use Rattle.lockdep.proofs.because.least_start.Given as goal
-
--- the least so far
-abbrev pub invariant-loop-i : goal.invariant-loop-i
-invariant-loop-i l = IsFirstBest (starts_before l.names.names) l.circle l.i l.least

@@ -1,6 +1,0 @@
-use Rattle.lockdep.proofs.ChainLemmas.{PutsLines}
-use Rattle.lockdep.proofs.chains_text.write_chains.Given as goal
-
--- the lines of the events so far
-abbrev pub invariant-loop-place : goal.invariant-loop-place
-invariant-loop-place g l = PutsLines (g.W.Write.contents l.initial.w) (g.W.Write.contents l.w) l.page.bytes l.names.names l.trace l.place l.state

@@ -1,7 +1,0 @@
-use Rattle.std.proofs.Common.{◌≡◌}
-use Rattle.lockdep.specs.Order.{numbers_below}
-use Rattle.lockdep.proofs.order.numbered_keys.Given as goal
-
--- the numbers so far
-abbrev pub invariant-loop-number : goal.invariant-loop-number
-invariant-loop-number l = l.all.items ≡ numbers_below l.number

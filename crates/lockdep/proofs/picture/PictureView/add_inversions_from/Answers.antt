@@ -1,8 +1,0 @@
-use Rattle.lockdep.proofs.GroupLemmas.{GrowsBy-more_item, GrowsBy-none}
-use Rattle.lockdep.proofs.picture.PictureView.add_inversions_from.Goals as goal
-
-pub loop-b-init : goal.loop-b-init
-loop-b-init c = GrowsBy-none _
-
-pub loop-b-preserved : goal.loop-b-preserved
-loop-b-preserved c = GrowsBy-more_item _ _ _ _ _ _ _ c.b-item.is c.loop-b-test.true c.loop-b.invariant c.in_ok-add_inversion.ensures

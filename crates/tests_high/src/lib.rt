@@ -1,0 +1,11 @@
+//! Tests of the crates that take many traces together: boards, runs, and where facts come from.
+#![tactic(auto)]
+
+#[cfg(test)]
+mod boards;
+#[cfg(test)]
+mod lines;
+#[cfg(test)]
+mod origins;
+#[cfg(test)]
+mod runs;

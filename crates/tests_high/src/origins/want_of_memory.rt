@@ -1,0 +1,54 @@
+//! What a refused request for memory leaves. In an ordinary run none is refused: `tests/sweep` runs this test with its first
+//! request refused, its second, and so on, and counts the lines that it prints.
+
+use ld_explain::{Origin, Origins};
+use ld_graph::Kind;
+use ld_run::{OpenGate, run};
+use ld_trace::RawTrace;
+use std::alloc::Global;
+use std::io::Print;
+use std::process::Abort;
+use std::sync::Wait;
+use std::test::Fail;
+use std::thread::Threads;
+use tests_low::steps::Step::{Give, Write};
+use tests_low::steps::{A, B, traces_of};
+
+// A trace of two locks; None where memory was refused.
+fn traces(alloc: Global) -> Option<Vec<RawTrace>> {
+    traces_of(alloc, &[&[Write(A), Write(B), Give(B), Give(A)]], 1)
+}
+
+// The origin of the one dependency; None where memory was refused.
+fn origin(
+    rt: &(impl Threads + Wait + Sync + Abort + AllocGlobal),
+    traces: &[RawTrace],
+) -> Option<Option<Origin>> {
+    assert!(rt; traces.iter().all(|trace| trace.keys_below(2)));
+    let settled = run(rt, rt.alloc(), traces, 2, 1, &OpenGate).ok()?;
+    assert!(rt; settled.dependencies() == 1);
+    let origins = Origins::of(rt.alloc(), traces, 2).ok()?;
+    Some(origins.dependency(A, B, Kind::En))
+}
+
+#[test]
+fn want_of_memory_for_origins(rt: HostRuntime) -> Result<(), Fail> {
+    let both = match traces(rt.alloc()) {
+        Some(both) => both,
+        None => traces(rt.alloc()).ok_or("no traces")?,
+    };
+    let found = match origin(&rt, &both) {
+        Some(found) => found,
+        None => {
+            println!(&rt; "refused: memory")?;
+            origin(&rt, &both).ok_or("no origins")?
+        }
+    };
+    let expected = Origin {
+        trace: 0,
+        place: 1,
+        held: Some(0),
+    };
+    assert_eq!(rt; found, Some(expected));
+    Ok(())
+}

@@ -1,0 +1,8 @@
+//! What graphs say of small traces.
+
+mod facts;
+mod finds;
+mod large;
+mod ranks;
+mod stories;
+mod want_of_memory;

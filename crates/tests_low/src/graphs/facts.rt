@@ -1,0 +1,479 @@
+//! Facts of chains, and their bits.
+
+ghost use Rattle.std.specs.Prelude.{◌≤◌};
+ghost use Rattle.ld_task.specs.Chains.{ChainKeysBelow};
+ghost use Rattle.ld_trace.specs.declared.key_id.TheConstants.{MAX_KEYS};
+
+use crate::steps::Step::{Read, Reread, TurnOff, TurnOn, Write};
+use crate::steps::{A, B, C, Step, last_chain};
+use ld_graph::{Fact, FactWords, Facts, Kind, Mark, fact_words};
+use ld_task::Chain;
+use ld_trace::Irq::{Hard, Soft};
+use ld_trace::{MAX_KEYS, MAX_MANY};
+use std::alloc::Global;
+
+// The facts of the last chain of a trace, and the words that hold their bits.
+struct Last {
+    about: &'static str,
+    keys: u16,
+    trace: &'static [Step],
+    facts: &'static [Fact],
+    words: &'static [(usize, u64)],
+}
+
+static LASTS: [Last; 7] = [
+    Last {
+        about: "a lock by itself",
+        keys: 2,
+        trace: &[Write(A)],
+        facts: &[
+            Fact::Marked {
+                key: A,
+                mark: Mark::Used,
+            },
+            Fact::Marked {
+                key: A,
+                mark: Mark::Enabled {
+                    irq: Hard,
+                    read: false,
+                },
+            },
+            Fact::Marked {
+                key: A,
+                mark: Mark::Enabled {
+                    irq: Soft,
+                    read: false,
+                },
+            },
+        ],
+        words: &[(0, 1 << 16 | 1 << 19 | 1 << 23)],
+    },
+    Last {
+        about: "a lock under another",
+        keys: 2,
+        trace: &[Write(A), Write(B)],
+        facts: &[
+            Fact::Dependency {
+                from: A,
+                to: B,
+                kind: Kind::En,
+            },
+            Fact::Marked {
+                key: B,
+                mark: Mark::Used,
+            },
+            Fact::Marked {
+                key: B,
+                mark: Mark::Enabled {
+                    irq: Hard,
+                    read: false,
+                },
+            },
+            Fact::Marked {
+                key: B,
+                mark: Mark::Enabled {
+                    irq: Soft,
+                    read: false,
+                },
+            },
+        ],
+        words: &[(0, 1 << 5 | 1 << 25 | 1 << 28 | 1 << 32)],
+    },
+    Last {
+        about: "a lock with hardirqs off",
+        keys: 1,
+        trace: &[TurnOff(Hard), Write(A)],
+        facts: &[Fact::Marked {
+            key: A,
+            mark: Mark::Used,
+        }],
+        words: &[(0, 1 << 4)],
+    },
+    Last {
+        about: "hardirqs turned on while a lock is held",
+        keys: 1,
+        trace: &[TurnOff(Hard), Write(A), TurnOn(Hard)],
+        facts: &[
+            Fact::Marked {
+                key: A,
+                mark: Mark::Enabled {
+                    irq: Hard,
+                    read: false,
+                },
+            },
+            Fact::Marked {
+                key: A,
+                mark: Mark::Enabled {
+                    irq: Soft,
+                    read: false,
+                },
+            },
+        ],
+        words: &[(0, 1 << 7 | 1 << 11)],
+    },
+    Last {
+        about: "a reader under a writer and a recursive reader",
+        keys: 3,
+        trace: &[Write(A), Reread(C), Read(B)],
+        facts: &[
+            Fact::Dependency {
+                from: A,
+                to: B,
+                kind: Kind::En,
+            },
+            Fact::Dependency {
+                from: C,
+                to: B,
+                kind: Kind::Sn,
+            },
+            Fact::Marked {
+                key: B,
+                mark: Mark::Used,
+            },
+            Fact::Marked {
+                key: B,
+                mark: Mark::Enabled {
+                    irq: Hard,
+                    read: true,
+                },
+            },
+            Fact::Marked {
+                key: B,
+                mark: Mark::Enabled {
+                    irq: Soft,
+                    read: true,
+                },
+            },
+        ],
+        words: &[(0, 1 << 5 | 1 << 31 | 1 << 45 | 1 << 49 | 1 << 53)],
+    },
+    Last {
+        about: "softirqs turned on while two locks are held",
+        keys: 3,
+        trace: &[TurnOff(Soft), Read(C), Write(A), TurnOn(Soft)],
+        facts: &[
+            Fact::Marked {
+                key: C,
+                mark: Mark::Enabled {
+                    irq: Hard,
+                    read: true,
+                },
+            },
+            Fact::Marked {
+                key: C,
+                mark: Mark::Enabled {
+                    irq: Soft,
+                    read: true,
+                },
+            },
+            Fact::Marked {
+                key: A,
+                mark: Mark::Enabled {
+                    irq: Hard,
+                    read: false,
+                },
+            },
+            Fact::Marked {
+                key: A,
+                mark: Mark::Enabled {
+                    irq: Soft,
+                    read: false,
+                },
+            },
+        ],
+        words: &[(0, 1 << 39 | 1 << 43 | 1 << 58 | 1 << 62)],
+    },
+    Last {
+        about: "no lock is held where hardirqs are turned on",
+        keys: 1,
+        trace: &[TurnOff(Hard), TurnOn(Hard)],
+        facts: &[],
+        words: &[],
+    },
+];
+
+fn has_words(words: &FactWords, wanted: &[(usize, u64)]) -> bool {
+    for (i, word) in wanted.iter().enumerate() {
+        if words.get(i) != Some(*word) {
+            return false;
+        }
+    }
+    words.len() == wanted.len() && words.get(wanted.len()).is_none()
+}
+
+fn has_by_its_parts(facts: &Facts, fact: Fact) -> bool {
+    match fact {
+        Fact::Dependency { from, to, kind } => facts.has_dep(from, to, kind),
+        Fact::Marked { key, mark } => facts.has_mark(key, mark),
+    }
+}
+
+// Whether these are the facts, and no other.
+fn are_all(facts: &Facts, wanted: &[Fact]) -> bool {
+    let mut dependencies = 0u64;
+    for fact in wanted {
+        if !facts.has(*fact) || !has_by_its_parts(facts, *fact) {
+            return false;
+        }
+        if matches!(fact, Fact::Dependency { .. }) {
+            dependencies = dependencies.saturating_add(1);
+        }
+    }
+    let all = facts.dependencies().saturating_add(facts.marks());
+    facts.dependencies() == dependencies && all == wanted.len() as u64
+}
+
+// Unites the words of a chain with the facts, one by one.
+fn unite_words(facts: &mut Facts, chain: &Chain)
+    requires few { facts.old.keys ≤ MAX_KEYS }
+    requires below { ChainKeysBelow facts.old.keys chain.now }
+{
+    let words = fact_words(chain, facts.keys());
+    for i in 0..words.len() {
+        if let Some((n, bits)) = words.get(i) {
+            facts.unite_word(n, bits);
+        }
+    }
+}
+
+// The facts of the chain, which are new once, and its words.
+fn facts_of(alloc: Global, chain: &Chain, keys: u16, words: &mut FactWords) -> Option<Facts> {
+    if keys > MAX_KEYS || !chain.keys_below(keys) {
+        return None;
+    }
+    let mut facts = Facts::new(alloc, keys).ok()?;
+    words.set_to(chain, keys);
+    if facts.add_chain(chain) == (words.len() == 0) || facts.add_chain(chain) {
+        return None;
+    }
+    Some(facts)
+}
+
+// The same facts, by their words.
+fn facts_by_words(alloc: Global, chain: &Chain, keys: u16) -> Option<Facts> {
+    if keys > MAX_KEYS || !chain.keys_below(keys) {
+        return None;
+    }
+    let mut facts = Facts::new(alloc, keys).ok()?;
+    unite_words(&mut facts, chain);
+    Some(facts)
+}
+
+// The same facts, united with none.
+fn united(alloc: Global, facts: &Facts) -> Option<Facts> {
+    let mut all = Facts::new(alloc, facts.keys()).ok()?;
+    if all.same(facts) {
+        return None;
+    }
+    all.unite(facts);
+    Some(all)
+}
+
+// Whether the words of the last chain, which are put in place of others, and its facts, added in each way, are as wanted.
+fn is_as_wanted(alloc: Global, last: &Last, words: &mut FactWords) -> Option<bool> {
+    let chain = last_chain(last.trace)?;
+    let facts = facts_of(alloc, &chain, last.keys, words)?;
+    let by_words = facts_by_words(alloc, &chain, last.keys)?;
+    let same = by_words.same(&facts)
+        && (last.facts.is_empty() || united(alloc, &facts)?.same(&facts));
+    let first = match last.words.first() {
+        Some((_, bits)) => *bits,
+        None => 0,
+    };
+    let told = facts.words() == 1 && facts.word(0) == Some(first) && facts.word(1).is_none();
+    Some(same && told && has_words(words, last.words) && are_all(&facts, last.facts))
+}
+
+fn misfit(alloc: Global, lasts: &[Last]) -> Option<&'static str> {
+    let mut words = FactWords::new();
+    for last in lasts {
+        if is_as_wanted(alloc, last, &mut words) != Some(true) {
+            return Some(last.about);
+        }
+    }
+    None
+}
+
+// Whether uniting the words of each of these traces' last chains gives what adding the chains gives, over the facts of those before.
+fn are_united_in_turn(alloc: Global, traces: &[&[Step]]) -> Option<bool> {
+    let mut facts = Facts::new(alloc, 3).ok()?;
+    let mut by_words = Facts::new(alloc, 3).ok()?;
+    for trace in traces {
+        let chain = last_chain(trace)?;
+        if !chain.keys_below(3) || facts.keys() != 3 || by_words.keys() != 3 {
+            return None;
+        }
+        facts.add_chain(&chain);
+        if by_words.same(&facts) {
+            return Some(false);
+        }
+        unite_words(&mut by_words, &chain);
+        if !by_words.same(&facts) {
+            return Some(false);
+        }
+    }
+    Some(true)
+}
+
+static IN_TURN: [&[Step]; 2] = [
+    &[Write(A), Reread(C), Read(B)],
+    &[TurnOff(Soft), Read(C), Write(A), TurnOn(Soft)],
+];
+
+#[test]
+fn the_facts_of_a_chain_are_bits(rt: HostRuntime) {
+    assert_eq!(rt; misfit(rt.alloc(), &LASTS), None);
+    assert_eq!(rt; are_united_in_turn(rt.alloc(), &IN_TURN), Some(true));
+}
+
+// Facts about keys below a bound, those that aren't there, and how many words hold them.
+struct Singles {
+    about: &'static str,
+    keys: u16,
+    facts: &'static [Fact],
+    absent: &'static [Fact],
+    words: usize,
+}
+
+const LAST: u16 = MAX_MANY - 1;
+
+static SINGLES: [Singles; 3] = [
+    Singles {
+        about: "a dependency between two keys",
+        keys: 2,
+        facts: &[Fact::Dependency {
+            from: A,
+            to: B,
+            kind: Kind::En,
+        }],
+        absent: &[
+            Fact::Dependency {
+                from: B,
+                to: A,
+                kind: Kind::En,
+            },
+            Fact::Dependency {
+                from: A,
+                to: B,
+                kind: Kind::Sn,
+            },
+            Fact::Dependency {
+                from: A,
+                to: C,
+                kind: Kind::En,
+            },
+            Fact::Marked {
+                key: A,
+                mark: Mark::Used,
+            },
+            Fact::Marked {
+                key: C,
+                mark: Mark::Used,
+            },
+        ],
+        words: 1,
+    },
+    Singles {
+        about: "as many keys as a graph takes",
+        keys: MAX_KEYS,
+        facts: &[Fact::Marked {
+            key: 255,
+            mark: Mark::UsedIn {
+                irq: Soft,
+                read: true,
+            },
+        }],
+        absent: &[Fact::Dependency {
+            from: 255,
+            to: 255,
+            kind: Kind::Sn,
+        }],
+        words: 4132,
+    },
+    Singles {
+        about: "as many keys as there are",
+        keys: MAX_MANY,
+        facts: &[
+            Fact::Dependency {
+                from: LAST,
+                to: LAST,
+                kind: Kind::Sn,
+            },
+            Fact::Dependency {
+                from: LAST,
+                to: 300,
+                kind: Kind::Er,
+            },
+            Fact::Marked {
+                key: LAST,
+                mark: Mark::Used,
+            },
+        ],
+        absent: &[
+            Fact::Dependency {
+                from: 300,
+                to: LAST,
+                kind: Kind::Er,
+            },
+            Fact::Marked {
+                key: MAX_MANY,
+                mark: Mark::Used,
+            },
+        ],
+        words: 4195456,
+    },
+];
+
+// Adds each of the facts once, and once more. Whether each is new the first time alone.
+fn add_each(facts: &mut Facts, all: &[Fact]) -> bool {
+    for fact in all {
+        if !fact.is_below(facts.keys())
+            || facts.has(*fact)
+            || !facts.add(*fact)
+            || facts.add(*fact)
+        {
+            return false;
+        }
+    }
+    true
+}
+
+fn has_none(facts: &Facts, absent: &[Fact]) -> bool {
+    for fact in absent {
+        if facts.has(*fact) || has_by_its_parts(facts, *fact) {
+            return false;
+        }
+    }
+    true
+}
+
+fn are_kept(alloc: Global, singles: &Singles) -> Option<bool> {
+    if singles.keys > MAX_MANY {
+        return None;
+    }
+    let mut facts = Facts::new(alloc, singles.keys).ok()?;
+    let added = add_each(&mut facts, singles.facts);
+    let words = facts.words() == singles.words && facts.word(singles.words).is_none();
+    let last = facts.word(singles.words.saturating_sub(1)).is_some();
+    Some(
+        added
+            && words
+            && last
+            && are_all(&facts, singles.facts)
+            && has_none(&facts, singles.absent),
+    )
+}
+
+fn lost(alloc: Global, rows: &[Singles]) -> Option<&'static str> {
+    for singles in rows {
+        if are_kept(alloc, singles) != Some(true) {
+            return Some(singles.about);
+        }
+    }
+    None
+}
+
+#[test]
+fn single_facts_are_kept(rt: HostRuntime) {
+    assert_eq!(rt; lost(rt.alloc(), &SINGLES), None);
+}

@@ -1,0 +1,838 @@
+//! What graphs find in small traces. Each story is told to a graph and to a graph in parts, chain by chain, and all that
+//! they find is compared.
+
+use super::finds::Finds;
+use crate::steps::Step::{Enter, Give, Leave, Read, Reread, TurnOff, TurnOn, Write};
+use crate::steps::{A, B, C, D, Step, chains_of};
+use ld_graph::{Circle, Facts, Graph, InversionWalk, Kind, PartedGraph, Ranks, Walk};
+use ld_task::Chain;
+use ld_task::Kind::{En, Er, Sn, Sr};
+use ld_trace::Irq::{Hard, Soft};
+use ld_trace::{Irq, MAX_KEYS};
+use std::alloc::Global;
+
+const KINDS: [Kind; 4] = [Er, En, Sr, Sn];
+
+const IRQS: [Irq; 2] = [Hard, Soft];
+
+// A dependency.
+type Arrow = (u16, u16, Kind);
+
+// A double of the state, and whether the marks that it is used with the state enabled and in it are the read forms.
+#[derive(Clone, Copy)]
+struct Double {
+    irq: Irq,
+    key: u16,
+    forms: (bool, bool),
+}
+
+// An inversion of the state, the forms of its marks, and its walk.
+#[derive(Clone, Copy)]
+struct Inversion {
+    irq: Irq,
+    ends: (u16, u16),
+    forms: (bool, bool),
+    walk: &'static [Arrow],
+}
+
+// Traces, and all that is found in them.
+#[derive(Drop)]
+struct Story {
+    about: &'static str,
+    keys: u16,
+    traces: &'static [&'static [Step]],
+    // The ranks of the first keys by which the graph is parted. None are given where they are to be found.
+    ranks: &'static [u16],
+    dependencies: u64,
+    // After how many of the first chains nothing is found.
+    clean: usize,
+    // For each dependency on a circle the shortest one that begins with it.
+    circles: &'static [&'static [Arrow]],
+    doubles: &'static [Double],
+    inversions: &'static [Inversion],
+    // The dependencies that are in an inversion.
+    inverted: &'static [Arrow],
+}
+
+const NOTHING: Story = Story {
+    about: "nothing",
+    keys: 2,
+    traces: &[],
+    ranks: &[],
+    dependencies: 0,
+    clean: 0,
+    circles: &[],
+    doubles: &[],
+    inversions: &[],
+    inverted: &[],
+};
+
+// What is on circles.
+static CIRCLES: [Story; 18] = [
+    NOTHING,
+    Story {
+        about: "two locks in both orders",
+        traces: &[
+            &[Write(A), Write(B), Give(B), Give(A)],
+            &[Write(B), Write(A), Give(A), Give(B)],
+        ],
+        dependencies: 2,
+        clean: 3,
+        circles: &[&[(A, B, En), (B, A, En)], &[(B, A, En), (A, B, En)]],
+        ..NOTHING
+    },
+    Story {
+        about: "three locks round, and one beside",
+        keys: 4,
+        traces: &[
+            &[Write(A), Write(B)],
+            &[Write(B), Write(C)],
+            &[Write(C), Write(A)],
+            &[Write(A), Write(D)],
+        ],
+        dependencies: 4,
+        clean: 5,
+        circles: &[
+            &[(A, B, En), (B, C, En), (C, A, En)],
+            &[(B, C, En), (C, A, En), (A, B, En)],
+            &[(C, A, En), (A, B, En), (B, C, En)],
+        ],
+        ..NOTHING
+    },
+    Story {
+        about: "a shorter circle beside a longer",
+        keys: 6,
+        traces: &[
+            &[Write(A), Write(B)],
+            &[Write(B), Write(C)],
+            &[Write(C), Write(A)],
+            &[Write(A), Write(D)],
+            &[Write(4), Write(5)],
+            &[Write(5), Write(4)],
+        ],
+        dependencies: 6,
+        clean: 5,
+        circles: &[
+            &[(A, B, En), (B, C, En), (C, A, En)],
+            &[(B, C, En), (C, A, En), (A, B, En)],
+            &[(C, A, En), (A, B, En), (B, C, En)],
+            &[(4, 5, En), (5, 4, En)],
+            &[(5, 4, En), (4, 5, En)],
+        ],
+        ..NOTHING
+    },
+    Story {
+        about: "a recursive reader between is passed over",
+        keys: 3,
+        traces: &[&[Write(A), Reread(B), Write(C)], &[Write(C), Write(A)]],
+        dependencies: 4,
+        clean: 4,
+        circles: &[&[(A, C, En), (C, A, En)], &[(C, A, En), (A, C, En)]],
+        ..NOTHING
+    },
+    Story {
+        about: "two recursive readers of one lock",
+        keys: 1,
+        traces: &[&[Reread(A), Reread(A)]],
+        dependencies: 1,
+        clean: 2,
+        ..NOTHING
+    },
+    Story {
+        about: "a writer and then a recursive reader of one lock",
+        keys: 1,
+        traces: &[&[Write(A), Reread(A)]],
+        dependencies: 1,
+        clean: 1,
+        circles: &[&[(A, A, Er)]],
+        ..NOTHING
+    },
+    Story {
+        about: "two readers of one lock",
+        keys: 1,
+        traces: &[&[Read(A), Read(A)]],
+        dependencies: 1,
+        clean: 1,
+        circles: &[&[(A, A, Sn)]],
+        ..NOTHING
+    },
+    Story {
+        about: "recursive readers and then writers of one lock",
+        keys: 1,
+        traces: &[&[Reread(A), Reread(A)], &[Write(A), Write(A)]],
+        dependencies: 2,
+        clean: 3,
+        circles: &[&[(A, A, Sr), (A, A, En)], &[(A, A, En)]],
+        ..NOTHING
+    },
+    Story {
+        about: "a closed walk is tested where its last meets its first: a recursive reader",
+        traces: &[&[Write(A), Reread(B)], &[Reread(B), Write(A)]],
+        dependencies: 2,
+        clean: 4,
+        ..NOTHING
+    },
+    Story {
+        about: "a closed walk is tested where its last meets its first: a reader",
+        traces: &[&[Write(A), Reread(B)], &[Read(B), Write(A)]],
+        dependencies: 2,
+        clean: 4,
+        ..NOTHING
+    },
+    Story {
+        about: "a closed walk is tested where its last meets its first: a writer",
+        traces: &[&[Write(A), Reread(B)], &[Write(B), Write(A)]],
+        dependencies: 2,
+        clean: 3,
+        circles: &[&[(A, B, Er), (B, A, En)], &[(B, A, En), (A, B, Er)]],
+        ..NOTHING
+    },
+    Story {
+        about: "a closed walk may meet a key twice",
+        keys: 3,
+        traces: &[
+            &[Write(A), Reread(B)],
+            &[Read(B), Write(A)],
+            &[Write(B), Write(C)],
+            &[Write(C), Write(B)],
+        ],
+        dependencies: 4,
+        clean: 7,
+        circles: &[
+            &[(A, B, Er), (B, C, En), (C, B, En), (B, A, Sn)],
+            &[(B, A, Sn), (A, B, Er), (B, C, En), (C, B, En)],
+            &[(B, C, En), (C, B, En)],
+            &[(C, B, En), (B, C, En)],
+        ],
+        ..NOTHING
+    },
+    Story {
+        about: "a circle through a dependency is longer than the shortest",
+        keys: 4,
+        traces: &[
+            &[Write(A), Write(B)],
+            &[Write(B), Write(A)],
+            &[Write(B), Write(C), Write(A)],
+            &[Write(A), Write(D)],
+        ],
+        dependencies: 5,
+        clean: 3,
+        circles: &[
+            &[(A, B, En), (B, A, En)],
+            &[(B, A, En), (A, B, En)],
+            &[(B, C, En), (C, A, En), (A, B, En)],
+            &[(C, A, En), (A, B, En), (B, C, En)],
+        ],
+        ..NOTHING
+    },
+    Story {
+        about: "one order alone",
+        keys: 3,
+        traces: &[&[Write(A), Write(B), Give(A), Write(C)]],
+        dependencies: 2,
+        clean: 3,
+        ..NOTHING
+    },
+    Story {
+        about: "a lock taken in an interrupt depends on none of the task",
+        traces: &[&[Write(A), Enter(Hard), Write(B), Give(B), Leave]],
+        clean: 2,
+        ..NOTHING
+    },
+    Story {
+        about: "a dependency between ranks is on no circle",
+        keys: 3,
+        ranks: &[0, 7, 7],
+        traces: &[&[Write(A), Write(B)], &[Write(B), Write(C)]],
+        dependencies: 2,
+        clean: 4,
+        ..NOTHING
+    },
+    Story {
+        about: "a circle in a later rank",
+        keys: 4,
+        ranks: &[0, 0, 1, 1],
+        traces: &[
+            &[Write(A), Write(C)],
+            &[Write(C), Write(D)],
+            &[Write(D), Write(C)],
+        ],
+        dependencies: 3,
+        clean: 5,
+        circles: &[&[(C, D, En), (D, C, En)], &[(D, C, En), (C, D, En)]],
+        ..NOTHING
+    },
+];
+
+// What is wrong with interrupts.
+static INTERRUPTS: [Story; 18] = [
+    Story {
+        about: "a double of a writer, and none of readers alone",
+        traces: &[
+            &[Enter(Hard), Read(A), Give(A), Leave],
+            &[Read(A), Give(A)],
+            &[Enter(Hard), Write(B), Give(B), Leave],
+            &[Write(B), Give(B)],
+        ],
+        clean: 3,
+        doubles: &[Double {
+            irq: Hard,
+            key: B,
+            forms: (false, false),
+        }],
+        ..NOTHING
+    },
+    Story {
+        about: "a double of two writers",
+        keys: 1,
+        traces: &[
+            &[Enter(Hard), Write(A), Give(A), Leave],
+            &[Write(A), Give(A)],
+        ],
+        clean: 1,
+        doubles: &[Double {
+            irq: Hard,
+            key: A,
+            forms: (false, false),
+        }],
+        ..NOTHING
+    },
+    Story {
+        about: "a double that is used by a reader",
+        keys: 1,
+        traces: &[
+            &[Enter(Hard), Read(A), Give(A), Leave],
+            &[Write(A), Give(A)],
+        ],
+        clean: 1,
+        doubles: &[Double {
+            irq: Hard,
+            key: A,
+            forms: (false, true),
+        }],
+        ..NOTHING
+    },
+    Story {
+        about: "a double that is enabled by a reader",
+        keys: 1,
+        traces: &[
+            &[Enter(Hard), Write(A), Give(A), Leave],
+            &[Read(A), Give(A)],
+        ],
+        clean: 1,
+        doubles: &[Double {
+            irq: Hard,
+            key: A,
+            forms: (true, false),
+        }],
+        ..NOTHING
+    },
+    Story {
+        about: "two readers make no double",
+        keys: 1,
+        traces: &[&[Enter(Hard), Read(A), Give(A), Leave], &[Read(A), Give(A)]],
+        clean: 2,
+        ..NOTHING
+    },
+    Story {
+        about: "a double in a later rank",
+        ranks: &[3, 5],
+        traces: &[
+            &[Enter(Hard), Write(B), Give(B), Leave],
+            &[TurnOff(Hard), Write(A), Write(B), Give(B), Give(A)],
+            &[Write(B), Give(B)],
+        ],
+        dependencies: 1,
+        clean: 3,
+        doubles: &[Double {
+            irq: Hard,
+            key: B,
+            forms: (false, false),
+        }],
+        ..NOTHING
+    },
+    Story {
+        about: "an inversion in the order used, under, enabled",
+        traces: &[
+            &[Enter(Soft), Write(A), Give(A), Leave],
+            &[
+                TurnOff(Soft),
+                Write(A),
+                Write(B),
+                Give(B),
+                Give(A),
+                TurnOn(Soft),
+            ],
+            &[Write(B), Give(B)],
+        ],
+        dependencies: 1,
+        clean: 4,
+        inversions: &[Inversion {
+            irq: Soft,
+            ends: (A, B),
+            forms: (false, false),
+            walk: &[(A, B, En)],
+        }],
+        inverted: &[(A, B, En)],
+        ..NOTHING
+    },
+    Story {
+        about: "an inversion in the order enabled, under, used",
+        traces: &[
+            &[Write(B), Give(B)],
+            &[
+                TurnOff(Soft),
+                Write(A),
+                Write(B),
+                Give(B),
+                Give(A),
+                TurnOn(Soft),
+            ],
+            &[Enter(Soft), Write(A), Give(A), Leave],
+        ],
+        dependencies: 1,
+        clean: 4,
+        inversions: &[Inversion {
+            irq: Soft,
+            ends: (A, B),
+            forms: (false, false),
+            walk: &[(A, B, En)],
+        }],
+        inverted: &[(A, B, En)],
+        ..NOTHING
+    },
+    Story {
+        about: "an inversion in the order used, enabled, under",
+        traces: &[
+            &[Enter(Soft), Write(A), Give(A), Leave],
+            &[Write(B), Give(B)],
+            &[
+                TurnOff(Soft),
+                Write(A),
+                Write(B),
+                Give(B),
+                Give(A),
+                TurnOn(Soft),
+            ],
+        ],
+        dependencies: 1,
+        clean: 3,
+        inversions: &[Inversion {
+            irq: Soft,
+            ends: (A, B),
+            forms: (false, false),
+            walk: &[(A, B, En)],
+        }],
+        inverted: &[(A, B, En)],
+        ..NOTHING
+    },
+    Story {
+        about: "an inversion is tested where its walk begins: a reader",
+        traces: &[
+            &[Enter(Hard), Read(A), Give(A), Leave],
+            &[TurnOff(Hard), Read(A), Write(B), Give(B), Give(A)],
+            &[Write(B), Give(B)],
+        ],
+        dependencies: 1,
+        clean: 4,
+        ..NOTHING
+    },
+    Story {
+        about: "an inversion is tested where its walk begins: a writer",
+        traces: &[
+            &[Enter(Hard), Read(A), Give(A), Leave],
+            &[TurnOff(Hard), Write(A), Write(B), Give(B), Give(A)],
+            &[Write(B), Give(B)],
+        ],
+        dependencies: 1,
+        clean: 3,
+        inversions: &[Inversion {
+            irq: Hard,
+            ends: (A, B),
+            forms: (false, true),
+            walk: &[(A, B, En)],
+        }],
+        inverted: &[(A, B, En)],
+        ..NOTHING
+    },
+    Story {
+        about: "an inversion is tested where its walk ends: a recursive reader",
+        traces: &[
+            &[Enter(Hard), Write(A), Give(A), Leave],
+            &[TurnOff(Hard), Write(A), Reread(B), Give(B), Give(A)],
+            &[Reread(B), Give(B)],
+        ],
+        dependencies: 1,
+        clean: 4,
+        ..NOTHING
+    },
+    Story {
+        about: "an inversion is tested where its walk ends: a writer",
+        traces: &[
+            &[Enter(Hard), Write(A), Give(A), Leave],
+            &[TurnOff(Hard), Write(A), Write(B), Give(B), Give(A)],
+            &[Reread(B), Give(B)],
+        ],
+        dependencies: 1,
+        clean: 3,
+        inversions: &[Inversion {
+            irq: Hard,
+            ends: (A, B),
+            forms: (true, false),
+            walk: &[(A, B, En)],
+        }],
+        inverted: &[(A, B, En)],
+        ..NOTHING
+    },
+    Story {
+        about: "an inversion of hardirqs",
+        traces: &[
+            &[Enter(Hard), Write(A), Give(A), Leave],
+            &[TurnOff(Hard), Write(A), Write(B), Give(B), Give(A)],
+            &[Write(B), Give(B)],
+        ],
+        dependencies: 1,
+        clean: 3,
+        inversions: &[Inversion {
+            irq: Hard,
+            ends: (A, B),
+            forms: (false, false),
+            walk: &[(A, B, En)],
+        }],
+        inverted: &[(A, B, En)],
+        ..NOTHING
+    },
+    Story {
+        about: "an inversion of three dependencies, and one of four",
+        keys: 5,
+        traces: &[
+            &[Enter(Soft), Write(A), Give(A), Leave],
+            &[TurnOff(Soft), Write(A), Write(C)],
+            &[TurnOff(Soft), Write(C), Write(D)],
+            &[TurnOff(Soft), Write(D), Write(B)],
+            &[Write(B), Write(4)],
+        ],
+        dependencies: 4,
+        clean: 7,
+        inversions: &[
+            Inversion {
+                irq: Soft,
+                ends: (A, B),
+                forms: (false, false),
+                walk: &[(A, C, En), (C, D, En), (D, B, En)],
+            },
+            Inversion {
+                irq: Soft,
+                ends: (A, 4),
+                forms: (false, false),
+                walk: &[(A, C, En), (C, D, En), (D, B, En), (B, 4, En)],
+            },
+        ],
+        inverted: &[(A, C, En), (C, D, En), (D, B, En), (B, 4, En)],
+        ..NOTHING
+    },
+    Story {
+        about: "a dependency beside an inversion is in none",
+        keys: 4,
+        traces: &[
+            &[Enter(Hard), Write(A), Give(A), Leave],
+            &[TurnOff(Hard), Write(A), Write(B)],
+            &[TurnOff(Hard), Write(A), Write(C)],
+            &[TurnOff(Hard), Write(D), Write(B)],
+            &[Write(B), Give(B)],
+        ],
+        dependencies: 3,
+        clean: 7,
+        inversions: &[Inversion {
+            irq: Hard,
+            ends: (A, B),
+            forms: (false, false),
+            walk: &[(A, B, En)],
+        }],
+        inverted: &[(A, B, En)],
+        ..NOTHING
+    },
+    Story {
+        about: "the shorter of two links' walks",
+        keys: 3,
+        traces: &[
+            &[Enter(Hard), Read(A), Give(A), Leave],
+            &[Enter(Hard), Write(A), Give(A), Leave],
+            &[TurnOff(Hard), Read(A), Write(B), Give(B), Give(A)],
+            &[TurnOff(Hard), Write(A), Write(C)],
+            &[TurnOff(Hard), Write(C), Write(B)],
+            &[Write(B), Give(B)],
+        ],
+        dependencies: 3,
+        clean: 8,
+        inversions: &[Inversion {
+            irq: Hard,
+            ends: (A, B),
+            forms: (false, false),
+            walk: &[(A, B, Sn)],
+        }],
+        inverted: &[(A, B, Sn), (A, C, En), (C, B, En)],
+        ..NOTHING
+    },
+    Story {
+        about: "an inversion in a later rank",
+        keys: 4,
+        ranks: &[0, 1, 1, 1],
+        traces: &[
+            &[Enter(Hard), Write(B), Give(B), Leave],
+            &[Enter(Hard), Write(C), Give(C), Leave],
+            &[TurnOff(Hard), Write(C), Write(D)],
+            &[Write(D), Give(D)],
+        ],
+        dependencies: 1,
+        clean: 4,
+        inversions: &[Inversion {
+            irq: Hard,
+            ends: (C, D),
+            forms: (false, false),
+            walk: &[(C, D, En)],
+        }],
+        inverted: &[(C, D, En)],
+        ..NOTHING
+    },
+];
+
+// The circle that begins with the dependency, or none.
+fn circle_from(circles: &[&'static [Arrow]], arrow: Arrow) -> &'static [Arrow] {
+    for circle in circles {
+        if circle.len() > 0 && circle[0] == arrow {
+            return *circle;
+        }
+    }
+    &[]
+}
+
+fn double_of(doubles: &[Double], irq: Irq, key: u16) -> Option<(bool, bool)> {
+    for double in doubles {
+        if double.irq == irq && double.key == key {
+            return Some(double.forms);
+        }
+    }
+    None
+}
+
+fn inversion_of(inversions: &[Inversion], irq: Irq, ends: (u16, u16)) -> Option<Inversion> {
+    for inversion in inversions {
+        if inversion.irq == irq && inversion.ends == ends {
+            return Some(*inversion);
+        }
+    }
+    None
+}
+
+// Whether the walk has these members in this order, and no other.
+fn is_walk(walk: &Walk, members: &[Arrow]) -> bool {
+    for (i, member) in members.iter().enumerate() {
+        if walk.get(i) != Some(*member) {
+            return false;
+        }
+    }
+    walk.len() == members.len() && walk.get(members.len()) == None
+}
+
+fn is_circle(found: Option<Walk>, members: &[Arrow]) -> bool {
+    match found {
+        Some(walk) => is_walk(&walk, members),
+        None => members.is_empty(),
+    }
+}
+
+fn is_inversion(found: Option<InversionWalk>, wanted: Option<Inversion>) -> bool {
+    match (found, wanted) {
+        (Some(found), Some(wanted)) => is_walk(&found.walk, wanted.walk)
+            && (found.enabled_read, found.used_read) == wanted.forms,
+        (None, None) => true,
+        _ => false,
+    }
+}
+
+fn are_dependencies_told<G: Finds>(graph: &G, story: &Story, from: u16, to: u16) -> bool {
+    for kind in KINDS {
+        let circle = circle_from(story.circles, (from, to, kind));
+        if graph.is_on_circle(from, to, kind) == circle.is_empty()
+            || !is_circle(graph.circle(from, to, kind), circle)
+            || graph.is_in_inversion(from, to, kind) != story.inverted.contains(&(from, to, kind))
+        {
+            return false;
+        }
+    }
+    true
+}
+
+fn are_inversions_told<G: Finds>(graph: &G, story: &Story, a: u16, b: u16) -> bool {
+    for irq in IRQS {
+        let wanted = inversion_of(story.inversions, irq, (a, b));
+        if graph.has_inversion(irq, a, b) != wanted.is_some()
+            || !is_inversion(graph.inversion(irq, a, b), wanted)
+        {
+            return false;
+        }
+    }
+    true
+}
+
+fn are_doubles_told<G: Finds>(graph: &G, story: &Story, key: u16) -> bool {
+    for irq in IRQS {
+        let wanted = double_of(story.doubles, irq, key);
+        if graph.has_double(irq, key) != wanted.is_some() || graph.double(irq, key) != wanted {
+            return false;
+        }
+    }
+    true
+}
+
+// Whether the circle has these members in this order, and no other.
+fn has_members(circle: &Circle, members: &[Arrow]) -> bool {
+    for (i, member) in members.iter().enumerate() {
+        if circle.get(i) != Some(*member) {
+            return false;
+        }
+    }
+    circle.len() == members.len() && circle.get(members.len()) == None
+}
+
+fn are_as_long(circles: &[&'static [Arrow]], length: usize) -> bool {
+    for circle in circles {
+        if circle.len() < length {
+            return false;
+        }
+    }
+    true
+}
+
+// Whether the shortest circle is the one that begins with its first member, and none is shorter.
+fn is_shortest_told<G: Finds>(graph: &G, story: &Story) -> bool {
+    let Some(shortest) = graph.shortest() else {
+        return story.circles.is_empty();
+    };
+    let Some(first) = shortest.get(0) else {
+        return false;
+    };
+    has_members(&shortest, circle_from(story.circles, first))
+        && are_as_long(story.circles, shortest.len())
+}
+
+// Whether two keys are in what is found as the story says.
+fn are_two_told<G: Finds>(graph: &G, story: &Story, a: u16, b: u16) -> bool {
+    are_dependencies_told(graph, story, a, b) && are_inversions_told(graph, story, a, b)
+}
+
+// Whether a key is in what is found as the story says, by itself, with each other key, and with keys that are out of range.
+fn is_key_told<G: Finds>(graph: &G, story: &Story, key: u16) -> bool {
+    for other in 0..=story.keys {
+        if !are_two_told(graph, story, key, other) {
+            return false;
+        }
+    }
+    are_doubles_told(graph, story, key) && are_two_told(graph, story, key, 300)
+}
+
+// Whether the graph finds what the story says, and nothing else.
+fn finds<G: Finds>(graph: &G, story: &Story) -> bool {
+    for key in 0..=story.keys {
+        if !is_key_told(graph, story, key) {
+            return false;
+        }
+    }
+    is_shortest_told(graph, story)
+}
+
+// That nothing is found among so many keys.
+fn nothing(keys: u16) -> Story {
+    Story { keys, ..NOTHING }
+}
+
+// Tells the graph the chains, and returns after how many of them nothing is found. None if its flag says something else
+// than its answers, or a key is out of range.
+fn tell(graph: &mut Graph, chains: &[Chain]) -> Option<usize> {
+    let nothing = nothing(graph.keys());
+    let mut clean = 0usize;
+    for chain in chains {
+        if !chain.keys_below(graph.keys()) {
+            return None;
+        }
+        graph.add_chain(chain);
+        if graph.is_clean() != finds(graph, &nothing) {
+            return None;
+        }
+        clean = clean.saturating_add(usize::from(graph.is_clean()));
+    }
+    Some(clean)
+}
+
+// Whether the chains bring nothing that the graph doesn't know, and it looks for nothing.
+fn are_known(graph: &mut Graph, chains: &[Chain]) -> bool {
+    let searched = graph.searched();
+    for chain in chains {
+        if !chain.keys_below(graph.keys()) || graph.add_chain(chain) {
+            return false;
+        }
+    }
+    graph.searched() == searched
+}
+
+// A graph of the story's traces, which finds what the story says. None if it finds anything else, memory is refused, or a
+// trace isn't well formed.
+fn told(alloc: Global, story: &Story) -> Option<Graph> {
+    if story.keys > MAX_KEYS {
+        return None;
+    }
+    let chains = chains_of(alloc, story.traces)?;
+    let mut graph = Graph::new(alloc, story.keys).ok()?;
+    let clean = tell(&mut graph, &chains)?;
+    if clean == story.clean && are_known(&mut graph, &chains) && finds(&graph, story) {
+        Some(graph)
+    } else {
+        None
+    }
+}
+
+// The ranks of the first keys.
+pub(crate) fn ranks_of(alloc: Global, ranks: &[u16]) -> Option<Ranks> {
+    Some(Ranks::of(ranks.to_vec(alloc).ok()?))
+}
+
+// The facts of a graph.
+fn facts_of(alloc: Global, graph: &Graph) -> Option<Facts> {
+    let mut facts = Facts::new(alloc, graph.keys()).ok()?;
+    facts.unite(graph.facts());
+    Some(facts)
+}
+
+// Whether a graph finds what the story says, and a graph in parts of its facts does.
+fn is_told(alloc: Global, story: &Story) -> Option<bool> {
+    let facts = facts_of(alloc, &told(alloc, story)?)?;
+    let counted = facts.dependencies() == story.dependencies;
+    let graph = if story.ranks.is_empty() {
+        PartedGraph::new(alloc, facts).ok()?
+    } else {
+        PartedGraph::by_ranks(alloc, facts, &ranks_of(alloc, story.ranks)?).ok()?
+    };
+    let clean = graph.is_clean() == finds(&graph, &nothing(story.keys));
+    Some(counted && clean && finds(&graph, story))
+}
+
+// The first story of which something else is found.
+fn misfit(alloc: Global, stories: &[Story]) -> Option<&'static str> {
+    for story in stories {
+        if is_told(alloc, story) != Some(true) {
+            return Some(story.about);
+        }
+    }
+    None
+}
+
+#[test]
+fn circles_are_found(rt: HostRuntime) {
+    assert_eq!(rt; misfit(rt.alloc(), &CIRCLES), None);
+}
+
+#[test]
+fn doubles_and_inversions_are_found(rt: HostRuntime) {
+    assert_eq!(rt; misfit(rt.alloc(), &INTERRUPTS), None);
+}
