@@ -1,0 +1,46 @@
+# Completion of lockdep for fish.
+
+function __lockdep_first
+    test (count (commandline -opc)) -eq 1
+end
+
+function __lockdep_in
+    set -l words (commandline -opc)
+    test (count $words) -ge 2; and contains -- $words[2] $argv
+end
+
+complete -c lockdep -n __lockdep_first -f
+complete -c lockdep -n __lockdep_first -a run -d 'Record a command, check its traces, and explain what was found'
+complete -c lockdep -n __lockdep_first -a check -d 'Write the report of traces'
+complete -c lockdep -n __lockdep_first -a explain -d 'Write what was found, with the records that it comes from'
+complete -c lockdep -n __lockdep_first -a graph -d 'Write the lock order as a graph in the language DOT'
+complete -c lockdep -n __lockdep_first -a condense -d 'Write one trace that says what all of them say'
+complete -c lockdep -n __lockdep_first -a chains -d 'List the acquisitions of a trace'
+complete -c lockdep -n __lockdep_first -a record -d 'Record a command'
+complete -c lockdep -n __lockdep_first -a confirm -d 'Explain what was found in a recording'
+complete -c lockdep -n __lockdep_first -a where -d 'Put source lines under the records of a text'
+complete -c lockdep -n __lockdep_first -a help -d 'Print help'
+complete -c lockdep -n __lockdep_first -l version -s V -d 'Print the version'
+complete -c lockdep -n 'not __lockdep_in help' -l help -s h -d 'Print help'
+complete -c lockdep -n '__lockdep_in help' -f -a 'run check explain graph condense chains record confirm where'
+
+complete -c lockdep -n '__lockdep_in check explain graph condense' -l workers -x -d 'How many workers check the traces, from 1 to 64'
+complete -c lockdep -n '__lockdep_in check explain graph' -l many -d 'Take up to 8192 lock keys'
+complete -c lockdep -n '__lockdep_in graph' -l findings -d 'Show only what is part of a finding'
+
+complete -c lockdep -n '__lockdep_in run record' -s o -x -a '(__fish_complete_directories)' -d 'Where the recording stays'
+complete -c lockdep -n '__lockdep_in run record' -l frames -x -d 'By how many callers a lock class is named, from 1 to 16'
+complete -c lockdep -n '__lockdep_in run' -l known -r -d 'Findings that are known'
+complete -c lockdep -n '__lockdep_in run' -l write-known -r -d 'Write the findings of this run'
+complete -c lockdep -n '__lockdep_in run' -l quiet -d 'Print only if something was found'
+complete -c lockdep -n '__lockdep_in run' -l error-exitcode -x -d 'The status if something was found'
+complete -c lockdep -n '__lockdep_in record' -l no-wait -d 'Do not wait for what is left in the background'
+complete -c lockdep -n '__lockdep_in record' -l version-1 -d 'Write version 1 of the format'
+complete -c lockdep -n '__lockdep_in record' -l finish -x -a '(__fish_complete_directories)' -d 'Make the traces of a recording that was killed'
+complete -c lockdep -n '__lockdep_in record' -l summary -x -a '(__fish_complete_directories)' -d 'Say again what was recorded'
+
+complete -c lockdep -n '__lockdep_in confirm' -l strict -d 'Status 1 only for what was seen between locks'
+complete -c lockdep -n '__lockdep_in confirm where' -f -a '(__fish_complete_directories)'
+
+# The command that is recorded, and its words.
+complete -c lockdep -n '__lockdep_in run record' -x -a '(__fish_complete_subcommand --fcs-skip=2)'
