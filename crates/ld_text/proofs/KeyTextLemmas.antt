@@ -1,6 +1,6 @@
--- The keys as lines name them, and lines that are put together of parts.
+-- The keys as lines name them.
 use Rattle.std.proofs.Common.{◌≡◌, ℕ, ◌+◌, ◌<◌, List, [], ◌∷◌, ◌++◌, Option, Some, None, get_or, length, map, option_map, slice_get, take, unwrap_or, refl, sym, ap, ◌∙◌}
-use Rattle.std.proofs.lemmas.List.{append_assoc, map-append, take_more}
+use Rattle.std.proofs.lemmas.List.{map-append, take_more}
 use Rattle.std.proofs.lemmas.Option.{slice_get-map, unwrap_or-slice_get}
 use Rattle.ld_trace.specs.Names.{Name}
 use Rattle.ld_text.specs.Words.{key_text, name_at}
@@ -22,15 +22,3 @@ texts_more names n texts text within before is =
     ∙ ap (λ t. map key_text (take n names) ++ t ∷ []) (is ∙ ap key_text (unwrap_or-slice_get names n ([], 0)))
     ∙ sym (map-append key_text (take n names) (name ∷ []))
     ∙ sym (ap (map key_text) (take_more names n ([], 0) within))
-
--- parts that were put behind a text one after the other
-three : (old a b c : List ℕ) → old ++ a ++ b ++ c ≡ old ++ (a ++ b ++ c)
-three old a b c = ap (λ t. t ++ c) (append_assoc old a b) ∙ append_assoc old (a ++ b) c
-
-five : (old a b c d e : List ℕ) → old ++ a ++ b ++ c ++ d ++ e ≡ old ++ (a ++ b ++ c ++ d ++ e)
-five old a b c d e = ap (λ t. t ++ d ++ e) (three old a b c)
-    ∙ ap (λ t. t ++ e) (append_assoc old (a ++ b ++ c) d) ∙ append_assoc old (a ++ b ++ c ++ d) e
-
-pub seven : (old a b c d e f g : List ℕ) → old ++ a ++ b ++ c ++ d ++ e ++ f ++ g ≡ old ++ (a ++ b ++ c ++ d ++ e ++ f ++ g)
-seven old a b c d e f g = ap (λ t. t ++ f ++ g) (five old a b c d e)
-    ∙ ap (λ t. t ++ g) (append_assoc old (a ++ b ++ c ++ d ++ e) f) ∙ append_assoc old (a ++ b ++ c ++ d ++ e ++ f) g

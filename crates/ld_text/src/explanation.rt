@@ -292,7 +292,12 @@ impl Teller<'_> {
     }
 
     // The block of a shortest circle through a dependency on one, unless it is a member of one that was told. Returns how many blocks.
-    fn tell_circle(&self, text: &mut String, told: &mut Facts, d: &Dependency) -> Result<usize, AllocError>
+    fn tell_circle(
+        &self,
+        text: &mut String,
+        told: &mut Facts,
+        d: &Dependency,
+    ) -> Result<usize, AllocError>
         requires bound { told.old.keys ≡ self.now.facts.keys }
         requires on { OnCircle (HasFact self.now.facts) d.now }
         ensures tells { IfOk result (TellsCircles self.now (d.now ∷ [])
@@ -428,7 +433,13 @@ impl Teller<'_> {
     }
 
     // The block of an inversion.
-    fn add_inversion(&self, text: &mut String, irq: Irq, a: KeyId, b: KeyId) -> Result<(), AllocError>
+    fn add_inversion(
+        &self,
+        text: &mut String,
+        irq: Irq,
+        a: KeyId,
+        b: KeyId,
+    ) -> Result<(), AllocError>
         requires { IsInversion (HasFact self.now.facts) irq a b }
         ensures { OnOk result (GrowsBy (IsInversionBlock (HasFact self.now.facts) self.now.told (irq, (a, b)))
             (string_bytes text.old) (string_bytes text.new)) }

@@ -211,7 +211,12 @@ impl Search<'_> {
     }
 
     // The key, if it is a double of the state.
-    fn add_double(self, doubles: &mut Vec<(Irq, KeyId)>, irq: Irq, key: KeyId) -> Result<(), AllocError>
+    fn add_double(
+        self,
+        doubles: &mut Vec<(Irq, KeyId)>,
+        irq: Irq,
+        key: KeyId,
+    ) -> Result<(), AllocError>
         ensures { OnOk result (AddsThose (λ x. IsDouble (HasFact self.entry.settled.now) x.0 x.1) ((irq, key) ∷ [])
             doubles.old.items doubles.new.items) }
     {
@@ -307,7 +312,11 @@ impl Search<'_> {
     }
 
     // The inversions of one state.
-    fn add_inversions_of(self, inversions: &mut Vec<(Irq, (KeyId, KeyId))>, irq: Irq) -> Result<(), AllocError>
+    fn add_inversions_of(
+        self,
+        inversions: &mut Vec<(Irq, (KeyId, KeyId))>,
+        irq: Irq,
+    ) -> Result<(), AllocError>
         ensures { OnOk result (AddsThose (λ x. IsInversion (HasFact self.entry.settled.now) x.0 x.1.0 x.1.1)
             (flat_map (λ a. map (λ b. (irq, (a, b))) self.entry.keys.now) self.entry.keys.now)
             inversions.old.items inversions.new.items) }

@@ -11,9 +11,9 @@ ghost use Rattle.ld_text.specs.Picture.{AreJoined, IsFoundArrow, IsFoundKey, IsN
 ghost use Rattle.ld_text.specs.Report.{IsUsageCharacter, forms};
 ghost use Rattle.ld_text.specs.Words.{kinds, name_at, states};
 
+use crate::found::{KINDS, STATES};
 use crate::order::sorted_keys;
 use crate::output::write_text;
-use crate::found::{KINDS, STATES};
 use crate::report::{FORMS, usage_character};
 use crate::words::{digits_of, irq_word, kind_word, name_of};
 use crate::write_fault::WriteFault;

@@ -115,7 +115,13 @@ impl ReportView<'_> {
     }
 
     // The line of an inversion.
-    fn add_inversion(self, text: &mut String, irq: Irq, a: KeyId, b: KeyId) -> Result<(), AllocError>
+    fn add_inversion(
+        self,
+        text: &mut String,
+        irq: Irq,
+        a: KeyId,
+        b: KeyId,
+    ) -> Result<(), AllocError>
         ensures { OnOk result (string_bytes text.new
             ≡ string_bytes text.old ++ inversion_line self.entry.names.now.names irq a b) }
     {
@@ -190,7 +196,8 @@ impl ReportView<'_> {
         self.add_circles(text, found.circles())?;
         self.add_because(text)?;
         self.add_doubles(text, found.doubles())?;
-        self.add_inversions(text, found.inversions())
+        self.add_inversions(text, found.inversions())?;
+        Ok(())
     }
 
     // The five lines that every report begins with.
