@@ -10,7 +10,7 @@ use Rattle.ld_graph.specs.Walks.{OnCircle}
 use Rattle.ld_graph.specs.Links.{IsClean}
 use Rattle.ld_graph.specs.declared.fact.Fact.{Fact}
 use Rattle.ld_graph.specs.declared.fact.Fact.TheVariants.{Dependency, Marked}
-use Rattle.ld_text.specs.Groups.{InSequence, InTurn}
+use Rattle.ld_text.specs.Groups.{InSequence, InTurn, ShowsWhere}
 use Rattle.ld_text.specs.Report.{AreTotals, IsReport, IsUsageCharacter, IsUsageLine, ShowsBecause, forms}
 use Rattle.ld_text.proofs.FindingLemmas.{AreFound-same}
 
@@ -19,6 +19,10 @@ pub InTurn-same : {X : Type 0} (R S : X → List ℕ → Type 0) → ((x : X) (t
 unfolding InSequence
 InTurn-same R S same [] text none = none
 InTurn-same R S same (x ∷ xs) text (first, rest, shows, others, is) = (first, rest, same x first shows, InTurn-same R S same xs rest others, is)
+
+pub ShowsWhere-same : (P Q : Type 0) (line : List ℕ) → P ↔ Q → (text : List ℕ) → ShowsWhere P line text → ShowsWhere Q line text
+ShowsWhere-same P Q line same text (inl (holds, is)) = inl (same.0 holds, is)
+ShowsWhere-same P Q line same text (inr (fails, is)) = inr (λ q. fails (same.1 q), is)
 
 both : {P Q R : Type 0} → P ↔ Q → Q ↔ R → P ↔ R
 both f g = (λ p. g.0 (f.0 p), λ r. f.1 (g.1 r))
