@@ -13,6 +13,13 @@ flat_map-next f keys i d within =
     ap (flat_map f) (take_more keys i d within) ∙ flat_map-append f (take i keys) (slice_index_or keys i d ∷ [])
     ∙ ap (λ t. flat_map f (take i keys) ++ t) (append-nil (f (slice_index_or keys i d)))
 
+-- behind the texts of the things of a list so far, that of one thing more
+pub flat_map-grows : {Y : Type 0} (f : Y → List ℕ) (xs : List Y) (i : ℕ) (y : Y) (old mid new : List ℕ) → y ≡ slice_index_or xs i y → i < length xs →
+    mid ≡ old ++ flat_map f (take i xs) → new ≡ mid ++ f y → new ≡ old ++ flat_map f (take (i + 1) xs)
+flat_map-grows f xs i y old mid new is within before more =
+    more ∙ ap (λ t. t ++ f y) before ∙ append_assoc old (flat_map f (take i xs)) (f y)
+    ∙ ap (λ t. old ++ t) (ap (λ z. flat_map f (take i xs) ++ f z) is ∙ sym (flat_map-next f xs i y within))
+
 -- nothing was added yet
 pub GrowsBy-none : (text : List ℕ) → GrowsBy (InSequence []) text text
 unfolding InSequence

@@ -9,5 +9,6 @@ pub mod PictureLemmas
 pub mod TellingLemmas
 pub mod LeafLemmas
 pub mod PictureGrowing
-pub mod EndLemmas
+pub mod FindingLemmas
+pub mod KeyTextLemmas
 pub mod WriteFaultLemmas

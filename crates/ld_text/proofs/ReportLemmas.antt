@@ -3,16 +3,16 @@ use Rattle.std.proofs.Common.{ℕ, Bool, List, [], ◌∷◌, IsTrue, ◌↔◌,
 use Rattle.ld_trace.specs.Names.{Name}
 use Rattle.ld_trace.specs.declared.event.Irq.{Irq}
 use Rattle.ld_task.specs.declared.mark.Mark.TheVariants.{UsedIn, Enabled}
-use Rattle.ld_graph.specs.Arrows.{Arrow, arrow}
+use Rattle.ld_graph.specs.Arrows.{Arrow}
 use Rattle.ld_graph.specs.Facts.{AreSame, DependenciesOf}
-use Rattle.ld_graph.specs.FactLaws.{IsClean-same, IsDouble-same, IsInversion-same, IsNumberOf-same, IsShortestCircle-same, OnCircle-same, StrongWalk-members}
+use Rattle.ld_graph.specs.FactLaws.{IsClean-same, IsNumberOf-same, IsShortestCircle-same, OnCircle-same, StrongWalk-members}
 use Rattle.ld_graph.specs.Walks.{OnCircle}
-use Rattle.ld_graph.specs.Links.{IsClean, IsDouble, IsInversion}
+use Rattle.ld_graph.specs.Links.{IsClean}
 use Rattle.ld_graph.specs.declared.fact.Fact.{Fact}
 use Rattle.ld_graph.specs.declared.fact.Fact.TheVariants.{Dependency, Marked}
-use Rattle.ld_text.specs.Groups.{GrowsBy, InSequence, InTurn, ShowsWhere}
-use Rattle.ld_text.specs.Report.{AreCircles, AreDoubles, AreInversions, AreTotals, IsReport, ShowsBecause, ShowsCircle, ShowsDouble, ShowsInversion, IsUsageCharacter, IsUsageLine, circle_line, double_line, findings, forms, inversion_line, kinds, states}
-use Rattle.ld_text.proofs.GroupLemmas.{GrowsBy-none, GrowsBy-nothing, GrowsBy-then, InTurn-hidden, InTurn-nothing}
+use Rattle.ld_text.specs.Groups.{InSequence, InTurn, ShowsWhere}
+use Rattle.ld_text.specs.Report.{AreTotals, IsReport, IsUsageCharacter, IsUsageLine, ShowsBecause, forms}
+use Rattle.ld_text.proofs.FindingLemmas.{AreFound-same}
 
 -- groups whose parts mean the same
 pub InTurn-same : {X : Type 0} (R S : X → List ℕ → Type 0) → ((x : X) (text : List ℕ) → R x text → S x text) → (xs : List X) (text : List ℕ) → InTurn R xs text → InTurn S xs text
@@ -53,10 +53,6 @@ module _ (P Q : Fact → Type 0) (same : AreSame P Q) where
     text_is = t.text_is;
   }
 
-  circles-same : (names : List Name) (keys : List ℕ) (text : List ℕ) → AreCircles P names keys text → AreCircles Q names keys text
-  circles-same names keys text = InTurn-same _ _ (λ from. InTurn-same _ _ (λ to. InTurn-same _ _
-      (λ kind. ShowsWhere-same _ _ (circle_line names from to kind) (OnCircle-same P Q same (arrow from to kind))) kinds) keys) keys text
-
   because-same : (names : List Name) (text : List ℕ) → ShowsBecause P names text → ShowsBecause Q names text
   because-same names text (inl line) = inl (record {
     first = line.first;
@@ -67,14 +63,6 @@ module _ (P Q : Fact → Type 0) (same : AreSame P Q) where
   })
   because-same names text (inr (off, is)) = inr (λ d on. off d ((OnCircle-same P Q same d).1 on), is)
 
-  doubles-same : (names : List Name) (keys : List ℕ) (text : List ℕ) → AreDoubles P names keys text → AreDoubles Q names keys text
-  doubles-same names keys text = InTurn-same _ _ (λ irq. InTurn-same _ _
-      (λ key. ShowsWhere-same _ _ (double_line names irq key) (IsDouble-same P Q same irq key)) keys) states text
-
-  inversions-same : (names : List Name) (keys : List ℕ) (text : List ℕ) → AreInversions P names keys text → AreInversions Q names keys text
-  inversions-same names keys text = InTurn-same _ _ (λ irq. InTurn-same _ _ (λ a. InTurn-same _ _
-      (λ b. ShowsWhere-same _ _ (inversion_line names irq a b) (IsInversion-same P Q same irq a b)) keys) keys) states text
-
   -- a flag that says whether the ones are clean says it of the others
   pub clean_is-same : (clean : Bool) → IsTrue clean ↔ IsClean P → IsTrue clean ↔ IsClean Q
   clean_is-same clean is = both is (IsClean-same P Q same)
@@ -83,10 +71,12 @@ module _ (P Q : Fact → Type 0) (same : AreSame P Q) where
   pub IsReport-same : (traces events : ℕ) (names : List Name) (text : List ℕ) → IsReport P traces events names text → IsReport Q traces events names text
   unfolding InSequence
   IsReport-same traces events names text r =
-      let (totals, after_totals, totals_are, (usage, after_usage, usage_is, (circles, after_circles, circles_are, (because, after_because, because_is, (doubles, after_doubles, doubles_are, (inversions, end, inversions_are, at_end, e6), e5), e4), e3), e2), e1) = r.text_is in
+      let (totals, after_totals, totals_are, (usage, after_usage, usage_is, (circles, after_circles, circles_are, (because, after_because, because_is, (doubles, after_doubles, doubles_are, inversions_are, e5), e4), e3), e2), e1) = r.text_is in
       record {
         keys = r.keys;
         keys_are = r.keys_are;
+        found = r.found;
+        found_are = AreFound-same P Q same r.keys r.found r.found_are;
         text_is = (
           totals,
           after_totals,
@@ -98,20 +88,8 @@ module _ (P Q : Fact → Type 0) (same : AreSame P Q) where
             (
               circles,
               after_circles,
-              circles-same names r.keys circles circles_are,
-              (
-                because,
-                after_because,
-                because-same names because because_is,
-                (
-                  doubles,
-                  after_doubles,
-                  doubles-same names r.keys doubles doubles_are,
-                  (inversions, end, inversions-same names r.keys inversions inversions_are, at_end, e6),
-                  e5,
-                ),
-                e4,
-              ),
+              circles_are,
+              (because, after_because, because-same names because because_is, (doubles, after_doubles, doubles_are, inversions_are, e5), e4),
               e3,
             ),
             e2,
@@ -124,30 +102,3 @@ module _ (P Q : Fact → Type 0) (same : AreSame P Q) where
 pub OnCircle-dependency : (Has : Fact → Type 0) (d : Arrow) → OnCircle Has d → DependenciesOf Has d
 OnCircle-dependency Has d (a, rest, closed, (k, within, is)) =
     subst (DependenciesOf Has) is (StrongWalk-members (DependenciesOf Has) a rest closed.0 k d within)
-
--- ---- clean facts
--- there is nothing to find
-module _ (Has : Fact → Type 0) (names : List Name) (keys : List ℕ) (clean : IsClean Has) where
-  no_circles : AreCircles Has names keys []
-  no_circles = InTurn-nothing (λ from. InTurn (λ to. InTurn (ShowsCircle Has names from to) kinds) keys)
-      (λ from. InTurn-nothing (λ to. InTurn (ShowsCircle Has names from to) kinds)
-      (λ to. InTurn-hidden (λ kind. OnCircle Has (arrow from to kind)) (circle_line names from to) (λ kind. clean.circles (arrow from to kind)) kinds) keys) keys
-
-  no_doubles : AreDoubles Has names keys []
-  no_doubles = InTurn-nothing (λ irq. InTurn (ShowsDouble Has names irq) keys)
-      (λ irq. InTurn-hidden (IsDouble Has irq) (double_line names irq) (clean.doubles irq) keys) states
-
-  no_inversions : AreInversions Has names keys []
-  no_inversions = InTurn-nothing (λ irq. InTurn (λ a. InTurn (ShowsInversion Has names irq a) keys) keys)
-      (λ irq. InTurn-nothing (λ a. InTurn (ShowsInversion Has names irq a) keys)
-      (λ a. InTurn-hidden (IsInversion Has irq a) (inversion_line names irq a) (clean.inversions irq a) keys) keys) states
-
-  no_because : ShowsBecause Has names []
-  no_because = inr (clean.circles, refl)
-
-  pub GrowsBy-no_findings : (text : List ℕ) → GrowsBy (InSequence (findings Has names keys)) text text
-  GrowsBy-no_findings text =
-      GrowsBy-then _ _ _ _ _ (GrowsBy-nothing (AreCircles Has names keys) text no_circles)
-      (GrowsBy-then _ _ _ _ _ (GrowsBy-nothing (ShowsBecause Has names) text no_because)
-      (GrowsBy-then _ _ _ _ _ (GrowsBy-nothing (AreDoubles Has names keys) text no_doubles)
-      (GrowsBy-then _ _ _ _ _ (GrowsBy-nothing (AreInversions Has names keys) text no_inversions) (GrowsBy-none text))))

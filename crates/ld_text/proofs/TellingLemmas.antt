@@ -1,7 +1,6 @@
 -- How an explanation grows, block by block.
 use Rattle.std.proofs.Common.{◌≡◌, ◌↔◌, ◌⊎◌, ℕ, Bool, suc, ◌+◌, ◌<◌, List, [], ◌∷◌, ◌++◌, All, Any, Contains, Some, codes, length, map, slice_get, slice_index_or, take, refl, sym, ap, ◌∙◌, subst, inl, inr, arith}
-use Rattle.std.specs.List.{flat_map}
-use Rattle.std.proofs.lemmas.List.{append_assoc, append-nil, length-append, map-append, take_more}
+use Rattle.std.proofs.lemmas.List.{append_assoc, append-nil, length-append, take_more}
 use Rattle.std.proofs.lemmas.List.Elements.{Contains-push_cases, Contains-append_left, Contains-push}
 use Rattle.std.proofs.lemmas.Option.{get_or_from_slice_get}
 use Rattle.ld_trace.specs.Names.{Name}
@@ -13,15 +12,15 @@ use Rattle.ld_graph.specs.FactBits.{FactParts, HasFact}
 use Rattle.ld_graph.specs.FactLaws.{Any-push, StrongWalk-members}
 use Rattle.ld_graph.specs.Facts.{Adds, DependenciesOf}
 use Rattle.ld_graph.specs.Links.{IsDoubleBy, IsLink, IsShortestInversion, link_by}
-use Rattle.ld_graph.specs.Walks.{IsShortestFrom, OnCircle}
+use Rattle.ld_graph.specs.Walks.{IsShortestFrom}
 use Rattle.ld_graph.specs.declared.fact.Fact.{Fact}
 use Rattle.ld_graph.specs.declared.fact.Fact.TheVariants.{Dependency, Marked}
-use Rattle.ld_text.specs.Explanation.{AreThose, AreTold, IsCircleBlock, IsDependencyLine, IsDoubleBlock, IsEnabledLine, IsInversionBlock, IsLeft, IsOriginLine, IsUsedLine, Told, comes_line, holds_line, waits_line, waits_text}
+use Rattle.ld_text.specs.Explanation.{AreTold, IsCircleBlock, IsDependencyLine, IsDoubleBlock, IsEnabledLine, IsInversionBlock, IsOriginLine, IsTold, IsUsedLine, Told, comes_line, holds_line, waits_line, waits_text}
 use Rattle.ld_text.specs.Groups.{GrowsBy, InSequence, InTurn}
-use Rattle.ld_text.specs.Inside.Telling.{HasMembers, TellerParts, TellsCircles, TellsThose}
+use Rattle.ld_text.specs.Inside.Telling.{HasMembers, TellerParts, TellsCircles}
 use Rattle.ld_text.specs.Report.{double_line, inversion_line}
 use Rattle.ld_text.specs.Words.{irq_text}
-use Rattle.ld_text.proofs.GroupLemmas.{GrowsBy-none, GrowsBy-then, flat_map-next}
+use Rattle.ld_text.proofs.GroupLemmas.{GrowsBy-none, GrowsBy-then}
 
 -- Texts of two lists, one behind the other.
 module _ {X : Type 0} (R : X → List ℕ → Type 0) where
@@ -46,67 +45,8 @@ module _ {X : Type 0} (R : X → List ℕ → Type 0) where
     grew = one.grew;
   }
 
--- one thing more of a list
-pub map-next : {X Y : Type 0} (f : X → Y) (xs : List X) (i : ℕ) (d : X) → i < length xs → map f (take (i + 1) xs) ≡ map f (take i xs) ++ f (slice_index_or xs i d) ∷ []
-map-next f xs i d within = ap (map f) (take_more xs i d within) ∙ map-append f (take i xs) (slice_index_or xs i d ∷ [])
-
 pub take-next : {X : Type 0} (xs : List X) (i : ℕ) (d : X) → slice_get xs i ≡ Some d → i < length xs → take (i + 1) xs ≡ take i xs ++ d ∷ []
 take-next xs i d is within = take_more xs i d within ∙ ap (λ x. take i xs ++ x ∷ []) (get_or_from_slice_get xs i d d is)
-
--- Those that something holds of.
-module _ {X : Type 0} (P : X → Type 0) where
-  AreThose-append : (xs ys a b : List X) → AreThose P xs a → AreThose P ys b → AreThose P (xs ++ ys) (a ++ b)
-  AreThose-append [] ys a b none h = subst (λ t. AreThose P ys (t ++ b)) (sym none) h
-  AreThose-append (x ∷ xs) ys a b (inl (p, (rest, is, those))) h = inl (p, (rest ++ b, ap (λ t. t ++ b) is, AreThose-append xs ys rest b those h))
-  AreThose-append (x ∷ xs) ys a b (inr (isnt, those)) h = inr (isnt, AreThose-append xs ys a b those h)
-
-  -- nothing is one where it holds of none
-  pub AreThose-nothing : ((x : X) → ¬ P x) → (xs : List X) → AreThose P xs []
-  AreThose-nothing never [] = refl
-  AreThose-nothing never (x ∷ xs) = inr (never x, AreThose-nothing never xs)
-
-  module _ (Block : X → List ℕ → Type 0) where
-    pub TellsThose-none : (old : List ℕ) → TellsThose P Block [] old old 0
-    TellsThose-none old = record { those = []; are = refl; grew = GrowsBy-none old; count_is = refl }
-
-    pub TellsThose-off : (x : X) (old : List ℕ) → ¬ P x → TellsThose P Block (x ∷ []) old old 0
-    TellsThose-off x old isnt = record { those = []; are = inr (isnt, refl); grew = GrowsBy-none old; count_is = refl }
-
-    pub TellsThose-on : (x : X) (old new : List ℕ) → P x → GrowsBy (Block x) old new → TellsThose P Block (x ∷ []) old new 1
-    TellsThose-on x old new p block =
-        record { those = x ∷ []; are = inl (p, ([], refl, refl)); grew = GrowsBy-one Block x old new block; count_is = refl }
-
-    pub TellsThose-append : (xs ys : List X) (old mid new : List ℕ) (m n : ℕ) → TellsThose P Block xs old mid m → TellsThose P Block ys mid new n → TellsThose P Block (xs ++ ys) old new (m + n)
-    TellsThose-append xs ys old mid new m n first more = record {
-      those = first.those ++ more.those;
-      are = AreThose-append xs ys first.those more.those first.are more.are;
-      grew = GrowsBy-append Block first.those more.those old mid new first.grew more.grew;
-      count_is = ap (λ k. k + n) first.count_is ∙ ap (λ k. length first.those + k) more.count_is ∙ sym (length-append first.those more.those);
-    }
-
-    -- behind those that the things of a list so far lead to, those of one thing more
-    pub TellsThose-next : {Y : Type 0} (f : Y → List X) (keys : List Y) (i : ℕ) (d : Y) (old mid new : List ℕ) (m n : ℕ) → i < length keys →
-        TellsThose P Block (flat_map f (take i keys)) old mid m → TellsThose P Block (f (slice_index_or keys i d)) mid new n →
-        TellsThose P Block (flat_map f (take (i + 1) keys)) old new (m + n)
-    TellsThose-next f keys i d old mid new m n within first more =
-        subst (λ xs. TellsThose P Block xs old new (m + n)) (sym (flat_map-next f keys i d within))
-        (TellsThose-append (flat_map f (take i keys)) (f (slice_index_or keys i d)) old mid new m n first more)
-
-    -- the same where the thing was read off the list
-    pub TellsThose-next_item : {Y : Type 0} (f : Y → List X) (keys : List Y) (i : ℕ) (y : Y) (old mid new : List ℕ) (m n : ℕ) →
-        y ≡ slice_index_or keys i y → i < length keys → TellsThose P Block (flat_map f (take i keys)) old mid m → TellsThose P Block (f y) mid new n →
-        TellsThose P Block (flat_map f (take (i + 1) keys)) old new (m + n)
-    TellsThose-next_item f keys i y old mid new m n is within first more =
-        TellsThose-next f keys i y old mid new m n within first (subst (λ z. TellsThose P Block (f z) mid new n) is more)
-
-    -- the same where it leads to one
-    pub TellsThose-map_next_item : {Y : Type 0} (f : Y → X) (keys : List Y) (i : ℕ) (y : Y) (old mid new : List ℕ) (m n : ℕ) →
-        y ≡ slice_index_or keys i y → i < length keys → TellsThose P Block (map f (take i keys)) old mid m → TellsThose P Block (f y ∷ []) mid new n →
-        TellsThose P Block (map f (take (i + 1) keys)) old new (m + n)
-    TellsThose-map_next_item f keys i y old mid new m n is within first more =
-        subst (λ xs. TellsThose P Block xs old new (m + n)) (sym (map-next f keys i y within))
-        (TellsThose-append (map f (take i keys)) (f (slice_index_or keys i y) ∷ []) old mid new m n first
-        (subst (λ z. TellsThose P Block (f z ∷ []) mid new n) is more))
 
 -- Circles.
 
@@ -127,28 +67,23 @@ AreTold-append Has before (d ∷ xs) ys a b (inl (left, (circle, rest, shortest,
 )
 AreTold-append Has before (d ∷ xs) ys a b (inr (isnt, told)) h = inr (isnt, AreTold-append Has before xs ys a b told h)
 
--- none are told where none is on a circle
-pub AreTold-nothing : (Has : Fact → Type 0) → ((d : Arrow) → ¬ OnCircle Has d) → (ds : List Arrow) → AreTold Has [] ds []
-AreTold-nothing Has never [] = refl
-AreTold-nothing Has never (d ∷ ds) = inr (λ left. never d left.0, AreTold-nothing Has never ds)
-
 pub TellsCircles-none : (parts : TellerParts) (old : List ℕ) (set : FactParts) → TellsCircles parts [] old old set set 0
 TellsCircles-none parts old set = record {
   keys = refl;
   tells = λ before has. ([], refl, GrowsBy-none old, subst (HasMembers set) (sym (append-nil before)) has, refl);
 }
 
--- the dependency is not left
+-- the dependency was told
 pub TellsCircles-off : (parts : TellerParts) (d : Arrow) (old : List ℕ) (set : FactParts) →
-    ((before : List (List Arrow)) → HasMembers set before → ¬ IsLeft (HasFact parts.facts) before d) → TellsCircles parts (d ∷ []) old old set set 0
-TellsCircles-off parts d old set isnt = record {
+    ((before : List (List Arrow)) → HasMembers set before → IsTold before d) → TellsCircles parts (d ∷ []) old old set set 0
+TellsCircles-off parts d old set was = record {
   keys = refl;
-  tells = λ before has. ([], inr (isnt before has, refl), GrowsBy-none old, subst (HasMembers set) (sym (append-nil before)) has, refl);
+  tells = λ before has. ([], inr (was before has, refl), GrowsBy-none old, subst (HasMembers set) (sym (append-nil before)) has, refl);
 }
 
--- it is
+-- it wasn't
 pub TellsCircles-on : (parts : TellerParts) (d : Arrow) (circle : List Arrow) (old new : List ℕ) (set_old set_new : FactParts) →
-    set_new.keys ≡ set_old.keys → ((before : List (List Arrow)) → HasMembers set_old before → IsLeft (HasFact parts.facts) before d) →
+    set_new.keys ≡ set_old.keys → ((before : List (List Arrow)) → HasMembers set_old before → ¬ IsTold before d) →
     IsShortestFrom (HasFact parts.facts) d circle → GrowsBy (IsCircleBlock parts.told circle) old new →
     ((x : Arrow) → DependenciesOf (HasFact set_new) x ↔ (DependenciesOf (HasFact set_old) x ⊎ Contains circle x)) →
     TellsCircles parts (d ∷ []) old new set_old set_new 1
@@ -192,51 +127,28 @@ TellsCircles-append parts xs ys old mid new set_old set_mid set_new m n first mo
       );
 }
 
--- behind those of the things of a list so far, those of one thing more
-pub TellsCircles-next : {Y : Type 0} (parts : TellerParts) (f : Y → List Arrow) (keys : List Y) (i : ℕ) (d : Y) (old mid new : List ℕ) (set_old set_mid set_new : FactParts) (m n : ℕ) →
-    i < length keys → TellsCircles parts (flat_map f (take i keys)) old mid set_old set_mid m →
-    TellsCircles parts (f (slice_index_or keys i d)) mid new set_mid set_new n →
-    TellsCircles parts (flat_map f (take (i + 1) keys)) old new set_old set_new (m + n)
-TellsCircles-next parts f keys i d old mid new set_old set_mid set_new m n within first more =
-    subst (λ xs. TellsCircles parts xs old new set_old set_new (m + n)) (sym (flat_map-next f keys i d within))
-    (TellsCircles-append parts (flat_map f (take i keys)) (f (slice_index_or keys i d)) old mid new set_old set_mid set_new m n first more)
-
--- the same where the thing was read off the list
-pub TellsCircles-next_item : {Y : Type 0} (parts : TellerParts) (f : Y → List Arrow) (keys : List Y) (i : ℕ) (y : Y) (old mid new : List ℕ) (set_old set_mid set_new : FactParts) (m n : ℕ) →
-    y ≡ slice_index_or keys i y → i < length keys → TellsCircles parts (flat_map f (take i keys)) old mid set_old set_mid m →
-    TellsCircles parts (f y) mid new set_mid set_new n → TellsCircles parts (flat_map f (take (i + 1) keys)) old new set_old set_new (m + n)
-TellsCircles-next_item parts f keys i y old mid new set_old set_mid set_new m n is within first more =
-    TellsCircles-next parts f keys i y old mid new set_old set_mid set_new m n within first
-    (subst (λ z. TellsCircles parts (f z) mid new set_mid set_new n) is more)
-
--- the same where it leads to one
-pub TellsCircles-map_next : {Y : Type 0} (parts : TellerParts) (f : Y → Arrow) (keys : List Y) (i : ℕ) (d : Y) (old mid new : List ℕ) (set_old set_mid set_new : FactParts) (m n : ℕ) →
-    i < length keys → TellsCircles parts (map f (take i keys)) old mid set_old set_mid m →
-    TellsCircles parts (f (slice_index_or keys i d) ∷ []) mid new set_mid set_new n →
-    TellsCircles parts (map f (take (i + 1) keys)) old new set_old set_new (m + n)
-TellsCircles-map_next parts f keys i d old mid new set_old set_mid set_new m n within first more =
-    subst (λ xs. TellsCircles parts xs old new set_old set_new (m + n)) (sym (map-next f keys i d within))
-    (TellsCircles-append parts (map f (take i keys)) (f (slice_index_or keys i d) ∷ []) old mid new set_old set_mid set_new m n first more)
+-- behind those of the dependencies of a list so far, that of one more
+pub TellsCircles-next_item : (parts : TellerParts) (ds : List Arrow) (i : ℕ) (d : Arrow) (old mid new : List ℕ) (set_old set_mid set_new : FactParts) (m n : ℕ) →
+    d ≡ slice_index_or ds i d → i < length ds → TellsCircles parts (take i ds) old mid set_old set_mid m →
+    TellsCircles parts (d ∷ []) mid new set_mid set_new n → TellsCircles parts (take (i + 1) ds) old new set_old set_new (m + n)
+TellsCircles-next_item parts ds i d old mid new set_old set_mid set_new m n is within first more =
+    subst (λ xs. TellsCircles parts xs old new set_old set_new (m + n)) (sym (take_more ds i d within))
+    (TellsCircles-append parts (take i ds) (slice_index_or ds i d ∷ []) old mid new set_old set_mid set_new m n first
+    (subst (λ z. TellsCircles parts (z ∷ []) mid new set_mid set_new n) is more))
 
 -- a set of nothing has the members of no circles
 pub HasMembers-none : (set : FactParts) → ((x : Fact) → ¬ HasFact set x) → HasMembers set []
 HasMembers-none set none d = (λ h. absurd (none (Dependency d.start d.end d.kind) h), λ (k, y, l, e, h). absurd (omega (arith, l)))
 
--- what was told isn't left
-pub told-not_left : (Has : Fact → Type 0) (set : FactParts) (d : Arrow) → DependenciesOf (HasFact set) d →
-    (before : List (List Arrow)) → HasMembers set before → ¬ IsLeft Has before d
-told-not_left Has set d had before has left = left.1 ((has d).0 had)
+-- what is in the set was told, and what isn't wasn't
+pub had-told : (set : FactParts) (d : Arrow) → DependenciesOf (HasFact set) d → (before : List (List Arrow)) → HasMembers set before → IsTold before d
+had-told set d had before has = (has d).0 had
 
--- what wasn't told is left where it is on a circle
-pub not_told-left : (Has : Fact → Type 0) (set : FactParts) (d : Arrow) → ¬ DependenciesOf (HasFact set) d → OnCircle Has d →
-    (before : List (List Arrow)) → HasMembers set before → IsLeft Has before d
-not_told-left Has set d not on before has = (on, λ any. not ((has d).1 any))
+pub not_had-not_told : (set : FactParts) (d : Arrow) → ¬ DependenciesOf (HasFact set) d → (before : List (List Arrow)) → HasMembers set before → ¬ IsTold before d
+not_had-not_told set d not before has any = not ((has d).1 any)
 
 -- what a shortest walk from a dependency is
 module _ (Has : Fact → Type 0) (d : Arrow) (walk : List Arrow) (shortest : IsShortestFrom Has d walk) where
-  pub shortest-on : OnCircle Has d
-  shortest-on = (d, shortest.rest, shortest.closed, (0, omega arith, refl))
-
   pub shortest-some : 0 < length walk
   shortest-some = subst (λ w. 0 < length w) (sym shortest.walk_is) (let l : 0 < length (d ∷ shortest.rest) = omega arith in l)
 

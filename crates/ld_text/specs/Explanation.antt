@@ -8,18 +8,19 @@ use Rattle.ld_trace.specs.declared.event.Irq.{Irq}
 use Rattle.ld_task.specs.Events.{event}
 use Rattle.ld_task.specs.Kinds.{is_r, is_s}
 use Rattle.ld_task.specs.declared.mark.Mark.TheVariants.{UsedIn, Enabled}
-use Rattle.ld_graph.specs.Arrows.{Arrow, arrow}
-use Rattle.ld_graph.specs.Links.{IsDouble, IsDoubleBy, IsInversion, IsShortestInversion}
-use Rattle.ld_graph.specs.Walks.{IsShortestFrom, OnCircle}
+use Rattle.ld_graph.specs.Arrows.{Arrow}
+use Rattle.ld_graph.specs.Links.{IsDoubleBy, IsShortestInversion}
+use Rattle.ld_graph.specs.Walks.{IsShortestFrom}
 use Rattle.ld_graph.specs.declared.fact.Fact.{Fact}
 use Rattle.ld_graph.specs.declared.fact.Fact.TheVariants.{Dependency, Marked}
 use Rattle.ld_run.specs.TraceFacts.{TracesHave}
 use Rattle.ld_explain.specs.Origins.{IsFirst}
 use Rattle.ld_explain.specs.declared.origins.Origin.{Origin}
 use Rattle.ld_text.specs.ChainLines.{taken_text}
+use Rattle.ld_text.specs.Found.{AreFound, FoundParts}
 use Rattle.ld_text.specs.Groups.{InSequence, InTurn}
 use Rattle.ld_text.specs.Order.{IsKeyOrder}
-use Rattle.ld_text.specs.Report.{double_line, inversion_line, kinds, member_text, states, total_line}
+use Rattle.ld_text.specs.Report.{double_line, inversion_line, member_text, total_line}
 use Rattle.ld_text.specs.Words.{file_at, irq_text, key_text, name_at}
 
 -- what is told of: the traces, the names of their keys, and the files that they were read from
@@ -143,50 +144,32 @@ pub record IsInversionBlock (Has : Fact → Type 0) (told : Told) (inversion : I
 
 -- What is told.
 
--- those of a list that P holds of, in its order
-abbrev pub AreThose : {X : Type 0} → (X → Type 0) → List X → List X → Type 0
-AreThose P [] those = those ≡ []
-AreThose P (x ∷ xs) those =
-    (P x × ((rest : _) × (those ≡ x ∷ rest) × AreThose P xs rest)) ⊎ (¬ P x × AreThose P xs those)
+-- the dependency is a member of one of these circles
+abbrev pub IsTold : List (List Arrow) → Arrow → Type 0
+IsTold circles d = Any (λ circle. Contains circle d) circles
 
--- the dependency is on a circle, and a member of none of these
-abbrev pub IsLeft : (Fact → Type 0) → List (List Arrow) → Arrow → Type 0
-IsLeft Has circles d = OnCircle Has d × ¬ Any (λ circle. Contains circle d) circles
-
--- the circles that are told of these dependencies in turn, where some were told before: of each one that is left a shortest
--- of those that begin with it
+-- the circles that are told of these dependencies in turn, if some were told before: of each one that isn't a member of any yet, a
+-- shortest of those that begin with it
 abbrev pub AreTold : (Fact → Type 0) → (before : List (List Arrow)) → List Arrow → List (List Arrow) → Type 0
 AreTold Has before [] circles = circles ≡ []
 AreTold Has before (d ∷ ds) circles =
-    (IsLeft Has before d × ((circle : List Arrow) × (rest : List (List Arrow)) × IsShortestFrom Has d circle
+    (¬ IsTold before d × ((circle : List Arrow) × (rest : List (List Arrow)) × IsShortestFrom Has d circle
     × (circles ≡ circle ∷ rest) × AreTold Has (before ++ circle ∷ []) ds rest))
-    ⊎ (¬ IsLeft Has before d × AreTold Has before ds circles)
-
--- all that may be dependencies, doubles and inversions between these keys, in the report's order
-abbrev pub arrows_among : List ℕ → List Arrow
-arrows_among keys = flat_map (λ from. flat_map (λ to. map (arrow from to) kinds) keys) keys
-
-abbrev pub doubles_among : List ℕ → List (Irq × ℕ)
-doubles_among keys = flat_map (λ irq. map (λ key. (irq, key)) keys) states
-
-abbrev pub inversions_among : List ℕ → List (Irq × (ℕ × ℕ))
-inversions_among keys = flat_map (λ irq. flat_map (λ a. map (λ b. (irq, (a, b))) keys) keys) states
+    ⊎ (IsTold before d × AreTold Has before ds circles)
 
 -- the text explains these facts of what is told of
 pub record IsExplanation (Has : Fact → Type 0) (told : Told) (text : List ℕ) : Type 0 where
   pub keys : List ℕ
   pub keys_are : IsKeyOrder told.names keys
+  pub found : FoundParts
+  pub found_are : AreFound Has keys found
   pub circles : List (List Arrow)
-  pub circles_are : AreTold Has [] (arrows_among keys) circles
-  pub doubles : List (Irq × ℕ)
-  pub doubles_are : AreThose (λ x. IsDouble Has x.0 x.1) (doubles_among keys) doubles
-  pub inversions : List (Irq × (ℕ × ℕ))
-  pub inversions_are : AreThose (λ x. IsInversion Has x.0 x.1.0 x.1.1) (inversions_among keys) inversions
+  pub circles_are : AreTold Has [] found.circles circles
   pub text_is : InSequence (
-      (λ part. part ≡ total_line (codes "findings") (length circles + length doubles + length inversions))
+      (λ part. part ≡ total_line (codes "findings") (length circles + length found.doubles + length found.inversions))
       ∷ InTurn (IsCircleBlock told) circles
-      ∷ InTurn (IsDoubleBlock Has told) doubles
-      ∷ InTurn (IsInversionBlock Has told) inversions
+      ∷ InTurn (IsDoubleBlock Has told) found.doubles
+      ∷ InTurn (IsInversionBlock Has told) found.inversions
       ∷ []) text
 
 -- the text explains what was found in these traces of these files

@@ -1,3 +1,3 @@
-pub mod Ends
+pub mod Finding
 pub mod Telling
 pub mod Turning

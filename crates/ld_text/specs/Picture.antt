@@ -11,8 +11,8 @@ use Rattle.ld_graph.specs.declared.fact.Fact.{Fact}
 use Rattle.ld_run.specs.TraceFacts.{TracesHave}
 use Rattle.ld_text.specs.Groups.{InSequence, InTurn, ShowsWhere}
 use Rattle.ld_text.specs.Order.{IsKeyOrder}
-use Rattle.ld_text.specs.Report.{IsUsageCharacter, forms, kinds, states}
-use Rattle.ld_text.specs.Words.{irq_text, kind_text, name_at}
+use Rattle.ld_text.specs.Report.{IsUsageCharacter, forms}
+use Rattle.ld_text.specs.Words.{irq_text, kind_text, kinds, name_at, states}
 
 -- Names. In a text between double quotes a double quote and a backslash stand behind a backslash.
 

@@ -5,28 +5,19 @@ use Rattle.ld_trace.specs.Names.{Name}
 use Rattle.ld_trace.specs.declared.event.Event.{Event}
 use Rattle.ld_trace.specs.declared.event.Irq.{Irq}
 use Rattle.ld_trace.specs.declared.event.Irq.TheVariants.{Hard, Soft}
-use Rattle.ld_task.specs.declared.kind.Kind.{Kind}
-use Rattle.ld_task.specs.declared.kind.Kind.TheVariants.{Er, En, Sr, Sn}
 use Rattle.ld_task.specs.declared.mark.Mark.TheVariants.{UsedIn, Enabled}
-use Rattle.ld_graph.specs.Arrows.{Arrow, arrow}
+use Rattle.ld_graph.specs.Arrows.{Arrow}
 use Rattle.ld_graph.specs.Facts.{DependenciesOf}
 use Rattle.ld_graph.specs.declared.fact.Fact.{Fact}
 use Rattle.ld_graph.specs.declared.fact.Fact.TheVariants.{Marked}
 use Rattle.ld_graph.specs.Walks.{IsShortestCircle, OnCircle}
-use Rattle.ld_graph.specs.Links.{IsDouble, IsInversion, IsClean}
+use Rattle.ld_graph.specs.Links.{IsClean}
 use Rattle.ld_graph.specs.Counting.{IsNumberOf}
 use Rattle.ld_run.specs.TraceFacts.{TracesHave}
 use Rattle.ld_text.specs.Words.{irq_text, key_text, kind_text, name_at}
 use Rattle.ld_text.specs.Order.{IsKeyOrder, name_cmp}
-use Rattle.ld_text.specs.Groups.{InSequence, InTurn, ShowsWhere}
-
--- the four kinds, in the report's order
-abbrev pub kinds : List Kind
-kinds = Er ∷ En ∷ Sr ∷ Sn ∷ []
-
--- the two states, in the report's order
-abbrev pub states : List Irq
-states = Hard ∷ Soft ∷ []
+use Rattle.ld_text.specs.Found.{AreFound, FoundParts}
+use Rattle.ld_text.specs.Groups.{InSequence, InTurn}
 
 -- The totals.
 
@@ -81,19 +72,10 @@ pub record IsUsageLine (Has : Fact → Type 0) (names : List Name) (key : ℕ) (
 
 -- Circles.
 
-abbrev pub circle_line : List Name → (from to : ℕ) → Kind → List ℕ
-circle_line names from to kind = codes "circle " ++ key_text (name_at names from) ++ codes " "
-    ++ kind_text kind ++ codes " " ++ key_text (name_at names to) ++ codes "\n"
-
--- the line of the dependency, where it is on a circle
-abbrev pub ShowsCircle : (Fact → Type 0) → List Name → (from to : ℕ) → Kind → List ℕ → Type 0
-ShowsCircle Has names from to kind =
-    ShowsWhere (OnCircle Has (arrow from to kind)) (circle_line names from to kind)
-
--- the lines of every dependency on a circle: by the first key, the second, and the kind
-abbrev pub AreCircles : (Fact → Type 0) → List Name → (keys : List ℕ) → List ℕ → Type 0
-AreCircles Has names keys =
-    InTurn (λ from. InTurn (λ to. InTurn (ShowsCircle Has names from to) kinds) keys) keys
+-- a dependency on a circle
+abbrev pub circle_line : List Name → Arrow → List ℕ
+circle_line names d = codes "circle " ++ key_text (name_at names d.start) ++ codes " "
+    ++ kind_text d.kind ++ codes " " ++ key_text (name_at names d.end) ++ codes "\n"
 
 -- A shortest circle.
 
@@ -120,45 +102,25 @@ abbrev pub ShowsBecause : (Fact → Type 0) → List Name → List ℕ → Type 
 ShowsBecause Has names text =
     IsBecause Has names text ⊎ (((d : Arrow) → ¬ OnCircle Has d) × (text ≡ []))
 
--- Doubles.
+-- Doubles and inversions.
 
 abbrev pub double_line : List Name → Irq → (key : ℕ) → List ℕ
 double_line names irq key =
     codes "double " ++ irq_text irq ++ codes " " ++ key_text (name_at names key) ++ codes "\n"
 
--- the line of the key, where it is used both in the state and with it enabled
-abbrev pub ShowsDouble : (Fact → Type 0) → List Name → Irq → (key : ℕ) → List ℕ → Type 0
-ShowsDouble Has names irq key = ShowsWhere (IsDouble Has irq key) (double_line names irq key)
-
--- the lines of every double: by the state and the key
-abbrev pub AreDoubles : (Fact → Type 0) → List Name → (keys : List ℕ) → List ℕ → Type 0
-AreDoubles Has names keys = InTurn (λ irq. InTurn (ShowsDouble Has names irq) keys) states
-
--- Inversions.
-
 abbrev pub inversion_line : List Name → Irq → (a b : ℕ) → List ℕ
 inversion_line names irq a b = codes "inversion " ++ irq_text irq ++ codes " "
     ++ key_text (name_at names a) ++ codes " " ++ key_text (name_at names b) ++ codes "\n"
 
--- the line of the two keys, where they are in an inversion
-abbrev pub ShowsInversion : (Fact → Type 0) → List Name → Irq → (a b : ℕ) → List ℕ → Type 0
-ShowsInversion Has names irq a b =
-    ShowsWhere (IsInversion Has irq a b) (inversion_line names irq a b)
-
--- the lines of every inversion: by the state, the first key and the second
-abbrev pub AreInversions : (Fact → Type 0) → List Name → (keys : List ℕ) → List ℕ → Type 0
-AreInversions Has names keys =
-    InTurn (λ irq. InTurn (λ a. InTurn (ShowsInversion Has names irq a) keys) keys) states
-
 -- The findings.
 
 -- the circle lines, that of a shortest circle, the doubles and the inversions
-abbrev pub findings : (Fact → Type 0) → List Name → (keys : List ℕ) → List (List ℕ → Type 0)
-findings Has names keys =
-    AreCircles Has names keys
+abbrev pub findings : (Fact → Type 0) → List Name → FoundParts → List (List ℕ → Type 0)
+findings Has names found =
+    (λ part. part ≡ flat_map (circle_line names) found.circles)
     ∷ ShowsBecause Has names
-    ∷ AreDoubles Has names keys
-    ∷ AreInversions Has names keys
+    ∷ (λ part. part ≡ flat_map (λ x. double_line names x.0 x.1) found.doubles)
+    ∷ (λ part. part ≡ flat_map (λ x. inversion_line names x.0 x.1.0 x.1.1) found.inversions)
     ∷ []
 
 -- The whole text.
@@ -167,10 +129,12 @@ findings Has names keys =
 pub record IsReport (Has : Fact → Type 0) (traces events : ℕ) (names : List Name) (text : List ℕ) : Type 0 where
   pub keys : List ℕ
   pub keys_are : IsKeyOrder names keys
+  pub found : FoundParts
+  pub found_are : AreFound Has keys found
   pub text_is : InSequence (
       AreTotals Has traces events (length names)
       ∷ InTurn (IsUsageLine Has names) keys
-      ∷ findings Has names keys) text
+      ∷ findings Has names found) text
 
 -- the text is the report of all these traces together
 abbrev pub IsReportOf : List (List Event) → List Name → List ℕ → Type 0

@@ -1,6 +1,6 @@
 //! The text of what was found, and of the records that it comes from.
 
-ghost use Rattle.std.specs.Prelude.{◌≡◌, ◌++◌, ◌∷◌, [], ◌<◌, ◌≤◌, ◌*◌, ◌⊎◌, ◌↔◌, ℕ, List, All, Contains, IfOk, IfErr, OnOk, Some, flat_map, length, map, slice_get, string_bytes, codes};
+ghost use Rattle.std.specs.Prelude.{◌≡◌, ◌++◌, ◌∷◌, [], ◌<◌, ◌≤◌, ◌⊎◌, ◌↔◌, ℕ, List, All, Contains, IfOk, IfErr, OnOk, Some, flat_map, length, map, slice_get, string_bytes, codes};
 ghost use Rattle.std.specs.Io.KnownBytes.{Appends};
 ghost use Rattle.ld_trace.specs.Events.{KeysBelow};
 ghost use Rattle.ld_task.specs.WellFormed.{IsWellFormed};
@@ -8,22 +8,23 @@ ghost use Rattle.ld_graph.specs.Arrows.{Arrow, arrow};
 ghost use Rattle.ld_graph.specs.FactBits.{FactBelow, HasFact};
 ghost use Rattle.ld_graph.specs.Facts.{AreSame, DependenciesOf};
 ghost use Rattle.ld_graph.specs.Links.{IsDouble, IsInversion};
+ghost use Rattle.ld_graph.specs.Walks.{OnCircle};
 ghost use Rattle.ld_graph.specs.declared.fact.Fact.{Fact};
 ghost use Rattle.ld_run.specs.TraceFacts.{TracesHave};
 ghost use Rattle.ld_run.specs.declared.runs.TheConstants.{MAX_TRACES};
-ghost use Rattle.ld_trace.specs.declared.key_id.TheConstants.{MAX_MANY};
-ghost use Rattle.ld_text.specs.Explanation.{IsCircleBlock, IsDependencyLine, IsDoubleBlock, IsExplanation, IsInversionBlock, IsOriginLine, arrows_among, circle_head, comes_line, does_text, doubles_among, event_of, holds_line, inversions_among, lock_of, occurrence_text, waits_text, while_text};
+ghost use Rattle.ld_text.specs.Explanation.{IsCircleBlock, IsDependencyLine, IsDoubleBlock, IsExplanation, IsInversionBlock, IsOriginLine, circle_head, comes_line, does_text, event_of, holds_line, lock_of, occurrence_text, waits_text, while_text};
 ghost use Rattle.ld_text.specs.WriteFaults.{StopsWriting};
 ghost use Rattle.ld_text.specs.Groups.{GrowsBy, InTurn};
-ghost use Rattle.ld_text.specs.Inside.Telling.{TellsAll, TellsCircles, TellsThose};
+ghost use Rattle.ld_text.specs.Inside.Telling.{TellsAll, TellsCircles};
 ghost use Rattle.ld_text.specs.Order.{IsKeyOrder};
-ghost use Rattle.ld_text.specs.Report.{double_line, inversion_line, kinds, member_text};
+ghost use Rattle.ld_text.specs.Report.{double_line, inversion_line, member_text};
 ghost use Rattle.ld_text.specs.Words.{irq_text, key_text, name_at};
 ghost use Rattle.ld_task.specs.declared.mark.Mark.{Mark};
 
+use crate::found::{Dependency, Found};
 use crate::order::sorted_keys;
 use crate::output::write_text;
-use crate::report::{KINDS, STATES, add_total};
+use crate::report::add_total;
 use crate::words::{file_of, irq_word, kind_word, mode_word, name_of};
 use crate::write_fault::WriteFault;
 use ld_explain::{Origin, Origins};
@@ -290,91 +291,49 @@ impl Teller<'_> {
         self.add_waits(text, 1, walk)
     }
 
-    // The block of a shortest circle through the dependency, if it is on one and was not told. Answers how many blocks.
+    // The block of a shortest circle through a dependency on one, unless it is a member of one that was told. Returns how many blocks.
     fn tell_circle(
         &self,
         text: &mut String,
         told: &mut Facts,
-        from: KeyId,
-        to: KeyId,
-        kind: Kind,
-    ) -> Result<u32, AllocError>
-        requires { told.old.keys ≡ self.now.facts.keys }
-        ensures tells { IfOk result (TellsCircles self.now (arrow from to kind ∷ [])
+        d: &Dependency,
+    ) -> Result<usize, AllocError>
+        requires bound { told.old.keys ≡ self.now.facts.keys }
+        requires on { OnCircle (HasFact self.now.facts) d.now }
+        ensures tells { IfOk result (TellsCircles self.now (d.now ∷ [])
             (string_bytes text.old) (string_bytes text.new) told.old told.new) }
         ensures few { IfOk result (λ count. count ≤ 1) }
     {
-        if told.has_dep(from.get(), to.get(), kind) {
+        if told.has_dep(d.from.get(), d.to.get(), d.kind) {
             return Ok(0);
         }
-        if !self.settled.on_circle(from.get(), to.get(), kind) {
-            return Ok(0); // mostly, and without the room of a walk
-        }
-        let Some(walk) = self.settled.circle_through(from.get(), to.get(), kind) else {
-            return Ok(0);
+        let Some(walk) = self
+            .settled
+            .circle_through(d.from.get(), d.to.get(), d.kind)
+        else {
+            unreachable!();
         };
         self.add_circle(text, &walk)?;
         add_told(told, &walk);
         Ok(1)
     }
 
-    // The blocks of circles through dependencies from the one key to the other.
-    fn tell_circles_to(
-        &self,
-        text: &mut String,
-        told: &mut Facts,
-        from: KeyId,
-        to: KeyId,
-    ) -> Result<u32, AllocError>
-        requires { told.old.keys ≡ self.now.facts.keys }
-        ensures tells { IfOk result (TellsCircles self.now (map (arrow from to) kinds)
-            (string_bytes text.old) (string_bytes text.new) told.old told.new) }
-        ensures few { IfOk result (λ count. count ≤ 4) }
-    {
-        let mut count = 0;
-        for kind in KINDS {
-            count += self.tell_circle(text, told, from, to, kind)?;
-        }
-        Ok(count)
-    }
-
-    // The blocks of circles through dependencies from the key.
-    fn tell_circles_from(
-        &self,
-        text: &mut String,
-        told: &mut Facts,
-        keys: &[KeyId],
-        from: KeyId,
-    ) -> Result<u32, AllocError>
-        requires bound { told.old.keys ≡ self.now.facts.keys }
-        requires few { length keys.now ≤ MAX_MANY }
-        ensures tells { IfOk result (TellsCircles self.now (flat_map (λ to. map (arrow from to) kinds) keys.now)
-            (string_bytes text.old) (string_bytes text.new) told.old told.new) }
-        ensures few { IfOk result (λ count. count ≤ 4 * MAX_MANY) }
-    {
-        let mut count = 0;
-        for to in keys {
-            count += self.tell_circles_to(text, told, from, *to)?;
-        }
-        Ok(count)
-    }
-
-    // The blocks of circles.
+    // The blocks of circles. Returns how many there are.
     fn tell_circles(
         &self,
         text: &mut String,
         told: &mut Facts,
-        keys: &[KeyId],
-    ) -> Result<u32, AllocError>
+        circles: &[Dependency],
+    ) -> Result<usize, AllocError>
         requires bound { told.old.keys ≡ self.now.facts.keys }
-        requires few { length keys.now ≤ MAX_MANY }
-        ensures tells { IfOk result (TellsCircles self.now (arrows_among keys.now)
+        requires on { All (OnCircle (HasFact self.now.facts)) circles.now }
+        ensures tells { IfOk result (TellsCircles self.now circles.now
             (string_bytes text.old) (string_bytes text.new) told.old told.new) }
-        ensures few { IfOk result (λ count. count ≤ 4 * MAX_MANY * MAX_MANY) }
+        ensures few { IfOk result (λ count. count ≤ length circles.now) }
     {
         let mut count = 0;
-        for from in keys {
-            count += self.tell_circles_from(text, told, keys, *from)?;
+        for d in circles {
+            count += self.tell_circle(text, told, d)?;
         }
         Ok(count)
     }
@@ -413,57 +372,32 @@ impl Teller<'_> {
         writeln!(text, "\ndouble {state} {name}/{sub}")
     }
 
-    // The block of a double, if the key is one. Answers how many blocks.
-    fn tell_double(&self, text: &mut String, irq: Irq, key: KeyId) -> Result<u32, AllocError>
-        ensures tells { IfOk result (TellsThose (λ x. IsDouble (HasFact self.now.facts) x.0 x.1)
-            (IsDoubleBlock (HasFact self.now.facts) self.now.told) ((irq, key) ∷ [])
+    // The block of a double.
+    fn add_double(&self, text: &mut String, irq: Irq, key: KeyId) -> Result<(), AllocError>
+        requires { IsDouble (HasFact self.now.facts) irq key }
+        ensures { OnOk result (GrowsBy (IsDoubleBlock (HasFact self.now.facts) self.now.told (irq, key))
             (string_bytes text.old) (string_bytes text.new)) }
-        ensures few { IfOk result (λ count. count ≤ 1) }
     {
         let Some((enabled_read, used_read)) = self.settled.double_forms(irq, key.get()) else {
-            return Ok(0);
+            unreachable!();
         };
         self.add_double_head(text, irq, key)?;
         self.add_used(text, irq, key, used_read)?;
         self.add_enabled(text, irq, key, enabled_read)?;
         self.add_holder(text, key)?;
-        self.add_interrupt(text, irq, key)?;
-        Ok(1)
-    }
-
-    // The blocks of the doubles of one state.
-    fn tell_doubles_of(
-        &self,
-        text: &mut String,
-        keys: &[KeyId],
-        irq: Irq,
-    ) -> Result<u32, AllocError>
-        requires { length keys.now ≤ MAX_MANY }
-        ensures tells { IfOk result (TellsThose (λ x. IsDouble (HasFact self.now.facts) x.0 x.1)
-            (IsDoubleBlock (HasFact self.now.facts) self.now.told) (map (λ key. (irq, key)) keys.now)
-            (string_bytes text.old) (string_bytes text.new)) }
-        ensures few { IfOk result (λ count. count ≤ MAX_MANY) }
-    {
-        let mut count = 0;
-        for key in keys {
-            count += self.tell_double(text, irq, *key)?;
-        }
-        Ok(count)
+        self.add_interrupt(text, irq, key)
     }
 
     // The blocks of the doubles.
-    fn tell_doubles(&self, text: &mut String, keys: &[KeyId]) -> Result<u32, AllocError>
-        requires { length keys.now ≤ MAX_MANY }
-        ensures tells { IfOk result (TellsThose (λ x. IsDouble (HasFact self.now.facts) x.0 x.1)
-            (IsDoubleBlock (HasFact self.now.facts) self.now.told) (doubles_among keys.now)
+    fn add_doubles(&self, text: &mut String, doubles: &[(Irq, KeyId)]) -> Result<(), AllocError>
+        requires { All (λ x. IsDouble (HasFact self.now.facts) x.0 x.1) doubles.now }
+        ensures { OnOk result (GrowsBy (InTurn (IsDoubleBlock (HasFact self.now.facts) self.now.told) doubles.now)
             (string_bytes text.old) (string_bytes text.new)) }
-        ensures few { IfOk result (λ count. count ≤ 2 * MAX_MANY) }
     {
-        let mut count = 0;
-        for irq in STATES {
-            count += self.tell_doubles_of(text, keys, irq)?;
+        for double in doubles {
+            self.add_double(text, double.0, double.1)?;
         }
-        Ok(count)
+        Ok(())
     }
 
     // The line of an inversion.
@@ -498,24 +432,20 @@ impl Teller<'_> {
         self.add_inversion_line(text, irq, a, b)
     }
 
-    // The block of an inversion, if the keys are one. Answers how many blocks.
-    fn tell_inversion(
+    // The block of an inversion.
+    fn add_inversion(
         &self,
         text: &mut String,
         irq: Irq,
         a: KeyId,
         b: KeyId,
-    ) -> Result<u32, AllocError>
-        ensures tells { IfOk result (TellsThose (λ x. IsInversion (HasFact self.now.facts) x.0 x.1.0 x.1.1)
-            (IsInversionBlock (HasFact self.now.facts) self.now.told) ((irq, (a, b)) ∷ [])
+    ) -> Result<(), AllocError>
+        requires { IsInversion (HasFact self.now.facts) irq a b }
+        ensures { OnOk result (GrowsBy (IsInversionBlock (HasFact self.now.facts) self.now.told (irq, (a, b)))
             (string_bytes text.old) (string_bytes text.new)) }
-        ensures few { IfOk result (λ count. count ≤ 1) }
     {
-        if !self.settled.is_inversion(irq, a.get(), b.get()) {
-            return Ok(0); // mostly, and without the room of a walk
-        }
         let Some(found) = self.settled.inversion_walk(irq, a.get(), b.get()) else {
-            return Ok(0);
+            unreachable!();
         };
         self.add_inversion_head(text, irq, a, b)?;
         self.add_dependencies(text, &found.walk)?;
@@ -523,78 +453,39 @@ impl Teller<'_> {
         self.add_enabled(text, irq, b, found.enabled_read)?;
         self.add_holder(text, b)?;
         self.add_waits(text, 2, &found.walk)?;
-        self.add_interrupt(text, irq, a)?;
-        Ok(1)
-    }
-
-    // The blocks of the inversions of one state and one first key.
-    fn tell_inversions_from(
-        &self,
-        text: &mut String,
-        keys: &[KeyId],
-        irq: Irq,
-        a: KeyId,
-    ) -> Result<u32, AllocError>
-        requires { length keys.now ≤ MAX_MANY }
-        ensures tells { IfOk result (TellsThose (λ x. IsInversion (HasFact self.now.facts) x.0 x.1.0 x.1.1)
-            (IsInversionBlock (HasFact self.now.facts) self.now.told) (map (λ b. (irq, (a, b))) keys.now)
-            (string_bytes text.old) (string_bytes text.new)) }
-        ensures few { IfOk result (λ count. count ≤ MAX_MANY) }
-    {
-        let mut count = 0;
-        for b in keys {
-            count += self.tell_inversion(text, irq, a, *b)?;
-        }
-        Ok(count)
-    }
-
-    // The blocks of the inversions of one state.
-    fn tell_inversions_of(
-        &self,
-        text: &mut String,
-        keys: &[KeyId],
-        irq: Irq,
-    ) -> Result<u32, AllocError>
-        requires { length keys.now ≤ MAX_MANY }
-        ensures tells { IfOk result (TellsThose (λ x. IsInversion (HasFact self.now.facts) x.0 x.1.0 x.1.1)
-            (IsInversionBlock (HasFact self.now.facts) self.now.told)
-            (flat_map (λ a. map (λ b. (irq, (a, b))) keys.now) keys.now)
-            (string_bytes text.old) (string_bytes text.new)) }
-        ensures few { IfOk result (λ count. count ≤ MAX_MANY * MAX_MANY) }
-    {
-        let mut count = 0;
-        for a in keys {
-            count += self.tell_inversions_from(text, keys, irq, *a)?;
-        }
-        Ok(count)
+        self.add_interrupt(text, irq, a)
     }
 
     // The blocks of the inversions.
-    fn tell_inversions(&self, text: &mut String, keys: &[KeyId]) -> Result<u32, AllocError>
-        requires { length keys.now ≤ MAX_MANY }
-        ensures tells { IfOk result (TellsThose (λ x. IsInversion (HasFact self.now.facts) x.0 x.1.0 x.1.1)
-            (IsInversionBlock (HasFact self.now.facts) self.now.told) (inversions_among keys.now)
+    fn add_inversions(
+        &self,
+        text: &mut String,
+        inversions: &[(Irq, (KeyId, KeyId))],
+    ) -> Result<(), AllocError>
+        requires { All (λ x. IsInversion (HasFact self.now.facts) x.0 x.1.0 x.1.1) inversions.now }
+        ensures { OnOk result (GrowsBy (InTurn (IsInversionBlock (HasFact self.now.facts) self.now.told) inversions.now)
             (string_bytes text.old) (string_bytes text.new)) }
-        ensures few { IfOk result (λ count. count ≤ 2 * MAX_MANY * MAX_MANY) }
     {
-        let mut count = 0;
-        for irq in STATES {
-            count += self.tell_inversions_of(text, keys, irq)?;
+        for inversion in inversions {
+            let (a, b) = inversion.1;
+            self.add_inversion(text, inversion.0, a, b)?;
         }
-        Ok(count)
+        Ok(())
     }
 
-    // The blocks of all findings, and how many there are.
-    fn tell(&self, text: &mut String, told: &mut Facts, keys: &[KeyId]) -> Result<u32, AllocError>
+    // The blocks of all findings. Returns how many there are of circles.
+    fn tell(&self, text: &mut String, told: &mut Facts, found: &Found) -> Result<usize, AllocError>
         requires bound { told.old.keys ≡ self.now.facts.keys }
         requires none { (x : Fact) → ¬ HasFact told.old x }
-        requires few { length keys.now ≤ MAX_MANY }
-        ensures { IfOk result (λ count. TellsAll self.now keys.now (string_bytes text.old) (string_bytes text.new) count) }
+        requires circles { All (OnCircle (HasFact self.now.facts)) found.now.circles }
+        requires doubles { All (λ x. IsDouble (HasFact self.now.facts) x.0 x.1) found.now.doubles }
+        requires inversions { All (λ x. IsInversion (HasFact self.now.facts) x.0 x.1.0 x.1.1) found.now.inversions }
+        ensures { IfOk result (TellsAll self.now found.now (string_bytes text.old) (string_bytes text.new)) }
     {
-        let circles = self.tell_circles(text, told, keys)?;
-        let doubles = self.tell_doubles(text, keys)?;
-        let inversions = self.tell_inversions(text, keys)?;
-        Ok(circles + doubles + inversions)
+        let circles = self.tell_circles(text, told, found.circles())?;
+        self.add_doubles(text, found.doubles())?;
+        self.add_inversions(text, found.inversions())?;
+        Ok(circles)
     }
 }
 
@@ -629,7 +520,7 @@ fn add_told(told: &mut Facts, walk: &Walk)
     }
 }
 
-// The text where something was found.
+// The text if something was found.
 fn text_of_findings(
     alloc: Global,
     settled: &Settled,
@@ -647,6 +538,7 @@ fn text_of_findings(
         (record { traces = traces.now; names = names.now.names; files = map (λ file. file.now) files.entry.now })
         (string_bytes text)) }
 {
+    let found = Found::of(alloc, settled, keys)?;
     let origins = Origins::of(alloc, traces, names.len() as u16)?;
     let mut told = Facts::new(alloc, settled.facts().keys())?;
     let teller = Teller {
@@ -657,14 +549,15 @@ fn text_of_findings(
         files,
     };
     let mut blocks = String::new(alloc);
-    let count = teller.tell(&mut blocks, &mut told, keys)?;
+    let circles = teller.tell(&mut blocks, &mut told, &found)?;
+    let count = circles as u128 + found.doubles().len() as u128 + found.inversions().len() as u128;
     let mut text = String::new(alloc);
-    add_total(&mut text, "findings", u128::from(count))?;
+    add_total(&mut text, "findings", count)?;
     text.push_str(blocks.as_str())?;
     Ok(text)
 }
 
-// The text. Where nothing was found, it is asked for no origins.
+// The text. If nothing was found, it is asked for no origins.
 fn explanation_text(
     alloc: Global,
     settled: &Settled,

@@ -5,7 +5,8 @@
 mod because;
 mod chains_text;
 mod explanation;
-mod line_ends;
+mod found;
+mod key_texts;
 mod order;
 mod output;
 mod picture;

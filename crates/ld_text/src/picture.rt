@@ -8,12 +8,13 @@ ghost use Rattle.ld_graph.specs.Links.{IsDouble};
 ghost use Rattle.ld_text.specs.WriteFaults.{StopsWriting};
 ghost use Rattle.ld_text.specs.Groups.{GrowsBy, InTurn};
 ghost use Rattle.ld_text.specs.Picture.{AreJoined, IsFoundArrow, IsFoundKey, IsNode, IsPicture, ShowsDoubleLink, ShowsEdge, ShowsInversionLink, ShowsKey, arrow_text, end_text, escaped, quoted_key};
-ghost use Rattle.ld_text.specs.Report.{IsUsageCharacter, forms, kinds, states};
-ghost use Rattle.ld_text.specs.Words.{name_at};
+ghost use Rattle.ld_text.specs.Report.{IsUsageCharacter, forms};
+ghost use Rattle.ld_text.specs.Words.{kinds, name_at, states};
 
+use crate::found::{KINDS, STATES};
 use crate::order::sorted_keys;
 use crate::output::write_text;
-use crate::report::{FORMS, KINDS, STATES, usage_character};
+use crate::report::{FORMS, usage_character};
 use crate::words::{digits_of, irq_word, kind_word, name_of};
 use crate::write_fault::WriteFault;
 use ld_graph::Kind;

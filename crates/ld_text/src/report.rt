@@ -1,34 +1,25 @@
 //! The text of a report.
 
-ghost use Rattle.std.specs.Prelude.{◌≡◌, ◌++◌, List, ℕ, OnOk, IfOk, IfErr, IsFalse, length, map, string_bytes, sum_by};
+ghost use Rattle.std.specs.Prelude.{◌≡◌, ◌++◌, List, ℕ, OnOk, IfOk, IfErr, flat_map, length, map, string_bytes, sum_by};
 ghost use Rattle.std.specs.Io.KnownBytes.{Appends};
-ghost use Rattle.ld_graph.specs.Arrows.{arrow};
 ghost use Rattle.ld_graph.specs.FactBits.{HasFact};
-ghost use Rattle.ld_graph.specs.Links.{IsInversion};
-ghost use Rattle.ld_graph.specs.Walks.{OnCircle};
-ghost use Rattle.ld_task.specs.declared.kind.Kind.{Kind};
 ghost use Rattle.ld_text.specs.WriteFaults.{StopsWriting};
 ghost use Rattle.ld_text.specs.Groups.{GrowsBy, InSequence, InTurn};
-ghost use Rattle.ld_text.specs.Inside.Ends.{circle_start, inversion_start, line_end};
-ghost use Rattle.ld_text.specs.Report.{AreCircles, AreDoubles, AreInversions, AreTotals, IsReport, IsUsageCharacter, IsUsageLine, ShowsBecause, ShowsCircle, ShowsDouble, ShowsInversion, clean_line, findings, forms, kinds, total_line, usage_character};
+ghost use Rattle.ld_text.specs.Report.{AreTotals, IsReport, IsUsageCharacter, IsUsageLine, ShowsBecause, circle_line, clean_line, double_line, findings, forms, inversion_line, total_line, usage_character};
+ghost use Rattle.ld_text.specs.Words.{key_text, name_at};
 
 use crate::because;
-use crate::line_ends::LineEnds;
+use crate::found::{Dependency, Found};
+use crate::key_texts::KeyTexts;
 use crate::order::sorted_keys;
 use crate::output::write_text;
 use crate::words::{irq_word, kind_word, name_of};
 use crate::write_fault::WriteFault;
-use ld_graph::{Kind, Mark};
+use ld_graph::Mark;
 use ld_run::Settled;
 use ld_trace::{Irq, KeyId, KeyTable, RawTrace};
 use std::alloc::{AllocError, Global};
 use std::io::Write;
-
-// The four kinds, in the report's order.
-pub(crate) const KINDS: [Kind; 4] = [Kind::Er, Kind::En, Kind::Sr, Kind::Sn];
-
-// The two states, in the report's order.
-pub(crate) const STATES: [Irq; 2] = [Irq::Hard, Irq::Soft];
 
 // The four columns of a usage line: each state, not read and read.
 pub(crate) const FORMS: [(Irq, bool); 4] = [
@@ -45,118 +36,56 @@ struct ReportView<'a> {
     settled: &'a Settled,
     // The names of the keys.
     names: &'a KeyTable,
-    // What the lines end with that name a key last.
-    ends: &'a LineEnds,
+    // The keys as lines name them.
+    texts: &'a KeyTexts,
     // All keys, in the order of their names.
     keys: &'a [KeyId],
-    ghost ends_are: { ends.now ≡ map line_end names.now.names },
+    ghost texts_are: { texts.now ≡ map key_text names.now.names },
 }
 
 impl ReportView<'_> {
-    // The line of a dependency, where it is on a circle. Its beginning is made once for each first key.
-    fn add_circle(
-        self,
-        text: &mut String,
-        start: &str,
-        from: KeyId,
-        to: KeyId,
-        kind: Kind,
-    ) -> Result<(), AllocError>
-        requires { start.now ≡ circle_start self.names.now.names from }
-        ensures { OnOk result (GrowsBy
-            (ShowsCircle (HasFact self.entry.settled.now) self.entry.names.now.names from to kind)
-            (string_bytes text.old) (string_bytes text.new)) }
+    // A key.
+    fn add_key(self, text: &mut String, key: KeyId) -> Result<(), AllocError>
+        ensures { OnOk result (string_bytes text.new
+            ≡ string_bytes text.old ++ key_text (name_at self.entry.names.now.names key)) }
     {
-        if self.settled.on_circle(from.get(), to.get(), kind) {
-            text.push_str(start)?;
-            text.push_str(kind_word(kind))?;
-            self.ends.add(text, to)?;
-        }
-        Ok(())
+        self.texts.add(text, key)
     }
 
-    // The circle lines of the dependencies from the one key to the other.
-    fn add_circles_to(
-        self,
-        text: &mut String,
-        start: &str,
-        from: KeyId,
-        to: KeyId,
-    ) -> Result<(), AllocError>
-        requires { start.now ≡ circle_start self.names.now.names from }
-        ensures { OnOk result (GrowsBy
-            (InTurn (ShowsCircle (HasFact self.entry.settled.now) self.entry.names.now.names from to) kinds)
-            (string_bytes text.old) (string_bytes text.new)) }
+    // The line of a dependency on a circle.
+    fn add_circle(self, text: &mut String, d: &Dependency) -> Result<(), AllocError>
+        ensures { OnOk result (string_bytes text.new
+            ≡ string_bytes text.old ++ circle_line self.entry.names.now.names d.now) }
     {
-        if !self.are_joined(from, to) {
-            return Ok(());
-        }
-        for kind in KINDS {
-            self.add_circle(text, start, from, to, kind)?;
-        }
-        Ok(())
-    }
-
-    // Whether a dependency leads from the one key to the other. Where none does none is on a circle.
-    fn are_joined(self, from: KeyId, to: KeyId) -> bool
-        ensures { IsFalse result → (kind : Kind)
-            → ¬ OnCircle (HasFact self.entry.settled.now) (arrow from to kind) }
-    {
-        let facts = self.settled.facts();
-        let (from, to) = (from.get(), to.get());
-        let er = facts.has_dep(from, to, Kind::Er);
-        let en = facts.has_dep(from, to, Kind::En);
-        let sr = facts.has_dep(from, to, Kind::Sr);
-        let sn = facts.has_dep(from, to, Kind::Sn);
-        er || en || sr || sn
-    }
-
-    // Makes what stands before the kind in the circle lines of the dependencies from the key.
-    fn begin_circles(self, start: &mut String, from: KeyId) -> Result<(), AllocError>
-        ensures { OnOk result (string_bytes start.new ≡ circle_start self.entry.names.now.names from) }
-    {
-        let (name, sub) = name_of(self.names, from);
-        start.clear();
-        write!(start, "circle {name}/{sub} ")
-    }
-
-    // The circle lines of the dependencies from the key. The text that their beginning is made in is the caller's.
-    fn add_circles_from(
-        self,
-        text: &mut String,
-        start: &mut String,
-        from: KeyId,
-    ) -> Result<(), AllocError>
-        ensures { OnOk result (GrowsBy
-            (InTurn (λ to. InTurn (ShowsCircle (HasFact self.entry.settled.now) self.entry.names.now.names from to) kinds)
-            self.entry.keys.now)
-            (string_bytes text.old) (string_bytes text.new)) }
-    {
-        self.begin_circles(start, from)?;
-        for to in self.keys {
-            self.add_circles_to(text, start.as_str(), from, *to)?;
-        }
-        Ok(())
+        text.push_str("circle ")?;
+        self.add_key(text, d.from)?;
+        text.push_str(" ")?;
+        text.push_str(kind_word(d.kind))?;
+        text.push_str(" ")?;
+        self.add_key(text, d.to)?;
+        text.push_str("\n")
     }
 
     // The circle lines.
-    fn add_circles(self, text: &mut String, start: &mut String) -> Result<(), AllocError>
-        ensures { OnOk result (GrowsBy
-            (AreCircles (HasFact self.entry.settled.now) self.entry.names.now.names self.entry.keys.now)
-            (string_bytes text.old) (string_bytes text.new)) }
+    fn add_circles(self, text: &mut String, circles: &[Dependency]) -> Result<(), AllocError>
+        ensures { OnOk result (string_bytes text.new
+            ≡ string_bytes text.old ++ flat_map (circle_line self.entry.names.now.names) circles.now) }
     {
-        for from in self.keys {
-            self.add_circles_from(text, start, *from)?;
+        for d in circles {
+            self.add_circle(text, d)?;
         }
         Ok(())
     }
 
-    // The line of a shortest circle, where there is one.
+    // The line of a shortest circle, if there is one. Clean facts aren't asked for it.
     fn add_because(self, text: &mut String) -> Result<(), AllocError>
         ensures { OnOk result (GrowsBy
             (ShowsBecause (HasFact self.entry.settled.now) self.entry.names.now.names)
             (string_bytes text.old) (string_bytes text.new)) }
     {
+        if self.settled.is_clean() {
+            return Ok(());
+        }
         ld_graph::shortest_circles_turn();
         match self.settled.shortest_circle() {
             Some(circle) => because::add_line(text, self.names, &circle),
@@ -164,138 +93,59 @@ impl ReportView<'_> {
         }
     }
 
-    // The line of a key, where it is used both in a state and with it enabled.
+    // The line of a double.
     fn add_double(self, text: &mut String, irq: Irq, key: KeyId) -> Result<(), AllocError>
-        ensures { OnOk result (GrowsBy
-            (ShowsDouble (HasFact self.entry.settled.now) self.entry.names.now.names irq key)
-            (string_bytes text.old) (string_bytes text.new)) }
+        ensures { OnOk result (string_bytes text.new
+            ≡ string_bytes text.old ++ double_line self.entry.names.now.names irq key) }
     {
-        if self.settled.is_double(irq, key.get()) {
-            let (name, sub) = name_of(self.names, key);
-            let state = irq_word(irq);
-            writeln!(text, "double {state} {name}/{sub}")?;
-        }
-        Ok(())
-    }
-
-    // The double lines of one state.
-    fn add_doubles_of(self, text: &mut String, irq: Irq) -> Result<(), AllocError>
-        ensures { OnOk result (GrowsBy
-            (InTurn (ShowsDouble (HasFact self.entry.settled.now) self.entry.names.now.names irq) self.entry.keys.now)
-            (string_bytes text.old) (string_bytes text.new)) }
-    {
-        for key in self.keys {
-            self.add_double(text, irq, *key)?;
-        }
-        Ok(())
+        let (name, sub) = name_of(self.names, key);
+        let state = irq_word(irq);
+        writeln!(text, "double {state} {name}/{sub}")
     }
 
     // The double lines.
-    fn add_doubles(self, text: &mut String) -> Result<(), AllocError>
-        ensures { OnOk result (GrowsBy
-            (AreDoubles (HasFact self.entry.settled.now) self.entry.names.now.names self.entry.keys.now)
-            (string_bytes text.old) (string_bytes text.new)) }
+    fn add_doubles(self, text: &mut String, doubles: &[(Irq, KeyId)]) -> Result<(), AllocError>
+        ensures { OnOk result (string_bytes text.new ≡ string_bytes text.old
+            ++ flat_map (λ x. double_line self.entry.names.now.names x.0 x.1) doubles.now) }
     {
-        for irq in STATES {
-            self.add_doubles_of(text, irq)?;
+        for double in doubles {
+            self.add_double(text, double.0, double.1)?;
         }
         Ok(())
     }
 
-    // The line of two keys, where they are in an inversion. Its beginning is made once for each first key.
+    // The line of an inversion.
     fn add_inversion(
         self,
         text: &mut String,
-        start: &str,
         irq: Irq,
         a: KeyId,
         b: KeyId,
     ) -> Result<(), AllocError>
-        requires { start.now ≡ inversion_start self.names.now.names irq a }
-        ensures { OnOk result (GrowsBy
-            (ShowsInversion (HasFact self.entry.settled.now) self.entry.names.now.names irq a b)
-            (string_bytes text.old) (string_bytes text.new)) }
+        ensures { OnOk result (string_bytes text.new
+            ≡ string_bytes text.old ++ inversion_line self.entry.names.now.names irq a b) }
     {
-        if self.settled.is_inversion(irq, a.get(), b.get()) {
-            text.push_str(start)?;
-            self.ends.add(text, b)?;
-        }
-        Ok(())
-    }
-
-    // Makes what stands before the second key in the inversion lines of one state and one first key.
-    fn begin_inversions(self, start: &mut String, irq: Irq, a: KeyId) -> Result<(), AllocError>
-        ensures { OnOk result (string_bytes start.new ≡ inversion_start self.entry.names.now.names irq a) }
-    {
-        let (name, sub) = name_of(self.names, a);
-        let state = irq_word(irq);
-        start.clear();
-        write!(start, "inversion {state} {name}/{sub}")
-    }
-
-    // The inversion lines of one state and one first key. The text that their beginning is made in is the caller's.
-    fn add_inversions_from(
-        self,
-        text: &mut String,
-        start: &mut String,
-        irq: Irq,
-        a: KeyId,
-    ) -> Result<(), AllocError>
-        ensures { OnOk result (GrowsBy
-            (InTurn (ShowsInversion (HasFact self.entry.settled.now)
-            self.entry.names.now.names irq a) self.entry.keys.now)
-            (string_bytes text.old) (string_bytes text.new)) }
-    {
-        if !self.is_used_in(irq, a) {
-            return Ok(());
-        }
-        self.begin_inversions(start, irq, a)?;
-        for b in self.keys {
-            self.add_inversion(text, start.as_str(), irq, a, *b)?;
-        }
-        Ok(())
-    }
-
-    // Whether the key is used in the state. Where it isn't no inversion begins with it.
-    fn is_used_in(self, irq: Irq, a: KeyId) -> bool
-        ensures { IsFalse result → (b : ℕ) → ¬ IsInversion (HasFact self.entry.settled.now) irq a b }
-    {
-        let used = self
-            .settled
-            .has_mark(a.get(), Mark::UsedIn { irq, read: false });
-        let used_read = self
-            .settled
-            .has_mark(a.get(), Mark::UsedIn { irq, read: true });
-        used || used_read
-    }
-
-    // The inversion lines of one state.
-    fn add_inversions_of(
-        self,
-        text: &mut String,
-        start: &mut String,
-        irq: Irq,
-    ) -> Result<(), AllocError>
-        ensures { OnOk result (GrowsBy
-            (InTurn (λ a. InTurn (ShowsInversion (HasFact self.entry.settled.now)
-            self.entry.names.now.names irq a) self.entry.keys.now) self.entry.keys.now)
-            (string_bytes text.old) (string_bytes text.new)) }
-    {
-        for a in self.keys {
-            self.add_inversions_from(text, start, irq, *a)?;
-        }
-        Ok(())
+        text.push_str("inversion ")?;
+        text.push_str(irq_word(irq))?;
+        text.push_str(" ")?;
+        self.add_key(text, a)?;
+        text.push_str(" ")?;
+        self.add_key(text, b)?;
+        text.push_str("\n")
     }
 
     // The inversion lines.
-    fn add_inversions(self, text: &mut String, start: &mut String) -> Result<(), AllocError>
-        ensures { OnOk result (GrowsBy
-            (AreInversions (HasFact self.entry.settled.now)
-            self.entry.names.now.names self.entry.keys.now)
-            (string_bytes text.old) (string_bytes text.new)) }
+    fn add_inversions(
+        self,
+        text: &mut String,
+        inversions: &[(Irq, (KeyId, KeyId))],
+    ) -> Result<(), AllocError>
+        ensures { OnOk result (string_bytes text.new ≡ string_bytes text.old
+            ++ flat_map (λ x. inversion_line self.entry.names.now.names x.0 x.1.0 x.1.1) inversions.now) }
     {
-        for irq in STATES {
-            self.add_inversions_of(text, start, irq)?;
+        for inversion in inversions {
+            let (a, b) = inversion.1;
+            self.add_inversion(text, inversion.0, a, b)?;
         }
         Ok(())
     }
@@ -337,19 +187,16 @@ impl ReportView<'_> {
         Ok(())
     }
 
-    // The findings, which stand behind the usage lines. Where the facts are clean there are none, and no dependency or key is asked for.
-    fn add_findings(self, text: &mut String, start: &mut String) -> Result<(), AllocError>
+    // The findings, after the usage lines.
+    fn add_findings(self, text: &mut String, found: &Found) -> Result<(), AllocError>
         ensures { OnOk result (GrowsBy
-            (InSequence (findings (HasFact self.entry.settled.now) self.entry.names.now.names self.entry.keys.now))
+            (InSequence (findings (HasFact self.entry.settled.now) self.entry.names.now.names found.now))
             (string_bytes text.old) (string_bytes text.new)) }
     {
-        if self.settled.is_clean() {
-            return Ok(());
-        }
-        self.add_circles(text, start)?;
+        self.add_circles(text, found.circles())?;
         self.add_because(text)?;
-        self.add_doubles(text)?;
-        self.add_inversions(text, start)?;
+        self.add_doubles(text, found.doubles())?;
+        self.add_inversions(text, found.inversions())?;
         Ok(())
     }
 
@@ -381,18 +228,18 @@ fn report_text(
 {
     let keys = sorted_keys(alloc, names)?;
     let keys = keys.as_slice();
-    let ends = LineEnds::of(alloc, names)?;
+    let found = Found::of(alloc, settled, keys)?;
+    let texts = KeyTexts::of(alloc, names)?;
     let view = ReportView {
         settled,
         names,
-        ends: &ends,
+        texts: &texts,
         keys,
     };
     let mut text = String::new(alloc);
-    let mut start = String::new(alloc);
     view.add_totals(&mut text, traces, events)?;
     view.add_usage(&mut text)?;
-    view.add_findings(&mut text, &mut start)?;
+    view.add_findings(&mut text, &found)?;
     Ok(text)
 }
 

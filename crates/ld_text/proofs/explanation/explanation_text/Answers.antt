@@ -1,11 +1,10 @@
 use Rattle.std.proofs.Common.{◌∙◌, ◌++◌, [], ap, refl, sym, codes}
 use Rattle.std.proofs.lemmas.List.{append-nil}
 use Rattle.ld_graph.specs.FactBits.{HasFact}
-use Rattle.ld_graph.specs.Links.{IsClean, IsDouble, IsInversion}
-use Rattle.ld_text.specs.Explanation.{arrows_among, doubles_among, inversions_among}
+use Rattle.ld_graph.specs.Links.{IsClean}
 use Rattle.ld_text.specs.Groups.{InSequence}
 use Rattle.ld_text.specs.Report.{total_line}
-use Rattle.ld_text.proofs.TellingLemmas.{AreThose-nothing, AreTold-nothing}
+use Rattle.ld_text.proofs.FindingLemmas.{AreFound-nothing}
 use Rattle.ld_text.proofs.explanation.explanation_text.Goals as goal
 
 pub returns : goal.returns
@@ -17,12 +16,10 @@ returns c =
     record {
       keys = keys;
       keys_are = c.in_ok-keys.ensures;
+      found = record { circles = []; doubles = []; inversions = [] };
+      found_are = AreFound-nothing Has clean keys;
       circles = [];
-      circles_are = AreTold-nothing Has clean.circles (arrows_among keys);
-      doubles = [];
-      doubles_are = AreThose-nothing (λ x. IsDouble Has x.0 x.1) (λ x. clean.doubles x.0 x.1) (doubles_among keys);
-      inversions = [];
-      inversions_are = AreThose-nothing (λ x. IsInversion Has x.0 x.1.0 x.1.1) (λ x. clean.inversions x.0 x.1.0 x.1.1) (inversions_among keys);
+      circles_are = refl;
       text_is = (
         total_line (codes "findings") 0,
         [],

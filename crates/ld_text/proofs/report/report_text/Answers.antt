@@ -11,6 +11,8 @@ pub returns : goal.returns
 returns c = record {
   keys = c.in_ok-keys.keys.items;
   keys_are = c.in_ok-keys.ensures;
+  found = c.in_ok-found.found;
+  found_are = rw c.as_slice-keys.ensures.value at c.in_ok-found.ensures;
   text_is = rw c.as_slice-keys.ensures.value at (whole _ _ _ c.new-text.ensures.bytes
       (GrowsBy-then _ _ _ _ _ c.in_ok-add_totals.ensures
       (GrowsBy-then _ _ _ _ _ c.in_ok-add_usage.ensures c.in_ok-add_findings.ensures)));

@@ -3,7 +3,7 @@ use Rattle.ld_graph.specs.FactBits.{HasFact}
 use Rattle.ld_graph.specs.Arrows.{arrow}
 use Rattle.ld_text.specs.Groups.{GrowsBy, InTurn}
 use Rattle.ld_text.specs.Picture.{ShowsEdge}
-use Rattle.ld_text.specs.Report.{kinds}
+use Rattle.ld_text.specs.Words.{kinds}
 use Rattle.ld_text.proofs.picture.PictureView.add_edges.Given as goal
 
 -- the lines from the keys so far

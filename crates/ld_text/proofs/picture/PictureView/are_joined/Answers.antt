@@ -2,7 +2,7 @@ use Rattle.std.proofs.Common.{◌⊎◌, refl, inl, inr}
 use Rattle.ld_graph.specs.Arrows.{arrow}
 use Rattle.ld_graph.specs.FactBits.{HasFact}
 use Rattle.ld_text.specs.Picture.{IsFoundArrow}
-use Rattle.ld_text.specs.Report.{kinds}
+use Rattle.ld_text.specs.Words.{kinds}
 use Rattle.ld_text.proofs.PictureGrowing.{any-at, none-more, says-true}
 use Rattle.ld_text.proofs.picture.PictureView.are_joined.Goals as goal
 use Rattle.ld_text.proofs.picture.PictureView.are_joined.Goals.{then-is_found-via-then-is_found, then-is_found-via-else-is_found+then-is_found-2}

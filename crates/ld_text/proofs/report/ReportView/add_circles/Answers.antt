@@ -1,8 +1,6 @@
-use Rattle.ld_text.proofs.GroupLemmas.{GrowsBy-more_item, GrowsBy-none}
+use Rattle.ld_text.specs.Report.{circle_line}
+use Rattle.ld_text.proofs.GroupLemmas.{flat_map-grows}
 use Rattle.ld_text.proofs.report.ReportView.add_circles.Goals as goal
 
-pub loop-from-init : goal.loop-from-init
-loop-from-init c = GrowsBy-none _
-
-pub loop-from-preserved : goal.loop-from-preserved
-loop-from-preserved c = GrowsBy-more_item _ _ _ _ _ _ _ c.from-item.is c.loop-from-test.true c.loop-from.invariant c.in_ok-add_circles_from.ensures
+pub loop-d-preserved : goal.loop-d-preserved
+loop-d-preserved c = flat_map-grows (circle_line c.args.self.names.now.names) _ _ _ _ _ _ c.d-item.is c.loop-d-test.true c.loop-d.invariant c.in_ok-add_circle.ensures

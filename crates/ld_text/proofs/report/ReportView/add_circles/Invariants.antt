@@ -1,11 +1,8 @@
-use Rattle.std.proofs.Common.{take, string_bytes}
-use Rattle.ld_graph.specs.FactBits.{HasFact}
-use Rattle.ld_text.specs.Groups.{GrowsBy, InTurn}
-use Rattle.ld_text.specs.Report.{ShowsCircle, kinds}
+use Rattle.std.proofs.Common.{◌≡◌, ◌++◌, take, string_bytes}
+use Rattle.std.specs.List.{flat_map}
+use Rattle.ld_text.specs.Report.{circle_line}
 use Rattle.ld_text.proofs.report.ReportView.add_circles.Given as goal
 
--- the lines from the keys so far
-abbrev pub invariant-loop-from : goal.invariant-loop-from
-invariant-loop-from l =
-    GrowsBy (InTurn (λ from. InTurn (λ to. InTurn (ShowsCircle (HasFact l.self.settled.now) l.self.names.now.names from to) kinds) l.self.keys.now) (take l.from-index l.from-items))
-    (string_bytes l.initial.text) (string_bytes l.text)
+-- the lines so far
+abbrev pub invariant-loop-d : goal.invariant-loop-d
+invariant-loop-d l = string_bytes l.text ≡ string_bytes l.initial.text ++ flat_map (circle_line l.self.names.now.names) (take l.d-index l.circles)

@@ -1,11 +1,8 @@
-use Rattle.std.proofs.Common.{take, string_bytes}
-use Rattle.ld_graph.specs.FactBits.{HasFact}
-use Rattle.ld_text.specs.Groups.{GrowsBy, InTurn}
-use Rattle.ld_text.specs.Report.{ShowsDouble}
+use Rattle.std.proofs.Common.{◌≡◌, ◌++◌, take, string_bytes}
+use Rattle.std.specs.List.{flat_map}
+use Rattle.ld_text.specs.Report.{double_line}
 use Rattle.ld_text.proofs.report.ReportView.add_doubles.Given as goal
 
--- the lines of the states so far
-abbrev pub invariant-loop-irq : goal.invariant-loop-irq
-invariant-loop-irq l =
-    GrowsBy (InTurn (λ irq. InTurn (ShowsDouble (HasFact l.self.settled.now) l.self.names.now.names irq) l.self.keys.now) (take l.irq-index l.irq-items))
-    (string_bytes l.initial.text) (string_bytes l.text)
+-- the lines so far
+abbrev pub invariant-loop-double : goal.invariant-loop-double
+invariant-loop-double l = string_bytes l.text ≡ string_bytes l.initial.text ++ flat_map (λ x. double_line l.self.names.now.names x.0 x.1) (take l.double-index l.doubles)

@@ -1,11 +1,8 @@
-use Rattle.std.proofs.Common.{take, string_bytes}
-use Rattle.ld_graph.specs.FactBits.{HasFact}
-use Rattle.ld_text.specs.Groups.{GrowsBy, InTurn}
-use Rattle.ld_text.specs.Report.{ShowsInversion}
+use Rattle.std.proofs.Common.{◌≡◌, ◌++◌, take, string_bytes}
+use Rattle.std.specs.List.{flat_map}
+use Rattle.ld_text.specs.Report.{inversion_line}
 use Rattle.ld_text.proofs.report.ReportView.add_inversions.Given as goal
 
--- the lines of the states so far
-abbrev pub invariant-loop-irq : goal.invariant-loop-irq
-invariant-loop-irq l =
-    GrowsBy (InTurn (λ irq. InTurn (λ a. InTurn (ShowsInversion (HasFact l.self.settled.now) l.self.names.now.names irq a) l.self.keys.now) l.self.keys.now) (take l.irq-index l.irq-items))
-    (string_bytes l.initial.text) (string_bytes l.text)
+-- the lines so far
+abbrev pub invariant-loop-inversion : goal.invariant-loop-inversion
+invariant-loop-inversion l = string_bytes l.text ≡ string_bytes l.initial.text ++ flat_map (λ x. inversion_line l.self.names.now.names x.0 x.1.0 x.1.1) (take l.inversion-index l.inversions)
