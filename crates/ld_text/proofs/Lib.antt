@@ -5,6 +5,7 @@ pub mod BecauseLemmas
 pub mod ChainLemmas
 pub mod ReportLemmas
 pub mod ExplanationLemmas
+pub mod JsonLemmas
 pub mod PictureLemmas
 pub mod TellingLemmas
 pub mod LeafLemmas

@@ -23,21 +23,21 @@ use Rattle.ld_text.specs.Words.{irq_text}
 use Rattle.ld_text.proofs.GroupLemmas.{GrowsBy-none, GrowsBy-then}
 
 -- Texts of two lists, one behind the other.
-module _ {X : Type 0} (R : X → List ℕ → Type 0) where
-  InTurn-append : (xs ys : List X) (a b : List ℕ) → InTurn R xs a → InTurn R ys b → InTurn R (xs ++ ys) (a ++ b)
+module _ {X A : Type 0} (R : X → List A → Type 0) where
+  InTurn-append : (xs ys : List X) (a b : List A) → InTurn R xs a → InTurn R ys b → InTurn R (xs ++ ys) (a ++ b)
   unfolding InSequence
   InTurn-append [] ys a b none h = subst (λ t. InTurn R ys (t ++ b)) (sym none) h
   InTurn-append (x ∷ xs) ys a b (first, rest, here, others, is) h =
       (first, rest ++ b, here, InTurn-append xs ys rest b others h, ap (λ t. t ++ b) is ∙ append_assoc first rest b)
 
-  pub GrowsBy-append : (xs ys : List X) (old mid new : List ℕ) → GrowsBy (InTurn R xs) old mid → GrowsBy (InTurn R ys) mid new → GrowsBy (InTurn R (xs ++ ys)) old new
+  pub GrowsBy-append : (xs ys : List X) (old mid new : List A) → GrowsBy (InTurn R xs) old mid → GrowsBy (InTurn R ys) mid new → GrowsBy (InTurn R (xs ++ ys)) old new
   GrowsBy-append xs ys old mid new first more = record {
     part = first.part ++ more.part;
     shows = InTurn-append xs ys first.part more.part first.shows more.shows;
     grew = more.grew ∙ ap (λ t. t ++ more.part) first.grew ∙ append_assoc old first.part more.part;
   }
 
-  pub GrowsBy-one : (x : X) (old new : List ℕ) → GrowsBy (R x) old new → GrowsBy (InTurn R (x ∷ [])) old new
+  pub GrowsBy-one : (x : X) (old new : List A) → GrowsBy (R x) old new → GrowsBy (InTurn R (x ∷ [])) old new
   unfolding InSequence
   GrowsBy-one x old new one = record {
     part = one.part;
@@ -67,32 +67,32 @@ AreTold-append Has before (d ∷ xs) ys a b (inl (left, (circle, rest, shortest,
 )
 AreTold-append Has before (d ∷ xs) ys a b (inr (isnt, told)) h = inr (isnt, AreTold-append Has before xs ys a b told h)
 
-pub TellsCircles-none : (parts : TellerParts) (old : List ℕ) (set : FactParts) → TellsCircles parts [] old old set set 0
-TellsCircles-none parts old set = record {
+pub TellsCircles-none : (facts : FactParts) (R : List Arrow → List ℕ → Type 0) (old : List ℕ) (set : FactParts) → TellsCircles facts R [] old old set set 0
+TellsCircles-none facts R old set = record {
   keys = refl;
   tells = λ before has. ([], refl, GrowsBy-none old, subst (HasMembers set) (sym (append-nil before)) has, refl);
 }
 
 -- the dependency was told
-pub TellsCircles-off : (parts : TellerParts) (d : Arrow) (old : List ℕ) (set : FactParts) →
-    ((before : List (List Arrow)) → HasMembers set before → IsTold before d) → TellsCircles parts (d ∷ []) old old set set 0
-TellsCircles-off parts d old set was = record {
+pub TellsCircles-off : (facts : FactParts) (R : List Arrow → List ℕ → Type 0) (d : Arrow) (old : List ℕ) (set : FactParts) →
+    ((before : List (List Arrow)) → HasMembers set before → IsTold before d) → TellsCircles facts R (d ∷ []) old old set set 0
+TellsCircles-off facts R d old set was = record {
   keys = refl;
   tells = λ before has. ([], inr (was before has, refl), GrowsBy-none old, subst (HasMembers set) (sym (append-nil before)) has, refl);
 }
 
 -- it wasn't
-pub TellsCircles-on : (parts : TellerParts) (d : Arrow) (circle : List Arrow) (old new : List ℕ) (set_old set_new : FactParts) →
+pub TellsCircles-on : (facts : FactParts) (R : List Arrow → List ℕ → Type 0) (d : Arrow) (circle : List Arrow) (old new : List ℕ) (set_old set_new : FactParts) →
     set_new.keys ≡ set_old.keys → ((before : List (List Arrow)) → HasMembers set_old before → ¬ IsTold before d) →
-    IsShortestFrom (HasFact parts.facts) d circle → GrowsBy (IsCircleBlock parts.told circle) old new →
+    IsShortestFrom (HasFact facts) d circle → GrowsBy (R circle) old new →
     ((x : Arrow) → DependenciesOf (HasFact set_new) x ↔ (DependenciesOf (HasFact set_old) x ⊎ Contains circle x)) →
-    TellsCircles parts (d ∷ []) old new set_old set_new 1
-TellsCircles-on parts d circle old new set_old set_new keys left shortest block adds = record {
+    TellsCircles facts R (d ∷ []) old new set_old set_new 1
+TellsCircles-on facts R d circle old new set_old set_new keys left shortest block adds = record {
   keys = keys;
   tells = λ before has. (
     circle ∷ [],
     inl (left before has, (circle, [], shortest, refl, refl)),
-    GrowsBy-one (IsCircleBlock parts.told) circle old new block,
+    GrowsBy-one R circle old new block,
     λ x. (
       λ h. forth before has x ((adds x).0 h),
       λ any. (adds x).1 (back before has x any),
@@ -112,29 +112,29 @@ TellsCircles-on parts d circle old new set_old set_new keys left shortest block 
     back : (before : List (List Arrow)) → HasMembers set_old before → (x : Arrow) → Any (λ c. Contains c x) (before ++ circle ∷ []) → DependenciesOf (HasFact set_old) x ⊎ Contains circle x
     back before has x any = back_cases before has x ((Any-push (λ c. Contains c x) before circle).0 any)
 
-pub TellsCircles-append : (parts : TellerParts) (xs ys : List Arrow) (old mid new : List ℕ) (set_old set_mid set_new : FactParts) (m n : ℕ) →
-    TellsCircles parts xs old mid set_old set_mid m → TellsCircles parts ys mid new set_mid set_new n → TellsCircles parts (xs ++ ys) old new set_old set_new (m + n)
-TellsCircles-append parts xs ys old mid new set_old set_mid set_new m n first more = record {
+pub TellsCircles-append : (facts : FactParts) (R : List Arrow → List ℕ → Type 0) (xs ys : List Arrow) (old mid new : List ℕ) (set_old set_mid set_new : FactParts) (m n : ℕ) →
+    TellsCircles facts R xs old mid set_old set_mid m → TellsCircles facts R ys mid new set_mid set_new n → TellsCircles facts R (xs ++ ys) old new set_old set_new (m + n)
+TellsCircles-append facts R xs ys old mid new set_old set_mid set_new m n first more = record {
   keys = more.keys ∙ first.keys;
   tells = λ before has.
       let (a, a_told, a_grew, a_has, a_count) = first.tells before has in
       let (b, b_told, b_grew, b_has, b_count) = more.tells (before ++ a) a_has in (
         a ++ b,
-        AreTold-append (HasFact parts.facts) before xs ys a b a_told b_told,
-        GrowsBy-append (IsCircleBlock parts.told) a b old mid new a_grew b_grew,
+        AreTold-append (HasFact facts) before xs ys a b a_told b_told,
+        GrowsBy-append R a b old mid new a_grew b_grew,
         subst (HasMembers set_new) (append_assoc before a b) b_has,
         ap (λ k. k + n) a_count ∙ ap (λ k. length a + k) b_count ∙ sym (length-append a b),
       );
 }
 
 -- behind those of the dependencies of a list so far, that of one more
-pub TellsCircles-next_item : (parts : TellerParts) (ds : List Arrow) (i : ℕ) (d : Arrow) (old mid new : List ℕ) (set_old set_mid set_new : FactParts) (m n : ℕ) →
-    d ≡ slice_index_or ds i d → i < length ds → TellsCircles parts (take i ds) old mid set_old set_mid m →
-    TellsCircles parts (d ∷ []) mid new set_mid set_new n → TellsCircles parts (take (i + 1) ds) old new set_old set_new (m + n)
-TellsCircles-next_item parts ds i d old mid new set_old set_mid set_new m n is within first more =
-    subst (λ xs. TellsCircles parts xs old new set_old set_new (m + n)) (sym (take_more ds i d within))
-    (TellsCircles-append parts (take i ds) (slice_index_or ds i d ∷ []) old mid new set_old set_mid set_new m n first
-    (subst (λ z. TellsCircles parts (z ∷ []) mid new set_mid set_new n) is more))
+pub TellsCircles-next_item : (facts : FactParts) (R : List Arrow → List ℕ → Type 0) (ds : List Arrow) (i : ℕ) (d : Arrow) (old mid new : List ℕ) (set_old set_mid set_new : FactParts) (m n : ℕ) →
+    d ≡ slice_index_or ds i d → i < length ds → TellsCircles facts R (take i ds) old mid set_old set_mid m →
+    TellsCircles facts R (d ∷ []) mid new set_mid set_new n → TellsCircles facts R (take (i + 1) ds) old new set_old set_new (m + n)
+TellsCircles-next_item facts R ds i d old mid new set_old set_mid set_new m n is within first more =
+    subst (λ xs. TellsCircles facts R xs old new set_old set_new (m + n)) (sym (take_more ds i d within))
+    (TellsCircles-append facts R (take i ds) (slice_index_or ds i d ∷ []) old mid new set_old set_mid set_new m n first
+    (subst (λ z. TellsCircles facts R (z ∷ []) mid new set_mid set_new n) is more))
 
 -- a set of nothing has the members of no circles
 pub HasMembers-none : (set : FactParts) → ((x : Fact) → ¬ HasFact set x) → HasMembers set []

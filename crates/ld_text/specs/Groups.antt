@@ -1,13 +1,13 @@
--- Groups of lines: one text behind the other [this project's own].
+-- Groups: one text, or one list of other things, after the other [this project's own].
 use Rattle.std.specs.Prelude.{◌≡◌, ◌⊎◌, ℕ, List, [], ◌∷◌, ◌++◌, map}
 
--- the text is one text behind the other, each as said of it
-unfoldable pub InSequence : List (List ℕ → Type 0) → List ℕ → Type 0
+-- the text is one text after the other, each as said of it
+unfoldable pub InSequence : {A : Type 0} → List (List A → Type 0) → List A → Type 0
 InSequence [] text = text ≡ []
-InSequence (P ∷ Ps) text = (first rest : List ℕ) × P first × InSequence Ps rest × (text ≡ first ++ rest)
+InSequence (P ∷ Ps) text = (first rest : _) × P first × InSequence Ps rest × (text ≡ first ++ rest)
 
 -- the text has what R allows for each of the list, in the list's order
-abbrev pub InTurn : {X : Type 0} → (X → List ℕ → Type 0) → List X → List ℕ → Type 0
+abbrev pub InTurn : {X A : Type 0} → (X → List A → Type 0) → List X → List A → Type 0
 InTurn R xs = InSequence (map R xs)
 
 -- the text is the line where P holds, and empty where it doesn't
@@ -15,7 +15,7 @@ abbrev pub ShowsWhere : (P : Type 0) (line text : List ℕ) → Type 0
 ShowsWhere P line text = (P × (text ≡ line)) ⊎ (¬ P × (text ≡ []))
 
 -- the text grew by a part that is as Q says
-pub record GrowsBy (Q : List ℕ → Type 0) (old new : List ℕ) : Type 0 where
-  pub part : List ℕ
+pub record GrowsBy {A : Type 0} (Q : List A → Type 0) (old new : List A) : Type 0 where
+  pub part : List A
   pub shows : Q part
   pub grew : new ≡ old ++ part

@@ -3,6 +3,7 @@ pub mod Explanation
 pub mod Found
 pub mod Groups
 pub mod Inside
+pub mod Json
 pub mod Order
 pub mod Output
 pub mod Picture

@@ -25,53 +25,17 @@ use crate::found::{Dependency, Found};
 use crate::order::sorted_keys;
 use crate::output::write_text;
 use crate::report::add_total;
+use crate::teller::{Teller, member};
 use crate::words::{file_of, irq_word, kind_word, mode_word, name_of};
 use crate::write_fault::WriteFault;
 use ld_explain::{Origin, Origins};
-use ld_graph::{Fact, Facts, Kind, Mark, Walk};
+use ld_graph::{Facts, Kind, Mark, Walk};
 use ld_run::Settled;
 use ld_trace::{Event, Irq, KeyId, KeyTable, RawTrace};
 use std::alloc::{AllocError, Global};
 use std::io::Write;
-use std::marker::Model;
-
-// The facts, what they mean, and what their origins are told from.
-#[derive(Drop)]
-struct Teller<'a> {
-    settled: &'a Settled,
-    origins: &'a Origins,
-    traces: &'a [RawTrace],
-    names: &'a KeyTable,
-    files: &'a [&'a str],
-}
-
-impl<'a> Model for Teller<'a> {
-    ghost use Rattle.std.specs.Prelude.{◌≡◌, map};
-    ghost use Rattle.ld_graph.specs.FactBits.{HasFact};
-    ghost use Rattle.ld_graph.specs.Facts.{AreSame};
-    ghost use Rattle.ld_run.specs.TraceFacts.{TracesHave};
-    ghost use Rattle.ld_explain.specs.Origins.{AreOriginsOf};
-    ghost use Rattle.ld_text.specs.Inside.Telling.{TellerParts};
-
-    ghost Value = { TellerParts };
-
-    ghost view = { λ t. record {
-      facts = t.settled.now;
-      told = record { traces = t.traces.now; names = t.names.now.names; files = map (λ file. file.now) t.files.now };
-    } };
-
-    ghost invariant = { λ t. AreOriginsOf t.traces.now t.origins.now
-        × AreSame (HasFact t.settled.now) (TracesHave t.traces.now) };
-}
 
 impl Teller<'_> {
-    // The event at this place of a trace.
-    fn event(&self, trace: u32, place: u32) -> Option<Event>
-        ensures { result ≡ event_of self.now.told.traces trace place }
-    {
-        self.traces.get(trace as usize)?.event(place as usize)
-    }
-
     // A key.
     fn add_key(&self, text: &mut String, key: KeyId) -> Result<(), AllocError>
         ensures { OnOk result (string_bytes text.new
@@ -169,9 +133,7 @@ impl Teller<'_> {
         ensures { OnOk result (GrowsBy (IsDependencyLine self.now.told (arrow from to kind))
             (string_bytes text.old) (string_bytes text.new)) }
     {
-        let Some(origin) = self.origins.dependency(from.get(), to.get(), kind) else {
-            unreachable!();
-        };
+        let origin = self.dependency(from, to, kind);
         let (from_name, from_sub) = name_of(self.names, from);
         let (to_name, to_sub) = name_of(self.names, to);
         let kind = kind_word(kind);
@@ -191,9 +153,7 @@ impl Teller<'_> {
         ensures { OnOk result (GrowsBy (IsOriginLine self.now.told (codes "used in " ++ irq_text irq)
             (Fact.Marked key (Mark.UsedIn irq read))) (string_bytes text.old) (string_bytes text.new)) }
     {
-        let Some(origin) = self.origins.mark(key.get(), Mark::UsedIn { irq, read }) else {
-            unreachable!();
-        };
+        let origin = self.mark(key, Mark::UsedIn { irq, read });
         let state = irq_word(irq);
         write!(text, "  used in {state}")?;
         self.add_origin(text, origin)
@@ -212,9 +172,7 @@ impl Teller<'_> {
             (IsOriginLine self.now.told (codes "used with " ++ (irq_text irq ++ codes "s on"))
             (Fact.Marked key (Mark.Enabled irq read))) (string_bytes text.old) (string_bytes text.new)) }
     {
-        let Some(origin) = self.origins.mark(key.get(), Mark::Enabled { irq, read }) else {
-            unreachable!();
-        };
+        let origin = self.mark(key, Mark::Enabled { irq, read });
         text.push_str("  used with ")?;
         text.push_str(irq_word(irq))?;
         text.push_str("s on")?;
@@ -300,21 +258,14 @@ impl Teller<'_> {
     ) -> Result<usize, AllocError>
         requires bound { told.old.keys ≡ self.now.facts.keys }
         requires on { OnCircle (HasFact self.now.facts) d.now }
-        ensures tells { IfOk result (TellsCircles self.now (d.now ∷ [])
+        ensures tells { IfOk result (TellsCircles self.now.facts (IsCircleBlock self.now.told) (d.now ∷ [])
             (string_bytes text.old) (string_bytes text.new) told.old told.new) }
         ensures few { IfOk result (λ count. count ≤ 1) }
     {
-        if told.has_dep(d.from.get(), d.to.get(), d.kind) {
+        let Some(walk) = self.circle(told, d) else {
             return Ok(0);
-        }
-        let Some(walk) = self
-            .settled
-            .circle_through(d.from.get(), d.to.get(), d.kind)
-        else {
-            unreachable!();
         };
         self.add_circle(text, &walk)?;
-        add_told(told, &walk);
         Ok(1)
     }
 
@@ -327,7 +278,7 @@ impl Teller<'_> {
     ) -> Result<usize, AllocError>
         requires bound { told.old.keys ≡ self.now.facts.keys }
         requires on { All (OnCircle (HasFact self.now.facts)) circles.now }
-        ensures tells { IfOk result (TellsCircles self.now circles.now
+        ensures tells { IfOk result (TellsCircles self.now.facts (IsCircleBlock self.now.told) circles.now
             (string_bytes text.old) (string_bytes text.new) told.old told.new) }
         ensures few { IfOk result (λ count. count ≤ length circles.now) }
     {
@@ -480,43 +431,13 @@ impl Teller<'_> {
         requires circles { All (OnCircle (HasFact self.now.facts)) found.now.circles }
         requires doubles { All (λ x. IsDouble (HasFact self.now.facts) x.0 x.1) found.now.doubles }
         requires inversions { All (λ x. IsInversion (HasFact self.now.facts) x.0 x.1.0 x.1.1) found.now.inversions }
-        ensures { IfOk result (TellsAll self.now found.now (string_bytes text.old) (string_bytes text.new)) }
+        ensures { IfOk result (TellsAll self.now.facts (IsCircleBlock self.now.told) (IsDoubleBlock (HasFact self.now.facts) self.now.told)
+            (IsInversionBlock (HasFact self.now.facts) self.now.told) found.now (string_bytes text.old) (string_bytes text.new)) }
     {
         let circles = self.tell_circles(text, told, found.circles())?;
         self.add_doubles(text, found.doubles())?;
         self.add_inversions(text, found.inversions())?;
         Ok(circles)
-    }
-}
-
-// The member at this place of a walk: the key that it leads from, the key that it leads to, and its kind.
-fn member(walk: &Walk, i: usize) -> (KeyId, KeyId, Kind)
-    requires { i < length walk.now }
-    ensures { slice_get walk.now i ≡ Some (arrow result.0 result.1 result.2) }
-{
-    match walk.get(i) {
-        Some((from, to, kind)) => match (KeyId::of_many(from), KeyId::of_many(to)) {
-            (Some(from), Some(to)) => (from, to, kind),
-            _ => unreachable!(),
-        },
-        None => unreachable!(),
-    }
-}
-
-// Adds the members of a walk, whose keys are below the bound, to those that were told.
-fn add_told(told: &mut Facts, walk: &Walk)
-    requires { All (DependenciesOf (FactBelow told.old.keys)) walk.now }
-    ensures keys { told.new.keys ≡ told.old.keys }
-    ensures adds { (d : Arrow) → DependenciesOf (HasFact told.new) d
-        ↔ (DependenciesOf (HasFact told.old) d ⊎ Contains walk.now d) }
-{
-    for i in 0..walk.len() {
-        let (from, to, kind) = member(walk, i);
-        told.add(Fact::Dependency {
-            from: from.get(),
-            to: to.get(),
-            kind,
-        });
     }
 }
 

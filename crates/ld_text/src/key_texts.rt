@@ -37,15 +37,22 @@ impl KeyTexts {
         Ok(KeyTexts { texts })
     }
 
+    /// A key. One that isn't in the table has an empty name.
+    pub(crate) fn text(&self, key: KeyId) -> &str
+        ensures { result.now ≡ unwrap_or (slice_get self.now key) (key_text ([], 0)) }
+    {
+        match self.texts.get(usize::from(key.get())) {
+            Some(known) => known.as_str(),
+            None => "/0",
+        }
+    }
+
     /// Appends a key. One that isn't in the table has an empty name.
     pub(crate) fn add(&self, text: &mut String, key: KeyId) -> Result<(), AllocError>
         ensures { OnOk result (string_bytes text.new ≡ string_bytes text.old
             ++ unwrap_or (slice_get self.now key) (key_text ([], 0))) }
     {
-        match self.texts.get(usize::from(key.get())) {
-            Some(known) => text.push_str(known.as_str()),
-            None => write!(text, "/{}", 0),
-        }
+        text.push_str(self.text(key))
     }
 }
 

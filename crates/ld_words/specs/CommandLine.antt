@@ -41,6 +41,10 @@ flag_rule name = record (new_rule name) {
 abbrev pub many_rule : Rule
 many_rule = flag_rule (codes "many")
 
+-- `--json`
+abbrev pub json_rule : Rule
+json_rule = flag_rule (codes "json")
+
 -- `--findings`
 abbrev pub findings_rule : Rule
 findings_rule = flag_rule (codes "findings")
@@ -53,9 +57,9 @@ many_app name = with_rule (with_rule (new_app name) workers_rule) many_rule
 abbrev pub check_shape : Shape
 check_shape = (with_rule (many_app (codes "check")) files_rule).top
 
--- `explain [--workers N] [--many] [FILE...]`
+-- `explain [--workers N] [--many] [--json] [FILE...]`
 abbrev pub explain_shape : Shape
-explain_shape = (with_rule (many_app (codes "explain")) files_rule).top
+explain_shape = (with_rule (with_rule (many_app (codes "explain")) json_rule) files_rule).top
 
 -- `graph [--workers N] [--many] [--findings] [FILE...]`
 abbrev pub graph_shape : Shape
@@ -92,7 +96,7 @@ pub record ReadsFlag (name : Text) (rows : List Row) (is_set : Bool) : Type 0 wh
 -- the word of the subcommand
 abbrev pub subcommand_word : Line → Text
 subcommand_word (Check workers many files) = codes "check"
-subcommand_word (Explain workers many files) = codes "explain"
+subcommand_word (Explain workers many json files) = codes "explain"
 subcommand_word (Graph workers many findings files) = codes "graph"
 subcommand_word (Condense workers files) = codes "condense"
 subcommand_word (Chains file) = codes "chains"
@@ -101,8 +105,9 @@ subcommand_word (Chains file) = codes "chains"
 abbrev pub ReadsLine : List Row → Line → Type 0
 ReadsLine rows (Check workers many files) =
     ReadsCheck rows workers (map (λ file. file.now) files.items) × ReadsFlag (codes "many") rows many
-ReadsLine rows (Explain workers many files) =
+ReadsLine rows (Explain workers many json files) =
     ReadsCheck rows workers (map (λ file. file.now) files.items) × ReadsFlag (codes "many") rows many
+    × ReadsFlag (codes "json") rows json
 ReadsLine rows (Graph workers many findings files) =
     ReadsCheck rows workers (map (λ file. file.now) files.items) × ReadsFlag (codes "many") rows many
     × ReadsFlag (codes "findings") rows findings

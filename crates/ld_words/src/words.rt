@@ -3,14 +3,14 @@
 ghost use Rattle.std.specs.Prelude.{◌≡◌, ◌↔◌, [], false, ℕ, List, IfOk, IfErr, map, unwrap_or, codes};
 ghost use Rattle.clap.specs.Words.{HasKind, all_of, app_of, fault_of as clap_faults, found_of, kind_of, rows_of, rule_of, shape_of, subcommand_rows_of};
 ghost use Rattle.clap.specs.declared.builder.command.Command.TheViews.{out-Command};
-ghost use Rattle.ld_words.specs.CommandLine.{IsLineFault, IsLineIn, IsLineOf, ReadsCheck, ReadsLine, chains_shape, check_shape, condense_shape, explain_shape, file_rule, files_rule, findings_rule, graph_shape, lockdep_app, many_rule, subcommand_word, workers_rule};
+ghost use Rattle.ld_words.specs.CommandLine.{IsLineFault, IsLineIn, IsLineOf, ReadsCheck, ReadsLine, chains_shape, check_shape, condense_shape, explain_shape, file_rule, files_rule, findings_rule, graph_shape, json_rule, lockdep_app, many_rule, subcommand_word, workers_rule};
 
 use clap::error::ErrorKind;
 use clap::{Arg, ArgAction, ArgMatches, Command, value_parser};
 use std::alloc::{AllocError, Global};
 
 /// The program's version.
-pub const VERSION: &str = "0.6.0";
+pub const VERSION: &str = "0.7.0";
 
 /// What a command line asks for.
 #[derive(Debug, Drop)]
@@ -22,10 +22,11 @@ pub enum Line<'a> {
         many: bool,
         files: Vec<&'a str>,
     },
-    /// What was found in these traces, and the records that it comes from.
+    /// What was found in these traces, and the records that it comes from; as JSON, if `json` is set.
     Explain {
         workers: u16,
         many: bool,
+        json: bool,
         files: Vec<&'a str>,
     },
     /// Their facts as a picture; only what is part of a finding, if `findings` is set.
@@ -101,6 +102,17 @@ fn file_argument<'a>(alloc: Global) -> Arg<'a>
     )
 }
 
+// Whether JSON is wanted, `--json`.
+fn json_option<'a>(alloc: Global) -> Arg<'a>
+    ensures rule { rule_of result ≡ json_rule }
+    ensures local { result.global ≡ false }
+{
+    Arg::new(alloc, "json")
+        .long("json")
+        .action(ArgAction::SetTrue)
+        .help("Write the findings as JSON")
+}
+
 // Whether only findings are wanted, `--findings`.
 fn findings_option<'a>(alloc: Global) -> Arg<'a>
     ensures rule { rule_of result ≡ findings_rule }
@@ -133,6 +145,7 @@ fn explain_command<'a>(alloc: Global) -> Result<Command<'a>, AllocError>
         .about("Reads traces and writes what was found, with the records that it comes from")
         .arg(workers_option(alloc))?
         .arg(many_option(alloc))?
+        .arg(json_option(alloc))?
         .arg(files_argument(alloc))
 }
 
@@ -243,9 +256,11 @@ fn explain_line<'a>(alloc: Global, found: &ArgMatches<'a>) -> Result<Line<'a>, L
 {
     let (workers, files) = workers_and_files(alloc, found)?;
     let many = found.get_flag("many");
+    let json = found.get_flag("json");
     Ok(Line::Explain {
         workers,
         many,
+        json,
         files,
     })
 }
@@ -317,8 +332,8 @@ fn fault_of(error: clap::Error) -> LineFault
 
 /// What the command line asks for. The words begin with the program's name, and are read as `clap` defines it: `check
 /// [--workers N] [--many] [FILE...]`, with N a whole number from 0 to 65,535 and 4 where it isn't given, `explain [--workers N]
-/// [--many] [FILE...]`, `graph [--workers N] [--many] [--findings] [FILE...]`, `condense [--workers N] [FILE...]` and `chains
-/// [FILE]`.
+/// [--many] [--json] [FILE...]`, `graph [--workers N] [--many] [--findings] [FILE...]`, `condense [--workers N] [FILE...]` and
+/// `chains [FILE]`.
 ///
 /// Refusals: `Help` where help or the version is asked for, `Memory` where memory is refused, and `Refused` for every other
 /// line that isn't taken [this project's own].

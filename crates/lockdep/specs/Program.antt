@@ -21,7 +21,7 @@ use Rattle.ld_run.specs.TraceFacts.{TracesHave}
 use Rattle.ld_words.specs.declared.words.Line.{Line}
 use Rattle.ld_words.specs.declared.words.Line.TheVariants.{Check, Chains, Condense, Explain, Graph}
 use Rattle.lockdep.specs.declared.wanted.Wanted.{Wanted}
-use Rattle.lockdep.specs.declared.wanted.Wanted.TheVariants.{Report, Explanation, Picture, Condensed}
+use Rattle.lockdep.specs.declared.wanted.Wanted.TheVariants.{Report, Explanation, Json, Picture, Condensed}
 use Rattle.lockdep.specs.declared.fault.ReportFault.{ReportFault}
 use Rattle.lockdep.specs.declared.fault.ReportFault.TheVariants as report
 use Rattle.ld_text.specs.declared.write_fault.WriteFault.{WriteFault}
@@ -34,6 +34,10 @@ use Rattle.lockdep.specs.declared.refusal.Refusal.TheVariants.{BadCommandLine, C
 -- how many keys there is room for
 abbrev pub room_of : (many : Bool) → ℕ
 room_of many = if many then MAX_MANY else MAX_KEYS
+
+-- which text tells what was found: JSON, if that is asked for
+abbrev pub explanation_as : (json : Bool) → Wanted
+explanation_as json = if json then Json else Explanation
 
 -- these are the traces that were read, where there is room for so many keys: one of each file, or the one that standard input
 -- holds. Of the traces of files their number is said, and that their keys are in the table; no contract can tell what a file holds
@@ -87,7 +91,7 @@ pub record WritesChains (bytes old new : Option (List ℕ)) (status : ℕ) : Typ
 -- what the line asks for was done
 abbrev pub DoesLine : Line → (input old new : Option (List ℕ)) → ℕ → Type 0
 DoesLine (Check workers many files) input = TellsOf Report (room_of many) workers (map (λ file. file.now) files.items) input
-DoesLine (Explain workers many files) input = TellsOf Explanation (room_of many) workers (map (λ file. file.now) files.items) input
+DoesLine (Explain workers many json files) input = TellsOf (explanation_as json) (room_of many) workers (map (λ file. file.now) files.items) input
 DoesLine (Graph workers many findings files) input = TellsOf (Picture findings) (room_of many) workers (map (λ file. file.now) files.items) input
 DoesLine (Condense workers files) input = Condenses workers (map (λ file. file.now) files.items) input
 DoesLine (Chains file) input = WritesChains (known_of (option_map (λ word. word.now) file) input)
@@ -175,7 +179,7 @@ RefusesChains file input old new refusal =
 -- what the line asks for is refused so
 abbrev pub RefusesLine : Line → (input old new : Option (List ℕ)) → Refusal → Type 0
 RefusesLine (Check workers many files) = RefusesText Report (room_of many) workers (map (λ file. file.now) files.items)
-RefusesLine (Explain workers many files) = RefusesText Explanation (room_of many) workers (map (λ file. file.now) files.items)
+RefusesLine (Explain workers many json files) = RefusesText (explanation_as json) (room_of many) workers (map (λ file. file.now) files.items)
 RefusesLine (Graph workers many findings files) = RefusesText (Picture findings) (room_of many) workers (map (λ file. file.now) files.items)
 RefusesLine (Condense workers files) = RefusesText Condensed MAX_KEYS workers (map (λ file. file.now) files.items)
 RefusesLine (Chains file) = RefusesChains (option_map (λ word. word.now) file)

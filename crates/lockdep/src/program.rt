@@ -14,7 +14,7 @@ ghost use Rattle.ld_words.specs.CommandLine.{IsLineFault};
 ghost use Rattle.lockdep.specs.FaultLines.{fault_line};
 ghost use Rattle.lockdep.specs.Faults.{StopsText};
 ghost use Rattle.ld_text.specs.Output.{AppendsBeginning};
-ghost use Rattle.lockdep.specs.Program.{AreTracesOf, Condenses, DoesLine, DoesWords, IsReadingRefusal, IsReportRefusal, IsStepRefusal, RefusesChains, RefusesHelp, RefusesLine, RefusesNoLine, RefusesOpened, RefusesText, RefusesTrace, RefusesTraces, RefusesWords, StopsReading, TellsOf, WritesChains, WritesHelp, WritesText, known_of, room_of, write_refusal_of};
+ghost use Rattle.lockdep.specs.Program.{AreTracesOf, Condenses, DoesLine, DoesWords, IsReadingRefusal, IsReportRefusal, IsStepRefusal, RefusesChains, RefusesHelp, RefusesLine, RefusesNoLine, RefusesOpened, RefusesText, RefusesTrace, RefusesTraces, RefusesWords, StopsReading, TellsOf, WritesChains, WritesHelp, WritesText, explanation_as, known_of, room_of, write_refusal_of};
 ghost use Rattle.lockdep.specs.Texts.{IsTextOf};
 ghost use Rattle.lockdep.specs.declared.refusal.Refusal.{Refusal};
 ghost use Rattle.lockdep.specs.declared.wanted.Wanted.{Wanted};
@@ -47,11 +47,11 @@ const DONE: u8 = 0;
 const NOT_CLEAN: u8 = 1;
 
 /// The program. The words begin with its name, `input` stands for standard input, `out` for standard output and `err` for
-/// standard error. `lockdep check [--workers N] [FILE...]` writes the report of the traces in these files, `lockdep explain`
-/// what was found in them and the records that it comes from, `lockdep graph [--findings]` a picture of their facts, `lockdep
-/// condense` one trace that has exactly their facts, and `lockdep chains [FILE]` the chains of a trace. Without a file one
-/// trace is read from the input. Each file is opened and read before the next one is. `lockdep --version` writes the version,
-/// and `lockdep help` how the program is called.
+/// standard error. `lockdep check [--workers N] [FILE...]` writes the report of the traces in these files, `lockdep explain
+/// [--json]` what was found in them and the records that it comes from, `lockdep graph [--findings]` a picture of their facts,
+/// `lockdep condense` one trace that has exactly their facts, and `lockdep chains [FILE]` the chains of a trace. Without a file
+/// one trace is read from the input. Each file is opened and read before the next one is. `lockdep --version` writes the
+/// version, and `lockdep help` how the program is called.
 ///
 /// The status is 0 where the facts are clean, the condensed trace or the chains were written, or what was asked for was help
 /// or the version; 1 where a report, an explanation or a picture was written of facts that aren't clean; and 2 where the
@@ -125,20 +125,13 @@ fn answer_line<'a, R: Files + Threads + Wait + Sync, I: Read + Drop, O: Write>(
         Line::Explain {
             workers,
             many,
+            json,
             files,
         } => {
-            let files = files.as_slice();
+            let wanted = explanation_as(*json);
             let room = room_of(*many);
-            answer_traces(
-                rt,
-                alloc,
-                Wanted::Explanation,
-                room,
-                *workers,
-                files,
-                input,
-                out,
-            )
+            let files = files.as_slice();
+            answer_traces(rt, alloc, wanted, room, *workers, files, input, out)
         }
         Line::Graph {
             workers,
@@ -166,6 +159,17 @@ fn room_of(many: bool) -> u16
     ensures few { result ≤ MAX_MANY }
 {
     if many { MAX_MANY } else { MAX_KEYS }
+}
+
+// Which text tells what was found: JSON, if that is asked for.
+fn explanation_as(json: bool) -> Wanted
+    ensures { result ≡ explanation_as json }
+{
+    if json {
+        Wanted::Json
+    } else {
+        Wanted::Explanation
+    }
 }
 
 // Writes the text that was asked for, or answers why the command line is refused.
@@ -307,6 +311,7 @@ fn write_session<R: Threads + Wait + Sync, O: Write>(
     match wanted {
         Wanted::Report => session.report(rt, alloc, workers, &OpenGate, out),
         Wanted::Explanation => session.explain(rt, alloc, workers, &OpenGate, files, out),
+        Wanted::Json => session.explain_json(rt, alloc, workers, &OpenGate, files, out),
         Wanted::Picture { findings } => {
             session.graph(rt, alloc, workers, &OpenGate, findings, out)
         }

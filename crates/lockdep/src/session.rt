@@ -15,6 +15,7 @@ ghost use Rattle.ld_graph.specs.FactBits.{HasFact};
 ghost use Rattle.ld_graph.specs.Facts.{AreSame};
 ghost use Rattle.lockdep.specs.Condensed.{IsCondensedOf};
 ghost use Rattle.ld_text.specs.Explanation.{IsExplanationOf};
+ghost use Rattle.ld_text.specs.Json.{IsJsonOf};
 ghost use Rattle.lockdep.specs.Faults.{StopsReport, StopsSettled, StopsText, out_of};
 ghost use Rattle.ld_text.specs.Picture.{IsPictureOf};
 ghost use Rattle.ld_text.specs.Report.{IsReportOf};
@@ -26,7 +27,9 @@ use crate::condensed::write_condensed;
 use crate::fault::ReportFault;
 use crate::wanted::Wanted;
 use ld_run::{Gate, MAX_TRACES, MAX_WORKERS, RunFault, Settled, SurveyFault, run, survey};
-use ld_text::{WriteFault, event_count, write_explanation, write_picture, write_report};
+use ld_text::{
+    WriteFault, event_count, write_explanation, write_json, write_picture, write_report,
+};
 use ld_trace::{
     KeyFault, KeyTable, MAX_KEYS, MAX_MANY, RawTrace, TraceFault, TraceFaultKind, read_trace,
 };
@@ -179,6 +182,41 @@ impl Session {
             gate,
             w,
             Wanted::Explanation,
+            files,
+            self.traces.as_slice(),
+            &self.keys,
+        )
+    }
+
+    /// Checks all traces as `report` does, writes as JSON what `explain` tells, and answers whether the facts are clean. `files`
+    /// are the names of the traces, as for `explain`. The session is consumed in every case.
+    ///
+    /// Refusals are those of `explain` [this project's own].
+    pub fn explain_json<R: Threads + Wait + Sync, W: Write, G: Gate + Sync>(
+        self,
+        rt: &R,
+        alloc: Global,
+        workers: u16,
+        gate: &G,
+        files: &[&str],
+        w: &mut W,
+    ) -> Result<bool, ReportFault>
+        ensures ok { IfOk result (λ clean. All IsWellFormed self.traces
+            × (IsTrue clean ↔ IsClean (TracesHave self.traces))
+            × ((text : List ℕ)
+            × IsJsonOf self.traces self.names (map (λ file. file.now) files.entry.now) text
+            × Appends (W.contents w.old) (W.contents w.new) text)) }
+        ensures crew { OnOk result (IsCrew workers × (length self.traces ≤ MAX_TRACES)) }
+        ensures refused { IfErr result (StopsText Wanted.Json self.traces self.names
+            (map (λ file. file.now) files.entry.now) workers (W.contents w.old) (W.contents w.new)) }
+    {
+        write_traces(
+            rt,
+            alloc,
+            workers,
+            gate,
+            w,
+            Wanted::Json,
             files,
             self.traces.as_slice(),
             &self.keys,
@@ -481,6 +519,7 @@ fn write_text_of<W: Write>(
     match wanted {
         Wanted::Report => out_of(write_report(alloc, w, settled, traces, keys)),
         Wanted::Explanation => out_of(write_explanation(alloc, w, settled, traces, keys, files)),
+        Wanted::Json => out_of(write_json(alloc, w, settled, traces, keys, files)),
         Wanted::Picture { findings } => { out_of(write_picture(alloc, w, settled, keys, findings)) }
         Wanted::Condensed => write_condensed(alloc, w, settled, keys),
     }

@@ -49,6 +49,9 @@ fn write_wanted(
         Wanted::Explanation => {
             session.explain(rt, rt.alloc(), workers, &OpenGate, &["a.txt", "b.txt"], w)
         }
+        Wanted::Json => {
+            session.explain_json(rt, rt.alloc(), workers, &OpenGate, &["a.txt", "b.txt"], w)
+        }
         Wanted::Picture { findings } => {
             session.graph(rt, rt.alloc(), workers, &OpenGate, findings, w)
         }

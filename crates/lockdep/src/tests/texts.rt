@@ -3,6 +3,7 @@
 use crate::fault::ReportFault;
 use crate::tests::helpers::{assert_text, session_of};
 use crate::wanted::Wanted;
+use ld_run::OpenGate;
 use ld_task::StepFault;
 use std::test::Fail;
 
@@ -131,5 +132,14 @@ fn texts_and_refusals_of_small_traces(rt: HostRuntime) -> Result<(), Fail> {
         let session = session_of(rt.alloc(), traces)?;
         assert_text(&rt, session, wanted, 4, (returned, text));
     }
+    Ok(())
+}
+
+#[test]
+fn json_of_a_circle_says_that_it_is_not_clean(rt: HostRuntime) -> Result<(), Fail> {
+    let session = session_of(rt.alloc(), &CIRCLE)?;
+    let mut written = Vec::new(rt.alloc());
+    let got = session.explain_json(&rt, rt.alloc(), 4, &OpenGate, &["a.txt"], &mut written);
+    assert_eq!(rt; (got, written.is_empty()), (Ok(false), false));
     Ok(())
 }

@@ -11,7 +11,7 @@ returns-in-Check-clause-ok g c =
 pub returns-in-Explain-clause-ok : goal.returns-in-Explain-clause-ok
 returns-in-Explain-clause-ok g c =
     subst (λ (line : Line). IfOk c.answer_traces-in-Explain.result (DoesLine line (g.I.Read.remaining c.args.input) (g.O.Write.contents c.args.out.now) (g.O.Write.contents c.answer_traces-in-Explain.new.out)))
-    (sym c.in-Explain.is) (rw (c.as_slice-files-in-Explain.ensures.value, c.room_of-room-in-Explain.ensures.value) at c.answer_traces-in-Explain.ensures.ok)
+    (sym c.in-Explain.is) (rw (c.as_slice-files-in-Explain.ensures.value, c.explanation_as-wanted.ensures, c.room_of-room-in-Explain.ensures.value) at c.answer_traces-in-Explain.ensures.ok)
 
 pub returns-in-Graph-clause-ok : goal.returns-in-Graph-clause-ok
 returns-in-Graph-clause-ok g c =

@@ -5,14 +5,16 @@ use Rattle.ld_graph.specs.FactBits.{HasFact}
 use Rattle.ld_run.specs.TraceFacts.{TracesHave}
 use Rattle.lockdep.specs.Condensed.{IsCondensedOf, IsCondensedText}
 use Rattle.ld_text.specs.Explanation.{IsExplanation, IsExplanationOf, Told}
+use Rattle.ld_text.specs.Json.{IsJson, IsJsonOf}
 use Rattle.lockdep.specs.Faults.{StopsSettled}
 use Rattle.ld_text.specs.Picture.{IsPicture, IsPictureOf}
 use Rattle.ld_text.specs.Report.{IsReport, IsReportOf}
 use Rattle.lockdep.specs.Texts.{IsTextOf}
 use Rattle.lockdep.specs.declared.wanted.Wanted.{Wanted}
-use Rattle.lockdep.specs.declared.wanted.Wanted.TheVariants.{Report, Explanation, Picture, Condensed}
+use Rattle.lockdep.specs.declared.wanted.Wanted.TheVariants.{Report, Explanation, Json, Picture, Condensed}
 use Rattle.lockdep.proofs.CondensedLemmas.{IsCondensedText-same}
 use Rattle.ld_text.proofs.ExplanationLemmas.{IsExplanation-same}
+use Rattle.ld_text.proofs.JsonLemmas.{IsJson-same}
 use Rattle.lockdep.proofs.FaultLemmas.{StopsSettled-same, written-err, written-ok}
 use Rattle.ld_text.proofs.PictureLemmas.{IsPicture-same}
 use Rattle.ld_text.proofs.ReportLemmas.{IsReport-same}
@@ -67,6 +69,32 @@ returns-in-Explanation-clause-err g c =
     (written-err Explanation (IsExplanation (HasFact c.args.settled.now) told) (IsExplanationOf traces names files)
     (IsExplanation-same (HasFact c.args.settled.now) (TracesHave traces) c.requires.facts told)
     _ _ c.out_of-in-Explanation.result c.write_explanation.result c.out_of-in-Explanation.ensures c.write_explanation.ensures.err)
+
+pub returns-in-Json-clause-ok : goal.returns-in-Json-clause-ok
+returns-in-Json-clause-ok g c =
+    let traces = c.args.traces.now in
+    let names = c.args.keys.now.names in
+    let files = map (λ file. file.now) c.args.files.now in
+    let told : Told = record { traces = traces; names = names; files = files } in
+    subst (λ (wanted : Wanted). OnOk c.out_of-in-Json.result ((text : List ℕ) × IsTextOf wanted traces names files text
+    × Appends (g.W.Write.contents c.args.w.now) (g.W.Write.contents c.write_json.new.w) text))
+    (sym c.in-Json.is)
+    (written-ok Json (IsJson (HasFact c.args.settled.now) told) (IsJsonOf traces names files)
+    (IsJson-same (HasFact c.args.settled.now) (TracesHave traces) c.requires.facts told)
+    _ _ c.out_of-in-Json.result c.write_json.result c.out_of-in-Json.ensures c.write_json.ensures.ok)
+
+pub returns-in-Json-clause-err : goal.returns-in-Json-clause-err
+returns-in-Json-clause-err g c =
+    let traces = c.args.traces.now in
+    let names = c.args.keys.now.names in
+    let files = map (λ file. file.now) c.args.files.now in
+    let told : Told = record { traces = traces; names = names; files = files } in
+    subst (λ (wanted : Wanted). IfErr c.out_of-in-Json.result (StopsSettled wanted (IsTextOf wanted traces names files)
+    (g.W.Write.contents c.args.w.now) (g.W.Write.contents c.write_json.new.w)))
+    (sym c.in-Json.is)
+    (written-err Json (IsJson (HasFact c.args.settled.now) told) (IsJsonOf traces names files)
+    (IsJson-same (HasFact c.args.settled.now) (TracesHave traces) c.requires.facts told)
+    _ _ c.out_of-in-Json.result c.write_json.result c.out_of-in-Json.ensures c.write_json.ensures.err)
 
 pub returns-in-Picture-clause-ok : goal.returns-in-Picture-clause-ok
 returns-in-Picture-clause-ok g c =

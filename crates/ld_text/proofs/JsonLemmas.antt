@@ -1,0 +1,184 @@
+-- What is written of JSON, token by token.
+use Rattle.std.proofs.Common.{◌≡◌, Bool, ℕ, ◌+◌, ◌<◌, List, [], ◌∷◌, ◌++◌, Result, Ok, Err, OnOk, codes, length, map, slice_index_or, take, refl, sym, ap, ◌∙◌, subst}
+use Rattle.std.proofs.lemmas.List.{append_assoc, append-nil, map-append, take_more}
+use Rattle.json.specs.Token.{Token}
+use Rattle.json.specs.Print.{print}
+use Rattle.json.specs.Written.{Writes, Written}
+use Rattle.ld_trace.specs.declared.event.Irq.{Irq}
+use Rattle.ld_task.specs.Kinds.{is_r-kind_of_letters, is_s-kind_of_letters}
+use Rattle.ld_task.specs.declared.mark.Mark.TheVariants.{UsedIn, Enabled}
+use Rattle.ld_graph.specs.Arrows.{Arrow}
+use Rattle.ld_graph.specs.FactLaws.{IsDoubleBy-same, IsShortestInversion-same}
+use Rattle.ld_graph.specs.Facts.{AreSame}
+use Rattle.ld_graph.specs.Links.{IsDoubleBy, IsShortestInversion, link_by}
+use Rattle.ld_graph.specs.declared.fact.Fact.{Fact}
+use Rattle.ld_graph.specs.declared.fact.Fact.TheVariants.{Marked}
+use Rattle.ld_explain.specs.Origins.{IsFirst}
+use Rattle.ld_explain.specs.declared.origins.Origin.{Origin}
+use Rattle.ld_text.specs.Explanation.{Told}
+use Rattle.ld_text.specs.Groups.{GrowsBy, InSequence, InTurn}
+use Rattle.ld_text.specs.Json.{IsDoubleObject, IsInversionObject, IsJson, IsLineOf, IsOrder, double_object, inversion_object}
+use Rattle.ld_text.specs.Inside.Tokens.{Adds, Takes}
+use Rattle.ld_text.proofs.ExplanationLemmas.{told-same}
+use Rattle.ld_text.proofs.FindingLemmas.{AreFound-same}
+use Rattle.ld_text.proofs.ReportLemmas.{InTurn-same}
+use Rattle.ld_text.proofs.GroupLemmas.{GrowsBy-more_item, GrowsBy-none}
+
+-- nothing was written
+pub Adds-none : (w : Written) → Adds w w []
+Adds-none w = record { before = refl; grew = sym (append-nil w.tokens) }
+
+-- some tokens, and then others
+pub Adds-then : (a b c : Written) (xs ys : List Token) → Adds a b xs → Adds b c ys → Adds a c (xs ++ ys)
+Adds-then a b c xs ys first more = record {
+  before = more.before ∙ first.before;
+  grew = more.grew ∙ ap (λ t. t ++ ys) first.grew ∙ append_assoc a.tokens xs ys;
+}
+
+-- one token
+pub Adds-token : {E : Type 0} (r : Result (Unit {0}) E) (old new : Written) (t : Token) → Writes r old new t → OnOk r (Adds old new (t ∷ []))
+Adds-token (Ok x) old new t w = record { before = w.room.0; grew = w.ok }
+Adds-token (Err e) old new t w = tt
+
+pub Adds-ok : {E : Type 0} (x : Unit {0}) (old new : Written) (t : Token) → Writes {E = E} (Ok x) old new t → Adds old new (t ∷ [])
+Adds-ok x old new t w = record { before = w.room.0; grew = w.ok }
+
+-- tokens as Q says are tokens
+pub Takes-adds : (Q : List Token → Type 0) (old new : Written) → (takes : Takes Q old new) → Adds old new takes.grew.part
+Takes-adds Q old new takes = record { before = takes.before; grew = takes.grew.grew }
+
+-- these tokens are as Q says
+pub Adds-takes : (Q : List Token → Type 0) (old new : Written) (tokens : List Token) → Adds old new tokens → Q tokens → Takes Q old new
+Adds-takes Q old new tokens adds q = record { before = adds.before; grew = record { part = tokens; shows = q; grew = adds.grew } }
+
+-- one thing more of a list, by a token each
+pub Adds-next : {X : Type 0} (f : X → Token) (xs : List X) (i : ℕ) (x : X) (old mid new : Written) → x ≡ slice_index_or xs i x → i < length xs →
+    Adds old mid (map f (take i xs)) → Adds mid new (f x ∷ []) → Adds old new (map f (take (i + 1) xs))
+Adds-next f xs i x old mid new is within before more =
+    subst (Adds old new) (sym (ap (map f) (take_more xs i x within) ∙ map-append f (take i xs) (slice_index_or xs i x ∷ [])
+    ∙ ap (λ y. map f (take i xs) ++ f y ∷ []) (sym is)))
+    (Adds-then old mid new (map f (take i xs)) (f x ∷ []) before more)
+
+-- one thing more of a list, as R says
+pub Takes-next : {X : Type 0} (R : X → List Token → Type 0) (xs : List X) (i : ℕ) (x : X) (old mid new : Written) → x ≡ slice_index_or xs i x → i < length xs →
+    Takes (InTurn R (take i xs)) old mid → Takes (R x) mid new → Takes (InTurn R (take (i + 1) xs)) old new
+Takes-next R xs i x old mid new is within before more = record {
+  before = more.before ∙ before.before;
+  grew = GrowsBy-more_item R xs i x _ _ _ is within before.grew more.grew;
+}
+
+pub Takes-none : {X : Type 0} (R : X → List Token → Type 0) (w : Written) → Takes (InTurn R []) w w
+Takes-none R w = record { before = refl; grew = GrowsBy-none w.tokens }
+
+-- a line that a writer wrote, behind the comma
+pub line-grows : (Q : List Token → Type 0) (old new : List ℕ) (begun ended : Written) → begun.before ≡ old ++ codes ",\n" → begun.tokens ≡ [] →
+    Takes Q begun ended → new ≡ ended.before ++ print ended.tokens → GrowsBy (IsLineOf Q) old new
+line-grows Q old new begun ended head none takes is =
+    let part = takes.grew.part in
+    let tokens : ended.tokens ≡ part = takes.grew.grew ∙ ap (λ t. t ++ part) none in
+    record {
+      part = codes ",\n" ++ print part;
+      shows = (part, takes.grew.shows, refl);
+      grew = is ∙ ap (λ t. t ++ print ended.tokens) (takes.before ∙ head) ∙ ap (λ t. (old ++ codes ",\n") ++ print t) tokens
+          ∙ append_assoc old (codes ",\n") (print part);
+    }
+
+-- a double, by what its marks are
+pub double-takes : (Has : Fact → Type 0) (told : Told) (irq : Irq) (lock : ℕ) (enabled_read used_read : Bool) (used enabled : Origin) (old new : Written) →
+    IsDoubleBy Has irq lock (link_by lock lock enabled_read used_read) → IsFirst told.traces (Marked lock (UsedIn irq used_read)) used →
+    IsFirst told.traces (Marked lock (Enabled irq enabled_read)) enabled → Adds old new (double_object told (irq, lock) used enabled) →
+    Takes (IsDoubleObject Has told (irq, lock)) old new
+double-takes Has told irq lock enabled_read used_read used enabled old new by used_first enabled_first adds =
+    Adds-takes (IsDoubleObject Has told (irq, lock)) old new _ adds record {
+      l = link_by lock lock enabled_read used_read;
+      by = by;
+      used = used;
+      used_first = subst (λ r. IsFirst told.traces (Marked lock (UsedIn irq r)) used) (sym (is_r-kind_of_letters enabled_read used_read)) used_first;
+      enabled = enabled;
+      enabled_first = subst (λ s. IsFirst told.traces (Marked lock (Enabled irq s)) enabled) (sym (is_s-kind_of_letters enabled_read used_read)) enabled_first;
+      tokens_are = refl;
+    }
+
+-- an inversion, by its walk and what its marks are
+pub inversion-takes : (Has : Fact → Type 0) (told : Told) (irq : Irq) (a b : ℕ) (enabled_read used_read : Bool) (walk : List Arrow) (used enabled : Origin) (old new : Written) →
+    IsShortestInversion Has irq a b (link_by b a enabled_read used_read) walk → IsFirst told.traces (Marked a (UsedIn irq used_read)) used →
+    IsFirst told.traces (Marked b (Enabled irq enabled_read)) enabled →
+    Takes (λ tokens. (orders : List Token) × InTurn (IsOrder told) walk orders × (tokens ≡ inversion_object told (irq, (a, b)) orders used enabled)) old new →
+    Takes (IsInversionObject Has told (irq, (a, b))) old new
+inversion-takes Has told irq a b enabled_read used_read walk used enabled old new by used_first enabled_first takes =
+    let (orders, orders_are, is) = takes.grew.shows in
+    Adds-takes (IsInversionObject Has told (irq, (a, b))) old new takes.grew.part (Takes-adds _ old new takes) record {
+      walk = walk;
+      l = link_by b a enabled_read used_read;
+      by = by;
+      orders = orders;
+      orders_are = orders_are;
+      used = used;
+      used_first = subst (λ r. IsFirst told.traces (Marked a (UsedIn irq r)) used) (sym (is_r-kind_of_letters enabled_read used_read)) used_first;
+      enabled = enabled;
+      enabled_first = subst (λ s. IsFirst told.traces (Marked b (Enabled irq s)) enabled) (sym (is_s-kind_of_letters enabled_read used_read)) enabled_first;
+      tokens_are = is;
+    }
+
+-- The JSON of equal facts.
+module _ (P Q : Fact → Type 0) (same : AreSame P Q) where
+  double-same : (told : Told) (x : Irq × ℕ) (text : List ℕ) → IsLineOf (IsDoubleObject P told x) text → IsLineOf (IsDoubleObject Q told x) text
+  double-same told x text (tokens, d, is) = (
+    tokens,
+    record {
+      l = d.l;
+      by = (IsDoubleBy-same P Q same x.0 x.1 d.l).0 d.by;
+      used = d.used;
+      used_first = d.used_first;
+      enabled = d.enabled;
+      enabled_first = d.enabled_first;
+      tokens_are = d.tokens_are;
+    },
+    is,
+  )
+
+  inversion-same : (told : Told) (x : Irq × (ℕ × ℕ)) (text : List ℕ) → IsLineOf (IsInversionObject P told x) text → IsLineOf (IsInversionObject Q told x) text
+  inversion-same told x text (tokens, d, is) = (
+    tokens,
+    record {
+      walk = d.walk;
+      l = d.l;
+      by = IsShortestInversion-same P Q same x.0 x.1.0 x.1.1 d.l d.walk d.by;
+      orders = d.orders;
+      orders_are = d.orders_are;
+      used = d.used;
+      used_first = d.used_first;
+      enabled = d.enabled;
+      enabled_first = d.enabled_first;
+      tokens_are = d.tokens_are;
+    },
+    is,
+  )
+
+  pub IsJson-same : (told : Told) (text : List ℕ) → IsJson P told text → IsJson Q told text
+  unfolding InSequence
+  IsJson-same told text e =
+      let (circles, after_circles, circles_are, (doubles, after_doubles, doubles_are, (inversions, end, inversions_are, at_end, e3), e2), e1) = e.lines_are in
+      record {
+        keys = e.keys;
+        keys_are = e.keys_are;
+        found = e.found;
+        found_are = AreFound-same P Q same e.keys e.found e.found_are;
+        circles = e.circles;
+        circles_are = told-same P Q same [] e.found.circles e.circles e.circles_are;
+        lines = e.lines;
+        lines_are = (
+          circles,
+          after_circles,
+          circles_are,
+          (
+            doubles,
+            after_doubles,
+            InTurn-same _ _ (double-same told) e.found.doubles doubles doubles_are,
+            (inversions, end, InTurn-same _ _ (inversion-same told) e.found.inversions inversions inversions_are, at_end, e3),
+            e2,
+          ),
+          e1,
+        );
+        text_is = e.text_is;
+      }

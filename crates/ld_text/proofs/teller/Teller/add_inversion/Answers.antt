@@ -1,0 +1,24 @@
+use Rattle.std.proofs.Common.{subst}
+use Rattle.std.proofs.lemmas.Result.{on_ok_weaker}
+use Rattle.ld_graph.specs.FactBits.{HasFact}
+use Rattle.ld_graph.specs.Links.{IsShortestInversion, link_by}
+use Rattle.ld_text.proofs.TellingLemmas.{inversion-are, inversion-grows}
+use Rattle.ld_text.proofs.teller.Teller.add_inversion.Goals as goal
+
+pub add_dependencies-requires : goal.add_dependencies-requires
+add_dependencies-requires c =
+    let found = c.in-Some.found in
+    inversion-are (HasFact c.args.self.now.facts) c.args.irq c.args.a c.args.b (link_by c.args.b c.args.a found.enabled_read found.used_read) found.walk
+    (subst (λ v. IsShortestInversion (HasFact v.facts) c.args.irq c.args.a c.args.b (link_by c.args.b c.args.a found.enabled_read found.used_read) found.walk)
+    c.self.view_is (rw (c.get.ensures.value, c.get-2.ensures.value) at c.in-Some.ensures.some))
+
+pub returns : goal.returns
+returns c =
+    let found = c.in-Some.found in
+    let by =
+    subst (λ v. IsShortestInversion (HasFact v.facts) c.args.irq c.args.a c.args.b (link_by c.args.b c.args.a found.enabled_read found.used_read) found.walk)
+    c.self.view_is (rw (c.get.ensures.value, c.get-2.ensures.value) at c.in-Some.ensures.some) in
+    on_ok_weaker c.add_interrupt.result (λ come.
+    inversion-grows (HasFact c.args.self.now.facts) c.args.self.now.told c.args.irq c.args.a c.args.b found.enabled_read found.used_read found.walk
+    _ _ _ _ _ _ _ _ by c.in_ok-add_inversion_head.ensures c.in_ok-add_dependencies.ensures c.in_ok-add_used.ensures
+    c.in_ok-add_enabled.ensures c.in_ok-add_holder.ensures c.in_ok-add_waits.ensures come) c.add_interrupt.ensures

@@ -1,0 +1,20 @@
+use Rattle.std.proofs.Common.{sym, subst}
+use Rattle.ld_graph.specs.FactBits.{HasFact}
+use Rattle.ld_graph.specs.declared.fact.Fact.{Fact}
+use Rattle.ld_graph.specs.declared.fact.Fact.TheVariants.{Dependency}
+use Rattle.ld_explain.specs.Origins.{IsFirst}
+use Rattle.ld_text.proofs.LeafLemmas.{origin_there}
+use Rattle.ld_text.proofs.teller.Teller.dependency.Goals as goal
+
+pub unreachable-requires : goal.unreachable-requires
+unreachable-requires c =
+    let x : Fact = Dependency c.args.from c.args.to c.args.kind in
+    origin_there c.self.inside.settled.now c.self.inside.traces.now x c.dependency.result c.self.invariant.1
+    (rw (c.get.ensures.value, c.get-2.ensures.value) at (c.dependency.ensures c.self.inside.traces.now c.self.invariant.0))
+    (subst (λ p. HasFact p.facts x) (sym c.self.view_is) c.requires) c.in_default.is
+
+pub returns : goal.returns
+returns c =
+    let x : Fact = Dependency c.args.from c.args.to c.args.kind in
+    subst (λ p. IsFirst p.told.traces x c.in-Some.origin) c.self.view_is
+    (rw (c.get.ensures.value, c.get-2.ensures.value) at (c.in-Some.ensures c.self.inside.traces.now c.self.invariant.0)).1
