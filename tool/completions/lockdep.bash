@@ -2,18 +2,20 @@
 
 _lockdep_options() {
     case $1 in
-        check | explain) echo --workers --many --help ;;
+        check) echo --workers --many --help ;;
+        explain) echo --workers --many --json --help ;;
         graph) echo --workers --many --findings --help ;;
         condense) echo --workers --help ;;
         chains | where) echo --help ;;
-        run) echo -o --frames --known --write-known --quiet --error-exitcode --help ;;
+        run) echo -o --recorder --frames --known --write-known --html --sarif --junit --json --quiet --error-exitcode --help ;;
+        view) echo -o --sarif --junit --json --known --left-out --help ;;
         record) echo -o --frames --no-wait --version-1 --finish --summary --help ;;
         confirm) echo --strict --help ;;
     esac
 }
 
 _lockdep() {
-    local word=$2 before=$3 command=${COMP_WORDS[1]} commands='run check explain graph condense chains record confirm where help'
+    local word=$2 before=$3 command=${COMP_WORDS[1]} commands='run check explain graph condense chains record confirm where view help'
     local place
     COMPREPLY=()
     if [ "$COMP_CWORD" -eq 1 ]; then
@@ -33,7 +35,9 @@ _lockdep() {
                         place=$((place + 1))
                         break
                         ;;
-                    -o | --frames | --known | --write-known | --error-exitcode | --finish | --summary) place=$((place + 1)) ;;
+                    -o | --recorder | --frames | --known | --write-known | --html | --sarif | --junit | --json | --error-exitcode | --finish | --summary)
+                        place=$((place + 1))
+                        ;;
                     = | -*) ;;
                     *) break ;;
                 esac
@@ -50,10 +54,16 @@ _lockdep() {
     esac
     case $before in
         --workers) mapfile -t COMPREPLY < <(compgen -W '1 2 4 8 16 32 64' -- "$word") ;;
+        --recorder) mapfile -t COMPREPLY < <(compgen -W 'pthread python' -- "$word") ;;
         --frames) mapfile -t COMPREPLY < <(compgen -W '1 2 3 4 6 8 12 16' -- "$word") ;;
-        -o | --finish | --summary) mapfile -t COMPREPLY < <(compgen -d -- "$word") ;;
-        --known | --write-known) mapfile -t COMPREPLY < <(compgen -f -- "$word") ;;
-        --error-exitcode) ;;
+        -o | --finish | --summary)
+            # For `view` it is a file.
+            local kind=-d
+            [ "$command" != view ] || kind=-f
+            mapfile -t COMPREPLY < <(compgen "$kind" -- "$word")
+            ;;
+        --known | --write-known | --html | --sarif | --junit | --json) mapfile -t COMPREPLY < <(compgen -f -- "$word") ;;
+        --error-exitcode | --left-out) ;;
         *)
             case $word in
                 -*) mapfile -t COMPREPLY < <(compgen -W "$(_lockdep_options "$command")" -- "$word") ;;
