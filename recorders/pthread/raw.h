@@ -9,8 +9,8 @@
 
 #include <stdint.h>
 
-/* "lockrec3", little endian. */
-#define RAW_MAGIC UINT64_C(0x336365726b636f6c)
+/* "lockrec4", little endian. */
+#define RAW_MAGIC UINT64_C(0x346365726b636f6c)
 
 /* The file's size, if no limit forbids it, and the size under which a recording may well be too small. */
 #define RAW_BYTES (UINT64_C(4) << 30)
@@ -60,7 +60,7 @@ static inline uint32_t raw_word_module(uint64_t word) { return (uint32_t)(word >
 static inline uint64_t raw_word_offset(uint64_t word) { return word & UINT64_C(0xffffffffffff); }
 
 /* The kinds of parts that are numbered. Each kind has its region of the file. */
-enum raw_kind { RAW_PROCESSES, RAW_MODULES, RAW_PLACES, RAW_CLASSES, RAW_OBJECTS, RAW_TAKES, RAW_FILES, RAW_THREADS, RAW_KINDS };
+enum raw_kind { RAW_PROCESSES, RAW_MODULES, RAW_PLACES, RAW_CLASSES, RAW_OBJECTS, RAW_TAKES, RAW_FILES, RAW_PROGRAMS, RAW_THREADS, RAW_KINDS };
 
 struct raw_process {
     uint32_t id; /* the system's number of it; written last */
@@ -121,6 +121,15 @@ struct raw_file {
 /* The device of what has a number of the system's, but isn't a file. */
 #define RAW_SYSTEM_V UINT64_MAX
 
+/* A program that was started, as it was named then, with the preload library in its environment or alone. */
+enum program_state { PROGRAM_NONE, PROGRAM_ALONG, PROGRAM_ALONE };
+
+struct raw_program {
+    uint32_t state; /* written last */
+    uint64_t starts;
+    char path[RAW_PATH + 4];
+};
+
 /* A lock in allocated memory was taken there. Who takes the locks of one piece tells an array from an object of several locks. */
 struct raw_take {
     uint32_t class; /* written last */
@@ -174,7 +183,7 @@ struct raw_arena {
 static inline uint32_t raw_size(enum raw_kind kind) {
     static const uint32_t sizes[RAW_KINDS] = {sizeof(struct raw_process), sizeof(struct raw_module), sizeof(struct raw_place),
                                               sizeof(struct raw_class),   sizeof(struct raw_object), sizeof(struct raw_take),
-                                              sizeof(struct raw_file),    sizeof(struct raw_thread)};
+                                              sizeof(struct raw_file),    sizeof(struct raw_program), sizeof(struct raw_thread)};
     return sizes[kind];
 }
 

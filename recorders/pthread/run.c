@@ -164,6 +164,7 @@ struct run {
     bool has_ended, is_waiting, is_told, is_over;
     int status; /* the command's, once it has ended */
     unsigned signals; /* how many came after the command's end */
+    sigset_t ignored; /* what this process was started to ignore, as after nohup */
 };
 
 static int status_of(int waited) { return WIFSIGNALED(waited) ? 128 + WTERMSIG(waited) : WEXITSTATUS(waited); }
@@ -187,19 +188,24 @@ static void reap(struct run *run) {
     }
 }
 
-/* A signal of the terminal's goes to its whole foreground group: the command has it already if it is in this one's. */
+/* A signal of the terminal's goes to its whole foreground group: the command has it already if it is in this one's. But a terminal
+   that hangs up sends SIGHUP to the leader of its session alone. */
 static bool has_it_already(const struct run *run, const siginfo_t *info) {
-    return info->si_code == SI_KERNEL && getpgid(run->command) == getpgrp();
+    bool is_to_leader = info->si_signo == SIGHUP && getsid(0) == getpid();
+    return info->si_code == SI_KERNEL && !is_to_leader && getpgid(run->command) == getpgrp();
 }
 
+/* What this process was started to ignore is passed on too, since the command may have chosen to heed it. But it doesn't end the
+   recording. */
 static void pass_on(struct run *run, const siginfo_t *info) {
     if (!run->has_ended) {
         if (!has_it_already(run, info))
             kill(run->command, info->si_signo);
         return;
     }
-    run->signals++;
-    if (run->signals == 1)
+    bool is_ignored = sigismember(&run->ignored, info->si_signo) == 1;
+    run->signals += !is_ignored;
+    if (run->signals <= 1)
         each_left(info->si_signo, false);
     else
         run->is_over = true;
@@ -237,14 +243,16 @@ static int end(const struct run *run, const char *record, const char *folder, bo
     return 2;
 }
 
-/* A signal that this process ignores from its start, as after nohup, isn't awaited: the command ignores it too. */
-static void await_signals(sigset_t *awaited) {
+/* A signal that is ignored comes all the same while it is blocked. */
+static void await_signals(sigset_t *awaited, sigset_t *ignored) {
     sigemptyset(awaited);
+    sigemptyset(ignored);
     sigaddset(awaited, SIGCHLD);
     for (size_t i = 0; i < PASSED_ON; i++) {
         struct sigaction action;
-        if (sigaction(passed_on[i], NULL, &action) == 0 && action.sa_handler != SIG_IGN)
-            sigaddset(awaited, passed_on[i]);
+        sigaddset(awaited, passed_on[i]);
+        if (sigaction(passed_on[i], NULL, &action) == 0 && action.sa_handler == SIG_IGN)
+            sigaddset(ignored, passed_on[i]);
     }
 }
 
@@ -260,12 +268,13 @@ static bool is_something_left(void) {
 static int go(bool is_waiting, const char *record, const char *folder, char **command) {
     sigset_t awaited, before;
     struct sigaction child_ended;
+    struct run run = {.is_waiting = is_waiting};
     sigaction(SIGCHLD, NULL, &child_ended);
     signal(SIGCHLD, SIG_DFL);
-    await_signals(&awaited);
+    await_signals(&awaited, &run.ignored);
     sigprocmask(SIG_BLOCK, &awaited, &before);
     prctl(PR_SET_CHILD_SUBREAPER, 1);
-    struct run run = {.command = fork(), .is_waiting = is_waiting};
+    run.command = fork();
     if (run.command < 0) {
         fprintf(stderr, "record: no process can be started: %s\n", strerror(errno));
         run = (struct run){.status = NOT_RUNNABLE, .has_ended = true, .is_over = true};

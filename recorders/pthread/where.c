@@ -3,7 +3,8 @@
    Under a line with `FILE: record N`, and each later ` record N` of the same line, comes the place of that record, by
    FILE.places; under one with names of classes the places by which they are called that, by FOLDER/classes (`traces` if it
    isn't given, and those beside the traces that the text names), once in a line and the indented lines under it. Lines come
-   from addr2line. */
+   from addr2line, or from the recorder: a FILE.places in words has `RECORD FILE:LINE FUNCTION` for each caller of a record, and a
+   line of `classes` has `FILE:LINE FUNCTION` for a module, and `-` for an offset. */
 #define _GNU_SOURCE
 #include <ctype.h>
 #include <dlfcn.h>
@@ -16,6 +17,9 @@
 #include <unistd.h>
 
 #define PATH 4096
+
+/* Records of a trace with its header. */
+#define RECORDS 1000001
 
 /* Lines longer than this are broken where they have a space. */
 #define WIDTH 120
@@ -218,6 +222,28 @@ static const struct answer *answer_of(const char *module, uint64_t offset, bool 
     return a;
 }
 
+/* Where ` FUNCTION` begins in `FILE:LINE FUNCTION`; at the end if there is no function. NULL if there is no `:LINE`. */
+static const char *end_of_line(const char *place) {
+    for (const char *colon = strchr(place, ':'); colon; colon = strchr(colon + 1, ':')) {
+        size_t digits = strspn(colon + 1, "0123456789");
+        if (digits > 0 && (colon[1 + digits] == ' ' || !colon[1 + digits]))
+            return colon + 1 + digits;
+    }
+    return NULL;
+}
+
+/* Adds a place in words, `FILE:LINE FUNCTION`, as one of an address is written. The function may be absent. */
+static void add_source(struct text *text, const char *place) {
+    const char *end = end_of_line(place);
+    char *line = checked(strndup(place, end ? (size_t)(end - place) : strlen(place)));
+    if (end && end[0] && end[1]) {
+        add(text, end + 1);
+        add(text, " at ");
+    }
+    add(text, base_of(line));
+    free(line);
+}
+
 /* Says so if no place can be given as a line of source. */
 static void look_for_addr2line(void) {
     if (system("addr2line --version >/dev/null 2>&1") != 0)
@@ -232,10 +258,33 @@ struct places {
     uint32_t module_count, frames;
     uint64_t *words;
     size_t count;
+    struct text *texts; /* of places in words: for each record, from 1 on */
+    size_t text_count;
     struct places *next;
 };
 
 static struct places *all_places;
+
+/* Reads places in words, and passes over lines that say something else. Those of one record stand in the order of its callers. */
+static void read_words(struct places *p, FILE *file) {
+    char *line = NULL, *place;
+    size_t room = 0;
+    while (getline(&line, &room, file) >= 0) {
+        chomp(line);
+        unsigned long number = strtoul(line, &place, 10);
+        if (number == 0 || number > 1000001 || *place != ' ' || !end_of_line(place + 1))
+            continue;
+        if (number >= p->text_count) {
+            p->texts = checked(realloc(p->texts, (2 * number + 1) * sizeof *p->texts));
+            memset(p->texts + p->text_count, 0, (2 * number + 1 - p->text_count) * sizeof *p->texts);
+            p->text_count = 2 * number + 1;
+        }
+        if (p->texts[number].length)
+            add(&p->texts[number], CALLED_FROM);
+        add_source(&p->texts[number], place + 1);
+    }
+    free(line);
+}
 
 static bool read_places(struct places *p, FILE *file) {
     char magic[8];
@@ -272,7 +321,11 @@ static struct places *places_of(const char *trace) {
     snprintf(path, sizeof path, "%s.places", trace);
     FILE *file = fopen(path, "r");
     if (file) {
-        if (!read_places(p, file))
+        int first = getc(file);
+        rewind(file);
+        if (first >= '0' && first <= '9')
+            read_words(p, file);
+        else if (!read_places(p, file))
             p->count = 0;
         fclose(file);
     }
@@ -299,7 +352,9 @@ static void add_callers(struct text *text, const struct places *p, unsigned long
 /* The place of a record; empty if it isn't known. */
 static void place_of(struct text *text, const char *trace, unsigned long number) {
     const struct places *p = places_of(trace);
-    if (number == 0 || p->count < number * p->frames)
+    if (number < p->text_count && p->texts[number].length)
+        add(text, p->texts[number].bytes);
+    if (number == 0 || p->text_count || p->count < number * p->frames)
         return;
     add_callers(text, p, number, false);
     if (!text->length)
@@ -311,6 +366,7 @@ static void place_of(struct text *text, const char *trace, unsigned long number)
 struct class {
     char *name, *module, *kind;
     uint64_t offset;
+    bool is_source;        /* the module is a place in words */
     unsigned long told_in; /* the block in which its place was told last */
     struct class *next;
 };
@@ -330,7 +386,7 @@ static void read_class(char *line) {
     if (!kind)
         return;
     struct class *c = checked(malloc(sizeof *c));
-    *c = (struct class){strdup(name), strdup(module), strdup(kind), strtoull(offset, NULL, 16), NOT_TOLD, classes};
+    *c = (struct class){strdup(name), strdup(module), strdup(kind), strtoull(offset, NULL, 16), strcmp(offset, "-") == 0, NOT_TOLD, classes};
     checked(c->name);
     checked(c->module);
     checked(c->kind);
@@ -407,7 +463,10 @@ static void note_class(const char *name) {
     add(text, ": ");
     add(text, class->kind);
     add(text, " ");
-    add(text, answer_of(class->module, class->offset, strcmp(class->kind, "static") != 0)->text.bytes);
+    if (class->is_source)
+        add_source(text, class->module);
+    else
+        add(text, answer_of(class->module, class->offset, strcmp(class->kind, "static") != 0)->text.bytes);
 }
 
 /* Notes where a record comes from, if that is known. */

@@ -51,25 +51,28 @@ static void read_modules(struct arena *a) {
     }
 }
 
+/* A part of the recording that can't be read may not be passed over: without it the rest could seem clean. */
+static void *mapped_file(int fd, size_t bytes, const char *path) {
+    void *p = mmap(NULL, bytes, PROT_READ, MAP_PRIVATE, fd, 0);
+    if (p == MAP_FAILED)
+        refuse_file("can't be read", path);
+    madvise(p, bytes, MADV_RANDOM); /* else holes are read ahead */
+    return p;
+}
+
 static void open_arena(const char *path) {
     int fd = open(path, O_RDONLY);
     struct stat about;
-    if (fd < 0 || fstat(fd, &about) != 0) {
-        if (fd >= 0)
-            close(fd);
-        refused_count++;
-        return;
-    }
-    void *p = about.st_size > 0 ? mmap(NULL, (size_t)about.st_size, PROT_READ, MAP_PRIVATE, fd, 0) : MAP_FAILED;
+    if (fd < 0 || fstat(fd, &about) != 0)
+        refuse_file("can't be read", path);
+    struct arena a = {.bytes = (uint64_t)about.st_size};
+    if (a.bytes)
+        a.raw = mapped_file(fd, a.bytes, path);
     close(fd);
-    if (p != MAP_FAILED)
-        madvise(p, (size_t)about.st_size, MADV_RANDOM); /* else holes are read ahead */
-    struct arena a = {.raw = p, .bytes = (uint64_t)about.st_size};
-    if (p == MAP_FAILED || !is_sound(&a)) {
+    if (is_sound(&a))
+        PUSH(arenas, arena_count, a);
+    else
         refused_count++;
-        return;
-    }
-    PUSH(arenas, arena_count, a);
 }
 
 /* A program is a process, and so is each of its forked children that locked something. Others have no number. */
@@ -99,7 +102,7 @@ void read_arenas(const char *folder) {
     struct dirent **names;
     int n = scandir(raw, &names, NULL, alphasort);
     if (n < 0)
-        refuse("can't be read", raw);
+        refuse_file("can't be read", raw);
     for (int i = 0; i < n; i++) {
         char path[4096 + 300];
         snprintf(path, sizeof path, "%s/%s", raw, names[i]->d_name);

@@ -11,6 +11,7 @@
    A place is named by FRAMES callers, 3 if it isn't given. */
 #include "finish.h"
 
+#include <errno.h>
 #include <string.h>
 #include <unistd.h>
 
@@ -18,6 +19,11 @@
 
 void refuse(const char *what, const char *name) {
     fprintf(stderr, "finish: %s %s\n", name, what);
+    exit(2);
+}
+
+void refuse_file(const char *what, const char *path) {
+    fprintf(stderr, "finish: %s %s: %s\n", path, what, strerror(errno));
     exit(2);
 }
 
@@ -68,6 +74,8 @@ static void tell_losses(FILE *file) {
     tell_loss(file, "full-traces", raw->full, "acquisitions after a thread's first 1,000,000 events: an order among them may be missing");
     tell_loss(file, "beyond-classes", sums.classes,
               "acquisitions of classes beyond 8,192: no order that they are part of was recorded");
+    tell_loss(file, "fork-handlers", sums.in_fork,
+              "acquisitions by handlers of fork with 48 locks held already, as an allocator takes all of its own: an order among these may be missing");
     tell_loss(file, "beyond-held", sums.deep + raw->deep,
               "acquisitions with 48 locks held already: an order among them may be missing");
     tell_loss(file, "tries", sums.tries, "try acquisitions, which version 1 of the format can't say: orders that begin with one are missing");
@@ -81,6 +89,8 @@ static void tell_losses(FILE *file) {
               "libraries that asked to be bound to themselves first, which was taken away so that their locks are seen: nothing is lost by these");
     tell_loss(file, "namespaces", sum_of(namespaces),
               "libraries loaded by dlmopen into a namespace of their own: their locks aren't seen");
+    tell_loss(file, "threads-alike", sums.alike,
+              "threads whose traces are those of two others, and weren't written, since a run takes 4,096: nothing is lost by these");
     tell_loss(file, "repeats", raw->repeated, "records that repeat what their thread had done before: nothing is lost by these");
 }
 
@@ -121,12 +131,23 @@ static void tell_unseen(FILE *file) {
             fprintf(file, "unseen %s\n", reasons[i].name);
 }
 
+/* The programs that were started; `record` finds out which of them weren't reached, and puts that in place of these lines. */
+static void tell_started(FILE *file) {
+    for (size_t i = 0; i < arena_count; i++)
+        for (uint32_t n = 1; n <= count_of(&arenas[i], RAW_PROGRAMS); n++) {
+            const struct raw_program *p = part_of(&arenas[i], RAW_PROGRAMS, n);
+            if (p->state && p->starts && !memchr(p->path, '\n', sizeof p->path))
+                fprintf(file, "started %lu %s %.*s\n", (unsigned long)p->starts, p->state == PROGRAM_ALONG ? "along" : "alone",
+                        RAW_PATH, p->path);
+        }
+}
+
 static void write_summary(const char *folder) {
     char path[4300];
     snprintf(path, sizeof path, "%s/SUMMARY", folder);
     FILE *file = created(path);
     tell(file, "processes", process_count);
-    tell(file, "threads", sums.threads);
+    tell(file, "threads", sums.threads + sums.alike);
     tell(file, "operations", sums.operations);
     tell(file, "events", sums.events);
     tell(file, "classes", key_count < MAX_KEYS ? key_count : MAX_KEYS);
@@ -135,6 +156,7 @@ static void write_summary(const char *folder) {
     if (sums.operations == 0)
         tell_unseen(file);
     tell_losses(file);
+    tell_started(file);
     closed(file, path);
 }
 

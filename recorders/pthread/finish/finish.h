@@ -19,6 +19,7 @@
 #define MAX_OBJECT_NAME 64
 
 void refuse(const char *what, const char *name) __attribute__((noreturn));
+void refuse_file(const char *what, const char *path) __attribute__((noreturn)); /* for the reason that errno has */
 void *checked(void *p);
 
 /* A list's room, doubled as it grows. */
@@ -120,6 +121,7 @@ extern int frames;
 void read_wrappers(const char *beside);
 bool is_wrapper(uint64_t word);
 bool is_outermost(uint64_t word);
+bool is_in_fork(uint64_t word);
 void tell_symbol(char *text, size_t room, const char *symbol);
 int key_of(struct arena *a, uint32_t class);
 
@@ -136,10 +138,20 @@ void name_objects(void);
 int key_of_object(struct arena *a, uint32_t process, uint32_t object);
 void tell_object(char *text, size_t room, int number);
 
+/* ---- repeats.c */
+
+struct content { /* of a trace: two traces of the same say the same */
+    uint64_t sums[2];
+};
+
+void expect_traces(uint64_t count);
+void add_content(struct content *content, uint64_t what);
+bool is_told_enough(const struct content *content); /* this trace isn't needed any more */
+
 /* ---- traces.c */
 
 struct sums {
-    uint64_t threads, operations, events, tries, classes, deep, waiting, held_at_end;
+    uint64_t threads, operations, events, tries, classes, deep, in_fork, alike, waiting, held_at_end;
     struct raw_left_out raw;
 };
 

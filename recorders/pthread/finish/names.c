@@ -164,6 +164,18 @@ bool is_outermost(uint64_t word) {
            fnmatch("ld-linux*", base, 0) == 0 || fnmatch("ld-2*", base, 0) == 0 || (s && strcmp(s->name, "_start") == 0);
 }
 
+static bool is_called(uint64_t word, const char *name) {
+    const struct symbol *s = symbol_at(raw_word_module(word), raw_word_offset(word) - 1, SYMBOL_CODE);
+    return s && strcmp(s->name, name) == 0;
+}
+
+/* What is called by fork of the C library, which has several names. */
+bool is_in_fork(uint64_t word) {
+    if (word == UINT64_MAX || !is_outermost(word))
+        return false;
+    return is_called(word, "fork") || is_called(word, "__fork") || is_called(word, "__libc_fork");
+}
+
 /* ---- A class in words. */
 
 /* `function+0x1c`, `object`, or `module+1c` if the module has no symbol there. A call's address is the one after it. */

@@ -14,14 +14,14 @@ static const char *const mode_words[] = {"w", "r", "rr", "tw", "tr", "trr"};
 FILE *created(const char *path) {
     FILE *file = fopen(path, "w");
     if (!file)
-        refuse("can't be written", path);
+        refuse_file("can't be written", path);
     return file;
 }
 
 void closed(FILE *file, const char *path) {
     bool is_bad = ferror(file);
     if (fclose(file) != 0 || is_bad)
-        refuse("can't be written", path);
+        refuse_file("can't be written", path);
 }
 
 struct held {
@@ -36,6 +36,7 @@ struct trace {
     FILE *text, *objects, *places;
     struct held held[RAW_HELD + 8];
     size_t depth, written;
+    struct content content;
     uint64_t events;
     int version;
 };
@@ -90,11 +91,29 @@ static void write_line(FILE *file, const char *name, const char *mode) {
 
 static void write_event(struct trace *t, const struct held *h, const char *mode, uint32_t place) {
     char object[MAX_OBJECT_NAME + 1];
-    tell_object(object, sizeof object, key_of_object(t->arena, t->raw->process, h->object));
+    int object_key = key_of_object(t->arena, t->raw->process, h->object);
+    tell_object(object, sizeof object, object_key);
+    add_content(&t->content, (uint64_t)(uint32_t)object_key << 32 | (uint32_t)h->key);
+    add_content(&t->content, mode ? (uint64_t)(mode[0] | mode[1] << 8 | (mode[1] ? mode[2] << 16 : 0)) : 0);
     write_line(t->text, keys[h->key].name, mode);
     write_line(t->objects, object, mode);
     write_place(t->places, place_numbered(t->arena, place));
     t->events++;
+}
+
+/* Whether a place is in what a program has called by fork before and after. */
+static bool is_forking(const struct place *place) {
+    for (uint32_t i = 0; i < place->count; i++)
+        if (is_in_fork(place->words[i]))
+            return true;
+    return false;
+}
+
+static void leave_out(struct trace *t, const struct raw_record *r) {
+    if (is_forking(place_numbered(t->arena, r->place)))
+        sums.in_fork++;
+    else
+        sums.deep++;
 }
 
 static void take(struct trace *t, const struct raw_record *r) {
@@ -108,7 +127,7 @@ static void take(struct trace *t, const struct raw_record *r) {
     else if (h.key >= MAX_KEYS)
         sums.classes++;
     else if (t->written == MAX_HELD)
-        sums.deep++;
+        leave_out(t, r);
     else
         h.is_written = true;
     t->held[t->depth++] = h;
@@ -167,6 +186,9 @@ static void tell_end(FILE *file, const struct trace *t) {
     tell_held(file, t, t->depth);
 }
 
+/* Whether SUMMARY names the trace. */
+static bool is_told_at_end(const struct trace *t) { return t->depth && (t->raw->waits || t->raw->ended); }
+
 static void tell_last(const struct trace *t, const char *name) {
     if (t->raw->waits && t->depth) {
         sums.waiting++;
@@ -216,16 +238,16 @@ static void give_second_name(const char *path, const char *second) {
     for (size_t n; from && (n = fread(bytes, 1, sizeof bytes, from)) > 0;)
         fwrite(bytes, 1, n, to);
     if (!from || ferror(from))
-        refuse("can't be read", path);
+        refuse_file("can't be read", path);
     fclose(from);
     closed(to, second);
 }
 
-static void close_files(struct trace *t, const struct names *n) {
+static void close_files(struct trace *t, const struct names *n, bool is_kept) {
     closed(t->text, n->text);
     closed(t->objects, n->objects);
     closed(t->places, n->places);
-    if (t->events)
+    if (is_kept)
         give_second_name(n->places, n->object_places);
     else {
         unlink(n->text);
@@ -243,8 +265,10 @@ static void write_trace(const char *folder, struct trace *t) {
     snprintf(n.object_places, sizeof n.object_places, "%s.places", n.objects);
     open_files(t, &n);
     write_records(t);
-    close_files(t, &n);
-    if (t->events == 0)
+    bool is_told = t->events && !is_told_at_end(t) && is_told_enough(&t->content);
+    close_files(t, &n, t->events && !is_told);
+    sums.alike += is_told;
+    if (t->events == 0 || is_told)
         return;
     sums.threads++;
     sums.events += t->events;
@@ -265,12 +289,16 @@ static void make_folder(const char *folder) {
     char path[4300];
     snprintf(path, sizeof path, "%s/objects", folder);
     if (mkdir(path, 0777) != 0 && errno != EEXIST)
-        refuse("can't be made", path);
+        refuse_file("can't be made", path);
 }
 
 void write_traces(const char *folder, int version) {
     static struct trace t;
+    uint64_t threads = 0;
     make_folder(folder);
+    for (size_t i = 0; i < arena_count; i++)
+        threads += count_of(&arenas[i], RAW_THREADS);
+    expect_traces(threads);
     for (size_t i = 0; i < arena_count; i++)
         for (uint32_t n = 1; n <= count_of(&arenas[i], RAW_THREADS); n++) {
             const struct raw_thread *raw = part_of(&arenas[i], RAW_THREADS, n);

@@ -20,7 +20,7 @@
 #define DECLARE(name) static __typeof__(&name) real_##name;
 REALS(DECLARE)
 
-#define FIND(name) STORE(&real_##name, (__typeof__(&name))dlsym(RTLD_NEXT, #name));
+#define FIND(name) STORE(&real_##name, (__typeof__(&name))find_next(#name));
 static void look_up(void) { REALS(FIND) }
 
 /* Finds the real functions when the library begins, or when one is called before that. */
@@ -79,6 +79,7 @@ static void end_once(struct once *once) {
 
 ONCE(pthread_once, int, pthread_once_t)
 ONCE(call_once, void, once_flag)
+EXPORT __typeof__(pthread_once) __pthread_once __attribute__((alias("pthread_once"))); /* as older programs know it */
 
 /* ---- Variables of functions that are made when they are reached first. libstdc++ may have been loaded for one library alone, so it is
    looked for by its name too; if there is none, the guard is kept here. */
@@ -113,15 +114,24 @@ static void abort_here(guard *g) { STORE(&g->bytes[1], 0); }
 static int (*real_acquire)(guard *);
 static void (*real_release)(guard *), (*real_abort)(guard *);
 
+static void *find_in_library(const char *name, const char *path, int mode) {
+    void *library = real_dlopen(path, mode);
+    return library ? dlsym(library, name) : NULL;
+}
+
 void *find_in_libraries(const char *name) {
     static const char *const libraries[] = {"libstdc++.so.6", "libc++abi.so.1"};
     find_reals();
     void *found = dlsym(RTLD_NEXT, name);
-    for (size_t i = 0; !found && i < sizeof libraries / sizeof *libraries; i++) {
-        void *library = real_dlopen(libraries[i], RTLD_LAZY | RTLD_NOLOAD);
-        found = library ? dlsym(library, name) : NULL;
-    }
+    for (size_t i = 0; !found && i < sizeof libraries / sizeof *libraries; i++)
+        found = find_in_library(name, libraries[i], RTLD_LAZY | RTLD_NOLOAD);
     return found;
+}
+
+void *find_in_unwinder(const char *name) {
+    find_reals();
+    void *found = dlsym(RTLD_NEXT, name);
+    return found ? found : find_in_library(name, "libgcc_s.so.1", RTLD_LAZY);
 }
 
 /* Once found they stay the same, so that what is begun by one is ended by the same. */

@@ -56,6 +56,7 @@ static const struct {
 } plan[RAW_KINDS] = {
     [RAW_PROCESSES] = {1, 1 << 16, 8}, [RAW_CLASSES] = {4, 0xffff, 32},   [RAW_OBJECTS] = {2, 1 << 22, 32},
     [RAW_TAKES] = {2, 1 << 20, 32},    [RAW_THREADS] = {8, 1 << 20, 4},   [RAW_FILES] = {1, 1 << 12, 0},
+    [RAW_PROGRAMS] = {1, 1 << 10, 0},
     [RAW_MODULES] = {10, 1 << 13, 8},  [RAW_PLACES] = {12, 1 << 20, 24},
 };
 
@@ -102,8 +103,19 @@ static uint64_t limit_of(int which) {
 
 static uint64_t least(uint64_t a, uint64_t b) { return a < b ? a : b; }
 
+/* Valgrind's tools take note of each byte of a mapping, whether it is used or not. */
+#define BYTES_UNDER_VALGRIND (UINT64_C(128) << 20)
+
+static bool is_under_valgrind(void) {
+    const char *preloaded = getenv("LD_PRELOAD");
+    return preloaded && strstr(preloaded, "/vgpreload_");
+}
+
 /* Of the memory that the program may have, the recorder takes no more than a sixteenth for each of its mappings. */
-static uint64_t allowed_memory(void) { return least(limit_of(RLIMIT_AS), limit_of(RLIMIT_DATA)) / 16; }
+static uint64_t allowed_memory(void) {
+    uint64_t allowed = least(limit_of(RLIMIT_AS), limit_of(RLIMIT_DATA)) / 16;
+    return is_under_valgrind() ? least(allowed, BYTES_UNDER_VALGRIND) : allowed;
+}
 
 /* No more than half of what is free on the disk, since a file with holes needs its room when they are written. */
 static uint64_t allowed_on_disk(int file) {
@@ -134,7 +146,17 @@ static bool extend(int file, uint64_t bytes) {
 #define PRIVATE_LEAST (UINT64_C(1) << 20)
 
 static char *private_from;
-static uint64_t private_room, private_used;
+static uint64_t private_room, private_used, private_used_above;
+
+/* So much of each mapping is what every program uses. The system makes these pages in one go, which is cheaper than one by one. */
+#define USED_PRIVATE 16384
+#define USED_OF_FILE 12288
+
+#ifdef MADV_POPULATE_WRITE
+static void populate(void *from, uint64_t bytes, uint64_t room) { madvise(from, least(bytes, room), MADV_POPULATE_WRITE); }
+#else
+static void populate(void *from, uint64_t bytes, uint64_t room) { (void)from, (void)bytes, (void)room; }
+#endif
 
 static void map_private(void) {
     uint64_t bytes = least(PRIVATE_BYTES, allowed_memory());
@@ -144,18 +166,26 @@ static void map_private(void) {
             continue;
         madvise(p, bytes, MADV_DONTDUMP);
         madvise(p, bytes, MADV_NOHUGEPAGE); /* else the first use of it takes two megabytes */
+        populate(p, USED_PRIVATE, bytes);
         private_from = p;
         private_room = bytes;
         return;
     }
 }
 
+/* What is large comes from the end, so that what is small lies close together at the beginning. */
+#define MUCH 16384
+
 void *take_private(size_t bytes) {
     bytes = rounded(bytes, 64);
-    if (LOAD(&private_used) + bytes > private_room)
+    if (LOAD(&private_used) + LOAD(&private_used_above) + bytes > private_room)
         return NULL;
-    uint64_t at = ADD(&private_used, bytes);
-    return at + bytes <= private_room ? private_from + at : NULL;
+    bool is_much = bytes > MUCH;
+    uint64_t others = is_much ? LOAD(&private_used) : LOAD(&private_used_above);
+    uint64_t used = ADD(is_much ? &private_used_above : &private_used, bytes) + bytes;
+    if (used + others > private_room)
+        return NULL;
+    return is_much ? private_from + private_room - used : private_from + used - bytes;
 }
 
 /* ---- The beginning. */
@@ -171,6 +201,7 @@ static struct raw_arena *map_file(int file) {
             continue;
         madvise(p, bytes, MADV_DONTDUMP);
         madvise(p, bytes, MADV_RANDOM); /* else the system fills the holes around each page that is written */
+        populate(p, USED_OF_FILE, bytes);
         share_out(p, bytes);
         return p;
     }
@@ -254,6 +285,8 @@ static void begin(void) {
     clock_gettime(CLOCK_REALTIME, &now);
     made->started = (uint64_t)now.tv_sec * 1000000000 + (uint64_t)now.tv_nsec;
     arena = made;
+    touch_rules();
+    touch_places();
     note_process(0);
     note_modules();
     begin_threads();

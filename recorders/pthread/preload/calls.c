@@ -1,7 +1,6 @@
 /* The functions that programs call instead of glibc's. */
 #include "own.h"
 
-#include <dlfcn.h>
 #include <errno.h>
 #include <pthread.h>
 #include <sched.h>
@@ -28,14 +27,7 @@ static int resolve_state; /* 0 not begun, 1 under way, 2 done */
 /* Volatile, since the C library declares its functions as if none of them could call us. */
 static EARLY_THREAD_LOCAL volatile bool resolving;
 
-/* Some functions have an older version beside the one that programs mean. */
-static void *find_real(const char *name) {
-    bool is_double = strcmp(name, "pthread_cond_wait") == 0 || strcmp(name, "pthread_cond_timedwait") == 0;
-    void *found = is_double ? dlvsym(RTLD_NEXT, name, "GLIBC_2.3.2") : NULL;
-    return found ? found : dlsym(RTLD_NEXT, name);
-}
-
-#define FIND(name) real_##name = (__typeof__(&name))find_real(#name);
+#define FIND(name) real_##name = (__typeof__(&name))find_next(#name);
 
 /* Whether the real functions are known. The look-up itself may call malloc, and a malloc of the program's own may
    lock: such a call of the thread that looks them up does nothing. Others wait. */
@@ -231,3 +223,20 @@ EXPORT int pthread_create(pthread_t *thread, const pthread_attr_t *how, void *(*
         note_frames(HERE);
     return real_pthread_create(thread, how, run, with);
 }
+
+/* ---- Names that older programs know some of these by. */
+
+#define OLDER(name) EXPORT __typeof__(name) __##name __attribute__((alias(#name)));
+
+OLDER(pthread_mutex_init)
+OLDER(pthread_mutex_destroy)
+OLDER(pthread_mutex_lock)
+OLDER(pthread_mutex_trylock)
+OLDER(pthread_mutex_unlock)
+OLDER(pthread_rwlock_init)
+OLDER(pthread_rwlock_destroy)
+OLDER(pthread_rwlock_rdlock)
+OLDER(pthread_rwlock_tryrdlock)
+OLDER(pthread_rwlock_wrlock)
+OLDER(pthread_rwlock_trywrlock)
+OLDER(pthread_rwlock_unlock)

@@ -51,6 +51,7 @@ uint32_t place_of_caller(uintptr_t caller) {
    found, it is the same. The sum of all of it tells a reader that comes while it is written. */
 
 #define MEMOS 1024
+#define FIRST_MEMOS 16
 
 struct memo {
     uintptr_t caller, frame;
@@ -60,7 +61,8 @@ struct memo {
     uintptr_t callers[RAW_FRAMES];
 };
 
-static struct memo memos[MEMOS];
+static struct memo memos[MEMOS] LARGE;
+static uint32_t memos_in_use = FIRST_MEMOS, memos_made; /* as with the rules of stacks */
 
 static uint64_t sum_start(struct call call, uint32_t count, uint32_t place) {
     return (call.caller ^ call.frame << 16) + ((uint64_t)LOAD(&rules_epoch) << 48 ^ (uint64_t)count << 32 ^ place) + 1;
@@ -83,6 +85,8 @@ static bool is_same_stack(const struct memo *memo, struct call call, uint32_t mo
 
 static void remember(struct memo *memo, const struct stack *stack, struct call call, uint32_t place) {
     uint64_t sum = sum_start(call, stack->count, place);
+    if (RARELY(ADD(&memos_made, 1) == FIRST_MEMOS))
+        STORE(&memos_in_use, MEMOS);
     STORE(&memo->sum, 0);
     memo->caller = call.caller;
     memo->frame = call.frame;
@@ -97,7 +101,8 @@ static void remember(struct memo *memo, const struct stack *stack, struct call c
 }
 
 uint32_t place_of_call(struct call call, uint32_t most) {
-    struct memo *memo = &memos[(call.caller ^ call.caller >> 10 ^ call.frame >> 3) % MEMOS];
+    uint64_t which = call.caller ^ call.caller >> 10 ^ call.frame >> 3;
+    struct memo *memo = &memos[which & (__atomic_load_n(&memos_in_use, __ATOMIC_RELAXED) - 1)];
     if (LIKELY(is_same_stack(memo, call, most)))
         return memo->place;
     struct stack stack;
@@ -131,17 +136,24 @@ static uint32_t place_here(struct call call) {
 
 /* ---- What the library keeps of each class and of each object, in blocks that are made when they are needed. */
 
-#define CLASS_BLOCK 64
-#define OBJECT_BLOCK 4096
-#define BLOCKS 1024
+#define CLASS_BLOCK 8
+#define CLASS_BLOCKS 8192
+#define OBJECT_BLOCK 256
+#define OBJECT_BLOCKS 16384
 
 struct kept_of_class {
     uint32_t alive; /* a bit for each ordinal, 1 being the lowest */
     uint32_t objects[RAW_APART + 1];
 };
 
-static struct kept_of_class *class_blocks[BLOCKS];
-static uint32_t *object_blocks[BLOCKS];
+static struct kept_of_class *class_blocks[CLASS_BLOCKS] LARGE;
+static uint32_t *object_blocks[OBJECT_BLOCKS] LARGE;
+
+void touch_places(void) {
+    touch(memos);
+    touch(class_blocks);
+    touch(object_blocks);
+}
 
 static void *block_at(void **at, size_t bytes) {
     void *block = LOAD(at);
@@ -152,13 +164,13 @@ static void *block_at(void **at, size_t bytes) {
 }
 
 static struct kept_of_class *kept_of(uint32_t class) {
-    struct kept_of_class *block = block_at((void **)&class_blocks[class / CLASS_BLOCK % BLOCKS], sizeof *block * CLASS_BLOCK);
+    struct kept_of_class *block = block_at((void **)&class_blocks[class / CLASS_BLOCK % CLASS_BLOCKS], sizeof *block * CLASS_BLOCK);
     return block ? &block[class % CLASS_BLOCK] : NULL;
 }
 
 /* How often the object was released by somebody who wasn't seen to hold it. */
 uint32_t *foreign_releases(uint32_t object) {
-    uint32_t *block = block_at((void **)&object_blocks[object / OBJECT_BLOCK % BLOCKS], sizeof *block * OBJECT_BLOCK);
+    uint32_t *block = block_at((void **)&object_blocks[object / OBJECT_BLOCK % OBJECT_BLOCKS], sizeof *block * OBJECT_BLOCK);
     return block ? &block[object % OBJECT_BLOCK] : NULL;
 }
 
@@ -174,7 +186,7 @@ static uint64_t class_key(const struct raw_class *c) {
    it has brought nothing new for so long. */
 #define MOST_CLASSES 65536
 #define LOOKS 255
-static uint8_t looks_left[MOST_CLASSES];
+static uint8_t looks_left[MOST_CLASSES] LARGE;
 
 static uint32_t define_class(const struct raw_class *new) {
     uint32_t number = take_part(RAW_CLASSES);

@@ -5,7 +5,6 @@
    descriptor that took it, another by any of the file. */
 #include "own.h"
 
-#include <dlfcn.h>
 #include <errno.h>
 #include <fcntl.h>
 #include <stdarg.h>
@@ -17,7 +16,7 @@
 #define DECLARE(name) static __typeof__(&name) real_##name;
 REALS(DECLARE)
 
-#define FIND(name) STORE(&real_##name, (__typeof__(&name))dlsym(RTLD_NEXT, #name));
+#define FIND(name) STORE(&real_##name, (__typeof__(&name))find_next(#name));
 static void find_reals(void) {
     if (RARELY(!LOAD(&real_fclose))) {
         REALS(FIND)
@@ -38,7 +37,7 @@ static struct file_lock {
     uint32_t held;           /* how often it was taken and not given up */
     int descriptor;          /* by which it is held, or ANY */
     uint64_t from;
-} locks[FILE_LOCKS];
+} locks[FILE_LOCKS] LARGE;
 
 #define ANY (-1)
 

@@ -7,7 +7,7 @@
 #define NOTED 1024
 #define NOTED_AT_ONCE 32
 
-static struct span noted[NOTED];
+static struct span noted[NOTED] LARGE;
 static uint32_t noted_count;
 
 static bool is_noted(const struct span *span) {

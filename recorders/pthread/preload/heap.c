@@ -4,7 +4,6 @@
    Pieces are kept by address, in lines of some slots, in levels of which each has more lines than the one before. */
 #include "own.h"
 
-#include <dlfcn.h>
 #include <errno.h>
 #include <malloc.h>
 #include <stdlib.h>
@@ -16,16 +15,16 @@
 /* ---- The table. */
 
 #define WAYS 8
-#define LEVELS 5
+#define LEVELS 6
 
 struct slot {
     uint64_t address; /* 0: empty; 1: about to be filled */
     uint64_t about;
 };
 
-static const uint32_t bits[LEVELS] = {9, 13, 17, 20, 23}; /* of the number of lines */
+static const uint32_t bits[LEVELS] = {4, 9, 13, 17, 20, 23}; /* of the number of lines */
 static struct slot *levels[LEVELS];
-static int main_level;
+static int main_level_of_pieces;
 static uint64_t overflows;
 
 /* What is noted of a piece: its place, the locks that are known in it, and its size. Of one lock that isn't far in, it is one more than
@@ -47,7 +46,7 @@ static struct slot *level_at(int level) {
 }
 
 static inline struct slot *line_of(struct slot *slots, int level, uintptr_t address) {
-    return &slots[(mixed(address >> 4) >> 20 & ((UINT64_C(1) << bits[level]) - 1)) * WAYS];
+    return &slots[block_line(address >> BLOCK_BITS, bits[level]) * WAYS];
 }
 
 static bool put_in_level(int level, uintptr_t address, uint64_t about) {
@@ -67,12 +66,12 @@ static bool put_in_level(int level, uintptr_t address, uint64_t about) {
 }
 
 static void put_piece(uintptr_t address, uint64_t about) {
-    int level = LOAD(&main_level);
+    int level = LOAD(&main_level_of_pieces);
     if (LIKELY(put_in_level(level, address, about)))
         return;
     if (level + 1 < LEVELS && is_crowded(ADD(&overflows, 1), bits[level])) {
         STORE(&overflows, 0);
-        STORE(&main_level, level + 1);
+        STORE(&main_level_of_pieces, level + 1);
     }
     while (++level < LEVELS)
         if (put_in_level(level, address, about))
@@ -85,7 +84,7 @@ struct search {
     int main_level, n, way;
 };
 
-static struct search new_search(void) { return (struct search){LOAD(&main_level), 0, 0}; }
+static struct search new_search(void) { return (struct search){LOAD(&main_level_of_pieces), 0, 0}; }
 
 /* The next slot of a key; there may be several. */
 static struct slot *next_slot(uint64_t key, struct search *search) {
@@ -102,9 +101,23 @@ static struct slot *next_slot(uint64_t key, struct search *search) {
     return NULL;
 }
 
+static inline struct slot *find_in_line(struct slot *line, uintptr_t address) {
+    UNROLLED
+    for (int i = 0; i < WAYS; i++)
+        if (__atomic_load_n(&line[i].address, __ATOMIC_RELAXED) == address)
+            return &line[i];
+    return NULL;
+}
+
 static struct slot *find_piece(uintptr_t address) {
-    struct search search = new_search();
-    return next_slot(address, &search);
+    struct slot *found = NULL;
+    int main_level = LOAD(&main_level_of_pieces);
+    for (int n = 0; !found && n < LEVELS; n++) {
+        int level = nth_level(main_level, n);
+        struct slot *slots = LOAD(&levels[level]);
+        found = slots ? find_in_line(line_of(slots, level, address), address) : NULL;
+    }
+    return found;
 }
 
 /* ---- Long pieces are also known by what they touch of the memory as it is cut into parts of their own size, rounded down to a
@@ -114,7 +127,7 @@ static struct slot *find_piece(uintptr_t address) {
 #define LONG_PIECE (UINT64_C(1) << LONG_BITS)
 #define MOST_BITS 35 /* of a size that is noted: 64 less what else is noted with it */
 
-static uint64_t part_key(int size_bits, uint64_t part) { return UINT64_C(1) << 63 | (uint64_t)size_bits << 56 | part << 4; }
+static uint64_t part_key(int size_bits, uint64_t part) { return UINT64_C(1) << 63 | (uint64_t)size_bits << 56 | part << BLOCK_BITS; }
 
 static int bits_of(uint64_t size) { return 63 - __builtin_clzll(size); }
 
@@ -248,7 +261,7 @@ REALS(DECLARE)
 static int resolve_state; /* 0 not begun, 1 under way, 2 done */
 
 #define EARLY_BYTES 65536
-static char early[EARLY_BYTES] __attribute__((aligned(16)));
+static char early[EARLY_BYTES] LARGE;
 static size_t early_used;
 
 static void *early_memory(size_t size) {
@@ -261,7 +274,7 @@ static void *early_memory(size_t size) {
 
 static bool is_early(const void *p) { return (const char *)p >= early && (const char *)p < early + EARLY_BYTES; }
 
-#define FIND(name) real_##name = (__typeof__(&name))dlsym(RTLD_NEXT, #name);
+#define FIND(name) real_##name = (__typeof__(&name))find_next(#name);
 
 static bool look_up(void) {
     int state = 0;

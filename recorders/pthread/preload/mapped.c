@@ -2,7 +2,6 @@
    in it, or, if there is no file, a number that is inherited by forked children. The rest is noted as malloc's is. */
 #include "own.h"
 
-#include <dlfcn.h>
 #include <errno.h>
 #include <stdarg.h>
 #include <stdio.h>
@@ -16,7 +15,7 @@
 #define DECLARE(name) static __typeof__(&name) real_##name;
 REALS(DECLARE)
 
-#define FIND(name) STORE(&real_##name, (__typeof__(&name))dlsym(RTLD_NEXT, #name));
+#define FIND(name) STORE(&real_##name, (__typeof__(&name))find_next(#name));
 static void find_reals(void) {
     if (RARELY(!LOAD(&real_shmdt))) {
         REALS(FIND)
@@ -97,7 +96,7 @@ static struct region {
     uint32_t is_taken, file;
     uintptr_t from, to;
     uint64_t offset; /* of `from` */
-} regions[REGIONS];
+} regions[REGIONS] LARGE;
 static uint32_t region_count; /* so many were ever in use at once */
 
 static void put_region(uintptr_t from, uintptr_t to, uint32_t file, uint64_t offset) {

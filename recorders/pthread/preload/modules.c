@@ -18,7 +18,7 @@
 #endif
 
 #define MODULES 8192
-static struct module modules[MODULES];
+static struct module modules[MODULES] LARGE;
 static uint32_t module_count, module_count_at_start;
 
 const struct module *known_module(uintptr_t address) {

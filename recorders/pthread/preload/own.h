@@ -24,6 +24,10 @@
 #define EXPORT __attribute__((visibility("default")))
 #define LIKELY(x) __builtin_expect(!!(x), 1)
 #define RARELY(x) __builtin_expect(!!(x), 0)
+/* Of an array of which mostly only the beginning is used. It has pages of its own, so that what every program uses lies close together:
+   the first use of each page is dear for a program that lives for half a millisecond. */
+#define LARGE __attribute__((aligned(4096)))
+#define UNROLLED _Pragma("GCC unroll 8")
 #define EARLY_THREAD_LOCAL __thread __attribute__((tls_model("initial-exec")))
 
 #define LOAD(at) __atomic_load_n(at, __ATOMIC_ACQUIRE)
@@ -51,6 +55,11 @@ static inline void *part_of(enum raw_kind kind, uint32_t number) {
 struct raw_record *take_chunk(uint32_t chunk);
 void *take_private(size_t bytes); /* zeroed memory that is never given back, or NULL */
 
+/* What is read before it is written would have its page made twice. */
+static inline void touch(volatile void *at) { *(volatile char *)at = 0; }
+void touch_rules(void);
+void touch_places(void);
+
 /* ---- tables.c */
 
 static inline uint64_t mixed(uint64_t x) {
@@ -59,7 +68,14 @@ static inline uint64_t mixed(uint64_t x) {
     return x ^ x >> 29;
 }
 
-#define NAMES_LEVELS 5
+/* The line of a block of memory, in a table of so many lines: blocks that follow each other have lines that do, so that what is
+   allocated one after the other stays together, and each part of the memory begins anywhere. */
+#define BLOCK_BITS 8
+static inline uint64_t block_line(uint64_t block, uint32_t line_bits) {
+    return (block + (mixed(block >> line_bits) >> 20)) & ((UINT64_C(1) << line_bits) - 1);
+}
+
+#define NAMES_LEVELS 6
 struct names; /* from a number, the lowest bit of which doesn't matter, to a number, for what is defined once */
 struct names_line;
 struct names {
@@ -146,9 +162,14 @@ void *map_own(size_t bytes, int how, int file);
 uint32_t file_of(int descriptor);
 bool find_shared(uintptr_t lock, uint32_t *file, uint64_t *offset);
 
+/* ---- symbols.c */
+
+void *find_next(const char *name); /* the function of this name that ours takes the place of, or NULL */
+
 /* ---- also.c */
 
-void *find_in_libraries(const char *name);
+void *find_in_libraries(const char *name); /* of those of C++ */
+void *find_in_unwinder(const char *name);
 bool is_asked(int *known, const char *what); /* by LOCKDEP_ALSO */
 
 /* ---- classes.c */

@@ -291,7 +291,13 @@ static struct rule read_rule(uintptr_t address) {
 #define RULES 8192
 static struct {
     uint64_t word, check;
-} rules[RULES];
+} rules[RULES] LARGE;
+
+/* So many of them are used, a page of them at first: all when so many were read that these don't suffice. */
+#define FIRST_RULES 256
+static uint32_t rules_in_use = FIRST_RULES, rules_read;
+
+void touch_rules(void) { touch(rules); }
 
 #define FIELD_BITS 29
 #define FIELD_MASK ((UINT64_C(1) << FIELD_BITS) - 1)
@@ -310,11 +316,13 @@ static struct rule unpacked(uint64_t word) {
 
 static struct rule rule_of(uintptr_t caller) {
     uint64_t key = (caller << 16 ^ LOAD(&rules_epoch)) | 1;
-    size_t slot = (caller ^ caller >> 11) & (RULES - 1);
+    size_t slot = (caller ^ caller >> 11) & (__atomic_load_n(&rules_in_use, __ATOMIC_RELAXED) - 1);
     uint64_t word = __atomic_load_n(&rules[slot].word, __ATOMIC_RELAXED);
     if (LIKELY((__atomic_load_n(&rules[slot].check, __ATOMIC_RELAXED) ^ word) == key))
         return unpacked(word);
     struct rule rule = read_rule(caller - 1);
+    if (RARELY(ADD(&rules_read, 1) == FIRST_RULES))
+        STORE(&rules_in_use, RULES);
     word = packed(rule);
     __atomic_store_n(&rules[slot].word, word, __ATOMIC_RELAXED);
     __atomic_store_n(&rules[slot].check, word ^ key, __ATOMIC_RELAXED);
@@ -436,6 +444,8 @@ bool span_around(struct call call, uintptr_t address, struct span *span) {
 #else
 
 #include <execinfo.h>
+
+void touch_rules(void) {}
 
 #define OWN_FRAMES 8
 

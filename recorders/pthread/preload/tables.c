@@ -12,7 +12,7 @@ struct names_line {
     } slots[NAMES_WAYS];
 };
 
-static const uint32_t names_bits[NAMES_LEVELS] = {6, 9, 12, 15, 18}; /* of the number of lines */
+static const uint32_t names_bits[NAMES_LEVELS] = {3, 6, 9, 12, 15, 18}; /* of the number of lines */
 
 static struct names_line *names_level(struct names *names, int level, bool make) {
     struct names_line *lines = LOAD(&names->levels[level]);
@@ -60,41 +60,31 @@ void each_name(struct names *names, void (*visit)(uint32_t *value)) {
 }
 
 /* ---- Locks: from an address to an object, in one word, so that a slot can be emptied and used again. An address is that of at
-   least four bytes, and has 47 bits. The 45 that are left are stirred, so that each stirred value is that of one address: the
-   lowest ten choose the line, and the slot has the other 35, and an object of 27 bits. */
+   least four bytes, and has 47 bits. Its 39 bits from BLOCK_BITS on are that of a block of memory, which chooses the line; the
+   lowest five of them are known by the line, and the slot has the 40 other bits of the address, and an object of 24 bits, of which
+   there are fewer than that. */
 
 #define LOCK_WAYS 8 /* the bytes of a line of the processor's */
-#define LOCK_LEVELS 4
-#define ADDRESS_BITS 45
-#define FEWEST_BITS 10
+#define LOCK_LEVELS 5
+#define FEWEST_BITS 5
+#define IN_BLOCK_BITS (BLOCK_BITS - 2)
+#define BLOCK_MASK ((UINT64_C(1) << (47 - BLOCK_BITS)) - 1)
+#define OBJECT_BITS 24
 
-static const uint32_t lock_bits[LOCK_LEVELS] = {FEWEST_BITS, 13, 17, 21};
+static const uint32_t lock_bits[LOCK_LEVELS] = {FEWEST_BITS, 9, 13, 17, 21};
 static uint64_t *lock_levels[LOCK_LEVELS];
 
-static const uint64_t address_mask = (UINT64_C(1) << ADDRESS_BITS) - 1;
-
-#define STIR UINT64_C(0x1e3779b97f4b)
-#define HALF 23
-
-static uint64_t stirred(uintptr_t lock) {
-    uint64_t x = lock >> 2 & address_mask;
-    x ^= x >> HALF;
-    x = x * STIR & address_mask;
-    return x ^ x >> HALF;
+/* What the slot has of the address. */
+static uint64_t key_of(uintptr_t lock) {
+    uint64_t in_block = lock >> 2 & ((UINT64_C(1) << IN_BLOCK_BITS) - 1);
+    return (lock >> BLOCK_BITS & BLOCK_MASK) >> FEWEST_BITS << IN_BLOCK_BITS | in_block;
 }
 
-/* What has to be multiplied by STIR to give 1: each step doubles how many of its low bits are right. */
-static uint64_t unstirring(void) {
-    uint64_t inverse = STIR;
-    for (int bits = 3; bits < ADDRESS_BITS; bits *= 2)
-        inverse *= 2 - STIR * inverse;
-    return inverse & address_mask;
-}
-
-static uintptr_t unstirred(uint64_t x) {
-    x ^= x >> HALF;
-    x = x * unstirring() & address_mask;
-    return (x ^ x >> HALF) << 2;
+/* The address that such a key has in a line: the rest is what has to be added to come to that line. */
+static uintptr_t address_of(uint64_t key, int level, uint64_t line) {
+    uint64_t block = key >> IN_BLOCK_BITS << FEWEST_BITS;
+    uint64_t rest = (line - block_line(block, lock_bits[level])) & ((UINT64_C(1) << FEWEST_BITS) - 1);
+    return (block | rest) << BLOCK_BITS | (key & ((UINT64_C(1) << IN_BLOCK_BITS) - 1)) << 2;
 }
 
 static uint64_t *lock_level(int level, bool make) {
@@ -107,39 +97,43 @@ static uint64_t *lock_level(int level, bool make) {
     return slots;
 }
 
-static uint64_t *lock_line(uint64_t *slots, int level, uint64_t key) {
-    return &slots[(key & ((UINT64_C(1) << lock_bits[level]) - 1)) * LOCK_WAYS];
+static uint64_t *lock_line(uint64_t *slots, int level, uintptr_t lock) {
+    return &slots[block_line(lock >> BLOCK_BITS & BLOCK_MASK, lock_bits[level]) * LOCK_WAYS];
 }
 
-static inline bool is_of(uint64_t word, uint64_t key) { return word >> RAW_OBJECT_BITS == key >> FEWEST_BITS && word; }
+/* No lock has key 0, so an empty slot is of none. */
+static inline bool is_of(uint64_t word, uint64_t key) { return word >> OBJECT_BITS == key; }
+static inline uint32_t object_in(uint64_t word) { return (uint32_t)word & ((UINT32_C(1) << OBJECT_BITS) - 1); }
 
 static int lock_main;
 static uint64_t lock_overflows;
 
-static uint64_t *find_lock(uint64_t key) {
-    int main_level = LOAD(&lock_main);
-    for (int n = 0; n < LOCK_LEVELS; n++) {
-        int level = nth_level(main_level, n);
-        uint64_t *slots = lock_level(level, false);
-        if (!slots)
-            continue;
-        uint64_t *line = lock_line(slots, level, key);
-        for (int i = 0; i < LOCK_WAYS; i++) {
-            uint64_t there = __atomic_load_n(&line[i], __ATOMIC_RELAXED);
-            if (is_of(there, key))
-                return &line[i];
-        }
-    }
+static inline uint64_t *find_in_line(uint64_t *line, uint64_t key) {
+    UNROLLED
+    for (int i = 0; i < LOCK_WAYS; i++)
+        if (is_of(__atomic_load_n(&line[i], __ATOMIC_RELAXED), key))
+            return &line[i];
     return NULL;
 }
 
-uint32_t lock_object(uintptr_t lock) {
-    uint64_t *slot = find_lock(stirred(lock));
-    return slot ? raw_object((uint32_t)LOAD(slot)) : 0;
+static uint64_t *find_lock(uintptr_t lock) {
+    uint64_t key = key_of(lock), *found = NULL;
+    int main_level = LOAD(&lock_main);
+    for (int n = 0; !found && n < LOCK_LEVELS; n++) {
+        int level = nth_level(main_level, n);
+        uint64_t *slots = lock_level(level, false);
+        found = slots ? find_in_line(lock_line(slots, level, lock), key) : NULL;
+    }
+    return found;
 }
 
-static bool fill_in_level(int level, uint64_t key, uint64_t word) {
-    uint64_t *slots = lock_level(level, true), *line = slots ? lock_line(slots, level, key) : NULL;
+uint32_t lock_object(uintptr_t lock) {
+    uint64_t *slot = find_lock(lock);
+    return slot ? object_in(LOAD(slot)) : 0;
+}
+
+static bool fill_in_level(int level, uintptr_t lock, uint64_t word) {
+    uint64_t *slots = lock_level(level, true), *line = slots ? lock_line(slots, level, lock) : NULL;
     for (int i = 0; line && i < LOCK_WAYS; i++) {
         uint64_t empty = LOAD(&line[i]);
         if (!empty && SWAP(&line[i], &empty, word))
@@ -148,17 +142,19 @@ static bool fill_in_level(int level, uint64_t key, uint64_t word) {
     return false;
 }
 
-static bool fill_lock(uint64_t key, uint32_t object) {
-    uint64_t word = key >> FEWEST_BITS << RAW_OBJECT_BITS | object;
+static uint64_t word_with(uintptr_t lock, uint32_t object) { return key_of(lock) << OBJECT_BITS | object; }
+
+static bool fill_lock(uintptr_t lock, uint32_t object) {
+    uint64_t word = word_with(lock, object);
     int main_level = LOAD(&lock_main);
-    if (LIKELY(fill_in_level(main_level, key, word)))
+    if (LIKELY(fill_in_level(main_level, lock, word)))
         return true;
     if (main_level + 1 < LOCK_LEVELS && is_crowded(ADD(&lock_overflows, 1), lock_bits[main_level])) {
         STORE(&lock_overflows, 0);
         STORE(&lock_main, main_level + 1);
     }
     for (int level = main_level + 1; level < LOCK_LEVELS; level++)
-        if (fill_in_level(level, key, word))
+        if (fill_in_level(level, lock, word))
             return true;
     return false;
 }
@@ -166,7 +162,7 @@ static bool fill_lock(uint64_t key, uint32_t object) {
 /* ---- Which parts of the memory have had a lock, in parts of a megabyte. Several parts share a bit. */
 
 #define PART_BITS 20
-#define PARTS 65536
+#define PARTS 16384
 static uint64_t parts[PARTS / 64];
 
 static void mark_part(uintptr_t lock) {
@@ -189,33 +185,32 @@ static bool has_marked_part(uintptr_t from, uintptr_t to) {
 
 /* Two threads that put the same lock at once may each fill a slot: the first slot counts, and both find that. */
 uint32_t put_lock(uintptr_t lock, uint32_t object) {
-    uint64_t key = stirred(lock), *slot = find_lock(key);
+    uint64_t *slot = find_lock(lock);
     mark_part(lock);
     if (slot)
-        STORE(slot, key >> FEWEST_BITS << RAW_OBJECT_BITS | object);
-    else if (!fill_lock(key, object))
+        STORE(slot, word_with(lock, object));
+    else if (!fill_lock(lock, object))
         return 0;
     return lock_object(lock);
 }
 
 uint32_t add_lock(uintptr_t lock, uint32_t object) {
     mark_part(lock);
-    return fill_lock(stirred(lock), object) ? lock_object(lock) : 0;
+    return fill_lock(lock, object) ? lock_object(lock) : 0;
 }
 
 static void empty_slot(uint64_t *slot, void (*dropped)(uint32_t object)) {
     uint64_t there = LOAD(slot);
     if (there && SWAP(slot, &there, 0))
-        dropped(raw_object((uint32_t)there));
+        dropped(object_in(there));
 }
 
 void drop_lock(uintptr_t lock, void (*dropped)(uint32_t object)) {
-    uint64_t key = stirred(lock);
+    uint64_t key = key_of(lock);
     for (int level = 0; level < LOCK_LEVELS; level++) {
-        uint64_t *slots = lock_level(level, false), *line = slots ? lock_line(slots, level, key) : NULL;
-        for (int i = 0; line && i < LOCK_WAYS; i++)
-            if (is_of(LOAD(&line[i]), key))
-                empty_slot(&line[i], dropped);
+        uint64_t *slots = lock_level(level, false), *line = slots ? lock_line(slots, level, lock) : NULL;
+        for (uint64_t *slot; line && (slot = find_in_line(line, key));)
+            empty_slot(slot, dropped);
     }
 }
 
@@ -225,8 +220,7 @@ static void drop_in_level(int level, uintptr_t from, uintptr_t to, void (*droppe
         uint64_t there = LOAD(&lock_levels[level][i]);
         if (!there)
             continue;
-        uint64_t low = i / LOCK_WAYS & ((UINT64_C(1) << FEWEST_BITS) - 1);
-        uintptr_t lock = unstirred(there >> RAW_OBJECT_BITS << FEWEST_BITS | low);
+        uintptr_t lock = address_of(there >> OBJECT_BITS, level, i / LOCK_WAYS);
         if (lock >= from && lock < to)
             empty_slot(&lock_levels[level][i], dropped);
     }

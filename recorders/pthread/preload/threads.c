@@ -582,7 +582,7 @@ void destroyed(uintptr_t lock) {
 
 /* Takes again what its thread held before the fork. */
 static void begin_in_child(struct thread *old) {
-    static struct held held[RAW_HELD];
+    static struct held held[RAW_HELD] LARGE;
     uint32_t depth = old->depth;
     for (uint32_t i = 0; i < depth; i++)
         held[i] = old->entries[i].held;

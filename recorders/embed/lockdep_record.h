@@ -1,0 +1,548 @@
+/* Records the locks of a kernel, a runtime or an embedded system as traces for lockdep: one for each task.
+
+   C11 or C++11, freestanding: no library, no allocation, no floating point, no locks. Each function takes constant time
+   but for what it says. In exactly one file of the program
+
+       #define LOCKDEP_RECORD_CODE
+       #include "lockdep_record.h"
+
+   and in the others the include alone. README.md beside this file has an example, and docs/RECORDING.md says what a true
+   trace is.
+
+   Who calls. The calls for one task are made by that task, and by the interrupts that come in while it runs. An interrupt
+   that comes in during such a call is left out with all that it does, and counted; so keep interrupts off around the
+   calls if you can. Calls for two tasks never meet.
+
+   What can't be said. Whatever the calls and their order, the trace is one that lockdep accepts. A call that would break
+   it isn't written, and is counted in `left`. That hides orders of locks and invents none, but for one case: see
+   ldr_release. ldr_end writes the counts behind the places.
+
+   With LDR_NOTHING defined the calls are gone: their arguments aren't evaluated. */
+#ifndef LOCKDEP_RECORD_H
+#define LOCKDEP_RECORD_H
+
+#include <stdbool.h>
+#include <stddef.h>
+#include <stdint.h>
+
+#ifdef __cplusplus
+extern "C" {
+#endif
+
+/* ---- Words. */
+
+/* How a lock is taken: by a writer (a mutex, a spin lock), by a reader that waits behind waiting writers, or by a reader
+   that passes them; `| LDR_TRY` if it was taken by a try, which waits for nobody. */
+#define LDR_W 0u
+#define LDR_R 1u
+#define LDR_RR 2u
+#define LDR_TRY 4u
+
+/* Which interrupts: those of the hardware, and what is deferred from them. */
+#define LDR_SOFTIRQ 1u
+#define LDR_HARDIRQ 2u
+
+/* Bounds: bytes of a name; locks that a task holds at once, those of its interrupts among them; events of a trace; and
+   the least size of a buffer, which is more than the longest record. */
+#define LDR_NAME 64u
+#define LDR_HELD 48u
+#define LDR_EVENTS 1000000u
+#define LDR_ROOM 144u
+
+/* What is counted: the places of `left`. All but the first are calls that weren't written as they were made. */
+enum ldr_reason {
+    LDR_OPENED,          /* interrupts that came in although they were off: `on` was written before them */
+    LDR_LEFT_RELEASES,   /* releases of what wasn't seen to be taken, or was taken outside the interrupt */
+    LDR_LEFT_HELD,       /* acquisitions with 48 locks held */
+    LDR_LEFT_EVENTS,     /* calls after 1,000,000 events */
+    LDR_LEFT_WORDS,      /* acquisitions with a name that isn't 1 to 64 visible ASCII characters, subclass 8, unknown mode */
+    LDR_LEFT_INTERRUPTS, /* calls of interrupts that came in during a call, in a hardirq, or a softirq in a softirq */
+    LDR_LEFT_LEAVES,     /* leaving without having entered */
+    LDR_LEFT_FLAGS,      /* turning on interrupts of the kind that the task is in, or any in a hardirq */
+    LDR_LEFT_KEPT,       /* locks that an interrupt still held when it ended: they were given back in the trace */
+    LDR_LEFT_PUTS,       /* events that `put` refused, and calls after that, or after ldr_end */
+    LDR_LEFT_PLACES,     /* lines of places that don't fit in their buffer, or came after their `put` had refused */
+    LDR_REASONS
+};
+
+/* Takes bytes: writes them to a file, a serial line, a ring in memory. It takes all of them and returns 0, or returns
+   another number. Bytes are always whole lines. It doesn't call the functions below for the same task. */
+typedef int ldr_put(void *cookie, const char *bytes, size_t size);
+
+/* ---- A task. The members are the recorder's; `left` and `held` may be read. */
+
+struct ldr_stream {
+    char *bytes;
+    ldr_put *put; /* NULL if there is none, or it refused */
+    void *cookie;
+    uint32_t size, used;
+};
+
+struct ldr_lock {
+    const char *name;
+    unsigned sub;
+};
+
+/* A frame: which interrupt it is, which are off in it, and how many locks were held when it began. */
+struct ldr_frame {
+    unsigned irq, off, base;
+};
+
+struct ldr_task {
+    struct ldr_frame *frame;     /* the innermost of `frames` that is open */
+    unsigned held;               /* how many of `locks` there are */
+    unsigned ended;              /* the reason for which nothing more is written, LDR_REASONS if the trace goes on */
+    volatile unsigned is_inside; /* a call is under way */
+    volatile uint32_t skipped;   /* interrupts within each other that are being left out */
+    uint32_t events;             /* that were written */
+    uint32_t waiting;            /* of these, that are still in the buffer */
+    struct ldr_stream trace, places;
+    uint32_t left[LDR_REASONS];  /* how often each reason was met */
+    struct ldr_frame frames[3];
+    struct ldr_lock locks[LDR_HELD];
+};
+
+/* ---- The calls. Where the caller is, as the arguments of the functions that end in _at. */
+#define LDR_TEXT_OF(line) #line
+#define LDR_TEXT(line) LDR_TEXT_OF(line)
+#define LDR_HERE __FILE__ ":" LDR_TEXT(__LINE__), __func__
+
+#ifndef LDR_NOTHING
+
+/* Begins a task's trace, which holds no lock, with interrupts on. `put` gets what is in the buffer when another record
+   might not fit. Returns 0; or -1 if the buffer has less than LDR_ROOM bytes: then all calls are counted in LDR_LEFT_PUTS.
+   A task whose trace has ended may begin another one, with a cookie that makes it another file, when it is at rest. */
+int ldr_begin(struct ldr_task *task, char *buffer, size_t size, ldr_put *put, void *cookie);
+
+/* After ldr_begin: places go to this `put`, as lines `RECORD FILE:LINE FUNCTION`. A buffer that is too small for a place
+   leaves it out. Without this call no places are written. */
+void ldr_places(struct ldr_task *task, char *buffer, size_t size, ldr_put *put, void *cookie);
+
+/* The task took a lock of this class. Called after the lock was taken, or before it is waited for if that can't fail.
+   The name isn't copied: it stays as it is until the release. Counted instead: LDR_LEFT_WORDS, LDR_LEFT_HELD. */
+void ldr_acquire_at(struct ldr_task *task, const char *name, unsigned sub, unsigned mode, const char *place,
+                    const char *function);
+#define ldr_acquire(task, name, sub, mode) ldr_acquire_at(task, name, sub, mode, LDR_HERE)
+
+/* The task gives back the newest lock of this class and subclass that it took in the current interrupt, or outside all of
+   them. Called before the lock is free. Constant time if it is the newest of all, else as long as there are newer ones.
+   Counted instead if there is none: LDR_LEFT_RELEASES. So a lock that was taken outside the interrupt counts as held on
+   when the interrupt gives it back: call this again once the interrupt has ended, or later orders will be wrong. */
+void ldr_release(struct ldr_task *task, const char *name, unsigned sub);
+
+/* An interrupt comes in, and ends. If it was off, `on` is written before it, and `off` again after it. Counted instead:
+   an interrupt in a hardirq, a softirq in a softirq, and what is neither kind, with all its calls: LDR_LEFT_INTERRUPTS;
+   leaving without having entered: LDR_LEFT_LEAVES. What is held at the end is given back in the trace, in as many steps,
+   and counted: LDR_LEFT_KEPT. */
+void ldr_enter(struct ldr_task *task, unsigned irq);
+void ldr_leave(struct ldr_task *task);
+
+/* The task, or the interrupt that it is in, turns interrupts of this kind off and on. Leaving an interrupt restores those
+   outside by itself. What is so already isn't written. Counted instead: LDR_LEFT_FLAGS. */
+void ldr_off(struct ldr_task *task, unsigned irq);
+void ldr_on_at(struct ldr_task *task, unsigned irq, const char *place, const char *function);
+#define ldr_on(task, irq) ldr_on_at(task, irq, LDR_HERE)
+
+/* Whether the task holds nothing, is in no interrupt and has interrupts on: then its trace may be ended and another one
+   begun, which together say the same as one. */
+bool ldr_is_at_rest(const struct ldr_task *task);
+
+/* Puts what is in the buffers, as for a task that hangs; nothing during a call for this task. */
+void ldr_flush(struct ldr_task *task);
+
+/* Ends the trace: puts what is in the buffers, and behind the places the counts that aren't 0, as lines `COUNT left a` for
+   the first reason, `COUNT left b` for the next one and so on, and the line `EVENTS end`. Locks may be held. */
+void ldr_end(struct ldr_task *task);
+
+#else
+
+#define ldr_begin(task, buffer, size, put, cookie) 0
+#define ldr_places(task, buffer, size, put, cookie) ((void)0)
+#define ldr_acquire_at(...) ((void)0)
+#define ldr_acquire(task, name, sub, mode) ((void)0)
+#define ldr_release(task, name, sub) ((void)0)
+#define ldr_enter(task, irq) ((void)0)
+#define ldr_leave(task) ((void)0)
+#define ldr_off(task, irq) ((void)0)
+#define ldr_on_at(...) ((void)0)
+#define ldr_on(task, irq) ((void)0)
+#define ldr_is_at_rest(task) false
+#define ldr_flush(task) ((void)0)
+#define ldr_end(task) ((void)0)
+
+#endif
+
+/* ---- The code. */
+#if defined LOCKDEP_RECORD_CODE && !defined LDR_NOTHING
+
+/* Keeps the compiler from moving memory accesses over an interrupt's, and from making a call of the C library's of a loop. */
+#if defined __GNUC__
+#define LDR_FENCE() __asm__ volatile("" ::: "memory")
+#elif defined __cplusplus
+} /* extern "C" */
+#include <atomic>
+extern "C" {
+#define LDR_FENCE() std::atomic_signal_fence(std::memory_order_seq_cst)
+#else
+#include <stdatomic.h>
+#define LDR_FENCE() atomic_signal_fence(memory_order_seq_cst)
+#endif
+
+/* ---- Bytes. */
+
+/* Adds a text, up to an end; NULL is none. */
+static char *ldr_text(char *to, const char *text, const char *end) {
+    while (*text && to != end)
+        *to++ = *text++;
+    return to;
+}
+
+/* Puts what is in a stream's buffer, if it isn't refused. */
+static void ldr_put_all(struct ldr_stream *stream) {
+    uint32_t used = stream->used;
+    stream->used = 0;
+    if (used > 0 && stream->put && stream->put(stream->cookie, stream->bytes, used) != 0)
+        stream->put = NULL;
+}
+
+/* ---- Records. */
+
+/* Puts the records that are in the buffer. If they are refused, the trace has ended. */
+static void ldr_put_trace(struct ldr_task *task) {
+    ldr_put_all(&task->trace);
+    if (!task->trace.put && task->waiting > 0) {
+        task->ended = LDR_LEFT_PUTS;
+        task->left[LDR_LEFT_PUTS] += task->waiting;
+    }
+    task->waiting = 0;
+}
+
+/* Begins a record with its word. Returns where it goes on; NULL if the trace has ended, or ends here. */
+static char *ldr_record(struct ldr_task *task, const char *word) {
+    if (task->trace.size - task->trace.used < LDR_ROOM)
+        ldr_put_trace(task);
+    if (task->events == LDR_EVENTS)
+        task->ended = LDR_LEFT_EVENTS;
+    if (task->ended == LDR_REASONS)
+        return ldr_text(task->trace.bytes + task->trace.used, word, NULL);
+    task->left[task->ended]++;
+    return NULL;
+}
+
+static void ldr_record_ends(struct ldr_task *task, char *end) {
+    *end++ = '\n';
+    task->trace.used = (uint32_t)(end - task->trace.bytes);
+    task->events++;
+    task->waiting++;
+}
+
+/* Adds a name, a comma and a subclass. A name with a comma or a quote in it is begun again, between quotes. Returns NULL
+   if the format has no such name or subclass. */
+static char *ldr_key(char *to, const char *name, unsigned sub) {
+    const char *start = to;
+    unsigned length = 0, quotes = 0;
+    while (name && name[length]) {
+        char byte = name[length++];
+        if (byte < 0x21 || byte > 0x7e || length > LDR_NAME)
+            return NULL;
+        if ((byte == ',' || byte == '"') && quotes == 0) {
+            to -= length - 1;
+            length = 0;
+            quotes = 1;
+            byte = '"';
+        } else if (byte == '"') {
+            *to++ = '"';
+        }
+        *to++ = byte;
+    }
+    if (to == start || sub > 7)
+        return NULL;
+    if (quotes > 0)
+        *to++ = '"';
+    *to++ = ',';
+    *to++ = (char)('0' + sub);
+    return to;
+}
+
+/* Writes a record for each of these irqs, a softirq's first. Returns whether all were written. */
+static bool ldr_irqs(struct ldr_task *task, const char *word, unsigned irqs) {
+    for (unsigned irq = LDR_SOFTIRQ; irq <= LDR_HARDIRQ; irq++)
+        if (irqs & irq) {
+            char *to = ldr_record(task, word);
+            if (!to)
+                return false;
+            ldr_record_ends(task, ldr_text(to, irq == LDR_HARDIRQ ? "hardirq" : "softirq", NULL));
+        }
+    return true;
+}
+
+/* ---- Places. */
+
+/* Writes a line `NUMBER TEXT WORD`. If it doesn't fit behind others, it is written once those were put. */
+static void ldr_line(struct ldr_task *task, uint32_t number, const char *text, const char *word) {
+    struct ldr_stream *places = &task->places;
+    char digits[12], *first = &digits[11];
+    if (!places->size)
+        return;
+    *first = 0;
+    *--first = ' ';
+    do
+        *--first = (char)('0' + number % 10);
+    while ((number /= 10) > 0);
+    for (unsigned turn = 0; turn < 2 && places->put; turn++) {
+        const char *end = places->bytes + places->size;
+        char *to = ldr_text(ldr_text(places->bytes + places->used, first, end), text, end);
+        to = ldr_text(ldr_text(to, " ", end), word, end);
+        if (to != end) {
+            *to++ = '\n';
+            places->used = (uint32_t)(to - places->bytes);
+            return;
+        }
+        ldr_put_all(places);
+    }
+    task->left[LDR_LEFT_PLACES]++;
+}
+
+/* ---- Calls. */
+
+/* Whether a call is left out, since the trace has ended or it is part of an interrupt that is left out. Else it begins.
+   `entered` is 1 if it enters an interrupt and -1 if it leaves one. */
+static bool ldr_is_out(struct ldr_task *task, int entered) {
+    uint32_t skipped = task->skipped;
+    unsigned reason = task->ended;
+    if (task->is_inside || skipped > 0) {
+        reason = LDR_LEFT_INTERRUPTS;
+        if (entered > 0 || skipped > 0)
+            task->skipped = skipped + (uint32_t)entered;
+    }
+    if (reason == LDR_REASONS) {
+        task->is_inside = 1;
+        LDR_FENCE();
+        return false;
+    }
+    task->left[reason]++;
+    return true;
+}
+
+static void ldr_is_done(struct ldr_task *task) {
+    LDR_FENCE();
+    task->is_inside = 0;
+}
+
+int ldr_begin(struct ldr_task *task, char *buffer, size_t size, ldr_put *put, void *cookie) {
+    for (size_t i = 0; i < sizeof *task; i++) {
+        ((char *)task)[i] = 0;
+        LDR_FENCE();
+    }
+    task->trace.bytes = buffer;
+    task->trace.size = (uint32_t)size;
+    task->trace.put = put;
+    task->trace.cookie = cookie;
+    task->frame = task->frames;
+    task->ended = LDR_LEFT_PUTS;
+    if (task->trace.size < LDR_ROOM)
+        return -1;
+    task->ended = LDR_REASONS;
+    task->trace.used = (uint32_t)(ldr_text(buffer, "lockdep,2\n", NULL) - buffer);
+    return 0;
+}
+
+void ldr_places(struct ldr_task *task, char *buffer, size_t size, ldr_put *put, void *cookie) {
+    task->places.bytes = buffer;
+    task->places.size = (uint32_t)size;
+    task->places.put = put;
+    task->places.cookie = cookie;
+}
+
+/* Writes an acquisition if the format can say it. Returns whether it was written. */
+static bool ldr_take(struct ldr_task *task, const char *name, unsigned sub, unsigned mode) {
+    if (task->held == LDR_HELD) {
+        task->left[LDR_LEFT_HELD]++;
+        return false;
+    }
+    char *to = ldr_record(task, "acq,");
+    if (!to)
+        return false;
+    if (mode > (LDR_RR | LDR_TRY) || mode == (LDR_R | LDR_RR) || !(to = ldr_key(to, name, sub))) {
+        task->left[LDR_LEFT_WORDS]++;
+        return false;
+    }
+    *to++ = ',';
+    if (mode & LDR_TRY)
+        *to++ = 't';
+    if (mode & LDR_RR)
+        *to++ = 'r';
+    *to++ = mode & (LDR_R | LDR_RR) ? 'r' : 'w';
+    ldr_record_ends(task, to);
+    task->locks[task->held].name = name;
+    task->locks[task->held++].sub = sub;
+    return true;
+}
+
+void ldr_acquire_at(struct ldr_task *task, const char *name, unsigned sub, unsigned mode, const char *place,
+                    const char *function) {
+    if (ldr_is_out(task, 0))
+        return;
+    if (ldr_take(task, name, sub, mode))
+        ldr_line(task, task->events + 1, place, function);
+    ldr_is_done(task);
+}
+
+static bool ldr_is_same(const char *one, const char *other) {
+    for (; one != other; one++, other++) {
+        if (*one != *other)
+            return false;
+        if (!*one)
+            break;
+    }
+    return true;
+}
+
+/* Writes the release of the lock in a place of those that are held, and takes it out. Returns whether it was written. */
+static bool ldr_give(struct ldr_task *task, unsigned place) {
+    char *to = ldr_record(task, "rel,");
+    if (to)
+        to = ldr_key(to, task->locks[place].name, task->locks[place].sub);
+    if (!to)
+        return false;
+    ldr_record_ends(task, to);
+    task->held--;
+    for (; place < task->held; place++) {
+        task->locks[place] = task->locks[place + 1];
+        LDR_FENCE();
+    }
+    return true;
+}
+
+void ldr_release(struct ldr_task *task, const char *name, unsigned sub) {
+    if (ldr_is_out(task, 0))
+        return;
+    unsigned base = task->frame->base, place = task->held;
+    bool is_found = false;
+    while (name && !is_found && place > base) {
+        const struct ldr_lock *lock = &task->locks[--place];
+        is_found = lock->sub == sub && ldr_is_same(lock->name, name);
+    }
+    if (is_found)
+        ldr_give(task, place);
+    else
+        task->left[LDR_LEFT_RELEASES]++;
+    ldr_is_done(task);
+}
+
+/* Which irqs are off, outside a frame, that have to be on for it to begin. */
+static unsigned ldr_closed(const struct ldr_frame *frame) {
+    return frame[-1].off & (frame->irq | LDR_HARDIRQ);
+}
+
+/* Writes an interrupt's coming in, after turning on what has to be on. */
+static void ldr_open(struct ldr_task *task, unsigned irq) {
+    struct ldr_frame *frame = task->frame + 1;
+    frame->irq = irq;
+    frame->off = irq | LDR_SOFTIRQ; /* a hardirq has both off */
+    frame->base = task->held;
+    unsigned closed = ldr_closed(frame);
+    if (closed)
+        task->left[LDR_OPENED]++;
+    if (ldr_irqs(task, "on,", closed) && ldr_irqs(task, "enter,", irq))
+        task->frame = frame;
+}
+
+void ldr_enter(struct ldr_task *task, unsigned irq) {
+    if (ldr_is_out(task, 1))
+        return;
+    if (irq > task->frame->irq && irq <= LDR_HARDIRQ) {
+        ldr_open(task, irq);
+    } else {
+        task->left[LDR_LEFT_INTERRUPTS]++;
+        task->skipped = 1;
+    }
+    ldr_is_done(task);
+}
+
+/* Writes an interrupt's end: before it what it still holds, and after it what is to be off again. */
+static void ldr_close(struct ldr_task *task) {
+    while (task->held > task->frame->base) {
+        if (!ldr_give(task, task->held - 1))
+            return;
+        task->left[LDR_LEFT_KEPT]++;
+    }
+    char *to = ldr_record(task, "leave");
+    if (!to)
+        return;
+    ldr_record_ends(task, to);
+    ldr_irqs(task, "off,", ldr_closed(task->frame--));
+}
+
+void ldr_leave(struct ldr_task *task) {
+    if (ldr_is_out(task, -1))
+        return;
+    if (task->frame->irq)
+        ldr_close(task);
+    else
+        task->left[LDR_LEFT_LEAVES]++;
+    ldr_is_done(task);
+}
+
+/* Turns a flag. What is so already isn't written. Returns whether it was written. */
+static bool ldr_turn(struct ldr_task *task, const char *word, unsigned irq, unsigned off) {
+    struct ldr_frame *frame = task->frame;
+    if ((frame->off & irq) == off)
+        return false;
+    if (irq <= frame->irq || irq > LDR_HARDIRQ) {
+        task->left[LDR_LEFT_FLAGS]++;
+        return false;
+    }
+    frame->off ^= irq;
+    return ldr_irqs(task, word, irq);
+}
+
+void ldr_off(struct ldr_task *task, unsigned irq) {
+    if (ldr_is_out(task, 0))
+        return;
+    ldr_turn(task, "off,", irq, irq);
+    ldr_is_done(task);
+}
+
+void ldr_on_at(struct ldr_task *task, unsigned irq, const char *place, const char *function) {
+    if (ldr_is_out(task, 0))
+        return;
+    if (ldr_turn(task, "on,", irq, 0))
+        ldr_line(task, task->events + 1, place, function);
+    ldr_is_done(task);
+}
+
+bool ldr_is_at_rest(const struct ldr_task *task) {
+    return (task->skipped | task->held | task->frame->off) == 0; /* in an interrupt softirqs are off */
+}
+
+void ldr_flush(struct ldr_task *task) {
+    if (task->is_inside)
+        return;
+    task->is_inside = 1;
+    LDR_FENCE();
+    ldr_put_trace(task);
+    ldr_put_all(&task->places);
+    ldr_is_done(task);
+}
+
+void ldr_end(struct ldr_task *task) {
+    task->ended = LDR_LEFT_PUTS;
+    LDR_FENCE();
+    ldr_put_trace(task);
+    for (unsigned reason = 0; reason < LDR_REASONS; reason++) {
+        char letter[2] = {(char)('a' + reason), 0};
+        if (task->left[reason] > 0)
+            ldr_line(task, task->left[reason], "left", letter);
+    }
+    ldr_line(task, task->events, "end", "");
+    ldr_put_all(&task->places);
+}
+
+#endif
+
+#ifdef __cplusplus
+} /* extern "C" */
+#endif
+
+#endif

@@ -1,0 +1,125 @@
+/* Programs that the program starts: which, how often, and whether this library goes along with them. `record` looks at their files at the
+   end, since one that is linked statically or that gets other rights isn't recorded. Nothing of what is started is changed. */
+#include "own.h"
+
+#include <errno.h>
+#include <spawn.h>
+#include <stdarg.h>
+#include <string.h>
+#include <unistd.h>
+
+#define REALS(X) X(execve) X(execv) X(execvp) X(execvpe) X(posix_spawn) X(posix_spawnp)
+#define DECLARE(name) static __typeof__(&name) real_##name;
+REALS(DECLARE)
+
+#define FIND(name) STORE(&real_##name, (__typeof__(&name))find_next(#name));
+static void find_reals(void) {
+    if (RARELY(!LOAD(&real_posix_spawnp))) {
+        REALS(FIND)
+    }
+}
+
+__attribute__((constructor)) static void at_start(void) { find_reals(); }
+
+/* ---- Which program. */
+
+static bool has(char *const *environment, const char *name, const char *text) {
+    size_t length = strlen(name);
+    for (; environment && *environment; environment++)
+        if (strncmp(*environment, name, length) == 0 && strstr(*environment + length, text))
+            return true;
+    return false;
+}
+
+static bool goes_along(char *const *environment) {
+    return has(environment, "LD_PRELOAD=", "preload.so") && has(environment, "LOCKDEP_RECORD=", "/");
+}
+
+static uint64_t key_of(const char *path, bool is_along) {
+    uint64_t key = is_along;
+    for (; *path; path++)
+        key = mixed(key + (uint8_t)*path);
+    return key;
+}
+
+static uint32_t define_program(const char *path, bool is_along) {
+    uint32_t number = take_part(RAW_PROGRAMS);
+    if (!number)
+        return 0;
+    struct raw_program *program = part_of(RAW_PROGRAMS, number);
+    strncpy(program->path, path, RAW_PATH);
+    STORE(&program->state, is_along ? PROGRAM_ALONG : PROGRAM_ALONE);
+    return number;
+}
+
+static struct names programs;
+
+/* Counts a start; `by` is -1 if it has failed. */
+static void count_start(const char *path, char *const *environment, uint64_t by) {
+    if (!arena || !path)
+        return;
+    bool is_along = goes_along(environment);
+    uint32_t *slot = added_slot(&programs, key_of(path, is_along)), number = slot ? LOAD(slot) : 0, none = 0;
+    if (slot && !number) {
+        number = define_program(path, is_along);
+        if (number && !SWAP(slot, &none, number))
+            number = none;
+    }
+    if (number)
+        ADD(&((struct raw_program *)part_of(RAW_PROGRAMS, number))->starts, by);
+}
+
+#define FAILED ((uint64_t)-1)
+
+/* ---- Starting. A call that succeeds doesn't return, but for posix_spawn. */
+
+#define STARTING(name, parameters, arguments, environment)                                                             \
+    EXPORT int name parameters {                                                                                       \
+        find_reals();                                                                                                  \
+        count_start(path, environment, 1);                                                                             \
+        int answer = real_##name arguments, saved = errno;                                                             \
+        if (answer != 0)                                                                                               \
+            count_start(path, environment, FAILED);                                                                    \
+        errno = saved;                                                                                                 \
+        return answer;                                                                                                 \
+    }
+
+STARTING(execve, (const char *path, char *const words[], char *const with[]), (path, words, with), with)
+STARTING(execv, (const char *path, char *const words[]), (path, words), environ)
+STARTING(execvp, (const char *path, char *const words[]), (path, words), environ)
+STARTING(execvpe, (const char *path, char *const words[], char *const with[]), (path, words, with), with)
+STARTING(posix_spawn,
+         (pid_t * process, const char *path, const posix_spawn_file_actions_t *files, const posix_spawnattr_t *how,
+          char *const words[], char *const with[]),
+         (process, path, files, how, words, with), with)
+STARTING(posix_spawnp,
+         (pid_t * process, const char *path, const posix_spawn_file_actions_t *files, const posix_spawnattr_t *how,
+          char *const words[], char *const with[]),
+         (process, path, files, how, words, with), with)
+
+/* The forms whose words are arguments, up to a null pointer; the environment may follow that. */
+static size_t count_words(va_list words) {
+    size_t count = 1;
+    while (va_arg(words, char *))
+        count++;
+    return count;
+}
+
+#define LISTING(name, start, environment)                                                                              \
+    EXPORT int name(const char *path, const char *word, ...) {                                                         \
+        va_list list;                                                                                                  \
+        va_start(list, word);                                                                                          \
+        char *words[(word ? count_words(list) : 0) + 1];                                                               \
+        va_end(list);                                                                                                  \
+        va_start(list, word);                                                                                          \
+        words[0] = (char *)word;                                                                                       \
+        for (size_t i = 0; words[i]; i++)                                                                              \
+            words[i + 1] = va_arg(list, char *);                                                                       \
+        char *const *with = environment;                                                                               \
+        va_end(list);                                                                                                  \
+        return start;                                                                                                  \
+    }
+
+LISTING(execl, execve(path, words, with), environ)
+LISTING(execle, execve(path, words, with), va_arg(list, char *const *))
+LISTING(execlp, execvpe(path, words, with), environ)

@@ -1,0 +1,437 @@
+"""What takes the place of a program's locks: each does what the real one does, and says so to `recording`.
+
+What is here looks like the real thing to a program: names, texts, errors. Locks that only serve inside `threading` and the import
+system, as those of an Event, stay as they are."""
+import _thread
+import atexit
+import os
+import sys
+import threading
+from importlib import _bootstrap
+
+from . import recording
+from .recording import TRY, WRITE, Lock as Record, failed_try, gave, getframe, grant, made_at, not_granted, took, wish
+
+# How long a lock is waited for before that is written, in seconds. Who is in a deadlock waits longer.
+PATIENCE = 0.05
+
+allocate, RealRLock = _thread.allocate_lock, _thread.RLock
+of_threading, of_imports = vars(threading), vars(_bootstrap)
+of_condition = threading.Condition.__init__.__code__
+
+
+def keep(record, mode, release):
+    """A lock was taken: if that can't be noted, as since a signal's handler has raised an error, it is given back."""
+    try:
+        took(record, mode)
+    except BaseException:
+        release()
+        raise
+    return True
+
+
+def take(record, inner, blocking, timeout):
+    """Takes a lock that has to be waited for, or that isn't to be waited for. Errors of its words are the real method's."""
+    if not blocking or not isinstance(timeout, (int, float)) or not (timeout == -1 or 0 < timeout <= _thread.TIMEOUT_MAX):
+        if inner.acquire(blocking, timeout):
+            return keep(record, TRY, inner.release)
+        failed_try(record)
+        return False
+    if inner.acquire(False):
+        return keep(record, WRITE, inner.release)
+    return wait_for(record, inner.acquire, inner.release, timeout)
+
+
+def wait_for(record, acquire, release, timeout):
+    """Waits for a lock that isn't free, by its real method."""
+    if acquire(True, PATIENCE if timeout < 0 else min(PATIENCE, timeout)):
+        return keep(record, WRITE, release)
+    if 0 <= timeout <= PATIENCE:
+        return False
+    wish(record)
+    is_taken = False
+    try:
+        is_taken = acquire(True, timeout - PATIENCE if timeout >= 0 else timeout)
+    finally:
+        if not is_taken:
+            not_granted(record)
+    if not is_taken or grant(record):
+        return is_taken
+    return keep(record, WRITE, release)
+
+
+def is_own_use(frame):
+    """Whether a lock is made here for `threading` itself or for the import system."""
+    if frame is None:
+        return False
+    return frame.f_globals is of_imports or (frame.f_globals is of_threading and frame.f_code is not of_condition)
+
+
+class Replaced:
+    """What the locks of threads have in common: the real one, and what is known of it."""
+
+    __slots__ = ("inner", "record", "__weakref__")
+
+    def locked(self):
+        return self.inner.locked()
+
+    def __repr__(self):
+        return repr(self.inner)
+
+    def __reduce_ex__(self, protocol):
+        raise TypeError("cannot pickle %r object" % ("_thread." + type(self).__name__))
+
+    def __getattr__(self, name):
+        return getattr(self.inner, name)
+
+
+class lock(Replaced):
+    """In place of `threading.Lock`."""
+
+    __slots__ = ()
+
+    def __new__(cls):
+        frame = getframe(0).f_back
+        inner = allocate()
+        if is_own_use(frame):
+            return inner
+        self = object.__new__(cls)
+        self.inner, self.record = inner, Record(made_at(frame, "Lock"))
+        return self
+
+    def acquire(self, blocking=True, timeout=-1):
+        inner = self.inner
+        if timeout == -1 and inner.acquire(False):
+            try:
+                took(self.record, WRITE if blocking else TRY)
+            except BaseException:
+                inner.release()
+                raise
+            return True
+        return take(self.record, inner, blocking, timeout)
+
+    def __enter__(self):
+        inner = self.inner
+        if inner.acquire(False):
+            try:
+                took(self.record, WRITE)
+            except BaseException:
+                inner.release()
+                raise
+            return True
+        return wait_for(self.record, inner.acquire, inner.release, -1)
+
+    def release(self):
+        inner = self.inner
+        try:
+            gave(self.record, inner)
+        finally:
+            inner.release()
+
+    def __exit__(self, kind, value, trace):
+        inner = self.inner
+        try:
+            gave(self.record, inner)
+        finally:
+            inner.release()
+
+    acquire_lock, release_lock = acquire, release
+
+    def locked_lock(self):
+        return self.inner.locked()
+
+    def _is_owned(self):
+        return self.inner.locked()
+
+    def _at_fork_reinit(self):
+        if self.record.entry is not None:
+            gave(self.record, None)
+        self.inner._at_fork_reinit()
+
+
+class RLock(Replaced):
+    """In place of `threading.RLock`: what its holder takes again is one acquisition."""
+
+    __slots__ = ("levels",)
+
+    def __new__(cls, *words, **named):
+        frame = getframe(0).f_back
+        inner = RealRLock()
+        if is_own_use(frame):
+            return inner
+        self = object.__new__(cls)
+        self.inner, self.record, self.levels = inner, Record(made_at(frame, "RLock")), 0
+        return self
+
+    def acquire(self, blocking=True, timeout=-1):
+        inner = self.inner
+        if timeout == -1 and inner.acquire(False):
+            levels = self.levels = self.levels + 1
+            if levels == 1:
+                try:
+                    took(self.record, WRITE if blocking else TRY)
+                except BaseException:
+                    self.levels = 0
+                    inner.release()
+                    raise
+            return True
+        if inner._is_owned():
+            is_taken = inner.acquire(blocking, timeout)
+            self.levels += is_taken
+            return is_taken
+        is_taken = take(self.record, inner, blocking, timeout)
+        if is_taken:
+            self.levels = 1
+        return is_taken
+
+    __enter__ = acquire
+
+    def release(self):
+        try:
+            if self.levels == 1 and self.inner._is_owned():
+                self.levels = 0
+                gave(self.record, None)
+            elif self.inner._is_owned():
+                self.levels -= 1
+        finally:
+            self.inner.release()
+
+    def __exit__(self, kind, value, trace):
+        try:
+            if self.levels == 1 and self.inner._is_owned():
+                self.levels = 0
+                gave(self.record, None)
+            elif self.inner._is_owned():
+                self.levels -= 1
+        finally:
+            self.inner.release()
+
+    def _is_owned(self):
+        return self.inner._is_owned()
+
+    def _release_save(self):
+        levels = self.levels
+        if self.inner._is_owned():
+            self.levels = 0
+            gave(self.record, None)
+        return levels, self.inner._release_save()
+
+    def _acquire_restore(self, state):
+        levels, real = state
+        inner = self.inner
+        is_granted = False
+        if inner.acquire(False):
+            for _ in range(levels - 1):
+                inner.acquire()
+        else:
+            wish(self.record, False)
+            inner._acquire_restore(real)
+            is_granted = grant(self.record)
+        self.levels = levels
+        if not is_granted:
+            took(self.record, WRITE)
+
+    def _at_fork_reinit(self):
+        if self.record.entry is not None:
+            gave(self.record, None)
+        self.levels = 0
+        self.inner._at_fork_reinit()
+
+
+# ---- Semaphores of value 1, which are locks. Those of other values stay as they are.
+
+class Taken:
+    """Stands for a semaphore that somebody holds."""
+
+    @staticmethod
+    def locked():
+        return True
+
+
+def replace_semaphores():
+    """Notes what is done with semaphores of value 1, in their own classes."""
+    real = threading.Semaphore
+    make, real_acquire = real.__init__, real.acquire
+
+    def __init__(self, value=1):
+        make(self, value)
+        if value == 1:
+            self._lockdep_record = Record(made_at(getframe(0).f_back, "Semaphore"))
+
+    def acquire(self, blocking=True, timeout=None):
+        record = vars(self).get("_lockdep_record")
+        if record is None:
+            return real_acquire(self, blocking, timeout)
+
+        def acquire_really(blocking, timeout=-1):
+            return real_acquire(self, blocking, timeout if timeout != -1 else None)
+
+        if not blocking or (timeout is not None and timeout <= 0):
+            if not real_acquire(self, blocking, timeout):
+                failed_try(record)
+                return False
+            return keep(record, TRY, self.release)
+        if acquire_really(False):
+            return keep(record, WRITE, self.release)
+        return wait_for(record, acquire_really, self.release, -1 if timeout is None else timeout)
+
+    def noting(real_release):
+        def release(self, n=1):
+            record = vars(self).get("_lockdep_record")
+            if record is not None and n == 1:
+                gave(record, Taken if self._value == 0 else None)
+            real_release(self, n)
+        return release
+
+    put_in_place(real, __init__, acquire)
+    real.__enter__ = acquire
+    real.release = noting(real.release)
+    threading.BoundedSemaphore.release = noting(threading.BoundedSemaphore.release)
+
+
+# ---- The locks of asyncio.
+
+def find_task_first(loop):
+    """The task that runs, when this is asked for the first time: then all of asyncio is loaded."""
+    recording.find_task = sys.modules["asyncio.tasks"].current_task
+    return recording.find_task(loop)
+
+
+def replace_asyncio(module):
+    """Notes what is done with the locks of `asyncio.locks`, in their own class."""
+    recording.find_task = find_task_first
+    recording.find_loop = sys.modules["asyncio.events"]._get_running_loop
+    real = module.Lock
+    make, real_acquire, real_release = real.__init__, real.acquire, real.release
+
+    def __init__(self, *words, **named):
+        make(self, *words, **named)
+        self._lockdep_record = Record(made_at(getframe(0).f_back, "asyncio.Lock"))
+
+    async def acquire(self):
+        record = self._lockdep_record
+        if not self._locked and not self._waiters:
+            self._locked = True
+            took(record, WRITE)
+            return True
+        if not self._locked:
+            is_taken = await real_acquire(self)
+            took(record, WRITE)
+            return is_taken
+        wish(record, False)
+        is_taken = False
+        try:
+            is_taken = await real_acquire(self)
+        finally:
+            if not is_taken:
+                not_granted(record)
+        if not grant(record):
+            took(record, WRITE)
+        return is_taken
+
+    def release(self):
+        gave(self._lockdep_record, self)
+        real_release(self)
+
+    put_in_place(real, __init__, acquire, release)
+
+
+def put_in_place(real, *functions):
+    """Puts functions into a class, by their names, and as the ones that were there are called."""
+    for own in functions:
+        own.__qualname__ = real.__name__ + "." + own.__name__
+        own.__doc__ = getattr(real, own.__name__).__doc__
+        setattr(real, own.__name__, own)
+
+
+class Finder:
+    """Waits for `asyncio.locks` to be loaded, and is gone then."""
+
+    @staticmethod
+    def find_spec(name, path=None, target=None):
+        if name != "asyncio.locks":
+            return None
+        sys.meta_path.remove(Finder)
+        spec = _bootstrap._find_spec(name, path, target)
+        run = spec.loader.exec_module
+
+        def exec_module(module):
+            del spec.loader.exec_module
+            run(module)
+            replace_asyncio(module)
+        spec.loader.exec_module = exec_module
+        return spec
+
+
+# ---- The beginning.
+
+def replace_everywhere(old, new):
+    """Modules that were loaded before have the real functions by their own names."""
+    for name, module in list(sys.modules.items()):
+        if name in ("threading", "_thread", __name__, recording.__name__) or module is _bootstrap:
+            continue
+        for own, value in list(vars(module).items()):
+            if value is old:
+                setattr(module, own, new)
+
+
+def replace_locks():
+    """Takes the place of the functions that make locks."""
+    real_lock, real_rlock = threading.Lock, threading.RLock
+    threading.Lock = _thread.allocate_lock = _thread.allocate = lock
+    threading.RLock = _thread.RLock = RLock
+    for old, new in ((real_lock, lock), (allocate, lock), (real_rlock, RLock), (RealRLock, RLock)):
+        replace_everywhere(old, new)
+    replace_semaphores()
+
+
+def replace_exit():
+    """A process that ends by `os._exit` writes what is left first."""
+    real_exit = os._exit
+
+    def _exit(status):
+        try:
+            recording.end_process()
+        finally:
+            real_exit(status)
+    os._exit = _exit
+
+
+def hide(error):
+    """Takes the functions of this file out of the trace of an error, and of those that led to it."""
+    known = set()
+    while error is not None and error not in known:
+        known.add(error)
+        trace = error.__traceback__
+        while trace is not None and trace.tb_next is not None:
+            while trace.tb_next is not None and trace.tb_next.tb_frame.f_code.co_filename == __file__:
+                trace.tb_next = trace.tb_next.tb_next
+            trace = trace.tb_next
+        error = error.__cause__ or error.__context__
+
+
+def replace_hooks():
+    """What is printed of an error that nobody caught has nothing of this file."""
+    real_hook, real_thread_hook = sys.excepthook, threading.excepthook
+
+    def excepthook(kind, value, trace):
+        hide(value)
+        real_hook(kind, value, trace)
+
+    def thread_excepthook(words):
+        hide(words.exc_value)
+        real_thread_hook(words)
+    sys.excepthook, threading.excepthook = excepthook, thread_excepthook
+
+
+def begin(folder):
+    """Records this process from here on."""
+    recording.is_typed = getattr(sys, "argv", [])[:1] == ["-c"]
+    recording.begin_process(folder)
+    replace_hooks()
+    for each in (lock, RLock):
+        each.__module__ = "_thread"
+    replace_locks()
+    replace_exit()
+    sys.meta_path.insert(0, Finder)
+    atexit.register(recording.end_process)

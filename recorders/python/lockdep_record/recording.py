@@ -1,0 +1,761 @@
+"""What the tasks of this process do with locks: their records, which are written to a file of the process.
+
+A task is a thread, or a task of asyncio. Records are left out by the rule of docs/RECORDING.md: a stretch that comes back to the
+locks that were held at its start, and takes nothing in a way in which its task hadn't taken it before, is taken back. A way is
+the locks that are held and the new one, in their order; it is a node of a tree, which each task has for itself.
+
+What no task of the process had done before is written at once, so that nothing is missing if a signal ends the process. The file
+is opened for each writing, so that the program has no file open that it doesn't know of. Its lines:
+
+    C class name place kind      K key class number     P place text        a class, a lock, where a record comes from
+    A task code place            R task code place      records: an acquisition, a release. A code is 4 * key + a mode
+    W task                       G task                 the last record is waited for; it was taken
+    B task count                 M task record code     only so many records stay; a record has another lock
+    E task                                              the task has ended
+    S name count                                        what was counted so far"""
+import os
+import sys
+os.register_at_fork(after_in_child=lambda: begin_in_child())  # before that of threading
+import threading  # noqa: E402
+from _thread import allocate_lock
+from itertools import count as counting
+from time import time_ns
+
+WRITE, TRY, RELEASE = 0, 1, 2
+MOST_HELD, MOST_EVENTS, MOST_APART, MOST_ALIKE = 48, 1000000 - 2 * 48, 32, 32
+
+getframe = sys._getframe
+here = threading.local()
+find_loop = find_task = None  # of asyncio, once it is loaded
+
+
+# ---- Where something is in the source.
+
+PLAIN, LIBRARY, PASSED = 0, 1, 2
+own_folder = os.path.dirname(os.path.abspath(__file__))
+library_folder = os.path.dirname(os.path.abspath(os.__file__)) + os.sep
+passed_files = [threading.__file__, library_folder + os.path.join("asyncio", "locks.py"),
+                library_folder + os.path.join("asyncio", "mixins.py")]
+kinds, known_plain, known_passed = {}, set(), set()
+
+
+def kind_of(name):
+    """Whether a file is the program's, the library's, or one that only does what its caller asks for."""
+    if name.startswith((own_folder, "<frozen importlib")) or name in passed_files:
+        kind = PASSED
+    elif name.startswith("<") and name != "<stdin>" and not (name == "<string>" and is_typed):
+        kind = LIBRARY
+    elif name.startswith(library_folder) and "-packages" + os.sep not in name:
+        kind = LIBRARY
+    else:
+        kind = PLAIN
+    kinds[name] = kind
+    if kind != LIBRARY:
+        (known_plain if kind == PLAIN else known_passed).add(name)
+    return kind
+
+
+is_typed = False
+
+
+def chain_of(frame):
+    """The frames of a place, innermost first: up to the first one of the program's, each as its code and instruction."""
+    chain = []
+    while frame is not None and len(chain) < 16:
+        code = frame.f_code
+        name = code.co_filename
+        kind = kinds[name] if name in kinds else kind_of(name)
+        if kind != PASSED:
+            chain.append((code, frame.f_lasti))
+        if kind == PLAIN:
+            break
+        frame = frame.f_back
+    if len(chain) > 2:
+        chain = [chain[0], chain[-1]]
+    return tuple(chain)
+
+
+def line_of(code, instruction):
+    """The line of an instruction."""
+    if hasattr(code, "co_lines"):
+        for start, end, line in code.co_lines():
+            if start <= instruction < end and line is not None:
+                return line
+        return code.co_firstlineno
+    from dis import findlinestarts
+    found = code.co_firstlineno
+    for start, line in findlinestarts(code):
+        if start > instruction:
+            break
+        found = line
+    return found
+
+
+def place_text(chain):
+    """The places of a chain as text, with tabs between them."""
+    return "\t".join("%s:%d %s" % (visible(os.path.abspath(code.co_filename) if code.co_filename[:1] != "<" else code.co_filename),
+                                   line_of(code, at), visible(code.co_name).replace(" ", "_")) for code, at in chain)
+
+
+def visible(text):
+    """A text without characters that would end a line or a field."""
+    return "".join(letter if letter.isprintable() else "?" for letter in text)
+
+
+# ---- Classes and locks.
+
+class Made:
+    """The place where locks were made: a class."""
+
+    __slots__ = ("number", "name", "chain", "kind", "rest", "ordinals")
+
+    def __init__(self, number, name, chain, kind):
+        self.number, self.name, self.chain, self.kind = number, name, chain, kind
+        self.rest, self.ordinals = Key(self, 0), counting(1)
+
+
+class Key:
+    """A lock that is told apart from the others of its class, or all those that aren't."""
+
+    __slots__ = ("number", "made", "ordinal")
+
+    def __init__(self, made, ordinal):
+        self.number, self.made, self.ordinal = next(key_numbers), made, ordinal
+        keys[self.number] = self
+
+
+keys = {}
+key_numbers = counting(1)
+classes = {}
+
+
+def call_number(code, instruction):
+    """Which of the calls of its line an instruction is, from 1."""
+    from dis import get_instructions
+    line, number, is_call = line_of(code, instruction), 0, False
+    for each in get_instructions(code):
+        was_call, is_call = is_call, each.opname.startswith(("CALL", "PRECALL")) and "INTRINSIC" not in each.opname
+        if is_call and not (was_call and each.opname == "CALL") and line_of(code, each.offset) == line:
+            number += 1
+        if each.offset >= instruction:
+            break
+    return max(number, 1)
+
+
+def name_at(frame):
+    """A place as the part of a name: `module.function:line`, and which call of the line if it isn't the first."""
+    code, instruction = frame.f_code, frame.f_lasti
+    module = frame.f_globals.get("__name__") or "?"
+    if module == "__main__":
+        module = os.path.splitext(os.path.basename(code.co_filename))[0]
+    function = function_of(frame)
+    function = "" if function == "<module>" else "." + function
+    number = call_number(code, instruction)
+    return "%s%s:%d%s" % (module, function, line_of(code, instruction), ".%d" % number if number > 1 else "")
+
+
+def function_of(frame):
+    """The function that a frame is in. A comprehension is a part of the function that has it, as it is since Python 3.12."""
+    while frame.f_back is not None and frame.f_code.co_name in ("<listcomp>", "<setcomp>", "<dictcomp>"):
+        frame = frame.f_back
+    return frame.f_code.co_name
+
+
+def made_at(frame, kind):
+    """The class of what is made in this frame."""
+    chain = chain_of(frame)
+    key = key_of(chain)
+    made = classes.get(key)
+    if made is None:
+        name = name_of(frame, chain)
+        with class_lock:
+            made = classes.get(key)
+            if made is None:
+                made = classes[key] = Made(len(classes) + 1, name, chain, kind)
+    return made
+
+
+def key_of(chain):
+    """A chain as a key of a table. (Codes of the same text are equal, whatever file they are of.)"""
+    return tuple((code.co_filename, code.co_firstlineno, code.co_name, at) for code, at in chain)
+
+
+def name_of(frame, chain):
+    """The name of a class, its innermost place first."""
+    names, wanted = [], list(chain)
+    while wanted and frame is not None:
+        if frame.f_code is wanted[0][0] and frame.f_lasti == wanted[0][1]:
+            wanted.pop(0)
+            names.append(name_at(frame))
+        frame = frame.f_back
+    return "~".join(names) or "unknown"
+
+
+class_lock = allocate_lock()
+
+
+class Lock:
+    """What is known of a lock: its class, the lock that it is told to be, and who holds it."""
+
+    __slots__ = ("made", "key", "is_apart", "entry", "spare")
+
+    def __init__(self, made):
+        self.made, self.key, self.is_apart, self.entry, self.spare = made, made.rest.number, False, None, None
+
+
+def tell_apart(lock):
+    """A lock that is nested with others has a name of its own, if not too many of its class have one."""
+    lock.is_apart = True
+    ordinal = next(lock.made.ordinals)
+    if ordinal <= MOST_APART:
+        lock.key = Key(lock.made, ordinal).number
+
+
+# ---- Tasks.
+
+class Way:
+    """The locks that a task holds, as a node of the tree of all that it held. `common` is that of the process."""
+
+    __slots__ = ("after", "common", "is_taken")
+
+    def __init__(self, common):
+        self.after, self.common, self.is_taken = {}, common, False
+
+    def to(self, code):
+        """The way with one more lock."""
+        way = self.after.get(code)
+        if way is None:
+            common = self.common
+            if common is not None:
+                common = common.after.get(code) or common.after.setdefault(code, Way(None))
+            way = self.after[code] = Way(common)
+        return way
+
+
+class Held:
+    """A lock that is held: by which task, in which mode, its record; and the records and the way before its place was taken."""
+
+    __slots__ = ("lock", "task", "code", "record", "start", "before", "is_told")
+
+    def __init__(self, lock):
+        self.lock = lock
+        self.is_told = False  # of what is waited for: whether the file has it
+
+
+class Task:
+    """A thread or a task of asyncio. `base` is how many of its records are in the file already, and `fresh` how many there were
+    when it last did something new."""
+
+    __slots__ = ("number", "held", "way", "records", "base", "fresh", "dropped", "wish", "is_busy", "is_over", "operations",
+                 "repeats", "failed")
+
+    def __init__(self):
+        self.number, self.held, self.way, self.records = 0, [], Way(process.common), []
+        self.base = self.fresh = self.operations = self.repeats = 0
+        self.dropped, self.wish, self.is_busy, self.is_over, self.failed = [], None, False, False, None
+        process.tasks.add(self)
+
+
+class Guard:
+    """Ends a task when the thread or the task of asyncio that has it is gone."""
+
+    __slots__ = ("task",)
+
+    def __init__(self, task):
+        self.task = task
+
+    def __del__(self):
+        try:
+            if self.task in process.tasks:
+                end(self.task)
+        except Exception:  # as at the interpreter's end, when half of it is gone
+            pass
+
+
+def current():
+    """The task that runs: that of asyncio, or else the thread."""
+    if find_loop is not None:
+        loop = find_loop()
+        if loop is not None:
+            running = find_task(loop)
+            if running is not None:
+                try:
+                    return running._lockdep_guard.task
+                except AttributeError:
+                    return begin_coroutine(running)
+    try:
+        return here.task
+    except AttributeError:
+        return begin_thread()
+
+
+def begin_coroutine(running):
+    """A task of asyncio takes its first lock."""
+    task = Task()
+    running._lockdep_guard = Guard(task)
+    return task
+
+
+def begin_thread():
+    """A thread takes its first lock."""
+    here.task = Task()
+    here.guard = Guard(here.task)
+    return here.task
+
+
+# ---- Acquisitions and releases.
+
+def took(lock, mode):
+    """The running task has taken a lock. (This and `gave` are called at each operation, so calls are few in them.)"""
+    try:
+        task = here.task if find_loop is None else current()
+    except AttributeError:
+        task = begin_thread()
+    if task.is_busy:
+        return took_oddly(lock, mode, task)
+    task.is_busy = True
+    try:
+        if task.wish is not None or task.dropped:
+            settle(task)
+        task.operations, task.failed = task.operations + 1, None
+        held, records = task.held, task.records
+        if held:
+            tell_all_apart(held, task, lock)
+        record = task.base + len(records)
+        if len(held) >= MOST_HELD or record >= MOST_EVENTS:
+            leave_out(lock, "full-traces" if len(held) < MOST_HELD else "beyond-held")
+        else:
+            code, before, frame = 4 * lock.key + mode, task.way, getframe(1).f_back
+            if frame is not None and frame.f_code.co_filename in known_passed:
+                frame = frame.f_back
+            if frame is not None and frame.f_code.co_filename in known_plain:
+                records.append((code, frame.f_code, frame.f_lasti))
+            else:
+                records.append((code, chain_of(frame), None))
+            entry = lock.entry = lock.spare or spare_of(lock)
+            entry.task, entry.code, entry.record, entry.start, entry.before = task, code, record, record, before
+            held.append(entry)
+            way = task.way = before.after.get(code) or before.to(code)
+            if not way.is_taken:
+                see(task, way)
+    except BaseException:
+        abandon(task)
+        raise
+    task.is_busy = False
+
+
+def spare_of(lock):
+    """What says who holds a lock, for each time that it is held."""
+    lock.spare = Held(lock)
+    return lock.spare
+
+
+def took_oddly(lock, mode, task):
+    """A lock was taken while its task is looked at, or after its trace has ended: then another one begins."""
+    lock.entry = LEFT_OUT
+    if task.is_over:
+        begin_again(task)
+        took(lock, mode)
+    else:
+        process.counts["reentered"] += 1
+
+
+def begin_again(task):
+    """What runs gets another trace."""
+    loop = find_loop() if find_loop is not None else None
+    running = find_task(loop) if loop is not None else None
+    if running is None:
+        begin_thread()
+    else:
+        begin_coroutine(running)
+
+
+def leave_out(lock, reason):
+    """An acquisition isn't in the trace, so its release isn't either."""
+    lock.entry = LEFT_OUT
+    process.counts[reason] += 1
+
+
+def settle(task):
+    """Looks at what happened to a task since its last operation: others released locks that it held, or a handler interrupted its
+    waiting."""
+    if task.wish is not None:
+        withdraw(task)
+    while task.dropped:
+        entry = task.dropped.pop()
+        if entry in task.held:
+            give_back(task, entry)
+
+
+def see(task, way):
+    """A way is new to the task. If it is to the process too, it is written."""
+    way.is_taken = True
+    task.fresh = task.base + len(task.records)
+    if way.common is not None and not way.common.is_taken:
+        way.common.is_taken = True
+        write(task)
+
+
+def gave(lock, real):
+    """The running task gives a lock back, in a moment. `real` is what knows whether somebody holds it."""
+    try:
+        task = here.task if find_loop is None else current()
+    except AttributeError:
+        task = begin_thread()
+    if task.is_busy:
+        return gave_oddly(lock, real, task)
+    task.is_busy = True
+    try:
+        if task.wish is not None or task.dropped:
+            settle(task)
+        task.operations += 1
+        entry, lock.entry = lock.entry, None
+        if entry is not None and entry.task is task:
+            give_back(task, entry)
+        elif real is not None and real.locked():
+            gave_for_another(lock, entry)
+    except BaseException:
+        abandon(task)
+        raise
+    task.is_busy = False
+
+
+def gave_oddly(lock, real, task):
+    """A lock is given back while its task is looked at, or after its trace has ended."""
+    if task.is_over:
+        begin_again(task)
+        gave(lock, real)
+    else:
+        process.counts["reentered"] += 1
+        gave_for_another(lock, lock.entry)
+        lock.entry = None
+
+
+def gave_for_another(lock, entry):
+    """A lock is given back that another task took: its acquisition ends at that task's next operation."""
+    if entry is not LEFT_OUT:
+        process.counts["unseen-releases"] += 1
+    if entry is not None and not entry.task.is_over:
+        lock.spare = None
+        entry.task.dropped.append(entry)
+
+
+def give_back(task, entry):
+    """A task holds a lock no more. What it did since it took it is taken back, if nothing of it was new."""
+    held = task.held
+    if held[-1] is entry:
+        held.pop()
+        task.way = entry.before
+        start, records = entry.start, task.records
+        if start < task.fresh:
+            records.append((entry.code & ~3 | RELEASE, None, None))
+        else:
+            at = start - task.base
+            if at < 0:
+                put("B %d %d\n" % (task.number, start))
+                task.base, at = start, 0
+            task.repeats += len(records) - at + 1
+            del records[at:]
+    else:
+        give_back_early(task, entry)
+
+
+def give_back_early(task, entry):
+    """A task holds a lock no more, and still holds others that it took later: these move up to its place."""
+    held = task.held
+    at = held.index(entry)
+    for later in range(len(held) - 1, at, -1):
+        held[later].start, held[later].before = held[later - 1].start, held[later - 1].before
+    del held[at]
+    way = entry.before
+    for later in held[at:]:
+        later.before, way = way, way.to(later.code)
+    task.way = way
+    task.records.append((entry.code & ~3 | RELEASE, None, None))
+
+
+def tell_all_apart(held, task, lock):
+    """A lock is taken with others held. All but the first of these were told apart when they were taken."""
+    if len(held) == 1 and (not held[0].lock.is_apart or held[0].code >> 2 != held[0].lock.key):
+        tell_held_apart(task, held[0])
+    if not lock.is_apart:
+        tell_apart(lock)
+
+
+def tell_held_apart(task, entry):
+    """The lock that is held alone gets another one under it: it becomes a lock of its own, and so does its record."""
+    lock = entry.lock
+    if not lock.is_apart:
+        tell_apart(lock)
+    entry.code = 4 * lock.key + (entry.code & 3)
+    at = entry.record - task.base
+    if at >= 0:
+        task.records[at] = (entry.code,) + task.records[at][1:]
+    else:
+        declare(entry.code)
+        put("M %d %d %d\n" % (task.number, entry.record, entry.code))
+    task.way = entry.before.to(entry.code)
+    if not task.way.is_taken:
+        see(task, task.way)
+
+
+def failed_try(lock):
+    """A try failed. One that is made again at once, with others held, is a way of waiting that no trace shows."""
+    task = current()
+    if task.held and task.failed is lock:
+        process.counts["retried-tries"] += 1
+    task.failed = lock
+
+
+# ---- What is waited for.
+
+def wish(lock, is_long=True):
+    """The running task waits for a lock: that is noted before it waits, as if it had taken it. It is written if it waits for long, or
+    if nothing was taken in this way before."""
+    task = current()
+    if task.is_busy or task.wish is not None or not (len(task.held) < MOST_HELD and task.base + len(task.records) < MOST_EVENTS):
+        return
+    task.is_busy = True
+    try:
+        settle(task)
+        if task.held:
+            tell_all_apart(task.held, task, lock)
+        code = 4 * lock.key + WRITE
+        entry = Held(lock)
+        entry.task, entry.code, entry.before = task, code, task.way
+        entry.record = entry.start = task.base + len(task.records)
+        task.way = task.way.to(code)
+        task.records.append((code, chain_of(getframe(1).f_back), None))
+        task.held.append(entry)
+        task.wish = entry
+        common = task.way.common
+        if is_long or (len(task.held) > 1 and common is not None and not common.is_taken):
+            write(task)
+    except BaseException:
+        abandon(task)
+        raise
+    task.is_busy = False
+
+
+def grant(lock):
+    """What the running task waited for is there."""
+    task = current()
+    entry = task.wish
+    if entry is None or entry.lock is not lock or task.is_busy:
+        return False
+    task.wish = None
+    task.operations += 1
+    lock.entry = entry
+    if entry.is_told:
+        put("G %d\n" % task.number)
+    if not task.way.is_taken:
+        see(task, task.way)
+    return True
+
+
+def withdraw(task):
+    """Nothing is left of what was waited for."""
+    entry = task.wish
+    task.wish = None
+    if entry in task.held:
+        task.held.remove(entry)
+        task.way = entry.before
+        if entry.is_told:
+            put("G %d\nB %d %d\n" % (task.number, task.number, entry.start))
+        del task.records[max(0, entry.start - task.base):]
+        task.base = min(task.base, entry.start)
+
+
+def not_granted(lock):
+    """What the running task waited for didn't come."""
+    task = current()
+    if task.wish is not None and task.wish.lock is lock:
+        withdraw(task)
+
+
+# ---- The file.
+
+class Process:
+    """A process, and its file."""
+
+    def __init__(self, folder):
+        self.folder, self.tasks, self.common = folder, set(), Way(None)
+        self.counts = dict.fromkeys(("reentered", "beyond-held", "full-traces", "unseen-releases", "repeats", "retried-tries",
+                                     "interrupted", "alike", "operations"), 0)
+        self.told, self.written, self.like, self.task_count, self.is_off = {}, {}, {}, 0, False
+        self.places, self.place_numbers, self.pid = {}, counting(1), os.getpid()
+        number = 0
+        while os.path.lexists(self.path_of(number)):
+            number += 1
+        self.path = self.path_of(number)
+        put_bytes(self, b"process %d %d\n" % (self.pid, time_ns()))
+        try:
+            os.chmod(self.path, 0o666)  # a program may give up its rights
+        except OSError:
+            self.is_off = True
+
+    def path_of(self, number):
+        return os.path.join(self.folder, "%d-%d" % (self.pid, number))
+
+
+process = None
+LEFT_OUT = None  # what holds a lock whose acquisition isn't in a trace
+
+
+def put_bytes(of, raw):
+    """Adds to the file of a process. Nothing of an error is the program's."""
+    try:
+        file = os.open(of.path, os.O_WRONLY | os.O_APPEND | os.O_CREAT | os.O_CLOEXEC, 0o666)
+        try:
+            while raw:
+                raw = raw[os.write(file, raw):]
+        finally:
+            os.close(file)
+    except OSError:
+        of.is_off = True
+
+
+def put(text):
+    if text and not process.is_off:
+        put_bytes(process, text.encode("utf-8", "replace"))
+
+
+def declare(code):
+    """Writes the lock of a code, and its class, if the file hasn't got them."""
+    key, of = keys[code >> 2], process
+    if key.number not in of.told:
+        made, text = key.made, ""
+        if made not in of.told:
+            place = place_text(made.chain).split("\t")[-1] or "?:0 ?"
+            text = "C %d\t%s\t%s\t%s\n" % (made.number, visible(made.name), place, made.kind)
+        put("%sK %d %d %d\n" % (text, key.number, made.number, key.ordinal))
+        of.told[made] = of.told[key.number] = True  # (once it is written, since something may come in between)
+
+
+def place_number(code, at):
+    """The number of a place, which is written if the file hasn't got it."""
+    if code is None:
+        return 0
+    chain = code if at is None else ((code, at),)
+    key = key_of(chain)
+    of = process
+    number = of.places.get(key)
+    if number is None:
+        number = next(of.place_numbers)
+        put("P %d\t%s\n" % (number, place_text(chain)))
+        of.places[key] = number
+    return number
+
+
+def write(task):
+    """Writes what a task has done."""
+    if not task.number:
+        process.task_count += 1
+        task.number = process.task_count
+    lines = []
+    for code, place, at in task.records:
+        declare(code)
+        lines.append("%s %d %d %d\n" % ("R" if code & 3 == RELEASE else "A", task.number, code, place_number(place, at)))
+    task.base += len(task.records)
+    task.records.clear()
+    if task.wish is not None and not task.wish.is_told:
+        task.wish.is_told = True
+        lines.append("W %d\n" % task.number)
+    count(task)
+    put("".join(lines) + count_lines())
+
+
+def count_lines():
+    """What was counted and has changed."""
+    lines = []
+    for name, number in process.counts.items():
+        if process.written.get(name, 0) != number:
+            process.written[name] = number
+            lines.append("S %s %d\n" % (name, number))
+    return "".join(lines)
+
+
+def count(task):
+    """Adds what a task counted for itself to what the process counts."""
+    process.counts["operations"] += task.operations
+    process.counts["repeats"] += task.repeats
+    task.operations = task.repeats = 0
+
+
+def end(task):
+    """A task has ended. What several tasks did before in just this way isn't written again."""
+    count(task)
+    settle(task)
+    task.is_over = task.is_busy = True
+    process.tasks.discard(task)
+    if not task.number and not task.records:
+        put(count_lines() if process.counts["operations"] >> 12 > process.written.get("operations", 0) >> 12 else "")
+        return
+    if not task.number and not task.held:
+        like = hash(tuple(record[0] for record in task.records))
+        process.like[like] = process.like.get(like, 0) + 1
+        if process.like[like] > MOST_ALIKE:
+            process.counts["alike"] += 1
+            return
+    write(task)
+    put("E %d\n" % task.number)
+
+
+def abandon(task):
+    """Something came in between while a task was looked at, as an exception of a signal handler: its trace ends here."""
+    if task.is_over:
+        return
+    task.is_over = task.is_busy = True
+    process.tasks.discard(task)
+    process.counts["interrupted"] += 1
+    task.wish = None
+
+
+def end_process():
+    """Writes what is left of all tasks, and that the one which runs has ended. Threads that still run do nothing from here on."""
+    for task in list(process.tasks):
+        count(task)
+    put(count_lines())
+    running = current()
+    for task in list(process.tasks):
+        if not task.is_busy:
+            task.is_busy = True
+            if task is running:
+                end(task)
+            elif task.records:
+                write(task)
+    process.is_off = True
+
+
+def begin_in_child():
+    """A process that was forked has a file of its own, and its thread holds what it held before."""
+    if process is None:
+        return
+    global class_lock
+    class_lock = allocate_lock()
+    old = getattr(here, "task", None)
+    begin_process(process.folder)
+    here.task = task = Task()
+    here.guard = Guard(task)
+    for entry in [entry for entry in old.held if entry is not old.wish] if old is not None else []:
+        code, new = entry.code, Held(entry.lock)
+        new.task, new.code, new.before = task, code, task.way
+        new.record = new.start = len(task.records)
+        if entry.lock.entry is entry:
+            entry.lock.entry = new
+        task.records.append((code, None, None))
+        task.held.append(new)
+        task.way = task.way.to(code)
+        task.way.is_taken = True
+        task.fresh = len(task.records)
+
+
+def begin_process(folder):
+    """From here on this process is recorded."""
+    global process, LEFT_OUT
+    process = Process(folder)
+    over = Task()
+    over.is_over = over.is_busy = True
+    process.tasks.discard(over)
+    LEFT_OUT = Held(None)
+    LEFT_OUT.task = over

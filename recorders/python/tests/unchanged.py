@@ -1,0 +1,45 @@
+"""What a program sees of its locks: all that is printed has to be the same without the recorder."""
+import copy
+import os
+import pickle
+import re
+import sys
+import threading
+import traceback
+
+
+def tried(what, *words, **named):
+    try:
+        return what(*words, **named)
+    except BaseException as error:
+        return "%s: %s" % (type(error).__name__, error)
+
+
+def shown(text):
+    return re.sub("owner=[1-9][0-9]*", "owner=..", re.sub("0x[0-9a-f]+", "0x..", text))
+
+
+lock, again = threading.Lock(), threading.RLock()
+print(shown(repr(lock)), shown(repr(again)), type(lock), type(again), type(lock).__name__)
+for each in (lock, again):
+    print(tried(each.release), tried(pickle.dumps, each), tried(copy.copy, each), tried(copy.deepcopy, each))
+    print(tried(each.acquire, False, 1), tried(each.acquire, True, -2), tried(each.acquire, timeout=1e20), tried(each.acquire, True, None))
+    print(tried(each.acquire), tried(each.acquire, False), shown(repr(each)), tried(each.release))
+print(lock.locked(), lock.acquire(1), lock.locked(), lock.acquire(0), lock.release())
+print(isinstance(threading.Lock(), type(threading.Lock())), isinstance(threading.BoundedSemaphore(), threading.Semaphore))
+print(tried(threading.Condition().wait), tried(threading.Condition().notify), tried(threading.Condition(lock).notify))
+print(tried(threading.Semaphore, -1), tried(threading.BoundedSemaphore(1).release), tried(threading.Semaphore().acquire, False, 1))
+print(sys.argv[1:], __name__, os.path.basename(__file__), [os.path.basename(path) for path in sys.path[:1]], sorted(os.listdir("/proc/self/fd")))
+print(traceback.format_stack()[0].split("/")[-1], len(traceback.format_stack()), __spec__, threading.active_count())
+
+
+def fails():
+    with lock:
+        lock.release()
+
+
+thread = threading.Thread(target=fails, name="failing")
+thread.start()
+thread.join()
+sys.stderr.flush()
+raise SystemExit(fails())
