@@ -3,8 +3,8 @@
 use ld_words::{Line, LineFault, command_line};
 use std::slice::from_ref;
 
-// What a line asks for: its word, its workers, whether it has `--many` and `--findings`, and its files. Chains have no workers, which
-// counts as 0, and so do lines that are refused or ask for help.
+// What a line asks for: its word, its workers, whether it has `--many`, whether it has the flag of its own, `--json` or `--findings`, and
+// its files. Chains have no workers, which counts as 0, and so do lines that are refused or ask for help.
 type Asked<'l, 'a> = (&'static str, u16, bool, bool, &'l [&'a str]);
 
 fn asked<'l, 'a>(line: &'l Result<Line<'a>, LineFault>) -> Asked<'l, 'a> {
@@ -20,9 +20,10 @@ fn asked<'l, 'a>(line: &'l Result<Line<'a>, LineFault>) -> Asked<'l, 'a> {
             Line::Explain {
                 workers,
                 many,
+                json,
                 files,
             },
-        ) => ("explain", *workers, *many, false, files.as_slice()),
+        ) => ("explain", *workers, *many, *json, files.as_slice()),
         Ok(
             Line::Graph {
                 workers,
@@ -43,7 +44,7 @@ fn asked<'l, 'a>(line: &'l Result<Line<'a>, LineFault>) -> Asked<'l, 'a> {
 }
 
 // Words, and what they ask for.
-static LINES: [(&[&str], Asked<'_, '_>); 28] = [
+static LINES: [(&[&str], Asked<'_, '_>); 32] = [
     (&["lockdep", "check"], ("check", 4, false, false, &[])),
     (
         &["lockdep", "check", "a.txt"],
@@ -97,6 +98,22 @@ static LINES: [(&[&str], Asked<'_, '_>); 28] = [
     (
         &["lockdep", "explain", "--many"],
         ("explain", 4, true, false, &[]),
+    ),
+    (
+        &["lockdep", "explain", "a", "--json", "b"],
+        ("explain", 4, false, true, &["a", "b"]),
+    ),
+    (
+        &["lockdep", "explain", "--many", "--json"],
+        ("explain", 4, true, true, &[]),
+    ),
+    (
+        &["lockdep", "explain", "--", "--json"],
+        ("explain", 4, false, false, &["--json"]),
+    ),
+    (
+        &["lockdep", "check", "--json", "a"],
+        ("refused", 0, false, false, &[]),
     ),
     (&["lockdep", "condense"], ("condense", 4, false, false, &[])),
     (
