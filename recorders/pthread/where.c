@@ -645,21 +645,7 @@ static bool is_finding(const char *line) {
     return (begins_with(line, "findings ") && strcmp(line, "findings 0\n") != 0) || strcmp(line, "clean no\n") == 0;
 }
 
-static const char usage[] =
-    "Puts under each line of a text where its locks and records are in the source.\n"
-    "\n"
-    "Usage: where [FOLDER] <TEXT\n"
-    "\n"
-    "  FOLDER  the recording, `traces` if it isn't given. Recordings whose traces the text names are found by that\n"
-    "\n"
-    "The text is mostly what `lockdep explain` writes. The status is 0; 1 if the text says that something was found; and 2 if\n"
-    "there is no text, as from a command that failed, or no recording.\n";
-
 int main(int argc, char **argv) {
-    if (argc > 1 && (strcmp(argv[1], "--help") == 0 || strcmp(argv[1], "-h") == 0)) {
-        fputs(usage, stdout);
-        return 0;
-    }
     if (argc > 2)
         refuse("one folder, and not %d; `where --help` says how to call this", argc - 1);
     if (argc > 1 && !read_classes(argv[1]))
