@@ -41,6 +41,7 @@ complete -c lockdep -n '__lockdep_in run view' -l junit -r -d 'Write the finding
 complete -c lockdep -n '__lockdep_in run view' -l json -r -d 'Write the findings as JSON'
 complete -c lockdep -n '__lockdep_in view' -l confirmed -r -d 'What confirm wrote of the recording'
 complete -c lockdep -n '__lockdep_in view' -l left-out -x -d 'What the recording left out'
+complete -c lockdep -n '__lockdep_in view' -l waiting -x -d 'Who waited for a lock at the end'
 complete -c lockdep -n '__lockdep_in run' -l write-known -r -d 'Write the findings of this run'
 complete -c lockdep -n '__lockdep_in run' -l quiet -d 'Print only if something was found'
 complete -c lockdep -n '__lockdep_in run' -l error-exitcode -x -d 'The status if something was found'
