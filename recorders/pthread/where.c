@@ -174,9 +174,42 @@ static void add_frame(struct text *text, const char *function, char *line, bool 
     }
 }
 
+/* Puts a text, which is no longer, in the place of another wherever that stands in a name. */
+static void replace(char *name, const char *from, const char *to) {
+    for (char *at = strstr(name, from); at; at = strstr(at, from)) {
+        memcpy(at, to, strlen(to));
+        memmove(at + strlen(to), at + strlen(from), strlen(at + strlen(from)) + 1);
+    }
+}
+
+/* What stands after the bracket that is opened just before a text; its end if that isn't closed. */
+static char *after_bracket(char *text) {
+    for (int depth = 1; *text; text++) {
+        depth += (*text == '<') - (*text == '>' && text[-1] != '-');
+        if (!depth)
+            return text + 1;
+    }
+    return text;
+}
+
+#define ALLOCATOR ", std::allocator<"
+
+/* Writes a function's name with those of the C++ library as people write them, and without the allocators, which say
+   nothing. */
+static void shorten(char *name) {
+    replace(name, "std::__cxx11::", "std::");
+    replace(name, "> >", ">>");
+    replace(name, "std::basic_string<char, std::char_traits<char>, std::allocator<char>>", "std::string");
+    for (char *at = strstr(name, ALLOCATOR); at; at = strstr(at, ALLOCATOR)) {
+        char *rest = after_bracket(at + strlen(ALLOCATOR));
+        memmove(at, rest, strlen(rest) + 1);
+    }
+}
+
 /* Asks addr2line. Wrappers are left out if there is another function. */
 static void ask(struct answer *answer, bool is_code) {
-    char name[PATH], command[PATH + 128], function[PATH], line[PATH];
+    char name[PATH], command[PATH + 128], *function = NULL, *line = NULL;
+    size_t room = 0, room_of_line = 0; /* of names of templates, which have any length */
     struct text all = {0}, *text = &answer->text;
     empty(text);
     empty(&all);
@@ -184,9 +217,10 @@ static void ask(struct answer *answer, bool is_code) {
     snprintf(command, sizeof command, "addr2line -i -f -C -e %s 0x%lx 2>/dev/null", name,
              (unsigned long)(answer->offset - is_code));
     FILE *pipe = popen(command, "r");
-    while (pipe && fgets(function, sizeof function, pipe) && fgets(line, sizeof line, pipe)) {
+    while (pipe && getline(&function, &room, pipe) > 0 && getline(&line, &room_of_line, pipe) > 0) {
         chomp(function);
         chomp(line);
+        shorten(function);
         add_frame(&all, function, line, is_code);
         if (!is_wrapper(function, line))
             add_frame(text, function, line, is_code);
@@ -197,6 +231,8 @@ static void ask(struct answer *answer, bool is_code) {
     if (!text->length)
         add(text, all.bytes);
     free(all.bytes);
+    free(function);
+    free(line);
 }
 
 /* Adds the module and the offset, which are all that is known without a line. */
