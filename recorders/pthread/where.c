@@ -120,6 +120,7 @@ struct answer {
     uint64_t offset;
     struct text text;
     bool is_wrapper; /* all of its functions are */
+    bool is_known;   /* else there is only the address */
     struct answer *next;
 };
 
@@ -252,6 +253,7 @@ static const struct answer *answer_of(const char *module, uint64_t offset, bool 
     struct answer *a = checked(calloc(1, sizeof *a));
     *a = (struct answer){.module = checked(strdup(module)), .offset = offset, .next = answers[slot]};
     ask(a, is_code);
+    a->is_known = a->text.length;
     if (!a->text.length || (is_code && !strstr(a->text.bytes, " at ")))
         add_address(a);
     answers[slot] = a;
@@ -488,6 +490,22 @@ static struct text *new_note(void) {
     return text;
 }
 
+/* How far a lock lies within its variable, which a class's name of VARIABLE+0xNUMBER says. Lines are known of
+   variables. */
+static uint64_t place_in_variable(const struct class *class) {
+    const char *plus = strrchr(class->name, '+');
+    if (!plus || strcmp(class->kind, "static") != 0 || !begins_with(plus, "+0x"))
+        return 0;
+    uint64_t place = strtoull(plus + 3, NULL, 16);
+    return place < class->offset ? place : 0;
+}
+
+static const struct answer *made_at(const struct class *class) {
+    bool is_code = strcmp(class->kind, "static") != 0;
+    const struct answer *of_variable = answer_of(class->module, class->offset - place_in_variable(class), is_code);
+    return of_variable->is_known ? of_variable : answer_of(class->module, class->offset, is_code);
+}
+
 /* Notes where a class is made, unless that was written in this block. */
 static void note_class(const char *name) {
     struct class *class = class_of(name);
@@ -502,7 +520,7 @@ static void note_class(const char *name) {
     if (class->is_source)
         add_source(text, class->module);
     else
-        add(text, answer_of(class->module, class->offset, strcmp(class->kind, "static") != 0)->text.bytes);
+        add(text, made_at(class)->text.bytes);
 }
 
 /* Notes where a record comes from, if that is known. */
