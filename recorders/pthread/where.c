@@ -177,14 +177,28 @@ static void add_frame(struct text *text, const char *function, char *line, bool 
 
 /* Puts a text, which is no longer, in the place of another wherever that stands in a name. */
 static void replace(char *name, const char *from, const char *to) {
-    for (char *at = strstr(name, from); at; at = strstr(at, from)) {
-        memcpy(at, to, strlen(to));
-        memmove(at + strlen(to), at + strlen(from), strlen(at + strlen(from)) + 1);
-    }
+    char *end = name;
+    for (const char *rest = name; *rest;)
+        if (begins_with(rest, from)) {
+            memcpy(end, to, strlen(to));
+            end += strlen(to);
+            rest += strlen(from);
+        } else
+            *end++ = *rest++;
+    *end = 0;
+}
+
+/* Closes up brackets: `> >` becomes `>>`. */
+static void close_up(char *name) {
+    char *end = name;
+    for (const char *rest = name; *rest; rest++)
+        if (*rest != ' ' || rest == name || rest[-1] != '>' || rest[1] != '>')
+            *end++ = *rest;
+    *end = 0;
 }
 
 /* What stands after the bracket that is opened just before a text; its end if that isn't closed. */
-static char *after_bracket(char *text) {
+static const char *after_bracket(const char *text) {
     for (int depth = 1; *text; text++) {
         depth += (*text == '<') - (*text == '>' && text[-1] != '-');
         if (!depth)
@@ -195,16 +209,28 @@ static char *after_bracket(char *text) {
 
 #define ALLOCATOR ", std::allocator<"
 
-/* Writes a function's name with those of the C++ library as people write them, and without the allocators, which say
-   nothing. */
+static void leave_out_allocators(char *name) {
+    char *end = name;
+    for (const char *rest = name; *rest;)
+        if (begins_with(rest, ALLOCATOR))
+            rest = after_bracket(rest + strlen(ALLOCATOR));
+        else
+            *end++ = *rest++;
+    *end = 0;
+}
+
+/* How many bytes of a name are shown: those of templates can be of any length. */
+#define MOST_OF_NAME 400
+
+/* Writes a function's name with those of the C++ library as people write them, without the allocators, which say nothing,
+   and cut if it is still too long. */
 static void shorten(char *name) {
     replace(name, "std::__cxx11::", "std::");
-    replace(name, "> >", ">>");
+    close_up(name);
     replace(name, "std::basic_string<char, std::char_traits<char>, std::allocator<char>>", "std::string");
-    for (char *at = strstr(name, ALLOCATOR); at; at = strstr(at, ALLOCATOR)) {
-        char *rest = after_bracket(at + strlen(ALLOCATOR));
-        memmove(at, rest, strlen(rest) + 1);
-    }
+    leave_out_allocators(name);
+    if (strlen(name) > MOST_OF_NAME + 3)
+        strcpy(name + MOST_OF_NAME, "...");
 }
 
 /* Asks addr2line. Wrappers are left out if there is another function. */
