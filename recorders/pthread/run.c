@@ -68,6 +68,11 @@ static bool is_on_path(const char *command, char *found, int *status) {
     }
 }
 
+/* Who says something: the command that was typed. */
+static const char *said_by(void) {
+    return getenv("LOCKDEP_RUN_HOME") ? "lockdep" : "record";
+}
+
 static int find(const char *command) {
     char found[PATH];
     int status = NOT_FOUND;
@@ -76,7 +81,7 @@ static int find(const char *command) {
         puts(found);
         return 0;
     }
-    fprintf(stderr, "record: %s: %s\n", command, status == NOT_FOUND ? "there is no such command" : "it can't be run");
+    fprintf(stderr, "%s: %s: %s\n", said_by(), command, status == NOT_FOUND ? "there is no such command" : "it can't be run");
     return status;
 }
 
@@ -127,13 +132,13 @@ static void each_left(int signal_number, bool is_named) {
 }
 
 static void say_waiting(void) {
-    fputs("record: the command has ended; waiting for what it left in the background:", stderr);
+    fprintf(stderr, "%s: the command has ended; waiting for what it left in the background:", said_by());
     each_left(0, true);
-    fputs("\nrecord: a signal goes on to that, and a second one ends the recording\n", stderr);
+    fprintf(stderr, "\n%s: a signal goes on to that, and a second one ends the recording\n", said_by());
 }
 
 static void say_left(void) {
-    fputs("record: still running, and recorded only up to here:", stderr);
+    fprintf(stderr, "%s: still running, and recorded only up to here:", said_by());
     each_left(0, true);
     fputs("\n", stderr);
 }
@@ -155,7 +160,7 @@ static void become(char **command, const sigset_t *mask, const struct sigaction 
     sigprocmask(SIG_SETMASK, mask, NULL);
     execvp(command[0], command);
     int status = errno == ENOENT ? NOT_FOUND : NOT_RUNNABLE;
-    fprintf(stderr, "record: %s: %s\n", command[0], strerror(errno));
+    fprintf(stderr, "%s: %s: %s\n", said_by(), command[0], strerror(errno));
     _exit(status);
 }
 
@@ -239,7 +244,7 @@ static int end(const struct run *run, const char *record, const char *folder, bo
     char status[16];
     snprintf(status, sizeof status, "%d", run->status);
     execl(record, record, "--end", folder, status, is_left ? "left" : NULL, (char *)NULL);
-    fprintf(stderr, "record: %s: %s\n", record, strerror(errno));
+    fprintf(stderr, "%s: %s: %s\n", said_by(), record, strerror(errno));
     return 2;
 }
 
@@ -276,7 +281,7 @@ static int go(bool is_waiting, const char *record, const char *folder, char **co
     prctl(PR_SET_CHILD_SUBREAPER, 1);
     run.command = fork();
     if (run.command < 0) {
-        fprintf(stderr, "record: no process can be started: %s\n", strerror(errno));
+        fprintf(stderr, "%s: no process can be started: %s\n", said_by(), strerror(errno));
         run = (struct run){.status = NOT_RUNNABLE, .has_ended = true, .is_over = true};
     }
     if (run.command == 0)
@@ -294,7 +299,7 @@ static int lock(void) {
         return 0;
     if (errno == EWOULDBLOCK)
         return 1;
-    fprintf(stderr, "record: the folder can't be locked: %s\n", strerror(errno));
+    fprintf(stderr, "%s: the folder can't be locked: %s\n", said_by(), strerror(errno));
     return 2;
 }
 

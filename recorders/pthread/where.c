@@ -120,6 +120,7 @@ struct answer {
     uint64_t offset;
     struct text text;
     bool is_wrapper; /* all of its functions are */
+    bool is_known;   /* else there is only the address */
     struct answer *next;
 };
 
@@ -174,9 +175,68 @@ static void add_frame(struct text *text, const char *function, char *line, bool 
     }
 }
 
+/* Puts a text, which is no longer, in the place of another wherever that stands in a name. */
+static void replace(char *name, const char *from, const char *to) {
+    char *end = name;
+    for (const char *rest = name; *rest;)
+        if (begins_with(rest, from)) {
+            memcpy(end, to, strlen(to));
+            end += strlen(to);
+            rest += strlen(from);
+        } else
+            *end++ = *rest++;
+    *end = 0;
+}
+
+/* Closes up brackets: `> >` becomes `>>`. */
+static void close_up(char *name) {
+    char *end = name;
+    for (const char *rest = name; *rest; rest++)
+        if (*rest != ' ' || rest == name || rest[-1] != '>' || rest[1] != '>')
+            *end++ = *rest;
+    *end = 0;
+}
+
+/* What stands after the bracket that is opened just before a text; its end if that isn't closed. */
+static const char *after_bracket(const char *text) {
+    for (int depth = 1; *text; text++) {
+        depth += (*text == '<') - (*text == '>' && text[-1] != '-');
+        if (!depth)
+            return text + 1;
+    }
+    return text;
+}
+
+#define ALLOCATOR ", std::allocator<"
+
+static void leave_out_allocators(char *name) {
+    char *end = name;
+    for (const char *rest = name; *rest;)
+        if (begins_with(rest, ALLOCATOR))
+            rest = after_bracket(rest + strlen(ALLOCATOR));
+        else
+            *end++ = *rest++;
+    *end = 0;
+}
+
+/* How many bytes of a name are shown: those of templates can be of any length. */
+#define MOST_OF_NAME 400
+
+/* Writes a function's name with those of the C++ library as people write them, without the allocators, which say nothing,
+   and cut if it is still too long. */
+static void shorten(char *name) {
+    replace(name, "std::__cxx11::", "std::");
+    close_up(name);
+    replace(name, "std::basic_string<char, std::char_traits<char>, std::allocator<char>>", "std::string");
+    leave_out_allocators(name);
+    if (strlen(name) > MOST_OF_NAME + 3)
+        strcpy(name + MOST_OF_NAME, "...");
+}
+
 /* Asks addr2line. Wrappers are left out if there is another function. */
 static void ask(struct answer *answer, bool is_code) {
-    char name[PATH], command[PATH + 128], function[PATH], line[PATH];
+    char name[PATH], command[PATH + 128], *function = NULL, *line = NULL;
+    size_t room = 0, room_of_line = 0; /* of names of templates, which have any length */
     struct text all = {0}, *text = &answer->text;
     empty(text);
     empty(&all);
@@ -184,9 +244,10 @@ static void ask(struct answer *answer, bool is_code) {
     snprintf(command, sizeof command, "addr2line -i -f -C -e %s 0x%lx 2>/dev/null", name,
              (unsigned long)(answer->offset - is_code));
     FILE *pipe = popen(command, "r");
-    while (pipe && fgets(function, sizeof function, pipe) && fgets(line, sizeof line, pipe)) {
+    while (pipe && getline(&function, &room, pipe) > 0 && getline(&line, &room_of_line, pipe) > 0) {
         chomp(function);
         chomp(line);
+        shorten(function);
         add_frame(&all, function, line, is_code);
         if (!is_wrapper(function, line))
             add_frame(text, function, line, is_code);
@@ -197,6 +258,8 @@ static void ask(struct answer *answer, bool is_code) {
     if (!text->length)
         add(text, all.bytes);
     free(all.bytes);
+    free(function);
+    free(line);
 }
 
 /* Adds the module and the offset, which are all that is known without a line. */
@@ -216,6 +279,7 @@ static const struct answer *answer_of(const char *module, uint64_t offset, bool 
     struct answer *a = checked(calloc(1, sizeof *a));
     *a = (struct answer){.module = checked(strdup(module)), .offset = offset, .next = answers[slot]};
     ask(a, is_code);
+    a->is_known = a->text.length;
     if (!a->text.length || (is_code && !strstr(a->text.bytes, " at ")))
         add_address(a);
     answers[slot] = a;
@@ -452,6 +516,22 @@ static struct text *new_note(void) {
     return text;
 }
 
+/* How far a lock lies within its variable, which a class's name of VARIABLE+0xNUMBER says. Lines are known of
+   variables. */
+static uint64_t place_in_variable(const struct class *class) {
+    const char *plus = strrchr(class->name, '+');
+    if (!plus || strcmp(class->kind, "static") != 0 || !begins_with(plus, "+0x"))
+        return 0;
+    uint64_t place = strtoull(plus + 3, NULL, 16);
+    return place < class->offset ? place : 0;
+}
+
+static const struct answer *made_at(const struct class *class) {
+    bool is_code = strcmp(class->kind, "static") != 0;
+    const struct answer *of_variable = answer_of(class->module, class->offset - place_in_variable(class), is_code);
+    return of_variable->is_known ? of_variable : answer_of(class->module, class->offset, is_code);
+}
+
 /* Notes where a class is made, unless that was written in this block. */
 static void note_class(const char *name) {
     struct class *class = class_of(name);
@@ -466,7 +546,7 @@ static void note_class(const char *name) {
     if (class->is_source)
         add_source(text, class->module);
     else
-        add(text, answer_of(class->module, class->offset, strcmp(class->kind, "static") != 0)->text.bytes);
+        add(text, made_at(class)->text.bytes);
 }
 
 /* Notes where a record comes from, if that is known. */

@@ -8,7 +8,7 @@ _lockdep_options() {
         condense) echo --workers --help ;;
         chains | where) echo --help ;;
         run) echo -o --recorder --frames --known --write-known --html --sarif --junit --json --quiet --error-exitcode --help ;;
-        view) echo -o --sarif --junit --json --known --left-out --help ;;
+        view) echo -o --sarif --junit --json --known --confirmed --left-out --waiting --help ;;
         record) echo -o --frames --no-wait --version-1 --finish --summary --help ;;
         confirm) echo --strict --help ;;
     esac
@@ -63,7 +63,7 @@ _lockdep() {
             mapfile -t COMPREPLY < <(compgen "$kind" -- "$word")
             ;;
         --known | --write-known | --html | --sarif | --junit | --json) mapfile -t COMPREPLY < <(compgen -f -- "$word") ;;
-        --error-exitcode | --left-out) ;;
+        --error-exitcode | --left-out | --waiting) ;;
         *)
             case $word in
                 -*) mapfile -t COMPREPLY < <(compgen -W "$(_lockdep_options "$command")" -- "$word") ;;
