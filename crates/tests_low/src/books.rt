@@ -2,58 +2,140 @@
 
 mod want_of_memory;
 
+use crate::steps::Step::{Give, TurnOff, TurnOn, Write};
+use crate::steps::{A, B, C, Step, last_chain};
 use ld_book::{Book, BookFault, LockedBook, News, Totals};
 use ld_graph::{Kind, Mark};
-use ld_task::{Chain, TaskState};
-use ld_trace::{Event, Irq, KeyId, Mode};
-use std::process::Abort;
-use std::test::Fail;
+use ld_task::Chain;
+use ld_trace::Irq::Hard;
+use ld_trace::MAX_KEYS;
+use std::alloc::Global;
+use std::sync::Wait;
 
-// The first keys, by the letters of the examples.
-const A: u16 = 0;
+// What a book says of a chain: whether it brings a fact and whether the book is clean then, or the code that it is refused with.
+type Said = Result<(bool, bool), &'static str>;
 
-const B: u16 = 1;
+// What a book says of its size: its totals, its distinct chains and its entries.
+type Size = (Totals, u64, usize);
 
-const C: u16 = 2;
-
-const OFF: Event = Event::TurnOff { irq: Irq::Hard };
-
-const ON: Event = Event::TurnOn { irq: Irq::Hard };
-
-// What the four chains of two locks bring that are taken in both orders. The third brings nothing, since the marks of B
-// came with the second.
-const NEWS: [(bool, bool); 4] = [(true, true), (true, true), (false, true), (true, false)];
-
-fn write(number: u16) -> Event {
-    let key = KeyId::new(number).unwrap_or(KeyId::default());
-    let mode = Mode::Write;
-    Event::Acquire { key, mode }
+// Chains, each the last one of its steps, and what a book of so many keys and at most so many entries says of each; and of its size after
+// them all: its entries, acquisitions, openings and dependencies, its distinct chains and its entries again.
+struct Story {
+    about: &'static str,
+    keys: u16,
+    limit: u64,
+    chains: &'static [Told],
+    size: ([u64; 4], u64, usize),
 }
 
-// The last chain that these events make.
-fn last_chain(events: &[Event]) -> Result<Chain, Fail> {
-    let mut state = TaskState::new();
-    let mut last = None;
-    for event in events {
-        if let Some(chain) = state.step(*event)? {
-            last = Some(chain);
-        }
+// A chain, by the steps whose last it is, and what is said of it.
+type Told = (&'static [Step], Said);
+
+// The chains of two locks that are taken in both orders: A; B under A; B; A under B. The third brings nothing, since the marks of B came
+// with the second.
+const FIRST: Told = (&[Write(A)], Ok((true, true)));
+
+const SECOND: Told = (&[Write(A), Write(B)], Ok((true, true)));
+
+const THIRD: Told = (&[Write(B)], Ok((false, true)));
+
+const FOURTH: Told = (&[Write(B), Write(A)], Ok((true, false)));
+
+const BOTH: [Told; 4] = [FIRST, SECOND, THIRD, FOURTH];
+
+static STORIES: [Story; 5] = [
+    Story {
+        about: "two locks in both orders",
+        keys: 2,
+        limit: 4,
+        chains: &[
+            FIRST,
+            SECOND,
+            THIRD,
+            FOURTH,
+            (&[Write(A)], Err("B1 Full")),
+            (&[Write(C)], Err("B1 Full")),
+        ],
+        size: ([4, 4, 0, 2], 4, 4),
+    },
+    Story {
+        about: "known chains",
+        keys: 2,
+        limit: 1000,
+        chains: &[
+            FIRST,
+            SECOND,
+            (&[Write(A)], Ok((false, true))),
+            (&[Write(A), Write(B)], Ok((false, true))),
+            (&[Write(B), Give(B), Write(A)], Ok((false, true))),
+        ],
+        size: ([5, 5, 0, 1], 2, 5),
+    },
+    // The third chain is new and brings no fact, so that the first two move to the set; the fourth comes after it; and then known chains
+    // come, of both.
+    Story {
+        about: "chains that move to the set",
+        keys: 2,
+        limit: 10,
+        chains: &[
+            FIRST,
+            SECOND,
+            THIRD,
+            FOURTH,
+            (&[Write(A), Write(B)], Ok((false, false))),
+            (&[Write(B), Write(A)], Ok((false, false))),
+            (&[Write(A)], Ok((false, false))),
+            (&[Write(B)], Ok((false, false))),
+        ],
+        size: ([8, 8, 0, 2], 4, 8),
+    },
+    Story {
+        about: "an opening, which marks the lock that is held",
+        keys: 1,
+        limit: 1,
+        chains: &[(&[TurnOff(Hard), Write(A), TurnOn(Hard)], Ok((true, true)))],
+        size: ([1, 0, 1, 0], 1, 1),
+    },
+    Story {
+        about: "a key that is too large",
+        keys: 2,
+        limit: 1,
+        chains: &[
+            (&[Write(C)], Err("B3 BadKey")),
+            FIRST,
+            (&[Write(A), Write(B)], Err("B1 Full")),
+        ],
+        size: ([1, 1, 0, 0], 1, 1),
+    },
+];
+
+fn are(entries: u64, acquisitions: u64, openings: u64, dependencies: u64) -> Totals {
+    Totals {
+        entries,
+        acquisitions,
+        openings,
+        dependencies,
     }
-    Ok(last.ok_or("no event makes a chain")?)
 }
 
-// The chains of two locks that are taken in both orders: A; B under A; B; A under B.
-fn chain_at(place: usize) -> Result<Chain, Fail> {
-    match place {
-        0 => last_chain(&[write(A)]),
-        1 => last_chain(&[write(A), write(B)]),
-        2 => last_chain(&[write(B)]),
-        _ => last_chain(&[write(B), write(A)]),
-    }
+// A chain of the two orders.
+fn chain_at(place: usize) -> Option<Chain> {
+    last_chain(BOTH[place % 4].0)
 }
 
-// What a book tells of its size.
-fn told(book: &Book) -> (Totals, u64, usize) {
+fn is_size(
+    book: &Book,
+    ([entries, acquisitions, openings, dependencies], distinct, len): ([u64; 4], u64, usize),
+) -> bool {
+    told(book)
+        == (
+            are(entries, acquisitions, openings, dependencies),
+            distinct,
+            len,
+        )
+}
+
+fn told(book: &Book) -> Size {
     (book.totals(), book.distinct(), book.len())
 }
 
@@ -69,141 +151,129 @@ fn facts_told(book: &Book) -> [bool; 6] {
     ]
 }
 
-fn are(entries: u64, acquisitions: u64, openings: u64, dependencies: u64) -> Totals {
-    Totals {
-        entries,
-        acquisitions,
-        openings,
-        dependencies,
+fn said(recorded: Result<News, BookFault>) -> Said {
+    match recorded {
+        Ok(news) => Ok((news.fresh, news.clean)),
+        Err(fault) => Err(fault.code()),
     }
 }
 
-// Records both orders, and compares the news.
-fn record_both(rt: &impl Abort, book: &mut Book) -> Result<(), Fail> {
-    for place in 0..4usize {
-        let News { fresh, clean } = book.record(7, chain_at(place)?)?;
-        assert_eq!(rt; (fresh, clean), NEWS[place], "at {place}");
-    }
-    Ok(())
-}
-
-#[test]
-fn two_locks_in_both_orders_bring_news(rt: HostRuntime) -> Result<(), Fail> {
-    let mut book = Book::new(rt.alloc(), 2, 10)?;
-    record_both(&rt, &mut book)?;
-    assert!(rt; told(&book) == (are(4, 4, 0, 2), 4, 4));
-    assert!(rt; !book.is_clean());
-    let graph = book.into_graph();
-    assert!(rt; graph.on_circle(A, B, Kind::En) && graph.on_circle(B, A, Kind::En));
-    Ok(())
-}
-
-#[test]
-fn an_entry_is_its_trace_and_its_chain(rt: HostRuntime) -> Result<(), Fail> {
-    let mut book = Book::new(rt.alloc(), 2, 10)?;
-    record_both(&rt, &mut book)?;
-    let (trace, chain) = book.entry(1).ok_or("an entry")?;
-    assert!(rt; trace == 7 && *chain == chain_at(1)?);
-    assert!(rt; book.entry(4).is_none());
-    assert!(rt; book.keys() == 2 && book.has_dep(A, B, Kind::En) && book.has_mark(B, Mark::Used));
-    Ok(())
-}
-
-#[test]
-fn two_locks_in_both_orders_bring_news_under_a_lock(rt: HostRuntime) -> Result<(), Fail> {
-    let book = LockedBook::new(Book::new(rt.alloc(), 2, 4)?);
-    for place in 0..4usize {
-        let News { fresh, clean } = book.record(&rt, 10 + place as u32, chain_at(place)?)?;
-        assert_eq!(rt; (fresh, clean), NEWS[place], "at {place}");
-        assert_eq!(rt; book.is_clean(&rt), clean);
-    }
-    assert!(rt; book.record(&rt, 2, chain_at(0)?) == Err(BookFault::Full));
-    let book = book.into_book();
-    assert!(rt; told(&book) == (are(4, 4, 0, 2), 4, 4));
-    let (trace, chain) = book.entry(2).ok_or("an entry")?;
-    assert!(rt; trace == 12 && *chain == chain_at(2)?);
-    Ok(())
-}
-
-#[test]
-fn under_a_lock_too_a_bad_key_is_told_and_a_known_chain_leaves_the_flag(
-    rt: HostRuntime,
-) -> Result<(), Fail> {
-    let mut book = Book::new(rt.alloc(), 2, 10)?;
-    record_both(&rt, &mut book)?;
-    let book = LockedBook::new(book);
-    assert!(rt; book.record(&rt, 0, last_chain(&[write(C)])?) == Err(BookFault::BadKey));
-    let News { fresh, clean } = book.record(&rt, 0, chain_at(0)?)?;
-    assert!(rt;
-        !fresh && !clean,
-        "nothing is new, and the book isn't clean"
-    );
-    Ok(())
-}
-
-#[test]
-fn a_known_chain_is_kept_once(rt: HostRuntime) -> Result<(), Fail> {
-    let mut book = Book::new(rt.alloc(), 2, 1000)?;
-    for trace in 0..100u32 {
-        book.record(trace, chain_at(0)?)?;
-        book.record(trace, chain_at(1)?)?;
-    }
-    assert!(rt; told(&book) == (are(200, 200, 0, 1), 2, 200));
-    Ok(())
-}
-
-// The third chain is new and brings no fact, so that the first two move to the set; the fourth comes after it; and then known chains
-// come, of both.
-#[test]
-fn chains_keep_their_entries_when_they_move_to_the_set(rt: HostRuntime) -> Result<(), Fail> {
-    let places = [0usize, 1, 2, 3, 1, 3, 0, 2];
-    let mut book = Book::new(rt.alloc(), 2, 10)?;
-    for place in places {
-        book.record(place as u32, chain_at(place)?)?;
-    }
-    for i in 0..places.len() {
-        let (trace, chain) = book.entry(i).ok_or("an entry")?;
-        assert!(rt;
-            trace == places[i] as u32 && *chain == chain_at(places[i])?,
-            "at {i}"
-        );
-    }
-    assert!(rt; told(&book) == (are(8, 8, 0, 2), 4, 8));
-    Ok(())
-}
-
-#[test]
-fn an_opening_is_counted_as_one(rt: HostRuntime) -> Result<(), Fail> {
-    let mut book = Book::new(rt.alloc(), 1, 1)?;
-    let News { fresh, .. } = book.record(0, last_chain(&[OFF, write(A), ON])?)?;
-    assert!(rt; fresh, "marks the lock that is held");
-    assert!(rt; told(&book) == (are(1, 0, 1, 0), 1, 1));
-    Ok(())
-}
-
-// Records a chain that is refused with this code, and compares what stands before and after.
-fn refused(
-    rt: &impl Abort,
-    book: &mut Book,
-    events: &[Event],
-    code: &'static str,
-) -> Result<(), Fail> {
+// Whether the book says this of the chain, and is as it was if that is a refusal.
+fn says(book: &mut Book, trace: u32, chain: Chain, wanted: Said) -> bool {
     let before = (told(&*book), facts_told(&*book));
-    match book.record(0, last_chain(events)?) {
-        Ok(_) => panic!(rt; "recorded"),
-        Err(fault) => assert_eq!(rt; fault.code(), code),
+    let said = said(book.record(trace, chain));
+    let is_as_before = (told(&*book), facts_told(&*book)) == before;
+    said == wanted && (said.is_ok() || is_as_before)
+}
+
+// Whether the book says what the story says, of each chain and of its size. The chains have the traces 0, 1, 2 and so on.
+fn says_all(book: &mut Book, story: &Story) -> Option<bool> {
+    let mut trace = 0u32;
+    for (steps, wanted) in story.chains {
+        if !says(book, trace, last_chain(*steps)?, *wanted) {
+            return Some(false);
+        }
+        trace = trace.saturating_add(1);
     }
-    assert!(rt; (told(&*book), facts_told(&*book)) == before);
-    Ok(())
+    Some(is_size(&*book, story.size))
+}
+
+// Whether the entries are the chains that weren't refused, in their order and with their traces.
+fn has_entries(book: &Book, story: &Story) -> Option<bool> {
+    let mut place = 0usize;
+    let mut trace = 0u32;
+    for (steps, wanted) in story.chains {
+        if wanted.is_ok() {
+            let (of, chain) = book.entry(place)?;
+            if of != trace || *chain != last_chain(*steps)? {
+                return Some(false);
+            }
+            place = place.saturating_add(1);
+        }
+        trace = trace.saturating_add(1);
+    }
+    Some(book.entry(place).is_none())
+}
+
+fn is_told(alloc: Global, story: &Story) -> Option<bool> {
+    if story.keys > MAX_KEYS {
+        return None;
+    }
+    let mut book = Book::new(alloc, story.keys, story.limit).ok()?;
+    Some(says_all(&mut book, story)? && has_entries(&book, story)? && book.keys() == story.keys)
+}
+
+fn misfit(alloc: Global) -> Option<&'static str> {
+    for story in &STORIES {
+        if is_told(alloc, story) != Some(true) {
+            return Some(story.about);
+        }
+    }
+    None
 }
 
 #[test]
-fn a_refused_chain_changes_nothing(rt: HostRuntime) -> Result<(), Fail> {
-    let mut book = Book::new(rt.alloc(), 2, 1)?;
-    refused(&rt, &mut book, &[write(C)], "B3 BadKey")?;
-    book.record(0, chain_at(0)?)?;
-    refused(&rt, &mut book, &[write(A), write(B)], "B1 Full")?;
-    refused(&rt, &mut book, &[write(C)], "B1 Full")?;
-    assert!(rt; !book.has_dep(A, B, Kind::En) && !book.has_mark(B, Mark::Used));
-    Ok(())
+fn books_say_what_chains_bring(rt: HostRuntime) {
+    assert_eq!(rt; misfit(rt.alloc()), None);
+}
+
+// Whether the flag is the one that the book says.
+fn is_flag(said: Said, is_clean: bool) -> bool {
+    match said {
+        Ok((_, clean)) => clean == is_clean,
+        Err(_) => true,
+    }
+}
+
+// The same of a book under a lock, by one thread.
+fn says_all_under_a_lock(rt: &impl Wait, book: &LockedBook, story: &Story) -> Option<bool> {
+    let mut trace = 0u32;
+    for (steps, wanted) in story.chains {
+        let said = said(book.record(rt, trace, last_chain(*steps)?));
+        let is_clean = book.is_clean(rt);
+        if said != *wanted || !is_flag(said, is_clean) {
+            return Some(false);
+        }
+        trace = trace.saturating_add(1);
+    }
+    Some(true)
+}
+
+fn is_told_under_a_lock(rt: &impl Wait, alloc: Global, story: &Story) -> Option<bool> {
+    if story.keys > MAX_KEYS {
+        return None;
+    }
+    let book = LockedBook::new(Book::new(alloc, story.keys, story.limit).ok()?);
+    let are_said = says_all_under_a_lock(rt, &book, story)?;
+    let book = book.into_book();
+    Some(are_said && is_size(&book, story.size) && has_entries(&book, story)?)
+}
+
+fn misfit_under_a_lock(rt: &impl Wait, alloc: Global) -> Option<&'static str> {
+    for story in &STORIES {
+        if is_told_under_a_lock(rt, alloc, story) != Some(true) {
+            return Some(story.about);
+        }
+    }
+    None
+}
+
+#[test]
+fn books_under_a_lock_say_the_same(rt: HostRuntime) {
+    assert_eq!(rt; misfit_under_a_lock(&rt, rt.alloc()), None);
+}
+
+// Whether the graph of a book of both orders has both on circles.
+fn are_on_circles(alloc: Global) -> Option<bool> {
+    let mut book = Book::new(alloc, 2, 10).ok()?;
+    for place in 0..4usize {
+        book.record(7, chain_at(place)?).ok()?;
+    }
+    let graph = book.into_graph();
+    Some(graph.on_circle(A, B, Kind::En) && graph.on_circle(B, A, Kind::En))
+}
+
+#[test]
+fn a_books_graph_has_its_circles(rt: HostRuntime) {
+    assert_eq!(rt; are_on_circles(rt.alloc()), Some(true));
 }

@@ -10,11 +10,11 @@ use std::test::Fail;
 // Records a chain of the two orders. Where that is refused the book stands as it was, and the same call then goes through.
 fn record_anyway(rt: &(impl Abort + Print), book: &mut Book, place: usize) -> Result<(), Fail> {
     let before = (told(&*book), facts_told(&*book), book.is_clean());
-    if let Err(fault) = book.record(0, chain_at(place)?) {
+    if let Err(fault) = book.record(0, chain_at(place).ok_or("a chain")?) {
         println!(rt; "refused: {}", fault.code())?;
         assert_eq!(rt; fault.code(), "B2 Memory");
         assert!(rt; (told(&*book), facts_told(&*book), book.is_clean()) == before);
-        book.record(0, chain_at(place)?)?;
+        book.record(0, chain_at(place).ok_or("a chain")?)?;
     }
     Ok(())
 }
