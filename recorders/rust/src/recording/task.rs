@@ -45,7 +45,7 @@ struct Record {
     place: Option<Place>,
 }
 
-/// Where something in the file begins that isn't there, or that another process wrote.
+/// Where something begins that has no beginning in the trace or in the file, or that another process wrote.
 const NOWHERE: u64 = u64::MAX;
 
 /// A lock that is held: the record from which on what it did may be taken back, where that is in the file, and the way before.
@@ -460,8 +460,11 @@ impl Task {
         }
         self.count -= 1;
         self.way = held.before;
-        if held.start < self.fresh || (held.start < self.base && held.offset == NOWHERE) {
-            return self.push_release(held.code);
+        let is_written = held.start < self.base;
+        if held.start < self.fresh || held.start == NOWHERE || (is_written && held.offset == NOWHERE) {
+            self.push_release(held.code);
+            // (what holds nothing says so at once, since nobody knows when the process ends)
+            return if self.count == 0 && is_written { self.flush() };
         }
         self.take_back(&held);
         self.add(process::REPEATS, 1);
@@ -511,18 +514,17 @@ impl Task {
         }
     }
 
-    /// A lock that others were taken after is held no more: these move up to its place.
+    /// A lock that others were taken after is held no more. What the next one holds from then on was held when this one was taken, so
+    /// that is where its stretch begins; what the later ones hold never was, so theirs have no beginning.
     #[cold]
     fn move_up(&mut self, at: usize) {
-        let before = self.held[at].before;
-        for later in (at + 1..self.count).rev() {
-            self.held[later].start = self.held[later - 1].start;
-            self.held[later].offset = self.held[later - 1].offset;
-        }
+        let Held { start, offset, before: mut way, .. } = self.held[at];
         self.held.copy_within(at + 1..self.count, at);
         self.count -= 1;
-        let mut way = before;
         for later in at..self.count {
+            let is_next = later == at;
+            self.held[later].start = if is_next { start } else { NOWHERE };
+            self.held[later].offset = if is_next { offset } else { NOWHERE };
             self.held[later].before = way;
             match self.ways.to(way, self.held[later].code) {
                 Some(next) => way = next,
