@@ -22,6 +22,7 @@ from itertools import count as counting
 from time import time_ns
 
 WRITE, TRY, RELEASE = 0, 1, 2
+NEVER = -1  # where a stretch begins that repeats nothing
 MOST_HELD, MOST_EVENTS, MOST_APART, MOST_ALIKE = 48, 1000000 - 2 * 48, 32, 32
 
 getframe = sys._getframe
@@ -461,12 +462,14 @@ def give_back(task, entry):
 
 
 def give_back_early(task, entry):
-    """A task holds a lock no more, and still holds others that it took later: these move up to its place."""
+    """A task holds a lock no more, and still holds others that it took later. What is below the next of these was held when the lock was
+    taken, so its stretch begins there; what is below the others never was, so theirs have no beginning."""
     held = task.held
     at = held.index(entry)
-    for later in range(len(held) - 1, at, -1):
-        held[later].start, held[later].before = held[later - 1].start, held[later - 1].before
     del held[at]
+    held[at].start = entry.start
+    for later in held[at + 1:]:
+        later.start = NEVER
     way = entry.before
     for later in held[at:]:
         later.before, way = way, way.to(later.code)
