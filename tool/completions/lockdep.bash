@@ -9,7 +9,7 @@ _lockdep_options() {
         chains | where) echo --help ;;
         run) echo -o --recorder --frames --known --write-known --html --sarif --junit --json --quiet --error-exitcode --help ;;
         view) echo -o --sarif --junit --json --known --left-out --help ;;
-        record) echo -o --frames --no-wait --version-1 --finish --summary --help ;;
+        record) echo -o --recorder --frames --no-wait --version-1 --finish --summary --help ;;
         confirm) echo --strict --help ;;
     esac
 }

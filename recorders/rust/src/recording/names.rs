@@ -160,13 +160,18 @@ fn hash_of(bytes: &[u8]) -> u32 {
     bytes.iter().fold(0x811C_9DC5, |hash, &byte| (hash ^ u32::from(byte)).wrapping_mul(0x0100_0193))
 }
 
-/// A file as names have it: of a crate from a registry or a repository, what is the same on each machine.
+/// After what the path of a crate that isn't the program's own is the same on each machine.
+const FOLDERS: [(&str, bool); 4] = [("/registry/src/", true), ("/git/checkouts/", true), ("/cargo/registry/", false), ("/vendor/", false)];
+
+/// A file as names have it: of a crate from elsewhere, what is the same on each machine. (Cargo has a folder of its own between.)
 fn short(file: &str) -> &str {
-    if let Some((_, rest)) = file.split_once("/registry/src/").or_else(|| file.split_once("/git/checkouts/")) {
-        return rest.split_once('/').map_or(rest, |(_, path)| path);
-    }
     if is_of_library(file) {
         return file.find("/library/").map_or(file, |at| &file[at + "/library/".len()..]);
+    }
+    for (folder, has_another) in FOLDERS {
+        if let Some((_, path)) = file.split_once(folder).filter(|_| file.starts_with('/')) {
+            return path.split_once('/').filter(|_| has_another).map_or(path, |(_, rest)| rest);
+        }
     }
     file
 }
