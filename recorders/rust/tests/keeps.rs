@@ -1,9 +1,11 @@
-// A guard that is leaked, and locks that are taken while a thread's own storage is dropped.
-use lockdep_record::Mutex;
+// A guard that is leaked, locks that are taken while a thread's own storage is dropped, and a guard that is kept there.
+use lockdep_record::{Mutex, MutexGuard};
+use std::cell::RefCell;
 
 static A: Mutex<i32> = Mutex::new(0);
 static B: Mutex<i32> = Mutex::new(0);
 static C: Mutex<i32> = Mutex::new(0);
+static D: Mutex<i32> = Mutex::new(0);
 
 struct AtEnd;
 
@@ -16,10 +18,11 @@ impl Drop for AtEnd {
 
 thread_local! {
     static AT_END: AtEnd = const { AtEnd };
+    static KEPT: RefCell<Option<MutexGuard<'static, i32>>> = const { RefCell::new(None) };
 }
 
 fn main() {
-    std::thread::spawn(|| std::mem::forget(A.lock().unwrap())).join().unwrap();
+    std::thread::spawn(|| std::mem::forget(D.lock().unwrap())).join().unwrap();
     std::thread::spawn(|| {
         // (what is there before the first lock is dropped after what the recorder has)
         AT_END.with(|_| ());
@@ -27,4 +30,5 @@ fn main() {
     })
     .join()
     .unwrap();
+    std::thread::spawn(|| KEPT.with(|kept| *kept.borrow_mut() = Some(A.lock().unwrap()))).join().unwrap_or(());
 }

@@ -23,6 +23,9 @@ const MOST_APART_ALONE: u32 = 8;
 /// How long a class's name may be, so that there is room for a lock's number after it.
 const MOST_NAME: usize = 53;
 
+/// How much room is left for a type if the whole place is kept.
+const MIN_TYPE: usize = 20;
+
 impl Mark {
     /// A lock that is made by a call.
     pub const fn new(place: &'static Location<'static>, type_name: fn() -> &'static str) -> Mark {
@@ -176,12 +179,31 @@ fn short(file: &str) -> &str {
     file
 }
 
-/// Adds a class's name: `FILE:LINE:COLUMN`, with the type in it if that belongs to it. One that is too long is cut at its beginning.
+/// Adds a type's name: of Rust's own types, the last two parts of their paths. (Spaces would stand between arguments.)
+fn add_type(text: &mut Text, name: &str) {
+    let mut rest = name;
+    while !rest.is_empty() {
+        let length = rest.find(|letter: char| !letter.is_alphanumeric() && letter != '_' && letter != ':').unwrap_or(rest.len());
+        let (path, after) = rest.split_at(length);
+        let is_own = ["std::", "core::", "alloc::"].iter().any(|start| path.starts_with(start));
+        let cut = path.rmatch_indices("::").nth(1).filter(|_| is_own).map_or(0, |(at, _)| at + 2);
+        text.add(path[cut..].as_bytes());
+        let letter = after.chars().next().map_or(0, char::len_utf8);
+        text.add(after[..letter].trim_start().as_bytes());
+        rest = &after[letter..];
+    }
+}
+
+/// Adds a class's name: `FILE:LINE:COLUMN`, with the type in it if that belongs to it. Of one that is too long the end of the place is
+/// kept, or the place and the beginning of the type.
 fn add_name(text: &mut Text, class: &Class) {
     let mut whole = Text::new();
     let _ = write!(whole, "{}:{}:{}", short(class.place.file()), class.place.line(), class.place.column());
+    let has_room = whole.bytes.len() + MIN_TYPE < MOST_NAME && !class.part.is_empty();
     if !class.part.is_empty() {
-        let _ = write!(whole, "<{}>", class.part);
+        whole.add(b"<");
+        add_type(&mut whole, class.part);
+        whole.add(b">");
     }
     for byte in whole.bytes.iter_mut() {
         *byte = match *byte {
@@ -190,11 +212,15 @@ fn add_name(text: &mut Text, class: &Class) {
             _ => b'_',
         };
     }
-    if whole.bytes.len() > MOST_NAME {
-        let _ = write!(text, "{:08x}~", hash_of(&whole.bytes));
-        text.add(&whole.bytes[whole.bytes.len() - (MOST_NAME - 9)..]);
-    } else {
+    let (length, hash) = (whole.bytes.len(), hash_of(&whole.bytes));
+    if length <= MOST_NAME {
         text.add(&whole.bytes);
+    } else if has_room {
+        text.add(&whole.bytes[..MOST_NAME - 9]);
+        let _ = write!(text, "~{hash:08x}");
+    } else {
+        let _ = write!(text, "{hash:08x}~");
+        text.add(&whole.bytes[length - (MOST_NAME - 9)..]);
     }
 }
 

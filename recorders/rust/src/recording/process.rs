@@ -121,16 +121,16 @@ pub fn is_on() -> bool {
     }
 }
 
-/// Goes on in a process that was forked. If another thread was just at what all share, that may be half done, so nothing is recorded.
+/// Goes on in a process that was forked. If another thread was just at what all share, that may be half done, so nothing is recorded,
+/// and that is counted.
 fn begin_in_child() -> bool {
     PID.store(std::process::id(), Ordering::Relaxed);
     let was_taken = PROCESS.is_taken() || NAMES.is_taken();
     PROCESS.free();
     if was_taken {
         STATE.store(OFF, Ordering::Relaxed);
-        return false;
     }
-    PROCESS.with(Process::begin_anew).unwrap_or(false)
+    PROCESS.with(|process| process.begin_anew(u64::from(was_taken))).unwrap_or(false) && !was_taken
 }
 
 /// Ends the recording of this process: something couldn't be written or kept.
@@ -181,8 +181,9 @@ impl Process {
     }
 
     /// Begins in a process that was forked, of whose threads one is there, and that one may be none of ours.
-    fn begin_anew(&mut self) -> bool {
+    fn begin_anew(&mut self, unwritten: u64) -> bool {
         self.counts = [0; COUNTS];
+        self.counts[UNWRITTEN] = unwritten;
         self.files = 0;
         self.foreign.truncate(0);
         self.tasks = super::task::only_task();

@@ -185,7 +185,8 @@ fn begin_here() -> *mut Task {
     task
 }
 
-/// The running thread has ended, or is late and holds nothing more.
+/// The running thread has ended, or is late and holds nothing more. What it still holds may be given back yet, by what the thread kept
+/// for itself.
 #[cold]
 fn end_here() {
     let here = HERE.get();
@@ -194,6 +195,12 @@ fn end_here() {
         return;
     }
     task.is_busy = true;
+    if task.count > 0 {
+        task.is_late = true;
+        task.say_end();
+        task.is_busy = false;
+        return;
+    }
     task.finish();
     PROCESS.with(|process| unsafe {
         let mut link: *mut *mut Task = &mut process.tasks;
@@ -637,6 +644,14 @@ impl Task {
         if self.trace.is_none() || self.pid != std::process::id() {
             let is_alike = !self.records.is_empty() && self.trace.is_none();
             self.add(process::ALIKE, u64::from(is_alike));
+            return;
+        }
+        self.say_end();
+    }
+
+    /// Writes what is left and that it is the end, if the thread has a file.
+    fn say_end(&mut self) {
+        if self.is_over || self.trace.is_none() || self.pid != std::process::id() {
             return;
         }
         self.flush();
