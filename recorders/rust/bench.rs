@@ -32,9 +32,13 @@ fn main() {
     measure("a writer", TURNS, || *black_box(&TABLE).write().unwrap() += 1);
     let outer = OUTER.lock().unwrap();
     measure("a mutex under another one", TURNS, || *black_box(&INNER).lock().unwrap() += 1);
-    measure("a `LazyLock` that is there, with a lock held", TURNS, || { black_box(**black_box(&LAZY)); });
+    measure("a `LazyLock` that is there, with a lock held", TURNS, || {
+        black_box(**black_box(&LAZY));
+    });
     drop(outer);
-    measure("a `LazyLock` that is there", TURNS, || { black_box(**black_box(&LAZY)); });
+    measure("a `LazyLock` that is there", TURNS, || {
+        black_box(**black_box(&LAZY));
+    });
     measure_each("two mutexes, one in the other, that four threads want", 20, 4 * WANTED, &mut || {
         std::thread::scope(|scope| {
             for _ in 0..4 {

@@ -118,7 +118,8 @@ impl Names {
         }
         let class = self.classes.len();
         let rest = self.add_key(class, 0)?;
-        let is_added = self.classes.push(Class { place: mark.place, part, rest, ordinals: 0 }) && self.by_content.set(content, class as u32);
+        let is_added =
+            self.classes.push(Class { place: mark.place, part, rest, ordinals: 0 }) && self.by_content.set(content, class as u32);
         if is_added {
             process::tell_class(&line_of_class(&self.classes[class]));
         }
@@ -164,7 +165,8 @@ fn hash_of(bytes: &[u8]) -> u32 {
 }
 
 /// After what the path of a crate that isn't the program's own is the same on each machine.
-const FOLDERS: [(&str, bool); 4] = [("/registry/src/", true), ("/git/checkouts/", true), ("/cargo/registry/", false), ("/vendor/", false)];
+const FOLDERS: [(&str, bool); 4] =
+    [("/registry/src/", true), ("/git/checkouts/", true), ("/cargo/registry/", false), ("/vendor/", false)];
 
 /// A file as names have it: of a crate from elsewhere, what is the same on each machine. (Cargo has a folder of its own between.)
 fn short(file: &str) -> &str {
@@ -187,7 +189,7 @@ fn add_type(text: &mut Text, name: &str) {
         let (path, after) = rest.split_at(length);
         let is_own = ["std::", "core::", "alloc::"].iter().any(|start| path.starts_with(start));
         let cut = path.rmatch_indices("::").nth(1).filter(|_| is_own).map_or(0, |(at, _)| at + 2);
-        text.add(path[cut..].as_bytes());
+        text.add(&path.as_bytes()[cut..]);
         let letter = after.chars().next().map_or(0, char::len_utf8);
         text.add(after[..letter].trim_start().as_bytes());
         rest = &after[letter..];

@@ -242,11 +242,13 @@ impl Process {
     fn put_counts(&mut self) {
         let mut counts = self.counts;
         let mut task = self.tasks;
-        while let Some(each) = unsafe { task.as_ref() } {
-            for (sum, count) in counts.iter_mut().zip(&each.counts) {
+        while !task.is_null() {
+            // (no more of a thread's than what it counts may be looked at here)
+            let counted = unsafe { &(*task).counts };
+            for (sum, count) in counts.iter_mut().zip(counted) {
                 *sum += count.load(Ordering::Relaxed);
             }
-            task = each.next;
+            task = unsafe { (*task).next };
         }
         let mut text = Text::new();
         for (name, count) in COUNT_NAMES.iter().zip(counts) {

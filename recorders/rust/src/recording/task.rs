@@ -9,7 +9,7 @@ use super::store::{mixed, List, Table, Text};
 use std::alloc::{GlobalAlloc, Layout, System};
 use std::cell::Cell;
 use std::panic::Location;
-use std::sync::atomic::{AtomicBool, AtomicU64, Ordering};
+use std::sync::atomic::{compiler_fence, AtomicBool, AtomicU64, Ordering};
 
 /// How a lock is taken.
 #[derive(Clone, Copy, PartialEq)]
@@ -96,7 +96,7 @@ pub struct Task {
     pub counts: [AtomicU64; COUNTS],
     serial: u32,
     numbers: u32,
-    is_busy: bool,
+    is_busy: AtomicBool,
     is_late: bool,
     is_over: bool,
     waits: bool,
@@ -147,18 +147,35 @@ fn with_task<R>(work: impl FnOnce(&mut Task) -> R) -> Option<R> {
     if here.is_null() {
         here = begin_here();
     }
-    let task = unsafe { here.as_mut() }?;
-    if task.is_busy {
-        task.add(process::REENTERED, 1);
+    if here.is_null() || !enter(here) {
         return None;
     }
-    task.is_busy = true;
+    let task = unsafe { &mut *here };
     if task.has_foreign.load(Ordering::Relaxed) {
         task.settle();
     }
     let result = work(task);
-    task.is_busy = false;
+    task.leave();
     Some(result)
+}
+
+/// Begins to look at a thread. False if that is being done, as if a signal's handler interrupted it, which is counted. (Such a handler
+/// runs in the thread itself, so nothing more than the order of the steps is needed.)
+#[inline]
+fn enter(task: *const Task) -> bool {
+    let is_free = unsafe { !(*task).is_busy.load(Ordering::Relaxed) };
+    if is_free {
+        unsafe { (*task).is_busy.store(true, Ordering::Relaxed) };
+        compiler_fence(Ordering::SeqCst);
+    } else {
+        count_reentered(unsafe { &(*task).counts });
+    }
+    is_free
+}
+
+#[cold]
+fn count_reentered(counts: &[AtomicU64; COUNTS]) {
+    counts[process::REENTERED].fetch_add(1, Ordering::Relaxed);
 }
 
 /// The running thread takes its first lock. If it is at its end already, what it has ends when it holds nothing.
@@ -178,7 +195,7 @@ fn begin_here() -> *mut Task {
     PROCESS.with(|process| unsafe {
         (*task).serial = process.next_serial();
         (*task).is_late = is_late;
-        (*task).is_busy = false;
+        (*task).leave();
         (*task).next = process.tasks;
         process.tasks = task;
     });
@@ -190,16 +207,14 @@ fn begin_here() -> *mut Task {
 #[cold]
 fn end_here() {
     let here = HERE.get();
-    let Some(task) = (unsafe { here.as_mut() }) else { return };
-    if task.is_busy || !process::is_on() {
+    if here.is_null() || !process::is_on() || !enter(here) {
         return;
     }
-    task.is_busy = true;
+    let task = unsafe { &mut *here };
     if task.count > 0 {
         task.is_late = true;
         task.say_end();
-        task.is_busy = false;
-        return;
+        return task.leave();
     }
     task.finish();
     PROCESS.with(|process| unsafe {
@@ -309,7 +324,7 @@ impl Task {
             counts: [const { AtomicU64::new(0) }; COUNTS],
             serial: 0,
             numbers: 0,
-            is_busy: true,
+            is_busy: AtomicBool::new(true),
             is_late: false,
             is_over: false,
             waits: false,
@@ -326,6 +341,13 @@ impl Task {
             trace: None,
             told: List::new(),
         }
+    }
+
+    /// Ends what `enter` began.
+    #[inline]
+    fn leave(&self) {
+        compiler_fence(Ordering::SeqCst);
+        self.is_busy.store(false, Ordering::Relaxed);
     }
 
     /// Adds to a count. (Only the thread itself does, so this needs to be no single step.)
@@ -390,7 +412,7 @@ impl Task {
     #[inline]
     fn count_operation(&mut self) {
         self.add(process::OPERATIONS, 1);
-        if self.counts[process::OPERATIONS].load(Ordering::Relaxed) % OPERATIONS_A_WRITING == 0 && process::is_on() {
+        if self.counts[process::OPERATIONS].load(Ordering::Relaxed).is_multiple_of(OPERATIONS_A_WRITING) && process::is_on() {
             process::put_counts();
         }
     }
@@ -429,11 +451,12 @@ impl Task {
     fn give_for_another(&mut self, token: Token) {
         PROCESS.with(|process| {
             let mut task = process.tasks;
-            while let Some(each) = unsafe { task.as_ref() } {
-                if each.serial == token.task && process.foreign.push((token.task, token.number)) {
-                    each.has_foreign.store(true, Ordering::Relaxed);
+            while !task.is_null() {
+                let (serial, has_foreign) = unsafe { ((*task).serial, &(*task).has_foreign) };
+                if serial == token.task && process.foreign.push((token.task, token.number)) {
+                    has_foreign.store(true, Ordering::Relaxed);
                 }
-                task = each.next;
+                task = unsafe { (*task).next };
             }
         });
         self.lose(process::UNSEEN_RELEASES);
@@ -471,7 +494,9 @@ impl Task {
         if held.start < self.fresh || held.start == NOWHERE || (is_written && held.offset == NOWHERE) {
             self.push_release(held.code);
             // (what holds nothing says so at once, since nobody knows when the process ends)
-            return if self.count == 0 && is_written { self.flush() };
+            return if self.count == 0 && is_written {
+                self.flush()
+            };
         }
         self.take_back(&held);
         self.add(process::REPEATS, 1);
