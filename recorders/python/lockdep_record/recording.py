@@ -22,7 +22,6 @@ from itertools import count as counting
 from time import time_ns
 
 WRITE, TRY, RELEASE = 0, 1, 2
-NEVER = -1  # where a stretch begins that repeats nothing
 MOST_HELD, MOST_EVENTS, MOST_APART, MOST_ALIKE = 48, 1000000 - 2 * 48, 32, 32
 
 getframe = sys._getframe
@@ -462,14 +461,14 @@ def give_back(task, entry):
 
 
 def give_back_early(task, entry):
-    """A task holds a lock no more, and still holds others that it took later. What is below the next of these was held when the lock was
-    taken, so its stretch begins there; what is below the others never was, so theirs have no beginning."""
+    """A task holds a lock no more, and still holds others that it took later: these move up to its place. What is taken back begins
+    where just those before it are held: that is where the one before it began, if that is a lock of the same code, or else nowhere."""
     held = task.held
     at = held.index(entry)
-    del held[at]
-    held[at].start = entry.start
+    start, code = entry.start, entry.code
     for later in held[at + 1:]:
-        later.start = NEVER
+        later.start, start = start, later.start if later.code == code and start >= 0 else -1
+    del held[at]
     way = entry.before
     for later in held[at:]:
         later.before, way = way, way.to(later.code)
