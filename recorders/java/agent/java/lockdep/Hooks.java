@@ -128,22 +128,6 @@ public final class Hooks {
 
     // ---- Locks.
 
-    public static void lock(Lock lock) {
-        lock(lock, 0);
-    }
-
-    public static void lockInterruptibly(Lock lock) throws InterruptedException {
-        lockInterruptibly(lock, 0);
-    }
-
-    public static boolean tryLock(Lock lock) {
-        return tryLock(lock, 0);
-    }
-
-    public static boolean tryLock(Lock lock, long time, TimeUnit unit) throws InterruptedException {
-        return tryLock(lock, time, unit, 0);
-    }
-
     public static void lock(Lock lock, int site) {
         Wish wish = Wish.of(lock, site);
         boolean isTaken = false;
@@ -186,10 +170,6 @@ public final class Hooks {
             wish.end(isTaken, site);
         }
         return isTaken;
-    }
-
-    public static void unlock(Lock lock) {
-        unlock(lock, 0);
     }
 
     public static void unlock(Lock lock, int site) {

@@ -5,11 +5,13 @@ import java.util.Map;
 import java.util.Set;
 
 import org.objectweb.asm.Opcodes;
+import org.objectweb.asm.Type;
 import org.objectweb.asm.tree.MethodInsnNode;
 
 /** The calls that are replaced by those of Hooks, which get the object and where they stand as well. */
 final class Calls {
     static final String HOOKS = "java/lockdep/Hooks";
+    static final String REFERENCES = "java/lockdep/References";
 
     private static final String LOCK = Hierarchy.LOCKS + "Lock";
     private static final String CONDITION = Hierarchy.LOCKS + "Condition";
@@ -63,7 +65,11 @@ final class Calls {
         return Hierarchy.LOCK.contains(owner) && OF_LOCK.contains(name + descriptor);
     }
 
-    static String lock() {
-        return LOCK;
+    /** The class that a reference's object is taken for, which it may have already; null if that isn't one of References. */
+    static String objectOf(String descriptor, String owner) {
+        Type[] words = Type.getArgumentTypes(descriptor);
+        if (words.length == 0) return owner;
+        String object = words[0].getInternalName();
+        return Hierarchy.LOCK.contains(object) ? object : null;
     }
 }

@@ -131,8 +131,10 @@ final class MethodRewriter {
             Handle method = (Handle) made.bsmArgs[at];
             boolean isCall = method.getTag() == Opcodes.H_INVOKEVIRTUAL || method.getTag() == Opcodes.H_INVOKEINTERFACE;
             if (!isCall || !Calls.isOfLock(method.getOwner(), method.getName(), method.getDesc())) continue;
-            String descriptor = "(L" + Calls.lock() + ";" + method.getDesc().substring(1);
-            made.bsmArgs[at] = new Handle(Opcodes.H_INVOKESTATIC, Calls.HOOKS, method.getName(), descriptor, false);
+            String object = Calls.objectOf(made.desc, method.getOwner());
+            if (object == null) continue;
+            String descriptor = "(L" + object + ";" + method.getDesc().substring(1);
+            made.bsmArgs[at] = new Handle(Opcodes.H_INVOKESTATIC, Calls.REFERENCES, method.getName(), descriptor, false);
             isChanged = true;
         }
     }
