@@ -5,6 +5,7 @@ from binascii import crc32
 MOST_NAME, MOST_KEYS, MOST_TRACES, MOST_ALIKE = 53, 8192, 4096, 2
 RELEASE = 2
 WORDS = ("w", "tw", None, "r", "tr", "rr", "trr")  # of the modes; None is a release
+NOT_MADE = ("any object of", "the class object of")  # kinds of classes; all others are made somewhere
 
 # What is counted, in the order of SUMMARY: its name there, and what it means.
 LOSSES = (
@@ -282,5 +283,6 @@ def write_traces(raw, folder, recorder):
             path = os.path.join(folder, place, name + ".csv")
             write_lines(path, lines)
             write_lines(path + ".places", trace.places)
-    write_lines(os.path.join(folder, "classes"), ["%s\t%s\t-\tmade in" % (each.name, each.place) for each in names.used])
+    write_lines(os.path.join(folder, "classes"), ["%s\t%s\t-\t%s" % (each.name, each.place, each.kind if each.kind in NOT_MADE else "made in")
+                                                for each in names.used])
     write_lines(os.path.join(folder, "SUMMARY"), summary.lines(recorder, len(processes), len(names.used)))

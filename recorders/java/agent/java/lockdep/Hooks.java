@@ -116,8 +116,7 @@ public final class Hooks {
         Task task = Task.begin();
         if (task == null) return;
         try {
-            Object known = task.probe.find(object, !Known.isLock(object));
-            Made made = known == null ? Site.madeByCaller(object) : null;
+            Made made = Known.isMade(object, task.probe) ? null : Site.madeByCaller(object);
             if (made != null) Known.made(object, made, task.probe);
         } catch (Throwable error) {
             task.abandon();

@@ -57,9 +57,11 @@ final class Known extends WeakReference<Object> {
     final boolean isOfJdk;
     /** What is written in its place: itself, unless it is a part. */
     final Known target;
-    final Made made;
+    private Made made;
     int key;
     volatile boolean isApart;
+    /** Whether it was taken before it was known where it is made, as by the constructor of a class above its own. */
+    private boolean isEarly;
     /** Who holds a lock that another thread may give back. */
     private Task[] holders;
 
@@ -110,7 +112,22 @@ final class Known extends WeakReference<Object> {
         Object base = isMonitor ? object : baseOf(object);
         Known known = probe.find(base, isMonitor);
         if (known == null) known = add(new Known(base, isMonitor, false, null, made));
+        else if (known.isEarly) known.nowMade(made);
         if (object instanceof ReentrantReadWriteLock) addViews((ReentrantReadWriteLock) object, known);
+    }
+
+    private synchronized void nowMade(Made by) {
+        isEarly = false;
+        if (isApart) return;
+        made = by;
+        key = by.rest.number;
+    }
+
+    /** Whether it is known where an object was made. */
+    static boolean isMade(Object object, Probe probe) {
+        boolean isMonitor = !isLock(object);
+        Known known = probe.find(isMonitor ? object : baseOf(object), isMonitor);
+        return known != null && !known.isEarly;
     }
 
     private static void addViews(ReentrantReadWriteLock lock, Known target) {
@@ -133,7 +150,7 @@ final class Known extends WeakReference<Object> {
 
     static Known ofMonitor(Object object, Probe probe) {
         Known known = probe.find(object, true);
-        return known != null ? known : add(new Known(object, true, false, null, Made.ofObject(object, true)));
+        return known != null ? known : addEarly(object, true);
     }
 
     /** What is known of a lock of java.util.concurrent.locks, or of another class that is used like one. */
@@ -141,13 +158,19 @@ final class Known extends WeakReference<Object> {
         Known known = probe.find(lock, false);
         if (known != null) return known;
         Object base = baseOf(lock);
-        if (base == lock) return add(new Known(lock, false, false, null, Made.ofObject(lock, false)));
+        if (base == lock) return addEarly(lock, false);
         known = probe.find(base, false);
         if (known == null) {
             String name = ReentrantReadWriteLock.class.getName();
             known = add(new Known(base, false, false, null, Made.of(name, Site.placeOfClass(name), "any object of")));
         }
         return add(new Known(lock, false, lock instanceof ReentrantReadWriteLock.ReadLock, known, null));
+    }
+
+    private static Known addEarly(Object object, boolean isMonitor) {
+        Known known = new Known(object, isMonitor, false, null, Made.ofObject(object, isMonitor));
+        known.isEarly = true;
+        return add(known);
     }
 
     static Known ofCondition(Condition condition, Probe probe) {

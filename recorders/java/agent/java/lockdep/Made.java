@@ -41,12 +41,21 @@ final class Made {
     /** The class of what was made by unseen code: that of the object. */
     static Made ofObject(Object object, boolean isMonitor) {
         if (object instanceof Class) {
-            String name = ((Class<?>) object).getName();
+            String name = nameOf((Class<?>) object);
             return of(Site.fitting(name + ".class"), Site.placeOfClass(name), "the class object of");
         }
-        String name = object.getClass().getName();
+        String name = nameOf(object.getClass());
         String suffix = isMonitor && Known.isLock(object) ? ".monitor" : "";
         return of(Site.fitting(name + suffix), Site.placeOfClass(name), "any object of");
+    }
+
+    /** The name of a class, which for one that is made while the program runs is the same in each run. */
+    private static String nameOf(Class<?> type) {
+        String name = type.getName();
+        int lambda = name.indexOf("$$Lambda");
+        if (lambda >= 0) return name.substring(0, lambda + "$$Lambda".length());
+        int hidden = name.indexOf('/');
+        return hidden < 0 ? name : name.substring(0, hidden);
     }
 
     /** The next number of a lock that is told apart. */

@@ -30,7 +30,7 @@ final class Locking {
     Locking(ClassNode type, Hierarchy hierarchy, ClassLoader loader) {
         this.hierarchy = hierarchy;
         this.loader = loader;
-        boolean locksThis = ABOVE.contains(type.superName) || type.interfaces.contains(Hierarchy.LOCKS + "Lock");
+        boolean locksThis = ABOVE.contains(type.name) || ABOVE.contains(type.superName) || type.interfaces.contains(Hierarchy.LOCKS + "Lock");
         for (MethodNode method : type.methods) {
             boolean isStatic = (method.access & Opcodes.ACC_STATIC) != 0;
             locksThis |= !isStatic && (method.access & Opcodes.ACC_SYNCHRONIZED) != 0;
@@ -38,7 +38,7 @@ final class Locking {
                 if (each.getOpcode() == Opcodes.MONITORENTER) locksThis |= isThis(operand(each), isStatic);
             }
         }
-        isOfItself = locksThis && !LOCKS.contains(type.name);
+        isOfItself = locksThis;
     }
 
     boolean isLocked(FieldInsnNode field) {
