@@ -1,12 +1,14 @@
 package java.lockdep;
 
 import java.util.Arrays;
+import java.util.Set;
 
 /** A place of the program that does something with locks: a line of a method. Rewritten code names it by its number. */
 public final class Site {
     /** A name of a class of locks has so many bytes, so that there is room for the number of a single lock. */
     private static final int MOST_NAME = 53;
-    private static final StackWalker walker = StackWalker.getInstance(StackWalker.Option.RETAIN_CLASS_REFERENCE);
+    private static final StackWalker walker = StackWalker.getInstance(Set.of(StackWalker.Option.RETAIN_CLASS_REFERENCE,
+            StackWalker.Option.SHOW_REFLECT_FRAMES));
 
     private static volatile Site[] all = new Site[1024];
     private static int count;
@@ -87,18 +89,22 @@ public final class Site {
         return known;
     }
 
-    /** The class of an object whose constructor runs: where the constructor is called. */
+    /** The class of an object whose constructor runs: where it is called. Null if the JDK calls it, as by reflection. */
     static Made madeByCaller(Object object) {
-        return walker.walk(frames -> frames.filter(frame -> isMaker(frame, object)).findFirst()
-                .map(frame -> Made.of(fitting(frame.getClassName() + "." + frame.getMethodName() + ":" + frame.getLineNumber()),
-                        place(frame), "made in"))
-                .orElse(null));
+        return walker.walk(frames -> frames.skip(2).filter(frame -> !isConstructor(frame, object)).findFirst()
+                .filter(frame -> isOfProgram(frame.getDeclaringClass()))
+                .map(frame -> Made.of(fitting(nameOf(frame)), place(frame), "made in")).orElse(null));
     }
 
-    private static boolean isMaker(StackWalker.StackFrame frame, Object object) {
-        Class<?> type = frame.getDeclaringClass();
-        boolean isConstructor = frame.getMethodName().equals("<init>") && type.isInstance(object);
-        return !isConstructor && isOfProgram(type);
+    private static boolean isConstructor(StackWalker.StackFrame frame, Object object) {
+        return frame.getMethodName().equals("<init>") && frame.getDeclaringClass().isInstance(object);
+    }
+
+    /** A place as a name: by its line, or if its class has no lines, by where it is in the code. */
+    private static String nameOf(StackWalker.StackFrame frame) {
+        int line = frame.getLineNumber();
+        String where = line > 0 ? String.valueOf(line) : "+" + frame.getByteCodeIndex();
+        return frame.getClassName() + "." + frame.getMethodName() + ":" + where;
     }
 
     static String placeOfClass(String className) {

@@ -199,10 +199,14 @@ final class Task {
     }
 
     /** What was wanted was taken. */
-    void grant(Known lock, Held wanted) {
+    void grant(Known lock, Held wanted, int site) {
         failed = null;
         if (wanted == null) {
             takeAgain(lock);
+            return;
+        }
+        if (wish != wanted) { // a call of the program's own came in between
+            took(lock, false, site);
             return;
         }
         wish = null;

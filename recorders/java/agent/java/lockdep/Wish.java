@@ -38,7 +38,7 @@ final class Wish {
         if (task == null || Task.begin() == null) return;
         try {
             if (!isTaken) task.withdraw(wanted);
-            else if (lock.isOfJdk) task.grant(lock, wanted);
+            else if (lock.isOfJdk) task.grant(lock, wanted, site);
             else task.took(lock, false, site);
         } catch (Throwable error) {
             task.abandon();
