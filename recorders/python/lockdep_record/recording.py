@@ -461,11 +461,13 @@ def give_back(task, entry):
 
 
 def give_back_early(task, entry):
-    """A task holds a lock no more, and still holds others that it took later: these move up to its place."""
+    """A task holds a lock no more, and still holds others that it took later: these move up to its place. What is taken back begins
+    where just those before it are held: that is where the one before it began, if that is a lock of the same code, or else nowhere."""
     held = task.held
     at = held.index(entry)
-    for later in range(len(held) - 1, at, -1):
-        held[later].start, held[later].before = held[later - 1].start, held[later - 1].before
+    start, code = entry.start, entry.code
+    for later in held[at + 1:]:
+        later.start, start = start, later.start if later.code == code and start >= 0 else -1
     del held[at]
     way = entry.before
     for later in held[at:]:

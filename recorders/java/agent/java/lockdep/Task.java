@@ -424,11 +424,19 @@ final class Task {
         size = count - base;
     }
 
-    /** A lock is given back before others that were taken later: these move up to its place. */
+    /**
+     * A lock is given back before others that were taken later: these move up to its place. What is taken back begins where just those
+     * before it are held: that is where the one before it began, if that is a lock of the same code, or else nowhere.
+     */
     private void giveBackEarly(Held entry) {
         int at = depth - 1;
         while (held[at] != entry) at--;
-        for (int later = depth - 1; later > at; later--) held[later].start = held[later - 1].start;
+        int start = entry.start;
+        for (int later = at + 1; later < depth; later++) {
+            int own = held[later].start;
+            held[later].start = start;
+            start = held[later].code == entry.code && start >= 0 ? own : -1;
+        }
         Way next = entry.before;
         for (int later = at; later < depth - 1; later++) {
             held[later] = held[later + 1];
