@@ -20,17 +20,9 @@ public final class Agent {
     private Agent() {
     }
 
-    public static void premain(String folder, Instrumentation machine) {
-        try {
-            begin(folder == null ? "" : folder, machine);
-        } catch (Throwable error) { // the program runs all the same, and `record` says that nothing was recorded
-            System.err.println("record: this Java isn't recorded: " + error);
-        }
-    }
-
-    private static void begin(String folder, Instrumentation machine) throws Exception {
+    public static void begin(String folder, Instrumentation machine) throws IOException {
         String raw = System.getenv("LOCKDEP_JAVA");
-        File processes = folder.isEmpty() ? raw == null ? null : new File(raw) : folderOf(folder);
+        File processes = folder == null || folder.isEmpty() ? raw == null ? null : new File(raw) : folderOf(folder);
         if (processes == null || !processes.isDirectory()) return;
         Rewriter rewriter = new Rewriter(words("LOCKDEP_JAVA_JDK", ","));
         rewriter.warmUp();
