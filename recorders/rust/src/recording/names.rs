@@ -56,14 +56,20 @@ impl Mark {
         let found = NAMES.with(|names| {
             let key = self.key.load(Ordering::Relaxed);
             if key & IS_SETTLED != 0 || (key != 0 && !is_nested) {
-                return Some(key & !IS_SETTLED); // (another thread was faster)
+                return Some((key & !IS_SETTLED, None)); // (another thread was faster)
             }
+            let known = names.classes.len();
             let class = names.class_of(self)?;
             let key = names.key_in(class, is_nested);
-            self.key.store(if key != names.classes[class].rest || is_nested { key | IS_SETTLED } else { key }, Ordering::Relaxed);
-            Some(key)
+            let is_settled = key != names.classes[class].rest || is_nested;
+            self.key.store(if is_settled { key | IS_SETTLED } else { key }, Ordering::Relaxed);
+            Some((key, (class == known).then(|| line_of_class(&names.classes[class]))))
         });
-        found.flatten().unwrap_or(0)
+        let Some((key, line)) = found.flatten() else { return 0 };
+        if let Some(line) = line {
+            process::tell_class(&line);
+        }
+        key
     }
 
     /// The part of a class's name that isn't its place: the type, if several of one place may be of different ones.
@@ -105,7 +111,7 @@ pub struct Names {
 pub static NAMES: Shared<Names> = Shared::new(Names { classes: List::new(), by_content: Table::new(), keys: List::new() });
 
 impl Names {
-    /// The class of a lock, which is told to the file of classes if it is new. (Several places in memory may say the same.)
+    /// The class of a lock. (Several places in memory may say the same.)
     fn class_of(&mut self, mark: &Mark) -> Option<usize> {
         let part = mark.part();
         let mut content = content_of(mark.place, part);
@@ -118,12 +124,8 @@ impl Names {
         }
         let class = self.classes.len();
         let rest = self.add_key(class, 0)?;
-        let is_added =
-            self.classes.push(Class { place: mark.place, part, rest, ordinals: 0 }) && self.by_content.set(content, class as u32);
-        if is_added {
-            process::tell_class(&line_of_class(&self.classes[class]));
-        }
-        is_added.then_some(class)
+        let new = Class { place: mark.place, part, rest, ordinals: 0 };
+        (self.classes.push(new) && self.by_content.set(content, class as u32)).then_some(class)
     }
 
     /// A number for a lock of a class that has none, or that of those that aren't told apart.

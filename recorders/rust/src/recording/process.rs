@@ -101,7 +101,7 @@ extern "C" fn at_start() {
 
 extern "C" fn at_end() {
     if STATE.load(Ordering::Relaxed) == ON && is_on() {
-        PROCESS.with(|process| process.put_counts());
+        put_counts();
     }
 }
 
@@ -115,6 +115,9 @@ pub fn is_on() -> bool {
             let is_begun = PROCESS.with(Process::begin).unwrap_or(false);
             PID.store(std::process::id(), Ordering::Relaxed);
             STATE.store(if is_begun { ON } else { OFF }, Ordering::Release);
+            if is_begun && std::env::var_os("LOCKDEP_TRACES").is_some() {
+                put_counts(); // (whoever named the folder waits for what is in it)
+            }
             is_begun
         }
         _ => false,
@@ -127,18 +130,21 @@ fn begin_in_child() -> bool {
     PID.store(std::process::id(), Ordering::Relaxed);
     let was_taken = PROCESS.is_taken() || NAMES.is_taken();
     PROCESS.free();
+    TURN.free();
     if was_taken {
         STATE.store(OFF, Ordering::Relaxed);
     }
-    PROCESS.with(|process| process.begin_anew(u64::from(was_taken))).unwrap_or(false) && !was_taken
+    let is_begun = PROCESS.with(|process| process.begin_anew(u64::from(was_taken))).unwrap_or(false);
+    if is_begun {
+        put_counts();
+    }
+    is_begun && !was_taken
 }
 
 /// Ends the recording of this process: something couldn't be written or kept.
 pub fn turn_off() {
-    PROCESS.with(|process| {
-        process.counts[UNWRITTEN] = 1;
-        process.put_counts();
-    });
+    PROCESS.with(|process| process.counts[UNWRITTEN] = 1);
+    put_counts();
     STATE.store(OFF, Ordering::Relaxed);
 }
 
@@ -157,18 +163,13 @@ impl Process {
         if folder.as_ref().is_some_and(|folder| folder.is_empty()) {
             return false;
         }
-        let is_told = folder.is_some();
         let folder = folder.unwrap_or_else(|| "lockdep-traces".into());
         let Ok(folder) = std::path::absolute(folder) else { return false };
         self.folder.add(folder.as_os_str().as_bytes());
         if let Ok(program) = std::env::current_exe() {
             self.program.add(program.as_os_str().as_bytes());
         }
-        let is_begun = self.begin_files();
-        if is_told && is_begun {
-            self.put_counts();
-        }
-        is_begun
+        self.begin_files()
     }
 
     /// Names the files of this process.
@@ -187,59 +188,17 @@ impl Process {
         self.files = 0;
         self.foreign.truncate(0);
         self.tasks = super::task::only_task();
-        if self.begin_files() {
-            self.put_counts();
-            true
-        } else {
-            false
-        }
+        self.begin_files()
     }
 
     fn path(&self, rest: std::fmt::Arguments) -> Text {
-        let mut path = Text::new();
-        path.add(&self.prefix.bytes);
+        let mut path = copy_of(&self.prefix);
         let _ = path.write_fmt(rest);
         path
     }
 
-    /// Makes the folder, if the program wasn't started by what makes it.
-    fn make_folder(&self) {
-        let mut path = Text::new();
-        path.add(&self.folder.bytes);
-        path.add(b"/raw");
-        if std::fs::create_dir_all(path_of(&path)).is_err() {
-            return;
-        }
-        path.add(b"/settings");
-        if let Ok(mut file) = OpenOptions::new().write(true).create_new(true).open(path_of(&path)) {
-            let mut text = Text::new();
-            text.add(b"version 2\nframes 3\nprogram ");
-            text.add(&self.program.bytes);
-            text.add(b"\nrecorder rust\n");
-            let _ = file.write_all(&text.bytes);
-        }
-    }
-
-    /// Opens a file of this process to write. One that is new may be written by whoever the program becomes.
-    fn open(&self, path: &Text, is_new: bool) -> Option<File> {
-        let mut options = OpenOptions::new();
-        options.write(true);
-        if !is_new {
-            return options.open(path_of(path)).ok();
-        }
-        options.create_new(true);
-        let mut opened = options.open(path_of(path));
-        if opened.as_ref().is_err_and(|error| error.kind() == ErrorKind::NotFound) {
-            self.make_folder();
-            opened = options.open(path_of(path));
-        }
-        let file = opened.ok()?;
-        let _ = file.set_permissions(Permissions::from_mode(0o666));
-        Some(file)
-    }
-
-    /// Writes what was counted so far, all in the same room each time.
-    fn put_counts(&mut self) {
+    /// What was counted so far, which has the same length each time.
+    fn counts_as_text(&self) -> Text {
         let mut counts = self.counts;
         let mut task = self.tasks;
         while !task.is_null() {
@@ -254,10 +213,7 @@ impl Process {
         for (name, count) in COUNT_NAMES.iter().zip(counts) {
             let _ = writeln!(text, "{name} {count:020}");
         }
-        let path = self.path(format_args!(""));
-        if let Some(file) = self.open(&path, false).or_else(|| self.open(&path, true)) {
-            let _ = file.write_all_at(&text.bytes, 0);
-        }
+        text
     }
 
     /// A number for a thread.
@@ -280,20 +236,76 @@ impl Process {
     }
 }
 
+// ---- Files. What is shared is free meanwhile, since a disk may be slow.
+
+fn copy_of(text: &Text) -> Text {
+    let mut copy = Text::new();
+    copy.add(&text.bytes);
+    copy.is_whole = text.is_whole;
+    copy
+}
+
+/// Makes the folder, if the program wasn't started by what makes it.
+fn make_folder() {
+    let Some((folder, program)) = PROCESS.with(|process| (copy_of(&process.folder), copy_of(&process.program))) else {
+        return;
+    };
+    let mut path = folder;
+    path.add(b"/raw");
+    if std::fs::create_dir_all(path_of(&path)).is_err() {
+        return;
+    }
+    path.add(b"/settings");
+    if let Ok(mut file) = OpenOptions::new().write(true).create_new(true).open(path_of(&path)) {
+        let mut text = Text::new();
+        text.add(b"version 2\nframes 3\nprogram ");
+        text.add(&program.bytes);
+        text.add(b"\nrecorder rust\n");
+        let _ = file.write_all(&text.bytes);
+    }
+}
+
+/// Makes a file. Whoever the program becomes may write it.
+fn make(path: &Text) -> Option<File> {
+    let mut options = OpenOptions::new();
+    options.write(true).create_new(true);
+    let mut opened = options.open(path_of(path));
+    if opened.as_ref().is_err_and(|error| error.kind() == ErrorKind::NotFound) {
+        make_folder();
+        opened = options.open(path_of(path));
+    }
+    let file = opened.ok()?;
+    let _ = file.set_permissions(Permissions::from_mode(0o666));
+    Some(file)
+}
+
+fn open(path: &Text) -> Option<File> {
+    OpenOptions::new().write(true).open(path_of(path)).ok()
+}
+
+/// Whose turn it is to write what was counted, so that no older counts come after newer ones.
+static TURN: Shared<()> = Shared::new(());
+
 /// Writes what was counted so far.
 pub fn put_counts() {
-    PROCESS.with(|process| process.put_counts());
+    TURN.with(|()| {
+        let written = PROCESS.with(|process| (process.path(format_args!("")), process.counts_as_text()));
+        if let Some((path, text)) = written {
+            if let Some(file) = open(&path).or_else(|| make(&path)) {
+                let _ = file.write_all_at(&text.bytes, 0);
+            }
+        }
+    });
 }
 
 /// Adds a line to the file of classes.
 pub fn tell_class(line: &Text) {
-    PROCESS.with(|process| {
-        let path = process.path(format_args!("-classes"));
-        drop(process.open(&path, true));
+    if let Some(path) = PROCESS.with(|process| process.path(format_args!("-classes"))) {
+        drop(make(&path));
         if let Ok(mut file) = OpenOptions::new().append(true).open(path_of(&path)) {
             let _ = file.write_all(&line.bytes);
         }
-    });
+    }
 }
 
 /// The file of a thread.
@@ -313,11 +325,7 @@ impl Trace {
 
     /// Adds to the file. False if that can't be done: then it ends with what could be written.
     pub fn add(&mut self, text: &Text) -> bool {
-        let file = if self.length == 0 {
-            PROCESS.with(|process| process.open(&self.path, true)).flatten()
-        } else {
-            OpenOptions::new().write(true).open(path_of(&self.path)).ok()
-        };
+        let file = if self.length == 0 { make(&self.path) } else { open(&self.path) };
         let is_added = text.is_whole && file.is_some_and(|file| file.write_all_at(&text.bytes, self.length).is_ok());
         self.length += text.bytes.len() as u64;
         is_added
@@ -326,6 +334,6 @@ impl Trace {
     /// Takes back what was written after a place in the file.
     pub fn cut(&mut self, length: u64) -> bool {
         self.length = length;
-        OpenOptions::new().write(true).open(path_of(&self.path)).is_ok_and(|file| file.set_len(length).is_ok())
+        open(&self.path).is_some_and(|file| file.set_len(length).is_ok())
     }
 }

@@ -3,6 +3,7 @@ use std::alloc::{GlobalAlloc, Layout, System};
 use std::cell::UnsafeCell;
 use std::ops::{Deref, DerefMut};
 use std::sync::atomic::{AtomicBool, Ordering};
+use std::time::Duration;
 
 const FIRST_ROOM: usize = 32;
 
@@ -175,7 +176,9 @@ pub struct Shared<T> {
 unsafe impl<T: Send> Sync for Shared<T> {}
 
 const SPINS: u32 = 64;
-const MOST_TURNS: u32 = 200_000;
+const FIRST_SLEEP: u32 = SPINS + 1_000;
+const MOST_TURNS: u32 = FIRST_SLEEP + 5_000;
+const A_SLEEP: Duration = Duration::from_millis(1);
 
 impl<T> Shared<T> {
     pub const fn new(value: T) -> Shared<T> {
@@ -199,10 +202,10 @@ impl<T> Shared<T> {
             if !self.is_taken.load(Ordering::Relaxed) && !self.is_taken.swap(true, Ordering::Acquire) {
                 return true;
             }
-            if turn < SPINS {
-                std::hint::spin_loop();
-            } else {
-                std::thread::yield_now();
+            match turn {
+                0..SPINS => std::hint::spin_loop(),
+                SPINS..FIRST_SLEEP => std::thread::yield_now(),
+                _ => std::thread::sleep(A_SLEEP),
             }
         }
         false
