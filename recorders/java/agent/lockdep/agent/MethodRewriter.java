@@ -145,7 +145,7 @@ final class MethodRewriter {
         if (!news.isEmpty() && news.peek().desc.equals(call.owner)) {
             TypeInsnNode made = news.pop();
             boolean isKept = Locking.realAfter(made) != null && Locking.realAfter(made).getOpcode() == Opcodes.DUP;
-            if (isKept && (Locking.LOCKS.contains(made.desc) || isKeptInLockedField(call))) noteMade(call);
+            if (isKept && (locking.isNoted(made.desc) || isKeptInLockedField(call))) noteMade(call);
         } else if (method.name.equals("<init>") && news.isEmpty() && !call.owner.equals(type.name) && locking.isOfItself) {
             after(call, list(new VarInsnNode(Opcodes.ALOAD, 0), hook("born", "(Ljava/lang/Object;)V")));
         }

@@ -88,7 +88,7 @@ final class Rewriter implements ClassFileTransformer {
         ClassNode type = new ClassNode();
         reader.accept(type, 0);
         Source source = Source.add(type.name.replace('/', '.'), type.sourceFile, location(domain), firstLine(type), isOfJdk);
-        Locking locking = new Locking(type, hierarchy, loader);
+        Locking locking = new Locking(type, hierarchy, loader, begins("java/lang/StringBuffer", jdk));
         boolean isChanged = false;
         for (MethodNode method : type.methods) {
             if (method.instructions.size() > 0) isChanged |= new MethodRewriter(type, method, source, locking).rewrite();
