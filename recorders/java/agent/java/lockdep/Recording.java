@@ -54,6 +54,11 @@ public final class Recording {
         isOver = false;
     }
 
+    /** Whether this process is recorded already, as by an agent that both the command line and the environment name. */
+    public static boolean hasBegun() {
+        return it != null;
+    }
+
     /** Lets the recorder look at what the JDK keeps to itself, for which its packages have been opened. */
     public static void openBase() throws ReflectiveOperationException {
         Known.openViews();

@@ -23,7 +23,7 @@ public final class Agent {
     public static void begin(String folder, Instrumentation machine) throws IOException {
         String raw = System.getenv("LOCKDEP_JAVA");
         File processes = folder == null || folder.isEmpty() ? raw == null ? null : new File(raw) : folderOf(folder);
-        if (processes == null || !processes.isDirectory()) return;
+        if (processes == null || !processes.isDirectory() || Recording.hasBegun()) return;
         Rewriter rewriter = new Rewriter(words("LOCKDEP_JAVA_JDK", ","));
         rewriter.warmUp();
         open(machine);
