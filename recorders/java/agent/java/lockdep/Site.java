@@ -59,8 +59,9 @@ public final class Site {
         return add(new Site(site.source, site.method, site.line, site.ordinal, "\t" + caller));
     }
 
+    /** (What calls constructors by reflection has a loader of its own.) */
     private static boolean isOfProgram(Class<?> type) {
-        return type.getClassLoader() != null && type.getClassLoader() != ClassLoader.getPlatformClassLoader();
+        return !type.getName().startsWith("jdk.internal.") && type.getClassLoader() != null && type.getClassLoader() != ClassLoader.getPlatformClassLoader();
     }
 
     private static String place(StackWalker.StackFrame frame) {
