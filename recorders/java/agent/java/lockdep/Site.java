@@ -61,7 +61,8 @@ public final class Site {
 
     /** (What calls constructors by reflection has a loader of its own.) */
     private static boolean isOfProgram(Class<?> type) {
-        return !type.getName().startsWith("jdk.internal.") && type.getClassLoader() != null && type.getClassLoader() != ClassLoader.getPlatformClassLoader();
+        return !type.getName().startsWith("jdk.internal.") && type.getClassLoader() != null
+                && type.getClassLoader() != ClassLoader.getPlatformClassLoader();
     }
 
     private static String place(StackWalker.StackFrame frame) {
@@ -90,7 +91,9 @@ public final class Site {
         return known;
     }
 
-    /** The class of an object whose constructor runs: where it is called. Null if the JDK calls it, as by reflection. */
+    /**
+     * The class of an object whose constructor runs: where it is called. Null if the JDK calls it, as by reflection.
+     */
     static Made madeByCaller(Object object) {
         return walker.walk(frames -> frames.skip(2).filter(frame -> !isConstructor(frame, object)).findFirst()
                 .filter(frame -> isOfProgram(frame.getDeclaringClass()))

@@ -13,13 +13,16 @@ import org.objectweb.asm.tree.VarInsnNode;
 /** What a class does with monitors, which says where objects that come to be locks are made. */
 final class Locking {
     /** Classes of the JDK whose objects are locks, or are often used as such: where they are made is always noted. */
-    private static final Set<String> LOCKS = Set.of("java/lang/Object", "java/util/Vector", "java/util/Stack", "java/util/Hashtable",
+    private static final Set<String> LOCKS = Set.of("java/lang/Object", "java/util/Vector", "java/util/Stack",
+            "java/util/Hashtable",
             "java/util/Properties", Hierarchy.LOCKS + "ReentrantLock", Hierarchy.LOCKS + "ReentrantReadWriteLock",
             Hierarchy.LOCKS + "StampedLock");
 
     private static final String BUFFER = "java/lang/StringBuffer";
-    private static final Set<String> ABOVE = Set.of(BUFFER, "java/util/Vector", "java/util/Stack", "java/util/Hashtable", "java/util/Properties",
-            Hierarchy.LOCKS + "ReentrantLock", Hierarchy.LOCKS + "ReentrantReadWriteLock", Hierarchy.LOCKS + "StampedLock");
+    private static final Set<String> ABOVE = Set.of(BUFFER, "java/util/Vector", "java/util/Stack",
+            "java/util/Hashtable", "java/util/Properties",
+            Hierarchy.LOCKS + "ReentrantLock", Hierarchy.LOCKS + "ReentrantReadWriteLock",
+                    Hierarchy.LOCKS + "StampedLock");
 
     final Hierarchy hierarchy;
     final ClassLoader loader;
@@ -34,7 +37,8 @@ final class Locking {
         this.hierarchy = hierarchy;
         this.hasBuffers = hasBuffers;
         this.loader = loader;
-        boolean locksThis = ABOVE.contains(type.name) || ABOVE.contains(type.superName) || type.interfaces.contains(Hierarchy.LOCKS + "Lock");
+        boolean locksThis = ABOVE.contains(type.name) || ABOVE.contains(type.superName)
+                || type.interfaces.contains(Hierarchy.LOCKS + "Lock");
         for (MethodNode method : type.methods) {
             boolean isStatic = (method.access & Opcodes.ACC_STATIC) != 0;
             locksThis |= !isStatic && (method.access & Opcodes.ACC_SYNCHRONIZED) != 0;
