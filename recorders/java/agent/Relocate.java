@@ -26,7 +26,8 @@ final class Relocate extends Remapper {
     private void gather(Path from, Path to) throws IOException {
         List<Path> files;
         try (Stream<Path> all = Files.walk(from)) {
-            files = all.filter(file -> file.toString().endsWith(".class") && !file.endsWith("module-info.class")).collect(Collectors.toList());
+            files = all.filter(file -> file.toString().endsWith(".class") && !file.endsWith("module-info.class"))
+                    .collect(Collectors.toList());
         }
         for (Path file : files) {
             try (InputStream bytes = Files.newInputStream(file)) {

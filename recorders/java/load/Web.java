@@ -28,7 +28,8 @@ public class Web {
         HttpClient client = HttpClient.newBuilder().cookieHandler(new CookieManager()).build();
         try {
             for (int count = 0; count < requests; count++) {
-                HttpResponse<String> answer = client.send(HttpRequest.newBuilder(uri).build(), HttpResponse.BodyHandlers.ofString());
+                HttpResponse<String> answer = client.send(HttpRequest.newBuilder(uri).build(),
+                        HttpResponse.BodyHandlers.ofString());
                 if (answer.statusCode() != 200) throw new IllegalStateException(answer.toString());
             }
         } catch (IOException | InterruptedException error) {

@@ -5,8 +5,9 @@ import java.lang.management.ManagementFactory;
 import java.lang.management.ThreadInfo;
 
 /**
- * What a thread waits for at the end. A lock of java.util.concurrent.locks, and a monitor that a block takes, is its newest record
- * already. The monitor of a synchronized method isn't, since nothing of the method has run: the virtual machine says which one it is.
+ * What a thread waits for at the end. A lock of java.util.concurrent.locks, and a monitor that a block takes, is its
+ * newest record already. The monitor of a synchronized method isn't, since nothing of the method has run: the virtual
+ * machine says which one it is.
  */
 final class Blocked {
     private Blocked() {

@@ -8,8 +8,8 @@ import java.util.concurrent.locks.ReadWriteLock;
 import java.util.concurrent.locks.StampedLock;
 
 /**
- * What rewritten classes call. The package begins with `java` since there are class loaders, as those of OSGi, that find nothing
- * else outside. Nothing of the recorder's own is ever thrown here.
+ * What rewritten classes call. The package begins with `java` since there are class loaders, as those of OSGi, that
+ * find nothing else outside. Nothing of the recorder's own is ever thrown here.
  */
 public final class Hooks {
     private Hooks() {
@@ -407,14 +407,16 @@ public final class Hooks {
 
     private static long changed(StampedLock lock, long old, long stamp, int site) {
         if (stamp != 0) {
-            change(lock, StampedLock.isWriteLockStamp(old), StampedLock.isReadLockStamp(old), StampedLock.isWriteLockStamp(stamp),
+            change(lock, StampedLock.isWriteLockStamp(old), StampedLock.isReadLockStamp(old),
+                    StampedLock.isWriteLockStamp(stamp),
                     StampedLock.isReadLockStamp(stamp), site);
         }
         return stamp;
     }
 
     /** A stamped lock is held in another way than before, for which nobody waited. */
-    private static void change(StampedLock lock, boolean wasWriter, boolean wasReader, boolean isWriter, boolean isReader, int site) {
+    private static void change(StampedLock lock, boolean wasWriter, boolean wasReader, boolean isWriter,
+            boolean isReader, int site) {
         if (wasWriter == isWriter && wasReader == isReader) return;
         Object before = Part.of(lock, wasReader);
         if ((wasWriter || wasReader) && !gives(before, site)) gaveUnseen(before);

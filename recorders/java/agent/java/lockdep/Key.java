@@ -2,7 +2,9 @@ package java.lockdep;
 
 import java.util.Arrays;
 
-/** A lock that is told apart from the others of its class, or all those that aren't. Its number is the key of a code. */
+/**
+ * A lock that is told apart from the others of its class, or all those that aren't. Its number is the key of a code.
+ */
 final class Key {
     private static Key[] all = new Key[256];
     private static int count;

@@ -14,8 +14,9 @@ import java.util.concurrent.locks.ReentrantReadWriteLock;
 import java.util.concurrent.locks.StampedLock;
 
 /**
- * What is known of a lock: its class, and the key that it is written by. It is found by the lock's object and doesn't keep that alive.
- * The parts of one lock, as the two views of a read-write lock and its conditions, have it as their target.
+ * What is known of a lock: its class, and the key that it is written by. It is found by the lock's object and doesn't
+ * keep that alive. The parts of one lock, as the two views of a read-write lock and its conditions, have it as their
+ * target.
  */
 final class Known extends WeakReference<Object> {
     static final int MOST_APART = 32;
@@ -74,7 +75,8 @@ final class Known extends WeakReference<Object> {
         this.made = made;
         isReentrant = !(object instanceof StampedLock);
         isOfJdk = object.getClass().getClassLoader() == null || object instanceof ReentrantLock
-                || object instanceof ReentrantReadWriteLock.ReadLock || object instanceof ReentrantReadWriteLock.WriteLock;
+                || object instanceof ReentrantReadWriteLock.ReadLock
+                        || object instanceof ReentrantReadWriteLock.WriteLock;
         key = made == null ? 0 : made.rest.number;
     }
 
@@ -206,9 +208,12 @@ final class Known extends WeakReference<Object> {
         VarHandle reader = ofReader;
         VarHandle writer = ofWriter;
         if (reader == null || writer == null) return lock;
-        if (lock instanceof ReentrantReadWriteLock) return (Object) writer.get(((ReentrantReadWriteLock) lock).writeLock());
-        if (lock instanceof ReentrantReadWriteLock.ReadLock) return (Object) reader.get((ReentrantReadWriteLock.ReadLock) lock);
-        if (lock instanceof ReentrantReadWriteLock.WriteLock) return (Object) writer.get((ReentrantReadWriteLock.WriteLock) lock);
+        if (lock instanceof ReentrantReadWriteLock)
+                return (Object) writer.get(((ReentrantReadWriteLock) lock).writeLock());
+        if (lock instanceof ReentrantReadWriteLock.ReadLock)
+                return (Object) reader.get((ReentrantReadWriteLock.ReadLock) lock);
+        if (lock instanceof ReentrantReadWriteLock.WriteLock)
+                return (Object) writer.get((ReentrantReadWriteLock.WriteLock) lock);
         return lock;
     }
 

@@ -9,8 +9,9 @@ import java.util.ArrayList;
 import java.util.HashMap;
 
 /**
- * The recording of this process: its tasks, and its file, whose lines recorders/python/lockdep_record/recording.py explains. What no task
- * of the process had done before is written at once, so that nothing is missing if a signal ends the process.
+ * The recording of this process: its tasks, and its file, whose lines recorders/python/lockdep_record/recording.py
+ * explains. What no task of the process had done before is written at once, so that nothing is missing if a signal
+ * ends the process.
  */
 public final class Recording {
     /** Of tasks that do the same from beginning to end, so many are written. */
@@ -29,7 +30,8 @@ public final class Recording {
     private final ArrayList<Task> tasks = new ArrayList<>();
     private final HashMap<String, Integer> places = new HashMap<>();
     private final HashMap<Integer, Integer> like = new HashMap<>();
-    private final String[] names = {"operations", "repeats", "retried-tries", "beyond-held", "full-traces", "unseen-releases",
+    private final String[] names = {"operations", "repeats", "retried-tries", "beyond-held", "full-traces",
+            "unseen-releases",
         "interrupted", "alike", "unrewritten"};
     private final long[] counts = new long[names.length];
     private final long[] told = new long[names.length];
@@ -54,6 +56,11 @@ public final class Recording {
         isOver = false;
     }
 
+    /** Whether this process is recorded already, as by an agent that both the command line and the environment name. */
+    public static boolean hasBegun() {
+        return it != null;
+    }
+
     /** Lets the recorder look at what the JDK keeps to itself, for which its packages have been opened. */
     public static void openBase() throws ReflectiveOperationException {
         Known.openViews();
@@ -62,7 +69,8 @@ public final class Recording {
     /** Ends the recording after what the program does at its end; or beside it, if the JDK can't be asked for that. */
     public static void atEnd(int place) {
         try {
-            Method add = Class.forName("java.lang.Shutdown").getDeclaredMethod("add", int.class, boolean.class, Runnable.class);
+            Method add = Class.forName("java.lang.Shutdown").getDeclaredMethod("add", int.class, boolean.class,
+                    Runnable.class);
             add.setAccessible(true);
             add.invoke(null, place, false, (Runnable) Recording::end);
         } catch (ReflectiveOperationException | RuntimeException closed) {
@@ -99,7 +107,8 @@ public final class Recording {
         synchronized (it) {
             StringBuilder text = new StringBuilder();
             it.declare(code, text);
-            it.put(text.append("M ").append(task.number).append(' ').append(record).append(' ').append(code).append('\n').toString());
+            it.put(text.append("M ").append(task.number).append(' ').append(record).append(' ').append(code)
+                    .append('\n').toString());
         }
     }
 
@@ -137,7 +146,8 @@ public final class Recording {
             int code = task.records[2 * at];
             int site = task.records[2 * at + 1];
             declare(code, text);
-            lines.append((code & 7) == Modes.RELEASE ? "R " : "A ").append(task.number).append(' ').append(code).append(' ')
+            lines.append((code & 7) == Modes.RELEASE ? "R " : "A ").append(task.number).append(' ').append(code)
+                    .append(' ')
                     .append(site == 0 ? 0 : Site.of(site).told(this, text)).append('\n');
         }
         task.base += task.size;
@@ -166,10 +176,12 @@ public final class Recording {
         Made made = key.made;
         if (!made.isTold) {
             made.isTold = true;
-            text.append("C ").append(made.number).append('\t').append(made.name).append('\t').append(made.place).append('\t')
+            text.append("C ").append(made.number).append('\t').append(made.name).append('\t').append(made.place)
+                    .append('\t')
                     .append(made.kind).append('\n');
         }
-        text.append("K ").append(key.number).append(' ').append(made.number).append(' ').append(key.ordinal).append('\n');
+        text.append("K ").append(key.number).append(' ').append(made.number).append(' ').append(key.ordinal)
+                .append('\n');
     }
 
     /** Adds what a task counted for itself to what the process counts. */
@@ -180,12 +192,14 @@ public final class Recording {
         counts[3] += task.beyondHeld;
         counts[4] += task.fullTraces;
         counts[5] += task.unseenReleases;
-        task.operations = task.repeats = task.retriedTries = task.beyondHeld = task.fullTraces = task.unseenReleases = 0;
+        task.operations = task.repeats = task.retriedTries = task.beyondHeld = task.fullTraces =
+                task.unseenReleases = 0;
     }
 
     private void addCounts(StringBuilder lines) {
         for (int at = 0; at < names.length; at++) {
-            if (counts[at] != told[at]) lines.append("S ").append(names[at]).append(' ').append(counts[at]).append('\n');
+            if (counts[at] != told[at]) lines.append("S ").append(names[at]).append(' ').append(counts[at])
+                    .append('\n');
             told[at] = counts[at];
         }
     }

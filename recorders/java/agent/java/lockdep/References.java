@@ -5,7 +5,9 @@ import java.util.concurrent.locks.Lock;
 import java.util.concurrent.locks.ReentrantLock;
 import java.util.concurrent.locks.ReentrantReadWriteLock;
 
-/** What references to methods of locks become, as `lock::unlock`: they need an object of just the class that they had. */
+/**
+ * What references to methods of locks become, as `lock::unlock`: they need an object of just the class that they had.
+ */
 public final class References {
     private References() {
     }
@@ -62,7 +64,8 @@ public final class References {
         return Hooks.tryLock(lock, 0);
     }
 
-    public static boolean tryLock(ReentrantReadWriteLock.ReadLock lock, long time, TimeUnit unit) throws InterruptedException {
+    public static boolean tryLock(ReentrantReadWriteLock.ReadLock lock, long time, TimeUnit unit)
+            throws InterruptedException {
         return Hooks.tryLock(lock, time, unit, 0);
     }
 
@@ -82,7 +85,8 @@ public final class References {
         return Hooks.tryLock(lock, 0);
     }
 
-    public static boolean tryLock(ReentrantReadWriteLock.WriteLock lock, long time, TimeUnit unit) throws InterruptedException {
+    public static boolean tryLock(ReentrantReadWriteLock.WriteLock lock, long time, TimeUnit unit)
+            throws InterruptedException {
         return Hooks.tryLock(lock, time, unit, 0);
     }
 

@@ -59,8 +59,10 @@ public final class Site {
         return add(new Site(site.source, site.method, site.line, site.ordinal, "\t" + caller));
     }
 
+    /** (What calls constructors by reflection has a loader of its own.) */
     private static boolean isOfProgram(Class<?> type) {
-        return type.getClassLoader() != null && type.getClassLoader() != ClassLoader.getPlatformClassLoader();
+        return !type.getName().startsWith("jdk.internal.") && type.getClassLoader() != null
+                && type.getClassLoader() != ClassLoader.getPlatformClassLoader();
     }
 
     private static String place(StackWalker.StackFrame frame) {
@@ -89,7 +91,9 @@ public final class Site {
         return known;
     }
 
-    /** The class of an object whose constructor runs: where it is called. Null if the JDK calls it, as by reflection. */
+    /**
+     * The class of an object whose constructor runs: where it is called. Null if the JDK calls it, as by reflection.
+     */
     static Made madeByCaller(Object object) {
         return walker.walk(frames -> frames.skip(2).filter(frame -> !isConstructor(frame, object)).findFirst()
                 .filter(frame -> isOfProgram(frame.getDeclaringClass()))

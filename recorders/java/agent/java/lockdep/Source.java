@@ -9,7 +9,8 @@ import java.util.concurrent.ConcurrentHashMap;
 public final class Source {
     private static final ConcurrentHashMap<String, Source> all = new ConcurrentHashMap<>();
     /** Where sources lie below a folder, and how far above a class file's folder or a jar one is looked for. */
-    private static final String[] BELOW = {"", "src/main/java", "src/test/java", "src", "java", "test", "app/src/main/java",
+    private static final String[] BELOW = {"", "src/main/java", "src/test/java", "src", "java", "test",
+            "app/src/main/java",
         "src/main/kotlin", "src/main/scala", "src/main/groovy"};
     private static final int MOST_ABOVE = 4;
 
@@ -28,9 +29,13 @@ public final class Source {
         this.isOfJdk = isOfJdk;
     }
 
-    /** A class that is rewritten: its name with dots, its file's name, and the folder or jar that it was loaded from, or null. */
+    /**
+     * A class that is rewritten: its name with dots, its file's name, and the folder or jar that it was loaded from, or
+     * null.
+     */
     public static Source add(String className, String fileName, String location, int firstLine, boolean isOfJdk) {
-        Source source = new Source(className, fileName == null ? outermost(className) + ".java" : fileName, location, firstLine, isOfJdk);
+        Source source = new Source(className, fileName == null ? outermost(className) + ".java" : fileName, location,
+                firstLine, isOfJdk);
         all.put(className, source);
         return source;
     }
@@ -84,7 +89,10 @@ public final class Source {
         return null;
     }
 
-    /** The folders below which the sources may lie: those that were named, those above the class files, and the current one. */
+    /**
+     * The folders below which the sources may lie: those that were named, those above the class files, and the current
+     * one.
+     */
     private List<String> roots() {
         List<String> roots = new ArrayList<>();
         for (String named : Recording.sources) roots.add(new File(named).getAbsolutePath());

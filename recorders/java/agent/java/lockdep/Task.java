@@ -7,8 +7,8 @@ import java.util.ArrayList;
 import java.util.Arrays;
 
 /**
- * A thread: what it holds, and its records that aren't in the file yet. Only its own thread works on it, but for the end, when
- * the recording is over.
+ * A thread: what it holds, and its records that aren't in the file yet. Only its own thread works on it, but for the
+ * end, when the recording is over.
  */
 final class Task {
     static final int MOST_HELD = 48;
@@ -96,7 +96,10 @@ final class Task {
         return (boolean) BUSY.getAcquire(this);
     }
 
-    /** Something went wrong while the task was looked at, as when the stack is full: its trace ends here, and it stays busy. */
+    /**
+     * Something went wrong while the task was looked at, as when the stack is full: its trace ends here, and it stays
+     * busy.
+     */
     void abandon() {
         isOver = true;
         Recording.interrupted();
@@ -332,7 +335,10 @@ final class Task {
 
     // ---- Acquisitions and releases of either kind.
 
-    /** Looks at what happened since the last operation: an error may have ended a wait, or others gave back what this task held. */
+    /**
+     * Looks at what happened since the last operation: an error may have ended a wait, or others gave back what this
+     * task held.
+     */
     private void settle() {
         if (wish != null) withdraw();
         if (hasDropped) giveDropped();
@@ -425,8 +431,9 @@ final class Task {
     }
 
     /**
-     * A lock is given back before others that were taken later: these move up to its place. What is taken back begins where just those
-     * before it are held: that is where the one before it began, if that is a lock of the same code, or else nowhere.
+     * A lock is given back before others that were taken later: these move up to its place. What is taken back begins
+     * where just those before it are held: that is where the one before it began, if that is a lock of the same code,
+     * or else nowhere.
      */
     private void giveBackEarly(Held entry) {
         int at = depth - 1;

@@ -2,7 +2,9 @@ package java.lockdep;
 
 import java.util.concurrent.ConcurrentHashMap;
 
-/** The locks that a task holds, as a node of the tree of all that it held. What is held there is a code at each step. */
+/**
+ * The locks that a task holds, as a node of the tree of all that it held. What is held there is a code at each step.
+ */
 final class Way {
     /** The same in the tree of all tasks of the process. */
     static final class Common {

@@ -16,8 +16,8 @@ final class Wish {
     }
 
     /**
-     * What is to be waited for. A lock of the JDK's is written before it is waited for. A lock of the program's own may call others, so
-     * it is written when it was taken.
+     * What is to be waited for. A lock of the JDK's is written before it is waited for. A lock of the program's own
+     * may call others, so it is written when it was taken.
      */
     static Wish of(Object lock, int site) {
         Task task = lock == null ? null : Task.begin();

@@ -9,9 +9,10 @@ import java.util.Map;
 import java.util.Set;
 
 /**
- * Begins the recording before the program's first class is loaded: `-javaagent:lockdep-agent.jar`, or `-javaagent:lockdep-agent.jar=FOLDER`
- * if no `record` runs the program. The environment says the rest: LOCKDEP_JAVA has the folder of the processes' files,
- * LOCKDEP_JAVA_JDK the beginnings of names of the JDK's classes that are recorded too, LOCKDEP_JAVA_SOURCES folders of sources.
+ * Begins the recording before the program's first class is loaded: `-javaagent:lockdep-agent.jar`, or
+ * `-javaagent:lockdep-agent.jar=FOLDER` if no `record` runs the program. The environment says the rest: LOCKDEP_JAVA
+ * has the folder of the processes' files, LOCKDEP_JAVA_JDK the beginnings of names of the JDK's classes that are
+ * recorded too, LOCKDEP_JAVA_SOURCES folders of sources.
  */
 public final class Agent {
     /** Comes after the program's own hooks, which may take locks. */
@@ -23,7 +24,7 @@ public final class Agent {
     public static void begin(String folder, Instrumentation machine) throws IOException {
         String raw = System.getenv("LOCKDEP_JAVA");
         File processes = folder == null || folder.isEmpty() ? raw == null ? null : new File(raw) : folderOf(folder);
-        if (processes == null || !processes.isDirectory()) return;
+        if (processes == null || !processes.isDirectory() || Recording.hasBegun()) return;
         Rewriter rewriter = new Rewriter(words("LOCKDEP_JAVA_JDK", ","));
         rewriter.warmUp();
         open(machine);
@@ -51,7 +52,8 @@ public final class Agent {
         try {
             Module base = Object.class.getModule();
             Set<Module> ours = Set.of(Agent.class.getModule());
-            machine.redefineModule(base, Set.of(), Map.of(), Map.of("java.lang", ours, "java.util.concurrent.locks", ours), Set.of(), Map.of());
+            machine.redefineModule(base, Set.of(), Map.of(), Map.of("java.lang", ours, "java.util.concurrent.locks",
+                    ours), Set.of(), Map.of());
             Recording.openBase();
         } catch (Exception | LinkageError closed) {
             return;
@@ -62,7 +64,8 @@ public final class Agent {
     private static void rewriteLoaded(Rewriter rewriter, Instrumentation machine) {
         if (!rewriter.asksForJdk()) return;
         for (Class<?> type : machine.getAllLoadedClasses()) {
-            if (!machine.isModifiableClass(type) || !rewriter.isAsked(type.getName().replace('.', '/'), type.getModule())) continue;
+            if (!machine.isModifiableClass(type) || !rewriter.isAsked(type.getName().replace('.', '/'),
+                    type.getModule())) continue;
             try {
                 machine.retransformClasses(type);
             } catch (UnmodifiableClassException | LinkageError left) {

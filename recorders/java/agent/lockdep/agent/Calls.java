@@ -18,12 +18,16 @@ final class Calls {
     private static final String STAMPED = Hierarchy.LOCKS + "StampedLock";
     private static final String UNIT = "Ljava/util/concurrent/TimeUnit;";
 
-    private static final Set<String> OF_LOCK = Set.of("lock()V", "lockInterruptibly()V", "tryLock()Z", "tryLock(J" + UNIT + ")Z", "unlock()V");
-    private static final Set<String> OF_CONDITION = Set.of("await()V", "await(J" + UNIT + ")Z", "awaitNanos(J)J", "awaitUninterruptibly()V",
+    private static final Set<String> OF_LOCK = Set.of("lock()V", "lockInterruptibly()V", "tryLock()Z",
+            "tryLock(J" + UNIT + ")Z", "unlock()V");
+    private static final Set<String> OF_CONDITION = Set.of("await()V", "await(J" + UNIT + ")Z", "awaitNanos(J)J",
+            "awaitUninterruptibly()V",
             "awaitUntil(Ljava/util/Date;)Z");
     private static final Set<String> OF_STAMPED = Set.of("writeLock()J", "readLock()J", "writeLockInterruptibly()J",
-            "readLockInterruptibly()J", "tryWriteLock()J", "tryReadLock()J", "tryWriteLock(J" + UNIT + ")J", "tryReadLock(J" + UNIT + ")J",
-            "unlockWrite(J)V", "unlockRead(J)V", "unlock(J)V", "tryUnlockWrite()Z", "tryUnlockRead()Z", "tryConvertToWriteLock(J)J",
+            "readLockInterruptibly()J", "tryWriteLock()J", "tryReadLock()J", "tryWriteLock(J" + UNIT + ")J",
+                    "tryReadLock(J" + UNIT + ")J",
+            "unlockWrite(J)V", "unlockRead(J)V", "unlock(J)V", "tryUnlockWrite()Z", "tryUnlockRead()Z",
+                    "tryConvertToWriteLock(J)J",
             "tryConvertToReadLock(J)J", "tryConvertToOptimisticRead(J)J");
     private static final Map<String, String> VIEWS = new HashMap<>();
     private static final Set<String> WAITS = Set.of("wait()V", "wait(J)V", "wait(JI)V");
@@ -53,11 +57,13 @@ final class Calls {
 
     /** Whether the call of Hooks is told where it stands. */
     static boolean hasSite(MethodInsnNode call) {
-        return !call.name.equals("newCondition") && !call.name.equals("halt") && !VIEWS.containsKey(call.name + call.desc);
+        return !call.name.equals("newCondition") && !call.name.equals("halt")
+                && !VIEWS.containsKey(call.name + call.desc);
     }
 
     private static boolean isLock(String owner, Locking locking) {
-        return Hierarchy.LOCK.contains(owner) || !owner.startsWith("java/") && locking.hierarchy.isLock(owner, locking.loader);
+        return Hierarchy.LOCK.contains(owner) || !owner.startsWith("java/") && locking.hierarchy.isLock(owner,
+                locking.loader);
     }
 
     /** Whether a reference to a method is one to a call that is replaced. */
@@ -65,7 +71,10 @@ final class Calls {
         return Hierarchy.LOCK.contains(owner) && OF_LOCK.contains(name + descriptor);
     }
 
-    /** The class that a reference's object is taken for, which it may have already; null if that isn't one of References. */
+    /**
+     * The class that a reference's object is taken for, which it may have already; null if that isn't one of
+     * References.
+     */
     static String objectOf(String descriptor, String owner) {
         Type[] words = Type.getArgumentTypes(descriptor);
         if (words.length == 0) return owner;

@@ -9,7 +9,8 @@ import org.objectweb.asm.ClassReader;
 /** Whether a class of the program's is a lock: its file says what is above it, and no class is loaded for that. */
 final class Hierarchy {
     static final String LOCKS = "java/util/concurrent/locks/";
-    static final Set<String> LOCK = Set.of(LOCKS + "Lock", LOCKS + "ReentrantLock", LOCKS + "ReentrantReadWriteLock$ReadLock",
+    static final Set<String> LOCK = Set.of(LOCKS + "Lock", LOCKS + "ReentrantLock",
+            LOCKS + "ReentrantReadWriteLock$ReadLock",
             LOCKS + "ReentrantReadWriteLock$WriteLock");
     private static final int MOST_ABOVE = 16;
 
@@ -32,7 +33,8 @@ final class Hierarchy {
 
     private static ClassReader read(String name, ClassLoader loader) {
         String file = name + ".class";
-        try (InputStream bytes = loader == null ? ClassLoader.getSystemResourceAsStream(file) : loader.getResourceAsStream(file)) {
+        try (InputStream bytes = loader == null ? ClassLoader.getSystemResourceAsStream(file)
+                : loader.getResourceAsStream(file)) {
             if (bytes == null) return null;
             byte[] all = bytes.readAllBytes();
             if (all[7] > 64) all[7] = 64;

@@ -13,24 +13,32 @@ import org.objectweb.asm.tree.VarInsnNode;
 /** What a class does with monitors, which says where objects that come to be locks are made. */
 final class Locking {
     /** Classes of the JDK whose objects are locks, or are often used as such: where they are made is always noted. */
-    static final Set<String> LOCKS = Set.of("java/lang/Object", "java/util/Vector", "java/util/Stack", "java/util/Hashtable",
-            "java/util/Properties", "java/lang/StringBuffer", Hierarchy.LOCKS + "ReentrantLock", Hierarchy.LOCKS + "ReentrantReadWriteLock",
+    private static final Set<String> LOCKS = Set.of("java/lang/Object", "java/util/Vector", "java/util/Stack",
+            "java/util/Hashtable",
+            "java/util/Properties", Hierarchy.LOCKS + "ReentrantLock", Hierarchy.LOCKS + "ReentrantReadWriteLock",
             Hierarchy.LOCKS + "StampedLock");
 
-    private static final Set<String> ABOVE = Set.of("java/util/Vector", "java/util/Stack", "java/util/Hashtable", "java/util/Properties",
-            Hierarchy.LOCKS + "ReentrantLock", Hierarchy.LOCKS + "ReentrantReadWriteLock", Hierarchy.LOCKS + "StampedLock");
+    private static final String BUFFER = "java/lang/StringBuffer";
+    private static final Set<String> ABOVE = Set.of(BUFFER, "java/util/Vector", "java/util/Stack",
+            "java/util/Hashtable", "java/util/Properties",
+            Hierarchy.LOCKS + "ReentrantLock", Hierarchy.LOCKS + "ReentrantReadWriteLock",
+                    Hierarchy.LOCKS + "StampedLock");
 
     final Hierarchy hierarchy;
     final ClassLoader loader;
+    /** Whether buffers of strings are recorded, of which there are too many to be noted else. */
+    private final boolean hasBuffers;
     /** Whether this class takes the monitor of its own objects, or they are locks. */
     final boolean isOfItself;
     /** The fields of this class and of others whose objects it locks. */
     private final Set<String> fields = new HashSet<>();
 
-    Locking(ClassNode type, Hierarchy hierarchy, ClassLoader loader) {
+    Locking(ClassNode type, Hierarchy hierarchy, ClassLoader loader, boolean hasBuffers) {
         this.hierarchy = hierarchy;
+        this.hasBuffers = hasBuffers;
         this.loader = loader;
-        boolean locksThis = ABOVE.contains(type.name) || ABOVE.contains(type.superName) || type.interfaces.contains(Hierarchy.LOCKS + "Lock");
+        boolean locksThis = ABOVE.contains(type.name) || ABOVE.contains(type.superName)
+                || type.interfaces.contains(Hierarchy.LOCKS + "Lock");
         for (MethodNode method : type.methods) {
             boolean isStatic = (method.access & Opcodes.ACC_STATIC) != 0;
             locksThis |= !isStatic && (method.access & Opcodes.ACC_SYNCHRONIZED) != 0;
@@ -39,6 +47,11 @@ final class Locking {
             }
         }
         isOfItself = locksThis;
+    }
+
+    /** Whether it is always noted where objects of a class are made. */
+    boolean isNoted(String name) {
+        return LOCKS.contains(name) || hasBuffers && name.equals(BUFFER);
     }
 
     boolean isLocked(FieldInsnNode field) {

@@ -27,8 +27,8 @@ import org.objectweb.asm.tree.TypeInsnNode;
 import org.objectweb.asm.tree.VarInsnNode;
 
 /**
- * Rewrites a method. What is added has no branches, so the frames of the method stay right; only the handler of a synchronized method
- * gets one of its own.
+ * Rewrites a method. What is added has no branches, so the frames of the method stay right; only the handler of a
+ * synchronized method gets one of its own.
  */
 final class MethodRewriter {
     private final ClassNode type;
@@ -53,7 +53,8 @@ final class MethodRewriter {
     /** Returns whether anything of the method is changed. */
     boolean rewrite() {
         boolean isSynchronized = (method.access & Opcodes.ACC_SYNCHRONIZED) != 0;
-        if (isSynchronized && !canBeWrapped()) throw new IllegalStateException("its method " + method.name + " changes `this`");
+        if (isSynchronized && !canBeWrapped())
+                throw new IllegalStateException("its method " + method.name + " changes `this`");
         AbstractInsnNode next;
         for (AbstractInsnNode each = code.getFirst(); each != null; each = next) {
             next = each.getNext();
@@ -67,8 +68,8 @@ final class MethodRewriter {
         if (each instanceof LineNumberNode) line = ((LineNumberNode) each).line;
         else if (each instanceof MethodInsnNode) rewriteCall((MethodInsnNode) each);
         else if (each instanceof InvokeDynamicInsnNode) rewriteReferences((InvokeDynamicInsnNode) each);
-        else if (each.getOpcode() == Opcodes.MONITORENTER) before(each, list(new InsnNode(Opcodes.DUP), site(), hook("enter", "(Ljava/lang/Object;I)V")));
-        else if (each.getOpcode() == Opcodes.MONITOREXIT) before(each, list(new InsnNode(Opcodes.DUP), hook("exit", "(Ljava/lang/Object;)V")));
+        else if (each.getOpcode() == Opcodes.MONITORENTER) before(each, list(new InsnNode(Opcodes.DUP), site(), enter()));
+        else if (each.getOpcode() == Opcodes.MONITOREXIT) before(each, list(new InsnNode(Opcodes.DUP), exit()));
         else if (each.getOpcode() == Opcodes.NEW) news.push((TypeInsnNode) each);
         else if (isArray(each.getOpcode()) && isKeptInLockedField(each)) noteMade(each);
     }
@@ -87,6 +88,14 @@ final class MethodRewriter {
 
     private static MethodInsnNode hook(String name, String descriptor) {
         return new MethodInsnNode(Opcodes.INVOKESTATIC, Calls.HOOKS, name, descriptor, false);
+    }
+
+    private static MethodInsnNode enter() {
+        return hook("enter", "(Ljava/lang/Object;I)V");
+    }
+
+    private static MethodInsnNode exit() {
+        return hook("exit", "(Ljava/lang/Object;)V");
     }
 
     private AbstractInsnNode site() {
@@ -134,7 +143,8 @@ final class MethodRewriter {
             String object = Calls.objectOf(made.desc, method.getOwner());
             if (object == null) continue;
             String descriptor = "(L" + object + ";" + method.getDesc().substring(1);
-            made.bsmArgs[at] = new Handle(Opcodes.H_INVOKESTATIC, Calls.REFERENCES, method.getName(), descriptor, false);
+            made.bsmArgs[at] = new Handle(Opcodes.H_INVOKESTATIC, Calls.REFERENCES, method.getName(), descriptor,
+                    false);
             isChanged = true;
         }
     }
@@ -145,8 +155,9 @@ final class MethodRewriter {
         if (!news.isEmpty() && news.peek().desc.equals(call.owner)) {
             TypeInsnNode made = news.pop();
             boolean isKept = Locking.realAfter(made) != null && Locking.realAfter(made).getOpcode() == Opcodes.DUP;
-            if (isKept && (Locking.LOCKS.contains(made.desc) || isKeptInLockedField(call))) noteMade(call);
-        } else if (method.name.equals("<init>") && news.isEmpty() && !call.owner.equals(type.name) && locking.isOfItself) {
+            if (isKept && (locking.isNoted(made.desc) || isKeptInLockedField(call))) noteMade(call);
+        } else if (method.name.equals("<init>") && news.isEmpty() && !call.owner.equals(type.name)
+                && locking.isOfItself) {
             after(call, list(new VarInsnNode(Opcodes.ALOAD, 0), hook("born", "(Ljava/lang/Object;)V")));
         }
     }
@@ -167,7 +178,10 @@ final class MethodRewriter {
 
     // ---- Synchronized methods.
 
-    /** Whether the object of a method is in its place all through it. (Compilers leave it there; what shrinks programs may not.) */
+    /**
+     * Whether the object of a method is in its place all through it. (Compilers leave it there; what shrinks programs
+     * may not.)
+     */
     private boolean canBeWrapped() {
         boolean isStatic = (method.access & Opcodes.ACC_STATIC) != 0;
         if (isStatic) return (type.version & 0xffff) >= Opcodes.V1_5;
@@ -201,17 +215,18 @@ final class MethodRewriter {
     private void wrap() {
         line = firstLine();
         for (AbstractInsnNode each = code.getFirst(); each != null; each = each.getNext()) {
-            if (each.getOpcode() >= Opcodes.IRETURN && each.getOpcode() <= Opcodes.RETURN) before(each, list(owner(), hook("exit", "(Ljava/lang/Object;)V")));
+            boolean isReturn = each.getOpcode() >= Opcodes.IRETURN && each.getOpcode() <= Opcodes.RETURN;
+            if (isReturn) before(each, list(owner(), exit()));
         }
         LabelNode start = new LabelNode();
         LabelNode end = new LabelNode();
-        code.insert(list(owner(), site(), hook("enter", "(Ljava/lang/Object;I)V"), start));
+        code.insert(list(owner(), site(), enter(), start));
         code.add(end);
         if ((type.version & 0xffff) >= Opcodes.V1_6) {
             Object[] locals = (method.access & Opcodes.ACC_STATIC) != 0 ? new Object[0] : new Object[] {type.name};
             code.add(new FrameNode(Opcodes.F_FULL, locals.length, locals, 1, new Object[] {"java/lang/Throwable"}));
         }
-        code.add(list(owner(), hook("exit", "(Ljava/lang/Object;)V"), new InsnNode(Opcodes.ATHROW)));
+        code.add(list(owner(), exit(), new InsnNode(Opcodes.ATHROW)));
         method.tryCatchBlocks.add(new TryCatchBlockNode(start, end, end, null));
         isChanged = true;
     }

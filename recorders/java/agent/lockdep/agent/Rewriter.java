@@ -22,11 +22,14 @@ final class Rewriter implements ClassFileTransformer {
     /** The newest version of class files that this ASM reads. Newer ones have had nothing else in them so far. */
     private static final int NEWEST = Opcodes.V20;
     /** What the recorder itself is made of, or what is under it, whatever is asked for. */
-    private static final String[] NEVER = {"java/lang/Object", "java/lang/Thread", "java/lang/VirtualThread", "java/lang/BaseVirtualThread",
-        "java/lang/Class", "java/lang/ref/", "java/lang/invoke/", "java/lang/System", "java/lang/Shutdown", "java/lang/ApplicationShutdown",
+    private static final String[] NEVER = {"java/lang/Object", "java/lang/Thread", "java/lang/VirtualThread",
+            "java/lang/BaseVirtualThread",
+        "java/lang/Class", "java/lang/ref/", "java/lang/invoke/", "java/lang/System", "java/lang/Shutdown",
+                "java/lang/ApplicationShutdown",
         "java/lang/StackWalker", "java/lang/StackStreamFactory", "java/lang/StackFrame", "java/lang/StringBuilder",
         "java/lang/AbstractStringBuilder", "java/lang/String", "java/util/concurrent/ConcurrentHashMap",
-        "java/util/concurrent/locks/", "java/io/FileOutputStream", "java/io/FileDescriptor", "java/lockdep/", "jdk/internal/",
+        "java/util/concurrent/locks/", "java/io/FileOutputStream", "java/io/FileDescriptor", "java/lockdep/",
+                "jdk/internal/",
         "sun/instrument/", "sun/launcher/", "lockdep/agent/", "lockdep/asm/"};
     private static final String[] ALWAYS = {"java/lang/StringBuffer"};
 
@@ -50,7 +53,8 @@ final class Rewriter implements ClassFileTransformer {
     }
 
     @Override
-    public byte[] transform(Module module, ClassLoader loader, String name, Class<?> redefined, ProtectionDomain domain, byte[] file) {
+    public byte[] transform(Module module, ClassLoader loader, String name, Class<?> redefined,
+            ProtectionDomain domain, byte[] file) {
         if (name == null || file == null) return null;
         boolean isOfJdk = isOfJdk(module, name);
         if (begins(name, NEVER) && !begins(name, ALWAYS)) return null;
@@ -59,7 +63,8 @@ final class Rewriter implements ClassFileTransformer {
             return rewrite(loader, file, domain, isOfJdk);
         } catch (Throwable error) {
             Recording.unrewritten();
-            if (System.getenv("LOCKDEP_JAVA_WHY") != null) new Error("record: " + name + " stays as it is", error).printStackTrace();
+            if (System.getenv("LOCKDEP_JAVA_WHY") != null) new Error("record: " + name + " stays as it is",
+                    error).printStackTrace();
             return null;
         }
     }
@@ -87,11 +92,13 @@ final class Rewriter implements ClassFileTransformer {
         ClassReader reader = new ClassReader(readable);
         ClassNode type = new ClassNode();
         reader.accept(type, 0);
-        Source source = Source.add(type.name.replace('/', '.'), type.sourceFile, location(domain), firstLine(type), isOfJdk);
-        Locking locking = new Locking(type, hierarchy, loader);
+        Source source = Source.add(type.name.replace('/', '.'), type.sourceFile, location(domain), firstLine(type),
+                isOfJdk);
+        Locking locking = new Locking(type, hierarchy, loader, begins("java/lang/StringBuffer", jdk));
         boolean isChanged = false;
         for (MethodNode method : type.methods) {
-            if (method.instructions.size() > 0) isChanged |= new MethodRewriter(type, method, source, locking).rewrite();
+            if (method.instructions.size() > 0) isChanged |= new MethodRewriter(type, method, source,
+                    locking).rewrite();
         }
         if (!isChanged) return null;
         ClassWriter writer = new ClassWriter(reader, ClassWriter.COMPUTE_MAXS);
