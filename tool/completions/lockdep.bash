@@ -9,7 +9,7 @@ _lockdep_options() {
         chains | where) echo --help ;;
         run) echo -o --recorder --frames --known --write-known --html --sarif --junit --json --quiet --error-exitcode --help ;;
         view) echo -o --sarif --junit --json --known --confirmed --left-out --waiting --help ;;
-        record) echo -o --frames --no-wait --version-1 --finish --summary --help ;;
+        record) echo -o --recorder --frames --no-wait --version-1 --finish --summary --help ;;
         confirm) echo --strict --help ;;
     esac
 }
@@ -54,7 +54,7 @@ _lockdep() {
     esac
     case $before in
         --workers) mapfile -t COMPREPLY < <(compgen -W '1 2 4 8 16 32 64' -- "$word") ;;
-        --recorder) mapfile -t COMPREPLY < <(compgen -W 'pthread python' -- "$word") ;;
+        --recorder) mapfile -t COMPREPLY < <(compgen -W 'pthread python java rust' -- "$word") ;;
         --frames) mapfile -t COMPREPLY < <(compgen -W '1 2 3 4 6 8 12 16' -- "$word") ;;
         -o | --finish | --summary)
             # For `view` it is a file.

@@ -3,10 +3,13 @@ import os
 from binascii import crc32
 
 MOST_NAME, MOST_KEYS, MOST_TRACES, MOST_ALIKE = 53, 8192, 4096, 2
-WORDS = ("w", "tw")
+RELEASE = 2
+WORDS = ("w", "tw", None, "r", "tr", "rr", "trr")  # of the modes; None is a release
+NOT_MADE = ("any object of", "the class object of")  # kinds of classes; all others are made somewhere
 
 # What is counted, in the order of SUMMARY: its name there, and what it means.
 LOSSES = (
+    ("unrewritten", "classes of the program's that couldn't be rewritten: what their code does with locks was not recorded"),
     ("unwritten", "processes whose recording couldn't be written to its end: an order among them may be missing"),
     ("full-traces", "acquisitions after a thread's first 1,000,000 events: an order among them may be missing"),
     ("beyond-classes", "acquisitions of classes beyond 8,192: no order that they are part of was recorded"),
@@ -30,7 +33,7 @@ class Task:
 
     def content(self):
         """What makes traces alike."""
-        return tuple((self.process.key(code >> 2), code & 3) for code, _ in self.records)
+        return tuple((self.process.key(code >> 3), code & 7) for code, _ in self.records)
 
 
 class Process:
@@ -148,19 +151,19 @@ class Trace:
         self.by_class, self.by_lock, self.places = ["lockdep,2"], ["lockdep,2"], []
         self.task, self.names, self.held, self.lost = task, names, [], 0
         for code, place in task.records:
-            if code & 3 == 2:
+            if code & 7 == RELEASE:
                 self.give_back(code)
             else:
                 self.take(code, place)
 
     def take(self, code, place):
-        key = self.task.process.key(code >> 2)
+        key = self.task.process.key(code >> 3)
         is_written = self.names.use(key[0])
         self.lost += not is_written
-        self.held.append((code >> 2, key, is_written))
+        self.held.append((code >> 3, key, is_written))
         if is_written:
-            self.by_class.append("acq,%s,0,%s" % (key[0].name, WORDS[code & 3]))
-            self.by_lock.append("acq,%s,0,%s" % (self.names.of_lock(key), WORDS[code & 3]))
+            self.by_class.append("acq,%s,0,%s" % (key[0].name, WORDS[code & 7]))
+            self.by_lock.append("acq,%s,0,%s" % (self.names.of_lock(key), WORDS[code & 7]))
             for text in self.task.process.places.get(place, "").split("\t"):
                 if text:
                     self.places.append("%d %s" % (len(self.by_class), text))
@@ -168,7 +171,7 @@ class Trace:
     def give_back(self, code):
         for at in range(len(self.held) - 1, -1, -1):
             number, key, is_written = self.held[at]
-            if number == code >> 2:
+            if number == code >> 3:
                 del self.held[at]
                 if is_written:
                     self.by_class.append("rel,%s,0" % key[0].name)
@@ -219,7 +222,7 @@ class Summary:
         elif trace.task.has_ended and trace.held:
             self.holding.append("%s ended holding %s" % (name, trace.held_names(len(trace.held))))
 
-    def lines(self, processes, classes):
+    def lines(self, recorder, processes, classes):
         operations = self.counts.get("operations", 0)
         lines = ["processes %d" % processes, "threads %d" % (self.threads + self.counts.get("threads-alike", 0)),
                  "operations %d" % operations, "events %d" % self.events, "classes %d" % classes]
@@ -227,7 +230,7 @@ class Summary:
             if notes:
                 lines += ["%s %d" % (name, len(notes))] + ["  " + note for note in notes]
         if not operations:
-            lines.append("unseen " + ("python-nothing" if processes else "python-off"))
+            lines.append("unseen %s-%s" % (recorder, "nothing" if processes else "off"))
         for name, meaning in LOSSES:
             if self.counts.get(name):
                 lines += ["%s %d" % (name, self.counts[name]), "  " + meaning]
@@ -258,8 +261,8 @@ def is_running(pid):
         return False
 
 
-def write_traces(raw, folder):
-    """Writes the traces of a recording, its classes and its SUMMARY."""
+def write_traces(raw, folder, recorder):
+    """Writes the traces of a recording, its classes and its SUMMARY. Both recorders that use this write such files."""
     names, processes = read_all(raw)
     summary = Summary()
     for process in processes:
@@ -280,5 +283,6 @@ def write_traces(raw, folder):
             path = os.path.join(folder, place, name + ".csv")
             write_lines(path, lines)
             write_lines(path + ".places", trace.places)
-    write_lines(os.path.join(folder, "classes"), ["%s\t%s\t-\tmade in" % (each.name, each.place) for each in names.used])
-    write_lines(os.path.join(folder, "SUMMARY"), summary.lines(len(processes), len(names.used)))
+    write_lines(os.path.join(folder, "classes"), ["%s\t%s\t-\t%s" % (each.name, each.place, each.kind if each.kind in NOT_MADE else "made in")
+                                                for each in names.used])
+    write_lines(os.path.join(folder, "SUMMARY"), summary.lines(recorder, len(processes), len(names.used)))

@@ -15,6 +15,8 @@ MADE = re.compile(r"classes|SUMMARY|report\.html|raw\.tar\.gz|objects|(objects/)
 REASONS = {
     "python-nothing": "it took no lock of threading or asyncio; those of C modules are seen by `--recorder pthread`",
     "python-off": "no Python was started, or one without its environment, as by -I, -E, -S or env -i",
+    "java-nothing": "its own classes took no monitor and no lock of java.util.concurrent.locks; those of the JDK are seen by --jdk",
+    "java-off": "no Java was started, or one without its environment, as by env -i",
 }
 NOTES = ("processes threads operations events classes waiting held-at-end threads-alike repeats".split())
 
@@ -34,8 +36,9 @@ def counted(count, word, words=None):
 class Folder:
     """The folder of a recording."""
 
-    def __init__(self, path):
+    def __init__(self, path, recorder):
         self.path, self.raw, self.list = path, os.path.join(path, "raw"), os.path.join(path, "RECORDED")
+        self.recorder, self.mark = recorder, os.path.join(self.raw, recorder)
 
     def lock(self):
         """Locks the folder until this process has ended."""
@@ -66,7 +69,7 @@ class Folder:
     def prepare(self):
         """Makes the folder ready for a recording. What is in the way is left alone."""
         self.lock()
-        if os.path.isfile(os.path.join(self.raw, "python")):
+        if os.path.isfile(self.mark):
             raise Refusal("%s has a recording whose traces weren't made: --finish makes them, `rm -r %s` drops it" % (self.path, self.raw))
         listed = self.listed()
         in_the_way = [name for name in self.names() if name not in listed] + ["raw"] * os.path.lexists(self.raw)
@@ -76,7 +79,7 @@ class Folder:
         self.remove_earlier()
         os.mkdir(self.raw)
         os.chmod(self.raw, 0o1777)  # a program may give up its rights
-        with open(os.path.join(self.raw, "python"), "w", encoding="utf-8"):
+        with open(self.mark, "w", encoding="utf-8"):
             pass
 
     def remove_earlier(self):
@@ -98,9 +101,9 @@ class Folder:
     def finish(self):
         """Makes the traces."""
         from lockdep_record import finish
-        if not os.path.isfile(os.path.join(self.raw, "python")):
+        if not os.path.isfile(self.mark):
             raise Refusal("%s has no recording whose traces can be made" % self.path)
-        finish.write_traces(self.raw, self.path)
+        finish.write_traces(self.raw, self.path, self.recorder)
         shutil.rmtree(self.raw)
         self.write_list(self.names())
 
@@ -149,8 +152,8 @@ def lost_words(lines):
 def singular(text):
     if text.startswith("tries "):
         return "try " + text[len("tries "):]
-    if text.startswith("processes "):
-        return "process " + text[len("processes "):]
+    if text.startswith(("processes ", "classes ")):
+        return text.replace("es ", " ", 1)
     return re.sub("s ", " ", text, count=1)
 
 

@@ -8,7 +8,7 @@ What no task of the process had done before is written at once, so that nothing 
 is opened for each writing, so that the program has no file open that it doesn't know of. Its lines:
 
     C class name place kind      K key class number     P place text        a class, a lock, where a record comes from
-    A task code place            R task code place      records: an acquisition, a release. A code is 4 * key + a mode
+    A task code place            R task code place      records: an acquisition, a release. A code is 8 * key + a mode
     W task                       G task                 the last record is waited for; it was taken
     B task count                 M task record code     only so many records stay; a record has another lock
     E task                                              the task has ended
@@ -325,7 +325,7 @@ def took(lock, mode):
         if len(held) >= MOST_HELD or record >= MOST_EVENTS:
             leave_out(lock, "full-traces" if len(held) < MOST_HELD else "beyond-held")
         else:
-            code, before, frame = 4 * lock.key + mode, task.way, getframe(1).f_back
+            code, before, frame = 8 * lock.key + mode, task.way, getframe(1).f_back
             if frame is not None and frame.f_code.co_filename in known_passed:
                 frame = frame.f_back
             if frame is not None and frame.f_code.co_filename in known_plain:
@@ -448,7 +448,7 @@ def give_back(task, entry):
         task.way = entry.before
         start, records = entry.start, task.records
         if start < task.fresh:
-            records.append((entry.code & ~3 | RELEASE, None, None))
+            records.append((entry.code & ~7 | RELEASE, None, None))
         else:
             at = start - task.base
             if at < 0:
@@ -461,22 +461,24 @@ def give_back(task, entry):
 
 
 def give_back_early(task, entry):
-    """A task holds a lock no more, and still holds others that it took later: these move up to its place."""
+    """A task holds a lock no more, and still holds others that it took later: these move up to its place. What is taken back begins
+    where just those before it are held: that is where the one before it began, if that is a lock of the same code, or else nowhere."""
     held = task.held
     at = held.index(entry)
-    for later in range(len(held) - 1, at, -1):
-        held[later].start, held[later].before = held[later - 1].start, held[later - 1].before
+    start, code = entry.start, entry.code
+    for later in held[at + 1:]:
+        later.start, start = start, later.start if later.code == code and start >= 0 else -1
     del held[at]
     way = entry.before
     for later in held[at:]:
         later.before, way = way, way.to(later.code)
     task.way = way
-    task.records.append((entry.code & ~3 | RELEASE, None, None))
+    task.records.append((entry.code & ~7 | RELEASE, None, None))
 
 
 def tell_all_apart(held, task, lock):
     """A lock is taken with others held. All but the first of these were told apart when they were taken."""
-    if len(held) == 1 and (not held[0].lock.is_apart or held[0].code >> 2 != held[0].lock.key):
+    if len(held) == 1 and (not held[0].lock.is_apart or held[0].code >> 3 != held[0].lock.key):
         tell_held_apart(task, held[0])
     if not lock.is_apart:
         tell_apart(lock)
@@ -487,7 +489,7 @@ def tell_held_apart(task, entry):
     lock = entry.lock
     if not lock.is_apart:
         tell_apart(lock)
-    entry.code = 4 * lock.key + (entry.code & 3)
+    entry.code = 8 * lock.key + (entry.code & 7)
     at = entry.record - task.base
     if at >= 0:
         task.records[at] = (entry.code,) + task.records[at][1:]
@@ -520,7 +522,7 @@ def wish(lock, is_long=True):
         settle(task)
         if task.held:
             tell_all_apart(task.held, task, lock)
-        code = 4 * lock.key + WRITE
+        code = 8 * lock.key + WRITE
         entry = Held(lock)
         entry.task, entry.code, entry.before = task, code, task.way
         entry.record = entry.start = task.base + len(task.records)
@@ -622,7 +624,7 @@ def put(text):
 
 def declare(code):
     """Writes the lock of a code, and its class, if the file hasn't got them."""
-    key, of = keys[code >> 2], process
+    key, of = keys[code >> 3], process
     if key.number not in of.told:
         made, text = key.made, ""
         if made not in of.told:
@@ -655,7 +657,7 @@ def write(task):
     lines = []
     for code, place, at in task.records:
         declare(code)
-        lines.append("%s %d %d %d\n" % ("R" if code & 3 == RELEASE else "A", task.number, code, place_number(place, at)))
+        lines.append("%s %d %d %d\n" % ("R" if code & 7 == RELEASE else "A", task.number, code, place_number(place, at)))
     task.base += len(task.records)
     task.records.clear()
     if task.wish is not None and not task.wish.is_told:

@@ -1,0 +1,29 @@
+package java.lockdep;
+
+/** A lock that a task holds: in which mode, its record, and the records and the way before its place was taken. */
+final class Held {
+    Known lock;
+    /** Of a monitor: the object, which is alive while it is held. */
+    Object object;
+    int code;
+    int record;
+    int start;
+    Way before;
+    /** How often its holder has taken it, and how often as a reader what it has as a writer. */
+    int levels;
+    int reads;
+    /** Another thread gave it back. */
+    volatile boolean isDropped;
+
+    void clear() {
+        lock = null;
+        object = null;
+        before = null;
+        isDropped = false;
+        levels = reads = 0;
+    }
+
+    boolean isReader() {
+        return (code & 7) >= Modes.READ;
+    }
+}

@@ -1,0 +1,448 @@
+package java.lockdep;
+
+import java.util.Date;
+import java.util.concurrent.TimeUnit;
+import java.util.concurrent.locks.Condition;
+import java.util.concurrent.locks.Lock;
+import java.util.concurrent.locks.ReadWriteLock;
+import java.util.concurrent.locks.StampedLock;
+
+/**
+ * What rewritten classes call. The package begins with `java` since there are class loaders, as those of OSGi, that
+ * find nothing else outside. Nothing of the recorder's own is ever thrown here.
+ */
+public final class Hooks {
+    private Hooks() {
+    }
+
+    // ---- Monitors.
+
+    /** A monitor is about to be entered, or was entered by a synchronized method. */
+    public static void enter(Object object, int site) {
+        Task task = object == null ? null : Task.begin();
+        if (task == null) return;
+        try {
+            task.enter(object, site);
+        } catch (Throwable error) {
+            task.abandon();
+            return;
+        }
+        task.leave();
+    }
+
+    /** A monitor is about to be exited. */
+    public static void exit(Object object) {
+        Task task = object == null ? null : Task.begin();
+        if (task == null) return;
+        try {
+            task.exit(object);
+        } catch (Throwable error) {
+            task.abandon();
+            return;
+        }
+        task.leave();
+    }
+
+    public static void wait(Object object, int site) throws InterruptedException {
+        int levels = suspend(object);
+        try {
+            object.wait();
+        } finally {
+            resume(object, levels, site);
+        }
+    }
+
+    public static void wait(Object object, long milliseconds, int site) throws InterruptedException {
+        int levels = suspend(object);
+        try {
+            object.wait(milliseconds);
+        } finally {
+            resume(object, levels, site);
+        }
+    }
+
+    public static void wait(Object object, long milliseconds, int nanoseconds, int site) throws InterruptedException {
+        int levels = suspend(object);
+        try {
+            object.wait(milliseconds, nanoseconds);
+        } finally {
+            resume(object, levels, site);
+        }
+    }
+
+    private static int suspend(Object object) {
+        Task task = object == null ? null : Task.begin();
+        if (task == null) return 0;
+        int levels = 0;
+        try {
+            levels = task.suspend(object);
+        } catch (Throwable error) {
+            task.abandon();
+            return 0;
+        }
+        task.leave();
+        return levels;
+    }
+
+    private static void resume(Object object, int levels, int site) {
+        Task task = levels == 0 ? null : Task.begin();
+        if (task == null) return;
+        try {
+            task.resume(object, levels, site);
+        } catch (Throwable error) {
+            task.abandon();
+            return;
+        }
+        task.leave();
+    }
+
+    // ---- Objects that are made.
+
+    /** An object was made at a place. */
+    public static void made(Object object, int site) {
+        Task task = object == null ? null : Task.begin();
+        if (task == null) return;
+        try {
+            Known.made(object, Site.of(site).made(), task.probe);
+        } catch (Throwable error) {
+            task.abandon();
+            return;
+        }
+        task.leave();
+    }
+
+    /** The constructor of an object whose own class takes its monitor, or that is a lock, begins. */
+    public static void born(Object object) {
+        Task task = Task.begin();
+        if (task == null) return;
+        try {
+            Made made = Known.isMade(object, task.probe) ? null : Site.madeByCaller(object);
+            if (made != null) Known.made(object, made, task.probe);
+        } catch (Throwable error) {
+            task.abandon();
+            return;
+        }
+        task.leave();
+    }
+
+    // ---- Locks.
+
+    public static void lock(Lock lock, int site) {
+        Wish wish = Wish.of(lock, site);
+        boolean isTaken = false;
+        try {
+            lock.lock();
+            isTaken = true;
+        } finally {
+            wish.end(isTaken, site);
+        }
+    }
+
+    public static void lockInterruptibly(Lock lock, int site) throws InterruptedException {
+        Wish wish = Wish.of(lock, site);
+        boolean isTaken = false;
+        try {
+            lock.lockInterruptibly();
+            isTaken = true;
+        } finally {
+            wish.end(isTaken, site);
+        }
+    }
+
+    public static boolean tryLock(Lock lock, int site) {
+        boolean isTaken = lock.tryLock();
+        tried(lock, isTaken, site);
+        return isTaken;
+    }
+
+    public static boolean tryLock(Lock lock, long time, TimeUnit unit, int site) throws InterruptedException {
+        if (time <= 0) {
+            boolean isTaken = lock.tryLock(time, unit);
+            tried(lock, isTaken, site);
+            return isTaken;
+        }
+        Wish wish = Wish.of(lock, site);
+        boolean isTaken = false;
+        try {
+            isTaken = lock.tryLock(time, unit);
+        } finally {
+            wish.end(isTaken, site);
+        }
+        return isTaken;
+    }
+
+    public static void unlock(Lock lock, int site) {
+        boolean isSeen = gives(lock, site);
+        lock.unlock();
+        if (!isSeen) gaveUnseen(lock);
+    }
+
+    public static Condition newCondition(Lock lock) {
+        Condition condition = lock.newCondition();
+        Task task = Task.begin();
+        if (task == null) return condition;
+        try {
+            Known.addCondition(condition, task.lock(lock), task.probe);
+        } catch (Throwable error) {
+            task.abandon();
+            return condition;
+        }
+        task.leave();
+        return condition;
+    }
+
+    /** A try of a lock, or of a part of it, was made. */
+    static void tried(Object lock, boolean isTaken, int site) {
+        Task task = Task.begin();
+        if (task == null) return;
+        try {
+            if (isTaken) task.took(task.lock(lock), true, site);
+            else task.failed(task.lock(lock));
+        } catch (Throwable error) {
+            task.abandon();
+            return;
+        }
+        task.leave();
+    }
+
+    /** A lock is about to be given back. Returns whether it was seen to be taken, or nothing is to be said of it. */
+    static boolean gives(Object lock, int site) {
+        Task task = lock == null ? null : Task.begin();
+        if (task == null) return true;
+        boolean isSeen = true;
+        try {
+            isSeen = task.gave(task.lock(lock), site);
+        } catch (Throwable error) {
+            task.abandon();
+            return true;
+        }
+        task.leave();
+        return isSeen;
+    }
+
+    /** A lock was given back that the thread wasn't seen to take. */
+    static void gaveUnseen(Object lock) {
+        Task task = Task.begin();
+        if (task == null) return;
+        try {
+            task.gaveUnseen(task.lock(lock));
+        } catch (Throwable error) {
+            task.abandon();
+            return;
+        }
+        task.leave();
+    }
+
+    // ---- Conditions.
+
+    public static void await(Condition condition, int site) throws InterruptedException {
+        Pause pause = Pause.of(condition);
+        try {
+            condition.await();
+        } finally {
+            pause.end(site);
+        }
+    }
+
+    public static boolean await(Condition condition, long time, TimeUnit unit, int site) throws InterruptedException {
+        Pause pause = Pause.of(condition);
+        try {
+            return condition.await(time, unit);
+        } finally {
+            pause.end(site);
+        }
+    }
+
+    public static long awaitNanos(Condition condition, long time, int site) throws InterruptedException {
+        Pause pause = Pause.of(condition);
+        try {
+            return condition.awaitNanos(time);
+        } finally {
+            pause.end(site);
+        }
+    }
+
+    public static boolean awaitUntil(Condition condition, Date date, int site) throws InterruptedException {
+        Pause pause = Pause.of(condition);
+        try {
+            return condition.awaitUntil(date);
+        } finally {
+            pause.end(site);
+        }
+    }
+
+    public static void awaitUninterruptibly(Condition condition, int site) {
+        Pause pause = Pause.of(condition);
+        try {
+            condition.awaitUninterruptibly();
+        } finally {
+            pause.end(site);
+        }
+    }
+
+    // ---- Stamped locks: each acquisition is one of its own.
+
+    public static long writeLock(StampedLock lock, int site) {
+        Wish wish = Wish.of(Part.of(lock, false), site);
+        long stamp = 0;
+        try {
+            stamp = lock.writeLock();
+        } finally {
+            wish.end(stamp != 0, site);
+        }
+        return stamp;
+    }
+
+    public static long readLock(StampedLock lock, int site) {
+        Wish wish = Wish.of(Part.of(lock, true), site);
+        long stamp = 0;
+        try {
+            stamp = lock.readLock();
+        } finally {
+            wish.end(stamp != 0, site);
+        }
+        return stamp;
+    }
+
+    public static long writeLockInterruptibly(StampedLock lock, int site) throws InterruptedException {
+        Wish wish = Wish.of(Part.of(lock, false), site);
+        long stamp = 0;
+        try {
+            stamp = lock.writeLockInterruptibly();
+        } finally {
+            wish.end(stamp != 0, site);
+        }
+        return stamp;
+    }
+
+    public static long readLockInterruptibly(StampedLock lock, int site) throws InterruptedException {
+        Wish wish = Wish.of(Part.of(lock, true), site);
+        long stamp = 0;
+        try {
+            stamp = lock.readLockInterruptibly();
+        } finally {
+            wish.end(stamp != 0, site);
+        }
+        return stamp;
+    }
+
+    public static long tryWriteLock(StampedLock lock, int site) {
+        long stamp = lock.tryWriteLock();
+        tried(Part.of(lock, false), stamp != 0, site);
+        return stamp;
+    }
+
+    public static long tryReadLock(StampedLock lock, int site) {
+        long stamp = lock.tryReadLock();
+        tried(Part.of(lock, true), stamp != 0, site);
+        return stamp;
+    }
+
+    public static long tryWriteLock(StampedLock lock, long time, TimeUnit unit, int site) throws InterruptedException {
+        Wish wish = Wish.of(Part.of(lock, false), site);
+        long stamp = 0;
+        try {
+            stamp = lock.tryWriteLock(time, unit);
+        } finally {
+            wish.end(stamp != 0, site);
+        }
+        return stamp;
+    }
+
+    public static long tryReadLock(StampedLock lock, long time, TimeUnit unit, int site) throws InterruptedException {
+        Wish wish = Wish.of(Part.of(lock, true), site);
+        long stamp = 0;
+        try {
+            stamp = lock.tryReadLock(time, unit);
+        } finally {
+            wish.end(stamp != 0, site);
+        }
+        return stamp;
+    }
+
+    public static void unlockWrite(StampedLock lock, long stamp, int site) {
+        Object part = Part.of(lock, false);
+        boolean isSeen = gives(part, site);
+        lock.unlockWrite(stamp);
+        if (!isSeen) gaveUnseen(part);
+    }
+
+    public static void unlockRead(StampedLock lock, long stamp, int site) {
+        Object part = Part.of(lock, true);
+        boolean isSeen = gives(part, site);
+        lock.unlockRead(stamp);
+        if (!isSeen) gaveUnseen(part);
+    }
+
+    public static void unlock(StampedLock lock, long stamp, int site) {
+        Object part = Part.of(lock, StampedLock.isReadLockStamp(stamp));
+        boolean isSeen = gives(part, site);
+        lock.unlock(stamp);
+        if (!isSeen) gaveUnseen(part);
+    }
+
+    public static boolean tryUnlockWrite(StampedLock lock, int site) {
+        boolean isGiven = lock.tryUnlockWrite();
+        if (isGiven) change(lock, true, false, false, false, site);
+        return isGiven;
+    }
+
+    public static boolean tryUnlockRead(StampedLock lock, int site) {
+        boolean isGiven = lock.tryUnlockRead();
+        if (isGiven) change(lock, false, true, false, false, site);
+        return isGiven;
+    }
+
+    public static long tryConvertToWriteLock(StampedLock lock, long stamp, int site) {
+        return changed(lock, stamp, lock.tryConvertToWriteLock(stamp), site);
+    }
+
+    public static long tryConvertToReadLock(StampedLock lock, long stamp, int site) {
+        return changed(lock, stamp, lock.tryConvertToReadLock(stamp), site);
+    }
+
+    public static long tryConvertToOptimisticRead(StampedLock lock, long stamp, int site) {
+        return changed(lock, stamp, lock.tryConvertToOptimisticRead(stamp), site);
+    }
+
+    private static long changed(StampedLock lock, long old, long stamp, int site) {
+        if (stamp != 0) {
+            change(lock, StampedLock.isWriteLockStamp(old), StampedLock.isReadLockStamp(old),
+                    StampedLock.isWriteLockStamp(stamp),
+                    StampedLock.isReadLockStamp(stamp), site);
+        }
+        return stamp;
+    }
+
+    /** A stamped lock is held in another way than before, for which nobody waited. */
+    private static void change(StampedLock lock, boolean wasWriter, boolean wasReader, boolean isWriter,
+            boolean isReader, int site) {
+        if (wasWriter == isWriter && wasReader == isReader) return;
+        Object before = Part.of(lock, wasReader);
+        if ((wasWriter || wasReader) && !gives(before, site)) gaveUnseen(before);
+        if (isWriter || isReader) tried(Part.of(lock, isReader), true, site);
+    }
+
+    public static Lock asReadLock(StampedLock lock) {
+        Part.of(lock, true);
+        return lock.asReadLock();
+    }
+
+    public static Lock asWriteLock(StampedLock lock) {
+        Part.of(lock, false);
+        return lock.asWriteLock();
+    }
+
+    public static ReadWriteLock asReadWriteLock(StampedLock lock) {
+        Part.of(lock, true);
+        Part.of(lock, false);
+        return lock.asReadWriteLock();
+    }
+
+    // ---- The end.
+
+    public static void halt(Runtime runtime, int status) {
+        Recording.end();
+        runtime.halt(status);
+    }
+}

@@ -1,0 +1,259 @@
+package java.lockdep;
+
+import java.lang.invoke.MethodHandles;
+import java.lang.invoke.VarHandle;
+import java.lang.ref.Reference;
+import java.lang.ref.ReferenceQueue;
+import java.lang.ref.WeakReference;
+import java.util.concurrent.ConcurrentHashMap;
+import java.util.concurrent.locks.Condition;
+import java.util.concurrent.locks.Lock;
+import java.util.concurrent.locks.ReadWriteLock;
+import java.util.concurrent.locks.ReentrantLock;
+import java.util.concurrent.locks.ReentrantReadWriteLock;
+import java.util.concurrent.locks.StampedLock;
+
+/**
+ * What is known of a lock: its class, and the key that it is written by. It is found by the lock's object and doesn't
+ * keep that alive. The parts of one lock, as the two views of a read-write lock and its conditions, have it as their
+ * target.
+ */
+final class Known extends WeakReference<Object> {
+    static final int MOST_APART = 32;
+
+    private static final ConcurrentHashMap<Object, Known> all = new ConcurrentHashMap<>(1024);
+    private static final ReferenceQueue<Object> gone = new ReferenceQueue<>();
+
+    /** Finds what is known of an object. A thread has one of its own. */
+    static final class Probe {
+        private Object object;
+        private int hash;
+        private boolean isMonitor;
+
+        Known find(Object wanted, boolean asMonitor) {
+            object = wanted;
+            hash = System.identityHashCode(wanted);
+            isMonitor = asMonitor;
+            Known found = all.get(this);
+            object = null;
+            return found;
+        }
+
+        @Override
+        public int hashCode() {
+            return hash;
+        }
+
+        @Override
+        public boolean equals(Object other) {
+            return other instanceof Known && ((Known) other).isOf(object, isMonitor);
+        }
+    }
+
+    final int hash;
+    final boolean isMonitor;
+    final boolean isReader;
+    /** Whether its holder may take it again, and whether it is a lock of the JDK's, whose calls take no other. */
+    final boolean isReentrant;
+    final boolean isOfJdk;
+    /** What is written in its place: itself, unless it is a part. */
+    final Known target;
+    private Made made;
+    int key;
+    volatile boolean isApart;
+    /** Whether it was taken before it was known where it is made, as by the constructor of a class above its own. */
+    private boolean isEarly;
+    /** Who holds a lock that another thread may give back. */
+    private Task[] holders;
+
+    private Known(Object object, boolean isMonitor, boolean isReader, Known target, Made made) {
+        super(object, gone);
+        hash = System.identityHashCode(object);
+        this.isMonitor = isMonitor;
+        this.isReader = isReader;
+        this.target = target == null ? this : target;
+        this.made = made;
+        isReentrant = !(object instanceof StampedLock);
+        isOfJdk = object.getClass().getClassLoader() == null || object instanceof ReentrantLock
+                || object instanceof ReentrantReadWriteLock.ReadLock
+                        || object instanceof ReentrantReadWriteLock.WriteLock;
+        key = made == null ? 0 : made.rest.number;
+    }
+
+    @Override
+    public int hashCode() {
+        return hash;
+    }
+
+    @Override
+    public boolean equals(Object other) {
+        if (this == other) return true;
+        Object object = get();
+        return object != null && other instanceof Known && ((Known) other).isOf(object, isMonitor);
+    }
+
+    private boolean isOf(Object object, boolean asMonitor) {
+        return isMonitor == asMonitor && get() == object;
+    }
+
+    private static Known add(Known known) {
+        for (Reference<?> old = gone.poll(); old != null; old = gone.poll()) all.remove(old);
+        Known before = all.putIfAbsent(known, known);
+        return before == null ? known : before;
+    }
+
+    static boolean isLock(Object object) {
+        return object instanceof Lock || object instanceof ReadWriteLock || object instanceof StampedLock;
+    }
+
+    // ---- Locks that are made.
+
+    /** An object was made that may come to be a lock. */
+    static void made(Object object, Made made, Probe probe) {
+        boolean isMonitor = !isLock(object);
+        Object base = isMonitor ? object : baseOf(object);
+        Known known = probe.find(base, isMonitor);
+        if (known == null) known = add(new Known(base, isMonitor, false, null, made));
+        else if (known.isEarly) known.nowMade(made);
+        if (object instanceof ReentrantReadWriteLock) addViews((ReentrantReadWriteLock) object, known);
+    }
+
+    private synchronized void nowMade(Made by) {
+        isEarly = false;
+        if (isApart) return;
+        made = by;
+        key = by.rest.number;
+    }
+
+    /** Whether it is known where an object was made. */
+    static boolean isMade(Object object, Probe probe) {
+        boolean isMonitor = !isLock(object);
+        Known known = probe.find(isMonitor ? object : baseOf(object), isMonitor);
+        return known != null && !known.isEarly;
+    }
+
+    private static void addViews(ReentrantReadWriteLock lock, Known target) {
+        add(new Known(lock.readLock(), false, true, target, null));
+        add(new Known(lock.writeLock(), false, false, target, null));
+    }
+
+    /** A view of a stamped lock. */
+    static void addView(Object view, boolean isReader, Known target, Probe probe) {
+        if (probe.find(view, false) == null) add(new Known(view, false, isReader, target, null));
+    }
+
+    static void addCondition(Condition condition, Known lock, Probe probe) {
+        if (condition != null && probe.find(condition, false) == null) {
+            add(new Known(condition, false, false, lock.target, null));
+        }
+    }
+
+    // ---- Locks that are taken.
+
+    static Known ofMonitor(Object object, Probe probe) {
+        Known known = probe.find(object, true);
+        return known != null ? known : addEarly(object, true);
+    }
+
+    /** What is known of a lock of java.util.concurrent.locks, or of another class that is used like one. */
+    static Known ofLock(Object lock, Probe probe) {
+        Known known = probe.find(lock, false);
+        if (known != null) return known;
+        Object base = baseOf(lock);
+        if (base == lock) return addEarly(lock, false);
+        known = probe.find(base, false);
+        if (known == null) {
+            String name = ReentrantReadWriteLock.class.getName();
+            known = add(new Known(base, false, false, null, Made.of(name, Site.placeOfClass(name), "any object of")));
+        }
+        return add(new Known(lock, false, lock instanceof ReentrantReadWriteLock.ReadLock, known, null));
+    }
+
+    private static Known addEarly(Object object, boolean isMonitor) {
+        Known known = new Known(object, isMonitor, false, null, Made.ofObject(object, isMonitor));
+        known.isEarly = true;
+        return add(known);
+    }
+
+    static Known ofCondition(Condition condition, Probe probe) {
+        return probe.find(condition, false);
+    }
+
+    /** A monitor or lock that is known, by its hash and its class. */
+    static Known byHash(int hash, String className) {
+        for (Known known : all.values()) {
+            Object object = known.hash == hash ? known.get() : null;
+            if (object != null && known.isMonitor && object.getClass().getName().equals(className)) return known;
+        }
+        return null;
+    }
+
+    // ---- The two views of a read-write lock have one object inside.
+
+    private static volatile VarHandle ofReader;
+    private static volatile VarHandle ofWriter;
+
+    /** Finds how to look into the views, for which the package of the locks has been opened. */
+    static void openViews() throws ReflectiveOperationException {
+        ofReader = inside(ReentrantReadWriteLock.ReadLock.class);
+        ofWriter = inside(ReentrantReadWriteLock.WriteLock.class);
+    }
+
+    private static VarHandle inside(Class<?> view) throws ReflectiveOperationException {
+        Class<?> type = Class.forName("java.util.concurrent.locks.ReentrantReadWriteLock$Sync");
+        return MethodHandles.privateLookupIn(view, MethodHandles.lookup()).findVarHandle(view, "sync", type);
+    }
+
+    private static Object baseOf(Object lock) {
+        VarHandle reader = ofReader;
+        VarHandle writer = ofWriter;
+        if (reader == null || writer == null) return lock;
+        if (lock instanceof ReentrantReadWriteLock)
+                return (Object) writer.get(((ReentrantReadWriteLock) lock).writeLock());
+        if (lock instanceof ReentrantReadWriteLock.ReadLock)
+                return (Object) reader.get((ReentrantReadWriteLock.ReadLock) lock);
+        if (lock instanceof ReentrantReadWriteLock.WriteLock)
+                return (Object) writer.get((ReentrantReadWriteLock.WriteLock) lock);
+        return lock;
+    }
+
+    // ---- Single locks.
+
+    /** A lock that is nested with others gets a name of its own, if not too many of its class have one. */
+    synchronized void tellApart() {
+        if (isApart) return;
+        int ordinal = made.nextOrdinal();
+        if (ordinal <= MOST_APART) key = Key.add(made, ordinal).number;
+        isApart = true;
+    }
+
+    // ---- Locks that another thread may give back.
+
+    synchronized void addHolder(Task task) {
+        int count = holders == null ? 0 : holders.length;
+        Task[] more = new Task[count + 1];
+        if (count > 0) System.arraycopy(holders, 0, more, 0, count);
+        more[count] = task;
+        holders = more;
+    }
+
+    synchronized void removeHolder(Task task) {
+        for (int at = 0; holders != null && at < holders.length; at++) {
+            if (holders[at] == task) {
+                Task[] fewer = new Task[holders.length - 1];
+                System.arraycopy(holders, 0, fewer, 0, at);
+                System.arraycopy(holders, at + 1, fewer, at, fewer.length - at);
+                holders = fewer;
+                return;
+            }
+        }
+    }
+
+    /** A thread gives back what another one took: that one is found, if it was seen to take it. */
+    synchronized Task otherHolder(Task than) {
+        for (int at = 0; holders != null && at < holders.length; at++) {
+            if (holders[at] != than) return holders[at];
+        }
+        return null;
+    }
+}

@@ -1,0 +1,65 @@
+package java.lockdep;
+
+import java.util.concurrent.ConcurrentHashMap;
+
+/** Where locks were made: a class, which is what the checker knows of them. */
+final class Made {
+    private static final ConcurrentHashMap<String, Made> all = new ConcurrentHashMap<>();
+    private static int count;
+
+    final int number;
+    final String name;
+    final String place;
+    final String kind;
+    /** Those of its locks that aren't told apart, as one. */
+    final Key rest;
+    boolean isTold;
+    private int ordinals;
+
+    private Made(int number, String name, String place, String kind) {
+        this.number = number;
+        this.name = name;
+        this.place = place;
+        this.kind = kind;
+        rest = Key.add(this, 0);
+    }
+
+    static Made of(String name, String place, String kind) {
+        Made found = all.get(name);
+        return found != null ? found : add(name, place, kind);
+    }
+
+    private static synchronized Made add(String name, String place, String kind) {
+        Made found = all.get(name);
+        if (found == null) {
+            found = new Made(++count, name, place, kind);
+            all.put(name, found);
+        }
+        return found;
+    }
+
+    /** The class of what was made by unseen code: that of the object. */
+    static Made ofObject(Object object, boolean isMonitor) {
+        if (object instanceof Class) {
+            String name = nameOf((Class<?>) object);
+            return of(Site.fitting(name + ".class"), Site.placeOfClass(name), "the class object of");
+        }
+        String name = nameOf(object.getClass());
+        String suffix = isMonitor && Known.isLock(object) ? ".monitor" : "";
+        return of(Site.fitting(name + suffix), Site.placeOfClass(name), "any object of");
+    }
+
+    /** The name of a class, which for one that is made while the program runs is the same in each run. */
+    private static String nameOf(Class<?> type) {
+        String name = type.getName();
+        int lambda = name.indexOf("$$Lambda");
+        if (lambda >= 0) return name.substring(0, lambda + "$$Lambda".length());
+        int hidden = name.indexOf('/');
+        return hidden < 0 ? name : name.substring(0, hidden);
+    }
+
+    /** The next number of a lock that is told apart. */
+    synchronized int nextOrdinal() {
+        return ++ordinals;
+    }
+}

@@ -1,0 +1,23 @@
+package java.lockdep;
+
+import java.util.concurrent.locks.StampedLock;
+
+/** The two ways to take a stamped lock: its views stand for them, which it makes once. */
+final class Part {
+    private Part() {
+    }
+
+    static Object of(StampedLock lock, boolean isReader) {
+        Task task = Task.begin();
+        Object view = isReader ? lock.asReadLock() : lock.asWriteLock();
+        if (task == null) return view;
+        try {
+            Known.addView(view, isReader, task.lock(lock), task.probe);
+        } catch (Throwable error) {
+            task.abandon();
+            return view;
+        }
+        task.leave();
+        return view;
+    }
+}

@@ -1,0 +1,291 @@
+package java.lockdep;
+
+import java.io.File;
+import java.io.FileOutputStream;
+import java.io.IOException;
+import java.lang.reflect.Method;
+import java.nio.charset.StandardCharsets;
+import java.util.ArrayList;
+import java.util.HashMap;
+
+/**
+ * The recording of this process: its tasks, and its file, whose lines recorders/python/lockdep_record/recording.py
+ * explains. What no task of the process had done before is written at once, so that nothing is missing if a signal
+ * ends the process.
+ */
+public final class Recording {
+    /** Of tasks that do the same from beginning to end, so many are written. */
+    private static final int MOST_ALIKE = 32;
+    /** How long the end waits for threads that are just being recorded, in milliseconds. */
+    private static final int LONGEST_LOOK = 500;
+
+    /** Whether nothing is recorded any more. */
+    static volatile boolean isOver = true;
+    static final Way.Common common = new Way.Common();
+    static String[] sources = {};
+
+    private static Recording it;
+
+    private final FileOutputStream file;
+    private final ArrayList<Task> tasks = new ArrayList<>();
+    private final HashMap<String, Integer> places = new HashMap<>();
+    private final HashMap<Integer, Integer> like = new HashMap<>();
+    private final String[] names = {"operations", "repeats", "retried-tries", "beyond-held", "full-traces",
+            "unseen-releases",
+        "interrupted", "alike", "unrewritten"};
+    private final long[] counts = new long[names.length];
+    private final long[] told = new long[names.length];
+    private int taskCount;
+    private int nextSwept;
+    private boolean hasEnded;
+
+    private Recording(FileOutputStream file) {
+        this.file = file;
+    }
+
+    /** From here on this process is recorded, into a folder of the recordings of all processes. */
+    public static void begin(File folder, String[] sourceFolders) throws IOException {
+        long pid = ProcessHandle.current().pid();
+        int number = 0;
+        File path = new File(folder, pid + "-" + number);
+        while (!path.createNewFile()) path = new File(folder, pid + "-" + ++number);
+        Recording recording = new Recording(new FileOutputStream(path, true));
+        recording.put("process " + pid + " " + System.currentTimeMillis() + "000000\n");
+        sources = sourceFolders;
+        it = recording;
+        isOver = false;
+    }
+
+    /** Whether this process is recorded already, as by an agent that both the command line and the environment name. */
+    public static boolean hasBegun() {
+        return it != null;
+    }
+
+    /** Lets the recorder look at what the JDK keeps to itself, for which its packages have been opened. */
+    public static void openBase() throws ReflectiveOperationException {
+        Known.openViews();
+    }
+
+    /** Ends the recording after what the program does at its end; or beside it, if the JDK can't be asked for that. */
+    public static void atEnd(int place) {
+        try {
+            Method add = Class.forName("java.lang.Shutdown").getDeclaredMethod("add", int.class, boolean.class,
+                    Runnable.class);
+            add.setAccessible(true);
+            add.invoke(null, place, false, (Runnable) Recording::end);
+        } catch (ReflectiveOperationException | RuntimeException closed) {
+            Runtime.getRuntime().addShutdownHook(new Thread(Recording::end));
+        }
+    }
+
+    // ---- What tasks ask for.
+
+    static void add(Task task) {
+        Recording recording = it;
+        synchronized (recording) {
+            recording.sweep();
+            recording.sweep();
+            recording.tasks.add(task);
+        }
+    }
+
+    static void write(Task task) {
+        synchronized (it) {
+            it.writeRecords(task);
+        }
+    }
+
+    /** Only so many records of a task stay of those that the file has. */
+    static void cut(Task task, int count) {
+        synchronized (it) {
+            it.put("B " + task.number + " " + count + "\n");
+        }
+    }
+
+    /** A record of a task that the file has is of another lock. */
+    static void rename(Task task, int record, int code) {
+        synchronized (it) {
+            StringBuilder text = new StringBuilder();
+            it.declare(code, text);
+            it.put(text.append("M ").append(task.number).append(' ').append(record).append(' ').append(code)
+                    .append('\n').toString());
+        }
+    }
+
+    static void interrupted() {
+        synchronized (it) {
+            it.counts[6]++;
+        }
+    }
+
+    /** A class of the program's stays as it is. */
+    public static void unrewritten() {
+        synchronized (it) {
+            it.counts[8]++;
+        }
+    }
+
+    // ---- The file.
+
+    /** Adds to the file. Nothing of an error is the program's. */
+    private void put(String text) {
+        if (hasEnded || text.isEmpty()) return;
+        try {
+            file.write(text.getBytes(StandardCharsets.UTF_8));
+        } catch (IOException error) {
+            hasEnded = true;
+            isOver = true;
+        }
+    }
+
+    private void writeRecords(Task task) {
+        if (task.number == 0) task.number = ++taskCount;
+        StringBuilder text = new StringBuilder();
+        StringBuilder lines = new StringBuilder();
+        for (int at = 0; at < task.size; at++) {
+            int code = task.records[2 * at];
+            int site = task.records[2 * at + 1];
+            declare(code, text);
+            lines.append((code & 7) == Modes.RELEASE ? "R " : "A ").append(task.number).append(' ').append(code)
+                    .append(' ')
+                    .append(site == 0 ? 0 : Site.of(site).told(this, text)).append('\n');
+        }
+        task.base += task.size;
+        task.size = 0;
+        count(task);
+        addCounts(lines);
+        put(text.append(lines).toString());
+    }
+
+    /** The number of a place, which is written if the file hasn't got it. */
+    int numberOfPlace(String place, StringBuilder text) {
+        Integer number = places.get(place);
+        if (number == null) {
+            number = places.size() + 1;
+            places.put(place, number);
+            text.append("P ").append(number).append('\t').append(place).append('\n');
+        }
+        return number;
+    }
+
+    /** Writes the lock of a code, and its class, if the file hasn't got them. */
+    private void declare(int code, StringBuilder text) {
+        Key key = Key.of(code);
+        if (key.isTold) return;
+        key.isTold = true;
+        Made made = key.made;
+        if (!made.isTold) {
+            made.isTold = true;
+            text.append("C ").append(made.number).append('\t').append(made.name).append('\t').append(made.place)
+                    .append('\t')
+                    .append(made.kind).append('\n');
+        }
+        text.append("K ").append(key.number).append(' ').append(made.number).append(' ').append(key.ordinal)
+                .append('\n');
+    }
+
+    /** Adds what a task counted for itself to what the process counts. */
+    private void count(Task task) {
+        counts[0] += task.operations;
+        counts[1] += task.repeats;
+        counts[2] += task.retriedTries;
+        counts[3] += task.beyondHeld;
+        counts[4] += task.fullTraces;
+        counts[5] += task.unseenReleases;
+        task.operations = task.repeats = task.retriedTries = task.beyondHeld = task.fullTraces =
+                task.unseenReleases = 0;
+    }
+
+    private void addCounts(StringBuilder lines) {
+        for (int at = 0; at < names.length; at++) {
+            if (counts[at] != told[at]) lines.append("S ").append(names[at]).append(' ').append(counts[at])
+                    .append('\n');
+            told[at] = counts[at];
+        }
+    }
+
+    // ---- The end of a task.
+
+    /** Looks at one task, and ends it if its thread has ended. */
+    private void sweep() {
+        if (tasks.isEmpty()) return;
+        nextSwept = nextSwept >= tasks.size() ? 0 : nextSwept;
+        Task task = tasks.get(nextSwept);
+        Thread thread = task.thread.get();
+        if (thread != null && thread.isAlive()) {
+            nextSwept++;
+            return;
+        }
+        end(task);
+        tasks.set(nextSwept, tasks.get(tasks.size() - 1));
+        tasks.remove(tasks.size() - 1);
+    }
+
+    /** The thread of a task has ended. What several did before in just this way isn't written again. */
+    private void end(Task task) {
+        if (task.isOver) return;
+        task.end();
+        count(task);
+        if (task.number == 0 && task.size == 0) return;
+        if (task.number == 0 && task.depth() == 0) {
+            int codes = 1;
+            for (int at = 0; at < task.size; at++) codes = 31 * codes + task.records[2 * at];
+            if (like.merge(codes, 1, Integer::sum) > MOST_ALIKE) {
+                counts[7]++;
+                return;
+            }
+        }
+        writeRecords(task);
+        put("E " + task.number + "\n");
+    }
+
+    // ---- The end of the process.
+
+    /** Writes what is left of all tasks. Threads that still run aren't recorded from here on. */
+    static void end() {
+        Recording recording = it;
+        if (recording == null) return;
+        isOver = true;
+        synchronized (recording) {
+            if (recording.hasEnded) return;
+            recording.waitForLooks();
+            for (Task task : recording.tasks) recording.endOrWrite(task);
+            StringBuilder lines = new StringBuilder();
+            recording.addCounts(lines);
+            recording.put(lines.toString());
+            recording.hasEnded = true;
+        }
+    }
+
+    /** Waits until no task is looked at. A thread that waits for this very monitor in a look is given up. */
+    private void waitForLooks() {
+        Task own = Task.ofThisThread();
+        try {
+            Thread.sleep(2);
+            long end = System.nanoTime() + LONGEST_LOOK * 1000000L;
+            while (isAnyLookedAt(own) && System.nanoTime() < end) wait(2);
+        } catch (InterruptedException error) {
+            Thread.currentThread().interrupt();
+        }
+    }
+
+    private boolean isAnyLookedAt(Task own) {
+        for (Task task : tasks) {
+            if (task != own && !task.isOver && task.isLookedAt()) return true;
+        }
+        return false;
+    }
+
+    private void endOrWrite(Task task) {
+        Thread thread = task.thread.get();
+        boolean isRunning = thread != null && thread.isAlive();
+        if (!isRunning) {
+            end(task);
+        } else if (!task.isOver) {
+            boolean waits = Blocked.waits(task, thread);
+            if (task.size > 0) writeRecords(task);
+            else count(task);
+            if (waits) put("W " + task.number + "\n");
+        }
+    }
+}

@@ -1,0 +1,141 @@
+package java.lockdep;
+
+import java.util.Arrays;
+import java.util.Set;
+
+/** A place of the program that does something with locks: a line of a method. Rewritten code names it by its number. */
+public final class Site {
+    /** A name of a class of locks has so many bytes, so that there is room for the number of a single lock. */
+    private static final int MOST_NAME = 53;
+    private static final StackWalker walker = StackWalker.getInstance(Set.of(StackWalker.Option.RETAIN_CLASS_REFERENCE,
+            StackWalker.Option.SHOW_REFLECT_FRAMES));
+
+    private static volatile Site[] all = new Site[1024];
+    private static int count;
+
+    private final Source source;
+    private final String method;
+    private final int line;
+    private final int ordinal;
+    /** Of a place in the JDK: the program's own line that led there. */
+    private final String caller;
+    private Made made;
+    private int told;
+
+    private Site(Source source, String method, int line, int ordinal, String caller) {
+        this.source = source;
+        this.method = method;
+        this.line = line;
+        this.ordinal = ordinal;
+        this.caller = caller;
+    }
+
+    /** A new place; the number is which of the line's objects is made there, from 1. */
+    public static int add(Source source, String method, int line, int ordinal) {
+        return add(new Site(source, method, line, ordinal, ""));
+    }
+
+    private static synchronized int add(Site site) {
+        int number = ++count;
+        Site[] sites = number < all.length ? all : Arrays.copyOf(all, 2 * all.length);
+        sites[number] = site;
+        all = sites;
+        return number;
+    }
+
+    static Site of(int number) {
+        return all[number];
+    }
+
+    boolean isOfJdk() {
+        return source.isOfJdk;
+    }
+
+    /** This place with the program's own line that led there. */
+    static int withCaller(int number) {
+        Site site = of(number);
+        String caller = walker.walk(frames -> frames.filter(frame -> isOfProgram(frame.getDeclaringClass())).findFirst()
+                .map(frame -> place(frame)).orElse(""));
+        return add(new Site(site.source, site.method, site.line, site.ordinal, "\t" + caller));
+    }
+
+    /** (What calls constructors by reflection has a loader of its own.) */
+    private static boolean isOfProgram(Class<?> type) {
+        return !type.getName().startsWith("jdk.internal.") && type.getClassLoader() != null
+                && type.getClassLoader() != ClassLoader.getPlatformClassLoader();
+    }
+
+    private static String place(StackWalker.StackFrame frame) {
+        Source source = Source.of(frame.getClassName());
+        return source.place(frame.getLineNumber(), visible(source.shortName() + "." + frame.getMethodName()));
+    }
+
+    /** The place as text. */
+    String place() {
+        return source.place(line, visible(source.shortName() + "." + method)) + caller;
+    }
+
+    /** The number by which the file has this place, which gets that text if it hasn't. */
+    int told(Recording recording, StringBuilder text) {
+        if (told == 0) told = recording.numberOfPlace(place(), text);
+        return told;
+    }
+
+    /** The class of what is made here. */
+    Made made() {
+        Made known = made;
+        if (known == null) {
+            String name = source.className + "." + method + ":" + line + (ordinal > 1 ? "." + ordinal : "");
+            known = made = Made.of(fitting(name), place(), "made in");
+        }
+        return known;
+    }
+
+    /**
+     * The class of an object whose constructor runs: where it is called. Null if the JDK calls it, as by reflection.
+     */
+    static Made madeByCaller(Object object) {
+        return walker.walk(frames -> frames.skip(2).filter(frame -> !isConstructor(frame, object)).findFirst()
+                .filter(frame -> isOfProgram(frame.getDeclaringClass()))
+                .map(frame -> Made.of(fitting(nameOf(frame)), place(frame), "made in")).orElse(null));
+    }
+
+    private static boolean isConstructor(StackWalker.StackFrame frame, Object object) {
+        return frame.getMethodName().equals("<init>") && frame.getDeclaringClass().isInstance(object);
+    }
+
+    /** A place as a name: by its line, or if its class has no lines, by where it is in the code. */
+    private static String nameOf(StackWalker.StackFrame frame) {
+        int line = frame.getLineNumber();
+        String where = line > 0 ? String.valueOf(line) : "+" + frame.getByteCodeIndex();
+        return frame.getClassName() + "." + frame.getMethodName() + ":" + where;
+    }
+
+    static String placeOfClass(String className) {
+        Source source = Source.of(className);
+        return source.place(0, visible(source.shortName()));
+    }
+
+    /** A name without spaces and the like, as fields of the file need it. */
+    private static String visible(String text) {
+        StringBuilder kept = new StringBuilder();
+        for (int at = 0; at < text.length(); at++) {
+            char letter = text.charAt(at);
+            kept.append(letter <= ' ' || letter == 127 ? '?' : letter);
+        }
+        return kept.toString();
+    }
+
+    /** A name whose packages are shortened to their first letters, one after the other, until it fits. */
+    static String fitting(String name) {
+        String rest = visible(name);
+        StringBuilder begin = new StringBuilder();
+        int dot = rest.indexOf('.');
+        while (begin.length() + rest.length() > MOST_NAME && dot > 0 && Character.isLowerCase(rest.charAt(0))) {
+            begin.append(rest.charAt(0)).append('.');
+            rest = rest.substring(dot + 1);
+            dot = rest.indexOf('.');
+        }
+        return begin + rest;
+    }
+}

@@ -1,0 +1,107 @@
+package java.lockdep;
+
+import java.io.File;
+import java.util.ArrayList;
+import java.util.List;
+import java.util.concurrent.ConcurrentHashMap;
+
+/** The file that a class was compiled from. Where it lies is looked up when it is first asked for. */
+public final class Source {
+    private static final ConcurrentHashMap<String, Source> all = new ConcurrentHashMap<>();
+    /** Where sources lie below a folder, and how far above a class file's folder or a jar one is looked for. */
+    private static final String[] BELOW = {"", "src/main/java", "src/test/java", "src", "java", "test",
+            "app/src/main/java",
+        "src/main/kotlin", "src/main/scala", "src/main/groovy"};
+    private static final int MOST_ABOVE = 4;
+
+    public final String className;
+    final boolean isOfJdk;
+    private final String fileName;
+    private final String location;
+    private final int firstLine;
+    private String path;
+
+    private Source(String className, String fileName, String location, int firstLine, boolean isOfJdk) {
+        this.className = className;
+        this.fileName = fileName;
+        this.location = location;
+        this.firstLine = firstLine;
+        this.isOfJdk = isOfJdk;
+    }
+
+    /**
+     * A class that is rewritten: its name with dots, its file's name, and the folder or jar that it was loaded from, or
+     * null.
+     */
+    public static Source add(String className, String fileName, String location, int firstLine, boolean isOfJdk) {
+        Source source = new Source(className, fileName == null ? outermost(className) + ".java" : fileName, location,
+                firstLine, isOfJdk);
+        all.put(className, source);
+        return source;
+    }
+
+    static Source of(String className) {
+        Source found = all.get(className);
+        return found != null ? found : new Source(className, outermost(className) + ".java", null, 0, true);
+    }
+
+    private static String outermost(String className) {
+        String name = className.substring(className.lastIndexOf('.') + 1);
+        int end = name.indexOf('$', 1);
+        return end < 0 ? name : name.substring(0, end);
+    }
+
+    /** The name of the class without its package. */
+    String shortName() {
+        return className.substring(className.lastIndexOf('.') + 1);
+    }
+
+    /** A place in this file, as `where` reads it. */
+    String place(int line, String function) {
+        return path() + ":" + (line > 0 ? line : firstLine) + " " + function;
+    }
+
+    private synchronized String path() {
+        if (path == null) {
+            String inPackage = className.substring(0, className.lastIndexOf('.') + 1).replace('.', '/') + fileName;
+            String found = isOfJdk ? null : find(inPackage);
+            path = found == null ? inPackage : found;
+        }
+        return path;
+    }
+
+    private String find(String inPackage) {
+        try {
+            for (String root : roots()) {
+                for (String below : BELOW) {
+                    File folder = below.isEmpty() ? new File(root) : new File(root, below);
+                    File file = new File(folder, inPackage);
+                    if (file.isFile()) return file.getPath();
+                }
+            }
+            for (String root : roots()) {
+                File file = new File(root, fileName);
+                if (file.isFile()) return file.getPath();
+            }
+        } catch (RuntimeException mayNotLook) {
+            return null;
+        }
+        return null;
+    }
+
+    /**
+     * The folders below which the sources may lie: those that were named, those above the class files, and the current
+     * one.
+     */
+    private List<String> roots() {
+        List<String> roots = new ArrayList<>();
+        for (String named : Recording.sources) roots.add(new File(named).getAbsolutePath());
+        File above = location == null ? null : new File(location).getAbsoluteFile();
+        for (int count = 0; above != null && above.getParentFile() != null && count <= MOST_ABOVE; count++) {
+            if (above.isDirectory()) roots.add(above.getPath());
+            above = above.getParentFile();
+        }
+        roots.add(new File("").getAbsolutePath());
+        return roots;
+    }
+}

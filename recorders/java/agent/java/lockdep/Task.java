@@ -1,0 +1,505 @@
+package java.lockdep;
+
+import java.lang.invoke.MethodHandles;
+import java.lang.invoke.VarHandle;
+import java.lang.ref.WeakReference;
+import java.util.ArrayList;
+import java.util.Arrays;
+
+/**
+ * A thread: what it holds, and its records that aren't in the file yet. Only its own thread works on it, but for the
+ * end, when the recording is over.
+ */
+final class Task {
+    static final int MOST_HELD = 48;
+    /** (A release stands for each lock that is held.) */
+    static final int MOST_EVENTS = 1000000 - 2 * MOST_HELD;
+
+    private static final VarHandle BUSY;
+    private static final ThreadLocal<Task> here = new ThreadLocal<>();
+
+    static {
+        try {
+            BUSY = MethodHandles.lookup().findVarHandle(Task.class, "isBusy", boolean.class);
+        } catch (ReflectiveOperationException error) {
+            throw new ExceptionInInitializerError(error);
+        }
+    }
+
+    final WeakReference<Thread> thread;
+    final Known.Probe probe = new Known.Probe();
+    final long startOfThread = System.nanoTime();
+    /** Its number in the file, once something of it is there. */
+    int number;
+    long operations;
+    long repeats;
+    long retriedTries;
+    long beyondHeld;
+    long fullTraces;
+    long unseenReleases;
+
+    boolean isOver;
+    private boolean isBusy;
+    private Held[] held = new Held[4];
+    private int depth;
+    private Way way = new Way(Recording.common);
+    /** The records that aren't in the file yet, each a code and a place, and how many are. */
+    int[] records = new int[16];
+    int size;
+    int base;
+    /** How many records there were when it last did something new. */
+    private int fresh;
+    /** What it waits for: the newest of what is held. */
+    private Held wish;
+    /** What it took without a record, once for each level. */
+    private ArrayList<Object> leftOut;
+    private Known failed;
+    private volatile boolean hasDropped;
+    private final Known[] recent = new Known[4];
+    private int nextRecent;
+
+    private Task() {
+        thread = new WeakReference<>(Thread.currentThread());
+    }
+
+    // ---- The running task.
+
+    /** The task that runs, which is busy from here on; null if nothing is to be recorded now. */
+    static Task begin() {
+        Task task = here.get();
+        if (task == null) task = add();
+        if (task.isBusy || Recording.isOver) return null;
+        task.isBusy = true;
+        return task;
+    }
+
+    private static Task add() {
+        Task task = new Task();
+        task.isBusy = true;
+        here.set(task);
+        Recording.add(task);
+        task.isBusy = false;
+        return task;
+    }
+
+    /** The task of this thread, if it has one. */
+    static Task ofThisThread() {
+        return here.get();
+    }
+
+    /** The task isn't looked at any more. */
+    void leave() {
+        BUSY.setRelease(this, false);
+    }
+
+    boolean isLookedAt() {
+        return (boolean) BUSY.getAcquire(this);
+    }
+
+    /**
+     * Something went wrong while the task was looked at, as when the stack is full: its trace ends here, and it stays
+     * busy.
+     */
+    void abandon() {
+        isOver = true;
+        Recording.interrupted();
+    }
+
+    // ---- Monitors.
+
+    void enter(Object object, int site) {
+        for (int at = depth - 1; at >= 0; at--) {
+            if (held[at].object == object) {
+                held[at].levels++;
+                return;
+            }
+        }
+        if (leftOut != null && isLeftOut(object)) leftOut.add(object);
+        else take(monitor(object), object, Modes.WRITE, site);
+    }
+
+    void exit(Object object) {
+        settle();
+        for (int at = depth - 1; at >= 0; at--) {
+            Held entry = held[at];
+            if (entry.object == object) {
+                if (entry.levels > 1) entry.levels--;
+                else giveBack(entry);
+                return;
+            }
+        }
+        if (leftOut == null || !leftOut.remove(object)) unseenReleases++;
+    }
+
+    private boolean isLeftOut(Object object) {
+        for (Object one : leftOut) {
+            if (one == object) return true;
+        }
+        return false;
+    }
+
+    private Known monitor(Object object) {
+        for (Known known : recent) {
+            if (known != null && known.get() == object && known.isMonitor) return known;
+        }
+        Known known = Known.ofMonitor(object, probe);
+        recent[nextRecent = (nextRecent + 1) & 3] = known;
+        return known;
+    }
+
+    Known lock(Object lock) {
+        for (Known known : recent) {
+            if (known != null && known.get() == lock && !known.isMonitor) return known;
+        }
+        Known known = Known.ofLock(lock, probe);
+        recent[nextRecent = (nextRecent + 1) & 3] = known;
+        return known;
+    }
+
+    /** A monitor is given back for a while: how often it was taken, 0 if that wasn't seen. */
+    int suspend(Object object) {
+        for (int at = depth - 1; at >= 0; at--) {
+            if (held[at].object == object) return suspend(held[at]);
+        }
+        return 0;
+    }
+
+    void resume(Object object, int levels, int site) {
+        Held entry = take(monitor(object), object, Modes.WRITE, site);
+        if (entry != null) entry.levels = levels;
+        for (int level = 1; entry == null && level < levels; level++) leftOut.add(object);
+    }
+
+    // ---- Locks of java.util.concurrent.locks.
+
+    /** The newest of what is held of a lock; as a reader, as a writer, or either. */
+    private Held find(Known lock, boolean isEither, boolean isReader) {
+        for (int at = depth - 1; at >= 0; at--) {
+            Held entry = held[at];
+            if (entry.lock == lock && (isEither || entry.isReader() == isReader)) return entry;
+        }
+        return null;
+    }
+
+    /** What the task has already in a way that another acquisition of the lock doesn't wait for. */
+    private Held again(Known lock) {
+        return lock.target.isReentrant ? find(lock.target, lock.isReader, false) : null;
+    }
+
+    /** A lock is about to be waited for: it is written as if it were taken. Null if there is nothing to write. */
+    Held want(Known lock, int site) {
+        settle();
+        if (again(lock) != null) return null;
+        Held entry = push(lock.target, null, Modes.of(lock.isReader, false), site);
+        if (entry == null) return null;
+        wish = entry;
+        if (isNew()) Recording.write(this);
+        return entry;
+    }
+
+    private boolean isNew() {
+        return !way.isTaken && !way.common.isTaken;
+    }
+
+    /** What was wanted was taken. */
+    void grant(Known lock, Held wanted, int site) {
+        failed = null;
+        if (wanted == null) {
+            takeAgain(lock);
+            return;
+        }
+        if (wish != wanted) { // a call of the program's own came in between
+            took(lock, false, site);
+            return;
+        }
+        wish = null;
+        operations++;
+        if (!way.isTaken) see();
+        if (!lock.target.isReentrant) lock.target.addHolder(this);
+    }
+
+    /** What was wanted without a record was taken. */
+    private void takeAgain(Known lock) {
+        Held entry = again(lock);
+        if (entry == null) leaveOut(lock.target);
+        else if (entry.isReader() == lock.isReader) entry.levels++;
+        else entry.reads++;
+    }
+
+    /** What was wanted wasn't taken. */
+    void withdraw(Held wanted) {
+        if (wanted != null && wanted == wish) withdraw();
+    }
+
+    private void withdraw() {
+        Held entry = wish;
+        wish = null;
+        depth--;
+        way = entry.before;
+        if (entry.record < base) {
+            Recording.cut(this, entry.record);
+            base = entry.record;
+            size = 0;
+        } else {
+            size = entry.record - base;
+        }
+        entry.clear();
+    }
+
+    /** A lock was taken, by a try or by a call that other code makes. */
+    void took(Known lock, boolean isTry, int site) {
+        failed = null;
+        if (again(lock) != null) {
+            takeAgain(lock);
+            return;
+        }
+        Held entry = take(lock.target, null, Modes.of(lock.isReader, isTry), site);
+        if (entry != null && !lock.target.isReentrant) lock.target.addHolder(this);
+    }
+
+    /** A try failed. One that is made again at once, with others held, is a way of waiting that no trace shows. */
+    void failed(Known lock) {
+        if (depth > 0 && failed == lock) retriedTries++;
+        failed = lock;
+    }
+
+    /** A lock is about to be given back. Returns whether it was seen to be taken. */
+    boolean gave(Known lock, int site) {
+        settle();
+        Known target = lock.target;
+        Held entry = find(target, false, lock.isReader);
+        if (entry == null && lock.isReader) entry = find(target, true, false);
+        if (entry == null) return leftOut != null && removeLeftOut(target);
+        if (entry.isReader() == lock.isReader) {
+            if (--entry.levels == 0) giveAll(entry, site);
+        } else {
+            entry.reads--;
+        }
+        return true;
+    }
+
+    /** A task has given back all that it had as a writer; what it has as a reader stays, and waits for nobody. */
+    private void giveAll(Held entry, int site) {
+        Known lock = entry.lock;
+        int reads = entry.reads;
+        giveBack(entry);
+        if (!lock.isReentrant) lock.removeHolder(this);
+        if (reads > 0) {
+            Held kept = take(lock, null, Modes.TRY_READ, site);
+            if (kept != null) kept.levels = reads;
+        }
+    }
+
+    private boolean removeLeftOut(Known lock) {
+        operations++;
+        return leftOut.remove(lock);
+    }
+
+    /** What the task gives back wasn't seen to be taken by it. */
+    void gaveUnseen(Known lock) {
+        unseenReleases++;
+        Task other = lock.target.otherHolder(this);
+        if (other == null) return;
+        lock.target.removeHolder(other);
+        other.drop(lock);
+    }
+
+    /** Another task gives back what this one took: that ends at this one's next operation. */
+    private void drop(Known lock) {
+        for (Held entry : held) {
+            if (entry != null && entry.lock == lock.target && !entry.isDropped) {
+                entry.isDropped = true;
+                hasDropped = true;
+                return;
+            }
+        }
+    }
+
+    /** A lock is given back for a while: how often it was taken, 0 if that wasn't seen. */
+    int suspend(Known lock) {
+        Held entry = find(lock.target, false, false);
+        return entry == null ? 0 : suspend(entry);
+    }
+
+    private int suspend(Held entry) {
+        int levels = entry.levels;
+        giveBack(entry);
+        return levels;
+    }
+
+    void resume(Known lock, int levels, int site) {
+        Held entry = take(lock.target, null, Modes.WRITE, site);
+        if (entry != null) entry.levels = levels;
+        for (int level = 1; entry == null && level < levels; level++) leftOut.add(lock.target);
+    }
+
+    // ---- Acquisitions and releases of either kind.
+
+    /**
+     * Looks at what happened since the last operation: an error may have ended a wait, or others gave back what this
+     * task held.
+     */
+    private void settle() {
+        if (wish != null) withdraw();
+        if (hasDropped) giveDropped();
+    }
+
+    private void giveDropped() {
+        hasDropped = false;
+        for (int at = depth - 1; at >= 0; at--) {
+            if (held[at].isDropped) giveBack(held[at]);
+        }
+    }
+
+    private Held take(Known lock, Object object, int mode, int site) {
+        settle();
+        operations++;
+        Held entry = push(lock, object, mode, site);
+        if (entry == null) leaveOut(object == null ? lock : object);
+        else if (!way.isTaken) see();
+        return entry;
+    }
+
+    /** Adds to what is held, and to the records. Null if there is no room for it. */
+    private Held push(Known lock, Object object, int mode, int site) {
+        failed = null;
+        if (depth > 0) tellAllApart(lock);
+        if (depth == MOST_HELD || base + size >= MOST_EVENTS) return null;
+        if (depth == held.length) held = Arrays.copyOf(held, 2 * depth);
+        Held entry = held[depth];
+        if (entry == null) entry = held[depth] = new Held();
+        entry.lock = lock;
+        entry.object = object;
+        entry.code = lock.key << 3 | mode;
+        entry.record = entry.start = base + size;
+        entry.before = way;
+        entry.levels = 1;
+        way = way.to(entry.code);
+        append(entry.code, way.isTaken || site == 0 || !Site.of(site).isOfJdk() ? site : Site.withCaller(site));
+        depth++;
+        return entry;
+    }
+
+    private void append(int code, int site) {
+        if (2 * size == records.length) records = Arrays.copyOf(records, 2 * records.length);
+        records[2 * size] = code;
+        records[2 * size + 1] = site;
+        size++;
+    }
+
+    private void leaveOut(Object what) {
+        if (leftOut == null) leftOut = new ArrayList<>();
+        leftOut.add(what);
+        if (depth == MOST_HELD) beyondHeld++;
+        else fullTraces++;
+    }
+
+    /** A way is new to the task. If it is to the process too, it is written. */
+    private void see() {
+        way.isTaken = true;
+        fresh = base + size;
+        if (way.common.isTaken) return;
+        way.common.isTaken = true;
+        Recording.write(this);
+    }
+
+    /** The task holds a lock no more. What it did since it took it is taken back, if nothing of it was new. */
+    private void giveBack(Held entry) {
+        operations++;
+        if (held[depth - 1] != entry) {
+            giveBackEarly(entry);
+            return;
+        }
+        depth--;
+        way = entry.before;
+        if (entry.start < fresh) {
+            append(entry.code & ~7 | Modes.RELEASE, 0);
+        } else {
+            takeBack(entry.start);
+        }
+        entry.clear();
+    }
+
+    /** Only so many records stay. */
+    private void takeBack(int count) {
+        repeats += base + size - count + 1;
+        if (count < base) {
+            Recording.cut(this, count);
+            base = count;
+        }
+        size = count - base;
+    }
+
+    /**
+     * A lock is given back before others that were taken later: these move up to its place. What is taken back begins
+     * where just those before it are held: that is where the one before it began, if that is a lock of the same code,
+     * or else nowhere.
+     */
+    private void giveBackEarly(Held entry) {
+        int at = depth - 1;
+        while (held[at] != entry) at--;
+        int start = entry.start;
+        for (int later = at + 1; later < depth; later++) {
+            int own = held[later].start;
+            held[later].start = start;
+            start = held[later].code == entry.code && start >= 0 ? own : -1;
+        }
+        Way next = entry.before;
+        for (int later = at; later < depth - 1; later++) {
+            held[later] = held[later + 1];
+            held[later].before = next;
+            next = next.to(held[later].code);
+        }
+        way = next;
+        depth--;
+        held[depth] = entry;
+        append(entry.code & ~7 | Modes.RELEASE, 0);
+        entry.clear();
+    }
+
+    // ---- Single locks.
+
+    /** A lock is taken with others held. All but the first of these were told apart when they were taken. */
+    private void tellAllApart(Known lock) {
+        Held first = held[0];
+        if (depth == 1 && (!first.lock.isApart || first.code >>> 3 != first.lock.key)) tellHeldApart(first);
+        if (!lock.isApart) lock.tellApart();
+    }
+
+    /** The lock that is held alone gets another one under it: it becomes a lock of its own, and so does its record. */
+    private void tellHeldApart(Held entry) {
+        if (!entry.lock.isApart) entry.lock.tellApart();
+        int code = entry.lock.key << 3 | entry.code & 7;
+        if (code == entry.code) return;
+        entry.code = code;
+        if (entry.record >= base) records[2 * (entry.record - base)] = code;
+        else Recording.rename(this, entry.record, code);
+        way = entry.before.to(code);
+        if (!way.isTaken) see();
+    }
+
+    // ---- The end.
+
+    int depth() {
+        return depth;
+    }
+
+    Held top() {
+        return depth == 0 ? null : held[depth - 1];
+    }
+
+    boolean waits() {
+        return wish != null;
+    }
+
+    /** The thread has ended: what it waited for wasn't taken. */
+    void end() {
+        settle();
+        isOver = true;
+    }
+
+    /** The thread waits for a monitor at the end, as is found out from outside. */
+    void waitsFor(Known lock, int site) {
+        push(lock, lock.get(), Modes.WRITE, site);
+    }
+}

@@ -1,0 +1,84 @@
+package lockdep.agent;
+
+import java.util.HashMap;
+import java.util.Map;
+import java.util.Set;
+
+import org.objectweb.asm.Opcodes;
+import org.objectweb.asm.Type;
+import org.objectweb.asm.tree.MethodInsnNode;
+
+/** The calls that are replaced by those of Hooks, which get the object and where they stand as well. */
+final class Calls {
+    static final String HOOKS = "java/lockdep/Hooks";
+    static final String REFERENCES = "java/lockdep/References";
+
+    private static final String LOCK = Hierarchy.LOCKS + "Lock";
+    private static final String CONDITION = Hierarchy.LOCKS + "Condition";
+    private static final String STAMPED = Hierarchy.LOCKS + "StampedLock";
+    private static final String UNIT = "Ljava/util/concurrent/TimeUnit;";
+
+    private static final Set<String> OF_LOCK = Set.of("lock()V", "lockInterruptibly()V", "tryLock()Z",
+            "tryLock(J" + UNIT + ")Z", "unlock()V");
+    private static final Set<String> OF_CONDITION = Set.of("await()V", "await(J" + UNIT + ")Z", "awaitNanos(J)J",
+            "awaitUninterruptibly()V",
+            "awaitUntil(Ljava/util/Date;)Z");
+    private static final Set<String> OF_STAMPED = Set.of("writeLock()J", "readLock()J", "writeLockInterruptibly()J",
+            "readLockInterruptibly()J", "tryWriteLock()J", "tryReadLock()J", "tryWriteLock(J" + UNIT + ")J",
+                    "tryReadLock(J" + UNIT + ")J",
+            "unlockWrite(J)V", "unlockRead(J)V", "unlock(J)V", "tryUnlockWrite()Z", "tryUnlockRead()Z",
+                    "tryConvertToWriteLock(J)J",
+            "tryConvertToReadLock(J)J", "tryConvertToOptimisticRead(J)J");
+    private static final Map<String, String> VIEWS = new HashMap<>();
+    private static final Set<String> WAITS = Set.of("wait()V", "wait(J)V", "wait(JI)V");
+
+    static {
+        for (String view : new String[] {"asReadLock()L" + LOCK + ";", "asWriteLock()L" + LOCK + ";",
+            "asReadWriteLock()L" + Hierarchy.LOCKS + "ReadWriteLock;"}) {
+            VIEWS.put(view, STAMPED);
+        }
+    }
+
+    private Calls() {
+    }
+
+    /** What a call's object is taken for by the call of Hooks; null if the call stays. */
+    static String receiver(MethodInsnNode call, Locking locking) {
+        if (call.getOpcode() != Opcodes.INVOKEVIRTUAL && call.getOpcode() != Opcodes.INVOKEINTERFACE) return null;
+        String signature = call.name + call.desc;
+        if (WAITS.contains(signature)) return "java/lang/Object";
+        if (OF_LOCK.contains(signature)) return isLock(call.owner, locking) ? LOCK : null;
+        if (signature.equals("newCondition()L" + CONDITION + ";")) return isLock(call.owner, locking) ? LOCK : null;
+        if (OF_CONDITION.contains(signature)) return call.owner.equals(CONDITION) ? CONDITION : null;
+        if (OF_STAMPED.contains(signature)) return call.owner.equals(STAMPED) ? STAMPED : null;
+        if (VIEWS.containsKey(signature)) return call.owner.equals(STAMPED) ? STAMPED : null;
+        return signature.equals("halt(I)V") && call.owner.equals("java/lang/Runtime") ? "java/lang/Runtime" : null;
+    }
+
+    /** Whether the call of Hooks is told where it stands. */
+    static boolean hasSite(MethodInsnNode call) {
+        return !call.name.equals("newCondition") && !call.name.equals("halt")
+                && !VIEWS.containsKey(call.name + call.desc);
+    }
+
+    private static boolean isLock(String owner, Locking locking) {
+        return Hierarchy.LOCK.contains(owner) || !owner.startsWith("java/") && locking.hierarchy.isLock(owner,
+                locking.loader);
+    }
+
+    /** Whether a reference to a method is one to a call that is replaced. */
+    static boolean isOfLock(String owner, String name, String descriptor) {
+        return Hierarchy.LOCK.contains(owner) && OF_LOCK.contains(name + descriptor);
+    }
+
+    /**
+     * The class that a reference's object is taken for, which it may have already; null if that isn't one of
+     * References.
+     */
+    static String objectOf(String descriptor, String owner) {
+        Type[] words = Type.getArgumentTypes(descriptor);
+        if (words.length == 0) return owner;
+        String object = words[0].getInternalName();
+        return Hierarchy.LOCK.contains(object) ? object : null;
+    }
+}

@@ -1,0 +1,46 @@
+package lockdep.agent;
+
+import java.io.IOException;
+import java.io.InputStream;
+import java.util.Set;
+
+import org.objectweb.asm.ClassReader;
+
+/** Whether a class of the program's is a lock: its file says what is above it, and no class is loaded for that. */
+final class Hierarchy {
+    static final String LOCKS = "java/util/concurrent/locks/";
+    static final Set<String> LOCK = Set.of(LOCKS + "Lock", LOCKS + "ReentrantLock",
+            LOCKS + "ReentrantReadWriteLock$ReadLock",
+            LOCKS + "ReentrantReadWriteLock$WriteLock");
+    private static final int MOST_ABOVE = 16;
+
+    /** Whether a class is a Lock, or one below it. */
+    boolean isLock(String name, ClassLoader loader) {
+        return isBelow(name, loader, LOCK, MOST_ABOVE);
+    }
+
+    boolean isBelow(String name, ClassLoader loader, Set<String> wanted, int most) {
+        if (wanted.contains(name)) return true;
+        if (name == null || most == 0 || name.startsWith("java/") || name.startsWith("[")) return false;
+        ClassReader reader = read(name, loader);
+        if (reader == null) return false;
+        if (isBelow(reader.getSuperName(), loader, wanted, most - 1)) return true;
+        for (String above : reader.getInterfaces()) {
+            if (isBelow(above, loader, wanted, most - 1)) return true;
+        }
+        return false;
+    }
+
+    private static ClassReader read(String name, ClassLoader loader) {
+        String file = name + ".class";
+        try (InputStream bytes = loader == null ? ClassLoader.getSystemResourceAsStream(file)
+                : loader.getResourceAsStream(file)) {
+            if (bytes == null) return null;
+            byte[] all = bytes.readAllBytes();
+            if (all[7] > 64) all[7] = 64;
+            return new ClassReader(all);
+        } catch (IOException | RuntimeException | LinkageError unreadable) {
+            return null;
+        }
+    }
+}

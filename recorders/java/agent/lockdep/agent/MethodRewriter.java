@@ -1,0 +1,245 @@
+package lockdep.agent;
+
+import java.lockdep.Site;
+import java.lockdep.Source;
+import java.util.ArrayDeque;
+import java.util.HashMap;
+import java.util.Map;
+
+import org.objectweb.asm.Handle;
+import org.objectweb.asm.Opcodes;
+import org.objectweb.asm.Type;
+import org.objectweb.asm.tree.AbstractInsnNode;
+import org.objectweb.asm.tree.ClassNode;
+import org.objectweb.asm.tree.FieldInsnNode;
+import org.objectweb.asm.tree.FrameNode;
+import org.objectweb.asm.tree.InsnList;
+import org.objectweb.asm.tree.InsnNode;
+import org.objectweb.asm.tree.IntInsnNode;
+import org.objectweb.asm.tree.InvokeDynamicInsnNode;
+import org.objectweb.asm.tree.LabelNode;
+import org.objectweb.asm.tree.LdcInsnNode;
+import org.objectweb.asm.tree.LineNumberNode;
+import org.objectweb.asm.tree.MethodInsnNode;
+import org.objectweb.asm.tree.MethodNode;
+import org.objectweb.asm.tree.TryCatchBlockNode;
+import org.objectweb.asm.tree.TypeInsnNode;
+import org.objectweb.asm.tree.VarInsnNode;
+
+/**
+ * Rewrites a method. What is added has no branches, so the frames of the method stay right; only the handler of a
+ * synchronized method gets one of its own.
+ */
+final class MethodRewriter {
+    private final ClassNode type;
+    private final MethodNode method;
+    private final Source source;
+    private final Locking locking;
+    private final InsnList code;
+    private final Map<Integer, Integer> madeOnLine = new HashMap<>();
+    /** The objects that are being made: the names of their classes, null if they aren't kept. */
+    private final ArrayDeque<TypeInsnNode> news = new ArrayDeque<>();
+    private boolean isChanged;
+    private int line;
+
+    MethodRewriter(ClassNode type, MethodNode method, Source source, Locking locking) {
+        this.type = type;
+        this.method = method;
+        this.source = source;
+        this.locking = locking;
+        code = method.instructions;
+    }
+
+    /** Returns whether anything of the method is changed. */
+    boolean rewrite() {
+        boolean isSynchronized = (method.access & Opcodes.ACC_SYNCHRONIZED) != 0;
+        if (isSynchronized && !canBeWrapped())
+                throw new IllegalStateException("its method " + method.name + " changes `this`");
+        AbstractInsnNode next;
+        for (AbstractInsnNode each = code.getFirst(); each != null; each = next) {
+            next = each.getNext();
+            rewrite(each);
+        }
+        if (isSynchronized) wrap();
+        return isChanged;
+    }
+
+    private void rewrite(AbstractInsnNode each) {
+        if (each instanceof LineNumberNode) line = ((LineNumberNode) each).line;
+        else if (each instanceof MethodInsnNode) rewriteCall((MethodInsnNode) each);
+        else if (each instanceof InvokeDynamicInsnNode) rewriteReferences((InvokeDynamicInsnNode) each);
+        else if (each.getOpcode() == Opcodes.MONITORENTER) before(each, list(new InsnNode(Opcodes.DUP), site(), enter()));
+        else if (each.getOpcode() == Opcodes.MONITOREXIT) before(each, list(new InsnNode(Opcodes.DUP), exit()));
+        else if (each.getOpcode() == Opcodes.NEW) news.push((TypeInsnNode) each);
+        else if (isArray(each.getOpcode()) && isKeptInLockedField(each)) noteMade(each);
+    }
+
+    private static boolean isArray(int opcode) {
+        return opcode == Opcodes.NEWARRAY || opcode == Opcodes.ANEWARRAY || opcode == Opcodes.MULTIANEWARRAY;
+    }
+
+    // ---- Small parts.
+
+    private static InsnList list(AbstractInsnNode... parts) {
+        InsnList list = new InsnList();
+        for (AbstractInsnNode part : parts) list.add(part);
+        return list;
+    }
+
+    private static MethodInsnNode hook(String name, String descriptor) {
+        return new MethodInsnNode(Opcodes.INVOKESTATIC, Calls.HOOKS, name, descriptor, false);
+    }
+
+    private static MethodInsnNode enter() {
+        return hook("enter", "(Ljava/lang/Object;I)V");
+    }
+
+    private static MethodInsnNode exit() {
+        return hook("exit", "(Ljava/lang/Object;)V");
+    }
+
+    private AbstractInsnNode site() {
+        return number(Site.add(source, method.name, line, 1));
+    }
+
+    private static AbstractInsnNode number(int value) {
+        return value <= Short.MAX_VALUE ? new IntInsnNode(Opcodes.SIPUSH, value) : new LdcInsnNode(value);
+    }
+
+    private void before(AbstractInsnNode each, InsnList added) {
+        code.insertBefore(each, added);
+        isChanged = true;
+    }
+
+    private void after(AbstractInsnNode each, InsnList added) {
+        code.insert(each, added);
+        isChanged = true;
+    }
+
+    // ---- Calls.
+
+    private void rewriteCall(MethodInsnNode call) {
+        if (call.getOpcode() == Opcodes.INVOKESPECIAL && call.name.equals("<init>")) {
+            endNew(call);
+            return;
+        }
+        if (call.owner.equals("java/util/Collections") && call.name.startsWith("synchronized")) noteMade(call);
+        String receiver = Calls.receiver(call, locking);
+        if (receiver == null) return;
+        if (Calls.hasSite(call)) before(call, list(site()));
+        String words = call.desc.substring(1, call.desc.indexOf(')')) + (Calls.hasSite(call) ? "I" : "");
+        String result = call.desc.substring(call.desc.indexOf(')'));
+        code.set(call, hook(call.name, "(L" + receiver + ";" + words + result));
+        isChanged = true;
+    }
+
+    /** References to methods of locks, as `lock::unlock`, become references to what is called in their place. */
+    private void rewriteReferences(InvokeDynamicInsnNode made) {
+        for (int at = 0; at < made.bsmArgs.length; at++) {
+            if (!(made.bsmArgs[at] instanceof Handle)) continue;
+            Handle method = (Handle) made.bsmArgs[at];
+            boolean isCall = method.getTag() == Opcodes.H_INVOKEVIRTUAL || method.getTag() == Opcodes.H_INVOKEINTERFACE;
+            if (!isCall || !Calls.isOfLock(method.getOwner(), method.getName(), method.getDesc())) continue;
+            String object = Calls.objectOf(made.desc, method.getOwner());
+            if (object == null) continue;
+            String descriptor = "(L" + object + ";" + method.getDesc().substring(1);
+            made.bsmArgs[at] = new Handle(Opcodes.H_INVOKESTATIC, Calls.REFERENCES, method.getName(), descriptor,
+                    false);
+            isChanged = true;
+        }
+    }
+
+    // ---- Objects that are made.
+
+    private void endNew(MethodInsnNode call) {
+        if (!news.isEmpty() && news.peek().desc.equals(call.owner)) {
+            TypeInsnNode made = news.pop();
+            boolean isKept = Locking.realAfter(made) != null && Locking.realAfter(made).getOpcode() == Opcodes.DUP;
+            if (isKept && (locking.isNoted(made.desc) || isKeptInLockedField(call))) noteMade(call);
+        } else if (method.name.equals("<init>") && news.isEmpty() && !call.owner.equals(type.name)
+                && locking.isOfItself) {
+            after(call, list(new VarInsnNode(Opcodes.ALOAD, 0), hook("born", "(Ljava/lang/Object;)V")));
+        }
+    }
+
+    private boolean isKeptInLockedField(AbstractInsnNode made) {
+        AbstractInsnNode next = Locking.realAfter(made);
+        if (!(next instanceof FieldInsnNode)) return false;
+        boolean isStore = next.getOpcode() == Opcodes.PUTFIELD || next.getOpcode() == Opcodes.PUTSTATIC;
+        return isStore && locking.isLocked((FieldInsnNode) next);
+    }
+
+    /** The object on the stack was made on this line. */
+    private void noteMade(AbstractInsnNode made) {
+        int ordinal = madeOnLine.merge(line, 1, Integer::sum);
+        int site = Site.add(source, method.name, line, ordinal);
+        after(made, list(new InsnNode(Opcodes.DUP), number(site), hook("made", "(Ljava/lang/Object;I)V")));
+    }
+
+    // ---- Synchronized methods.
+
+    /**
+     * Whether the object of a method is in its place all through it. (Compilers leave it there; what shrinks programs
+     * may not.)
+     */
+    private boolean canBeWrapped() {
+        boolean isStatic = (method.access & Opcodes.ACC_STATIC) != 0;
+        if (isStatic) return (type.version & 0xffff) >= Opcodes.V1_5;
+        int locals = Type.getArgumentTypes(method.desc).length + 1;
+        for (AbstractInsnNode each = code.getFirst(); each != null; each = each.getNext()) {
+            boolean isStore = each.getOpcode() >= Opcodes.ISTORE && each.getOpcode() <= Opcodes.ASTORE;
+            if (isStore && ((VarInsnNode) each).var == 0) return false;
+            if (each instanceof FrameNode) {
+                locals = localsAfter((FrameNode) each, locals);
+                if (locals == 0) return false;
+            }
+        }
+        return true;
+    }
+
+    /** How many places of the object and the like a frame has; 0 if the object isn't there. */
+    private int localsAfter(FrameNode frame, int locals) {
+        switch (frame.type) {
+            case Opcodes.F_APPEND:
+                return locals + frame.local.size();
+            case Opcodes.F_CHOP:
+                return locals - frame.local.size();
+            case Opcodes.F_FULL:
+                return frame.local.isEmpty() || !type.name.equals(frame.local.get(0)) ? 0 : frame.local.size();
+            default:
+                return locals;
+        }
+    }
+
+    /** The method enters the monitor before its first line. It exits before each return, and if an error leaves it. */
+    private void wrap() {
+        line = firstLine();
+        for (AbstractInsnNode each = code.getFirst(); each != null; each = each.getNext()) {
+            boolean isReturn = each.getOpcode() >= Opcodes.IRETURN && each.getOpcode() <= Opcodes.RETURN;
+            if (isReturn) before(each, list(owner(), exit()));
+        }
+        LabelNode start = new LabelNode();
+        LabelNode end = new LabelNode();
+        code.insert(list(owner(), site(), enter(), start));
+        code.add(end);
+        if ((type.version & 0xffff) >= Opcodes.V1_6) {
+            Object[] locals = (method.access & Opcodes.ACC_STATIC) != 0 ? new Object[0] : new Object[] {type.name};
+            code.add(new FrameNode(Opcodes.F_FULL, locals.length, locals, 1, new Object[] {"java/lang/Throwable"}));
+        }
+        code.add(list(owner(), exit(), new InsnNode(Opcodes.ATHROW)));
+        method.tryCatchBlocks.add(new TryCatchBlockNode(start, end, end, null));
+        isChanged = true;
+    }
+
+    private AbstractInsnNode owner() {
+        boolean isStatic = (method.access & Opcodes.ACC_STATIC) != 0;
+        return isStatic ? new LdcInsnNode(Type.getObjectType(type.name)) : new VarInsnNode(Opcodes.ALOAD, 0);
+    }
+
+    private int firstLine() {
+        for (AbstractInsnNode each = code.getFirst(); each != null; each = each.getNext()) {
+            if (each instanceof LineNumberNode) return ((LineNumberNode) each).line;
+        }
+        return 0;
+    }
+}

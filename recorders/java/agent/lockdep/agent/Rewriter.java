@@ -1,0 +1,133 @@
+package lockdep.agent;
+
+import java.io.IOException;
+import java.io.InputStream;
+import java.lang.instrument.ClassFileTransformer;
+import java.lockdep.Recording;
+import java.lockdep.Source;
+import java.net.URL;
+import java.security.CodeSource;
+import java.security.ProtectionDomain;
+
+import org.objectweb.asm.ClassReader;
+import org.objectweb.asm.ClassWriter;
+import org.objectweb.asm.Opcodes;
+import org.objectweb.asm.tree.ClassNode;
+import org.objectweb.asm.tree.LineNumberNode;
+import org.objectweb.asm.tree.AbstractInsnNode;
+import org.objectweb.asm.tree.MethodNode;
+
+/** Rewrites the program's classes when they are loaded. One that can't be rewritten stays as it is, and is counted. */
+final class Rewriter implements ClassFileTransformer {
+    /** The newest version of class files that this ASM reads. Newer ones have had nothing else in them so far. */
+    private static final int NEWEST = Opcodes.V20;
+    /** What the recorder itself is made of, or what is under it, whatever is asked for. */
+    private static final String[] NEVER = {"java/lang/Object", "java/lang/Thread", "java/lang/VirtualThread",
+            "java/lang/BaseVirtualThread",
+        "java/lang/Class", "java/lang/ref/", "java/lang/invoke/", "java/lang/System", "java/lang/Shutdown",
+                "java/lang/ApplicationShutdown",
+        "java/lang/StackWalker", "java/lang/StackStreamFactory", "java/lang/StackFrame", "java/lang/StringBuilder",
+        "java/lang/AbstractStringBuilder", "java/lang/String", "java/util/concurrent/ConcurrentHashMap",
+        "java/util/concurrent/locks/", "java/io/FileOutputStream", "java/io/FileDescriptor", "java/lockdep/",
+                "jdk/internal/",
+        "sun/instrument/", "sun/launcher/", "lockdep/agent/", "lockdep/asm/"};
+    private static final String[] ALWAYS = {"java/lang/StringBuffer"};
+
+    private final String[] jdk;
+    private final Hierarchy hierarchy = new Hierarchy();
+
+    Rewriter(String[] jdk) {
+        this.jdk = jdk;
+        for (int at = 0; at < jdk.length; at++) jdk[at] = jdk[at].trim().replace('.', '/');
+    }
+
+    boolean asksForJdk() {
+        return jdk.length > 0;
+    }
+
+    /** Loads what a rewriting needs, so that none of it is loaded in the middle of one. */
+    void warmUp() throws IOException {
+        try (InputStream file = ClassLoader.getSystemResourceAsStream("java/lockdep/Warm.class")) {
+            if (file != null) rewrite(null, file.readAllBytes(), null, false);
+        }
+    }
+
+    @Override
+    public byte[] transform(Module module, ClassLoader loader, String name, Class<?> redefined,
+            ProtectionDomain domain, byte[] file) {
+        if (name == null || file == null) return null;
+        boolean isOfJdk = isOfJdk(module, name);
+        if (begins(name, NEVER) && !begins(name, ALWAYS)) return null;
+        if (isOfJdk && !begins(name, jdk)) return null;
+        try {
+            return rewrite(loader, file, domain, isOfJdk);
+        } catch (Throwable error) {
+            Recording.unrewritten();
+            if (System.getenv("LOCKDEP_JAVA_WHY") != null) new Error("record: " + name + " stays as it is",
+                    error).printStackTrace();
+            return null;
+        }
+    }
+
+    /** Whether a class of the JDK is one that was asked for. */
+    boolean isAsked(String name, Module module) {
+        return isOfJdk(module, name) && begins(name, jdk) && (!begins(name, NEVER) || begins(name, ALWAYS));
+    }
+
+    private static boolean isOfJdk(Module module, String name) {
+        if (module == null || !module.isNamed()) return begins(name, new String[] {"java/", "jdk/", "sun/"});
+        return module.getName().startsWith("java.") || module.getName().startsWith("jdk.");
+    }
+
+    private static boolean begins(String name, String[] beginnings) {
+        for (String beginning : beginnings) {
+            if (name.startsWith(beginning)) return true;
+        }
+        return false;
+    }
+
+    private byte[] rewrite(ClassLoader loader, byte[] file, ProtectionDomain domain, boolean isOfJdk) {
+        int version = (file[6] & 255) << 8 | file[7] & 255;
+        byte[] readable = version <= NEWEST ? file : withVersion(file.clone(), NEWEST);
+        ClassReader reader = new ClassReader(readable);
+        ClassNode type = new ClassNode();
+        reader.accept(type, 0);
+        Source source = Source.add(type.name.replace('/', '.'), type.sourceFile, location(domain), firstLine(type),
+                isOfJdk);
+        Locking locking = new Locking(type, hierarchy, loader, begins("java/lang/StringBuffer", jdk));
+        boolean isChanged = false;
+        for (MethodNode method : type.methods) {
+            if (method.instructions.size() > 0) isChanged |= new MethodRewriter(type, method, source,
+                    locking).rewrite();
+        }
+        if (!isChanged) return null;
+        ClassWriter writer = new ClassWriter(reader, ClassWriter.COMPUTE_MAXS);
+        type.accept(writer);
+        return withVersion(writer.toByteArray(), version);
+    }
+
+    private static byte[] withVersion(byte[] file, int version) {
+        file[6] = (byte) (version >> 8);
+        file[7] = (byte) version;
+        return file;
+    }
+
+    private static String location(ProtectionDomain domain) {
+        CodeSource source = domain == null ? null : domain.getCodeSource();
+        URL url = source == null ? null : source.getLocation();
+        return url == null || !url.getProtocol().equals("file") ? null : url.getPath().replace("%20", " ");
+    }
+
+    /** The first line of a class that has code. */
+    private static int firstLine(ClassNode type) {
+        int first = 0;
+        for (MethodNode method : type.methods) {
+            for (AbstractInsnNode each = method.instructions.getFirst(); each != null; each = each.getNext()) {
+                if (!(each instanceof LineNumberNode)) continue;
+                int line = ((LineNumberNode) each).line;
+                first = first == 0 ? line : Math.min(first, line);
+            }
+        }
+        return first;
+    }
+}

@@ -1,0 +1,116 @@
+//! `Condvar`: a wait is a release of the mutex and an acquisition.
+use crate::mutex::MutexGuard;
+use std::fmt;
+use std::panic::Location;
+use std::sync::{LockResult, PoisonError, WaitTimeoutResult};
+use std::time::{Duration, Instant};
+
+/// `std::sync::Condvar`, which takes the guards of this crate.
+pub struct Condvar {
+    real: std::sync::Condvar,
+}
+
+type Waited<'a, T> = LockResult<(MutexGuard<'a, T>, WaitTimeoutResult)>;
+
+impl Condvar {
+    #[inline]
+    pub const fn new() -> Condvar {
+        Condvar { real: std::sync::Condvar::new() }
+    }
+
+    #[track_caller]
+    pub fn wait<'a, T>(&self, guard: MutexGuard<'a, T>) -> LockResult<MutexGuard<'a, T>> {
+        let place = Location::caller();
+        let (real, mark) = guard.given_back();
+        match self.real.wait(real) {
+            Ok(real) => Ok(MutexGuard::taken_again(real, mark, place)),
+            Err(poison) => Err(PoisonError::new(MutexGuard::taken_again(poison.into_inner(), mark, place))),
+        }
+    }
+
+    #[track_caller]
+    pub fn wait_while<'a, T, F>(&self, guard: MutexGuard<'a, T>, mut condition: F) -> LockResult<MutexGuard<'a, T>>
+    where
+        F: FnMut(&mut T) -> bool,
+    {
+        let mut guard = guard;
+        while condition(&mut *guard) {
+            guard = self.wait(guard)?;
+        }
+        Ok(guard)
+    }
+
+    #[track_caller]
+    #[deprecated(since = "1.6.0", note = "replaced by `std::sync::Condvar::wait_timeout`")]
+    #[allow(deprecated)]
+    pub fn wait_timeout_ms<'a, T>(&self, guard: MutexGuard<'a, T>, ms: u32) -> LockResult<(MutexGuard<'a, T>, bool)> {
+        match self.wait_timeout(guard, Duration::from_millis(u64::from(ms))) {
+            Ok((guard, result)) => Ok((guard, !result.timed_out())),
+            Err(poison) => {
+                let (guard, result) = poison.into_inner();
+                Err(PoisonError::new((guard, !result.timed_out())))
+            }
+        }
+    }
+
+    #[track_caller]
+    pub fn wait_timeout<'a, T>(&self, guard: MutexGuard<'a, T>, dur: Duration) -> Waited<'a, T> {
+        let place = Location::caller();
+        let (real, mark) = guard.given_back();
+        match self.real.wait_timeout(real, dur) {
+            Ok((real, result)) => Ok((MutexGuard::taken_again(real, mark, place), result)),
+            Err(poison) => {
+                let (real, result) = poison.into_inner();
+                Err(PoisonError::new((MutexGuard::taken_again(real, mark, place), result)))
+            }
+        }
+    }
+
+    #[track_caller]
+    pub fn wait_timeout_while<'a, T, F>(&self, guard: MutexGuard<'a, T>, dur: Duration, mut condition: F) -> Waited<'a, T>
+    where
+        F: FnMut(&mut T) -> bool,
+    {
+        let start = Instant::now();
+        let mut guard = guard;
+        loop {
+            if !condition(&mut *guard) {
+                return Ok((guard, result_of(false)));
+            }
+            let Some(timeout) = dur.checked_sub(start.elapsed()) else { return Ok((guard, result_of(true))) };
+            guard = self.wait_timeout(guard, timeout)?.0;
+        }
+    }
+
+    #[inline]
+    pub fn notify_one(&self) {
+        self.real.notify_one();
+    }
+
+    #[inline]
+    pub fn notify_all(&self) {
+        self.real.notify_all();
+    }
+}
+
+/// The result of a wait that timed out or didn't. Only the library can make one, so one of its own is asked for it.
+#[cold]
+fn result_of(is_timed_out: bool) -> WaitTimeoutResult {
+    let mutex = std::sync::Mutex::new(());
+    let guard = mutex.lock().unwrap_or_else(PoisonError::into_inner);
+    let waited = std::sync::Condvar::new().wait_timeout_while(guard, Duration::ZERO, |()| is_timed_out);
+    let (_guard, result) = waited.unwrap_or_else(PoisonError::into_inner);
+    result
+}
+
+impl fmt::Debug for Condvar {
+    fn fmt(&self, formatter: &mut fmt::Formatter<'_>) -> fmt::Result {
+        self.real.fmt(formatter)
+    }
+}
+
+impl Default for Condvar {
+    fn default() -> Condvar {
+        Condvar::new()
+    }
+}

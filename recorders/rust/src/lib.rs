@@ -1,0 +1,28 @@
+//! The locks of `std::sync`, with its API as it is. Built with `--cfg lockdep` they record how the program takes them, for
+//! `lockdep run --recorder rust`; without it this crate *is* `std::sync`. README.md says how to use it.
+#[cfg(not(lockdep))]
+pub use std::sync::*;
+
+#[cfg(all(lockdep, unix))]
+mod condvar;
+#[cfg(all(lockdep, unix))]
+mod mutex;
+#[cfg(all(lockdep, unix))]
+mod once;
+#[cfg(all(lockdep, unix))]
+mod recording;
+#[cfg(all(lockdep, unix))]
+mod rwlock;
+
+#[cfg(all(lockdep, unix))]
+#[allow(deprecated)]
+pub use {
+    condvar::Condvar,
+    mutex::{Mutex, MutexGuard},
+    once::{LazyLock, Once, OnceLock, ONCE_INIT},
+    rwlock::{RwLock, RwLockReadGuard, RwLockWriteGuard},
+    std::sync::*,
+};
+
+#[cfg(all(lockdep, not(unix)))]
+compile_error!("lockdep_record records on Unix alone: build without `--cfg lockdep`");

@@ -1,0 +1,32 @@
+//! Records what threads do with locks.
+mod names;
+mod process;
+mod store;
+mod task;
+
+pub use names::Mark;
+pub use task::{failed_try, gave, holds_something, took, wish, Mode, Token};
+
+/// How often a lock is tried for before it is waited for, which has to be written: first at once, and then after other threads had a
+/// turn.
+const SPINS: u32 = 100;
+const TURNS: u32 = 4;
+
+/// Tries for a lock a little while.
+#[cold]
+pub fn tries_a_little<R>(mut tries: impl FnMut() -> Option<R>) -> Option<R> {
+    for turn in 0..SPINS + TURNS {
+        if turn < SPINS {
+            std::hint::spin_loop();
+        } else {
+            std::thread::yield_now();
+        }
+        if turn % 8 == 0 || turn >= SPINS {
+            let got = tries();
+            if got.is_some() {
+                return got;
+            }
+        }
+    }
+    None
+}

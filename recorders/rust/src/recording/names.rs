@@ -1,0 +1,247 @@
+//! Classes and locks. A class is where locks are made; some locks of a class are told apart by a number.
+use super::process;
+use super::store::{mixed, List, Shared, Table, Text};
+use std::fmt::Write;
+use std::panic::Location;
+use std::sync::atomic::{AtomicU32, Ordering};
+
+/// What is noted of a lock, in the lock. It may be moved with it, and goes with it.
+pub struct Mark {
+    place: &'static Location<'static>,
+    type_name: fn() -> &'static str,
+    is_default: bool,
+    key: AtomicU32,
+}
+
+/// A bit of `Mark::key`: this lock keeps its key. Without it, one that isn't told apart may be, once it is taken under another.
+const IS_SETTLED: u32 = 1 << 31;
+
+/// How many locks of a class are told apart, and how many of these if they are taken under no other.
+const MOST_APART: u32 = 32;
+const MOST_APART_ALONE: u32 = 8;
+
+/// How long a class's name may be, so that there is room for a lock's number after it.
+const MOST_NAME: usize = 53;
+
+/// How much room is left for a type if the whole place is kept.
+const MIN_TYPE: usize = 20;
+
+impl Mark {
+    /// A lock that is made by a call.
+    pub const fn new(place: &'static Location<'static>, type_name: fn() -> &'static str) -> Mark {
+        Mark { place, type_name, is_default: false, key: AtomicU32::new(0) }
+    }
+
+    /// A lock that is made by `Default`: all fields of a structure that derives it have one place.
+    pub const fn of_default(place: &'static Location<'static>, type_name: fn() -> &'static str) -> Mark {
+        Mark { place, type_name, is_default: true, key: AtomicU32::new(0) }
+    }
+
+    /// The number of the lock, or of all those of its class that aren't told apart. 0 if there is no memory for it.
+    #[inline]
+    pub fn key(&self, is_nested: bool) -> u32 {
+        let key = self.key.load(Ordering::Relaxed);
+        if key & IS_SETTLED != 0 || (key != 0 && !is_nested) {
+            key & !IS_SETTLED
+        } else {
+            self.find_key(is_nested)
+        }
+    }
+
+    #[cold]
+    fn find_key(&self, is_nested: bool) -> u32 {
+        if !process::is_on() {
+            return 0;
+        }
+        let found = NAMES.with(|names| {
+            let key = self.key.load(Ordering::Relaxed);
+            if key & IS_SETTLED != 0 || (key != 0 && !is_nested) {
+                return Some((key & !IS_SETTLED, None)); // (another thread was faster)
+            }
+            let known = names.classes.len();
+            let class = names.class_of(self)?;
+            let key = names.key_in(class, is_nested);
+            let is_settled = key != names.classes[class].rest || is_nested;
+            self.key.store(if is_settled { key | IS_SETTLED } else { key }, Ordering::Relaxed);
+            Some((key, (class == known).then(|| line_of_class(&names.classes[class]))))
+        });
+        let Some((key, line)) = found.flatten() else { return 0 };
+        if let Some(line) = line {
+            process::tell_class(&line);
+        }
+        key
+    }
+
+    /// The part of a class's name that isn't its place: the type, if several of one place may be of different ones.
+    fn part(&self) -> &'static str {
+        if self.is_default || is_of_library(self.place.file()) {
+            (self.type_name)()
+        } else {
+            ""
+        }
+    }
+}
+
+/// Whether a file is one of Rust's own libraries, as if a function of these calls `Mutex::new`.
+fn is_of_library(file: &str) -> bool {
+    file.starts_with("/rustc/") || file.contains("/rustlib/src/rust/library/")
+}
+
+#[derive(Clone, Copy)]
+struct Class {
+    place: &'static Location<'static>,
+    part: &'static str,
+    rest: u32,
+    ordinals: u32,
+}
+
+#[derive(Clone, Copy)]
+struct Key {
+    class: u32,
+    ordinal: u32,
+}
+
+/// The classes and locks of this process. Keys are counted from 1.
+pub struct Names {
+    classes: List<Class>,
+    by_content: Table,
+    keys: List<Key>,
+}
+
+pub static NAMES: Shared<Names> = Shared::new(Names { classes: List::new(), by_content: Table::new(), keys: List::new() });
+
+impl Names {
+    /// The class of a lock. (Several places in memory may say the same.)
+    fn class_of(&mut self, mark: &Mark) -> Option<usize> {
+        let part = mark.part();
+        let mut content = content_of(mark.place, part);
+        while let Some(class) = self.by_content.get(content) {
+            let found = self.classes[class as usize];
+            if found.place == mark.place && found.part == part {
+                return Some(class as usize);
+            }
+            content = content.wrapping_add(1).max(1);
+        }
+        let class = self.classes.len();
+        let rest = self.add_key(class, 0)?;
+        let new = Class { place: mark.place, part, rest, ordinals: 0 };
+        (self.classes.push(new) && self.by_content.set(content, class as u32)).then_some(class)
+    }
+
+    /// A number for a lock of a class that has none, or that of those that aren't told apart.
+    fn key_in(&mut self, class: usize, is_nested: bool) -> u32 {
+        let Class { rest, ordinals, .. } = self.classes[class];
+        if ordinals >= if is_nested { MOST_APART } else { MOST_APART_ALONE } {
+            return rest;
+        }
+        match self.add_key(class, ordinals + 1) {
+            Some(key) => {
+                self.classes[class].ordinals += 1;
+                key
+            }
+            None => rest,
+        }
+    }
+
+    fn add_key(&mut self, class: usize, ordinal: u32) -> Option<u32> {
+        self.keys.push(Key { class: class as u32, ordinal }).then_some(self.keys.len() as u32)
+    }
+
+    /// Adds a lock as the files have it: the name of its class, and its number among the locks of that, or 0.
+    pub fn add_lock(&self, text: &mut Text, key: u32) {
+        let Key { class, ordinal } = self.keys[key as usize - 1];
+        add_name(text, &self.classes[class as usize]);
+        let _ = write!(text, " {ordinal}");
+    }
+}
+
+fn content_of(place: &Location<'_>, part: &str) -> u64 {
+    let number = (u64::from(place.line()) << 32) | u64::from(place.column());
+    let hash = mixed(number ^ mixed(u64::from(hash_of(place.file().as_bytes())) << 32 | u64::from(hash_of(part.as_bytes()))));
+    hash.max(1)
+}
+
+/// The hash FNV-1a.
+fn hash_of(bytes: &[u8]) -> u32 {
+    bytes.iter().fold(0x811C_9DC5, |hash, &byte| (hash ^ u32::from(byte)).wrapping_mul(0x0100_0193))
+}
+
+/// After what the path of a crate that isn't the program's own is the same on each machine.
+const FOLDERS: [(&str, bool); 4] =
+    [("/registry/src/", true), ("/git/checkouts/", true), ("/cargo/registry/", false), ("/vendor/", false)];
+
+/// A file as names have it: of a crate from elsewhere, what is the same on each machine. (Cargo has a folder of its own between.)
+fn short(file: &str) -> &str {
+    if is_of_library(file) {
+        return file.find("/library/").map_or(file, |at| &file[at + "/library/".len()..]);
+    }
+    for (folder, has_another) in FOLDERS {
+        if let Some((_, path)) = file.split_once(folder).filter(|_| file.starts_with('/')) {
+            return path.split_once('/').filter(|_| has_another).map_or(path, |(_, rest)| rest);
+        }
+    }
+    file
+}
+
+/// Adds a type's name: of Rust's own types, the last two parts of their paths. (Spaces would stand between arguments.)
+fn add_type(text: &mut Text, name: &str) {
+    let mut rest = name;
+    while !rest.is_empty() {
+        let length = rest.find(|letter: char| !letter.is_alphanumeric() && letter != '_' && letter != ':').unwrap_or(rest.len());
+        let (path, after) = rest.split_at(length);
+        let is_own = ["std::", "core::", "alloc::"].iter().any(|start| path.starts_with(start));
+        let cut = path.rmatch_indices("::").nth(1).filter(|_| is_own).map_or(0, |(at, _)| at + 2);
+        text.add(&path.as_bytes()[cut..]);
+        let letter = after.chars().next().map_or(0, char::len_utf8);
+        text.add(after[..letter].trim_start().as_bytes());
+        rest = &after[letter..];
+    }
+}
+
+/// Adds a class's name: `FILE:LINE:COLUMN`, with the type in it if that belongs to it. Of one that is too long the end of the place is
+/// kept, or the place and the beginning of the type.
+fn add_name(text: &mut Text, class: &Class) {
+    let mut whole = Text::new();
+    let _ = write!(whole, "{}:{}:{}", short(class.place.file()), class.place.line(), class.place.column());
+    let has_room = whole.bytes.len() + MIN_TYPE < MOST_NAME && !class.part.is_empty();
+    if !class.part.is_empty() {
+        whole.add(b"<");
+        add_type(&mut whole, class.part);
+        whole.add(b">");
+    }
+    for byte in whole.bytes.iter_mut() {
+        *byte = match *byte {
+            b',' => b';',
+            b'!' | b'#'..=b'~' => *byte,
+            _ => b'_',
+        };
+    }
+    let (length, hash) = (whole.bytes.len(), hash_of(&whole.bytes));
+    if length <= MOST_NAME {
+        text.add(&whole.bytes);
+    } else if has_room {
+        text.add(&whole.bytes[..MOST_NAME - 9]);
+        let _ = write!(text, "~{hash:08x}");
+    } else {
+        let _ = write!(text, "{hash:08x}~");
+        text.add(&whole.bytes[length - (MOST_NAME - 9)..]);
+    }
+}
+
+/// A class's line in the file of classes.
+fn line_of_class(class: &Class) -> Text {
+    let mut line = Text::new();
+    add_name(&mut line, class);
+    line.add(b"\t");
+    add_place(&mut line, class.place);
+    line.add(b"\n");
+    line
+}
+
+/// Adds a place, `FILE:LINE`.
+pub fn add_place(text: &mut Text, place: &Location<'_>) {
+    for byte in place.file().bytes() {
+        text.add(&[if byte < b' ' { b'?' } else { byte }]);
+    }
+    let _ = write!(text, ":{}", place.line());
+}

@@ -1,0 +1,339 @@
+//! This process, and its files. They lie in FOLDER/raw, with FOLDER as LOCKDEP_TRACES has it, or `lockdep-traces`:
+//!
+//! - TIME-PID says what was counted, `NAME COUNT` in each line;
+//! - TIME-PID-classes has a line for each class: its name, a tab, `FILE:LINE`;
+//! - TIME-PID-NUMBER has the records of a thread: `A CLASS NUMBER MODE FILE:LINE` for an acquisition, `W ..` for one that is waited
+//!   for, `G` if what was waited for last is there, `R CLASS NUMBER` for a release, and `E` at the end of the thread.
+//!
+//! A file is opened for each writing, so that the program has no file open that it doesn't know of.
+use super::names::NAMES;
+use super::store::{List, Shared, Table, Text};
+use super::task::Task;
+use std::ffi::OsStr;
+use std::fmt::Write;
+use std::fs::{File, OpenOptions, Permissions};
+use std::io::{ErrorKind, Write as _};
+use std::os::unix::ffi::OsStrExt;
+use std::os::unix::fs::{FileExt, PermissionsExt};
+use std::path::Path;
+use std::sync::atomic::{AtomicU32, AtomicU8, Ordering};
+use std::time::{SystemTime, UNIX_EPOCH};
+
+/// What is counted.
+pub const OPERATIONS: usize = 0;
+pub const REPEATS: usize = 1;
+pub const UNSEEN_RELEASES: usize = 2;
+pub const BEYOND_HELD: usize = 3;
+pub const FULL_TRACES: usize = 4;
+pub const REENTERED: usize = 5;
+pub const RETRIED_TRIES: usize = 6;
+pub const UNWRITTEN: usize = 7;
+pub const ALIKE: usize = 8;
+pub const COUNTS: usize = 9;
+const COUNT_NAMES: [&str; COUNTS] = [
+    "operations",
+    "repeats",
+    "unseen-releases",
+    "beyond-held",
+    "full-traces",
+    "reentered",
+    "retried-tries",
+    "unwritten",
+    "threads-alike",
+];
+
+/// How many threads of a process write what others of it have done in the same way.
+const MOST_ALIKE: u32 = 32;
+
+const NEW: u8 = 0;
+const BEGINNING: u8 = 1;
+const ON: u8 = 2;
+const OFF: u8 = 3;
+static STATE: AtomicU8 = AtomicU8::new(NEW);
+static PID: AtomicU32 = AtomicU32::new(0);
+
+/// What the threads of a process share. `common` says how many threads wrote each way; `foreign` has releases by other threads, each
+/// the thread that took the lock and which of its acquisitions it was.
+pub struct Process {
+    folder: Text,
+    prefix: Text,
+    program: Text,
+    pub tasks: *mut Task,
+    pub foreign: List<(u32, u32)>,
+    counts: [u64; COUNTS],
+    serials: u32,
+    files: u32,
+    common: Table,
+}
+
+unsafe impl Send for Process {}
+
+pub static PROCESS: Shared<Process> = Shared::new(Process {
+    folder: Text::new(),
+    prefix: Text::new(),
+    program: Text::new(),
+    tasks: std::ptr::null_mut(),
+    foreign: List::new(),
+    counts: [0; COUNTS],
+    serials: 0,
+    files: 0,
+    common: Table::new(),
+});
+
+#[cfg(target_os = "linux")]
+#[used]
+#[link_section = ".init_array"]
+static AT_START: extern "C" fn() = at_start;
+
+#[cfg(target_os = "linux")]
+#[used]
+#[link_section = ".fini_array"]
+static AT_END: extern "C" fn() = at_end;
+
+/// What `lockdep run` knows a program by that has this recorder.
+#[used]
+static SIGN: &[u8] = b"lockdep_record for LOCKDEP_TRACES";
+
+/// Runs before `main`, when no lock is held and the program's allocator can be used.
+extern "C" fn at_start() {
+    is_on();
+}
+
+extern "C" fn at_end() {
+    if STATE.load(Ordering::Relaxed) == ON && is_on() {
+        put_counts();
+    }
+}
+
+/// Whether this process is recorded. The first call begins it; one in a process that was forked begins it there.
+#[cold]
+pub fn is_on() -> bool {
+    match STATE.load(Ordering::Acquire) {
+        ON if PID.load(Ordering::Relaxed) == std::process::id() => true,
+        ON => begin_in_child(),
+        NEW if STATE.compare_exchange(NEW, BEGINNING, Ordering::Acquire, Ordering::Relaxed).is_ok() => {
+            let is_begun = PROCESS.with(Process::begin).unwrap_or(false);
+            PID.store(std::process::id(), Ordering::Relaxed);
+            STATE.store(if is_begun { ON } else { OFF }, Ordering::Release);
+            if is_begun && std::env::var_os("LOCKDEP_TRACES").is_some() {
+                put_counts(); // (whoever named the folder waits for what is in it)
+            }
+            is_begun
+        }
+        _ => false,
+    }
+}
+
+/// Goes on in a process that was forked. If another thread was just at what all share, that may be half done, so nothing is recorded,
+/// and that is counted.
+fn begin_in_child() -> bool {
+    PID.store(std::process::id(), Ordering::Relaxed);
+    let was_taken = PROCESS.is_taken() || NAMES.is_taken();
+    PROCESS.free();
+    TURN.free();
+    if was_taken {
+        STATE.store(OFF, Ordering::Relaxed);
+    }
+    let is_begun = PROCESS.with(|process| process.begin_anew(u64::from(was_taken))).unwrap_or(false);
+    if is_begun {
+        put_counts();
+    }
+    is_begun && !was_taken
+}
+
+/// Ends the recording of this process: something couldn't be written or kept.
+pub fn turn_off() {
+    PROCESS.with(|process| process.counts[UNWRITTEN] = 1);
+    put_counts();
+    STATE.store(OFF, Ordering::Relaxed);
+}
+
+pub fn is_off() -> bool {
+    STATE.load(Ordering::Relaxed) != ON
+}
+
+fn path_of(text: &Text) -> &Path {
+    Path::new(OsStr::from_bytes(&text.bytes))
+}
+
+impl Process {
+    /// Finds out where to write.
+    fn begin(&mut self) -> bool {
+        let folder = std::env::var_os("LOCKDEP_TRACES");
+        if folder.as_ref().is_some_and(|folder| folder.is_empty()) {
+            return false;
+        }
+        let folder = folder.unwrap_or_else(|| "lockdep-traces".into());
+        let Ok(folder) = std::path::absolute(folder) else { return false };
+        self.folder.add(folder.as_os_str().as_bytes());
+        if let Ok(program) = std::env::current_exe() {
+            self.program.add(program.as_os_str().as_bytes());
+        }
+        self.begin_files()
+    }
+
+    /// Names the files of this process.
+    fn begin_files(&mut self) -> bool {
+        let now = SystemTime::now().duration_since(UNIX_EPOCH).map_or(0, |time| time.as_nanos());
+        self.prefix.bytes.truncate(0);
+        self.prefix.add(&self.folder.bytes);
+        let _ = write!(self.prefix, "/raw/{now:019}-{}", std::process::id());
+        self.prefix.is_whole && self.folder.is_whole
+    }
+
+    /// Begins in a process that was forked, of whose threads one is there, and that one may be none of ours.
+    fn begin_anew(&mut self, unwritten: u64) -> bool {
+        self.counts = [0; COUNTS];
+        self.counts[UNWRITTEN] = unwritten;
+        self.files = 0;
+        self.foreign.truncate(0);
+        self.tasks = super::task::only_task();
+        self.begin_files()
+    }
+
+    fn path(&self, rest: std::fmt::Arguments) -> Text {
+        let mut path = copy_of(&self.prefix);
+        let _ = path.write_fmt(rest);
+        path
+    }
+
+    /// What was counted so far, which has the same length each time.
+    fn counts_as_text(&self) -> Text {
+        let mut counts = self.counts;
+        let mut task = self.tasks;
+        while !task.is_null() {
+            // (no more of a thread's than what it counts may be looked at here)
+            let counted = unsafe { &(*task).counts };
+            for (sum, count) in counts.iter_mut().zip(counted) {
+                *sum += count.load(Ordering::Relaxed);
+            }
+            task = unsafe { (*task).next };
+        }
+        let mut text = Text::new();
+        for (name, count) in COUNT_NAMES.iter().zip(counts) {
+            let _ = writeln!(text, "{name} {count:020}");
+        }
+        text
+    }
+
+    /// A number for a thread.
+    pub fn next_serial(&mut self) -> u32 {
+        self.serials = self.serials.wrapping_add(1).max(1);
+        self.serials
+    }
+
+    /// Takes over what a thread counted that has ended.
+    pub fn add_counts(&mut self, task: &Task) {
+        for (sum, count) in self.counts.iter_mut().zip(&task.counts) {
+            *sum += count.load(Ordering::Relaxed);
+        }
+    }
+
+    /// Whether too few threads have written this way for it not to be written again.
+    pub fn is_rare(&mut self, way: u64) -> bool {
+        let count = self.common.get(way).unwrap_or(0);
+        count < MOST_ALIKE && self.common.set(way, count + 1)
+    }
+}
+
+// ---- Files. What is shared is free meanwhile, since a disk may be slow.
+
+fn copy_of(text: &Text) -> Text {
+    let mut copy = Text::new();
+    copy.add(&text.bytes);
+    copy.is_whole = text.is_whole;
+    copy
+}
+
+/// Makes the folder, if the program wasn't started by what makes it.
+fn make_folder() {
+    let Some((folder, program)) = PROCESS.with(|process| (copy_of(&process.folder), copy_of(&process.program))) else {
+        return;
+    };
+    let mut path = folder;
+    path.add(b"/raw");
+    if std::fs::create_dir_all(path_of(&path)).is_err() {
+        return;
+    }
+    path.add(b"/settings");
+    if let Ok(mut file) = OpenOptions::new().write(true).create_new(true).open(path_of(&path)) {
+        let mut text = Text::new();
+        text.add(b"version 2\nframes 3\nprogram ");
+        text.add(&program.bytes);
+        text.add(b"\nrecorder rust\n");
+        let _ = file.write_all(&text.bytes);
+    }
+}
+
+/// Makes a file. Whoever the program becomes may write it.
+fn make(path: &Text) -> Option<File> {
+    let mut options = OpenOptions::new();
+    options.write(true).create_new(true);
+    let mut opened = options.open(path_of(path));
+    if opened.as_ref().is_err_and(|error| error.kind() == ErrorKind::NotFound) {
+        make_folder();
+        opened = options.open(path_of(path));
+    }
+    let file = opened.ok()?;
+    let _ = file.set_permissions(Permissions::from_mode(0o666));
+    Some(file)
+}
+
+fn open(path: &Text) -> Option<File> {
+    OpenOptions::new().write(true).open(path_of(path)).ok()
+}
+
+/// Whose turn it is to write what was counted, so that no older counts come after newer ones.
+static TURN: Shared<()> = Shared::new(());
+
+/// Writes what was counted so far.
+pub fn put_counts() {
+    TURN.with(|()| {
+        let written = PROCESS.with(|process| (process.path(format_args!("")), process.counts_as_text()));
+        if let Some((path, text)) = written {
+            if let Some(file) = open(&path).or_else(|| make(&path)) {
+                let _ = file.write_all_at(&text.bytes, 0);
+            }
+        }
+    });
+}
+
+/// Adds a line to the file of classes.
+pub fn tell_class(line: &Text) {
+    if let Some(path) = PROCESS.with(|process| process.path(format_args!("-classes"))) {
+        drop(make(&path));
+        if let Ok(mut file) = OpenOptions::new().append(true).open(path_of(&path)) {
+            let _ = file.write_all(&line.bytes);
+        }
+    }
+}
+
+/// The file of a thread.
+pub struct Trace {
+    path: Text,
+    pub length: u64,
+}
+
+impl Trace {
+    /// A file that is there when it is first written.
+    pub fn new() -> Option<Trace> {
+        PROCESS.with(|process| {
+            process.files += 1;
+            Trace { path: process.path(format_args!("-{:06}", process.files)), length: 0 }
+        })
+    }
+
+    /// Adds to the file. False if that can't be done: then it ends with what could be written.
+    pub fn add(&mut self, text: &Text) -> bool {
+        let file = if self.length == 0 { make(&self.path) } else { open(&self.path) };
+        let is_added = text.is_whole && file.is_some_and(|file| file.write_all_at(&text.bytes, self.length).is_ok());
+        self.length += text.bytes.len() as u64;
+        is_added
+    }
+
+    /// Takes back what was written after a place in the file.
+    pub fn cut(&mut self, length: u64) -> bool {
+        self.length = length;
+        open(&self.path).is_some_and(|file| file.set_len(length).is_ok())
+    }
+}

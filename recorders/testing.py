@@ -1,0 +1,103 @@
+"""What the tests of the recorders that make such traces have in common: counted comparisons, and what is asked of every recording. Another
+checker may be named by LOCKDEP."""
+import difflib
+import os
+import re
+import shutil
+import subprocess
+import sys
+
+script = os.path.dirname(os.path.realpath(sys.argv[0]))
+name_of_recorder = "recorders/" + os.path.basename(script)
+top = os.path.dirname(os.path.dirname(script))
+lockdep = os.environ.get("LOCKDEP", os.path.join(top, "lockdep"))
+has_compiler = shutil.which(os.environ.get("CC", "cc")) is not None
+LIMIT = 60  # of one program with its recording, in seconds
+counts = {True: 0, False: 0}
+
+
+def same(what, wanted, got):
+    """Whether something is as it has to be, which is counted."""
+    counts[wanted == got] += 1
+    if wanted != got and isinstance(got, str) and "\n" in got + str(wanted):
+        print("%s: %s:" % (name_of_recorder, what))
+        print("\n".join(list(difflib.unified_diff(str(wanted).split("\n"), got.split("\n"), "wanted", "got", lineterm="", n=0))[:30]))
+    elif wanted != got:
+        print("%s: %s: %r and not %r" % (name_of_recorder, what, got, wanted))
+    return wanted == got
+
+
+def has(what, wanted, text):
+    if not same(what, True, wanted in text):
+        print("%s: %s: no %r in %s" % (name_of_recorder, what, wanted, text))
+
+
+class Run:
+    """What a command wrote, and its status."""
+
+    def __init__(self, words, **named):
+        done = subprocess.run(words, stdin=subprocess.DEVNULL, stdout=subprocess.PIPE, stderr=subprocess.PIPE, timeout=LIMIT, **named)
+        self.status, self.out, self.said = done.returncode, done.stdout.decode(), done.stderr.decode()
+
+
+def contents(path):
+    with open(path, encoding="utf-8") as file:
+        return file.read()
+
+
+def task_names(folder):
+    return sorted(name for name in os.listdir(folder) if re.fullmatch(r"task-\d+\.csv", name))
+
+
+def traces(folder):
+    """All traces, one after the other."""
+    return "".join("== %s\n%s" % (name, contents(os.path.join(folder, name))) for name in task_names(folder))
+
+
+def write(name, text):
+    with open(name, "w", encoding="utf-8") as file:
+        file.write(text)
+
+
+def check(name, folder=None):
+    """Whether the checker accepts the traces, by classes and by single locks, and these are those but for their numbers."""
+    folder = folder or name
+    for place in (folder, os.path.join(folder, "objects")):
+        files = [os.path.join(place, task) for task in task_names(place)]
+        done = Run([lockdep, "check", "--many"] + files)
+        same(name + ": the checker's status", True, done.status in (0, 1) and not done.said)
+    for task in task_names(folder):
+        by_lock = re.sub(r"#(\d+|rest)(\^\d+)?,", ",", contents(os.path.join(folder, "objects", task)))
+        if by_lock != contents(os.path.join(folder, task)):
+            same(name + ": by single locks", contents(os.path.join(folder, task)), by_lock)
+    return done
+
+
+def summary(folder, name):
+    found = re.search(r"^%s (\d+)$" % name, contents(os.path.join(folder, "SUMMARY")), re.M)
+    return int(found.group(1)) if found else 0
+
+
+def explained(folder):
+    """What `confirm` and `where` say, for which there has to be a C compiler."""
+    confirmed = subprocess.run([os.path.join(top, "recorders/pthread/confirm"), folder], stdout=subprocess.PIPE, stderr=subprocess.PIPE,
+                               timeout=LIMIT, env=dict(os.environ, LOCKDEP=lockdep))
+    done = subprocess.run([os.path.join(top, "recorders/pthread/where"), folder], input=confirmed.stdout, stdout=subprocess.PIPE,
+                          stderr=subprocess.PIPE, timeout=LIMIT)
+    return done.stdout.decode()
+
+
+def run_parts(parts):
+    """Runs the parts that the command line names, or all, in a folder of their own, and ends with the counts."""
+    for part in parts:
+        if len(sys.argv) < 2 or part.__name__ in sys.argv[1:]:
+            try:
+                part()
+            except (OSError, ValueError, KeyError, IndexError, subprocess.SubprocessError) as error:
+                same(part.__name__, "no error", repr(error))
+
+
+def end():
+    os.chdir("/")
+    print("%d passed, %d failed" % (counts[True], counts[False]))
+    sys.exit(counts[False] > 0)
