@@ -1,5 +1,5 @@
-"""What the tests of the recorders that make such traces have in common: counted comparisons, and what is asked of every recording. Another
-checker may be named by LOCKDEP."""
+"""What the tests of the recorders that share the making of traces have in common: counted comparisons, and what is
+asked of every recording. Another checker may be named by LOCKDEP."""
 import difflib
 import os
 import re
@@ -21,7 +21,8 @@ def same(what, wanted, got):
     counts[wanted == got] += 1
     if wanted != got and isinstance(got, str) and "\n" in got + str(wanted):
         print("%s: %s:" % (name_of_recorder, what))
-        print("\n".join(list(difflib.unified_diff(str(wanted).split("\n"), got.split("\n"), "wanted", "got", lineterm="", n=0))[:30]))
+        print("\n".join(list(difflib.unified_diff(str(wanted).split("\n"), got.split("\n"), "wanted", "got",
+                lineterm="", n=0))[:30]))
     elif wanted != got:
         print("%s: %s: %r and not %r" % (name_of_recorder, what, got, wanted))
     return wanted == got
@@ -36,7 +37,8 @@ class Run:
     """What a command wrote, and its status."""
 
     def __init__(self, words, **named):
-        done = subprocess.run(words, stdin=subprocess.DEVNULL, stdout=subprocess.PIPE, stderr=subprocess.PIPE, timeout=LIMIT, **named)
+        done = subprocess.run(words, stdin=subprocess.DEVNULL, stdout=subprocess.PIPE, stderr=subprocess.PIPE,
+                timeout=LIMIT, **named)
         self.status, self.out, self.said = done.returncode, done.stdout.decode(), done.stderr.decode()
 
 
@@ -80,9 +82,11 @@ def summary(folder, name):
 
 def explained(folder):
     """What `confirm` and `where` say, for which there has to be a C compiler."""
-    confirmed = subprocess.run([os.path.join(top, "recorders/pthread/confirm"), folder], stdout=subprocess.PIPE, stderr=subprocess.PIPE,
+    confirmed = subprocess.run([os.path.join(top, "recorders/pthread/confirm"), folder], stdout=subprocess.PIPE,
+            stderr=subprocess.PIPE,
                                timeout=LIMIT, env=dict(os.environ, LOCKDEP=lockdep))
-    done = subprocess.run([os.path.join(top, "recorders/pthread/where"), folder], input=confirmed.stdout, stdout=subprocess.PIPE,
+    done = subprocess.run([os.path.join(top, "recorders/pthread/where"), folder], input=confirmed.stdout,
+            stdout=subprocess.PIPE,
                           stderr=subprocess.PIPE, timeout=LIMIT)
     return done.stdout.decode()
 
