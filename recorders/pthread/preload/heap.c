@@ -49,20 +49,29 @@ static inline struct slot *line_of(struct slot *slots, int level, uintptr_t addr
     return &slots[block_line(address >> BLOCK_BITS, bits[level]) * WAYS];
 }
 
+/* An empty slot of the line, or NULL; it is taken. The piece's own one is taken without a look at it: if nothing was ever written
+   to its page, what is read first would have that made twice. */
+static inline struct slot *taken_slot(struct slot *line, uintptr_t address) {
+    struct slot *own = &line[own_way(address)];
+    uint64_t empty = 0;
+    if (LIKELY(SWAP(&own->address, &empty, 1)))
+        return own;
+    for (int i = 0; i < WAYS; i++) {
+        empty = __atomic_load_n(&line[i].address, __ATOMIC_RELAXED);
+        if (!empty && SWAP(&line[i].address, &empty, 1))
+            return &line[i];
+    }
+    return NULL;
+}
+
 static bool put_in_level(int level, uintptr_t address, uint64_t about) {
     struct slot *slots = level_at(level);
-    if (!slots)
+    struct slot *slot = slots ? taken_slot(line_of(slots, level, address), address) : NULL;
+    if (!slot)
         return false;
-    struct slot *line = line_of(slots, level, address);
-    for (int i = 0; i < WAYS; i++) {
-        uint64_t empty = __atomic_load_n(&line[i].address, __ATOMIC_RELAXED);
-        if (!empty && SWAP(&line[i].address, &empty, 1)) {
-            __atomic_store_n(&line[i].about, about, __ATOMIC_RELAXED);
-            STORE(&line[i].address, address);
-            return true;
-        }
-    }
-    return false;
+    __atomic_store_n(&slot->about, about, __ATOMIC_RELAXED);
+    STORE(&slot->address, address);
+    return true;
 }
 
 static void put_piece(uintptr_t address, uint64_t about) {
@@ -102,6 +111,9 @@ static struct slot *next_slot(uint64_t key, struct search *search) {
 }
 
 static inline struct slot *find_in_line(struct slot *line, uintptr_t address) {
+    struct slot *own = &line[own_way(address)];
+    if (LIKELY(__atomic_load_n(&own->address, __ATOMIC_RELAXED) == address))
+        return own;
     UNROLLED
     for (int i = 0; i < WAYS; i++)
         if (__atomic_load_n(&line[i].address, __ATOMIC_RELAXED) == address)

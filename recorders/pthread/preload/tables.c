@@ -108,7 +108,10 @@ static inline uint32_t object_in(uint64_t word) { return (uint32_t)word & ((UINT
 static int lock_main;
 static uint64_t lock_overflows;
 
-static inline uint64_t *find_in_line(uint64_t *line, uint64_t key) {
+static inline uint64_t *find_in_line(uint64_t *line, uintptr_t lock) {
+    uint64_t key = key_of(lock), *own = &line[own_way(lock)];
+    if (LIKELY(is_of(__atomic_load_n(own, __ATOMIC_RELAXED), key)))
+        return own;
     UNROLLED
     for (int i = 0; i < LOCK_WAYS; i++)
         if (is_of(__atomic_load_n(&line[i], __ATOMIC_RELAXED), key))
@@ -117,12 +120,12 @@ static inline uint64_t *find_in_line(uint64_t *line, uint64_t key) {
 }
 
 static uint64_t *find_lock(uintptr_t lock) {
-    uint64_t key = key_of(lock), *found = NULL;
+    uint64_t *found = NULL;
     int main_level = LOAD(&lock_main);
     for (int n = 0; !found && n < LOCK_LEVELS; n++) {
         int level = nth_level(main_level, n);
         uint64_t *slots = lock_level(level, false);
-        found = slots ? find_in_line(lock_line(slots, level, lock), key) : NULL;
+        found = slots ? find_in_line(lock_line(slots, level, lock), lock) : NULL;
     }
     return found;
 }
@@ -133,9 +136,11 @@ uint32_t lock_object(uintptr_t lock) {
 }
 
 static bool fill_in_level(int level, uintptr_t lock, uint64_t word) {
-    uint64_t *slots = lock_level(level, true), *line = slots ? lock_line(slots, level, lock) : NULL;
+    uint64_t *slots = lock_level(level, true), *line = slots ? lock_line(slots, level, lock) : NULL, empty = 0;
+    if (LIKELY(line && SWAP(&line[own_way(lock)], &empty, word)))
+        return true;
     for (int i = 0; line && i < LOCK_WAYS; i++) {
-        uint64_t empty = LOAD(&line[i]);
+        empty = LOAD(&line[i]);
         if (!empty && SWAP(&line[i], &empty, word))
             return true;
     }
@@ -199,18 +204,29 @@ uint32_t add_lock(uintptr_t lock, uint32_t object) {
     return fill_lock(lock, object) ? lock_object(lock) : 0;
 }
 
-static void empty_slot(uint64_t *slot, void (*dropped)(uint32_t object)) {
+/* Unless somebody else emptied it meanwhile. */
+static void empty_slot(uint64_t *slot, uint64_t key, void (*dropped)(uint32_t object)) {
     uint64_t there = LOAD(slot);
-    if (there && SWAP(slot, &there, 0))
-        dropped(object_in(there));
+    while (is_of(there, key))
+        if (SWAP(slot, &there, 0)) {
+            dropped(object_in(there));
+            return;
+        }
+}
+
+static inline void drop_in_line(uint64_t *line, uint64_t key, void (*dropped)(uint32_t object)) {
+    UNROLLED
+    for (int i = 0; i < LOCK_WAYS; i++)
+        if (RARELY(is_of(__atomic_load_n(&line[i], __ATOMIC_RELAXED), key)))
+            empty_slot(&line[i], key, dropped);
 }
 
 void drop_lock(uintptr_t lock, void (*dropped)(uint32_t object)) {
     uint64_t key = key_of(lock);
     for (int level = 0; level < LOCK_LEVELS; level++) {
-        uint64_t *slots = lock_level(level, false), *line = slots ? lock_line(slots, level, lock) : NULL;
-        for (uint64_t *slot; line && (slot = find_in_line(line, key));)
-            empty_slot(slot, dropped);
+        uint64_t *slots = lock_level(level, false);
+        if (slots)
+            drop_in_line(lock_line(slots, level, lock), key, dropped);
     }
 }
 
@@ -222,7 +238,7 @@ static void drop_in_level(int level, uintptr_t from, uintptr_t to, void (*droppe
             continue;
         uintptr_t lock = address_of(there >> OBJECT_BITS, level, i / LOCK_WAYS);
         if (lock >= from && lock < to)
-            empty_slot(&lock_levels[level][i], dropped);
+            empty_slot(&lock_levels[level][i], there >> OBJECT_BITS, dropped);
     }
 }
 
