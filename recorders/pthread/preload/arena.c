@@ -285,8 +285,6 @@ static void begin(void) {
     clock_gettime(CLOCK_REALTIME, &now);
     made->started = (uint64_t)now.tv_sec * 1000000000 + (uint64_t)now.tv_nsec;
     arena = made;
-    touch_rules();
-    touch_places();
     note_process(0);
     note_modules();
     begin_threads();

@@ -17,15 +17,15 @@
 #endif
 #endif
 
-#define MODULES 8192
-static struct module modules[MODULES] LARGE;
-static uint32_t module_count, module_count_at_start;
+static struct module *modules;
+static bool is_started; /* those that were there at the start are known */
+
+#define EACH_MODULE(m) for (struct module *m = LOAD(&modules); m; m = LOAD(&m->next))
 
 const struct module *known_module(uintptr_t address) {
-    uint32_t count = LOAD(&module_count);
-    for (uint32_t i = 0; i < count && i < MODULES; i++)
-        if (address >= modules[i].from && address < modules[i].to && LOAD(&modules[i].is_ready) && !LOAD(&modules[i].is_gone))
-            return &modules[i];
+    EACH_MODULE(m)
+        if (address >= m->from && address < m->to && !LOAD(&m->is_gone))
+            return m;
     return NULL;
 }
 
@@ -47,20 +47,22 @@ static void put_path(char *path, const char *name) {
     snprintf(path + length, RAW_PATH - length, "%s", name);
 }
 
+/* They are linked in the order in which they are found: the program comes first. */
 static void add_module(const struct module *new, const char *path) {
     uint32_t number = take_part(RAW_MODULES);
+    struct module *m = number ? take_private(sizeof *m) : NULL, **end = &modules, *there = NULL;
     if (!number)
         return;
     struct raw_module *raw = part_of(RAW_MODULES, number);
     raw->process = own_process;
     memcpy(raw->path, path, RAW_PATH);
     STORE(&raw->is_ready, 1);
-    uint32_t i = ADD(&module_count, 1);
-    if (i >= MODULES)
+    if (!m)
         return;
-    modules[i] = *new;
-    modules[i].number = number;
-    STORE(&modules[i].is_ready, true);
+    *m = *new;
+    m->number = number;
+    for (; !SWAP(end, &there, m); there = NULL)
+        end = &there->next;
 }
 
 /* Notes a module. One that was closed and lies at the same place again is known already. */
@@ -72,10 +74,9 @@ static void note_module(const struct module *new, const char *name) {
     int saved = errno;
     put_path(path, name);
     errno = saved;
-    for (uint32_t i = 0; i < LOAD(&module_count) && i < MODULES; i++)
-        if (LOAD(&modules[i].is_gone) && modules[i].from == new->from && modules[i].to == new->to &&
-            strcmp(recorded_path(&modules[i]), path) == 0) {
-            STORE(&modules[i].is_gone, false);
+    EACH_MODULE(m)
+        if (LOAD(&m->is_gone) && m->from == new->from && m->to == new->to && strcmp(recorded_path(m), path) == 0) {
+            STORE(&m->is_gone, false);
             return;
         }
     add_module(new, path);
@@ -87,7 +88,7 @@ static struct module module_told(const struct dl_phdr_info *info) {
     for (int i = 0; i < info->dlpi_phnum; i++) {
         const ElfW(Phdr) *part = &info->dlpi_phdr[i];
         uintptr_t from = info->dlpi_addr + part->p_vaddr, to = from + part->p_memsz;
-        if (part->p_type == PT_TLS && info->dlpi_tls_data && !LOAD(&module_count_at_start)) {
+        if (part->p_type == PT_TLS && info->dlpi_tls_data && !LOAD(&is_started)) {
             m.own_from = (uintptr_t)info->dlpi_tls_data - (uintptr_t)__builtin_thread_pointer();
             m.own_bytes = part->p_memsz;
         }
@@ -112,14 +113,14 @@ static int note_told(struct dl_phdr_info *info, size_t size, void *unused) {
 /* At the start: what is loaded then has its thread-local part at the same distance from the pointer of each thread. */
 void note_modules(void) {
     dl_iterate_phdr(note_told, NULL);
-    STORE(&module_count_at_start, LOAD(&module_count));
+    STORE(&is_started, true);
 }
 
 /* The thread-local lock that is so far from the thread pointer, as a module and an offset in its thread-local part. */
 bool own_part_word(intptr_t from_pointer, uint64_t *word) {
-    for (uint32_t i = 0; i < LOAD(&module_count_at_start) && i < MODULES; i++)
-        if ((uintptr_t)from_pointer - modules[i].own_from < modules[i].own_bytes) {
-            *word = raw_word(modules[i].number, (uintptr_t)from_pointer - modules[i].own_from);
+    EACH_MODULE(m)
+        if ((uintptr_t)from_pointer - m->own_from < m->own_bytes) {
+            *word = raw_word(m->number, (uintptr_t)from_pointer - m->own_from);
             return true;
         }
     return false;
@@ -194,9 +195,8 @@ uint64_t word_of(uintptr_t address) {
 /* What was known of addresses in a library that is closed isn't known any more, since another may come to lie there. */
 void forget_closed_modules(void) {
     bool is_any = false;
-    for (uint32_t i = 0; i < LOAD(&module_count) && i < MODULES; i++) {
-        struct module *m = &modules[i];
-        if (!LOAD(&m->is_ready) || LOAD(&m->is_gone) || is_mapped(m))
+    EACH_MODULE(m) {
+        if (LOAD(&m->is_gone) || is_mapped(m))
             continue;
         STORE(&m->is_gone, true);
         forget_locks_between(m->from, m->to);
@@ -209,8 +209,8 @@ void forget_closed_modules(void) {
 }
 
 bool is_gone(uint32_t number) {
-    for (uint32_t i = 0; i < LOAD(&module_count) && i < MODULES; i++)
-        if (modules[i].number == number)
-            return LOAD(&modules[i].is_gone);
+    EACH_MODULE(m)
+        if (m->number == number)
+            return LOAD(&m->is_gone);
     return false;
 }

@@ -24,9 +24,14 @@
 #define EXPORT __attribute__((visibility("default")))
 #define LIKELY(x) __builtin_expect(!!(x), 1)
 #define RARELY(x) __builtin_expect(!!(x), 0)
-/* Of an array of which mostly only the beginning is used. It has pages of its own, so that what every program uses lies close together:
-   the first use of each page is dear for a program that lives for half a millisecond. */
+/* Of an array that most programs don't use. It has pages of its own, so that what every program uses lies close together: the first use
+   of each page is dear for a program that lives for half a millisecond. */
 #define LARGE __attribute__((aligned(4096)))
+/* An array of which mostly only the first entries are used: these lie apart, close to what else every program uses. */
+#define TABLE(type, name, first, all)                                                                                  \
+    static type name##_first[first];                                                                                   \
+    static type name##_rest[all] LARGE
+#define NTH(name, i) (LIKELY((i) < sizeof name##_first / sizeof *name##_first) ? &name##_first[i] : &name##_rest[i])
 #define UNROLLED _Pragma("GCC unroll 8")
 #define EARLY_THREAD_LOCAL __thread __attribute__((tls_model("initial-exec")))
 
@@ -55,10 +60,6 @@ static inline void *part_of(enum raw_kind kind, uint32_t number) {
 struct raw_record *take_chunk(uint32_t chunk);
 void *take_private(size_t bytes); /* zeroed memory that is never given back, or NULL */
 
-/* What is read before it is written would have its page made twice. */
-static inline void touch(volatile void *at) { *(volatile char *)at = 0; }
-void touch_rules(void);
-void touch_places(void);
 
 /* ---- tables.c */
 
@@ -106,9 +107,10 @@ struct module {
     uintptr_t bias;     /* an address less this is an address in the file */
     const uint8_t *unwinding; /* its .eh_frame_hdr, or NULL */
     uint32_t number;
-    bool is_ready, is_gone;
+    bool is_gone;
     uintptr_t own_from, own_bytes; /* of its thread-local part, where that begins from the thread pointer on; 0 bytes: none, or not
                                       always there */
+    struct module *next;
 };
 
 void note_modules(void);

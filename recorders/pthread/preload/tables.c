@@ -12,7 +12,7 @@ struct names_line {
     } slots[NAMES_WAYS];
 };
 
-static const uint32_t names_bits[NAMES_LEVELS] = {3, 6, 9, 12, 15, 18}; /* of the number of lines */
+static const uint32_t names_bits[NAMES_LEVELS] = {2, 5, 9, 12, 15, 18}; /* of the number of lines */
 
 static struct names_line *names_level(struct names *names, int level, bool make) {
     struct names_line *lines = LOAD(&names->levels[level]);
@@ -65,13 +65,13 @@ void each_name(struct names *names, void (*visit)(uint32_t *value)) {
    there are fewer than that. */
 
 #define LOCK_WAYS 8 /* the bytes of a line of the processor's */
-#define LOCK_LEVELS 5
+#define LOCK_LEVELS 4
 #define FEWEST_BITS 5
 #define IN_BLOCK_BITS (BLOCK_BITS - 2)
 #define BLOCK_MASK ((UINT64_C(1) << (47 - BLOCK_BITS)) - 1)
 #define OBJECT_BITS 24
 
-static const uint32_t lock_bits[LOCK_LEVELS] = {FEWEST_BITS, 9, 13, 17, 21};
+static const uint32_t lock_bits[LOCK_LEVELS] = {FEWEST_BITS, 13, 17, 21};
 static uint64_t *lock_levels[LOCK_LEVELS];
 
 /* What the slot has of the address. */
