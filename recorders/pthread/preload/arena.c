@@ -50,25 +50,35 @@ struct raw_record *take_chunk(uint32_t chunk) {
 }
 
 /* How the file is shared out: of each kind a share of it in 64ths, and no more than so many, the first of them close together. The rest
-   is for records. */
+   is for records. What a small program needs of all that has room in two pages. */
 static const struct {
     uint32_t share, most, first;
 } plan[RAW_KINDS] = {
-    [RAW_PROCESSES] = {1, 1 << 16, 8}, [RAW_CLASSES] = {4, 0xffff, 32},   [RAW_OBJECTS] = {2, 1 << 22, 32},
-    [RAW_TAKES] = {2, 1 << 20, 32},    [RAW_THREADS] = {8, 1 << 20, 4},   [RAW_FILES] = {1, 1 << 12, 0},
+    [RAW_PROCESSES] = {1, 1 << 16, 2}, [RAW_CLASSES] = {4, 0xffff, 16},   [RAW_OBJECTS] = {2, 1 << 22, 16},
+    [RAW_TAKES] = {2, 1 << 20, 16},    [RAW_THREADS] = {8, 1 << 20, 3},   [RAW_FILES] = {1, 1 << 12, 0},
     [RAW_PROGRAMS] = {1, 1 << 10, 0},
-    [RAW_MODULES] = {10, 1 << 13, 8},  [RAW_PLACES] = {12, 1 << 20, 24},
+    [RAW_MODULES] = {10, 1 << 13, 5},  [RAW_PLACES] = {12, 1 << 20, 24},
 };
+
+/* In which order the first ones lie, and which kinds come after the first records. Places are last, since of them most are unused. */
+static const enum raw_kind order[RAW_KINDS] = {RAW_PROCESSES, RAW_THREADS, RAW_CLASSES, RAW_OBJECTS, RAW_TAKES,
+                                               RAW_FILES, RAW_PROGRAMS, RAW_MODULES, RAW_PLACES};
+#define AFTER_RECORDS RAW_MODULES
 
 static uint64_t rounded(uint64_t n, uint64_t to) { return (n + to - 1) / to * to; }
 
-#define FIRST_RECORDS 4096 /* bytes of records that come after the first parts */
+#define FIRST_RECORDS (3 * RAW_FIRST_CHUNK * sizeof(struct raw_record)) /* bytes of records that come among the first parts */
 
 static uint64_t place_first(struct raw_arena *a, uint64_t at) {
-    for (int kind = 0; kind < RAW_KINDS; kind++) {
+    for (int i = 0; i < RAW_KINDS; i++) {
+        enum raw_kind kind = order[i];
+        if (kind == AFTER_RECORDS) {
+            a->first_records = at;
+            a->first_records_end = at += FIRST_RECORDS;
+        }
         a->regions[kind].first = plan[kind].first;
         a->regions[kind].first_from = at;
-        at = rounded(at + (uint64_t)plan[kind].first * raw_size((enum raw_kind)kind), 64);
+        at = rounded(at + (uint64_t)plan[kind].first * raw_size(kind), 64);
     }
     return at;
 }
@@ -78,11 +88,8 @@ static uint64_t place_first(struct raw_arena *a, uint64_t at) {
 static void share_out(struct raw_arena *a, uint64_t bytes) {
     bool is_small = bytes < RAW_SMALL;
     uint64_t page = is_small ? 64 : 4096, at = rounded(sizeof *a, 64);
-    if (!is_small) {
-        a->first_records = place_first(a, at);
-        a->first_records_end = rounded(a->first_records + FIRST_RECORDS, page);
-        at = a->first_records_end;
-    }
+    if (!is_small)
+        at = rounded(place_first(a, at), page);
     for (int kind = 0; kind < RAW_KINDS; kind++) {
         uint64_t room = bytes * plan[kind].share / 64 / raw_size((enum raw_kind)kind);
         a->regions[kind].room = room < plan[kind].most ? (uint32_t)room : plan[kind].most;
@@ -149,8 +156,7 @@ static char *private_from;
 static uint64_t private_room, private_used, private_used_above;
 
 /* So much of each mapping is what every program uses. The system makes these pages in one go, which is cheaper than one by one. */
-#define USED_PRIVATE 16384
-#define USED_OF_FILE 12288
+#define USED_OF_FILE 8192
 
 #ifdef MADV_POPULATE_WRITE
 static void populate(void *from, uint64_t bytes, uint64_t room) { madvise(from, least(bytes, room), MADV_POPULATE_WRITE); }
@@ -166,18 +172,31 @@ static void map_private(void) {
             continue;
         madvise(p, bytes, MADV_DONTDUMP);
         madvise(p, bytes, MADV_NOHUGEPAGE); /* else the first use of it takes two megabytes */
-        populate(p, USED_PRIVATE, bytes);
         private_from = p;
         private_room = bytes;
         return;
     }
 }
 
-/* What is large comes from the end, so that what is small lies close together at the beginning. */
+/* What is large comes from the end, so that what is small lies close together at the beginning. The first of it lies among the library's
+   variables, so that a small program doesn't use the mapping at all. */
 #define MUCH 16384
+#define NEARBY 16384
+static char nearby[NEARBY] __attribute__((aligned(64)));
+static uint64_t nearby_used;
+
+static void *take_nearby(size_t bytes) {
+    if (bytes > NEARBY || LOAD(&nearby_used) > NEARBY - bytes)
+        return NULL;
+    uint64_t from = ADD(&nearby_used, bytes);
+    return from <= NEARBY - bytes ? nearby + from : NULL;
+}
 
 void *take_private(size_t bytes) {
     bytes = rounded(bytes, 64);
+    void *near = bytes <= MUCH ? take_nearby(bytes) : NULL;
+    if (near)
+        return near;
     if (LOAD(&private_used) + LOAD(&private_used_above) + bytes > private_room)
         return NULL;
     bool is_much = bytes > MUCH;
