@@ -4,13 +4,13 @@
 #include <errno.h>
 #include <fcntl.h>
 #include <pthread.h>
-#include <stdio.h>
 #include <stdlib.h>
 #include <string.h>
 #include <sys/mman.h>
 #include <sys/resource.h>
 #include <sys/stat.h>
 #include <sys/statfs.h>
+#include <sys/syscall.h>
 #include <time.h>
 #include <unistd.h>
 
@@ -105,7 +105,7 @@ static void share_out(struct raw_arena *a, uint64_t bytes) {
 
 static uint64_t limit_of(int which) {
     struct rlimit limit;
-    return getrlimit((__rlimit_resource_t)which, &limit) == 0 ? limit.rlim_cur : RLIM_INFINITY;
+    return SYSTEM(prlimit64, 0, which, NULL, &limit) == 0 ? limit.rlim_cur : RLIM_INFINITY;
 }
 
 static uint64_t least(uint64_t a, uint64_t b) { return a < b ? a : b; }
@@ -114,7 +114,7 @@ static uint64_t least(uint64_t a, uint64_t b) { return a < b ? a : b; }
 #define BYTES_UNDER_VALGRIND (UINT64_C(128) << 20)
 
 static bool is_under_valgrind(void) {
-    const char *preloaded = getenv("LD_PRELOAD");
+    const char *preloaded = variable("LD_PRELOAD");
     return preloaded && strstr(preloaded, "/vgpreload_");
 }
 
@@ -127,7 +127,7 @@ static uint64_t allowed_memory(void) {
 /* No more than half of what is free on the disk, since a file with holes needs its room when they are written. */
 static uint64_t allowed_on_disk(int file) {
     struct statfs disk;
-    if (fstatfs(file, &disk) != 0 || disk.f_blocks == 0)
+    if (SYSTEM(fstatfs, file, &disk) != 0 || disk.f_blocks == 0)
         return UINT64_MAX;
     return (uint64_t)disk.f_bavail * (uint64_t)disk.f_bsize / 2;
 }
@@ -135,13 +135,13 @@ static uint64_t allowed_on_disk(int file) {
 /* Gives the file its size. A limit that the program was given for itself is lifted meanwhile, as far as it can be. */
 static bool extend(int file, uint64_t bytes) {
     struct rlimit limit, lifted;
-    bool is_lifted = getrlimit(RLIMIT_FSIZE, &limit) == 0 && limit.rlim_cur < bytes && limit.rlim_max > limit.rlim_cur;
+    bool is_lifted = SYSTEM(prlimit64, 0, RLIMIT_FSIZE, NULL, &limit) == 0 && limit.rlim_cur < bytes && limit.rlim_max > limit.rlim_cur;
     if (is_lifted) {
         lifted = (struct rlimit){limit.rlim_max, limit.rlim_max};
         is_lifted = setrlimit(RLIMIT_FSIZE, &lifted) == 0;
     }
     bool is_allowed = limit_of(RLIMIT_FSIZE) >= bytes; /* a file beyond it would be the program's death */
-    bool is_extended = is_allowed && ftruncate(file, (off_t)bytes) == 0;
+    bool is_extended = is_allowed && SYSTEM(ftruncate, file, (off_t)bytes) == 0;
     if (is_lifted)
         setrlimit(RLIMIT_FSIZE, &limit);
     return is_extended;
@@ -158,8 +158,10 @@ static uint64_t private_room, private_used, private_used_above;
 /* So much of each mapping is what every program uses. The system makes these pages in one go, which is cheaper than one by one. */
 #define USED_OF_FILE 8192
 
+static void advise(void *from, uint64_t bytes, int what) { SYSTEM(madvise, from, bytes, what); }
+
 #ifdef MADV_POPULATE_WRITE
-static void populate(void *from, uint64_t bytes, uint64_t room) { madvise(from, least(bytes, room), MADV_POPULATE_WRITE); }
+static void populate(void *from, uint64_t bytes, uint64_t room) { advise(from, least(bytes, room), MADV_POPULATE_WRITE); }
 #else
 static void populate(void *from, uint64_t bytes, uint64_t room) { (void)from, (void)bytes, (void)room; }
 #endif
@@ -170,8 +172,8 @@ static void map_private(void) {
         void *p = map_own(bytes, MAP_PRIVATE | MAP_ANONYMOUS | MAP_NORESERVE, -1);
         if (p == MAP_FAILED)
             continue;
-        madvise(p, bytes, MADV_DONTDUMP);
-        madvise(p, bytes, MADV_NOHUGEPAGE); /* else the first use of it takes two megabytes */
+        advise(p, bytes, MADV_DONTDUMP);
+        advise(p, bytes, MADV_NOHUGEPAGE); /* else the first use of it takes two megabytes */
         private_from = p;
         private_room = bytes;
         return;
@@ -218,8 +220,8 @@ static struct raw_arena *map_file(int file) {
         void *p = map_own(bytes, MAP_SHARED | MAP_NORESERVE, file);
         if (p == MAP_FAILED)
             continue;
-        madvise(p, bytes, MADV_DONTDUMP);
-        madvise(p, bytes, MADV_RANDOM); /* else the system fills the holes around each page that is written */
+        advise(p, bytes, MADV_DONTDUMP);
+        advise(p, bytes, MADV_RANDOM); /* else the system fills the holes around each page that is written */
         populate(p, USED_OF_FILE, bytes);
         share_out(p, bytes);
         return p;
@@ -229,22 +231,37 @@ static struct raw_arena *map_file(int file) {
 
 #define MOST_PROGRAMS 100000 /* that one process runs, one after the other */
 
+static void put_file_name(char *path, const char *folder, unsigned n) {
+    char *end = put_text(path, folder, SIZE_MAX);
+    *end++ = '/';
+    end = put_number(end, (unsigned)SYSTEM(getpid));
+    *end++ = '-';
+    put_text(put_number(end, n), ".arena", SIZE_MAX);
+}
+
+/* Whatever the program's mask for new files says. */
+static void set_rights(int file) {
+    struct stat about;
+    if (SYSTEM(fstat, file, &about) != 0 || (about.st_mode & 07777) != 0644)
+        fchmod(file, 0644);
+}
+
 /* Makes the process's file. The name has the process's number, and how many programs that process has run before. Without memory of
    its own the library can't use it, and says so by the file that it leaves. */
 static struct raw_arena *make_file(const char *folder) {
-    char path[4096];
+    char path[length_of(folder) + 64];
     int file = -1;
     for (unsigned n = 0; n < MOST_PROGRAMS; n++) {
-        snprintf(path, sizeof path, "%s/%d-%u.arena", folder, (int)getpid(), n);
-        file = open(path, O_RDWR | O_CREAT | O_EXCL | O_CLOEXEC, 0644);
+        put_file_name(path, folder, n);
+        file = (int)SYSTEM(openat, AT_FDCWD, path, O_RDWR | O_CREAT | O_EXCL | O_CLOEXEC, 0644);
         if (file >= 0 || errno != EEXIST)
             break;
     }
     struct raw_arena *made = NULL;
     if (file >= 0) {
-        fchmod(file, 0644);
+        set_rights(file);
         made = private_from ? map_file(file) : NULL;
-        close(file);
+        SYSTEM(close, file);
         if (!made)
             unlink(path);
     }
@@ -261,7 +278,7 @@ static void note_process(uint32_t parent) {
         return;
     struct raw_process *process = part_of(RAW_PROCESSES, own_process);
     process->parent = parent;
-    STORE(&process->id, (uint32_t)getpid());
+    STORE(&process->id, (uint32_t)SYSTEM(getpid));
 }
 
 #define PAGE 4096
@@ -272,7 +289,7 @@ static void begin_life(void) {
         alive = &always_alive;
         return;
     }
-    madvise(page, PAGE, MADV_WIPEONFORK);
+    advise(page, PAGE, MADV_WIPEONFORK);
     alive = page;
     *alive = 1;
 }
@@ -293,15 +310,15 @@ bool revived(void) {
 }
 
 static void begin(void) {
-    const char *folder = getenv("LOCKDEP_RECORD");
-    if (!folder || !folder[0] || strlen(folder) + 64 > 4096)
+    const char *folder = variable("LOCKDEP_RECORD");
+    if (!folder || !folder[0] || length_of(folder) + 64 > 4096)
         return;
     map_private();
     struct raw_arena *made = make_file(folder);
     if (!made)
         return;
     struct timespec now;
-    clock_gettime(CLOCK_REALTIME, &now);
+    SYSTEM(clock_gettime, CLOCK_REALTIME, &now);
     made->started = (uint64_t)now.tv_sec * 1000000000 + (uint64_t)now.tv_nsec;
     arena = made;
     note_process(0);

@@ -5,10 +5,9 @@
 #include <dlfcn.h>
 #include <elf.h>
 #include <errno.h>
-#include <limits.h>
+#include <fcntl.h>
 #include <link.h>
-#include <stdio.h>
-#include <string.h>
+#include <sys/syscall.h>
 #include <unistd.h>
 
 #ifdef __GLIBC_PREREQ
@@ -33,18 +32,24 @@ static const char *recorded_path(const struct module *m) {
     return ((struct raw_module *)part_of(RAW_MODULES, m->number))->path;
 }
 
+static bool has_slash(const char *name) {
+    while (*name && *name != '/')
+        name++;
+    return *name;
+}
+
 /* The path from the root, as far as there is room. The program itself has no name among the loader's. */
 static void put_path(char *path, const char *name) {
     path[0] = 0;
     if (!name[0]) {
-        ssize_t length = readlink("/proc/self/exe", path, RAW_PATH);
+        long length = SYSTEM(readlinkat, AT_FDCWD, "/proc/self/exe", path, RAW_PATH);
         path[length > 0 ? length : 0] = 0;
         return;
     }
-    if (name[0] != '/' && strchr(name, '/') && getcwd(path, RAW_PATH - 1))
-        strcat(path, "/");
-    size_t length = strlen(path);
-    snprintf(path + length, RAW_PATH - length, "%s", name);
+    char *to = path;
+    if (name[0] != '/' && has_slash(name) && getcwd(path, RAW_PATH - 1))
+        to = put_text(path + length_of(path), "/", 1);
+    put_text(to, name, RAW_PATH - 1 - (size_t)(to - path));
 }
 
 /* They are linked in the order in which they are found: the program comes first. */
@@ -55,7 +60,7 @@ static void add_module(const struct module *new, const char *path) {
         return;
     struct raw_module *raw = part_of(RAW_MODULES, number);
     raw->process = own_process;
-    memcpy(raw->path, path, RAW_PATH);
+    put_text(raw->path, path, RAW_PATH);
     STORE(&raw->is_ready, 1);
     if (!m)
         return;
@@ -70,12 +75,12 @@ static void note_module(const struct module *new, const char *name) {
     const struct module *there = known_module(new->from);
     if (there && there->bias == new->bias && there->to == new->to)
         return;
-    char path[RAW_PATH + PATH_MAX];
+    char path[RAW_PATH + 4];
     int saved = errno;
     put_path(path, name);
     errno = saved;
     EACH_MODULE(m)
-        if (LOAD(&m->is_gone) && m->from == new->from && m->to == new->to && strcmp(recorded_path(m), path) == 0) {
+        if (LOAD(&m->is_gone) && m->from == new->from && m->to == new->to && is_same_text(recorded_path(m), path)) {
             STORE(&m->is_gone, false);
             return;
         }

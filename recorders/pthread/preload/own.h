@@ -43,6 +43,18 @@
 #define SWAP(at, expected, value)                                                                                      \
     __atomic_compare_exchange_n(at, expected, value, false, __ATOMIC_ACQ_REL, __ATOMIC_ACQUIRE)
 
+/* A system call. The C library has a function for each of these, but it looks for each one when it is called first, and has it in a page
+   that isn't there yet: one for all is cheaper at a program's start. */
+#define SYSTEM(name, ...) syscall(SYS_##name __VA_OPT__(, ) __VA_ARGS__)
+
+/* ---- texts.c: of the C library's it is the same. */
+
+size_t length_of(const char *text);
+bool is_same_text(const char *a, const char *b);
+char *put_text(char *to, const char *text, size_t most); /* with a zero behind it, to which it returns a pointer */
+char *put_number(char *to, unsigned number);
+const char *variable(const char *name); /* of the environment */
+
 /* ---- arena.c */
 
 extern struct raw_arena *arena; /* NULL if nothing is recorded */

@@ -6,7 +6,6 @@
 #include <dlfcn.h>
 #include <elf.h>
 #include <link.h>
-#include <string.h>
 
 struct library {
     uintptr_t bias;
@@ -49,7 +48,7 @@ static uint32_t hash_of(const char *name) {
 static bool is_named(const struct library *l, uint32_t i, const char *name) {
     const ElfW(Sym) *symbol = &l->symbols[i];
     bool is_default = !l->versions || !(l->versions[i] & HIDDEN);
-    return is_default && symbol->st_shndx != SHN_UNDEF && strcmp(l->names + symbol->st_name, name) == 0;
+    return is_default && symbol->st_shndx != SHN_UNDEF && is_same_text(l->names + symbol->st_name, name);
 }
 
 #define WORD_BITS (8 * sizeof(ElfW(Addr)))
