@@ -115,7 +115,7 @@ static uint64_t least(uint64_t a, uint64_t b) { return a < b ? a : b; }
 
 static bool is_under_valgrind(void) {
     const char *preloaded = variable("LD_PRELOAD");
-    return preloaded && strstr(preloaded, "/vgpreload_");
+    return preloaded && has_text(preloaded, "/vgpreload_");
 }
 
 /* Of the memory that the program may have, the recorder takes no more than a sixteenth for each of its mappings. */
@@ -329,12 +329,12 @@ static void begin(void) {
     STORE(&made->magic, RAW_MAGIC);
 }
 
-static int begin_state; /* 0 not begun, 1 under way, 2 done */
+int begin_state;
 
 /* Whoever comes first begins. A call that comes meanwhile isn't recorded. */
-void begin_once(void) {
+void begin_now(void) {
     int state = 0;
-    if (LIKELY(LOAD(&begin_state) == 2) || !SWAP(&begin_state, &state, 1))
+    if (!SWAP(&begin_state, &state, 1))
         return;
     int saved = errno;
     busy = true;

@@ -266,9 +266,11 @@ bool find_memory(uintptr_t lock, uint32_t *place, uint64_t *offset) {
 
 /* ---- The real functions. Looking them up may itself need memory, which comes from a few pages of our own. */
 
-#define REALS(X) X(malloc) X(calloc) X(realloc) X(free) X(memalign) X(aligned_alloc) X(posix_memalign)
+#define REALS(X) X(malloc) X(calloc) X(realloc) X(free)
+#define RARE_REALS(X) X(memalign) X(aligned_alloc) X(posix_memalign)
 #define DECLARE(name) static __typeof__(&name) real_##name;
 REALS(DECLARE)
+RARE_REALS(KNOWN_REAL)
 
 static int resolve_state; /* 0 not begun, 1 under way, 2 done */
 
@@ -292,6 +294,9 @@ static bool look_up(void) {
     int state = 0;
     if (SWAP(&resolve_state, &state, 1)) {
         REALS(FIND)
+        if (!finds_quickly()) {
+            RARE_REALS(FIND_REAL)
+        }
         STORE(&resolve_state, 2);
     }
     return LOAD(&resolve_state) == 2;
@@ -379,17 +384,17 @@ EXPORT void *reallocarray(void *piece, size_t count, size_t size) {
 }
 
 EXPORT void *memalign(size_t alignment, size_t size) {
-    return resolved() ? noted(real_memalign(alignment, size), size, HERE) : NULL;
+    return resolved() ? noted(REAL(memalign)(alignment, size), size, HERE) : NULL;
 }
 
 EXPORT void *aligned_alloc(size_t alignment, size_t size) {
-    return resolved() ? noted(real_aligned_alloc(alignment, size), size, HERE) : NULL;
+    return resolved() ? noted(REAL(aligned_alloc)(alignment, size), size, HERE) : NULL;
 }
 
 EXPORT int posix_memalign(void **piece, size_t alignment, size_t size) {
     if (!resolved())
         return ENOMEM;
-    int answer = real_posix_memalign(piece, alignment, size);
+    int answer = REAL(posix_memalign)(piece, alignment, size);
     if (answer == 0)
         noted(*piece, size, HERE);
     return answer;

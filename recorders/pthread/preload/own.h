@@ -45,12 +45,13 @@
 
 /* A system call. The C library has a function for each of these, but it looks for each one when it is called first, and has it in a page
    that isn't there yet: one for all is cheaper at a program's start. */
-#define SYSTEM(name, ...) syscall(SYS_##name __VA_OPT__(, ) __VA_ARGS__)
+#define SYSTEM(name, ...) syscall(SYS_##name, ##__VA_ARGS__)
 
 /* ---- texts.c: of the C library's it is the same. */
 
 size_t length_of(const char *text);
 bool is_same_text(const char *a, const char *b);
+bool has_text(const char *in, const char *text); /* anywhere */
 char *put_text(char *to, const char *text, size_t most); /* with a zero behind it, to which it returns a pointer */
 char *put_number(char *to, unsigned number);
 const char *variable(const char *name); /* of the environment */
@@ -64,7 +65,12 @@ extern uint32_t own_process;    /* the number of this process in it */
 extern volatile uint32_t *alive;
 bool revived(void); /* whether the process is recorded after all */
 
-void begin_once(void);
+extern int begin_state; /* 0 not begun, 1 under way, 2 done */
+void begin_now(void);
+static inline void begin_once(void) {
+    if (RARELY(LOAD(&begin_state) != 2))
+        begin_now();
+}
 uint32_t take_part(enum raw_kind kind); /* the number of a new part, or 0 */
 static inline void *part_of(enum raw_kind kind, uint32_t number) {
     return (char *)arena + raw_at(&arena->regions[kind], kind, number);
@@ -182,6 +188,25 @@ bool find_shared(uintptr_t lock, uint32_t *file, uint64_t *offset);
 /* ---- symbols.c */
 
 void *find_next(const char *name); /* the function of this name that ours takes the place of, or NULL */
+void *find_real(void **known, const char *name); /* the same, for the next time too */
+bool finds_quickly(void);
+
+/* The real function of this name. It is looked for when it is called first, since a program calls few of them. */
+#define KNOWN_REAL(name) static void *real_##name;
+#define FIND_REAL(name) find_real(&real_##name, #name);
+/* Where it takes more than a look at what the libraries have, all are looked for at the start, since the loader's lock may not be waited
+   for later. */
+#define FIND_AT_START(REALS)                                                                                           \
+    __attribute__((constructor)) static void at_start(void) {                                                          \
+        if (!finds_quickly()) {                                                                                        \
+            REALS(FIND_REAL)                                                                                           \
+        }                                                                                                              \
+    }
+#define REAL(name) ((__typeof__(&name))real_function(&real_##name, #name))
+static inline void *real_function(void **known, const char *name) {
+    void *real = LOAD(known);
+    return LIKELY(real) ? real : find_real(known, name);
+}
 
 /* ---- also.c */
 

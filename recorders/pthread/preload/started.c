@@ -9,17 +9,8 @@
 #include <unistd.h>
 
 #define REALS(X) X(execve) X(execv) X(execvp) X(execvpe) X(posix_spawn) X(posix_spawnp)
-#define DECLARE(name) static __typeof__(&name) real_##name;
-REALS(DECLARE)
-
-#define FIND(name) STORE(&real_##name, (__typeof__(&name))find_next(#name));
-static void find_reals(void) {
-    if (RARELY(!LOAD(&real_posix_spawnp))) {
-        REALS(FIND)
-    }
-}
-
-__attribute__((constructor)) static void at_start(void) { find_reals(); }
+REALS(KNOWN_REAL)
+FIND_AT_START(REALS)
 
 /* ---- Which program. */
 
@@ -75,9 +66,8 @@ static void count_start(const char *path, char *const *environment, uint64_t by)
 
 #define STARTING(name, parameters, arguments, environment)                                                             \
     EXPORT int name parameters {                                                                                       \
-        find_reals();                                                                                                  \
         count_start(path, environment, 1);                                                                             \
-        int answer = real_##name arguments, saved = errno;                                                             \
+        int answer = REAL(name) arguments, saved = errno;                                                              \
         if (answer != 0)                                                                                               \
             count_start(path, environment, FAILED);                                                                    \
         errno = saved;                                                                                                 \

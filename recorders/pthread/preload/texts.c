@@ -17,6 +17,15 @@ bool is_same_text(const char *a, const char *b) {
     return *a == *b;
 }
 
+bool has_text(const char *in, const char *text) {
+    size_t length = 0;
+    for (; *in && text[length]; in++) {
+        for (length = 0; text[length] && in[length] == text[length];)
+            length++;
+    }
+    return !text[length];
+}
+
 char *put_text(char *to, const char *text, size_t most) {
     for (; most && *text; most--)
         *to++ = *text++;

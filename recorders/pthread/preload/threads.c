@@ -102,7 +102,8 @@ static bool begin_trace(struct thread *t) {
         return false;
     t->raw = part_of(RAW_THREADS, number);
     t->raw->process = own_process;
-    memset(t->chunks, 0, sizeof t->chunks);
+    for (int i = 0; i < RAW_CHUNKS; i++)
+        t->chunks[i] = NULL;
     if (t->seen)
         memset(t->seen, 0, (t->seen_mask + 1) * sizeof *t->seen);
     t->seen_used = 0;
