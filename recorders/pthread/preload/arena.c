@@ -17,7 +17,7 @@
 struct raw_arena *arena;
 uint32_t own_process;
 
-static volatile uint32_t not_alive, always_alive = 1;
+static volatile uint32_t not_alive;
 volatile uint32_t *alive = &not_alive;
 
 /* ---- Parts of the file. */
@@ -149,14 +149,18 @@ static bool extend(int file, uint64_t bytes) {
 
 /* ---- The library's own memory. */
 
+#define PAGE 4096
+
 #define PRIVATE_BYTES (UINT64_C(8) << 30)
 #define PRIVATE_LEAST (UINT64_C(1) << 20)
 
 static char *private_from;
 static uint64_t private_room, private_used, private_used_above;
 
-/* So much of each mapping is what every program uses. The system makes these pages in one go, which is cheaper than one by one. */
+/* So much is what every program uses of the file, and of the library's variables from the life page on. The system makes these pages in one go,
+   which is cheaper than one by one. */
 #define USED_OF_FILE 8192
+#define USED_OF_VARIABLES 24576
 
 static void advise(void *from, uint64_t bytes, int what) { SYSTEM(madvise, from, bytes, what); }
 
@@ -183,9 +187,13 @@ static void map_private(void) {
 /* What is large comes from the end, so that what is small lies close together at the beginning. The first of it lies among the library's
    variables, so that a small program doesn't use the mapping at all. */
 #define MUCH 16384
-#define NEARBY 16384
-static char nearby[NEARBY] __attribute__((aligned(64)));
+/* A linker puts what is aligned most first, so this lies between what is LARGE and the small variables. */
+#define NEARBY 20480
+static char nearby[NEARBY] __attribute__((aligned(2048)));
 static uint64_t nearby_used;
+
+/* Of what lies nearby, the first whole page. */
+static void *life_page(void) { return (void *)(((uintptr_t)nearby + PAGE - 1) & ~(uintptr_t)(PAGE - 1)); }
 
 static void *take_nearby(size_t bytes) {
     if (bytes > NEARBY || LOAD(&nearby_used) > NEARBY - bytes)
@@ -281,16 +289,9 @@ static void note_process(uint32_t parent) {
     STORE(&process->id, (uint32_t)SYSTEM(getpid));
 }
 
-#define PAGE 4096
-
 static void begin_life(void) {
-    void *page = map_own(PAGE, MAP_PRIVATE | MAP_ANONYMOUS, -1);
-    if (page == MAP_FAILED) {
-        alive = &always_alive;
-        return;
-    }
-    advise(page, PAGE, MADV_WIPEONFORK);
-    alive = page;
+    advise(life_page(), PAGE, MADV_WIPEONFORK);
+    alive = life_page();
     *alive = 1;
 }
 
@@ -313,6 +314,8 @@ static void begin(void) {
     const char *folder = variable("LOCKDEP_RECORD");
     if (!folder || !folder[0] || length_of(folder) + 64 > 4096)
         return;
+    nearby_used = (uint64_t)((char *)life_page() + PAGE - nearby);
+    populate(life_page(), USED_OF_VARIABLES, USED_OF_VARIABLES);
     map_private();
     struct raw_arena *made = make_file(folder);
     if (!made)

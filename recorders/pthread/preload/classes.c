@@ -43,7 +43,10 @@ uint32_t place_of(const struct stack *stack) {
 }
 
 uint32_t place_of_caller(uintptr_t caller) {
-    struct stack stack = {.count = 1, .callers = {caller}};
+    struct stack stack;
+    stack.element = 0;
+    stack.count = 1;
+    stack.callers[0] = caller;
     return place_of(&stack);
 }
 
@@ -136,18 +139,18 @@ static uint32_t place_here(struct call call) {
 
 /* ---- What the library keeps of each class and of each object, in blocks that are made when they are needed. */
 
-#define CLASS_BLOCK 8
-#define CLASS_BLOCKS 8192
-#define OBJECT_BLOCK 256
-#define OBJECT_BLOCKS 16384
+#define CLASS_BLOCK 4
+#define CLASS_BLOCKS 16384
+#define OBJECT_BLOCK 64
+#define OBJECT_BLOCKS 65536
 
 struct kept_of_class {
     uint32_t alive; /* a bit for each ordinal, 1 being the lowest */
     uint32_t objects[RAW_APART + 1];
 };
 
-TABLE(struct kept_of_class *, class_blocks, 4, CLASS_BLOCKS);
-TABLE(uint32_t *, object_blocks, 4, OBJECT_BLOCKS);
+TABLE(struct kept_of_class *, class_blocks, 8, CLASS_BLOCKS);
+TABLE(uint32_t *, object_blocks, 8, OBJECT_BLOCKS);
 
 static void *block_at(void **at, size_t bytes) {
     void *block = LOAD(at);

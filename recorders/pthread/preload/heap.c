@@ -22,7 +22,7 @@ struct slot {
     uint64_t about;
 };
 
-static const uint32_t bits[LEVELS] = {4, 9, 13, 17, 20, 23}; /* of the number of lines */
+static const uint32_t bits[LEVELS] = {3, 9, 13, 17, 20, 23}; /* of the number of lines */
 static struct slot *levels[LEVELS];
 static int main_level_of_pieces;
 static uint64_t overflows;

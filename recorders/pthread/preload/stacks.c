@@ -95,7 +95,7 @@ static bool read_common(const uint8_t *p, struct description *d, bool *has_lengt
     d->common_end = p + 4 + length;
     uint8_t version = p[8];
     const char *kinds = (const char *)p + 9;
-    p = (const uint8_t *)kinds + strlen(kinds) + 1;
+    p = (const uint8_t *)kinds + length_of(kinds) + 1;
     d->code_step = read_unsigned(&p);
     d->data_step = read_signed(&p);
     if (version == 1)
@@ -277,7 +277,11 @@ static struct rule read_rule(uintptr_t address) {
     struct description d;
     if (!describe(address, &d))
         return no_rule;
-    struct machine m = {.now = no_rule, .at = d.from};
+    struct machine m;
+    m.now = m.first = no_rule;
+    m.kept_count = 0;
+    m.at = d.from;
+    m.is_lost = false;
     run(&m, d.common, d.common_end, &d, UINTPTR_MAX);
     m.first = m.now;
     m.at = d.from;

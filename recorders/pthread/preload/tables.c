@@ -167,7 +167,7 @@ static bool fill_lock(uintptr_t lock, uint32_t object) {
 /* ---- Which parts of the memory have had a lock, in parts of a megabyte. Several parts share a bit. */
 
 #define PART_BITS 20
-#define PARTS 16384
+#define PARTS 4096
 static uint64_t parts[PARTS / 64];
 
 static void mark_part(uintptr_t lock) {
