@@ -3,7 +3,6 @@
 
 #include <errno.h>
 #include <fcntl.h>
-#include <pthread.h>
 #include <stdlib.h>
 #include <string.h>
 #include <sys/mman.h>
@@ -302,12 +301,21 @@ static void after_fork_in_child(void) {
     begin_threads();
 }
 
-/* In a child that was forked without the C library's knowledge. */
+/* In a child that was forked without our knowledge. */
 bool revived(void) {
     if (!arena || alive == &not_alive)
         return false;
     after_fork_in_child();
     return true;
+}
+
+/* In a child, unless one of the program's own handlers of forks has taken a lock before. */
+void begin_in_fork(void) {
+    if (alive == &not_alive)
+        return;
+    struct raw_process *process = own_process ? part_of(RAW_PROCESSES, own_process) : NULL;
+    if (!process || process->id != (uint32_t)SYSTEM(getpid))
+        after_fork_in_child();
 }
 
 static void begin(void) {
@@ -327,22 +335,22 @@ static void begin(void) {
     note_process(0);
     note_modules();
     begin_threads();
-    pthread_atfork(NULL, NULL, after_fork_in_child);
     begin_life();
     STORE(&made->magic, RAW_MAGIC);
 }
 
-int begin_state;
+/* It isn't 0, so that it lies in the page that the loader has written already: the others aren't there yet. */
+int begin_state = BEGIN_NOT;
 
 /* Whoever comes first begins. A call that comes meanwhile isn't recorded. */
 void begin_now(void) {
-    int state = 0;
-    if (!SWAP(&begin_state, &state, 1))
+    int state = BEGIN_NOT;
+    if (!SWAP(&begin_state, &state, BEGIN_UNDER_WAY))
         return;
     int saved = errno;
     busy = true;
     begin();
     busy = false;
     errno = saved;
-    STORE(&begin_state, 2);
+    STORE(&begin_state, BEGIN_DONE);
 }

@@ -64,11 +64,13 @@ extern uint32_t own_process;    /* the number of this process in it */
 /* Not 0 while this process is recorded. The system makes it 0 in a child, whichever way it was forked. */
 extern volatile uint32_t *alive;
 bool revived(void); /* whether the process is recorded after all */
+void begin_in_fork(void);
 
-extern int begin_state; /* 0 not begun, 1 under way, 2 done */
+enum begin_state { BEGIN_NOT = 1, BEGIN_UNDER_WAY, BEGIN_DONE };
+extern int begin_state;
 void begin_now(void);
 static inline void begin_once(void) {
-    if (RARELY(LOAD(&begin_state) != 2))
+    if (RARELY(LOAD(&begin_state) != BEGIN_DONE))
         begin_now();
 }
 uint32_t take_part(enum raw_kind kind); /* the number of a new part, or 0 */
@@ -194,10 +196,12 @@ bool finds_quickly(void);
 /* The real function of this name. It is looked for when it is called first, since a program calls few of them. */
 #define KNOWN_REAL(name) static void *real_##name;
 #define FIND_REAL(name) find_real(&real_##name, #name);
-/* Where it takes more than a look at what the libraries have, all are looked for at the start, since the loader's lock may not be waited
+/* The recorder begins before, whichever of these comes first: it makes the pages. Where it takes more than a look at what the libraries
+   have, all are looked for at the start, since the loader's lock may not be waited
    for later. */
 #define FIND_AT_START(REALS)                                                                                           \
     __attribute__((constructor)) static void at_start(void) {                                                          \
+        begin_once();                                                                                                  \
         if (!finds_quickly()) {                                                                                        \
             REALS(FIND_REAL)                                                                                           \
         }                                                                                                              \

@@ -1,16 +1,43 @@
-/* Programs that the program starts: which, how often, and whether this library goes along with them. `record` looks at their files at the
+/* Processes that the program forks, and programs that it starts: which, how often, and whether this library goes along with them. `record` looks at their files at the
    end, since one that is linked statically or that gets other rights isn't recorded. Nothing of what is started is changed. */
 #include "own.h"
 
 #include <errno.h>
+#include <pty.h>
 #include <spawn.h>
 #include <stdarg.h>
 #include <string.h>
 #include <unistd.h>
 
-#define REALS(X) X(execve) X(execv) X(execvp) X(execvpe) X(posix_spawn) X(posix_spawnp)
+#define REALS(X) X(fork) X(daemon) X(forkpty) X(execve) X(execv) X(execvp) X(execvpe) X(posix_spawn) X(posix_spawnp)
 REALS(KNOWN_REAL)
 FIND_AT_START(REALS)
+
+/* ---- Forks. A handler that pthread_atfork would be given is told of the same ones, but registering it makes two pages that most programs
+   don't have otherwise. What else forks isn't known before the child takes a lock. */
+
+EXPORT pid_t fork(void) {
+    pid_t child = REAL(fork)();
+    if (child == 0)
+        begin_in_fork();
+    return child;
+}
+
+EXPORT __typeof__(fork) __fork __attribute__((alias("fork")));
+
+EXPORT int daemon(int stays, int keeps) {
+    int answer = REAL(daemon)(stays, keeps);
+    if (answer == 0)
+        begin_in_fork();
+    return answer;
+}
+
+EXPORT int forkpty(int *terminal, char *name, const struct termios *how, const struct winsize *size) {
+    int child = REAL(forkpty)(terminal, name, how, size);
+    if (child == 0)
+        begin_in_fork();
+    return child;
+}
 
 /* ---- Which program. */
 

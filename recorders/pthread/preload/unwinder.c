@@ -9,10 +9,6 @@ struct context;
 
 #define NEEDED __attribute__((used, visibility("hidden")))
 
-/* The library is linked without what compilers put before and after each one, which does nothing here but look for four functions, of which
-   most programs have one. What the C library registers for us stays registered, as this library stays where it is. */
-NEEDED void *__dso_handle = NULL;
-
 NEEDED int __gcc_personality_v0(int version, int actions, uint64_t kind, struct exception *exception, struct context *context);
 NEEDED void _Unwind_Resume(struct exception *exception);
 
