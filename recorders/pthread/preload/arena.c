@@ -3,6 +3,7 @@
 
 #include <errno.h>
 #include <fcntl.h>
+#include <pthread.h>
 #include <stdlib.h>
 #include <string.h>
 #include <sys/mman.h>
@@ -159,9 +160,9 @@ static uint64_t private_room, private_used, private_used_above;
 /* So much is what every program uses of the file, and of the library's variables from the life page on. The system makes these pages in one go,
    which is cheaper than one by one. */
 #define USED_OF_FILE 8192
-#define USED_OF_VARIABLES 24576
+#define USED_OF_VARIABLES 20480
 
-static void advise(void *from, uint64_t bytes, int what) { SYSTEM(madvise, from, bytes, what); }
+static bool advise(void *from, uint64_t bytes, int what) { return SYSTEM(madvise, from, bytes, what) == 0; }
 
 #ifdef MADV_POPULATE_WRITE
 static void populate(void *from, uint64_t bytes, uint64_t room) { advise(from, least(bytes, room), MADV_POPULATE_WRITE); }
@@ -187,7 +188,7 @@ static void map_private(void) {
    variables, so that a small program doesn't use the mapping at all. */
 #define MUCH 16384
 /* A linker puts what is aligned most first, so this lies between what is LARGE and the small variables. */
-#define NEARBY 20480
+#define NEARBY 12288
 static char nearby[NEARBY] __attribute__((aligned(2048)));
 static uint64_t nearby_used;
 
@@ -248,9 +249,12 @@ static void put_file_name(char *path, const char *folder, unsigned n) {
 
 /* Whatever the program's mask for new files says. */
 static void set_rights(int file) {
+#ifdef SYS_fstat
     struct stat about;
-    if (SYSTEM(fstat, file, &about) != 0 || (about.st_mode & 07777) != 0644)
-        fchmod(file, 0644);
+    if (SYSTEM(fstat, file, &about) == 0 && (about.st_mode & 07777) == 0644)
+        return;
+#endif
+    fchmod(file, 0644);
 }
 
 /* Makes the process's file. The name has the process's number, and how many programs that process has run before. Without memory of
@@ -288,8 +292,10 @@ static void note_process(uint32_t parent) {
     STORE(&process->id, (uint32_t)SYSTEM(getpid));
 }
 
+/* A system that can't make the page empty in a child has to have a handler of forks called there, before the program's own ones. */
 static void begin_life(void) {
-    advise(life_page(), PAGE, MADV_WIPEONFORK);
+    if (!advise(life_page(), PAGE, MADV_WIPEONFORK))
+        pthread_atfork(NULL, NULL, begin_in_fork);
     alive = life_page();
     *alive = 1;
 }

@@ -95,6 +95,7 @@ static void remember(struct memo *memo, const struct stack *stack, struct call c
     memo->frame = call.frame;
     memo->place = place;
     for (uint32_t i = 1; i < stack->count; i++) {
+        AS_WRITTEN;
         memo->at[i] = stack->at[i];
         memo->callers[i] = stack->callers[i];
         sum += stack->callers[i] ^ (uint64_t)stack->at[i] << 32;

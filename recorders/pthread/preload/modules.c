@@ -54,16 +54,14 @@ static void put_path(char *path, const char *name) {
 
 /* They are linked in the order in which they are found: the program comes first. */
 static void add_module(const struct module *new, const char *path) {
-    uint32_t number = take_part(RAW_MODULES);
-    struct module *m = number ? take_private(sizeof *m) : NULL, **end = &modules, *there = NULL;
+    struct module *m = take_private(sizeof *m), **end = &modules, *there = NULL;
+    uint32_t number = m ? take_part(RAW_MODULES) : 0;
     if (!number)
         return;
     struct raw_module *raw = part_of(RAW_MODULES, number);
     raw->process = own_process;
     put_text(raw->path, path, RAW_PATH);
     STORE(&raw->is_ready, 1);
-    if (!m)
-        return;
     *m = *new;
     m->number = number;
     for (; !SWAP(end, &there, m); there = NULL)

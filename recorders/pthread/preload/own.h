@@ -4,7 +4,7 @@
    - No descriptor is kept. After a thread's start no system call is made for recording, apart from what dlopen and dlclose bring.
    - No lock is taken. What threads share is changed by single atomic operations, so a signal handler that jumps away, a fork, or
      a thread that dies leaves nothing locked.
-   - No memory is taken from malloc. The library's own comes from one mapping that is made at the start.
+   - No memory is taken from malloc. The library's own is among its variables, and in one mapping that is made at the start.
    - A signal handler that interrupts the recorder and takes a lock is passed through and counted.
    - errno is left as it was. */
 #ifndef LOCKDEP_OWN_H
@@ -33,6 +33,8 @@
     static type name##_rest[all] LARGE
 #define NTH(name, i) (LIKELY((i) < sizeof name##_first / sizeof *name##_first) ? &name##_first[i] : &name##_rest[i])
 #define UNROLLED _Pragma("GCC unroll 8")
+/* Keeps a loop from being made a call of the C library's, which would have to be found first. */
+#define AS_WRITTEN __asm__ volatile("")
 #define EARLY_THREAD_LOCAL __thread __attribute__((tls_model("initial-exec")))
 
 #define LOAD(at) __atomic_load_n(at, __ATOMIC_ACQUIRE)

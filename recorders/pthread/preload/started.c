@@ -13,8 +13,8 @@
 REALS(KNOWN_REAL)
 FIND_AT_START(REALS)
 
-/* ---- Forks. A handler that pthread_atfork would be given is told of the same ones, but registering it makes two pages that most programs
-   don't have otherwise. What else forks isn't known before the child takes a lock. */
+/* ---- Forks. A handler of pthread_atfork would be told of the same ones, but to register it makes two pages that most programs don't have
+   otherwise. A child that is forked in another way is known when it takes a lock. */
 
 EXPORT pid_t fork(void) {
     pid_t child = REAL(fork)();

@@ -6,8 +6,8 @@
 
 size_t length_of(const char *text) {
     size_t length = 0;
-    while (text[length])
-        length++;
+    for (; text[length]; length++)
+        AS_WRITTEN;
     return length;
 }
 

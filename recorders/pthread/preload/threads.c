@@ -102,10 +102,14 @@ static bool begin_trace(struct thread *t) {
         return false;
     t->raw = part_of(RAW_THREADS, number);
     t->raw->process = own_process;
-    for (int i = 0; i < RAW_CHUNKS; i++)
+    for (int i = 0; i < RAW_CHUNKS; i++) {
+        AS_WRITTEN;
         t->chunks[i] = NULL;
-    if (t->seen)
-        memset(t->seen, 0, (t->seen_mask + 1) * sizeof *t->seen);
+    }
+    for (size_t i = 0; t->seen && i <= t->seen_mask; i++) {
+        AS_WRITTEN;
+        t->seen[i] = 0;
+    }
     t->seen_used = 0;
     t->fresh_end = 0;
     t->depth = 0;
