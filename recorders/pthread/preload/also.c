@@ -17,21 +17,9 @@
     X(pthread_once) X(call_once) X(dlopen) X(dlmopen) X(dlclose) X(sem_init) X(sem_destroy) X(sem_wait) X(sem_timedwait)  \
     X(sem_clockwait) X(sem_trywait) X(sem_post) X(mlockall) X(flockfile) X(ftrylockfile) X(funlockfile)
 
-#define DECLARE(name) static __typeof__(&name) real_##name;
-REALS(DECLARE)
+REALS(KNOWN_REAL)
 
-#define FIND(name) STORE(&real_##name, (__typeof__(&name))find_next(#name));
-static void look_up(void) { REALS(FIND) }
-
-/* Finds the real functions when the library begins, or when one is called before that. */
-static void find_reals(void) {
-    if (RARELY(!LOAD(&real_funlockfile))) {
-        look_up();
-        begin_once();
-    }
-}
-
-__attribute__((constructor)) static void at_start(void) { find_reals(); }
+FIND_AT_START(REALS)
 
 /* ---- Routines that run once. Who runs one holds the control meanwhile, and who comes then waits for it. Who finds that it has run
    waits for nobody, and nothing is recorded. */
@@ -68,13 +56,13 @@ static void end_once(struct once *once) {
 /* The routine may throw. */
 #define ONCE(name, answer, type)                                                                                       \
     EXPORT answer name(type *control, void (*routine)(void)) {                                                         \
-        find_reals();                                                                                                  \
+        begin_once();                                                                                                  \
         if (!is_recording() || *(volatile int *)control & IS_DONE)                                                     \
-            return real_##name(control, routine);                                                                      \
+            return REAL(name)(control, routine);                                                                       \
         struct once once __attribute__((cleanup(end_once))) = {(uintptr_t)control, HERE, routine, false, running};     \
         once.is_recorded = begin_wish(once.control, MODE_WRITE, once.call);                                            \
         running = &once;                                                                                               \
-        return real_##name(control, run_once);                                                                         \
+        return REAL(name)(control, run_once);                                                                          \
     }
 
 ONCE(pthread_once, int, pthread_once_t)
@@ -115,13 +103,13 @@ static int (*real_acquire)(guard *);
 static void (*real_release)(guard *), (*real_abort)(guard *);
 
 static void *find_in_library(const char *name, const char *path, int mode) {
-    void *library = real_dlopen(path, mode);
+    void *library = REAL(dlopen)(path, mode);
     return library ? dlsym(library, name) : NULL;
 }
 
 void *find_in_libraries(const char *name) {
     static const char *const libraries[] = {"libstdc++.so.6", "libc++abi.so.1"};
-    find_reals();
+    begin_once();
     void *found = dlsym(RTLD_NEXT, name);
     for (size_t i = 0; !found && i < sizeof libraries / sizeof *libraries; i++)
         found = find_in_library(name, libraries[i], RTLD_LAZY | RTLD_NOLOAD);
@@ -129,14 +117,14 @@ void *find_in_libraries(const char *name) {
 }
 
 void *find_in_unwinder(const char *name) {
-    find_reals();
+    begin_once();
     void *found = dlsym(RTLD_NEXT, name);
     return found ? found : find_in_library(name, "libgcc_s.so.1", RTLD_LAZY);
 }
 
 /* Once found they stay the same, so that what is begun by one is ended by the same. */
 static void find_guards(void) {
-    find_reals();
+    begin_once();
     if (LIKELY(LOAD(&real_acquire)))
         return;
     void *acquire = find_in_libraries("__cxa_guard_acquire"), *release = find_in_libraries("__cxa_guard_release"),
@@ -182,32 +170,32 @@ static uint64_t loader;
 /* glibc looks where dlopen was called from, to know whose paths to search. So ours jumps to it, with nothing to be done afterwards:
    that the loader is left is seen by where the stack is when the thread comes again. */
 EXPORT void *dlopen(const char *name, int mode) {
-    find_reals();
+    begin_once();
     if (is_recording()) {
         if (mode & RTLD_DEEPBIND)
             ADD(&arena->deep_bound, 1);
         enter_loader((uintptr_t)&loader, HERE);
     }
-    return real_dlopen(name, mode & ~RTLD_DEEPBIND);
+    return REAL(dlopen)(name, mode & ~RTLD_DEEPBIND);
 }
 
 EXPORT void *dlmopen(Lmid_t space, const char *name, int mode) {
-    find_reals();
+    begin_once();
     if (is_recording()) {
         if (space != LM_ID_BASE)
             ADD(&arena->namespaces, 1);
         enter_loader((uintptr_t)&loader, HERE);
     }
-    return real_dlmopen(space, name, mode & ~RTLD_DEEPBIND);
+    return REAL(dlmopen)(space, name, mode & ~RTLD_DEEPBIND);
 }
 
 /* A library that goes takes its addresses with it. */
 EXPORT int dlclose(void *handle) {
-    find_reals();
+    begin_once();
     if (!is_recording())
-        return real_dlclose(handle);
+        return REAL(dlclose)(handle);
     acquired((uintptr_t)&loader, MODE_WRITE, true, HERE);
-    int answer = real_dlclose(handle);
+    int answer = REAL(dlclose)(handle);
     releasing((uintptr_t)&loader, HERE);
     if (!busy) {
         int saved = errno;
@@ -223,8 +211,8 @@ EXPORT int dlclose(void *handle) {
    used first, of the program's too. */
 
 EXPORT int mlockall(int what) {
-    find_reals();
-    return real_mlockall(is_recording() ? what | MCL_ONFAULT : what);
+    begin_once();
+    return REAL(mlockall)(is_recording() ? what | MCL_ONFAULT : what);
 }
 
 /* ---- By option. A semaphore is taken as a mutex is; one that another thread posts isn't held any more. */
@@ -240,7 +228,7 @@ static bool asks_for(const char *what) {
 
 /* Whether it is asked for is found once: 1 no, 2 yes. */
 bool is_asked(int *known, const char *what) {
-    find_reals();
+    begin_once();
     if (RARELY(!LOAD(known)))
         STORE(known, asks_for(what) ? 2 : 1);
     return LOAD(known) == 2;
@@ -252,7 +240,7 @@ static int semaphores, streams;
 
 EXPORT int sem_init(sem_t *lock, int shared, unsigned value) {
     bool is_seen = SEMAPHORES;
-    int answer = real_sem_init(lock, shared, value);
+    int answer = REAL(sem_init)(lock, shared, value);
     if (is_seen && answer == 0)
         initialised((uintptr_t)lock, HERE);
     return answer;
@@ -260,7 +248,7 @@ EXPORT int sem_init(sem_t *lock, int shared, unsigned value) {
 
 EXPORT int sem_destroy(sem_t *lock) {
     bool is_seen = SEMAPHORES;
-    int answer = real_sem_destroy(lock);
+    int answer = REAL(sem_destroy)(lock);
     if (is_seen && answer == 0)
         destroyed((uintptr_t)lock);
     return answer;
@@ -270,15 +258,15 @@ EXPORT int sem_destroy(sem_t *lock) {
 #define WAITING(name, parameters, arguments)                                                                           \
     EXPORT int name parameters {                                                                                       \
         if (!SEMAPHORES)                                                                                               \
-            return real_##name arguments;                                                                              \
-        int saved = errno, answer = real_sem_trywait(lock);                                                            \
+            return REAL(name) arguments;                                                                               \
+        int saved = errno, answer = REAL(sem_trywait)(lock);                                                           \
         if (answer == 0) {                                                                                             \
             acquired((uintptr_t)lock, MODE_WRITE, false, HERE);                                                        \
             return 0;                                                                                                  \
         }                                                                                                              \
         errno = saved;                                                                                                 \
         bool is_wish = begin_wish((uintptr_t)lock, MODE_WRITE, HERE);                                                  \
-        answer = real_##name arguments;                                                                                \
+        answer = REAL(name) arguments;                                                                                 \
         if (is_wish)                                                                                                   \
             end_wish((uintptr_t)lock, answer == 0, HERE);                                                              \
         return answer;                                                                                                 \
@@ -290,7 +278,7 @@ WAITING(sem_clockwait, (sem_t *restrict lock, clockid_t clock, const struct time
 
 EXPORT int sem_trywait(sem_t *lock) {
     bool is_seen = SEMAPHORES;
-    int answer = real_sem_trywait(lock);
+    int answer = REAL(sem_trywait)(lock);
     if (is_seen)
         tried((uintptr_t)lock, answer != 0);
     if (is_seen && answer == 0)
@@ -301,17 +289,17 @@ EXPORT int sem_trywait(sem_t *lock) {
 EXPORT int sem_post(sem_t *lock) {
     if (SEMAPHORES)
         releasing((uintptr_t)lock, HERE);
-    return real_sem_post(lock);
+    return REAL(sem_post)(lock);
 }
 
 EXPORT void flockfile(FILE *lock) {
     if (!STREAMS) {
-        real_flockfile(lock);
-    } else if (real_ftrylockfile(lock) == 0) {
+        REAL(flockfile)(lock);
+    } else if (REAL(ftrylockfile)(lock) == 0) {
         acquired((uintptr_t)lock, MODE_WRITE, true, HERE);
     } else {
         bool is_wish = begin_wish((uintptr_t)lock, MODE_WRITE, HERE);
-        real_flockfile(lock);
+        REAL(flockfile)(lock);
         if (is_wish)
             end_wish((uintptr_t)lock, true, HERE);
     }
@@ -319,7 +307,7 @@ EXPORT void flockfile(FILE *lock) {
 
 EXPORT int ftrylockfile(FILE *lock) {
     bool is_seen = STREAMS;
-    int answer = real_ftrylockfile(lock);
+    int answer = REAL(ftrylockfile)(lock);
     if (is_seen && answer == 0)
         acquired((uintptr_t)lock, MODE_TRY_WRITE, true, HERE);
     return answer;
@@ -328,5 +316,5 @@ EXPORT int ftrylockfile(FILE *lock) {
 EXPORT void funlockfile(FILE *lock) {
     if (STREAMS)
         releasing((uintptr_t)lock, HERE);
-    real_funlockfile(lock);
+    REAL(funlockfile)(lock);
 }

@@ -4,20 +4,20 @@
 #include <errno.h>
 #include <fcntl.h>
 #include <pthread.h>
-#include <stdio.h>
 #include <stdlib.h>
 #include <string.h>
 #include <sys/mman.h>
 #include <sys/resource.h>
 #include <sys/stat.h>
 #include <sys/statfs.h>
+#include <sys/syscall.h>
 #include <time.h>
 #include <unistd.h>
 
 struct raw_arena *arena;
 uint32_t own_process;
 
-static volatile uint32_t not_alive, always_alive = 1;
+static volatile uint32_t not_alive;
 volatile uint32_t *alive = &not_alive;
 
 /* ---- Parts of the file. */
@@ -50,25 +50,35 @@ struct raw_record *take_chunk(uint32_t chunk) {
 }
 
 /* How the file is shared out: of each kind a share of it in 64ths, and no more than so many, the first of them close together. The rest
-   is for records. */
+   is for records. What a small program needs of all that has room in two pages. */
 static const struct {
     uint32_t share, most, first;
 } plan[RAW_KINDS] = {
-    [RAW_PROCESSES] = {1, 1 << 16, 8}, [RAW_CLASSES] = {4, 0xffff, 32},   [RAW_OBJECTS] = {2, 1 << 22, 32},
-    [RAW_TAKES] = {2, 1 << 20, 32},    [RAW_THREADS] = {8, 1 << 20, 4},   [RAW_FILES] = {1, 1 << 12, 0},
+    [RAW_PROCESSES] = {1, 1 << 16, 2}, [RAW_CLASSES] = {4, 0xffff, 16},   [RAW_OBJECTS] = {2, 1 << 22, 16},
+    [RAW_TAKES] = {2, 1 << 20, 16},    [RAW_THREADS] = {8, 1 << 20, 3},   [RAW_FILES] = {1, 1 << 12, 0},
     [RAW_PROGRAMS] = {1, 1 << 10, 0},
-    [RAW_MODULES] = {10, 1 << 13, 8},  [RAW_PLACES] = {12, 1 << 20, 24},
+    [RAW_MODULES] = {10, 1 << 13, 5},  [RAW_PLACES] = {12, 1 << 20, 24},
 };
+
+/* In which order the first ones lie, and which kinds come after the first records. Places are last, since of them most are unused. */
+static const enum raw_kind order[RAW_KINDS] = {RAW_PROCESSES, RAW_THREADS, RAW_CLASSES, RAW_OBJECTS, RAW_TAKES,
+                                               RAW_FILES, RAW_PROGRAMS, RAW_MODULES, RAW_PLACES};
+#define AFTER_RECORDS RAW_MODULES
 
 static uint64_t rounded(uint64_t n, uint64_t to) { return (n + to - 1) / to * to; }
 
-#define FIRST_RECORDS 4096 /* bytes of records that come after the first parts */
+#define FIRST_RECORDS (3 * RAW_FIRST_CHUNK * sizeof(struct raw_record)) /* bytes of records that come among the first parts */
 
 static uint64_t place_first(struct raw_arena *a, uint64_t at) {
-    for (int kind = 0; kind < RAW_KINDS; kind++) {
+    for (int i = 0; i < RAW_KINDS; i++) {
+        enum raw_kind kind = order[i];
+        if (kind == AFTER_RECORDS) {
+            a->first_records = at;
+            a->first_records_end = at += FIRST_RECORDS;
+        }
         a->regions[kind].first = plan[kind].first;
         a->regions[kind].first_from = at;
-        at = rounded(at + (uint64_t)plan[kind].first * raw_size((enum raw_kind)kind), 64);
+        at = rounded(at + (uint64_t)plan[kind].first * raw_size(kind), 64);
     }
     return at;
 }
@@ -78,11 +88,8 @@ static uint64_t place_first(struct raw_arena *a, uint64_t at) {
 static void share_out(struct raw_arena *a, uint64_t bytes) {
     bool is_small = bytes < RAW_SMALL;
     uint64_t page = is_small ? 64 : 4096, at = rounded(sizeof *a, 64);
-    if (!is_small) {
-        a->first_records = place_first(a, at);
-        a->first_records_end = rounded(a->first_records + FIRST_RECORDS, page);
-        at = a->first_records_end;
-    }
+    if (!is_small)
+        at = rounded(place_first(a, at), page);
     for (int kind = 0; kind < RAW_KINDS; kind++) {
         uint64_t room = bytes * plan[kind].share / 64 / raw_size((enum raw_kind)kind);
         a->regions[kind].room = room < plan[kind].most ? (uint32_t)room : plan[kind].most;
@@ -98,7 +105,7 @@ static void share_out(struct raw_arena *a, uint64_t bytes) {
 
 static uint64_t limit_of(int which) {
     struct rlimit limit;
-    return getrlimit((__rlimit_resource_t)which, &limit) == 0 ? limit.rlim_cur : RLIM_INFINITY;
+    return SYSTEM(prlimit64, 0, which, NULL, &limit) == 0 ? limit.rlim_cur : RLIM_INFINITY;
 }
 
 static uint64_t least(uint64_t a, uint64_t b) { return a < b ? a : b; }
@@ -107,8 +114,8 @@ static uint64_t least(uint64_t a, uint64_t b) { return a < b ? a : b; }
 #define BYTES_UNDER_VALGRIND (UINT64_C(128) << 20)
 
 static bool is_under_valgrind(void) {
-    const char *preloaded = getenv("LD_PRELOAD");
-    return preloaded && strstr(preloaded, "/vgpreload_");
+    const char *preloaded = variable("LD_PRELOAD");
+    return preloaded && has_text(preloaded, "/vgpreload_");
 }
 
 /* Of the memory that the program may have, the recorder takes no more than a sixteenth for each of its mappings. */
@@ -120,7 +127,7 @@ static uint64_t allowed_memory(void) {
 /* No more than half of what is free on the disk, since a file with holes needs its room when they are written. */
 static uint64_t allowed_on_disk(int file) {
     struct statfs disk;
-    if (fstatfs(file, &disk) != 0 || disk.f_blocks == 0)
+    if (SYSTEM(fstatfs, file, &disk) != 0 || disk.f_blocks == 0)
         return UINT64_MAX;
     return (uint64_t)disk.f_bavail * (uint64_t)disk.f_bsize / 2;
 }
@@ -128,13 +135,13 @@ static uint64_t allowed_on_disk(int file) {
 /* Gives the file its size. A limit that the program was given for itself is lifted meanwhile, as far as it can be. */
 static bool extend(int file, uint64_t bytes) {
     struct rlimit limit, lifted;
-    bool is_lifted = getrlimit(RLIMIT_FSIZE, &limit) == 0 && limit.rlim_cur < bytes && limit.rlim_max > limit.rlim_cur;
+    bool is_lifted = SYSTEM(prlimit64, 0, RLIMIT_FSIZE, NULL, &limit) == 0 && limit.rlim_cur < bytes && limit.rlim_max > limit.rlim_cur;
     if (is_lifted) {
         lifted = (struct rlimit){limit.rlim_max, limit.rlim_max};
         is_lifted = setrlimit(RLIMIT_FSIZE, &lifted) == 0;
     }
     bool is_allowed = limit_of(RLIMIT_FSIZE) >= bytes; /* a file beyond it would be the program's death */
-    bool is_extended = is_allowed && ftruncate(file, (off_t)bytes) == 0;
+    bool is_extended = is_allowed && SYSTEM(ftruncate, file, (off_t)bytes) == 0;
     if (is_lifted)
         setrlimit(RLIMIT_FSIZE, &limit);
     return is_extended;
@@ -142,18 +149,23 @@ static bool extend(int file, uint64_t bytes) {
 
 /* ---- The library's own memory. */
 
+#define PAGE 4096
+
 #define PRIVATE_BYTES (UINT64_C(8) << 30)
 #define PRIVATE_LEAST (UINT64_C(1) << 20)
 
 static char *private_from;
 static uint64_t private_room, private_used, private_used_above;
 
-/* So much of each mapping is what every program uses. The system makes these pages in one go, which is cheaper than one by one. */
-#define USED_PRIVATE 16384
-#define USED_OF_FILE 12288
+/* So much is what every program uses of the file, and of the library's variables from the life page on. The system makes these pages in one go,
+   which is cheaper than one by one. */
+#define USED_OF_FILE 8192
+#define USED_OF_VARIABLES 20480
+
+static bool advise(void *from, uint64_t bytes, int what) { return SYSTEM(madvise, from, bytes, what) == 0; }
 
 #ifdef MADV_POPULATE_WRITE
-static void populate(void *from, uint64_t bytes, uint64_t room) { madvise(from, least(bytes, room), MADV_POPULATE_WRITE); }
+static void populate(void *from, uint64_t bytes, uint64_t room) { advise(from, least(bytes, room), MADV_POPULATE_WRITE); }
 #else
 static void populate(void *from, uint64_t bytes, uint64_t room) { (void)from, (void)bytes, (void)room; }
 #endif
@@ -164,20 +176,37 @@ static void map_private(void) {
         void *p = map_own(bytes, MAP_PRIVATE | MAP_ANONYMOUS | MAP_NORESERVE, -1);
         if (p == MAP_FAILED)
             continue;
-        madvise(p, bytes, MADV_DONTDUMP);
-        madvise(p, bytes, MADV_NOHUGEPAGE); /* else the first use of it takes two megabytes */
-        populate(p, USED_PRIVATE, bytes);
+        advise(p, bytes, MADV_DONTDUMP);
+        advise(p, bytes, MADV_NOHUGEPAGE); /* else the first use of it takes two megabytes */
         private_from = p;
         private_room = bytes;
         return;
     }
 }
 
-/* What is large comes from the end, so that what is small lies close together at the beginning. */
+/* What is large comes from the end, so that what is small lies close together at the beginning. The first of it lies among the library's
+   variables, so that a small program doesn't use the mapping at all. */
 #define MUCH 16384
+/* A linker puts what is aligned most first, so this lies between what is LARGE and the small variables. */
+#define NEARBY 12288
+static char nearby[NEARBY] __attribute__((aligned(2048)));
+static uint64_t nearby_used;
+
+/* Of what lies nearby, the first whole page. */
+static void *life_page(void) { return (void *)(((uintptr_t)nearby + PAGE - 1) & ~(uintptr_t)(PAGE - 1)); }
+
+static void *take_nearby(size_t bytes) {
+    if (bytes > NEARBY || LOAD(&nearby_used) > NEARBY - bytes)
+        return NULL;
+    uint64_t from = ADD(&nearby_used, bytes);
+    return from <= NEARBY - bytes ? nearby + from : NULL;
+}
 
 void *take_private(size_t bytes) {
     bytes = rounded(bytes, 64);
+    void *near = bytes <= MUCH ? take_nearby(bytes) : NULL;
+    if (near)
+        return near;
     if (LOAD(&private_used) + LOAD(&private_used_above) + bytes > private_room)
         return NULL;
     bool is_much = bytes > MUCH;
@@ -199,8 +228,8 @@ static struct raw_arena *map_file(int file) {
         void *p = map_own(bytes, MAP_SHARED | MAP_NORESERVE, file);
         if (p == MAP_FAILED)
             continue;
-        madvise(p, bytes, MADV_DONTDUMP);
-        madvise(p, bytes, MADV_RANDOM); /* else the system fills the holes around each page that is written */
+        advise(p, bytes, MADV_DONTDUMP);
+        advise(p, bytes, MADV_RANDOM); /* else the system fills the holes around each page that is written */
         populate(p, USED_OF_FILE, bytes);
         share_out(p, bytes);
         return p;
@@ -210,22 +239,40 @@ static struct raw_arena *map_file(int file) {
 
 #define MOST_PROGRAMS 100000 /* that one process runs, one after the other */
 
+static void put_file_name(char *path, const char *folder, unsigned n) {
+    char *end = put_text(path, folder, SIZE_MAX);
+    *end++ = '/';
+    end = put_number(end, (unsigned)SYSTEM(getpid));
+    *end++ = '-';
+    put_text(put_number(end, n), ".arena", SIZE_MAX);
+}
+
+/* Whatever the program's mask for new files says. */
+static void set_rights(int file) {
+#ifdef SYS_fstat
+    struct stat about;
+    if (SYSTEM(fstat, file, &about) == 0 && (about.st_mode & 07777) == 0644)
+        return;
+#endif
+    fchmod(file, 0644);
+}
+
 /* Makes the process's file. The name has the process's number, and how many programs that process has run before. Without memory of
    its own the library can't use it, and says so by the file that it leaves. */
 static struct raw_arena *make_file(const char *folder) {
-    char path[4096];
+    char path[length_of(folder) + 64];
     int file = -1;
     for (unsigned n = 0; n < MOST_PROGRAMS; n++) {
-        snprintf(path, sizeof path, "%s/%d-%u.arena", folder, (int)getpid(), n);
-        file = open(path, O_RDWR | O_CREAT | O_EXCL | O_CLOEXEC, 0644);
+        put_file_name(path, folder, n);
+        file = (int)SYSTEM(openat, AT_FDCWD, path, O_RDWR | O_CREAT | O_EXCL | O_CLOEXEC, 0644);
         if (file >= 0 || errno != EEXIST)
             break;
     }
     struct raw_arena *made = NULL;
     if (file >= 0) {
-        fchmod(file, 0644);
+        set_rights(file);
         made = private_from ? map_file(file) : NULL;
-        close(file);
+        SYSTEM(close, file);
         if (!made)
             unlink(path);
     }
@@ -242,19 +289,14 @@ static void note_process(uint32_t parent) {
         return;
     struct raw_process *process = part_of(RAW_PROCESSES, own_process);
     process->parent = parent;
-    STORE(&process->id, (uint32_t)getpid());
+    STORE(&process->id, (uint32_t)SYSTEM(getpid));
 }
 
-#define PAGE 4096
-
+/* A system that can't make the page empty in a child has to have a handler of forks called there, before the program's own ones. */
 static void begin_life(void) {
-    void *page = map_own(PAGE, MAP_PRIVATE | MAP_ANONYMOUS, -1);
-    if (page == MAP_FAILED) {
-        alive = &always_alive;
-        return;
-    }
-    madvise(page, PAGE, MADV_WIPEONFORK);
-    alive = page;
+    if (!advise(life_page(), PAGE, MADV_WIPEONFORK))
+        pthread_atfork(NULL, NULL, begin_in_fork);
+    alive = life_page();
     *alive = 1;
 }
 
@@ -265,7 +307,7 @@ static void after_fork_in_child(void) {
     begin_threads();
 }
 
-/* In a child that was forked without the C library's knowledge. */
+/* In a child that was forked without our knowledge. */
 bool revived(void) {
     if (!arena || alive == &not_alive)
         return false;
@@ -273,39 +315,48 @@ bool revived(void) {
     return true;
 }
 
-static void begin(void) {
-    const char *folder = getenv("LOCKDEP_RECORD");
-    if (!folder || !folder[0] || strlen(folder) + 64 > 4096)
+/* In a child, unless one of the program's own handlers of forks has taken a lock before. */
+void begin_in_fork(void) {
+    if (alive == &not_alive)
         return;
+    struct raw_process *process = own_process ? part_of(RAW_PROCESSES, own_process) : NULL;
+    if (!process || process->id != (uint32_t)SYSTEM(getpid))
+        after_fork_in_child();
+}
+
+static void begin(void) {
+    const char *folder = variable("LOCKDEP_RECORD");
+    if (!folder || !folder[0] || length_of(folder) + 64 > 4096)
+        return;
+    nearby_used = (uint64_t)((char *)life_page() + PAGE - nearby);
+    populate(life_page(), USED_OF_VARIABLES, USED_OF_VARIABLES);
     map_private();
     struct raw_arena *made = make_file(folder);
     if (!made)
         return;
     struct timespec now;
-    clock_gettime(CLOCK_REALTIME, &now);
+    SYSTEM(clock_gettime, CLOCK_REALTIME, &now);
     made->started = (uint64_t)now.tv_sec * 1000000000 + (uint64_t)now.tv_nsec;
     arena = made;
-    touch_rules();
-    touch_places();
     note_process(0);
     note_modules();
     begin_threads();
-    pthread_atfork(NULL, NULL, after_fork_in_child);
     begin_life();
     STORE(&made->magic, RAW_MAGIC);
 }
 
-static int begin_state; /* 0 not begun, 1 under way, 2 done */
+/* It isn't 0, so that it lies in the page that the loader has written already: the others aren't there yet. */
+int begin_state = BEGIN_NOT;
 
 /* Whoever comes first begins. A call that comes meanwhile isn't recorded. */
-void begin_once(void) {
-    int state = 0;
-    if (LIKELY(LOAD(&begin_state) == 2) || !SWAP(&begin_state, &state, 1))
+void begin_now(void) {
+    int state = BEGIN_NOT;
+    if (!SWAP(&begin_state, &state, BEGIN_UNDER_WAY))
         return;
     int saved = errno;
     busy = true;
     begin();
     busy = false;
     errno = saved;
-    STORE(&begin_state, 2);
+    STORE(&begin_state, BEGIN_DONE);
 }

@@ -20,16 +20,14 @@
     X(pthread_cond_clockwait) X(mtx_init) X(mtx_destroy) X(mtx_lock) X(mtx_timedlock) X(mtx_trylock) X(mtx_unlock)        \
     X(cnd_wait) X(cnd_timedwait) X(pthread_create)
 
-#define DECLARE(name) static __typeof__(&name) real_##name;
-REALS(DECLARE)
+REALS(KNOWN_REAL)
 
 static int resolve_state; /* 0 not begun, 1 under way, 2 done */
 /* Volatile, since the C library declares its functions as if none of them could call us. */
 static EARLY_THREAD_LOCAL volatile bool resolving;
 
-#define FIND(name) real_##name = (__typeof__(&name))find_next(#name);
-
-/* Whether the real functions are known. The look-up itself may call malloc, and a malloc of the program's own may
+/* Whether the real functions can be found when they are called. Where that takes more than a look at what the libraries have, all are
+   looked for at once, since the loader's lock may not be waited for later. That may call malloc, and a malloc of the program's own may
    lock: such a call of the thread that looks them up does nothing. Others wait. */
 static bool look_up(void) {
     if (resolving)
@@ -37,7 +35,9 @@ static bool look_up(void) {
     int state = 0;
     if (SWAP(&resolve_state, &state, 1)) {
         resolving = true;
-        REALS(FIND)
+        if (!finds_quickly()) {
+            REALS(FIND_REAL)
+        }
         resolving = false;
         STORE(&resolve_state, 2);
         begin_once();
@@ -60,7 +60,7 @@ static inline bool took(int answer) { return answer == 0 || answer == EOWNERDEAD
     EXPORT int name parameters {                                                                                       \
         if (!resolved())                                                                                               \
             return 0;                                                                                                  \
-        int answer = real_##name arguments;                                                                            \
+        int answer = REAL(name) arguments;                                                                             \
         tried((uintptr_t)lock, !took(answer));                                                                         \
         if (took(answer))                                                                                              \
             acquired((uintptr_t)lock, mode, IS_EXCLUSIVE(lock), HERE);                                                 \
@@ -73,14 +73,14 @@ static inline bool took(int answer) { return answer == 0 || answer == EOWNERDEAD
     EXPORT int name parameters {                                                                                       \
         if (!resolved())                                                                                               \
             return 0;                                                                                                  \
-        int answer = is_sound ? real_##try(lock) : taken;                                                              \
+        int answer = is_sound ? REAL(try)(lock) : taken;                                                               \
         if (answer != taken) {                                                                                         \
             if (took(answer))                                                                                          \
                 acquired((uintptr_t)lock, mode, IS_EXCLUSIVE(lock), HERE);                                             \
             return answer;                                                                                             \
         }                                                                                                              \
         bool is_wish = begin_wish((uintptr_t)lock, mode, HERE);                                                        \
-        answer = real_##name arguments;                                                                                \
+        answer = REAL(name) arguments;                                                                                 \
         if (is_wish)                                                                                                   \
             end_wish((uintptr_t)lock, took(answer), HERE);                                                             \
         return answer;                                                                                                 \
@@ -95,14 +95,14 @@ static inline bool took(int answer) { return answer == 0 || answer == EOWNERDEAD
         if (!resolved())                                                                                               \
             return 0;                                                                                                  \
         releasing((uintptr_t)lock, HERE);                                                                              \
-        return real_##name(lock);                                                                                      \
+        return REAL(name)(lock);                                                                                       \
     }
 
 #define DESTROYING(name, type)                                                                                         \
     EXPORT int name(type *lock) {                                                                                      \
         if (!resolved())                                                                                               \
             return 0;                                                                                                  \
-        int answer = real_##name(lock);                                                                                \
+        int answer = REAL(name)(lock);                                                                                 \
         if (answer == 0)                                                                                               \
             destroyed((uintptr_t)lock);                                                                                \
         return answer;                                                                                                 \
@@ -112,7 +112,7 @@ static inline bool took(int answer) { return answer == 0 || answer == EOWNERDEAD
     EXPORT int name(type *lock, parameter) {                                                                           \
         if (!resolved())                                                                                               \
             return 0;                                                                                                  \
-        int answer = real_##name(lock, argument);                                                                      \
+        int answer = REAL(name)(lock, argument);                                                                       \
         if (answer == 0)                                                                                               \
             initialised((uintptr_t)lock, HERE);                                                                        \
         return answer;                                                                                                 \
@@ -157,7 +157,7 @@ RELEASING(pthread_spin_unlock, pthread_spinlock_t volatile)
 EXPORT int mtx_init(mtx_t *lock, int kind) {
     if (!resolved())
         return thrd_success;
-    int answer = real_mtx_init(lock, kind);
+    int answer = REAL(mtx_init)(lock, kind);
     if (answer == thrd_success)
         initialised((uintptr_t)lock, HERE);
     return answer;
@@ -166,7 +166,7 @@ EXPORT int mtx_init(mtx_t *lock, int kind) {
 EXPORT void mtx_destroy(mtx_t *lock) {
     if (!resolved())
         return;
-    real_mtx_destroy(lock);
+    REAL(mtx_destroy)(lock);
     destroyed((uintptr_t)lock);
 }
 
@@ -203,7 +203,7 @@ static void end_wait(void *value) {
         int answer;                                                                                                    \
         begin_wait(&w);                                                                                                \
         pthread_cleanup_push(end_wait, &w);                                                                            \
-        answer = real_##name arguments;                                                                                \
+        answer = REAL(name) arguments;                                                                                 \
         pthread_cleanup_pop(1);                                                                                        \
         return answer;                                                                                                 \
     }
@@ -221,7 +221,7 @@ EXPORT int pthread_create(pthread_t *thread, const pthread_attr_t *how, void *(*
         return EAGAIN;
     if (is_recording())
         note_frames(HERE);
-    return real_pthread_create(thread, how, run, with);
+    return REAL(pthread_create)(thread, how, run, with);
 }
 
 /* ---- Names that older programs know some of these by. */

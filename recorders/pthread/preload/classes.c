@@ -43,7 +43,10 @@ uint32_t place_of(const struct stack *stack) {
 }
 
 uint32_t place_of_caller(uintptr_t caller) {
-    struct stack stack = {.count = 1, .callers = {caller}};
+    struct stack stack;
+    stack.element = 0;
+    stack.count = 1;
+    stack.callers[0] = caller;
     return place_of(&stack);
 }
 
@@ -51,7 +54,7 @@ uint32_t place_of_caller(uintptr_t caller) {
    found, it is the same. The sum of all of it tells a reader that comes while it is written. */
 
 #define MEMOS 1024
-#define FIRST_MEMOS 16
+#define FIRST_MEMOS 8
 
 struct memo {
     uintptr_t caller, frame;
@@ -61,7 +64,7 @@ struct memo {
     uintptr_t callers[RAW_FRAMES];
 };
 
-static struct memo memos[MEMOS] LARGE;
+TABLE(struct memo, memos, FIRST_MEMOS, MEMOS);
 static uint32_t memos_in_use = FIRST_MEMOS, memos_made; /* as with the rules of stacks */
 
 static uint64_t sum_start(struct call call, uint32_t count, uint32_t place) {
@@ -92,6 +95,7 @@ static void remember(struct memo *memo, const struct stack *stack, struct call c
     memo->frame = call.frame;
     memo->place = place;
     for (uint32_t i = 1; i < stack->count; i++) {
+        AS_WRITTEN;
         memo->at[i] = stack->at[i];
         memo->callers[i] = stack->callers[i];
         sum += stack->callers[i] ^ (uint64_t)stack->at[i] << 32;
@@ -101,8 +105,8 @@ static void remember(struct memo *memo, const struct stack *stack, struct call c
 }
 
 uint32_t place_of_call(struct call call, uint32_t most) {
-    uint64_t which = call.caller ^ call.caller >> 10 ^ call.frame >> 3;
-    struct memo *memo = &memos[which & (__atomic_load_n(&memos_in_use, __ATOMIC_RELAXED) - 1)];
+    uint64_t which = (call.caller ^ call.caller >> 10 ^ call.frame >> 3) & (__atomic_load_n(&memos_in_use, __ATOMIC_RELAXED) - 1);
+    struct memo *memo = NTH(memos, which);
     if (LIKELY(is_same_stack(memo, call, most)))
         return memo->place;
     struct stack stack;
@@ -136,24 +140,18 @@ static uint32_t place_here(struct call call) {
 
 /* ---- What the library keeps of each class and of each object, in blocks that are made when they are needed. */
 
-#define CLASS_BLOCK 8
-#define CLASS_BLOCKS 8192
-#define OBJECT_BLOCK 256
-#define OBJECT_BLOCKS 16384
+#define CLASS_BLOCK 4
+#define CLASS_BLOCKS 16384
+#define OBJECT_BLOCK 64
+#define OBJECT_BLOCKS 65536
 
 struct kept_of_class {
     uint32_t alive; /* a bit for each ordinal, 1 being the lowest */
     uint32_t objects[RAW_APART + 1];
 };
 
-static struct kept_of_class *class_blocks[CLASS_BLOCKS] LARGE;
-static uint32_t *object_blocks[OBJECT_BLOCKS] LARGE;
-
-void touch_places(void) {
-    touch(memos);
-    touch(class_blocks);
-    touch(object_blocks);
-}
+TABLE(struct kept_of_class *, class_blocks, 8, CLASS_BLOCKS);
+TABLE(uint32_t *, object_blocks, 8, OBJECT_BLOCKS);
 
 static void *block_at(void **at, size_t bytes) {
     void *block = LOAD(at);
@@ -164,13 +162,15 @@ static void *block_at(void **at, size_t bytes) {
 }
 
 static struct kept_of_class *kept_of(uint32_t class) {
-    struct kept_of_class *block = block_at((void **)&class_blocks[class / CLASS_BLOCK % CLASS_BLOCKS], sizeof *block * CLASS_BLOCK);
+    uint32_t which = class / CLASS_BLOCK % CLASS_BLOCKS;
+    struct kept_of_class *block = block_at((void **)NTH(class_blocks, which), sizeof *block * CLASS_BLOCK);
     return block ? &block[class % CLASS_BLOCK] : NULL;
 }
 
 /* How often the object was released by somebody who wasn't seen to hold it. */
 uint32_t *foreign_releases(uint32_t object) {
-    uint32_t *block = block_at((void **)&object_blocks[object / OBJECT_BLOCK % OBJECT_BLOCKS], sizeof *block * OBJECT_BLOCK);
+    uint32_t which = object / OBJECT_BLOCK % OBJECT_BLOCKS;
+    uint32_t *block = block_at((void **)NTH(object_blocks, which), sizeof *block * OBJECT_BLOCK);
     return block ? &block[object % OBJECT_BLOCK] : NULL;
 }
 
@@ -186,13 +186,18 @@ static uint64_t class_key(const struct raw_class *c) {
    it has brought nothing new for so long. */
 #define MOST_CLASSES 65536
 #define LOOKS 255
-static uint8_t looks_left[MOST_CLASSES] LARGE;
+TABLE(uint8_t, looks_left, 64, MOST_CLASSES);
+
+static uint8_t *looks_of(uint32_t class) {
+    uint32_t which = class % MOST_CLASSES;
+    return NTH(looks_left, which);
+}
 
 static uint32_t define_class(const struct raw_class *new) {
     uint32_t number = take_part(RAW_CLASSES);
     if (!number)
         return 0;
-    looks_left[number % MOST_CLASSES] = new->kind == CLASS_HEAP ? LOOKS : 0;
+    *looks_of(number) = new->kind == CLASS_HEAP ? LOOKS : 0;
     struct raw_class *class = part_of(RAW_CLASSES, number);
     class->place = new->place;
     class->word = new->word;
@@ -245,7 +250,7 @@ static void note_take(uint32_t class, uint32_t place) {
     uint32_t *slot = added_slot(&takes, mixed((uint64_t)class << 32 | place)), none = 0;
     if (!slot || LOAD(slot) || !SWAP(slot, &none, 1))
         return;
-    looks_left[class % MOST_CLASSES] = LOOKS;
+    *looks_of(class) = LOOKS;
     uint32_t number = take_part(RAW_TAKES);
     if (!number)
         return;
@@ -255,7 +260,7 @@ static void note_take(uint32_t class, uint32_t place) {
 }
 
 void look_at_taker(uint32_t class, struct call call) {
-    uint8_t *left = &looks_left[class % MOST_CLASSES];
+    uint8_t *left = looks_of(class);
     if (LIKELY(!*left))
         return;
     (*left)--;

@@ -13,18 +13,8 @@
 #include <unistd.h>
 
 #define REALS(X) X(flock) X(fcntl) X(lockf) X(close) X(fclose)
-#define DECLARE(name) static __typeof__(&name) real_##name;
-REALS(DECLARE)
-
-#define FIND(name) STORE(&real_##name, (__typeof__(&name))find_next(#name));
-static void find_reals(void) {
-    if (RARELY(!LOAD(&real_fclose))) {
-        REALS(FIND)
-    }
-}
-
-/* At once, since the loader's lock may not be waited for later. */
-__attribute__((constructor)) static void at_start(void) { find_reals(); }
+REALS(KNOWN_REAL)
+FIND_AT_START(REALS)
 
 static int is_wanted;
 #define FILES is_asked(&is_wanted, "flock")
@@ -146,26 +136,25 @@ static int take_whole(int descriptor, int what, struct call call) {
     struct request r = {.lock = lock_of(descriptor, 0), .descriptor = descriptor, .is_write = (what & LOCK_EX) != 0,
                         .may_wait = !(what & LOCK_NB), .call = call};
     if (!r.lock)
-        return real_flock(descriptor, what);
+        return REAL(flock)(descriptor, what);
     begin_taking(r.lock, call);
-    int answer = real_flock(descriptor, what | LOCK_NB);
+    int answer = REAL(flock)(descriptor, what | LOCK_NB);
     if (!end_try(&r, answer == 0))
         return answer;
-    answer = real_flock(descriptor, what);
+    answer = REAL(flock)(descriptor, what);
     end_wait(&r, answer == 0);
     return answer;
 }
 
 EXPORT int flock(int descriptor, int what) {
-    find_reals();
     if (!FILES)
-        return real_flock(descriptor, what);
+        return REAL(flock)(descriptor, what);
     if (what & (LOCK_EX | LOCK_SH))
         return take_whole(descriptor, what, HERE);
     uint32_t file = held_here ? known_file_of(descriptor) : 0;
     if (file && what & LOCK_UN)
         give_up_between(file, 0, 1, descriptor, HERE);
-    return real_flock(descriptor, what);
+    return REAL(flock)(descriptor, what);
 }
 
 /* ---- fcntl and lockf. */
@@ -186,12 +175,12 @@ static int take_range(int descriptor, int command, struct flock *range, struct c
     struct request r = {.lock = lock_of(descriptor, start_of(descriptor, range)), .descriptor = is_own ? descriptor : ANY,
                         .is_write = range->l_type == F_WRLCK, .may_wait = command == F_SETLKW || command == F_OFD_SETLKW, .call = call};
     if (!r.lock)
-        return real_fcntl(descriptor, command, range);
+        return REAL(fcntl)(descriptor, command, range);
     begin_taking(r.lock, call);
-    int answer = real_fcntl(descriptor, is_own ? F_OFD_SETLK : F_SETLK, range);
+    int answer = REAL(fcntl)(descriptor, is_own ? F_OFD_SETLK : F_SETLK, range);
     if (!end_try(&r, answer == 0))
         return answer;
-    answer = real_fcntl(descriptor, command, range);
+    answer = REAL(fcntl)(descriptor, command, range);
     end_wait(&r, answer == 0);
     return answer;
 }
@@ -204,7 +193,7 @@ static int set_range(int descriptor, int command, struct flock *range, struct ca
         uint64_t from = start_of(descriptor, range);
         give_up_between(file, from, end_of(from, range), ANY, call);
     }
-    return real_fcntl(descriptor, command, range);
+    return REAL(fcntl)(descriptor, command, range);
 }
 
 static bool is_of_ranges(int command) {
@@ -218,10 +207,9 @@ static bool is_of_ranges(int command) {
         va_start(more, command);                                                                                       \
         void *with = va_arg(more, void *);                                                                             \
         va_end(more);                                                                                                  \
-        find_reals();                                                                                                  \
         if (RARELY(is_of_ranges(command) && with && FILES))                                                            \
             return set_range(descriptor, command, with, HERE);                                                         \
-        return real_fcntl(descriptor, command, with);                                                                  \
+        return REAL(fcntl)(descriptor, command, with);                                                                 \
     }
 
 CONTROLLING(fcntl)
@@ -230,14 +218,13 @@ CONTROLLING(fcntl64)
 static int lock_from_here(int descriptor, int what, off_t length, struct call call) {
     struct flock range = {.l_type = what == F_ULOCK ? F_UNLCK : F_WRLCK, .l_whence = SEEK_CUR, .l_len = length};
     if (what != F_LOCK && what != F_TLOCK && what != F_ULOCK)
-        return real_lockf(descriptor, what, length);
+        return REAL(lockf)(descriptor, what, length);
     return set_range(descriptor, what == F_LOCK ? F_SETLKW : F_SETLK, &range, call);
 }
 
 #define LOCKING(name)                                                                                                  \
     EXPORT int name(int descriptor, int what, off_t length) {                                                          \
-        find_reals();                                                                                                  \
-        return FILES ? lock_from_here(descriptor, what, length, HERE) : real_lockf(descriptor, what, length);          \
+        return FILES ? lock_from_here(descriptor, what, length, HERE) : REAL(lockf)(descriptor, what, length);         \
     }
 
 LOCKING(lockf)
@@ -252,15 +239,13 @@ static void give_up_closed(int descriptor, struct call call) {
 }
 
 EXPORT int close(int descriptor) {
-    find_reals();
     if (RARELY(held_here && FILES))
         give_up_closed(descriptor, HERE);
-    return real_close(descriptor);
+    return REAL(close)(descriptor);
 }
 
 EXPORT int fclose(FILE *stream) {
-    find_reals();
     if (RARELY(held_here && FILES))
         give_up_closed(fileno(stream), HERE);
-    return real_fclose(stream);
+    return REAL(fclose)(stream);
 }

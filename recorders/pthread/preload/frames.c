@@ -7,20 +7,23 @@
 #define NOTED 1024
 #define NOTED_AT_ONCE 32
 
-static struct span noted[NOTED] LARGE;
+TABLE(struct span, noted, 16, NOTED);
 static uint32_t noted_count;
 
 static bool is_noted(const struct span *span) {
     uint32_t count = LOAD(&noted_count);
-    for (uint32_t i = 0; i < count && i < NOTED; i++)
-        if (noted[i].from == span->from && noted[i].to == span->to && LOAD(&noted[i].function) == span->function)
+    for (uint32_t i = 0; i < count && i < NOTED; i++) {
+        const struct span *s = NTH(noted, i);
+        if (s->from == span->from && s->to == span->to && LOAD(&s->function) == span->function)
             return true;
+    }
     return false;
 }
 
 /* The function is written last, and cleared first if something older was there. */
 static void note(const struct span *span) {
-    struct span *to = &noted[ADD(&noted_count, 1) % NOTED];
+    uint32_t which = ADD(&noted_count, 1) % NOTED;
+    struct span *to = NTH(noted, which);
     STORE(&to->function, 0);
     to->from = span->from;
     to->to = span->to;
@@ -39,7 +42,8 @@ void note_frames(struct call call) {
 static bool find_noted(uintptr_t lock, struct span *span) {
     uint32_t count = LOAD(&noted_count);
     for (uint32_t i = 0; i < NOTED && i < count; i++) {
-        const struct span *s = &noted[(count - 1 - i) % NOTED];
+        uint32_t which = (count - 1 - i) % NOTED;
+        const struct span *s = NTH(noted, which);
         *span = (struct span){s->from, s->to, LOAD(&s->function)};
         if (span->function && lock >= span->from && lock < span->to && LOAD(&s->function) == span->function)
             return true;

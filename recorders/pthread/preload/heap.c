@@ -22,7 +22,7 @@ struct slot {
     uint64_t about;
 };
 
-static const uint32_t bits[LEVELS] = {4, 9, 13, 17, 20, 23}; /* of the number of lines */
+static const uint32_t bits[LEVELS] = {3, 9, 13, 17, 20, 23}; /* of the number of lines */
 static struct slot *levels[LEVELS];
 static int main_level_of_pieces;
 static uint64_t overflows;
@@ -49,20 +49,29 @@ static inline struct slot *line_of(struct slot *slots, int level, uintptr_t addr
     return &slots[block_line(address >> BLOCK_BITS, bits[level]) * WAYS];
 }
 
+/* An empty slot of the line, or NULL; it is taken. The piece's own one is taken without a look at it: if nothing was ever written
+   to its page, what is read first would have that made twice. */
+static inline struct slot *taken_slot(struct slot *line, uintptr_t address) {
+    struct slot *own = &line[own_way(address)];
+    uint64_t empty = 0;
+    if (LIKELY(SWAP(&own->address, &empty, 1)))
+        return own;
+    for (int i = 0; i < WAYS; i++) {
+        empty = __atomic_load_n(&line[i].address, __ATOMIC_RELAXED);
+        if (!empty && SWAP(&line[i].address, &empty, 1))
+            return &line[i];
+    }
+    return NULL;
+}
+
 static bool put_in_level(int level, uintptr_t address, uint64_t about) {
     struct slot *slots = level_at(level);
-    if (!slots)
+    struct slot *slot = slots ? taken_slot(line_of(slots, level, address), address) : NULL;
+    if (!slot)
         return false;
-    struct slot *line = line_of(slots, level, address);
-    for (int i = 0; i < WAYS; i++) {
-        uint64_t empty = __atomic_load_n(&line[i].address, __ATOMIC_RELAXED);
-        if (!empty && SWAP(&line[i].address, &empty, 1)) {
-            __atomic_store_n(&line[i].about, about, __ATOMIC_RELAXED);
-            STORE(&line[i].address, address);
-            return true;
-        }
-    }
-    return false;
+    __atomic_store_n(&slot->about, about, __ATOMIC_RELAXED);
+    STORE(&slot->address, address);
+    return true;
 }
 
 static void put_piece(uintptr_t address, uint64_t about) {
@@ -102,6 +111,9 @@ static struct slot *next_slot(uint64_t key, struct search *search) {
 }
 
 static inline struct slot *find_in_line(struct slot *line, uintptr_t address) {
+    struct slot *own = &line[own_way(address)];
+    if (LIKELY(__atomic_load_n(&own->address, __ATOMIC_RELAXED) == address))
+        return own;
     UNROLLED
     for (int i = 0; i < WAYS; i++)
         if (__atomic_load_n(&line[i].address, __ATOMIC_RELAXED) == address)
@@ -254,9 +266,11 @@ bool find_memory(uintptr_t lock, uint32_t *place, uint64_t *offset) {
 
 /* ---- The real functions. Looking them up may itself need memory, which comes from a few pages of our own. */
 
-#define REALS(X) X(malloc) X(calloc) X(realloc) X(free) X(memalign) X(aligned_alloc) X(posix_memalign)
+#define REALS(X) X(malloc) X(calloc) X(realloc) X(free)
+#define RARE_REALS(X) X(memalign) X(aligned_alloc) X(posix_memalign)
 #define DECLARE(name) static __typeof__(&name) real_##name;
 REALS(DECLARE)
+RARE_REALS(KNOWN_REAL)
 
 static int resolve_state; /* 0 not begun, 1 under way, 2 done */
 
@@ -280,6 +294,9 @@ static bool look_up(void) {
     int state = 0;
     if (SWAP(&resolve_state, &state, 1)) {
         REALS(FIND)
+        if (!finds_quickly()) {
+            RARE_REALS(FIND_REAL)
+        }
         STORE(&resolve_state, 2);
     }
     return LOAD(&resolve_state) == 2;
@@ -367,17 +384,17 @@ EXPORT void *reallocarray(void *piece, size_t count, size_t size) {
 }
 
 EXPORT void *memalign(size_t alignment, size_t size) {
-    return resolved() ? noted(real_memalign(alignment, size), size, HERE) : NULL;
+    return resolved() ? noted(REAL(memalign)(alignment, size), size, HERE) : NULL;
 }
 
 EXPORT void *aligned_alloc(size_t alignment, size_t size) {
-    return resolved() ? noted(real_aligned_alloc(alignment, size), size, HERE) : NULL;
+    return resolved() ? noted(REAL(aligned_alloc)(alignment, size), size, HERE) : NULL;
 }
 
 EXPORT int posix_memalign(void **piece, size_t alignment, size_t size) {
     if (!resolved())
         return ENOMEM;
-    int answer = real_posix_memalign(piece, alignment, size);
+    int answer = REAL(posix_memalign)(piece, alignment, size);
     if (answer == 0)
         noted(*piece, size, HERE);
     return answer;

@@ -12,22 +12,11 @@
 #include <unistd.h>
 
 #define REALS(X) X(mmap) X(munmap) X(mremap) X(shmat) X(shmdt)
-#define DECLARE(name) static __typeof__(&name) real_##name;
-REALS(DECLARE)
-
-#define FIND(name) STORE(&real_##name, (__typeof__(&name))find_next(#name));
-static void find_reals(void) {
-    if (RARELY(!LOAD(&real_shmdt))) {
-        REALS(FIND)
-    }
-}
-
-/* At once, since the loader's lock may not be waited for later. */
-__attribute__((constructor)) static void at_start(void) { find_reals(); }
+REALS(KNOWN_REAL)
+FIND_AT_START(REALS)
 
 void *map_own(size_t bytes, int how, int file) {
-    find_reals();
-    return real_mmap(NULL, bytes, PROT_READ | PROT_WRITE, how, file, 0);
+    return REAL(mmap)(NULL, bytes, PROT_READ | PROT_WRITE, how, file, 0);
 }
 
 /* ---- Files. */
@@ -184,8 +173,7 @@ static void end_note(int saved) {
 }
 
 static void *mapped(void *at, size_t bytes, int rights, int how, int file, off_t offset, struct call call) {
-    find_reals();
-    void *made = real_mmap(at, bytes, rights, how, file, offset);
+    void *made = REAL(mmap)(at, bytes, rights, how, file, offset);
     int saved = errno;
     if (made != MAP_FAILED && begin_note()) {
         note_mapped(made, whole_pages(bytes), rights, how, file, (uint64_t)offset, call);
@@ -204,12 +192,11 @@ EXPORT void *mmap64(void *at, size_t bytes, int rights, int how, int file, off64
 
 /* What is unmapped is forgotten first, since the memory may be another thread's at once. */
 EXPORT int munmap(void *from, size_t bytes) {
-    find_reals();
     if (begin_note()) {
         forget_mapped((uintptr_t)from, whole_pages(bytes));
         end_note(errno);
     }
-    return real_munmap(from, bytes);
+    return REAL(munmap)(from, bytes);
 }
 
 /* The locks in memory that is moved are known anew when they are taken next; shared memory stays what it is. */
@@ -232,8 +219,7 @@ EXPORT void *mremap(void *from, size_t had, size_t bytes, int how, ...) {
     va_start(more, how);
     void *to = how & MREMAP_FIXED ? va_arg(more, void *) : NULL;
     va_end(more);
-    find_reals();
-    void *made = real_mremap(from, had, bytes, how, to);
+    void *made = REAL(mremap)(from, had, bytes, how, to);
     int saved = errno;
     if (made != MAP_FAILED && begin_note()) {
         note_moved((uintptr_t)from, whole_pages(had), (uintptr_t)made, whole_pages(bytes), HERE);
@@ -243,8 +229,7 @@ EXPORT void *mremap(void *from, size_t had, size_t bytes, int how, ...) {
 }
 
 EXPORT void *shmat(int number, const void *at, int how) {
-    find_reals();
-    void *made = real_shmat(number, at, how);
+    void *made = REAL(shmat)(number, at, how);
     int saved = errno;
     struct shmid_ds about;
     if (made != (void *)-1 && begin_note()) {
@@ -264,11 +249,10 @@ static uintptr_t region_end(uintptr_t from) {
 }
 
 EXPORT int shmdt(const void *from) {
-    find_reals();
     uintptr_t end = region_end((uintptr_t)from);
     if (end > (uintptr_t)from && begin_note()) {
         forget_mapped((uintptr_t)from, end - (uintptr_t)from);
         end_note(errno);
     }
-    return real_shmdt(from);
+    return REAL(shmdt)(from);
 }

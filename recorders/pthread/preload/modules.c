@@ -5,10 +5,9 @@
 #include <dlfcn.h>
 #include <elf.h>
 #include <errno.h>
-#include <limits.h>
+#include <fcntl.h>
 #include <link.h>
-#include <stdio.h>
-#include <string.h>
+#include <sys/syscall.h>
 #include <unistd.h>
 
 #ifdef __GLIBC_PREREQ
@@ -17,15 +16,15 @@
 #endif
 #endif
 
-#define MODULES 8192
-static struct module modules[MODULES] LARGE;
-static uint32_t module_count, module_count_at_start;
+static struct module *modules;
+static bool is_started; /* those that were there at the start are known */
+
+#define EACH_MODULE(m) for (struct module *m = LOAD(&modules); m; m = LOAD(&m->next))
 
 const struct module *known_module(uintptr_t address) {
-    uint32_t count = LOAD(&module_count);
-    for (uint32_t i = 0; i < count && i < MODULES; i++)
-        if (address >= modules[i].from && address < modules[i].to && LOAD(&modules[i].is_ready) && !LOAD(&modules[i].is_gone))
-            return &modules[i];
+    EACH_MODULE(m)
+        if (address >= m->from && address < m->to && !LOAD(&m->is_gone))
+            return m;
     return NULL;
 }
 
@@ -33,34 +32,40 @@ static const char *recorded_path(const struct module *m) {
     return ((struct raw_module *)part_of(RAW_MODULES, m->number))->path;
 }
 
+static bool has_slash(const char *name) {
+    while (*name && *name != '/')
+        name++;
+    return *name;
+}
+
 /* The path from the root, as far as there is room. The program itself has no name among the loader's. */
 static void put_path(char *path, const char *name) {
     path[0] = 0;
     if (!name[0]) {
-        ssize_t length = readlink("/proc/self/exe", path, RAW_PATH);
+        long length = SYSTEM(readlinkat, AT_FDCWD, "/proc/self/exe", path, RAW_PATH);
         path[length > 0 ? length : 0] = 0;
         return;
     }
-    if (name[0] != '/' && strchr(name, '/') && getcwd(path, RAW_PATH - 1))
-        strcat(path, "/");
-    size_t length = strlen(path);
-    snprintf(path + length, RAW_PATH - length, "%s", name);
+    char *to = path;
+    if (name[0] != '/' && has_slash(name) && getcwd(path, RAW_PATH - 1))
+        to = put_text(path + length_of(path), "/", 1);
+    put_text(to, name, RAW_PATH - 1 - (size_t)(to - path));
 }
 
+/* They are linked in the order in which they are found: the program comes first. */
 static void add_module(const struct module *new, const char *path) {
-    uint32_t number = take_part(RAW_MODULES);
+    struct module *m = take_private(sizeof *m), **end = &modules, *there = NULL;
+    uint32_t number = m ? take_part(RAW_MODULES) : 0;
     if (!number)
         return;
     struct raw_module *raw = part_of(RAW_MODULES, number);
     raw->process = own_process;
-    memcpy(raw->path, path, RAW_PATH);
+    put_text(raw->path, path, RAW_PATH);
     STORE(&raw->is_ready, 1);
-    uint32_t i = ADD(&module_count, 1);
-    if (i >= MODULES)
-        return;
-    modules[i] = *new;
-    modules[i].number = number;
-    STORE(&modules[i].is_ready, true);
+    *m = *new;
+    m->number = number;
+    for (; !SWAP(end, &there, m); there = NULL)
+        end = &there->next;
 }
 
 /* Notes a module. One that was closed and lies at the same place again is known already. */
@@ -68,14 +73,13 @@ static void note_module(const struct module *new, const char *name) {
     const struct module *there = known_module(new->from);
     if (there && there->bias == new->bias && there->to == new->to)
         return;
-    char path[RAW_PATH + PATH_MAX];
+    char path[RAW_PATH + 4];
     int saved = errno;
     put_path(path, name);
     errno = saved;
-    for (uint32_t i = 0; i < LOAD(&module_count) && i < MODULES; i++)
-        if (LOAD(&modules[i].is_gone) && modules[i].from == new->from && modules[i].to == new->to &&
-            strcmp(recorded_path(&modules[i]), path) == 0) {
-            STORE(&modules[i].is_gone, false);
+    EACH_MODULE(m)
+        if (LOAD(&m->is_gone) && m->from == new->from && m->to == new->to && is_same_text(recorded_path(m), path)) {
+            STORE(&m->is_gone, false);
             return;
         }
     add_module(new, path);
@@ -87,7 +91,7 @@ static struct module module_told(const struct dl_phdr_info *info) {
     for (int i = 0; i < info->dlpi_phnum; i++) {
         const ElfW(Phdr) *part = &info->dlpi_phdr[i];
         uintptr_t from = info->dlpi_addr + part->p_vaddr, to = from + part->p_memsz;
-        if (part->p_type == PT_TLS && info->dlpi_tls_data && !LOAD(&module_count_at_start)) {
+        if (part->p_type == PT_TLS && info->dlpi_tls_data && !LOAD(&is_started)) {
             m.own_from = (uintptr_t)info->dlpi_tls_data - (uintptr_t)__builtin_thread_pointer();
             m.own_bytes = part->p_memsz;
         }
@@ -112,14 +116,14 @@ static int note_told(struct dl_phdr_info *info, size_t size, void *unused) {
 /* At the start: what is loaded then has its thread-local part at the same distance from the pointer of each thread. */
 void note_modules(void) {
     dl_iterate_phdr(note_told, NULL);
-    STORE(&module_count_at_start, LOAD(&module_count));
+    STORE(&is_started, true);
 }
 
 /* The thread-local lock that is so far from the thread pointer, as a module and an offset in its thread-local part. */
 bool own_part_word(intptr_t from_pointer, uint64_t *word) {
-    for (uint32_t i = 0; i < LOAD(&module_count_at_start) && i < MODULES; i++)
-        if ((uintptr_t)from_pointer - modules[i].own_from < modules[i].own_bytes) {
-            *word = raw_word(modules[i].number, (uintptr_t)from_pointer - modules[i].own_from);
+    EACH_MODULE(m)
+        if ((uintptr_t)from_pointer - m->own_from < m->own_bytes) {
+            *word = raw_word(m->number, (uintptr_t)from_pointer - m->own_from);
             return true;
         }
     return false;
@@ -194,9 +198,8 @@ uint64_t word_of(uintptr_t address) {
 /* What was known of addresses in a library that is closed isn't known any more, since another may come to lie there. */
 void forget_closed_modules(void) {
     bool is_any = false;
-    for (uint32_t i = 0; i < LOAD(&module_count) && i < MODULES; i++) {
-        struct module *m = &modules[i];
-        if (!LOAD(&m->is_ready) || LOAD(&m->is_gone) || is_mapped(m))
+    EACH_MODULE(m) {
+        if (LOAD(&m->is_gone) || is_mapped(m))
             continue;
         STORE(&m->is_gone, true);
         forget_locks_between(m->from, m->to);
@@ -209,8 +212,8 @@ void forget_closed_modules(void) {
 }
 
 bool is_gone(uint32_t number) {
-    for (uint32_t i = 0; i < LOAD(&module_count) && i < MODULES; i++)
-        if (modules[i].number == number)
-            return LOAD(&modules[i].is_gone);
+    EACH_MODULE(m)
+        if (m->number == number)
+            return LOAD(&m->is_gone);
     return false;
 }

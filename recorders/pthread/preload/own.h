@@ -4,7 +4,7 @@
    - No descriptor is kept. After a thread's start no system call is made for recording, apart from what dlopen and dlclose bring.
    - No lock is taken. What threads share is changed by single atomic operations, so a signal handler that jumps away, a fork, or
      a thread that dies leaves nothing locked.
-   - No memory is taken from malloc. The library's own comes from one mapping that is made at the start.
+   - No memory is taken from malloc. The library's own is among its variables, and in one mapping that is made at the start.
    - A signal handler that interrupts the recorder and takes a lock is passed through and counted.
    - errno is left as it was. */
 #ifndef LOCKDEP_OWN_H
@@ -24,10 +24,17 @@
 #define EXPORT __attribute__((visibility("default")))
 #define LIKELY(x) __builtin_expect(!!(x), 1)
 #define RARELY(x) __builtin_expect(!!(x), 0)
-/* Of an array of which mostly only the beginning is used. It has pages of its own, so that what every program uses lies close together:
-   the first use of each page is dear for a program that lives for half a millisecond. */
+/* Of an array that most programs don't use. It has pages of its own, so that what every program uses lies close together: the first use
+   of each page is dear for a program that lives for half a millisecond. */
 #define LARGE __attribute__((aligned(4096)))
+/* An array of which mostly only the first entries are used: these lie apart, close to what else every program uses. */
+#define TABLE(type, name, first, all)                                                                                  \
+    static type name##_first[first];                                                                                   \
+    static type name##_rest[all] LARGE
+#define NTH(name, i) (LIKELY((i) < sizeof name##_first / sizeof *name##_first) ? &name##_first[i] : &name##_rest[i])
 #define UNROLLED _Pragma("GCC unroll 8")
+/* Keeps a loop from being made a call of the C library's, which would have to be found first. */
+#define AS_WRITTEN __asm__ volatile("")
 #define EARLY_THREAD_LOCAL __thread __attribute__((tls_model("initial-exec")))
 
 #define LOAD(at) __atomic_load_n(at, __ATOMIC_ACQUIRE)
@@ -38,6 +45,19 @@
 #define SWAP(at, expected, value)                                                                                      \
     __atomic_compare_exchange_n(at, expected, value, false, __ATOMIC_ACQ_REL, __ATOMIC_ACQUIRE)
 
+/* A system call. The C library has a function for each of these, but it looks for each one when it is called first, and has it in a page
+   that isn't there yet: one for all is cheaper at a program's start. */
+#define SYSTEM(name, ...) syscall(SYS_##name, ##__VA_ARGS__)
+
+/* ---- texts.c: of the C library's it is the same. */
+
+size_t length_of(const char *text);
+bool is_same_text(const char *a, const char *b);
+bool has_text(const char *in, const char *text); /* anywhere */
+char *put_text(char *to, const char *text, size_t most); /* with a zero behind it, to which it returns a pointer */
+char *put_number(char *to, unsigned number);
+const char *variable(const char *name); /* of the environment */
+
 /* ---- arena.c */
 
 extern struct raw_arena *arena; /* NULL if nothing is recorded */
@@ -46,8 +66,15 @@ extern uint32_t own_process;    /* the number of this process in it */
 /* Not 0 while this process is recorded. The system makes it 0 in a child, whichever way it was forked. */
 extern volatile uint32_t *alive;
 bool revived(void); /* whether the process is recorded after all */
+void begin_in_fork(void);
 
-void begin_once(void);
+enum begin_state { BEGIN_NOT = 1, BEGIN_UNDER_WAY, BEGIN_DONE };
+extern int begin_state;
+void begin_now(void);
+static inline void begin_once(void) {
+    if (RARELY(LOAD(&begin_state) != BEGIN_DONE))
+        begin_now();
+}
 uint32_t take_part(enum raw_kind kind); /* the number of a new part, or 0 */
 static inline void *part_of(enum raw_kind kind, uint32_t number) {
     return (char *)arena + raw_at(&arena->regions[kind], kind, number);
@@ -55,10 +82,6 @@ static inline void *part_of(enum raw_kind kind, uint32_t number) {
 struct raw_record *take_chunk(uint32_t chunk);
 void *take_private(size_t bytes); /* zeroed memory that is never given back, or NULL */
 
-/* What is read before it is written would have its page made twice. */
-static inline void touch(volatile void *at) { *(volatile char *)at = 0; }
-void touch_rules(void);
-void touch_places(void);
 
 /* ---- tables.c */
 
@@ -74,6 +97,9 @@ static inline uint64_t mixed(uint64_t x) {
 static inline uint64_t block_line(uint64_t block, uint32_t line_bits) {
     return (block + (mixed(block >> line_bits) >> 20)) & ((UINT64_C(1) << line_bits) - 1);
 }
+
+/* Where in its line of eight slots something is looked for first: no two pieces that malloc gives out of one block have the same. */
+static inline uint64_t own_way(uint64_t address) { return address >> (BLOCK_BITS - 3) & 7; }
 
 #define NAMES_LEVELS 6
 struct names; /* from a number, the lowest bit of which doesn't matter, to a number, for what is defined once */
@@ -103,9 +129,10 @@ struct module {
     uintptr_t bias;     /* an address less this is an address in the file */
     const uint8_t *unwinding; /* its .eh_frame_hdr, or NULL */
     uint32_t number;
-    bool is_ready, is_gone;
+    bool is_gone;
     uintptr_t own_from, own_bytes; /* of its thread-local part, where that begins from the thread pointer on; 0 bytes: none, or not
                                       always there */
+    struct module *next;
 };
 
 void note_modules(void);
@@ -165,6 +192,27 @@ bool find_shared(uintptr_t lock, uint32_t *file, uint64_t *offset);
 /* ---- symbols.c */
 
 void *find_next(const char *name); /* the function of this name that ours takes the place of, or NULL */
+void *find_real(void **known, const char *name); /* the same, for the next time too */
+bool finds_quickly(void);
+
+/* The real function of this name. It is looked for when it is called first, since a program calls few of them. */
+#define KNOWN_REAL(name) static void *real_##name;
+#define FIND_REAL(name) find_real(&real_##name, #name);
+/* The recorder begins before, whichever of these comes first: it makes the pages. Where it takes more than a look at what the libraries
+   have, all are looked for at the start, since the loader's lock may not be waited
+   for later. */
+#define FIND_AT_START(REALS)                                                                                           \
+    __attribute__((constructor)) static void at_start(void) {                                                          \
+        begin_once();                                                                                                  \
+        if (!finds_quickly()) {                                                                                        \
+            REALS(FIND_REAL)                                                                                           \
+        }                                                                                                              \
+    }
+#define REAL(name) ((__typeof__(&name))real_function(&real_##name, #name))
+static inline void *real_function(void **known, const char *name) {
+    void *real = LOAD(known);
+    return LIKELY(real) ? real : find_real(known, name);
+}
 
 /* ---- also.c */
 

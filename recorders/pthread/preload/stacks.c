@@ -95,7 +95,7 @@ static bool read_common(const uint8_t *p, struct description *d, bool *has_lengt
     d->common_end = p + 4 + length;
     uint8_t version = p[8];
     const char *kinds = (const char *)p + 9;
-    p = (const uint8_t *)kinds + strlen(kinds) + 1;
+    p = (const uint8_t *)kinds + length_of(kinds) + 1;
     d->code_step = read_unsigned(&p);
     d->data_step = read_signed(&p);
     if (version == 1)
@@ -277,7 +277,11 @@ static struct rule read_rule(uintptr_t address) {
     struct description d;
     if (!describe(address, &d))
         return no_rule;
-    struct machine m = {.now = no_rule, .at = d.from};
+    struct machine m;
+    m.now = m.first = no_rule;
+    m.kept_count = 0;
+    m.at = d.from;
+    m.is_lost = false;
     run(&m, d.common, d.common_end, &d, UINTPTR_MAX);
     m.first = m.now;
     m.at = d.from;
@@ -289,15 +293,14 @@ static struct rule read_rule(uintptr_t address) {
    each finds that they don't fit. */
 
 #define RULES 8192
-static struct {
+#define FIRST_RULES 64
+struct known_rule {
     uint64_t word, check;
-} rules[RULES] LARGE;
+};
+TABLE(struct known_rule, rules, FIRST_RULES, RULES);
 
-/* So many of them are used, a page of them at first: all when so many were read that these don't suffice. */
-#define FIRST_RULES 256
+/* So many of them are used: all when so many were read that the first ones don't suffice. */
 static uint32_t rules_in_use = FIRST_RULES, rules_read;
-
-void touch_rules(void) { touch(rules); }
 
 #define FIELD_BITS 29
 #define FIELD_MASK ((UINT64_C(1) << FIELD_BITS) - 1)
@@ -317,15 +320,16 @@ static struct rule unpacked(uint64_t word) {
 static struct rule rule_of(uintptr_t caller) {
     uint64_t key = (caller << 16 ^ LOAD(&rules_epoch)) | 1;
     size_t slot = (caller ^ caller >> 11) & (__atomic_load_n(&rules_in_use, __ATOMIC_RELAXED) - 1);
-    uint64_t word = __atomic_load_n(&rules[slot].word, __ATOMIC_RELAXED);
-    if (LIKELY((__atomic_load_n(&rules[slot].check, __ATOMIC_RELAXED) ^ word) == key))
+    struct known_rule *known = NTH(rules, slot);
+    uint64_t word = __atomic_load_n(&known->word, __ATOMIC_RELAXED);
+    if (LIKELY((__atomic_load_n(&known->check, __ATOMIC_RELAXED) ^ word) == key))
         return unpacked(word);
     struct rule rule = read_rule(caller - 1);
     if (RARELY(ADD(&rules_read, 1) == FIRST_RULES))
         STORE(&rules_in_use, RULES);
     word = packed(rule);
-    __atomic_store_n(&rules[slot].word, word, __ATOMIC_RELAXED);
-    __atomic_store_n(&rules[slot].check, word ^ key, __ATOMIC_RELAXED);
+    __atomic_store_n(&known->word, word, __ATOMIC_RELAXED);
+    __atomic_store_n(&known->check, word ^ key, __ATOMIC_RELAXED);
     return rule;
 }
 
@@ -444,8 +448,6 @@ bool span_around(struct call call, uintptr_t address, struct span *span) {
 #else
 
 #include <execinfo.h>
-
-void touch_rules(void) {}
 
 #define OWN_FRAMES 8
 

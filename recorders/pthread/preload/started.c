@@ -1,25 +1,43 @@
-/* Programs that the program starts: which, how often, and whether this library goes along with them. `record` looks at their files at the
+/* Processes that the program forks, and programs that it starts: which, how often, and whether this library goes along with them. `record` looks at their files at the
    end, since one that is linked statically or that gets other rights isn't recorded. Nothing of what is started is changed. */
 #include "own.h"
 
 #include <errno.h>
+#include <pty.h>
 #include <spawn.h>
 #include <stdarg.h>
 #include <string.h>
 #include <unistd.h>
 
-#define REALS(X) X(execve) X(execv) X(execvp) X(execvpe) X(posix_spawn) X(posix_spawnp)
-#define DECLARE(name) static __typeof__(&name) real_##name;
-REALS(DECLARE)
+#define REALS(X) X(fork) X(daemon) X(forkpty) X(execve) X(execv) X(execvp) X(execvpe) X(posix_spawn) X(posix_spawnp)
+REALS(KNOWN_REAL)
+FIND_AT_START(REALS)
 
-#define FIND(name) STORE(&real_##name, (__typeof__(&name))find_next(#name));
-static void find_reals(void) {
-    if (RARELY(!LOAD(&real_posix_spawnp))) {
-        REALS(FIND)
-    }
+/* ---- Forks. A handler of pthread_atfork would be told of the same ones, but to register it makes two pages that most programs don't have
+   otherwise. A child that is forked in another way is known when it takes a lock. */
+
+EXPORT pid_t fork(void) {
+    pid_t child = REAL(fork)();
+    if (child == 0)
+        begin_in_fork();
+    return child;
 }
 
-__attribute__((constructor)) static void at_start(void) { find_reals(); }
+EXPORT __typeof__(fork) __fork __attribute__((alias("fork")));
+
+EXPORT int daemon(int stays, int keeps) {
+    int answer = REAL(daemon)(stays, keeps);
+    if (answer == 0)
+        begin_in_fork();
+    return answer;
+}
+
+EXPORT int forkpty(int *terminal, char *name, const struct termios *how, const struct winsize *size) {
+    int child = REAL(forkpty)(terminal, name, how, size);
+    if (child == 0)
+        begin_in_fork();
+    return child;
+}
 
 /* ---- Which program. */
 
@@ -75,9 +93,8 @@ static void count_start(const char *path, char *const *environment, uint64_t by)
 
 #define STARTING(name, parameters, arguments, environment)                                                             \
     EXPORT int name parameters {                                                                                       \
-        find_reals();                                                                                                  \
         count_start(path, environment, 1);                                                                             \
-        int answer = real_##name arguments, saved = errno;                                                             \
+        int answer = REAL(name) arguments, saved = errno;                                                              \
         if (answer != 0)                                                                                               \
             count_start(path, environment, FAILED);                                                                    \
         errno = saved;                                                                                                 \

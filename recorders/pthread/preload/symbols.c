@@ -6,7 +6,6 @@
 #include <dlfcn.h>
 #include <elf.h>
 #include <link.h>
-#include <string.h>
 
 struct library {
     uintptr_t bias;
@@ -49,7 +48,7 @@ static uint32_t hash_of(const char *name) {
 static bool is_named(const struct library *l, uint32_t i, const char *name) {
     const ElfW(Sym) *symbol = &l->symbols[i];
     bool is_default = !l->versions || !(l->versions[i] & HIDDEN);
-    return is_default && symbol->st_shndx != SHN_UNDEF && strcmp(l->names + symbol->st_name, name) == 0;
+    return is_default && symbol->st_shndx != SHN_UNDEF && is_same_text(l->names + symbol->st_name, name);
 }
 
 #define WORD_BITS (8 * sizeof(ElfW(Addr)))
@@ -77,16 +76,35 @@ static const struct link_map *own_map(void) {
     return map;
 }
 
-void *find_next(const char *name) {
+/* In the first library that has it. */
+static const ElfW(Sym) *find_quickly(const char *name, struct library *l) {
     const struct link_map *map = own_map();
     const ElfW(Sym) *symbol = NULL;
-    struct library l;
     uint32_t hash = hash_of(name);
     while (map && !symbol && (map = map->l_next)) {
-        l = read_library(map);
-        symbol = l.hashes && l.symbols && l.names ? find_in(&l, name, hash) : NULL;
+        *l = read_library(map);
+        symbol = l->hashes && l->symbols && l->names ? find_in(l, name, hash) : NULL;
     }
-    if (symbol && ELF64_ST_TYPE(symbol->st_info) == STT_FUNC)
-        return (void *)(l.bias + symbol->st_value);
-    return dlsym(RTLD_NEXT, name);
+    return symbol && ELF64_ST_TYPE(symbol->st_info) == STT_FUNC ? symbol : NULL;
+}
+
+void *find_next(const char *name) {
+    struct library l;
+    const ElfW(Sym) *symbol = find_quickly(name, &l);
+    return symbol ? (void *)(l.bias + symbol->st_value) : dlsym(RTLD_NEXT, name);
+}
+
+void *find_real(void **known, const char *name) {
+    void *real = find_next(name);
+    STORE(known, real);
+    return real;
+}
+
+/* Whether the C library is one in which functions are found without the loader's lock. */
+bool finds_quickly(void) {
+    static int known; /* 1 no, 2 yes */
+    struct library l;
+    if (!LOAD(&known))
+        STORE(&known, find_quickly("pthread_mutex_trylock", &l) ? 2 : 1);
+    return LOAD(&known) == 2;
 }

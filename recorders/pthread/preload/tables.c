@@ -12,7 +12,7 @@ struct names_line {
     } slots[NAMES_WAYS];
 };
 
-static const uint32_t names_bits[NAMES_LEVELS] = {3, 6, 9, 12, 15, 18}; /* of the number of lines */
+static const uint32_t names_bits[NAMES_LEVELS] = {2, 5, 9, 12, 15, 18}; /* of the number of lines */
 
 static struct names_line *names_level(struct names *names, int level, bool make) {
     struct names_line *lines = LOAD(&names->levels[level]);
@@ -65,13 +65,13 @@ void each_name(struct names *names, void (*visit)(uint32_t *value)) {
    there are fewer than that. */
 
 #define LOCK_WAYS 8 /* the bytes of a line of the processor's */
-#define LOCK_LEVELS 5
+#define LOCK_LEVELS 4
 #define FEWEST_BITS 5
 #define IN_BLOCK_BITS (BLOCK_BITS - 2)
 #define BLOCK_MASK ((UINT64_C(1) << (47 - BLOCK_BITS)) - 1)
 #define OBJECT_BITS 24
 
-static const uint32_t lock_bits[LOCK_LEVELS] = {FEWEST_BITS, 9, 13, 17, 21};
+static const uint32_t lock_bits[LOCK_LEVELS] = {FEWEST_BITS, 13, 17, 21};
 static uint64_t *lock_levels[LOCK_LEVELS];
 
 /* What the slot has of the address. */
@@ -108,7 +108,10 @@ static inline uint32_t object_in(uint64_t word) { return (uint32_t)word & ((UINT
 static int lock_main;
 static uint64_t lock_overflows;
 
-static inline uint64_t *find_in_line(uint64_t *line, uint64_t key) {
+static inline uint64_t *find_in_line(uint64_t *line, uintptr_t lock) {
+    uint64_t key = key_of(lock), *own = &line[own_way(lock)];
+    if (LIKELY(is_of(__atomic_load_n(own, __ATOMIC_RELAXED), key)))
+        return own;
     UNROLLED
     for (int i = 0; i < LOCK_WAYS; i++)
         if (is_of(__atomic_load_n(&line[i], __ATOMIC_RELAXED), key))
@@ -117,12 +120,12 @@ static inline uint64_t *find_in_line(uint64_t *line, uint64_t key) {
 }
 
 static uint64_t *find_lock(uintptr_t lock) {
-    uint64_t key = key_of(lock), *found = NULL;
+    uint64_t *found = NULL;
     int main_level = LOAD(&lock_main);
     for (int n = 0; !found && n < LOCK_LEVELS; n++) {
         int level = nth_level(main_level, n);
         uint64_t *slots = lock_level(level, false);
-        found = slots ? find_in_line(lock_line(slots, level, lock), key) : NULL;
+        found = slots ? find_in_line(lock_line(slots, level, lock), lock) : NULL;
     }
     return found;
 }
@@ -133,9 +136,11 @@ uint32_t lock_object(uintptr_t lock) {
 }
 
 static bool fill_in_level(int level, uintptr_t lock, uint64_t word) {
-    uint64_t *slots = lock_level(level, true), *line = slots ? lock_line(slots, level, lock) : NULL;
+    uint64_t *slots = lock_level(level, true), *line = slots ? lock_line(slots, level, lock) : NULL, empty = 0;
+    if (LIKELY(line && SWAP(&line[own_way(lock)], &empty, word)))
+        return true;
     for (int i = 0; line && i < LOCK_WAYS; i++) {
-        uint64_t empty = LOAD(&line[i]);
+        empty = LOAD(&line[i]);
         if (!empty && SWAP(&line[i], &empty, word))
             return true;
     }
@@ -162,7 +167,7 @@ static bool fill_lock(uintptr_t lock, uint32_t object) {
 /* ---- Which parts of the memory have had a lock, in parts of a megabyte. Several parts share a bit. */
 
 #define PART_BITS 20
-#define PARTS 16384
+#define PARTS 4096
 static uint64_t parts[PARTS / 64];
 
 static void mark_part(uintptr_t lock) {
@@ -199,18 +204,29 @@ uint32_t add_lock(uintptr_t lock, uint32_t object) {
     return fill_lock(lock, object) ? lock_object(lock) : 0;
 }
 
-static void empty_slot(uint64_t *slot, void (*dropped)(uint32_t object)) {
+/* Unless somebody else emptied it meanwhile. */
+static void empty_slot(uint64_t *slot, uint64_t key, void (*dropped)(uint32_t object)) {
     uint64_t there = LOAD(slot);
-    if (there && SWAP(slot, &there, 0))
-        dropped(object_in(there));
+    while (is_of(there, key))
+        if (SWAP(slot, &there, 0)) {
+            dropped(object_in(there));
+            return;
+        }
+}
+
+static inline void drop_in_line(uint64_t *line, uint64_t key, void (*dropped)(uint32_t object)) {
+    UNROLLED
+    for (int i = 0; i < LOCK_WAYS; i++)
+        if (RARELY(is_of(__atomic_load_n(&line[i], __ATOMIC_RELAXED), key)))
+            empty_slot(&line[i], key, dropped);
 }
 
 void drop_lock(uintptr_t lock, void (*dropped)(uint32_t object)) {
     uint64_t key = key_of(lock);
     for (int level = 0; level < LOCK_LEVELS; level++) {
-        uint64_t *slots = lock_level(level, false), *line = slots ? lock_line(slots, level, lock) : NULL;
-        for (uint64_t *slot; line && (slot = find_in_line(line, key));)
-            empty_slot(slot, dropped);
+        uint64_t *slots = lock_level(level, false);
+        if (slots)
+            drop_in_line(lock_line(slots, level, lock), key, dropped);
     }
 }
 
@@ -222,7 +238,7 @@ static void drop_in_level(int level, uintptr_t from, uintptr_t to, void (*droppe
             continue;
         uintptr_t lock = address_of(there >> OBJECT_BITS, level, i / LOCK_WAYS);
         if (lock >= from && lock < to)
-            empty_slot(&lock_levels[level][i], dropped);
+            empty_slot(&lock_levels[level][i], there >> OBJECT_BITS, dropped);
     }
 }
 

@@ -43,6 +43,7 @@ struct entry {
 };
 
 #define PLACES 16
+#define FIRST_HELD 8
 
 struct thread {
     struct raw_thread *raw;
@@ -62,7 +63,8 @@ struct thread {
         uintptr_t caller;
         uint32_t epoch, place;
     } places[PLACES]; /* of callers that it met last */
-    struct entry entries[RAW_HELD];
+    uint32_t room; /* so many entries there are: those here, or RAW_HELD when these weren't enough */
+    struct entry *entries, first_entries[FIRST_HELD];
 };
 
 static EARLY_THREAD_LOCAL struct thread *own;
@@ -86,6 +88,8 @@ static struct thread *unused_thread(void) {
     if (!t)
         return NULL;
     t->is_taken = 1;
+    t->entries = t->first_entries;
+    t->room = FIRST_HELD;
     t->next = LOAD(&threads);
     while (!SWAP(&threads, &t->next, t))
         continue;
@@ -98,9 +102,14 @@ static bool begin_trace(struct thread *t) {
         return false;
     t->raw = part_of(RAW_THREADS, number);
     t->raw->process = own_process;
-    memset(t->chunks, 0, sizeof t->chunks);
-    if (t->seen)
-        memset(t->seen, 0, (t->seen_mask + 1) * sizeof *t->seen);
+    for (int i = 0; i < RAW_CHUNKS; i++) {
+        AS_WRITTEN;
+        t->chunks[i] = NULL;
+    }
+    for (size_t i = 0; t->seen && i <= t->seen_mask; i++) {
+        AS_WRITTEN;
+        t->seen[i] = 0;
+    }
     t->seen_used = 0;
     t->fresh_end = 0;
     t->depth = 0;
@@ -209,7 +218,7 @@ static bool take_back(struct thread *t, uint64_t start) {
 
 static inline uint64_t hash_with(uint64_t hash, uint32_t what) { return mixed(hash * UINT64_C(0x100000001b3) + what + 1); }
 
-static void rehash(struct thread *t, enum reader reader, uint32_t from, uint32_t depth) {
+static inline void rehash(struct thread *t, enum reader reader, uint32_t from, uint32_t depth) {
     for (uint32_t i = from; i < depth; i++) {
         struct link *link = &t->entries[i].links[reader];
         link->hash = hash_with(i ? t->entries[i - 1].links[reader].hash : 0, link->what);
@@ -252,7 +261,7 @@ static void put_seen(uint64_t *seen, size_t mask, uint64_t way) {
     seen[i] = way;
 }
 
-#define FIRST_SEEN 256
+#define FIRST_SEEN 32
 
 static bool grow_seen(struct thread *t) {
     size_t size = t->seen ? 2 * (t->seen_mask + 1) : FIRST_SEEN;
@@ -447,13 +456,26 @@ static void push_held(struct thread *t, uintptr_t lock, uint32_t object, uint8_t
         t->fresh_end = t->raw->count;
 }
 
+/* More entries. False if there are as many as there may be, or if there is no memory. */
+__attribute__((noinline)) static bool add_entries(struct thread *t) {
+    struct entry *all = t->room < RAW_HELD ? take_private(RAW_HELD * sizeof *all) : NULL;
+    if (!all)
+        return false;
+    memcpy(all, t->entries, t->depth * sizeof *all);
+    t->entries = all;
+    t->room = RAW_HELD;
+    return true;
+}
+
+static inline bool has_entry_left(struct thread *t) { return LIKELY(t->depth < t->room) || add_entries(t); }
+
 /* The lock's object, if there is room for one more that is held. */
-static uint32_t object_to_hold(struct thread *t, uintptr_t lock, struct call call) {
+static inline uint32_t object_to_hold(struct thread *t, uintptr_t lock, struct call call) {
     if (t->depth == RAW_HELD) {
         t->raw->left_out.deep++;
         return 0;
     }
-    uint32_t object = object_of_lock(lock, call);
+    uint32_t object = has_entry_left(t) ? object_of_lock(lock, call) : 0;
     if (!object)
         t->raw->left_out.no_room++;
     return object;
@@ -591,7 +613,7 @@ static void begin_in_child(struct thread *old) {
         t->is_taken = 0;
     own = NULL;
     struct thread *t = make_thread();
-    for (uint32_t i = 0; t && i < depth; i++)
+    for (uint32_t i = 0; t && i < depth && has_entry_left(t); i++)
         push_held(t, held[i].lock, held[i].object, held[i].mode, HERE, false);
     busy = false;
 }

@@ -9,6 +9,10 @@ struct context;
 
 #define NEEDED __attribute__((used, visibility("hidden")))
 
+/* By this the C library knows which library registers a handler of forks. Compilers put it into each one, with functions that do nothing
+   here but look for others, so this one is linked without. It stays loaded, so it may pass for the program. */
+NEEDED void *__dso_handle = NULL;
+
 NEEDED int __gcc_personality_v0(int version, int actions, uint64_t kind, struct exception *exception, struct context *context);
 NEEDED void _Unwind_Resume(struct exception *exception);
 
