@@ -1,13 +1,13 @@
 # Makes traces for the benchmark: awk -v story=NAME -v folder=FOLDER [-v files=N] [-v events=N] -f trace.awk writes the files
 # FOLDER/0001.csv and so on, each of about `events` events and each with another seed.
 #
-#   long        as programs are: 64 routines of 1 to 4 locks each of 200, called at random; most chains repeat
+#   long        like a program: 64 routines that take 1 to 4 of 200 locks, called at random; most chains repeat
 #   interrupts  the same, with an interrupt that takes a lock, or a stretch with interrupts off, in between: a quarter of the
 #               records are enter, leave, on and off
 #   deep        nests of up to 40 locks, drawn anew each time: most chains are new
-#   nested      nests of 1 to 6 locks of 200, drawn anew each time, taken in the order of their keys
+#   nested      nests of 1 to 6 of 200 locks, drawn anew each time, taken in the order of their keys
 #   dense       an order over 256 keys without a circle: each pair in that order, as a dependency of each kind
-#   pairs       the same dependencies, in four files of one kind each and one pair at a time: each fourth event brings a new one
+#   pairs       the same dependencies, in four files of one kind each, one pair at a time: every fourth event brings a new one
 #   tangled     each pair of 256 keys in both orders, of each kind, and each key taken in a hardirq and in a softirq
 
 # The next of a fixed sequence of numbers, 0 to bound - 1.
@@ -43,7 +43,7 @@ function hold(from, first,    mode, to) {
     }
 }
 
-# One nest of so many locks: their keys grow, so no circle comes of it.
+# One nest of this many locks, with increasing keys, so that there is no circle.
 function nest(depth,    i, key) {
     key = -1
     for (i = 1; i <= depth; i++) {
@@ -87,7 +87,7 @@ function handle(irq, key) {
     print "leave" >file
 }
 
-# The routines of a program: the locks that each takes, in the order of their keys, so that no circle comes of them.
+# The routines of a program: the locks that each takes, in the order of their keys, so that there is no circle.
 function make_routines(    i, j, key) {
     for (i = 0; i < 64; i++) {
         depth_of[i] = 1 + draw(4)
@@ -116,7 +116,7 @@ function tell_long(    left, i) {
     }
 }
 
-# Among the calls some run with hardirqs off, and interrupts come in between, each of which takes a lock that is its alone.
+# Some of the calls run with hardirqs off, and interrupts come in between, each of which takes a lock that only it takes.
 function tell_interrupts(    left, i, what) {
     for (left = events; left > 10; ) {
         i = draw(64)

@@ -1,5 +1,5 @@
-"""What the tests of the recorders that share the making of traces have in common: counted comparisons, and what is
-asked of every recording. Another checker may be named by LOCKDEP."""
+"""What the tests of the recorders that share the code for making traces have in common: counted comparisons, and what is
+required of every recording. LOCKDEP may name another checker."""
 import difflib
 import os
 import re
@@ -17,7 +17,7 @@ counts = {True: 0, False: 0}
 
 
 def same(what, wanted, got):
-    """Whether something is as it has to be, which is counted."""
+    """Whether something is as expected, which is counted."""
     counts[wanted == got] += 1
     if wanted != got and isinstance(got, str) and "\n" in got + str(wanted):
         print("%s: %s:" % (name_of_recorder, what))
@@ -62,7 +62,7 @@ def write(name, text):
 
 
 def check(name, folder=None):
-    """Whether the checker accepts the traces, by classes and by single locks, and these are those but for their numbers."""
+    """Whether the checker accepts the traces, by classes and by single locks, and whether these differ only in the numbers."""
     folder = folder or name
     for place in (folder, os.path.join(folder, "objects")):
         files = [os.path.join(place, task) for task in task_names(place)]
@@ -81,7 +81,7 @@ def summary(folder, name):
 
 
 def explained(folder):
-    """What `confirm` and `where` say, for which there has to be a C compiler."""
+    """The output of `confirm` and `where`, which need a C compiler."""
     confirmed = subprocess.run([os.path.join(top, "recorders/pthread/confirm"), folder], stdout=subprocess.PIPE,
             stderr=subprocess.PIPE,
                                timeout=LIMIT, env=dict(os.environ, LOCKDEP=lockdep))
@@ -92,7 +92,7 @@ def explained(folder):
 
 
 def run_parts(parts):
-    """Runs the parts that the command line names, or all, in a folder of their own, and ends with the counts."""
+    """Runs the parts that the command line names, or all, in a separate folder, and ends with the counts."""
     for part in parts:
         if len(sys.argv) < 2 or part.__name__ in sys.argv[1:]:
             try:

@@ -33,7 +33,7 @@ class Browser:
                  "--hide-scrollbars", "--user-data-dir=" + self.profile, "about:blank"]
 
         def as_3_and_4():
-            # The two may be 3 and 4 themselves, the wrong way round.
+            # The two may themselves be 3 and 4, swapped.
             ends = [fcntl.fcntl(end, fcntl.F_DUPFD, 10) for end in (theirs, back)]
             for number, end in zip((3, 4), ends):
                 os.dup2(end, number)
@@ -49,7 +49,7 @@ class Browser:
             self.call(part + ".enable")
 
     def message(self):
-        """The next message of the browser's."""
+        """The browser's next message."""
         end = time.monotonic() + PATIENCE
         while b"\0" not in self.said:
             if not select.select([self.by], [], [], max(0, end - time.monotonic()))[0]:
@@ -84,20 +84,20 @@ class Browser:
             self.events.append(self.message())
 
     def value(self, expression):
-        """What an expression of the page's language gives. The page's policy doesn't hold for it."""
+        """The value of a JavaScript expression. The page's policy doesn't apply to it."""
         told = self.call("Runtime.evaluate", expression=expression, returnByValue=True)
         if "exceptionDetails" in told:
             raise ValueError(json.dumps(told["exceptionDetails"]))
         return told["result"].get("value")
 
     def point_at(self, selector):
-        """Brings an element into view and the pointer to its middle."""
+        """Brings an element into view and moves the pointer to its middle."""
         x, y = self.value("(() => { const e = document.querySelector(%s); e.scrollIntoView({block: 'center'}); "
                           "const b = e.getBoundingClientRect(); return [b.x + b.width / 2, b.y + b.height / 2] })()" % json.dumps(selector))
         self.call("Input.dispatchMouseEvent", type="mouseMoved", x=x, y=y)
 
     def errors(self):
-        """What stands on the console."""
+        """What is on the console."""
         return [json.dumps(event["params"])[:300] for event in self.events
                 if event.get("method") in ("Log.entryAdded", "Runtime.consoleAPICalled", "Runtime.exceptionThrown")]
 

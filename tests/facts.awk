@@ -1,10 +1,10 @@
-# Works out most of a report by a plain loop over the records of traces that are well formed: awk -F, -f facts.awk TRACE...
-# It writes the totals, a usage line for each key, and a circle line for each dependency that is left when a key that no dependency
-# leads to, or none leads from, is taken away with its own, again and again. Without recursive readers these are the dependencies on
-# circles and between them. It ends with status 3 if interrupts could have a part in a finding: if an arrow other than these is left
-# where links, which go from keys used with a state enabled to those used in it, are taken away in the same way.
+# Works out most of a report with a plain loop over the records of well-formed traces: awk -F, -f facts.awk TRACE...
+# It writes the totals, a usage line for each key, and a circle line for each dependency that is left after keys that no dependency
+# leads to, or none leads from, are removed with their dependencies, again and again. Without recursive readers these are the
+# dependencies on circles and between them. It ends with status 3 if interrupts could have a part in a finding: if other arrows are
+# left when links, which go from keys used with a state enabled to those used in it, are removed in the same way.
 
-# The name and subclass of the record, whose last field but so many is the subclass.
+# The name and subclass of the record, whose subclass is the given number of fields before the last.
 function key_of(behind,    i, name) {
     name = $2
     for (i = 3; i < NF - behind; i++) name = name "," $i
@@ -20,7 +20,7 @@ function key_of(behind,    i, name) {
     return name
 }
 
-# Marks a key: in the interrupts of the frame, and as enabled where they may come in.
+# Marks a key: as used in the interrupts of the frame, and as enabled if they may come in.
 function mark_used(key, is_read) {
     if (kind[depth] != "task") used[kind[depth], key, is_read] = 1
 }
@@ -94,7 +94,7 @@ function character(irq, key, is_read) {
 # Whether the key is used in the state, or with it enabled, by a reader or not.
 function is_marked(marks, irq, key) { return ((irq, key, 0) in marks) || ((irq, key, 1) in marks) }
 
-# Takes away arrows, which are pairs of keys, from and to a key that none leads to or none leads from, until none is so.
+# Removes arrows, which are pairs of keys, from and to a key that none leads to or none leads from, until there is no such key.
 function peel(    arrow, ends, into, out, gone) {
     do {
         gone = 0

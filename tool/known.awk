@@ -1,5 +1,5 @@
-# Leaves the findings that are known out of an explanation: awk -f known.awk FOUND KNOWN TEXT, where FOUND has the lines of the report
-# that are findings, KNOWN those that are known, and TEXT the explanation. A finding stays if any of its lines isn't known.
+# Removes the known findings from an explanation: awk -f known.awk FOUND KNOWN TEXT, where FOUND has the lines of the report that are
+# findings, KNOWN those that are known, and TEXT the explanation. A finding stays if any of its lines isn't known.
 
 # The class of a key of a single lock: without the lock's number, the word for all the others, and the process.
 function class_of(key) {
@@ -7,7 +7,7 @@ function class_of(key) {
     return key
 }
 
-# Whether all lines of a circle are among some lines, of its keys as they are or of their classes.
+# Whether all lines of a circle are among the given lines, with its keys as they are or with their classes.
 function is_within(lines, by_class,    i, from, to) {
     for (i = 2; i + 2 <= NF; i += 2) {
         from = by_class ? class_of($i) : $i

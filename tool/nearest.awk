@@ -1,8 +1,8 @@
-# Prints the one of some words that a mistyped word is nearest to, or nothing if none is near:
+# Prints which of the given words a mistyped word is nearest to, or nothing if none is near:
 #
 #   awk -f nearest.awk -- WRONG WORD...
 #
-# Near is: at most a third of the letters, and always one, are wrong, missing, too many, or two that changed places; or the word
+# A word is near if at most a third of the letters (or one) are wrong, missing, surplus or swapped with a neighbour; or if the word
 # begins with what was typed.
 
 # How many such changes lead from one word to the other.
@@ -40,7 +40,7 @@ BEGIN {
         word = letters(ARGV[i])
         if (length(wrong) > 1 && index(word, wrong) == 1) changes = 0.5
         else changes = distance(wrong, word)
-        # A word of which nothing is right isn't near, as short as it may be.
+        # A word of which nothing is right isn't near, however short it is.
         if (changes <= least && changes < length(word)) {
             if (changes < least || nearest == "") nearest = ARGV[i]
             least = changes

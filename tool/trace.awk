@@ -1,15 +1,15 @@
-# Says of a refused trace what its record N is, where it stands, and what is wrong with it:
+# Says what record N of a refused trace is, where it is, and what is wrong with it:
 #
 #   awk -f trace.awk -v code=T3 -v number=N TRACE
 #
-# It writes lines `NAME TEXT`: `first` and `last`, the lines of the file on which the record stands; `text`, the record as it is
-# written; `case`, which line of the table `words` fits; and what that line needs. Records are read as the program reads them: a
-# record ends with its line unless a double quote is open; blank lines are none. It writes nothing if a line ends by a CR
-# alone, since no two editors count such lines alike.
+# It writes lines `NAME TEXT`: `first` and `last`, the lines of the file that the record is on; `text`, the record as it is written;
+# `case`, the line of the table `words` that fits; and what that line needs. Records are read as the program reads them: a record ends
+# with its line unless a double quote is open, and blank lines aren't records. It writes nothing if a line ends with a CR alone, since
+# editors count such lines differently.
 
 # ---- The fields of a record.
 
-# Takes in a line of the file. A field that begins with a double quote goes on until the quote is closed.
+# Reads a line of the file. A field that begins with a double quote goes on until the quote is closed.
 function take(line,    i, n, c) {
     n = length(line)
     for (i = 1; i <= n; i++) {
@@ -85,7 +85,7 @@ function step() {
 
 # ---- What is wrong.
 
-# Bytes that a terminal might obey are written as \xNN, and a long text is cut.
+# Bytes that a terminal might interpret are written as \xNN, and a long text is cut.
 function shown(text,    i, n, c, told) {
     told = ""
     n = length(text)
@@ -184,7 +184,7 @@ function tell_all() {
     }
 }
 
-# ---- The file, a line at a time.
+# ---- The file, line by line.
 
 # Begins a record with this line.
 function begin() {
@@ -197,8 +197,8 @@ function begin() {
     text = line
 }
 
-# Sets the fields of a record that is this line alone and was met before, which saves looking at each of its characters: traces repeat
-# themselves. No field of an accepted record has a SUBSEP in it.
+# Sets the fields of a record that is just this line and occurred before, which saves examining each of its characters: traces repeat
+# themselves. No field of an accepted record contains a SUBSEP.
 function is_repeated() {
     if (!(line in kept)) return 0
     count = split(kept[line], fields, SUBSEP)
@@ -212,7 +212,7 @@ function keep(    i, all) {
     kept[line] = all
 }
 
-# Takes in the line, which has double quotes or stands between some. Returns whether it ends a record.
+# Reads the line, which has double quotes or is inside some. Returns whether it ends a record.
 function ends_record() {
     take(line)
     is_open = state == "quoted"

@@ -1,23 +1,23 @@
 /* Records the locks of a kernel, a runtime or an embedded system as traces for lockdep: one for each task.
 
    C11 or C++11, freestanding: no library, no allocation, no floating point, no locks. Each function takes constant time
-   but for what it says. In exactly one file of the program
+   unless its description says otherwise. In exactly one file of the program
 
        #define LOCKDEP_RECORD_CODE
        #include "lockdep_record.h"
 
-   and in the others the include alone. README.md beside this file has an example, and docs/RECORDING.md says what a true
-   trace is.
+   and in the others only the include. README.md beside this file has an example, and docs/RECORDING.md says what a
+   faithful trace is.
 
    Who calls. The calls for one task are made by that task, and by the interrupts that come in while it runs. An interrupt
-   that comes in during such a call is left out with all that it does, and counted; so keep interrupts off around the
-   calls if you can. Calls for two tasks never meet.
+   that comes in during such a call is left out with everything it does, and counted; so keep interrupts off around the
+   calls if you can. Calls for different tasks are independent.
 
-   What can't be said. Whatever the calls and their order, the trace is one that lockdep accepts. A call that would break
-   it isn't written, and is counted in `left`. That hides orders of locks and invents none, but for one case: see
-   ldr_release. ldr_end writes the counts behind the places.
+   What a trace can't express. Whatever the calls and their order, lockdep accepts the trace. A call that would break it
+   isn't written, and is counted in `left`. That hides orders of locks but invents none, with one exception: see
+   ldr_release. ldr_end writes the counts after the places.
 
-   With LDR_NOTHING defined the calls are gone: their arguments aren't evaluated. */
+   With LDR_NOTHING defined the calls expand to nothing: their arguments aren't evaluated. */
 #ifndef LOCKDEP_RECORD_H
 #define LOCKDEP_RECORD_H
 
@@ -42,14 +42,14 @@ extern "C" {
 #define LDR_SOFTIRQ 1u
 #define LDR_HARDIRQ 2u
 
-/* Bounds: bytes of a name; locks that a task holds at once, those of its interrupts among them; events of a trace; and
+/* Bounds: bytes of a name; locks that a task holds at once, including those of its interrupts; events of a trace; and
    the least size of a buffer, which is more than the longest record. */
 #define LDR_NAME 64u
 #define LDR_HELD 48u
 #define LDR_EVENTS 1000000u
 #define LDR_ROOM 144u
 
-/* What is counted: the places of `left`. All but the first are calls that weren't written as they were made. */
+/* What is counted: the indices of `left`. All but the first are calls that weren't written as they were made. */
 enum ldr_reason {
     LDR_OPENED,          /* interrupts that came in although they were off: `on` was written before them */
     LDR_LEFT_RELEASES,   /* releases of what wasn't seen to be taken, or was taken outside the interrupt */
@@ -59,7 +59,7 @@ enum ldr_reason {
     LDR_LEFT_INTERRUPTS, /* calls of interrupts that came in during a call, in a hardirq, or a softirq in a softirq */
     LDR_LEFT_LEAVES,     /* leaving without having entered */
     LDR_LEFT_FLAGS,      /* turning on interrupts of the kind that the task is in, or any in a hardirq */
-    LDR_LEFT_KEPT,       /* locks that an interrupt still held when it ended: they were given back in the trace */
+    LDR_LEFT_KEPT,       /* locks that an interrupt still held when it ended: they were released in the trace */
     LDR_LEFT_PUTS,       /* events that `put` refused, and calls after that, or after ldr_end */
     LDR_LEFT_PLACES,     /* lines of places that don't fit in their buffer, or came after their `put` had refused */
     LDR_REASONS
@@ -91,18 +91,18 @@ struct ldr_frame {
 struct ldr_task {
     struct ldr_frame *frame;     /* the innermost of `frames` that is open */
     unsigned held;               /* how many of `locks` there are */
-    unsigned ended;              /* the reason for which nothing more is written, LDR_REASONS if the trace goes on */
+    unsigned ended;              /* the reason why nothing more is written, LDR_REASONS if the trace goes on */
     volatile unsigned is_inside; /* a call is under way */
-    volatile uint32_t skipped;   /* interrupts within each other that are being left out */
+    volatile uint32_t skipped;   /* nested interrupts that are being left out */
     uint32_t events;             /* that were written */
     uint32_t waiting;            /* of these, that are still in the buffer */
     struct ldr_stream trace, places;
-    uint32_t left[LDR_REASONS];  /* how often each reason was met */
+    uint32_t left[LDR_REASONS];  /* how often each reason occurred */
     struct ldr_frame frames[3];
     struct ldr_lock locks[LDR_HELD];
 };
 
-/* ---- The calls. Where the caller is, as the arguments of the functions that end in _at. */
+/* ---- The calls. The caller's place, as the arguments of the functions that end in _at. */
 #define LDR_TEXT_OF(line) #line
 #define LDR_TEXT(line) LDR_TEXT_OF(line)
 #define LDR_HERE __FILE__ ":" LDR_TEXT(__LINE__), __func__
@@ -118,27 +118,27 @@ int ldr_begin(struct ldr_task *task, char *buffer, size_t size, ldr_put *put, vo
    leaves it out. Without this call no places are written. */
 void ldr_places(struct ldr_task *task, char *buffer, size_t size, ldr_put *put, void *cookie);
 
-/* The task took a lock of this class. Called after the lock was taken, or before it is waited for if that can't fail.
-   The name isn't copied: it stays as it is until the release. Counted instead: LDR_LEFT_WORDS, LDR_LEFT_HELD. */
+/* The task took a lock of this class. Called after the lock was taken, or before waiting for it if that can't fail.
+   The name isn't copied: it must stay unchanged until the release. Counted instead: LDR_LEFT_WORDS, LDR_LEFT_HELD. */
 void ldr_acquire_at(struct ldr_task *task, const char *name, unsigned sub, unsigned mode, const char *place,
                     const char *function);
 #define ldr_acquire(task, name, sub, mode) ldr_acquire_at(task, name, sub, mode, LDR_HERE)
 
-/* The task gives back the newest lock of this class and subclass that it took in the current interrupt, or outside all of
-   them. Called before the lock is free. Constant time if it is the newest of all, else as long as there are newer ones.
-   Counted instead if there is none: LDR_LEFT_RELEASES. So a lock that was taken outside the interrupt counts as held on
-   when the interrupt gives it back: call this again once the interrupt has ended, or later orders will be wrong. */
+/* The task releases the newest lock of this class and subclass that it took in the current interrupt, or outside all of
+   them. Called before the lock is free. Constant time if it is the newest of all, otherwise linear in the newer ones.
+   Counted instead if there is none: LDR_LEFT_RELEASES. So a lock that was taken outside the interrupt still counts as
+   held when the interrupt releases it: call this again once the interrupt has ended, or later orders will be wrong. */
 void ldr_release(struct ldr_task *task, const char *name, unsigned sub);
 
 /* An interrupt comes in, and ends. If it was off, `on` is written before it, and `off` again after it. Counted instead:
    an interrupt in a hardirq, a softirq in a softirq, and what is neither kind, with all its calls: LDR_LEFT_INTERRUPTS;
-   leaving without having entered: LDR_LEFT_LEAVES. What is held at the end is given back in the trace, in as many steps,
+   leaving without having entered: LDR_LEFT_LEAVES. What is held at the end is released in the trace, in as many steps,
    and counted: LDR_LEFT_KEPT. */
 void ldr_enter(struct ldr_task *task, unsigned irq);
 void ldr_leave(struct ldr_task *task);
 
 /* The task, or the interrupt that it is in, turns interrupts of this kind off and on. Leaving an interrupt restores those
-   outside by itself. What is so already isn't written. Counted instead: LDR_LEFT_FLAGS. */
+   outside automatically. A change that changes nothing isn't written. Counted instead: LDR_LEFT_FLAGS. */
 void ldr_off(struct ldr_task *task, unsigned irq);
 void ldr_on_at(struct ldr_task *task, unsigned irq, const char *place, const char *function);
 #define ldr_on(task, irq) ldr_on_at(task, irq, LDR_HERE)
@@ -147,10 +147,10 @@ void ldr_on_at(struct ldr_task *task, unsigned irq, const char *place, const cha
    begun, which together say the same as one. */
 bool ldr_is_at_rest(const struct ldr_task *task);
 
-/* Puts what is in the buffers, as for a task that hangs; nothing during a call for this task. */
+/* Puts what is in the buffers, for example for a task that hangs; does nothing during a call for this task. */
 void ldr_flush(struct ldr_task *task);
 
-/* Ends the trace: puts what is in the buffers, and behind the places the counts that aren't 0, as lines `COUNT left a` for
+/* Ends the trace: puts what is in the buffers, and after the places the counts that aren't 0, as lines `COUNT left a` for
    the first reason, `COUNT left b` for the next one and so on, and the line `EVENTS end`. Locks may be held. */
 void ldr_end(struct ldr_task *task);
 
@@ -175,7 +175,7 @@ void ldr_end(struct ldr_task *task);
 /* ---- The code. */
 #if defined LOCKDEP_RECORD_CODE && !defined LDR_NOTHING
 
-/* Keeps the compiler from moving memory accesses over an interrupt's, and from making a call of the C library's of a loop. */
+/* Keeps the compiler from moving memory accesses across an interrupt's, and from turning a loop into a C library call. */
 #if defined __GNUC__
 #define LDR_FENCE() __asm__ volatile("" ::: "memory")
 #elif defined __cplusplus
@@ -217,7 +217,7 @@ static void ldr_put_trace(struct ldr_task *task) {
     task->waiting = 0;
 }
 
-/* Begins a record with its word. Returns where it goes on; NULL if the trace has ended, or ends here. */
+/* Begins a record with its word. Returns where it continues; NULL if the trace has ended, or ends here. */
 static char *ldr_record(struct ldr_task *task, const char *word) {
     if (task->trace.size - task->trace.used < LDR_ROOM)
         ldr_put_trace(task);
@@ -236,8 +236,8 @@ static void ldr_record_ends(struct ldr_task *task, char *end) {
     task->waiting++;
 }
 
-/* Adds a name, a comma and a subclass. A name with a comma or a quote in it is begun again, between quotes. Returns NULL
-   if the format has no such name or subclass. */
+/* Adds a name, a comma and a subclass. A name with a comma or a quote in it is begun again, in quotes. Returns NULL if
+   the format has no such name or subclass. */
 static char *ldr_key(char *to, const char *name, unsigned sub) {
     const char *start = to;
     unsigned length = 0, quotes = 0;
@@ -278,7 +278,7 @@ static bool ldr_irqs(struct ldr_task *task, const char *word, unsigned irqs) {
 
 /* ---- Places. */
 
-/* Writes a line `NUMBER TEXT WORD`. If it doesn't fit behind others, it is written once those were put. */
+/* Writes a line `NUMBER TEXT WORD`. If it doesn't fit after others, it is written once those were put. */
 static void ldr_line(struct ldr_task *task, uint32_t number, const char *text, const char *word) {
     struct ldr_stream *places = &task->places;
     char digits[12], *first = &digits[11];
@@ -305,7 +305,7 @@ static void ldr_line(struct ldr_task *task, uint32_t number, const char *text, c
 
 /* ---- Calls. */
 
-/* Whether a call is left out, since the trace has ended or it is part of an interrupt that is left out. Else it begins.
+/* Whether a call is left out because the trace has ended or it is part of an interrupt that is left out. If not, it begins.
    `entered` is 1 if it enters an interrupt and -1 if it leaves one. */
 static bool ldr_is_out(struct ldr_task *task, int entered) {
     uint32_t skipped = task->skipped;
@@ -354,7 +354,7 @@ void ldr_places(struct ldr_task *task, char *buffer, size_t size, ldr_put *put, 
     task->places.cookie = cookie;
 }
 
-/* Writes an acquisition if the format can say it. Returns whether it was written. */
+/* Writes an acquisition if the format can express it. Returns whether it was written. */
 static bool ldr_take(struct ldr_task *task, const char *name, unsigned sub, unsigned mode) {
     if (task->held == LDR_HELD) {
         task->left[LDR_LEFT_HELD]++;
@@ -398,7 +398,7 @@ static bool ldr_is_same(const char *one, const char *other) {
     return true;
 }
 
-/* Writes the release of the lock in a place of those that are held, and takes it out. Returns whether it was written. */
+/* Writes the release of the held lock at this index, and removes it. Returns whether it was written. */
 static bool ldr_give(struct ldr_task *task, unsigned place) {
     char *to = ldr_record(task, "rel,");
     if (to)
@@ -430,12 +430,12 @@ void ldr_release(struct ldr_task *task, const char *name, unsigned sub) {
     ldr_is_done(task);
 }
 
-/* Which irqs are off, outside a frame, that have to be on for it to begin. */
+/* The irqs that have to be on for a frame to begin, but are off outside it. */
 static unsigned ldr_closed(const struct ldr_frame *frame) {
     return frame[-1].off & (frame->irq | LDR_HARDIRQ);
 }
 
-/* Writes an interrupt's coming in, after turning on what has to be on. */
+/* Writes the entry of an interrupt, after turning on what has to be on. */
 static void ldr_open(struct ldr_task *task, unsigned irq) {
     struct ldr_frame *frame = task->frame + 1;
     frame->irq = irq;
@@ -484,7 +484,7 @@ void ldr_leave(struct ldr_task *task) {
     ldr_is_done(task);
 }
 
-/* Turns a flag. What is so already isn't written. Returns whether it was written. */
+/* Sets a flag. A change that changes nothing isn't written. Returns whether it was written. */
 static bool ldr_turn(struct ldr_task *task, const char *word, unsigned irq, unsigned off) {
     struct ldr_frame *frame = task->frame;
     if ((frame->off & irq) == off)

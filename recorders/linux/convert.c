@@ -1,4 +1,4 @@
-/* Makes traces of a recording of a kernel. The README says how it is called and what it leaves.
+/* Makes traces from a recording of a kernel. The README says how it is called and what it leaves.
 
    The order of this file: what went wrong, the files, the symbols, the classes and their keys, the tasks' traces, the
    tasks' books, the records, and what is written. */
@@ -36,7 +36,7 @@ struct options {
 
 static struct options options = {.folder = "traces", .version = 2, .keys = DEFAULT_KEYS};
 
-/* What is told at the end. */
+/* What is printed at the end. */
 struct counts {
     unsigned long records, acquisitions, releases, events, traces;
     unsigned long agreed, mismatches, lost, gaps, blind;
@@ -60,7 +60,7 @@ static void *checked(void *memory) {
     return memory;
 }
 
-/* A list's room, doubled as it grows. */
+/* A list's capacity, doubled as it grows. */
 #define PUSH(list, count, value)                                                                                       \
     do {                                                                                                               \
         if (((count) & ((count)-1)) == 0)                                                                              \
@@ -90,7 +90,7 @@ struct cpu {
 static struct cpu cpus[MAX_CPUS];
 static int open_gaps; /* how many CPUs are losing records */
 
-/* One record, its CPU, and whether records of this CPU were lost right behind it. */
+/* One record, its CPU, and whether records of this CPU were lost right after it. */
 struct item {
     const struct lr_record *record;
     int cpu;
@@ -100,7 +100,7 @@ struct item {
 static struct item *items;
 static size_t item_count;
 
-/* A whole file, with a zero byte behind it. */
+/* A whole file, followed by a zero byte. */
 static char *read_file(const char *path, size_t *size) {
     FILE *file = fopen(path, "rb");
     if (!file)
@@ -201,7 +201,7 @@ static void note_bound(const char *name, uint64_t address) {
         no_validate = address;
 }
 
-/* Reads lines as /proc/kallsyms has them. Those of modules have a fourth word, and are left out. */
+/* Reads lines in the format of /proc/kallsyms. Those of modules have a fourth word, and are left out. */
 static void load_symbols(void) {
     char path[4096];
     size_t size;
@@ -227,7 +227,7 @@ static void load_symbols(void) {
         refuse(options.symbols ? options.symbols : path, "has no _text, or root didn't read it");
 }
 
-/* The symbol in which an address lies: the last that isn't above it. */
+/* The symbol that contains an address: the last that isn't above it. */
 static const struct symbol *symbol_of(uint64_t address) {
     size_t low = 0, high = symbol_count;
     while (low < high) {
@@ -255,7 +255,7 @@ struct class {
     size_t written; /* its name in the traces, see below */
 };
 
-/* What a key is called now: keys in memory are used again by other classes. */
+/* A key's current name: keys in memory are reused by other classes. */
 struct key_use {
     uint64_t key;
     size_t class;
@@ -308,7 +308,7 @@ static void grow_key_uses(void) {
     free(old);
 }
 
-/* The place where it stands what this key (as it was recorded) is called. */
+/* The entry with the name of this key (as it was recorded). */
 static struct key_use *use_of_key(uint64_t key) {
     if (2 * key_use_count >= key_use_room)
         grow_key_uses();
@@ -331,7 +331,7 @@ static size_t name_of_text(const char *text) {
     return name_count - 1;
 }
 
-/* The class of a key with a name, made where it isn't there. */
+/* The class of a key with a name, made if it isn't there. */
 static size_t class_of(uint64_t recorded_key, const char *text) {
     bool is_percpu;
     uint64_t key = shared_key(recorded_key, &is_percpu);
@@ -376,8 +376,8 @@ static bool is_ambiguous(const struct class *class) {
     return class->is_percpu || (class->is_in_image && is_several);
 }
 
-/* Puts the symbol behind a name, or the distance from the kernel's start where the symbol says nothing. A lock that is called
-   as its symbol is has its name. */
+/* Appends the symbol to a name, or the distance from the kernel's start if the symbol says nothing. A lock with the same
+   name as its symbol keeps its name. */
 static void tell_apart(const struct class *class, char *text, size_t room) {
     const struct symbol *symbol = symbol_of(class->key);
     if (!symbol)
@@ -389,7 +389,7 @@ static void tell_apart(const struct class *class, char *text, size_t room) {
         snprintf(text + length, room - length, "@%s", symbol->name);
 }
 
-/* Spaces and what can't be seen become `_`; what is too long is cut, with a sum of the whole behind. */
+/* Spaces and invisible characters become `_`; a name that is too long is cut, and ends with a checksum of the whole. */
 static void make_name_valid(char *text) {
     uint32_t sum = 2166136261u;
     for (char *byte = text; *byte; byte++) {
@@ -425,7 +425,7 @@ static void name_classes(void) {
     }
 }
 
-/* Forgets what keys are called now, so that the records can be gone through again. */
+/* Forgets the current names of keys, so that the records can be gone through again. */
 static void forget_names(void) {
     for (size_t slot = 0; slot < key_use_room; slot++)
         key_uses[slot].class = SIZE_MAX;
@@ -476,7 +476,7 @@ static void count_uses(void) {
 
 static size_t keys_wanted, keys_chosen;
 
-/* The keys whose class is asked for, the most used of them. */
+/* The keys whose class is selected, the most used of them. */
 static void choose_keys(void) {
     count_uses();
     size_t *keys = NULL, count = 0;
@@ -494,7 +494,7 @@ static void choose_keys(void) {
     free(keys);
 }
 
-/* ---- Traces: one task's events, its locks that are held in the trace, and what has been seen before. */
+/* ---- Traces: one task's events, the locks that it holds in the trace, and what has been seen before. */
 
 enum frame { TASK, SOFTIRQ, HARDIRQ };
 enum mode { WRITE, READ, REC_READ, TRY_WRITE, TRY_READ, TRY_REC_READ };
@@ -514,7 +514,7 @@ struct held {
     int key; /* LEFT_OUT: it isn't written */
     enum mode mode;
     int level;      /* the number of its frame, from the outermost */
-    int references; /* 0, or how many locks of its class stand for it, taken under a nest_lock: lockdep counts so */
+    int references; /* 0, or how many locks of its class it represents, taken under a nest_lock: lockdep counts that way */
     uint64_t class_key;
 };
 
@@ -527,7 +527,7 @@ struct level {
     bool is_on[3]; /* by SOFTIRQ and HARDIRQ */
     int difference;
     enum last last;
-    bool is_taking, is_giving; /* in flight: `taking`, or what was given back last */
+    bool is_taking, is_giving; /* in flight: `taking`, or what was released last */
     struct held taking;
 };
 
@@ -545,7 +545,7 @@ struct task {
     size_t event_count;
     uint64_t *states; /* the sum of the state before each event, and of the one after the last */
     size_t state_count;
-    size_t barrier;        /* no stretch that begins before this event is taken back */
+    size_t barrier;        /* no stretch that begins before this event is dropped */
     uint64_t *seen;        /* sums of chains, by hash */
     size_t seen_room, seen_count;
     struct stretch *stretches; /* where a state was met since the barrier, by hash */
@@ -609,7 +609,7 @@ static bool is_news(struct task *task, uint64_t chain) {
     return true;
 }
 
-/* Where a state was met last since the barrier; a new place stands there afterwards. */
+/* Where a state was last seen since the barrier; the entry is replaced by the new place. */
 static struct stretch *stretch_of(struct task *task, uint64_t state) {
     if (2 * task->stretch_count >= task->stretch_room) {
         free(task->stretches);
@@ -627,7 +627,7 @@ static struct stretch *stretch_of(struct task *task, uint64_t state) {
     return &task->stretches[slot];
 }
 
-/* Takes back a stretch that came back to the state at its start and brought nothing new. `state` is the state now. */
+/* Drops a stretch that came back to the state at its start and brought nothing new. `state` is the current state. */
 static void take_back_repeat(struct task *task, uint64_t state) {
     struct stretch *stretch = stretch_of(task, state);
     bool is_there = stretch->barrier == task->barrier && stretch->at <= task->event_count &&
@@ -676,8 +676,8 @@ static void take(struct task *task, struct held held) {
     add_event(task, (struct event){ACQ, (uint8_t)held.mode, held.key}, is_new);
 }
 
-/* Gives back the lock at a place of the book. The trace gives back the newest of its key in the frame: where that is another
-   one, it goes on in the book at the older one's place, as it does in the trace. */
+/* Releases the lock at a place of the book. The trace releases the newest of its key in the frame: if that is another one,
+   it stays in the book at the older one's place, as it does in the trace. */
 static void give(struct task *task, int place) {
     int key = task->book[place].key, newest = place;
     for (int other = place + 1; other < task->held; other++)
@@ -717,7 +717,7 @@ static void leave(struct task *task) {
     add_event(task, (struct event){LEAVE, 0, 0}, false);
 }
 
-/* An entry wants the flags on. */
+/* An entry needs the flags on. */
 static void enter(struct task *task, enum frame irq, int depth) {
     if (irq == SOFTIRQ)
         set_flag(task, SOFTIRQ, true);
@@ -727,7 +727,7 @@ static void enter(struct task *task, enum frame irq, int depth) {
     add_event(task, (struct event){ENTER, (uint8_t)irq, 0}, false);
 }
 
-/* Gives everything back, and goes to the task frame. */
+/* Releases everything, and returns to the task frame. */
 static void drop_all(struct task *task) {
     for (;;) {
         while (task->held && task->book[task->held - 1].level == task->level)
@@ -815,7 +815,7 @@ static bool is_in_flight(struct task *task, int difference) {
     return true;
 }
 
-/* Whether the book has as many locks as lockdep has. */
+/* Whether the book has as many locks as lockdep. */
 static bool does_agree(struct task *task, int depth) {
     int difference = depth - task->held - top(task)->difference;
     if (difference == 0) {
@@ -860,7 +860,7 @@ static void acquire(struct task *task, const struct lr_record *record) {
     struct held held = held_of(record);
     counts.acquisitions++;
     if (top(task)->taking.instance == record->instance)
-        top(task)->is_taking = false; /* taken anew: the one in flight was given back where nobody saw it */
+        top(task)->is_taking = false; /* taken anew: the one in flight was released where nobody saw it */
     if (is_counted_only(task, record, &held)) {
         struct held *newest = &task->book[task->held - 1];
         newest->references += newest->references ? 1 : 2;
@@ -874,8 +874,8 @@ static void acquire(struct task *task, const struct lr_record *record) {
     take(task, held);
 }
 
-/* The newest lock of the book with this address; else the newest that was taken under a nest_lock, since that knows only its
-   first address. -1: there is none. */
+/* The newest lock of the book with this address; otherwise the newest that was taken under a nest_lock, since that knows
+   only its first address. -1: there is none. */
 static int place_of(const struct task *task, uint64_t instance) {
     for (int place = task->held - 1; place >= 0; place--)
         if (task->book[place].instance == instance)
@@ -886,7 +886,7 @@ static int place_of(const struct task *task, uint64_t instance) {
     return -1;
 }
 
-/* A CPU that isn't online says nothing: its idle task may have taken a lock meanwhile, and lockdep has one more. */
+/* A CPU that isn't online records nothing: its idle task may have taken a lock meanwhile, and lockdep has one more. */
 static void release_unknown(struct task *task, const struct lr_record *record) {
     counts.unknown_releases++;
     if (task->pid == 0 && task->level == 0 && record->depth == task->held + 1)
@@ -903,13 +903,13 @@ static void release(struct task *task, const struct lr_record *record) {
     } else if (task->book[place].references > 1) {
         task->book[place].references--;
     } else if (task->book[place].level != task->level) {
-        mismatch(task); /* an interrupt gave back what was taken outside: no trace can say that */
+        mismatch(task); /* an interrupt released what was taken outside: no trace can express that */
     } else {
         give(task, place);
     }
 }
 
-/* Frames and the book's length, before a record is written. False: nothing is to be written of it. */
+/* Frames and the book's length, before a record is written. False: the record isn't to be written. */
 static bool prepare(struct task *task, const struct lr_record *record) {
     if (task->is_blind && record->depth == 0)
         task->is_blind = false;
@@ -989,7 +989,7 @@ static struct task *task_of(const struct lr_record *record) {
     return found;
 }
 
-/* Whether the list has what the book has. */
+/* Whether the list agrees with the book. */
 static bool does_list_agree(const struct task *task, const struct cpu *cpu) {
     if (cpu->list_count != (size_t)task->held)
         return false;
@@ -1003,7 +1003,7 @@ static bool does_list_agree(const struct task *task, const struct cpu *cpu) {
     return true;
 }
 
-/* Takes what the list says. */
+/* Takes over the list. */
 static void take_list(struct task *task, struct cpu *cpu) {
     drop_all(task);
     task->is_blind = false;
@@ -1012,7 +1012,7 @@ static void take_list(struct task *task, struct cpu *cpu) {
         take(task, held_of(cpu->list[number]));
 }
 
-/* A task's list is there: the book is compared with it, or begins with it. */
+/* A task's list is complete: the book is compared with it, or begins with it. */
 static void end_switch(struct cpu *cpu) {
     struct task *task = cpu->task;
     const struct lr_record *record = cpu->switched;
@@ -1057,7 +1057,7 @@ static void add_to_list(struct cpu *cpu, const struct lr_record *record) {
         end_switch(cpu);
 }
 
-/* Records of this CPU are lost from here on: what its task does isn't known, nor what others do on it. */
+/* Records of this CPU are lost from here on: what its task does is unknown, and so is what others do on it. */
 static void begin_gap(struct cpu *cpu) {
     counts.gaps++;
     open_gaps += !cpu->is_in_gap;
@@ -1110,7 +1110,7 @@ static void convert(void) {
     }
 }
 
-/* The first look: where CPUs have their variables, and all names. */
+/* The first pass: where CPUs have their variables, and all names. */
 static void learn(void) {
     for (size_t number = 0; number < item_count; number++) {
         const struct lr_record *record = items[number].record;
@@ -1191,8 +1191,8 @@ static void write_trace(const struct task *task, FILE *list) {
     close_file(file);
 }
 
-/* Tasks go by their pids; those of one pid in the order in which they were met, and the idle tasks in that of their names,
-   which end in their CPU's number. */
+/* Tasks are ordered by pid; those with the same pid in the order in which they occurred, and the idle tasks by name, which
+   ends in their CPU's number. */
 static int by_pid(const void *a, const void *b) {
     const struct task *first = *(struct task *const *)a, *second = *(struct task *const *)b;
     if (first->pid != second->pid)
@@ -1255,7 +1255,7 @@ static void tell_summary(FILE *file) {
     tell_joined(file);
 }
 
-/* Says on standard error what makes the traces less than the truth. Returns the status. */
+/* Says on standard error what the traces lack or get wrong. Returns the status. */
 static int tell_faults(void) {
     int status = 0;
     if (counts.lost || counts.gaps)

@@ -1,6 +1,6 @@
 // SPDX-License-Identifier: GPL-2.0
-/* Records the lock events of a running kernel that has PROVE_LOCKING. Its functions hang on the tracepoints that are there
-   already, and write to buffers of their own, with interrupts off: they take no lock, and call nothing that is traced.
+/* Records the lock events of a running kernel that has PROVE_LOCKING. Its functions are attached to existing tracepoints,
+   and write to their own buffers, with interrupts off: they take no lock, and call nothing that is traced.
 
    debugfs/lockrec/cpuN     the records of one CPU (record.h), read until the recording is stopped and the buffer is empty
    debugfs/lockrec/control  reading it says what was found, written and lost; `start` and `stop` are written to it */
@@ -39,7 +39,7 @@ MODULE_PARM_DESC(lock_classes_at, "the address of lock_classes in /proc/kallsyms
 
 #define SEEN 4096        /* keys whose names a CPU remembers having written, a power of two */
 #define EVENT_ROOM 256   /* slots that one event may need: its task, the locks this holds, and all their names */
-#define RESUME_ROOM 4096 /* slots that have to be free before recording goes on after a loss */
+#define RESUME_ROOM 4096 /* slots that have to be free before recording continues after a loss */
 #define READ_PART 8      /* a reader waits until such a part of the buffer is full, */
 #define READ_PAUSE 20    /* and looks after so many milliseconds */
 
@@ -87,7 +87,7 @@ static struct class_info info_of_class(const struct lock_class *class)
 	return (struct class_info){(u64)(unsigned long)class->key, class->name, class->subclass};
 }
 
-/* Lockdep's own class where it is in the lock's cache; else what the lock says. A static lock without a key is its own. */
+/* Lockdep's own class if it is in the lock's cache; otherwise what the lock says. A static lock without a key is its own. */
 static struct class_info info_of_map(const struct lockdep_map *map, unsigned int subclass)
 {
 	struct class_info info = {0};
@@ -137,20 +137,20 @@ static bool is_reader(struct buffer *buffer)
 	return buffer->is_reader;
 }
 
-/* A reader's own locks aren't recorded: each record would make more of them. Interrupts that come to it are. */
+/* A reader's own locks aren't recorded: each record would cause more of them. Interrupts of it are. */
 static bool is_left_out(struct buffer *buffer)
 {
 	return !lockdep_hardirq_context() && !current->softirq_context && is_reader(buffer);
 }
 
-/* ---- Writing. All of it with interrupts off, on the buffer's own CPU. */
+/* ---- Writing, always with interrupts off, on the buffer's own CPU. */
 
 static unsigned long room_of(const struct buffer *buffer)
 {
 	return slots - (buffer->head - smp_load_acquire(&buffer->tail));
 }
 
-/* The reader sees a record when `head` is behind it. */
+/* The reader sees a record when `head` is past it. */
 static void put_slot(struct buffer *buffer, const void *bytes)
 {
 	memcpy(&buffer->slots[buffer->head & (slots - 1)], bytes, sizeof(struct lr_record));
@@ -180,7 +180,7 @@ static void put_name(struct buffer *buffer, const struct class_info *info, u32 p
 		put_slot(buffer, text + slot * sizeof(struct lr_record));
 }
 
-/* Writes the name of a key where this CPU hasn't done it, or where the key has another name now. */
+/* Writes the name of a key if this CPU hasn't done so, or if the key now has another name. */
 static void tell_name(struct buffer *buffer, const struct class_info *info, u32 pid)
 {
 	unsigned int home = (info->key * 0x9e3779b97f4a7c15ull) >> 40 & (SEEN - 1), place = home;
@@ -245,7 +245,7 @@ static void put_held(struct buffer *buffer)
 	}
 }
 
-/* Says which task this CPU runs where it isn't the one of the last record. */
+/* Records which task this CPU runs if it isn't that of the last record. */
 static void tell_task(struct buffer *buffer, u8 state)
 {
 	int generation = READ_ONCE(reader_generation);
@@ -381,7 +381,7 @@ static void probe_enable(void *data, unsigned long ip, unsigned long parent_ip)
 	end_event(buffer, &record, irqs);
 }
 
-/* An interrupt begins. What else the tracepoint says isn't looked at. */
+/* An interrupt begins. The tracepoint's other arguments are ignored. */
 static void probe_interrupt(void *data)
 {
 	if (READ_ONCE(phase) == RUNNING)
@@ -427,7 +427,7 @@ static void remove_probes(void)
 	tracepoint_synchronize_unregister();
 }
 
-/* The probes come one after the other; nothing is written before they are all there, since `phase` is set last. */
+/* The probes are attached one after the other; nothing is written before all are attached, since `phase` is set last. */
 static int add_probes(void)
 {
 	unsigned int number;
@@ -469,7 +469,7 @@ static int release_cpu(struct inode *inode, struct file *file)
 	return 0;
 }
 
-/* Whole slots, as many as are there in one piece. Nothing is answered only after the end. */
+/* Whole slots, as many as are contiguous. It returns nothing only after the end. */
 static ssize_t read_cpu(struct file *file, char __user *bytes, size_t size, loff_t *at)
 {
 	struct buffer *buffer = file->private_data;
@@ -517,7 +517,7 @@ static int open_control(struct inode *inode, struct file *file)
 	return single_open(file, show_control, NULL);
 }
 
-/* Says where each CPU's variables lie, which is the first record of its buffer. */
+/* Records where each CPU's variables are: the first record of its buffer. */
 static void start(void)
 {
 	unsigned int cpu;
@@ -530,7 +530,7 @@ static void start(void)
 	smp_store_release(&phase, RUNNING);
 }
 
-/* A gap at the end is closed where no event can do it any more: each event left room for that. */
+/* A gap at the end is closed here, since no event can do it any more: each event left room for that. */
 static void stop(void)
 {
 	unsigned int cpu;

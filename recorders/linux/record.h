@@ -15,7 +15,7 @@ typedef uint8_t lr_u8;
 #endif
 
 struct lr_record {
-    lr_u64 number;   /* from one counter for all CPUs: puts their records in one order */
+    lr_u64 number;   /* from one counter for all CPUs, which orders their records */
     lr_u64 instance; /* the lock's address */
     lr_u64 key;      /* its class's key: the address of a `lock_class_key`, with the subclass added */
     lr_u64 place;    /* the caller */
@@ -26,16 +26,16 @@ struct lr_record {
     lr_u8 depth; /* how many locks lockdep has for this task before the event */
 };
 
-/* What a record tells. Where a type isn't an acquisition, the fields have other meanings. */
+/* What a record says. If a type isn't an acquisition, the fields have other meanings. */
 enum lr_type {
     LR_ACQUIRE = 1,
     LR_RELEASE = 2,
-    LR_ENABLE = 3, /* hardirqs are about to be turned on; only where locks are held and lockdep says that they are off */
+    LR_ENABLE = 3, /* hardirqs are about to be turned on; only if locks are held and lockdep says that they are off */
     LR_NAME = 4,   /* the name of the class of `key`; LR_NAME_SLOTS slots of text follow */
     LR_TASK = 5,   /* from here on this CPU runs this task: `instance` and `key` are its `comm`, `place` its `task_struct` */
     LR_HELD = 6,   /* a lock that the task holds, outermost first: `depth` of them follow an LR_TASK, counted down */
     LR_LOST = 7,   /* `instance` records of this CPU were lost here */
-    LR_CPU = 8,    /* the variables of the CPU `key` lie `instance` above their symbols */
+    LR_CPU = 8,    /* the variables of the CPU `key` are `instance` above their symbols */
 };
 
 #define LR_NAME_SLOTS 2

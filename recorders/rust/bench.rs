@@ -1,4 +1,4 @@
-//! What an acquisition with its release costs, in nanoseconds of the clock.
+//! What an acquisition with its release costs, in nanoseconds of wall-clock time.
 use lockdep_record::{LazyLock, Mutex, RwLock};
 use std::hint::black_box;
 use std::time::Instant;

@@ -4,7 +4,7 @@
 #define LOCKDEP_RECORD_CODE
 #include "../lockdep_record.h"
 
-/* A task, with what its trace and its places are written to. */
+/* A task, with the files for its trace and its places. */
 struct task {
     struct ldr_task recorded;
     char trace_bytes[4096], places_bytes[4096];

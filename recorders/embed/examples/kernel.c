@@ -1,8 +1,8 @@
 /* A small preemptive kernel of one processor, whose timer is a POSIX timer: its signal is the hardware interrupt. The
-   interrupt counts, asks for deferred work, which runs behind it with interrupts on, and gives the processor to the next
+   interrupt counts, requests deferred work, which runs after it with interrupts on, and gives the processor to the next
    task. Locks are spin locks. One task takes `clock` as it must, with interrupts off; the other takes it with interrupts on
    as well, although the timer's interrupt takes it. This run doesn't hang, since that task does it just after a tick; if a
-   tick comes there all the same, the kernel says so and ends. */
+   tick comes at that point nevertheless, the kernel says so and ends. */
 #define _GNU_SOURCE
 #include <signal.h>
 #include <stdio.h>
@@ -46,7 +46,7 @@ static void set_on(void) {
     }
 }
 
-/* Sets them back to what they were. */
+/* Restores them. */
 static void set_back(sig_atomic_t was_off) {
     if (!was_off)
         set_on();
@@ -65,8 +65,8 @@ static void on_signal(int number) {
         set_on();
 }
 
-/* A call of the recorder's, with interrupts off so that none comes in within it. What the recorder is told of interrupts
-   is what the kernel does, and not this. */
+/* A call of the recorder, with interrupts off so that none comes in during it. The recorder is told about the interrupts
+   that the kernel turns off and on, not about these. */
 #define record(call)                     \
     do {                                 \
         sig_atomic_t was_off = set_off(); \

@@ -1,5 +1,5 @@
-/* SQLite with mutexes of one's own, as a runtime may have them: its interface for that is told what to call. Three threads
-   read and write one database, each by a connection of its own. */
+/* SQLite with custom mutexes, as a runtime may have them: its interface for that is told what to call. Three threads read
+   and write one database, each through its own connection. */
 #include <pthread.h>
 #include <sqlite3.h>
 #include <stdio.h>
@@ -10,7 +10,7 @@
 
 #define THREADS 3
 
-/* A thread, and what it is doing, which is all that is known of the place where SQLite takes a mutex. */
+/* A thread, and what it is doing, which is all that is known about the place where SQLite takes a mutex. */
 struct task {
     struct ldr_task recorded;
     char trace_bytes[4096], places_bytes[4096];

@@ -6,7 +6,7 @@ import java.sql.Statement;
 import java.util.Random;
 
 /**
- * Transfers between the accounts of a database by several threads, each with a connection of its own: URL THREADS
+ * Transfers between the accounts of a database by several threads, each with its own connection: URL THREADS
  * TRANSFERS.
  */
 public class Database {

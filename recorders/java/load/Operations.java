@@ -1,7 +1,7 @@
 import java.util.concurrent.locks.ReentrantLock;
 import java.util.concurrent.locks.ReentrantReadWriteLock;
 
-/** Operations that nobody contends, in loops: prints each with the nanoseconds of one, the least of several rounds. */
+/** Uncontended operations, in loops: prints the nanoseconds of one operation of each, the least of several rounds. */
 public class Operations {
     private static final int COUNT = 1000000;
     private static final int ROUNDS = 10;

@@ -12,7 +12,7 @@ import java.util.concurrent.atomic.AtomicInteger;
 import org.apache.catalina.Context;
 import org.apache.catalina.startup.Tomcat;
 
-/** Tomcat with a servlet that counts in a session, and clients that ask it: FOLDER CLIENTS REQUESTS. */
+/** Tomcat with a servlet that counts in a session, and clients that send requests: FOLDER CLIENTS REQUESTS. */
 public class Web {
     public static class Counter extends HttpServlet {
         @Override

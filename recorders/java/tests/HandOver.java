@@ -1,7 +1,7 @@
 import java.util.concurrent.locks.Lock;
 import java.util.concurrent.locks.ReentrantLock;
 
-/** A lock that is given back before two that were taken later, in an order that was seen before. */
+/** A lock that is released before two that were taken later, in an order that was seen before. */
 public class HandOver {
     private static final Lock a = new ReentrantLock();
     private static final Lock b = new ReentrantLock();

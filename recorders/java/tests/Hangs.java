@@ -3,7 +3,7 @@ import java.util.concurrent.locks.Lock;
 import java.util.concurrent.locks.ReentrantLock;
 import java.util.concurrent.locks.ReentrantReadWriteLock;
 
-/** Programs that hang, which say so once they do: by blocks, by methods, by locks, and by a reader that wants to be a writer. */
+/** Programs that hang, and say so once they do: on blocks, methods, locks, and with a reader that wants to be a writer. */
 public class Hangs {
     static final CyclicBarrier both = new CyclicBarrier(2);
 
@@ -54,7 +54,7 @@ public class Hangs {
         lock.writeLock().lock();
     }
 
-    /** A reader waits behind a writer that waits, though the lock isn't fair: neither goes on. */
+    /** A reader waits behind a waiting writer, although the lock isn't fair: neither goes on. */
     static void readsThenLocks(ReentrantReadWriteLock lock, Object other) {
         lock.readLock().lock();
         meet();

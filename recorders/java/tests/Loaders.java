@@ -3,7 +3,7 @@ import java.net.URL;
 import java.net.URLClassLoader;
 import java.nio.file.Files;
 
-/** Runs Abba by class loaders of other kinds: one whose parent is the boot loader, one that finds nothing outside but `java`. */
+/** Runs Abba with class loaders of other kinds: one whose parent is the boot loader, one that finds nothing outside but `java`. */
 public class Loaders {
     static class Strict extends ClassLoader {
         private final File folder;

@@ -1,6 +1,6 @@
 import java.util.concurrent.CountDownLatch;
 
-/** As many threads as the first word says, virtual ones if the second says so, which take two locks. */
+/** As many threads as the first argument says, virtual ones if the second says so, which take two locks. */
 public class Many {
     private static final Object first = new Object();
     private static final Object second = new Object();

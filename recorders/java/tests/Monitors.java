@@ -1,4 +1,4 @@
-/** Monitors: blocks, synchronized methods, class objects, errors that leave them, and monitors that are taken again. */
+/** Monitors: blocks, synchronized methods, class objects, errors that leave them, and reentered monitors. */
 public class Monitors {
     private final Object inner = new Object();
 

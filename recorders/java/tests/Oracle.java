@@ -4,7 +4,7 @@ import java.util.Random;
 import java.util.TreeSet;
 import java.util.concurrent.locks.ReentrantLock;
 
-/** Takes locks by chance, gives them back in any order, and says which orders there were: SEED. */
+/** Takes locks at random, releases them in any order, and prints which orders there were: SEED. */
 public class Oracle {
     private static final ReentrantLock a = new ReentrantLock();
     private static final ReentrantLock b = new ReentrantLock();

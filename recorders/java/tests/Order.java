@@ -3,7 +3,7 @@ import java.util.Hashtable;
 import java.util.List;
 import java.util.ArrayList;
 
-/** Where locks are made: objects of several kinds, releases out of order, and what is left out since it comes again. */
+/** Where locks are made: objects of several kinds, releases out of order, and what is left out since it repeats. */
 public class Order {
     private final List<String> names = new ArrayList<>();
     private final int[] none = {};

@@ -1,4 +1,4 @@
-/** Objects that lock themselves and are made by reflection, often enough that the JDK makes code for it: their class is theirs. */
+/** Objects that lock themselves and are made by reflection, often enough that the JDK generates code: each class is its own. */
 public class Reflected {
     synchronized void takes() {
     }

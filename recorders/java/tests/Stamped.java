@@ -2,7 +2,7 @@ import java.util.concurrent.TimeUnit;
 import java.util.concurrent.locks.Lock;
 import java.util.concurrent.locks.StampedLock;
 
-/** Stamped locks: each way to take and to change one, and a lock that another thread gives back. */
+/** Stamped locks: each way to take and to change one, and a lock that another thread releases. */
 public class Stamped {
     static final StampedLock lock = new StampedLock();
     static long stamp;

@@ -1,4 +1,4 @@
-/** Ten threads at once, each with a lock of its own and one of all. */
+/** Ten threads at once, each with its own lock and one that all share. */
 public class Ten {
     private static final Object shared = new Object();
     private static int count;

@@ -4,7 +4,7 @@ import java.util.concurrent.locks.Condition;
 import java.util.concurrent.locks.Lock;
 import java.util.concurrent.locks.ReentrantLock;
 
-/** Waiting: it is a release of all levels, and an acquisition with what else is held. */
+/** Waiting: a release of all levels, and an acquisition with whatever else is held. */
 public class Waits {
     static final Object monitor = new Object();
     static final Lock lock = new ReentrantLock();

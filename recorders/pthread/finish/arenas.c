@@ -131,15 +131,25 @@ uint64_t told_word(const struct arena *a, uint64_t raw) {
     return raw_word(a->modules[module], raw_word_offset(raw));
 }
 
+/* The first of callers that is of the program itself; the first of all if none is. */
+static uint32_t first_of_program(const struct arena *a, const struct raw_place *from, uint32_t last) {
+    for (uint32_t i = 0; i < last; i++)
+        if (is_of_program(told_word(a, from->callers[i])))
+            return i;
+    return 0;
+}
+
+static bool is_start(uint64_t word) { return is_outermost(word) || (word != UINT64_MAX && !is_of_program(word)); }
+
 /* The callers without the frames that start a thread or a program, and without the innermost wrappers. */
 static void read_place(struct arena *a, struct place *to, const struct raw_place *from) {
     uint32_t last = from->count < RAW_FRAMES ? (uint32_t)from->count : RAW_FRAMES, first = 0;
-    while (last > 1 && is_outermost(told_word(a, from->callers[last - 1])))
+    while (last > 1 && is_start(told_word(a, from->callers[last - 1])))
         last--;
     while (first + 1 < last && is_wrapper(told_word(a, from->callers[first])))
         first++;
     if (first + 1 == last && is_wrapper(told_word(a, from->callers[first])))
-        first = 0;
+        first = first_of_program(a, from, last);
     for (uint32_t i = first; i < last; i++)
         to->words[to->count++] = told_word(a, from->callers[i]);
 }

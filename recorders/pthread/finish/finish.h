@@ -120,6 +120,7 @@ extern int frames;
 
 void read_wrappers(const char *beside);
 bool is_wrapper(uint64_t word);
+bool is_of_program(uint64_t word);
 bool is_outermost(uint64_t word);
 bool is_in_fork(uint64_t word);
 void tell_symbol(char *text, size_t room, const char *symbol);

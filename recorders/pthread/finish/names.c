@@ -75,8 +75,27 @@ static void fill_spaces(char *name) {
             *name = '_';
 }
 
-/* A symbol's name as one reads it, without parameters. */
-void tell_symbol(char *text, size_t room, const char *symbol) {
+/* The name of a function of the C++ library that calls a lambda becomes the lambda's, which is what the program's author knows. */
+static void cut_to_lambda(char *name) {
+    char *lambda = strncmp(name, "std::", 5) == 0 ? strstr(name, "::{lambda(") : NULL;
+    if (!lambda)
+        return;
+    char *from = lambda, *end = lambda + 2;
+    for (int depth = 0; from > name && (depth || !strchr("<(, ", from[-1])); from--)
+        depth += strchr(")>}", from[-1]) ? 1 : strchr("(<{", from[-1]) ? -1 : 0;
+    for (int depth = 0; *end; end++) {
+        depth = deeper(depth, from, (size_t)(end - from));
+        if (depth == 0)
+            break;
+    }
+    if (!*end)
+        return;
+    end[1] = 0;
+    memmove(name, from, strlen(from) + 1);
+}
+
+/* A symbol's name without parameters, with the spaces that C++ has in it. */
+static void read_symbol(char *text, size_t room, const char *symbol) {
     static demangler *demangle;
     static bool is_looked_for;
     if (!is_looked_for)
@@ -89,13 +108,19 @@ void tell_symbol(char *text, size_t room, const char *symbol) {
         cut_parameters(text);
         cut_type(text);
     }
-    fill_spaces(text);
     free(plain);
+}
+
+/* A symbol's name as one reads it, without parameters. */
+void tell_symbol(char *text, size_t room, const char *symbol) {
+    read_symbol(text, room, symbol);
+    fill_spaces(text);
 }
 
 /* ---- Wrappers: functions that are passed over when a place is named. */
 
-static char **wrappers; /* patterns of functions; one that begins with `in ` is of modules */
+/* Patterns of functions. One that begins with `in ` is of modules, one with `not ` of functions that are none, whatever else fits. */
+static char **wrappers;
 static size_t wrapper_count;
 
 static void read_list(const char *path) {
@@ -120,19 +145,34 @@ void read_wrappers(const char *beside) {
         read_list(more);
 }
 
-static bool fits_list(uint64_t word) {
-    const struct symbol *s = symbol_at(raw_word_module(word), raw_word_offset(word) - 1, SYMBOL_CODE);
-    char name[LONGEST_NAME] = "";
-    if (s)
-        tell_symbol(name, sizeof name, s->name);
-    for (size_t i = 0; i < wrapper_count; i++) {
-        const char *pattern = wrappers[i];
-        if (strncmp(pattern, "in ", 3) == 0 && fnmatch(pattern + 3, modules[raw_word_module(word)].base, 0) == 0)
+/* Whether all of a module is passed over. */
+static bool is_library(uint64_t word) {
+    for (size_t i = 0; i < wrapper_count; i++)
+        if (strncmp(wrappers[i], "in ", 3) == 0 && fnmatch(wrappers[i] + 3, modules[raw_word_module(word)].base, 0) == 0)
             return true;
-        if (s && (fnmatch(pattern, name, 0) == 0 || fnmatch(pattern, s->name, 0) == 0))
-            return true;
-    }
     return false;
+}
+
+static bool fits(const char *pattern, const char *name, const struct symbol *s) {
+    return fnmatch(pattern, name, 0) == 0 || fnmatch(pattern, s->name, 0) == 0;
+}
+
+static bool fits_list(uint64_t word) {
+    if (is_library(word))
+        return true;
+    const struct symbol *s = symbol_at(raw_word_module(word), raw_word_offset(word) - 1, SYMBOL_CODE);
+    if (!s)
+        return false;
+    char name[LONGEST_NAME];
+    tell_symbol(name, sizeof name, s->name);
+    bool is_one = false;
+    for (size_t i = 0; i < wrapper_count; i++) {
+        if (strncmp(wrappers[i], "not ", 4) != 0)
+            is_one = is_one || fits(wrappers[i], name, s);
+        else if (fits(wrappers[i] + 4, name, s))
+            return false;
+    }
+    return is_one;
 }
 
 /* What was found of an address is kept. */
@@ -153,6 +193,9 @@ bool is_wrapper(uint64_t word) {
     }
     return remembered[slot].fits;
 }
+
+/* Whether an address is known and isn't in a library of wrappers. */
+bool is_of_program(uint64_t word) { return word != UINT64_MAX && !is_library(word); }
 
 /* The frames of the C library that begin a program or a thread. */
 bool is_outermost(uint64_t word) {
@@ -187,9 +230,10 @@ static void tell_address(char *text, size_t room, uint64_t word, bool is_call, e
     uint64_t offset = raw_word_offset(word);
     const struct symbol *s = plainly ? NULL : symbol_at(raw_word_module(word), offset - is_call, kind);
     char name[LONGEST_NAME];
-    if (s)
-        tell_symbol(name, sizeof name, s->name);
-    else
+    if (s) {
+        read_symbol(name, sizeof name, s->name);
+        cut_to_lambda(name);
+    } else
         snprintf(name, sizeof name, "%s", modules[raw_word_module(word)].base);
     fill_spaces(name);
     if (!s)

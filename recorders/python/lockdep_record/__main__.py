@@ -13,12 +13,12 @@ Usage: python3 -m lockdep_record [-o FOLDER] [--] [OPTIONS OF PYTHON] SCRIPT [WO
 
   -o FOLDER         writes the traces to FOLDER instead of `traces`. Those of an earlier recording are replaced; a file that no
                     recording made is never touched
-  --command COMMAND runs a command that isn't a script of Python's: all that it starts of Python is recorded
+  --command COMMAND runs a command that isn't a Python script: every Python program that it starts is recorded
   --finish FOLDER   writes the traces of a recording whose recorder was killed
   --summary FOLDER  prints again what was recorded and what was left out. The status is 0 if nothing was left out, 1 if
                     something was, and 2 if no lock was seen
 
-The status is the program's, and 128 and the signal's number if a signal ended it. If that is 0, it is 2 if no lock was seen.
+The status is the program's, or 128 plus the signal's number if a signal ended it. Instead of 0 it is 2 if no lock was seen.
 SIGHUP, SIGINT, SIGQUIT, SIGTERM, SIGUSR1 and SIGUSR2 are passed on to the program; its traces are written when it has ended.
 """
 
@@ -30,7 +30,7 @@ class Python:
     is_python, is_command_next = True, False
 
     def takes(self, word, words):
-        """Whether a word is an option of this recorder's own: each of them ends the options."""
+        """Whether a word is one of this recorder's own options: each of them ends the options."""
         if word == "--command":
             if not words:
                 raise command.Refusal("--command needs a command")

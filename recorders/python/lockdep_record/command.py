@@ -1,4 +1,4 @@
-"""What the recorders whose traces are made here have in common: their command line, and the command that is recorded."""
+"""What the recorders whose traces are made here have in common: their command line, and the recorded command."""
 import os
 import signal
 import sys
@@ -10,13 +10,13 @@ FROM_KERNEL = 128  # the code of a signal that a terminal sends
 
 
 def is_command(word):
-    """Whether what is to be recorded is a command of its own, and no word of the language's."""
+    """Whether what is to be recorded is a separate command, and not an argument for the language."""
     from shutil import which
     return not word.startswith("-") and which(word) is not None
 
 
 def start(command, environment):
-    """Starts the command, with the signals as they were for this process. Returns its number, or the status if it can't be run."""
+    """Starts the command, with the signals as they were for this process. Returns its process id, or the status if it can't be run."""
     ignored = [number for number in PASSED_ON if signal.getsignal(number) == signal.SIG_IGN]
     signal.pthread_sigmask(signal.SIG_BLOCK, PASSED_ON + (signal.SIGCHLD,))
     for number in ignored:
@@ -42,7 +42,7 @@ mask = signal.pthread_sigmask(signal.SIG_BLOCK, ())
 
 
 def wait_for(child):
-    """Waits for the command and passes signals on to it. What a terminal sends, it sends to the command too."""
+    """Waits for the command and passes signals on to it. A terminal's signals reach the command anyway."""
     while True:
         ended, status = os.waitpid(child, os.WNOHANG)
         if ended:
@@ -55,7 +55,7 @@ def wait_for(child):
 
 
 def record(folder, command, environment, then):
-    """Records a command in an environment. Returns its status, or becomes what comes after it."""
+    """Records a command in an environment. Returns its status, or becomes what runs after it."""
     folder.prepare()
     child, _ = start(command, environment)
     status = wait_for(child)
@@ -82,7 +82,7 @@ def folder_of(path, recorder):
 
 
 def do(words, recorder):
-    """Reads the command line of a recorder, and does what it says. Options of its own are the recorder's to take."""
+    """Reads the command line of a recorder, and does what it says. The recorder itself handles its own options."""
     path, then = "traces", None
     while words:
         word = words.pop(0)

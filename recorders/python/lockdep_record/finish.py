@@ -1,4 +1,4 @@
-"""Makes traces of what the processes of a recording wrote (`recording` has the form of their files)."""
+"""Makes traces from what the processes of a recording wrote (`recording` describes the format of their files)."""
 import os
 from binascii import crc32
 
@@ -19,7 +19,7 @@ LOSSES = (
     ("reentered", "calls from a signal handler or a finaliser that interrupted the recorder: an order among them may be missing"),
     ("interrupted", "threads that an error of a signal handler interrupted in the recorder: their traces end there"),
     ("unseen-releases", "releases of locks that the thread wasn't seen to take: another thread, or nobody, was seen to hold them"),
-    ("still-running", "processes that still ran at the end: what they did later isn't there"),
+    ("still-running", "processes that still ran at the end: what they did later isn't recorded"),
     ("threads-alike", "threads whose traces are those of others, and weren't written: nothing is lost by these"),
     ("repeats", "records that repeat what their thread had done before: nothing is lost by these"),
 )
@@ -32,12 +32,12 @@ class Task:
         self.process, self.records, self.waits, self.has_ended = process, [], False, False
 
     def content(self):
-        """What makes traces alike."""
+        """What is equal for equal traces."""
         return tuple((self.process.key(code >> 3), code & 7) for code, _ in self.records)
 
 
 class Process:
-    """What the file of a process says."""
+    """The contents of a process's file."""
 
     def __init__(self, number, names):
         self.number, self.names, self.pid, self.began = number, names, 0, 0
@@ -87,8 +87,8 @@ class Process:
             task.has_ended = True
 
     def key(self, number):
-        """A lock of this process: its class, its number there, and the process. Threads write what they need side by side, so a class
-        may stand in the file after its lock, or not at all if the process was killed."""
+        """A lock of this process: its class, its number there, and the process. Threads write what they need concurrently, so a class
+        may come after its lock in the file, or be missing if the process was killed."""
         of, ordinal = self.keys.get(number, (0, 0))
         return self.classes.get(of) or self.names.class_of("unknown", "?:0 ?", ""), ordinal, self.number
 
@@ -113,7 +113,7 @@ class Names:
         return found
 
     def fitting(self, name):
-        """The name as the format has it, and as no other class is called."""
+        """The name as the format allows it, different from that of any other class."""
         name = "".join(letter if "!" <= letter <= "~" and letter not in ',"' else "_" for letter in name)
         number, fitting = 1, cut(name)
         while fitting in self.taken:
@@ -206,7 +206,7 @@ def write_lines(path, lines):
 
 
 class Summary:
-    """What SUMMARY says."""
+    """The contents of SUMMARY."""
 
     def __init__(self):
         self.counts, self.threads, self.events, self.waiting, self.holding = {}, 0, 0, [], []
@@ -238,7 +238,7 @@ class Summary:
 
 
 def chosen(tasks, summary):
-    """The tasks whose traces are written: a run takes so many."""
+    """The tasks whose traces are written: as many as a run takes."""
     if len(tasks) <= MOST_TRACES:
         return tasks
     like, kept = {}, []
@@ -253,7 +253,7 @@ def chosen(tasks, summary):
 
 
 def is_running(pid):
-    """Whether a process goes on. One that has ended and that nobody asked for its status doesn't."""
+    """Whether a process is still running. One that has ended but whose status nobody has read isn't."""
     try:
         with open("/proc/%d/stat" % pid, encoding="utf-8", errors="replace") as file:
             return file.read().rpartition(")")[2].split()[0] not in "ZX"

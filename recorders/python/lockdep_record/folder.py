@@ -1,7 +1,7 @@
-"""The folder of a recording: what is in it, that nobody's files are lost, and what is said at the end.
+"""The folder of a recording: what is in it, protecting other files, and what is printed at the end.
 
-What a recording made is listed in RECORDED, which is also what is locked while one is under way. `raw` has what the processes wrote,
-and is there until the traces are made."""
+What a recording made is listed in RECORDED, which is also the file that is locked during a recording. `raw` has what the processes
+wrote, and exists until the traces are made."""
 import fcntl
 import os
 import re
@@ -67,7 +67,7 @@ class Folder:
         return sorted(name for name in found if MADE.fullmatch(name))
 
     def prepare(self):
-        """Makes the folder ready for a recording. What is in the way is left alone."""
+        """Prepares the folder for a recording. Files that are in the way are left alone."""
         self.lock()
         if os.path.isfile(self.mark):
             raise Refusal("%s has a recording whose traces weren't made: --finish makes them, `rm -r %s` drops it" % (self.path, self.raw))
@@ -78,7 +78,7 @@ class Folder:
                           % os.path.join(self.path, in_the_way[0]))
         self.remove_earlier()
         os.mkdir(self.raw)
-        os.chmod(self.raw, 0o1777)  # a program may give up its rights
+        os.chmod(self.raw, 0o1777)  # a program may drop its privileges
         with open(self.mark, "w", encoding="utf-8"):
             pass
 
@@ -107,7 +107,7 @@ class Folder:
         shutil.rmtree(self.raw)
         self.write_list(self.names())
 
-    # ---- What is said at the end.
+    # ---- What is printed at the end.
 
     def summary(self):
         try:
@@ -117,7 +117,7 @@ class Folder:
             raise Refusal("%s has no recording" % self.path)
 
     def say_what_was_seen(self):
-        """Says what was recorded and what was left out. Returns 0, 1 if something was left out, and 2 if no lock was seen."""
+        """Prints what was recorded and what was left out. Returns 0, 1 if something was left out, and 2 if no lock was seen."""
         lines = self.summary()
         counts = dict((line.split()[0], int(line.split()[1])) for line in lines if re.fullmatch(r"[a-z-]+ \d+", line))
         lost = lost_words(lines)
@@ -139,7 +139,7 @@ class Folder:
 
 
 def lost_words(lines):
-    """What was left out, in one line: each count with the words of the line under it, up to a colon."""
+    """What was left out, in one line: each count with the text of the line under it, up to a colon."""
     words = []
     for line, below in zip(lines, lines[1:] + [""]):
         name, _, count = line.rpartition(" ")

@@ -1,7 +1,7 @@
-"""What takes the place of a program's locks: each does what the real one does, and says so to `recording`.
+"""Replacements for a program's locks: each does what the real one does, and reports it to `recording`.
 
 What is here looks like the real thing to a program: names, texts, errors. Locks that only serve inside `threading` and the import
-system, as those of an Event, stay as they are."""
+system, such as those of an Event, stay as they are."""
 import _thread
 import atexit
 import os
@@ -12,7 +12,7 @@ from importlib import _bootstrap
 from . import recording
 from .recording import TRY, WRITE, Lock as Record, failed_try, gave, getframe, grant, made_at, not_granted, took, wish
 
-# How long a lock is waited for before that is written, in seconds. Who is in a deadlock waits longer.
+# How long a thread waits for a lock before that is written, in seconds. In a deadlock it waits longer.
 PATIENCE = 0.05
 
 allocate, RealRLock = _thread.allocate_lock, _thread.RLock
@@ -21,7 +21,7 @@ of_condition = threading.Condition.__init__.__code__
 
 
 def keep(record, mode, release):
-    """A lock was taken: if that can't be noted, as since a signal's handler has raised an error, it is given back."""
+    """A lock was taken: if that can't be noted, for example since a signal handler raised an error, it is released."""
     try:
         took(record, mode)
     except BaseException:
@@ -31,7 +31,7 @@ def keep(record, mode, release):
 
 
 def take(record, inner, blocking, timeout):
-    """Takes a lock that has to be waited for, or that isn't to be waited for. Errors of its words are the real method's."""
+    """Takes a lock, with or without waiting for it. Errors in its arguments are raised by the real method."""
     if not blocking or not isinstance(timeout, (int, float)) or not (timeout == -1 or 0 < timeout <= _thread.TIMEOUT_MAX):
         if inner.acquire(blocking, timeout):
             return keep(record, TRY, inner.release)
@@ -43,7 +43,7 @@ def take(record, inner, blocking, timeout):
 
 
 def wait_for(record, acquire, release, timeout):
-    """Waits for a lock that isn't free, by its real method."""
+    """Waits for a lock that isn't free, with its real method."""
     if acquire(True, PATIENCE if timeout < 0 else min(PATIENCE, timeout)):
         return keep(record, WRITE, release)
     if 0 <= timeout <= PATIENCE:
@@ -68,7 +68,7 @@ def is_own_use(frame):
 
 
 class Replaced:
-    """What the locks of threads have in common: the real one, and what is known of it."""
+    """What the locks of threads have in common: the real one, and what is known about it."""
 
     __slots__ = ("inner", "record", "__weakref__")
 
@@ -86,7 +86,7 @@ class Replaced:
 
 
 class lock(Replaced):
-    """In place of `threading.Lock`."""
+    """Replaces `threading.Lock`."""
 
     __slots__ = ()
 
@@ -150,7 +150,7 @@ class lock(Replaced):
 
 
 class RLock(Replaced):
-    """In place of `threading.RLock`: what its holder takes again is one acquisition."""
+    """Replaces `threading.RLock`: what its holder takes again is one acquisition."""
 
     __slots__ = ("levels",)
 
@@ -241,7 +241,7 @@ class RLock(Replaced):
 # ---- Semaphores of value 1, which are locks. Those of other values stay as they are.
 
 class Taken:
-    """Stands for a semaphore that somebody holds."""
+    """Represents a semaphore that somebody holds."""
 
     @staticmethod
     def locked():
@@ -292,7 +292,7 @@ def replace_semaphores():
 # ---- The locks of asyncio.
 
 def find_task_first(loop):
-    """The task that runs, when this is asked for the first time: then all of asyncio is loaded."""
+    """The running task, when this is called for the first time: by then all of asyncio is loaded."""
     recording.find_task = sys.modules["asyncio.tasks"].current_task
     return recording.find_task(loop)
 
@@ -337,7 +337,7 @@ def replace_asyncio(module):
 
 
 def put_in_place(real, *functions):
-    """Puts functions into a class, by their names, and as the ones that were there are called."""
+    """Puts functions into a class, under the names of the ones that they replace."""
     for own in functions:
         own.__qualname__ = real.__name__ + "." + own.__name__
         own.__doc__ = getattr(real, own.__name__).__doc__
@@ -345,7 +345,7 @@ def put_in_place(real, *functions):
 
 
 class Finder:
-    """Waits for `asyncio.locks` to be loaded, and is gone then."""
+    """Waits for `asyncio.locks` to be loaded, and then removes itself."""
 
     @staticmethod
     def find_spec(name, path=None, target=None):
@@ -366,7 +366,7 @@ class Finder:
 # ---- The beginning.
 
 def replace_everywhere(old, new):
-    """Modules that were loaded before have the real functions by their own names."""
+    """Modules that were loaded before have the real functions under names of their own."""
     for name, module in list(sys.modules.items()):
         if name in ("threading", "_thread", __name__, recording.__name__) or module is _bootstrap:
             continue
@@ -376,7 +376,7 @@ def replace_everywhere(old, new):
 
 
 def replace_locks():
-    """Takes the place of the functions that make locks."""
+    """Replaces the functions that make locks."""
     real_lock, real_rlock = threading.Lock, threading.RLock
     threading.Lock = _thread.allocate_lock = _thread.allocate = lock
     threading.RLock = _thread.RLock = RLock
@@ -386,7 +386,7 @@ def replace_locks():
 
 
 def replace_exit():
-    """A process that ends by `os._exit` writes what is left first."""
+    """A process that ends through `os._exit` first writes what is left."""
     real_exit = os._exit
 
     def _exit(status):
@@ -398,7 +398,7 @@ def replace_exit():
 
 
 def hide(error):
-    """Takes the functions of this file out of the trace of an error, and of those that led to it."""
+    """Removes the functions of this file from the traceback of an error, and of those that led to it."""
     known = set()
     while error is not None and error not in known:
         known.add(error)
@@ -411,7 +411,7 @@ def hide(error):
 
 
 def replace_hooks():
-    """What is printed of an error that nobody caught has nothing of this file."""
+    """The printed traceback of an uncaught error shows nothing of this file."""
     real_hook, real_thread_hook = sys.excepthook, threading.excepthook
 
     def excepthook(kind, value, trace):

@@ -1,16 +1,16 @@
 """What the tasks of this process do with locks: their records, which are written to a file of the process.
 
 A task is a thread, or a task of asyncio. Records are left out by the rule of docs/RECORDING.md: a stretch that comes back to the
-locks that were held at its start, and takes nothing in a way in which its task hadn't taken it before, is taken back. A way is
-the locks that are held and the new one, in their order; it is a node of a tree, which each task has for itself.
+locks that were held at its start, and takes nothing in a way in which its task hadn't taken it before, is dropped. A way is the
+held locks and the new one, in their order; it is a node of a tree, of which each task has its own.
 
 What no task of the process had done before is written at once, so that nothing is missing if a signal ends the process. The file
-is opened for each writing, so that the program has no file open that it doesn't know of. Its lines:
+is opened for each write, so that the program has no open file that it doesn't know about. Its lines:
 
     C class name place kind      K key class number     P place text        a class, a lock, where a record comes from
     A task code place            R task code place      records: an acquisition, a release. A code is 8 * key + a mode
     W task                       G task                 the last record is waited for; it was taken
-    B task count                 M task record code     only so many records stay; a record has another lock
+    B task count                 M task record code     only this many records stay; a record has another lock
     E task                                              the task has ended
     S name count                                        what was counted so far"""
 import os
@@ -40,7 +40,7 @@ kinds, known_plain, known_passed = {}, set(), set()
 
 
 def kind_of(name):
-    """Whether a file is the program's, the library's, or one that only does what its caller asks for."""
+    """Whether a file belongs to the program, to the library, or only does what its caller asks for."""
     if name.startswith((own_folder, "<frozen importlib")) or name in passed_files:
         kind = PASSED
     elif name.startswith("<") and name != "<stdin>" and not (name == "<string>" and is_typed):
@@ -59,7 +59,7 @@ is_typed = False
 
 
 def chain_of(frame):
-    """The frames of a place, innermost first: up to the first one of the program's, each as its code and instruction."""
+    """The frames of a place, innermost first: up to the first one of the program, each as its code and instruction."""
     chain = []
     while frame is not None and len(chain) < 16:
         code = frame.f_code
@@ -92,7 +92,7 @@ def line_of(code, instruction):
 
 
 def place_text(chain):
-    """The places of a chain as text, with tabs between them."""
+    """The places of a chain as text, separated by tabs."""
     return "\t".join("%s:%d %s" % (visible(os.path.abspath(code.co_filename) if code.co_filename[:1] != "<" else code.co_filename),
                                    line_of(code, at), visible(code.co_name).replace(" ", "_")) for code, at in chain)
 
@@ -130,7 +130,7 @@ classes = {}
 
 
 def call_number(code, instruction):
-    """Which of the calls of its line an instruction is, from 1."""
+    """Which of the calls on its line an instruction is, from 1."""
     from dis import get_instructions
     line, number, is_call = line_of(code, instruction), 0, False
     for each in get_instructions(code):
@@ -143,7 +143,7 @@ def call_number(code, instruction):
 
 
 def name_at(frame):
-    """A place as the part of a name: `module.function:line`, and which call of the line if it isn't the first."""
+    """A place as part of a name: `module.function:line`, and which call on the line if it isn't the first."""
     code, instruction = frame.f_code, frame.f_lasti
     module = frame.f_globals.get("__name__") or "?"
     if module == "__main__":
@@ -176,7 +176,7 @@ def made_at(frame, kind):
 
 
 def key_of(chain):
-    """A chain as a key of a table. (Codes of the same text are equal, whatever file they are of.)"""
+    """A chain as a key of a table. (Code objects with the same text are equal, whatever file they are from.)"""
     return tuple((code.co_filename, code.co_firstlineno, code.co_name, at) for code, at in chain)
 
 
@@ -195,7 +195,7 @@ class_lock = allocate_lock()
 
 
 class Lock:
-    """What is known of a lock: its class, the lock that it is told to be, and who holds it."""
+    """What is known about a lock: its class, the lock that it is recorded as, and who holds it."""
 
     __slots__ = ("made", "key", "is_apart", "entry", "spare")
 
@@ -204,7 +204,7 @@ class Lock:
 
 
 def tell_apart(lock):
-    """A lock that is nested with others has a name of its own, if not too many of its class have one."""
+    """A lock that is nested with others gets its own name, if not too many of its class have one."""
     lock.is_apart = True
     ordinal = next(lock.made.ordinals)
     if ordinal <= MOST_APART:
@@ -233,13 +233,13 @@ class Way:
 
 
 class Held:
-    """A lock that is held: by which task, in which mode, its record; and the records and the way before its place was taken."""
+    """A held lock: by which task, in which mode, its record; and the records and the way before its place was taken."""
 
     __slots__ = ("lock", "task", "code", "record", "start", "before", "is_told")
 
     def __init__(self, lock):
         self.lock = lock
-        self.is_told = False  # of what is waited for: whether the file has it
+        self.is_told = False  # for a lock that is waited for: whether the file has it
 
 
 class Task:
@@ -257,7 +257,7 @@ class Task:
 
 
 class Guard:
-    """Ends a task when the thread or the task of asyncio that has it is gone."""
+    """Ends a task when its thread or asyncio task is gone."""
 
     __slots__ = ("task",)
 
@@ -268,12 +268,12 @@ class Guard:
         try:
             if self.task in process.tasks:
                 end(self.task)
-        except Exception:  # as at the interpreter's end, when half of it is gone
+        except Exception:  # for example at the interpreter's end, when half of it is gone
             pass
 
 
 def current():
-    """The task that runs: that of asyncio, or else the thread."""
+    """The running task: that of asyncio, or otherwise the thread."""
     if find_loop is not None:
         loop = find_loop()
         if loop is not None:
@@ -306,7 +306,7 @@ def begin_thread():
 # ---- Acquisitions and releases.
 
 def took(lock, mode):
-    """The running task has taken a lock. (This and `gave` are called at each operation, so calls are few in them.)"""
+    """The running task has taken a lock. (This and `gave` are called at each operation, so they make few calls.)"""
     try:
         task = here.task if find_loop is None else current()
     except AttributeError:
@@ -345,13 +345,13 @@ def took(lock, mode):
 
 
 def spare_of(lock):
-    """What says who holds a lock, for each time that it is held."""
+    """The object that says who holds a lock, one for each time that it is held."""
     lock.spare = Held(lock)
     return lock.spare
 
 
 def took_oddly(lock, mode, task):
-    """A lock was taken while its task is looked at, or after its trace has ended: then another one begins."""
+    """A lock was taken while its task is being examined, or after its trace has ended: then another trace begins."""
     lock.entry = LEFT_OUT
     if task.is_over:
         begin_again(task)
@@ -361,7 +361,7 @@ def took_oddly(lock, mode, task):
 
 
 def begin_again(task):
-    """What runs gets another trace."""
+    """The running thread or task gets another trace."""
     loop = find_loop() if find_loop is not None else None
     running = find_task(loop) if loop is not None else None
     if running is None:
@@ -377,7 +377,7 @@ def leave_out(lock, reason):
 
 
 def settle(task):
-    """Looks at what happened to a task since its last operation: others released locks that it held, or a handler interrupted its
+    """Handles what happened to a task since its last operation: others released locks that it held, or a handler interrupted its
     waiting."""
     if task.wish is not None:
         withdraw(task)
@@ -388,7 +388,7 @@ def settle(task):
 
 
 def see(task, way):
-    """A way is new to the task. If it is to the process too, it is written."""
+    """A way is new to the task. If it is also new to the process, it is written."""
     way.is_taken = True
     task.fresh = task.base + len(task.records)
     if way.common is not None and not way.common.is_taken:
@@ -397,7 +397,7 @@ def see(task, way):
 
 
 def gave(lock, real):
-    """The running task gives a lock back, in a moment. `real` is what knows whether somebody holds it."""
+    """The running task is about to release a lock. `real` knows whether somebody holds it."""
     try:
         task = here.task if find_loop is None else current()
     except AttributeError:
@@ -421,7 +421,7 @@ def gave(lock, real):
 
 
 def gave_oddly(lock, real, task):
-    """A lock is given back while its task is looked at, or after its trace has ended."""
+    """A lock is released while its task is being examined, or after its trace has ended."""
     if task.is_over:
         begin_again(task)
         gave(lock, real)
@@ -432,7 +432,7 @@ def gave_oddly(lock, real, task):
 
 
 def gave_for_another(lock, entry):
-    """A lock is given back that another task took: its acquisition ends at that task's next operation."""
+    """A lock is released that another task took: its acquisition ends at that task's next operation."""
     if entry is not LEFT_OUT:
         process.counts["unseen-releases"] += 1
     if entry is not None and not entry.task.is_over:
@@ -441,7 +441,7 @@ def gave_for_another(lock, entry):
 
 
 def give_back(task, entry):
-    """A task holds a lock no more. What it did since it took it is taken back, if nothing of it was new."""
+    """A task no longer holds a lock. What it did since it took the lock is dropped, if nothing of it was new."""
     held = task.held
     if held[-1] is entry:
         held.pop()
@@ -461,8 +461,8 @@ def give_back(task, entry):
 
 
 def give_back_early(task, entry):
-    """A task holds a lock no more, and still holds others that it took later: these move up to its place. What is taken back begins
-    where just those before it are held: that is where the one before it began, if that is a lock of the same code, or else nowhere."""
+    """A task no longer holds a lock, but still holds others that it took later: these move up to its place. What is dropped begins
+    where just those before it are held: that is where the one before it began, if that is a lock with the same code, or nowhere."""
     held = task.held
     at = held.index(entry)
     start, code = entry.start, entry.code
@@ -485,7 +485,7 @@ def tell_all_apart(held, task, lock):
 
 
 def tell_held_apart(task, entry):
-    """The lock that is held alone gets another one under it: it becomes a lock of its own, and so does its record."""
+    """The lock that is held alone gets another one under it: it becomes a single lock, and so does its record."""
     lock = entry.lock
     if not lock.is_apart:
         tell_apart(lock)
@@ -502,7 +502,7 @@ def tell_held_apart(task, entry):
 
 
 def failed_try(lock):
-    """A try failed. One that is made again at once, with others held, is a way of waiting that no trace shows."""
+    """A try failed. One that is immediately repeated, with other locks held, is a way of waiting that no trace shows."""
     task = current()
     if task.held and task.failed is lock:
         process.counts["retried-tries"] += 1
@@ -540,7 +540,7 @@ def wish(lock, is_long=True):
 
 
 def grant(lock):
-    """What the running task waited for is there."""
+    """The running task got what it waited for."""
     task = current()
     entry = task.wish
     if entry is None or entry.lock is not lock or task.is_busy:
@@ -556,7 +556,7 @@ def grant(lock):
 
 
 def withdraw(task):
-    """Nothing is left of what was waited for."""
+    """Removes the record of what was waited for."""
     entry = task.wish
     task.wish = None
     if entry in task.held:
@@ -569,7 +569,7 @@ def withdraw(task):
 
 
 def not_granted(lock):
-    """What the running task waited for didn't come."""
+    """The running task didn't get what it waited for."""
     task = current()
     if task.wish is not None and task.wish.lock is lock:
         withdraw(task)
@@ -592,7 +592,7 @@ class Process:
         self.path = self.path_of(number)
         put_bytes(self, b"process %d %d\n" % (self.pid, time_ns()))
         try:
-            os.chmod(self.path, 0o666)  # a program may give up its rights
+            os.chmod(self.path, 0o666)  # a program may drop its privileges
         except OSError:
             self.is_off = True
 
@@ -601,11 +601,11 @@ class Process:
 
 
 process = None
-LEFT_OUT = None  # what holds a lock whose acquisition isn't in a trace
+LEFT_OUT = None  # the holder of a lock whose acquisition isn't in a trace
 
 
 def put_bytes(of, raw):
-    """Adds to the file of a process. Nothing of an error is the program's."""
+    """Adds to the file of a process. Errors never reach the program."""
     try:
         file = os.open(of.path, os.O_WRONLY | os.O_APPEND | os.O_CREAT | os.O_CLOEXEC, 0o666)
         try:
@@ -623,7 +623,7 @@ def put(text):
 
 
 def declare(code):
-    """Writes the lock of a code, and its class, if the file hasn't got them."""
+    """Writes the lock of a code, and its class, if the file doesn't have them."""
     key, of = keys[code >> 3], process
     if key.number not in of.told:
         made, text = key.made, ""
@@ -635,7 +635,7 @@ def declare(code):
 
 
 def place_number(code, at):
-    """The number of a place, which is written if the file hasn't got it."""
+    """The number of a place, which is written if the file doesn't have it."""
     if code is None:
         return 0
     chain = code if at is None else ((code, at),)
@@ -668,7 +668,7 @@ def write(task):
 
 
 def count_lines():
-    """What was counted and has changed."""
+    """The counts that have changed."""
     lines = []
     for name, number in process.counts.items():
         if process.written.get(name, 0) != number:
@@ -678,14 +678,14 @@ def count_lines():
 
 
 def count(task):
-    """Adds what a task counted for itself to what the process counts."""
+    """Adds a task's own counts to those of the process."""
     process.counts["operations"] += task.operations
     process.counts["repeats"] += task.repeats
     task.operations = task.repeats = 0
 
 
 def end(task):
-    """A task has ended. What several tasks did before in just this way isn't written again."""
+    """A task has ended. What several tasks have already done in exactly this way isn't written again."""
     count(task)
     settle(task)
     task.is_over = task.is_busy = True
@@ -704,7 +704,7 @@ def end(task):
 
 
 def abandon(task):
-    """Something came in between while a task was looked at, as an exception of a signal handler: its trace ends here."""
+    """The examination of a task was interrupted, for example by an exception from a signal handler: its trace ends here."""
     if task.is_over:
         return
     task.is_over = task.is_busy = True
@@ -714,7 +714,7 @@ def abandon(task):
 
 
 def end_process():
-    """Writes what is left of all tasks, and that the one which runs has ended. Threads that still run do nothing from here on."""
+    """Writes what is left of all tasks, and that the running one has ended. Threads that still run aren't recorded from here on."""
     for task in list(process.tasks):
         count(task)
     put(count_lines())
@@ -730,7 +730,7 @@ def end_process():
 
 
 def begin_in_child():
-    """A process that was forked has a file of its own, and its thread holds what it held before."""
+    """A forked process has its own file, and its thread holds what it held before."""
     if process is None:
         return
     global class_lock

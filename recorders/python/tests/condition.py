@@ -4,7 +4,7 @@ outer = threading.Lock()
 own = threading.Condition()
 over = threading.Condition(outer)
 
-# A wait gives back all levels, and takes the lock again.
+# A wait releases all levels, and takes the lock again.
 with own:
     with own:
         assert not own.wait(0.01)

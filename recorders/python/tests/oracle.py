@@ -1,4 +1,4 @@
-"""Does with its locks what chance tells it, in several threads and coroutines, and prints which locks were taken with which held:
+"""Takes and releases locks at random, in several threads and coroutines, and prints which locks were taken with which held:
 `HELD NEW` for each order, of locks that were waited for."""
 import asyncio
 import random
@@ -12,7 +12,7 @@ names = {}
 
 
 def named(lock):
-    """Notes a lock by the name that its class has: where this was called."""
+    """Notes a lock under the name of its class: where this was called."""
     frame = sys._getframe(1)
     function = "" if frame.f_code.co_name == "<module>" else "." + frame.f_code.co_name
     names[id(lock)] = "oracle%s:%d" % (function, frame.f_lineno)

@@ -1,4 +1,4 @@
-"""What a program sees of its locks: all that is printed has to be the same without the recorder."""
+"""What a program sees of its locks: everything that is printed has to be the same without the recorder."""
 import copy
 import os
 import pickle

@@ -93,7 +93,7 @@ impl Condvar {
     }
 }
 
-/// The result of a wait that timed out or didn't. Only the library can make one, so one of its own is asked for it.
+/// The result of a wait that timed out or didn't. Only the library can make one, so a real `Condvar` is made to return it.
 #[cold]
 fn result_of(is_timed_out: bool) -> WaitTimeoutResult {
     let mutex = std::sync::Mutex::new(());

@@ -1,4 +1,4 @@
-//! The locks of `std::sync`, with its API as it is. Built with `--cfg lockdep` they record how the program takes them, for
+//! The locks of `std::sync`, with the same API. Built with `--cfg lockdep`, they record how the program takes them, for
 //! `lockdep run --recorder rust`; without it this crate *is* `std::sync`. README.md says how to use it.
 #[cfg(not(lockdep))]
 pub use std::sync::*;

@@ -120,7 +120,7 @@ impl<T: ?Sized + fmt::Debug> fmt::Debug for Mutex<T> {
 }
 
 impl<'a, T: ?Sized> MutexGuard<'a, T> {
-    /// The real guard, for a wait that gives the lock back and takes it again. That it is given back is noted.
+    /// The real guard, for a wait that releases the lock and takes it again. The release is noted.
     #[inline]
     pub(crate) fn given_back(self) -> (std::sync::MutexGuard<'a, T>, &'a Mark) {
         let guard = ManuallyDrop::new(self);
@@ -128,7 +128,7 @@ impl<'a, T: ?Sized> MutexGuard<'a, T> {
         (unsafe { std::ptr::read(&guard.real) }, guard.mark)
     }
 
-    /// A guard of a lock that was taken again in a wait.
+    /// A guard of a lock that was taken again after a wait.
     #[inline]
     pub(crate) fn taken_again(real: std::sync::MutexGuard<'a, T>, mark: &'a Mark, place: &'static Location<'static>) -> Self {
         MutexGuard { real, mark, token: took(mark, Mode::Write, place) }

@@ -1,12 +1,12 @@
 //! `Once`, `OnceLock` and `LazyLock`: what may have to wait for an initialiser is an acquisition, held until the call returns. One that
-//! waits for nobody any more is recorded only if other locks are held, since else no order comes of it.
+//! no longer waits for anybody is recorded only if other locks are held, since otherwise it gives no order.
 use crate::recording::{gave, holds_something, took, Mark, Mode, Token};
 use std::fmt;
 use std::ops::{Deref, DerefMut};
 use std::panic::Location;
 use std::sync::OnceState;
 
-/// The time in which an initialiser runs or is waited for.
+/// The time during which an initialiser runs or is waited for.
 struct Turn(Token);
 
 impl Drop for Turn {

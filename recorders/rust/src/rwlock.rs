@@ -42,7 +42,7 @@ impl<T> RwLock<T> {
     }
 }
 
-/// A guard that was tried for, if it was to be had.
+/// A guard that was tried for, if it was available.
 #[inline]
 fn tried<G>(result: TryLockResult<G>) -> Option<LockResult<G>> {
     match result {
@@ -92,7 +92,7 @@ impl<T: ?Sized> RwLock<T> {
         Ok(guarded(result, |real| RwLockWriteGuard { real, mark: &self.mark, token })?)
     }
 
-    /// Takes the lock: at once, after a little while, or by a wait, which is written before it.
+    /// Takes the lock: at once, after a little while, or by waiting, which is written first.
     #[inline]
     fn acquired<G>(
         &self,
@@ -109,7 +109,7 @@ impl<T: ?Sized> RwLock<T> {
         (result, wish.granted())
     }
 
-    /// What a try gave, noted if it was nothing.
+    /// The result of a try, which is noted if it failed.
     #[inline]
     fn noted<G, R>(&self, result: Option<LockResult<G>>) -> Result<LockResult<G>, TryLockError<R>> {
         result.ok_or_else(|| {
@@ -154,7 +154,7 @@ impl<T: ?Sized + fmt::Debug> fmt::Debug for RwLock<T> {
 }
 
 impl<'a, T: ?Sized> RwLockWriteGuard<'a, T> {
-    /// The writer becomes a reader, which nobody can be waited for: a release, and a try that succeeds.
+    /// The writer becomes a reader without waiting for anybody: a release, and a try that succeeds.
     #[track_caller]
     pub fn downgrade(s: Self) -> RwLockReadGuard<'a, T> {
         let place = Location::caller();

@@ -1,4 +1,4 @@
-// An allocator that takes a lock each time, which the recorder must not call while it is at that.
+// An allocator that takes a lock each time, which the recorder must not call while it records that.
 use lockdep_record::Mutex;
 use std::alloc::{GlobalAlloc, Layout, System};
 

@@ -1,5 +1,5 @@
-// Takes locks by chance in several threads, in all ways and orders of giving them back, and prints which orders there were. Within a
-// thread locks are taken in the order of their numbers, but for tries, so nothing hangs.
+// Takes locks at random in several threads, in all ways and with all orders of release, and prints which orders there were. Within a
+// thread locks are taken in the order of their numbers, except by tries, so nothing hangs.
 use lockdep_record::{Mutex, MutexGuard, RwLock, RwLockReadGuard, RwLockWriteGuard};
 use std::collections::BTreeSet;
 

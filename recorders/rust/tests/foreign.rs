@@ -1,4 +1,4 @@
-// A guard that another thread drops, which only unsafe code can bring about.
+// A guard that another thread drops, which only unsafe code can do.
 use lockdep_record::{Mutex, MutexGuard};
 
 static A: Mutex<i32> = Mutex::new(0);

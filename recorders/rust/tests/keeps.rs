@@ -24,7 +24,7 @@ thread_local! {
 fn main() {
     std::thread::spawn(|| std::mem::forget(D.lock().unwrap())).join().unwrap();
     std::thread::spawn(|| {
-        // (what is there before the first lock is dropped after what the recorder has)
+        // (what exists before the first lock is dropped after the recorder's own data)
         AT_END.with(|_| ());
         drop(C.lock().unwrap());
     })

@@ -1,4 +1,4 @@
-// How classes are called: two locks of one line, fields of a structure that derives `Default`, what the library makes, a long type.
+// How classes are named: two locks on one line, fields of a structure that derives `Default`, what the library makes, a long type.
 use lockdep_record::{Mutex, RwLock};
 use std::collections::HashMap;
 

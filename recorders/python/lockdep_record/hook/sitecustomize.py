@@ -4,7 +4,7 @@ import sys
 
 
 def begin():
-    """Takes the place of the locks, and this folder from the path, as if it had never been there."""
+    """Replaces the locks, and removes this folder from the path, as if it had never been there."""
     folder = os.path.dirname(os.path.abspath(__file__))
     sys.path[:] = [path for path in sys.path if path != folder]
     package = os.path.dirname(os.path.dirname(folder))
@@ -19,7 +19,7 @@ def begin():
 if os.path.isdir(os.environ.get("LOCKDEP_PYTHON", "")):
     try:
         begin()
-    except Exception:  # the program runs all the same, and the recorder says that nothing was recorded
+    except Exception:  # the program runs nevertheless, and the recorder says that nothing was recorded
         pass
 del sys.modules["sitecustomize"]
-import sitecustomize  # noqa: E402,F401 the one that is loaded without the recorder; if there is none, Python expects this error
+import sitecustomize  # noqa: E402,F401 the one that would be loaded without the recorder; if there is none, Python expects this error

@@ -7,12 +7,12 @@ mod task;
 pub use names::Mark;
 pub use task::{failed_try, gave, holds_something, took, wish, Mode, Token};
 
-/// How often a lock is tried for before it is waited for, which has to be written: first at once, and then after other threads had a
-/// turn.
+/// How often a lock is tried for before the thread waits for it, which has to be written: first at once, and then after other threads
+/// had a turn.
 const SPINS: u32 = 100;
 const TURNS: u32 = 4;
 
-/// Tries for a lock a little while.
+/// Tries for a lock for a little while.
 #[cold]
 pub fn tries_a_little<R>(mut tries: impl FnMut() -> Option<R>) -> Option<R> {
     for turn in 0..SPINS + TURNS {

@@ -5,7 +5,7 @@ use std::fmt::Write;
 use std::panic::Location;
 use std::sync::atomic::{AtomicU32, Ordering};
 
-/// What is noted of a lock, in the lock. It may be moved with it, and goes with it.
+/// What is noted about a lock, in the lock. It may be moved with the lock, and is dropped with it.
 pub struct Mark {
     place: &'static Location<'static>,
     type_name: fn() -> &'static str,
@@ -13,7 +13,7 @@ pub struct Mark {
     key: AtomicU32,
 }
 
-/// A bit of `Mark::key`: this lock keeps its key. Without it, one that isn't told apart may be, once it is taken under another.
+/// A bit of `Mark::key`: this lock keeps its key. Without it, a lock that isn't told apart may be, once it is taken under another.
 const IS_SETTLED: u32 = 1 << 31;
 
 /// How many locks of a class are told apart, and how many of these if they are taken under no other.
@@ -72,7 +72,7 @@ impl Mark {
         key
     }
 
-    /// The part of a class's name that isn't its place: the type, if several of one place may be of different ones.
+    /// The part of a class's name that isn't its place: the type, if locks of one place may have different types.
     fn part(&self) -> &'static str {
         if self.is_default || is_of_library(self.place.file()) {
             (self.type_name)()
@@ -82,7 +82,7 @@ impl Mark {
     }
 }
 
-/// Whether a file is one of Rust's own libraries, as if a function of these calls `Mutex::new`.
+/// Whether a file is one of Rust's own libraries, for example if one of their functions calls `Mutex::new`.
 fn is_of_library(file: &str) -> bool {
     file.starts_with("/rustc/") || file.contains("/rustlib/src/rust/library/")
 }
@@ -128,7 +128,7 @@ impl Names {
         (self.classes.push(new) && self.by_content.set(content, class as u32)).then_some(class)
     }
 
-    /// A number for a lock of a class that has none, or that of those that aren't told apart.
+    /// A number for a lock of a class that has none, or the number of those that aren't told apart.
     fn key_in(&mut self, class: usize, is_nested: bool) -> u32 {
         let Class { rest, ordinals, .. } = self.classes[class];
         if ordinals >= if is_nested { MOST_APART } else { MOST_APART_ALONE } {
@@ -147,7 +147,7 @@ impl Names {
         self.keys.push(Key { class: class as u32, ordinal }).then_some(self.keys.len() as u32)
     }
 
-    /// Adds a lock as the files have it: the name of its class, and its number among the locks of that, or 0.
+    /// Adds a lock in the form of the files: the name of its class, and its number among the locks of that class, or 0.
     pub fn add_lock(&self, text: &mut Text, key: u32) {
         let Key { class, ordinal } = self.keys[key as usize - 1];
         add_name(text, &self.classes[class as usize]);
@@ -166,11 +166,11 @@ fn hash_of(bytes: &[u8]) -> u32 {
     bytes.iter().fold(0x811C_9DC5, |hash, &byte| (hash ^ u32::from(byte)).wrapping_mul(0x0100_0193))
 }
 
-/// After what the path of a crate that isn't the program's own is the same on each machine.
+/// The part after which the path of a crate that isn't the program's own is the same on each machine.
 const FOLDERS: [(&str, bool); 4] =
     [("/registry/src/", true), ("/git/checkouts/", true), ("/cargo/registry/", false), ("/vendor/", false)];
 
-/// A file as names have it: of a crate from elsewhere, what is the same on each machine. (Cargo has a folder of its own between.)
+/// A file in the form that names have: for a crate from elsewhere, the part that is the same on each machine. (Cargo has its own folder between.)
 fn short(file: &str) -> &str {
     if is_of_library(file) {
         return file.find("/library/").map_or(file, |at| &file[at + "/library/".len()..]);
@@ -183,7 +183,7 @@ fn short(file: &str) -> &str {
     file
 }
 
-/// Adds a type's name: of Rust's own types, the last two parts of their paths. (Spaces would stand between arguments.)
+/// Adds a type's name: for Rust's own types, the last two parts of their paths. (There would be spaces between arguments.)
 fn add_type(text: &mut Text, name: &str) {
     let mut rest = name;
     while !rest.is_empty() {
@@ -198,8 +198,8 @@ fn add_type(text: &mut Text, name: &str) {
     }
 }
 
-/// Adds a class's name: `FILE:LINE:COLUMN`, with the type in it if that belongs to it. Of one that is too long the end of the place is
-/// kept, or the place and the beginning of the type.
+/// Adds a class's name: `FILE:LINE:COLUMN`, with the type if that belongs to it. If it is too long, the end of the place is kept, or the
+/// place and the beginning of the type.
 fn add_name(text: &mut Text, class: &Class) {
     let mut whole = Text::new();
     let _ = write!(whole, "{}:{}:{}", short(class.place.file()), class.place.line(), class.place.column());

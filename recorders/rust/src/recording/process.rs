@@ -1,11 +1,11 @@
-//! This process, and its files. They lie in FOLDER/raw, with FOLDER as LOCKDEP_TRACES has it, or `lockdep-traces`:
+//! This process, and its files. They are in FOLDER/raw, where FOLDER is what LOCKDEP_TRACES says, or `lockdep-traces`:
 //!
 //! - TIME-PID says what was counted, `NAME COUNT` in each line;
 //! - TIME-PID-classes has a line for each class: its name, a tab, `FILE:LINE`;
 //! - TIME-PID-NUMBER has the records of a thread: `A CLASS NUMBER MODE FILE:LINE` for an acquisition, `W ..` for one that is waited
 //!   for, `G` if what was waited for last is there, `R CLASS NUMBER` for a release, and `E` at the end of the thread.
 //!
-//! A file is opened for each writing, so that the program has no file open that it doesn't know of.
+//! A file is opened for each write, so that the program has no open file that it doesn't know about.
 use super::names::NAMES;
 use super::store::{List, Shared, Table, Text};
 use super::task::Task;
@@ -42,7 +42,7 @@ const COUNT_NAMES: [&str; COUNTS] = [
     "threads-alike",
 ];
 
-/// How many threads of a process write what others of it have done in the same way.
+/// How many threads of a process write what others have already done in the same way.
 const MOST_ALIKE: u32 = 32;
 
 const NEW: u8 = 0;
@@ -90,7 +90,7 @@ static AT_START: extern "C" fn() = at_start;
 #[link_section = ".fini_array"]
 static AT_END: extern "C" fn() = at_end;
 
-/// What `lockdep run` knows a program by that has this recorder.
+/// The text by which `lockdep run` recognises a program that has this recorder.
 #[used]
 static SIGN: &[u8] = b"lockdep_record for LOCKDEP_TRACES";
 
@@ -105,7 +105,7 @@ extern "C" fn at_end() {
     }
 }
 
-/// Whether this process is recorded. The first call begins it; one in a process that was forked begins it there.
+/// Whether this process is recorded. The first call starts that; one in a forked process starts it there.
 #[cold]
 pub fn is_on() -> bool {
     match STATE.load(Ordering::Acquire) {
@@ -124,8 +124,8 @@ pub fn is_on() -> bool {
     }
 }
 
-/// Goes on in a process that was forked. If another thread was just at what all share, that may be half done, so nothing is recorded,
-/// and that is counted.
+/// Goes on in a forked process. If another thread was just using the shared data, that may be in an inconsistent state, so nothing is
+/// recorded, and that is counted.
 fn begin_in_child() -> bool {
     PID.store(std::process::id(), Ordering::Relaxed);
     let was_taken = PROCESS.is_taken() || NAMES.is_taken();
@@ -181,7 +181,7 @@ impl Process {
         self.prefix.is_whole && self.folder.is_whole
     }
 
-    /// Begins in a process that was forked, of whose threads one is there, and that one may be none of ours.
+    /// Starts in a forked process, which has only one thread, and that one may not be one of ours.
     fn begin_anew(&mut self, unwritten: u64) -> bool {
         self.counts = [0; COUNTS];
         self.counts[UNWRITTEN] = unwritten;
@@ -202,7 +202,7 @@ impl Process {
         let mut counts = self.counts;
         let mut task = self.tasks;
         while !task.is_null() {
-            // (no more of a thread's than what it counts may be looked at here)
+            // (only a thread's counts may be read here)
             let counted = unsafe { &(*task).counts };
             for (sum, count) in counts.iter_mut().zip(counted) {
                 *sum += count.load(Ordering::Relaxed);
@@ -222,7 +222,7 @@ impl Process {
         self.serials
     }
 
-    /// Takes over what a thread counted that has ended.
+    /// Takes over the counts of a thread that has ended.
     pub fn add_counts(&mut self, task: &Task) {
         for (sum, count) in self.counts.iter_mut().zip(&task.counts) {
             *sum += count.load(Ordering::Relaxed);
@@ -236,7 +236,7 @@ impl Process {
     }
 }
 
-// ---- Files. What is shared is free meanwhile, since a disk may be slow.
+// ---- Files. The shared data is unlocked meanwhile, since a disk may be slow.
 
 fn copy_of(text: &Text) -> Text {
     let mut copy = Text::new();
@@ -245,7 +245,7 @@ fn copy_of(text: &Text) -> Text {
     copy
 }
 
-/// Makes the folder, if the program wasn't started by what makes it.
+/// Makes the folder, if the program wasn't started by a recorder, which makes it.
 fn make_folder() {
     let Some((folder, program)) = PROCESS.with(|process| (copy_of(&process.folder), copy_of(&process.program))) else {
         return;
@@ -265,7 +265,7 @@ fn make_folder() {
     }
 }
 
-/// Makes a file. Whoever the program becomes may write it.
+/// Makes a file. Any user that the program switches to may write it.
 fn make(path: &Text) -> Option<File> {
     let mut options = OpenOptions::new();
     options.write(true).create_new(true);
@@ -331,7 +331,7 @@ impl Trace {
         is_added
     }
 
-    /// Takes back what was written after a place in the file.
+    /// Removes what was written after a position in the file.
     pub fn cut(&mut self, length: u64) -> bool {
         self.length = length;
         open(&self.path).is_some_and(|file| file.set_len(length).is_ok())

@@ -7,7 +7,7 @@ use std::time::Duration;
 
 const FIRST_ROOM: usize = 32;
 
-/// A growing list in memory of the system.
+/// A growing list in memory from the system.
 pub struct List<T: Copy> {
     start: *mut T,
     count: usize,
@@ -80,7 +80,7 @@ impl<T: Copy> DerefMut for List<T> {
     }
 }
 
-/// Text. What there is no memory for is missing at its end, and `is_whole` says so.
+/// Text. If there wasn't enough memory, its end is missing, and `is_whole` says so.
 pub struct Text {
     pub bytes: List<u8>,
     pub is_whole: bool,
@@ -105,7 +105,7 @@ impl std::fmt::Write for Text {
     }
 }
 
-/// A number for each key that isn't 0: a table with open addresses, at most half full.
+/// A number for each key that isn't 0: a table with open addressing, at most half full.
 pub struct Table {
     slots: List<(u64, u32)>,
     count: usize,
@@ -166,8 +166,8 @@ pub fn mixed(number: u64) -> u64 {
     (number ^ (number >> 29)).wrapping_mul(0xBF58_476D_1CE4_E5B9) ^ (number >> 32)
 }
 
-/// What several threads use in turn. A thread waits for a while and not for ever: in a process that was forked, the one that had it
-/// may not be there.
+/// What several threads use in turn. A thread waits for a while, not for ever: in a forked process, the thread that had it may not
+/// exist.
 pub struct Shared<T> {
     is_taken: AtomicBool,
     value: UnsafeCell<T>,
@@ -185,7 +185,7 @@ impl<T> Shared<T> {
         Shared { is_taken: AtomicBool::new(false), value: UnsafeCell::new(value) }
     }
 
-    /// Does something with the value. None if it wasn't to be had.
+    /// Does something with the value. None if it wasn't available.
     #[inline]
     pub fn with<R>(&self, work: impl FnOnce(&mut T) -> R) -> Option<R> {
         if self.is_taken.swap(true, Ordering::Acquire) && !self.waited() {
@@ -215,7 +215,7 @@ impl<T> Shared<T> {
         self.is_taken.load(Ordering::Relaxed)
     }
 
-    /// Makes it free, in a process that was forked and has one thread.
+    /// Makes it free, in a forked process, which has one thread.
     pub fn free(&self) {
         self.is_taken.store(false, Ordering::Release);
     }

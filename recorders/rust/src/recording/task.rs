@@ -1,8 +1,8 @@
 //! What a thread does with locks.
 //!
 //! Records are left out by the rule of docs/RECORDING.md: a stretch that comes back to the locks that were held at its start, and takes
-//! nothing in a way in which its thread hadn't taken it before, is taken back. A way is the locks that are held and the new one, in
-//! their order: a node of a tree, which each thread has for itself. What is new is written at once, unless many threads did the same.
+//! nothing in a way in which its thread hadn't taken it before, is dropped. A way is the held locks and the new one, in their order: a
+//! node of a tree, of which each thread has its own. What is new is written at once, unless many threads did the same.
 use super::names::{add_place, Mark, NAMES};
 use super::process::{self, Trace, COUNTS, PROCESS};
 use super::store::{mixed, List, Table, Text};
@@ -24,7 +24,7 @@ const MODES: [&[u8]; 4] = [b" w ", b" r ", b" tw ", b" tr "];
 const MOST_HELD: usize = 48;
 const MOST_EVENTS: u64 = 1_000_000 - 2 * MOST_HELD as u64;
 
-/// After how many operations of a thread what was counted is written.
+/// After how many operations of a thread its counts are written.
 const OPERATIONS_A_WRITING: u64 = 1 << 16;
 
 type Place = &'static Location<'static>;
@@ -38,7 +38,7 @@ pub struct Token {
 
 const LEFT_OUT: Token = Token { task: 0, number: 0 };
 
-/// A record: a lock four times and a mode, and where it is taken, or nowhere if it is given back.
+/// A record: 4 * a lock + a mode, and where the lock is taken, or nowhere if it is released.
 #[derive(Clone, Copy)]
 struct Record {
     code: u32,
@@ -48,7 +48,7 @@ struct Record {
 /// Where something begins that has no beginning in the trace or in the file, or that another process wrote.
 const NOWHERE: u64 = u64::MAX;
 
-/// A lock that is held: the record from which on what it did may be taken back, where that is in the file, and the way before.
+/// A held lock: the record from which on what was done may be dropped, where that is in the file, and the way before.
 #[derive(Clone, Copy)]
 struct Held {
     number: u32,
@@ -65,7 +65,7 @@ struct Way {
     is_taken: bool,
 }
 
-/// The tree of all that a thread held. 0 is its root.
+/// The tree of everything that a thread held. 0 is its root.
 struct Ways {
     all: List<Way>,
     after: Table,
@@ -128,7 +128,7 @@ impl Drop for Guard {
     }
 }
 
-/// What the running thread has, in a process that was forked.
+/// What the running thread has, in a forked process.
 pub fn only_task() -> *mut Task {
     let task = HERE.get();
     if let Some(task) = unsafe { task.as_mut() } {
@@ -190,7 +190,7 @@ fn begin_here() -> *mut Task {
     }
     unsafe { task.write(Task::new()) };
     HERE.set(task);
-    // (so that what the library does for this, whatever it is, finds a thread that is busy)
+    // (so that whatever the library does for this finds a busy thread)
     let is_late = GUARD.try_with(|_| ()).is_err();
     PROCESS.with(|process| unsafe {
         (*task).serial = process.next_serial();
@@ -202,8 +202,8 @@ fn begin_here() -> *mut Task {
     task
 }
 
-/// The running thread has ended, or is late and holds nothing more. What it still holds may be given back yet, by what the thread kept
-/// for itself.
+/// The running thread has ended, or is late and holds nothing more. What it still holds may yet be released by the destructors of its
+/// thread-local values.
 #[cold]
 fn end_here() {
     let here = HERE.get();
@@ -242,7 +242,7 @@ pub fn took(mark: &Mark, mode: Mode, place: Place) -> Token {
     with_task(|task| task.take(mark, mode, place, false)).unwrap_or(LEFT_OUT)
 }
 
-/// The running thread gives a lock back, in a moment.
+/// The running thread is about to release a lock.
 #[inline]
 pub fn gave(token: Token) {
     if token != LEFT_OUT {
@@ -256,7 +256,7 @@ pub fn gave(token: Token) {
     }
 }
 
-/// A try failed. One that is made again at once, with others held, is a way of waiting that no trace shows.
+/// A try failed. One that is immediately repeated, with other locks held, is a way of waiting that no trace shows.
 #[inline]
 pub fn failed_try(mark: &Mark) {
     with_task(|task| {
@@ -285,7 +285,7 @@ pub fn wish(mark: &Mark, mode: Mode, place: Place) -> Wish {
 }
 
 impl Wish {
-    /// What was waited for is there.
+    /// The thread got what it waited for.
     pub fn granted(self) -> Token {
         let token = self.0;
         std::mem::forget(self);
@@ -297,7 +297,7 @@ impl Wish {
 }
 
 impl Drop for Wish {
-    /// What was waited for didn't come, as if the call panicked.
+    /// The thread didn't get what it waited for, for example because the call panicked.
     fn drop(&mut self) {
         if self.0 != LEFT_OUT {
             with_task(|task| {
@@ -350,13 +350,13 @@ impl Task {
         self.is_busy.store(false, Ordering::Relaxed);
     }
 
-    /// Adds to a count. (Only the thread itself does, so this needs to be no single step.)
+    /// Adds to a count. (Only the thread itself does so, so this needn't be atomic.)
     #[inline]
     fn add(&self, what: usize, count: u64) {
         self.counts[what].store(self.counts[what].load(Ordering::Relaxed) + count, Ordering::Relaxed);
     }
 
-    /// Counts something that is left out. The first ones are written at once, so that a signal takes none of them away.
+    /// Counts something that is left out. The first ones are written at once, so that a signal doesn't lose them.
     #[cold]
     fn lose(&self, what: usize) {
         self.add(what, 1);
@@ -446,7 +446,7 @@ impl Task {
         }
     }
 
-    /// A lock is given back that another thread took: its acquisition ends at that thread's next operation.
+    /// A lock is released that another thread took: its acquisition ends at that thread's next operation.
     #[cold]
     fn give_for_another(&mut self, token: Token) {
         PROCESS.with(|process| {
@@ -462,7 +462,7 @@ impl Task {
         self.lose(process::UNSEEN_RELEASES);
     }
 
-    /// Looks at what others gave back that this thread took.
+    /// Handles locks of this thread that others released.
     #[cold]
     fn settle(&mut self) {
         self.has_foreign.store(false, Ordering::Relaxed);
@@ -480,7 +480,7 @@ impl Task {
         }
     }
 
-    /// A lock is held no more. What was done since it was taken is taken back, if nothing of it was new.
+    /// A lock is no longer held. What was done since it was taken is dropped, if nothing of it was new.
     #[inline]
     fn give_back(&mut self, at: usize) {
         let held = self.held[at];
@@ -493,7 +493,7 @@ impl Task {
         let is_written = held.start < self.base;
         if held.start < self.fresh || held.start == NOWHERE || (is_written && held.offset == NOWHERE) {
             self.push_release(held.code);
-            // (what holds nothing says so at once, since nobody knows when the process ends)
+            // (a thread that holds nothing writes so at once, since nobody knows when the process ends)
             return if self.count == 0 && is_written {
                 self.flush()
             };
@@ -502,7 +502,7 @@ impl Task {
         self.add(process::REPEATS, 1);
     }
 
-    /// Takes back all since a lock was taken, its acquisition too.
+    /// Drops everything since a lock was taken, including its acquisition.
     #[inline]
     fn take_back(&mut self, held: &Held) {
         let count = self.here() - held.start;
@@ -527,7 +527,7 @@ impl Task {
         }
     }
 
-    /// What was waited for isn't wanted any more.
+    /// What was waited for is no longer wanted.
     fn withdraw(&mut self, token: Token) {
         if self.count == 0 || self.held[self.count - 1].number != token.number {
             return;
@@ -546,7 +546,7 @@ impl Task {
         }
     }
 
-    /// A lock that others were taken after is held no more. What the next one holds from then on was held when this one was taken, so
+    /// A lock after which others were taken is no longer held. What the next one holds from then on was held when this one was taken, so
     /// that is where its stretch begins; what the later ones hold never was, so theirs have no beginning.
     #[cold]
     fn move_up(&mut self, at: usize) {
@@ -648,7 +648,7 @@ impl Task {
         });
     }
 
-    /// What was waited for is there: that is written if the wish was.
+    /// The thread got what it waited for: that is written if the wait was.
     fn end_waiting(&mut self) {
         self.waits = false;
         let is_told = self.count > 0 && self.held[self.count - 1].start < self.base && !self.is_over;
@@ -688,7 +688,7 @@ impl Task {
     }
 }
 
-/// Adds a record as the files have it.
+/// Adds a record in the form of the files.
 fn add_record(text: &mut Text, names: &super::names::Names, record: Record, is_wish: bool) {
     let Some(place) = record.place else {
         text.add(b"R ");

@@ -20,7 +20,7 @@ final class Blocked {
         if (state != Thread.State.BLOCKED) return false;
         try {
             return waitsForMonitor(task, thread);
-        } catch (RuntimeException | LinkageError unknown) { // as without the module java.management
+        } catch (RuntimeException | LinkageError unknown) { // for example without the module java.management
             return task.top() != null && task.top().object != null;
         }
     }
@@ -28,7 +28,7 @@ final class Blocked {
     private static boolean waitsForMonitor(Task task, Thread thread) {
         ThreadInfo info = ManagementFactory.getThreadMXBean().getThreadInfo(thread.getId(), 1);
         Held top = task.top();
-        if (info == null) return top != null && top.object != null; // as for a virtual thread
+        if (info == null) return top != null && top.object != null; // for example for a virtual thread
         LockInfo wanted = info.getLockInfo();
         if (wanted == null || info.getThreadState() != Thread.State.BLOCKED) return false;
         int hash = wanted.getIdentityHashCode();

@@ -3,16 +3,16 @@ package java.lockdep;
 /** A lock that a task holds: in which mode, its record, and the records and the way before its place was taken. */
 final class Held {
     Known lock;
-    /** Of a monitor: the object, which is alive while it is held. */
+    /** For a monitor: the object, which is alive while the monitor is held. */
     Object object;
     int code;
     int record;
     int start;
     Way before;
-    /** How often its holder has taken it, and how often as a reader what it has as a writer. */
+    /** How often its holder has taken it, and how often as a reader while holding it as a writer. */
     int levels;
     int reads;
-    /** Another thread gave it back. */
+    /** Another thread released it. */
     volatile boolean isDropped;
 
     void clear() {

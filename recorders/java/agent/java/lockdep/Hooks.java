@@ -8,8 +8,8 @@ import java.util.concurrent.locks.ReadWriteLock;
 import java.util.concurrent.locks.StampedLock;
 
 /**
- * What rewritten classes call. The package begins with `java` since there are class loaders, as those of OSGi, that
- * find nothing else outside. Nothing of the recorder's own is ever thrown here.
+ * What rewritten classes call. The package begins with `java` since there are class loaders, such as those of OSGi,
+ * that find nothing else outside. The recorder itself never throws anything here.
  */
 public final class Hooks {
     private Hooks() {
@@ -111,7 +111,7 @@ public final class Hooks {
         task.leave();
     }
 
-    /** The constructor of an object whose own class takes its monitor, or that is a lock, begins. */
+    /** The constructor begins for an object whose own class takes its monitor, or that is a lock. */
     public static void born(Object object) {
         Task task = Task.begin();
         if (task == null) return;
@@ -205,7 +205,7 @@ public final class Hooks {
         task.leave();
     }
 
-    /** A lock is about to be given back. Returns whether it was seen to be taken, or nothing is to be said of it. */
+    /** A lock is about to be released. Returns whether it was seen to be taken, or isn't to be recorded. */
     static boolean gives(Object lock, int site) {
         Task task = lock == null ? null : Task.begin();
         if (task == null) return true;
@@ -220,7 +220,7 @@ public final class Hooks {
         return isSeen;
     }
 
-    /** A lock was given back that the thread wasn't seen to take. */
+    /** A lock was released that the thread wasn't seen to take. */
     static void gaveUnseen(Object lock) {
         Task task = Task.begin();
         if (task == null) return;
@@ -280,7 +280,7 @@ public final class Hooks {
         }
     }
 
-    // ---- Stamped locks: each acquisition is one of its own.
+    // ---- Stamped locks: each acquisition is separate.
 
     public static long writeLock(StampedLock lock, int site) {
         Wish wish = Wish.of(Part.of(lock, false), site);
@@ -414,7 +414,7 @@ public final class Hooks {
         return stamp;
     }
 
-    /** A stamped lock is held in another way than before, for which nobody waited. */
+    /** A stamped lock is held in another way than before, without waiting. */
     private static void change(StampedLock lock, boolean wasWriter, boolean wasReader, boolean isWriter,
             boolean isReader, int site) {
         if (wasWriter == isWriter && wasReader == isReader) return;

@@ -14,9 +14,9 @@ import java.util.concurrent.locks.ReentrantReadWriteLock;
 import java.util.concurrent.locks.StampedLock;
 
 /**
- * What is known of a lock: its class, and the key that it is written by. It is found by the lock's object and doesn't
- * keep that alive. The parts of one lock, as the two views of a read-write lock and its conditions, have it as their
- * target.
+ * What is known about a lock: its class, and the key that it is written with. It is found by the lock's object and
+ * doesn't keep that alive. The parts of one lock, such as the two views of a read-write lock and its conditions, have it
+ * as their target.
  */
 final class Known extends WeakReference<Object> {
     static final int MOST_APART = 32;
@@ -24,7 +24,7 @@ final class Known extends WeakReference<Object> {
     private static final ConcurrentHashMap<Object, Known> all = new ConcurrentHashMap<>(1024);
     private static final ReferenceQueue<Object> gone = new ReferenceQueue<>();
 
-    /** Finds what is known of an object. A thread has one of its own. */
+    /** Finds what is known about an object. Each thread has its own. */
     static final class Probe {
         private Object object;
         private int hash;
@@ -53,17 +53,17 @@ final class Known extends WeakReference<Object> {
     final int hash;
     final boolean isMonitor;
     final boolean isReader;
-    /** Whether its holder may take it again, and whether it is a lock of the JDK's, whose calls take no other. */
+    /** Whether its holder may take it again, and whether it is a lock of the JDK, whose calls take no other. */
     final boolean isReentrant;
     final boolean isOfJdk;
-    /** What is written in its place: itself, unless it is a part. */
+    /** What is written instead of it: itself, unless it is a part. */
     final Known target;
     private Made made;
     int key;
     volatile boolean isApart;
-    /** Whether it was taken before it was known where it is made, as by the constructor of a class above its own. */
+    /** Whether it was taken before it was known where it is made, for example by the constructor of a superclass. */
     private boolean isEarly;
-    /** Who holds a lock that another thread may give back. */
+    /** Who holds a lock that another thread may release. */
     private Task[] holders;
 
     private Known(Object object, boolean isMonitor, boolean isReader, Known target, Made made) {
@@ -108,7 +108,7 @@ final class Known extends WeakReference<Object> {
 
     // ---- Locks that are made.
 
-    /** An object was made that may come to be a lock. */
+    /** An object was made that may be used as a lock. */
     static void made(Object object, Made made, Probe probe) {
         boolean isMonitor = !isLock(object);
         Object base = isMonitor ? object : baseOf(object);
@@ -155,7 +155,7 @@ final class Known extends WeakReference<Object> {
         return known != null ? known : addEarly(object, true);
     }
 
-    /** What is known of a lock of java.util.concurrent.locks, or of another class that is used like one. */
+    /** What is known about a lock of java.util.concurrent.locks, or of another class that is used like one. */
     static Known ofLock(Object lock, Probe probe) {
         Known known = probe.find(lock, false);
         if (known != null) return known;
@@ -193,7 +193,7 @@ final class Known extends WeakReference<Object> {
     private static volatile VarHandle ofReader;
     private static volatile VarHandle ofWriter;
 
-    /** Finds how to look into the views, for which the package of the locks has been opened. */
+    /** Finds out how to look into the views, for which the locks' package has been opened. */
     static void openViews() throws ReflectiveOperationException {
         ofReader = inside(ReentrantReadWriteLock.ReadLock.class);
         ofWriter = inside(ReentrantReadWriteLock.WriteLock.class);
@@ -219,7 +219,7 @@ final class Known extends WeakReference<Object> {
 
     // ---- Single locks.
 
-    /** A lock that is nested with others gets a name of its own, if not too many of its class have one. */
+    /** A lock that is nested with others gets its own name, if not too many of its class have one. */
     synchronized void tellApart() {
         if (isApart) return;
         int ordinal = made.nextOrdinal();
@@ -227,7 +227,7 @@ final class Known extends WeakReference<Object> {
         isApart = true;
     }
 
-    // ---- Locks that another thread may give back.
+    // ---- Locks that another thread may release.
 
     synchronized void addHolder(Task task) {
         int count = holders == null ? 0 : holders.length;
@@ -249,7 +249,7 @@ final class Known extends WeakReference<Object> {
         }
     }
 
-    /** A thread gives back what another one took: that one is found, if it was seen to take it. */
+    /** A thread releases what another one took: that one is found, if it was seen to take it. */
     synchronized Task otherHolder(Task than) {
         for (int at = 0; holders != null && at < holders.length; at++) {
             if (holders[at] != than) return holders[at];

@@ -2,7 +2,7 @@ package java.lockdep;
 
 import java.util.concurrent.ConcurrentHashMap;
 
-/** Where locks were made: a class, which is what the checker knows of them. */
+/** Where locks were made: a class, which is what the checker knows about them. */
 final class Made {
     private static final ConcurrentHashMap<String, Made> all = new ConcurrentHashMap<>();
     private static int count;
@@ -38,7 +38,7 @@ final class Made {
         return found;
     }
 
-    /** The class of what was made by unseen code: that of the object. */
+    /** The class of what unseen code made: that of the object. */
     static Made ofObject(Object object, boolean isMonitor) {
         if (object instanceof Class) {
             String name = nameOf((Class<?>) object);
@@ -49,7 +49,7 @@ final class Made {
         return of(Site.fitting(name + suffix), Site.placeOfClass(name), "any object of");
     }
 
-    /** The name of a class, which for one that is made while the program runs is the same in each run. */
+    /** The name of a class, which is the same in each run even if the class is generated while the program runs. */
     private static String nameOf(Class<?> type) {
         String name = type.getName();
         int lambda = name.indexOf("$$Lambda");

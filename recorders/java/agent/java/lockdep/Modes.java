@@ -1,6 +1,6 @@
 package java.lockdep;
 
-/** How a lock is taken: the last three bits of a code, as the traces' maker has them (lockdep_record/finish.py). */
+/** How a lock is taken: the last three bits of a code, as in what makes the traces (lockdep_record/finish.py). */
 final class Modes {
     static final int WRITE = 0;
     static final int TRY_WRITE = 1;

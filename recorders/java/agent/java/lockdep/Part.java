@@ -2,7 +2,7 @@ package java.lockdep;
 
 import java.util.concurrent.locks.StampedLock;
 
-/** The two ways to take a stamped lock: its views stand for them, which it makes once. */
+/** The two ways to take a stamped lock, represented by its views, which it makes once. */
 final class Part {
     private Part() {
     }

@@ -2,7 +2,7 @@ package java.lockdep;
 
 import java.util.concurrent.locks.Condition;
 
-/** A wait for a condition: its lock is given back with all levels, and taken again. */
+/** A wait for a condition: all levels of its lock are released, and taken again. */
 final class Pause {
     private static final Pause NONE = new Pause(null, null, 0);
 

@@ -14,12 +14,12 @@ import java.util.HashMap;
  * ends the process.
  */
 public final class Recording {
-    /** Of tasks that do the same from beginning to end, so many are written. */
+    /** How many tasks that do the same from beginning to end are written. */
     private static final int MOST_ALIKE = 32;
-    /** How long the end waits for threads that are just being recorded, in milliseconds. */
+    /** How long the end waits for threads that are being recorded, in milliseconds. */
     private static final int LONGEST_LOOK = 500;
 
-    /** Whether nothing is recorded any more. */
+    /** Whether recording has ended. */
     static volatile boolean isOver = true;
     static final Way.Common common = new Way.Common();
     static String[] sources = {};
@@ -56,17 +56,17 @@ public final class Recording {
         isOver = false;
     }
 
-    /** Whether this process is recorded already, as by an agent that both the command line and the environment name. */
+    /** Whether this process is already recorded, as when both the command line and the environment name the agent. */
     public static boolean hasBegun() {
         return it != null;
     }
 
-    /** Lets the recorder look at what the JDK keeps to itself, for which its packages have been opened. */
+    /** Lets the recorder look at private parts of the JDK, whose packages have been opened for that. */
     public static void openBase() throws ReflectiveOperationException {
         Known.openViews();
     }
 
-    /** Ends the recording after what the program does at its end; or beside it, if the JDK can't be asked for that. */
+    /** Ends the recording after the program's own shutdown hooks; or at the same time, if the JDK doesn't allow that. */
     public static void atEnd(int place) {
         try {
             Method add = Class.forName("java.lang.Shutdown").getDeclaredMethod("add", int.class, boolean.class,
@@ -78,7 +78,7 @@ public final class Recording {
         }
     }
 
-    // ---- What tasks ask for.
+    // ---- What tasks call.
 
     static void add(Task task) {
         Recording recording = it;
@@ -95,14 +95,14 @@ public final class Recording {
         }
     }
 
-    /** Only so many records of a task stay of those that the file has. */
+    /** Only this many of the records stay that the file has of a task. */
     static void cut(Task task, int count) {
         synchronized (it) {
             it.put("B " + task.number + " " + count + "\n");
         }
     }
 
-    /** A record of a task that the file has is of another lock. */
+    /** A task's record that the file has belongs to another lock. */
     static void rename(Task task, int record, int code) {
         synchronized (it) {
             StringBuilder text = new StringBuilder();
@@ -118,7 +118,7 @@ public final class Recording {
         }
     }
 
-    /** A class of the program's stays as it is. */
+    /** A class of the program is left unchanged. */
     public static void unrewritten() {
         synchronized (it) {
             it.counts[8]++;
@@ -127,7 +127,7 @@ public final class Recording {
 
     // ---- The file.
 
-    /** Adds to the file. Nothing of an error is the program's. */
+    /** Adds to the file. Errors never reach the program. */
     private void put(String text) {
         if (hasEnded || text.isEmpty()) return;
         try {
@@ -157,7 +157,7 @@ public final class Recording {
         put(text.append(lines).toString());
     }
 
-    /** The number of a place, which is written if the file hasn't got it. */
+    /** The number of a place, which is written if the file doesn't have it. */
     int numberOfPlace(String place, StringBuilder text) {
         Integer number = places.get(place);
         if (number == null) {
@@ -168,7 +168,7 @@ public final class Recording {
         return number;
     }
 
-    /** Writes the lock of a code, and its class, if the file hasn't got them. */
+    /** Writes the lock of a code, and its class, if the file doesn't have them. */
     private void declare(int code, StringBuilder text) {
         Key key = Key.of(code);
         if (key.isTold) return;
@@ -184,7 +184,7 @@ public final class Recording {
                 .append('\n');
     }
 
-    /** Adds what a task counted for itself to what the process counts. */
+    /** Adds a task's own counts to those of the process. */
     private void count(Task task) {
         counts[0] += task.operations;
         counts[1] += task.repeats;
@@ -221,7 +221,7 @@ public final class Recording {
         tasks.remove(tasks.size() - 1);
     }
 
-    /** The thread of a task has ended. What several did before in just this way isn't written again. */
+    /** The thread of a task has ended. What several have already done in exactly this way isn't written again. */
     private void end(Task task) {
         if (task.isOver) return;
         task.end();
@@ -257,7 +257,7 @@ public final class Recording {
         }
     }
 
-    /** Waits until no task is looked at. A thread that waits for this very monitor in a look is given up. */
+    /** Waits until no task is being examined; one whose thread itself waits for this monitor is given up after a while. */
     private void waitForLooks() {
         Task own = Task.ofThisThread();
         try {

@@ -6,7 +6,7 @@ import java.util.concurrent.locks.ReentrantLock;
 import java.util.concurrent.locks.ReentrantReadWriteLock;
 
 /**
- * What references to methods of locks become, as `lock::unlock`: they need an object of just the class that they had.
+ * What references to methods of locks become, such as `lock::unlock`: they need an object of exactly the same class.
  */
 public final class References {
     private References() {

@@ -5,7 +5,7 @@ import java.util.Set;
 
 /** A place of the program that does something with locks: a line of a method. Rewritten code names it by its number. */
 public final class Site {
-    /** A name of a class of locks has so many bytes, so that there is room for the number of a single lock. */
+    /** How many bytes the name of a class of locks may have, so that there is room for a single lock's number. */
     private static final int MOST_NAME = 53;
     private static final StackWalker walker = StackWalker.getInstance(Set.of(StackWalker.Option.RETAIN_CLASS_REFERENCE,
             StackWalker.Option.SHOW_REFLECT_FRAMES));
@@ -17,7 +17,7 @@ public final class Site {
     private final String method;
     private final int line;
     private final int ordinal;
-    /** Of a place in the JDK: the program's own line that led there. */
+    /** For a place in the JDK: the program's own line that led there. */
     private final String caller;
     private Made made;
     private int told;
@@ -59,7 +59,7 @@ public final class Site {
         return add(new Site(site.source, site.method, site.line, site.ordinal, "\t" + caller));
     }
 
-    /** (What calls constructors by reflection has a loader of its own.) */
+    /** (Code that calls constructors by reflection has its own loader.) */
     private static boolean isOfProgram(Class<?> type) {
         return !type.getName().startsWith("jdk.internal.") && type.getClassLoader() != null
                 && type.getClassLoader() != ClassLoader.getPlatformClassLoader();
@@ -75,7 +75,7 @@ public final class Site {
         return source.place(line, visible(source.shortName() + "." + method)) + caller;
     }
 
-    /** The number by which the file has this place, which gets that text if it hasn't. */
+    /** The number of this place in the file, to which the place is added if it isn't there. */
     int told(Recording recording, StringBuilder text) {
         if (told == 0) told = recording.numberOfPlace(place(), text);
         return told;
@@ -92,7 +92,7 @@ public final class Site {
     }
 
     /**
-     * The class of an object whose constructor runs: where it is called. Null if the JDK calls it, as by reflection.
+     * The class of an object whose constructor runs: where it is called. Null if the JDK calls it, as in reflection.
      */
     static Made madeByCaller(Object object) {
         return walker.walk(frames -> frames.skip(2).filter(frame -> !isConstructor(frame, object)).findFirst()
@@ -116,7 +116,7 @@ public final class Site {
         return source.place(0, visible(source.shortName()));
     }
 
-    /** A name without spaces and the like, as fields of the file need it. */
+    /** A name without spaces and the like, as required for fields of the file. */
     private static String visible(String text) {
         StringBuilder kept = new StringBuilder();
         for (int at = 0; at < text.length(); at++) {

@@ -5,10 +5,10 @@ import java.util.ArrayList;
 import java.util.List;
 import java.util.concurrent.ConcurrentHashMap;
 
-/** The file that a class was compiled from. Where it lies is looked up when it is first asked for. */
+/** The file that a class was compiled from. Its location is looked up when it is first needed. */
 public final class Source {
     private static final ConcurrentHashMap<String, Source> all = new ConcurrentHashMap<>();
-    /** Where sources lie below a folder, and how far above a class file's folder or a jar one is looked for. */
+    /** Where sources are below a folder, and how far above a class file's folder or a jar they are looked for. */
     private static final String[] BELOW = {"", "src/main/java", "src/test/java", "src", "java", "test",
             "app/src/main/java",
         "src/main/kotlin", "src/main/scala", "src/main/groovy"};
@@ -90,7 +90,7 @@ public final class Source {
     }
 
     /**
-     * The folders below which the sources may lie: those that were named, those above the class files, and the current
+     * The folders below which the sources may be: those that were named, those above the class files, and the current
      * one.
      */
     private List<String> roots() {

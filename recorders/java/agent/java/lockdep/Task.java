@@ -7,12 +7,12 @@ import java.util.ArrayList;
 import java.util.Arrays;
 
 /**
- * A thread: what it holds, and its records that aren't in the file yet. Only its own thread works on it, but for the
- * end, when the recording is over.
+ * A thread: what it holds, and its records that aren't in the file yet. Only the thread itself works on it, except at
+ * the end, when the recording is over.
  */
 final class Task {
     static final int MOST_HELD = 48;
-    /** (A release stands for each lock that is held.) */
+    /** (There is a release for each held lock.) */
     static final int MOST_EVENTS = 1000000 - 2 * MOST_HELD;
 
     private static final VarHandle BUSY;
@@ -29,7 +29,7 @@ final class Task {
     final WeakReference<Thread> thread;
     final Known.Probe probe = new Known.Probe();
     final long startOfThread = System.nanoTime();
-    /** Its number in the file, once something of it is there. */
+    /** Its number in the file, once it is there. */
     int number;
     long operations;
     long repeats;
@@ -43,15 +43,15 @@ final class Task {
     private Held[] held = new Held[4];
     private int depth;
     private Way way = new Way(Recording.common);
-    /** The records that aren't in the file yet, each a code and a place, and how many are. */
+    /** The records that aren't in the file yet, each a code and a place; how many; and how many are in it. */
     int[] records = new int[16];
     int size;
     int base;
     /** How many records there were when it last did something new. */
     private int fresh;
-    /** What it waits for: the newest of what is held. */
+    /** What it waits for: the newest held lock. */
     private Held wish;
-    /** What it took without a record, once for each level. */
+    /** What it took without a record, one entry for each level. */
     private ArrayList<Object> leftOut;
     private Known failed;
     private volatile boolean hasDropped;
@@ -64,7 +64,7 @@ final class Task {
 
     // ---- The running task.
 
-    /** The task that runs, which is busy from here on; null if nothing is to be recorded now. */
+    /** The running task, which is busy from here on; null if nothing is to be recorded now. */
     static Task begin() {
         Task task = here.get();
         if (task == null) task = add();
@@ -87,7 +87,7 @@ final class Task {
         return here.get();
     }
 
-    /** The task isn't looked at any more. */
+    /** The task is no longer being examined. */
     void leave() {
         BUSY.setRelease(this, false);
     }
@@ -97,8 +97,8 @@ final class Task {
     }
 
     /**
-     * Something went wrong while the task was looked at, as when the stack is full: its trace ends here, and it stays
-     * busy.
+     * Something went wrong while the task was being examined, for example because the stack is full: its trace ends
+     * here, and it stays busy.
      */
     void abandon() {
         isOver = true;
@@ -156,7 +156,7 @@ final class Task {
         return known;
     }
 
-    /** A monitor is given back for a while: how often it was taken, 0 if that wasn't seen. */
+    /** A monitor is released for a while: how often it was taken, 0 if that wasn't seen. */
     int suspend(Object object) {
         for (int at = depth - 1; at >= 0; at--) {
             if (held[at].object == object) return suspend(held[at]);
@@ -172,7 +172,7 @@ final class Task {
 
     // ---- Locks of java.util.concurrent.locks.
 
-    /** The newest of what is held of a lock; as a reader, as a writer, or either. */
+    /** The newest held entry of a lock; as a reader, as a writer, or either. */
     private Held find(Known lock, boolean isEither, boolean isReader) {
         for (int at = depth - 1; at >= 0; at--) {
             Held entry = held[at];
@@ -181,12 +181,12 @@ final class Task {
         return null;
     }
 
-    /** What the task has already in a way that another acquisition of the lock doesn't wait for. */
+    /** What the task already holds in such a way that another acquisition of the lock doesn't wait. */
     private Held again(Known lock) {
         return lock.target.isReentrant ? find(lock.target, lock.isReader, false) : null;
     }
 
-    /** A lock is about to be waited for: it is written as if it were taken. Null if there is nothing to write. */
+    /** The task is about to wait for a lock: it is written as if it were taken. Null if there is nothing to write. */
     Held want(Known lock, int site) {
         settle();
         if (again(lock) != null) return null;
@@ -208,7 +208,7 @@ final class Task {
             takeAgain(lock);
             return;
         }
-        if (wish != wanted) { // a call of the program's own came in between
+        if (wish != wanted) { // one of the program's own calls came in between
             took(lock, false, site);
             return;
         }
@@ -257,13 +257,13 @@ final class Task {
         if (entry != null && !lock.target.isReentrant) lock.target.addHolder(this);
     }
 
-    /** A try failed. One that is made again at once, with others held, is a way of waiting that no trace shows. */
+    /** A try failed. One that is repeated at once, with other locks held, is a way of waiting that no trace shows. */
     void failed(Known lock) {
         if (depth > 0 && failed == lock) retriedTries++;
         failed = lock;
     }
 
-    /** A lock is about to be given back. Returns whether it was seen to be taken. */
+    /** A lock is about to be released. Returns whether it was seen to be taken. */
     boolean gave(Known lock, int site) {
         settle();
         Known target = lock.target;
@@ -278,7 +278,7 @@ final class Task {
         return true;
     }
 
-    /** A task has given back all that it had as a writer; what it has as a reader stays, and waits for nobody. */
+    /** A task has released all that it held as a writer; what it holds as a reader stays, and waits for nobody. */
     private void giveAll(Held entry, int site) {
         Known lock = entry.lock;
         int reads = entry.reads;
@@ -295,7 +295,7 @@ final class Task {
         return leftOut.remove(lock);
     }
 
-    /** What the task gives back wasn't seen to be taken by it. */
+    /** The task wasn't seen to take what it releases. */
     void gaveUnseen(Known lock) {
         unseenReleases++;
         Task other = lock.target.otherHolder(this);
@@ -304,7 +304,7 @@ final class Task {
         other.drop(lock);
     }
 
-    /** Another task gives back what this one took: that ends at this one's next operation. */
+    /** Another task releases what this one took: that ends at this one's next operation. */
     private void drop(Known lock) {
         for (Held entry : held) {
             if (entry != null && entry.lock == lock.target && !entry.isDropped) {
@@ -315,7 +315,7 @@ final class Task {
         }
     }
 
-    /** A lock is given back for a while: how often it was taken, 0 if that wasn't seen. */
+    /** A lock is released for a while: how often it was taken, 0 if that wasn't seen. */
     int suspend(Known lock) {
         Held entry = find(lock.target, false, false);
         return entry == null ? 0 : suspend(entry);
@@ -336,8 +336,8 @@ final class Task {
     // ---- Acquisitions and releases of either kind.
 
     /**
-     * Looks at what happened since the last operation: an error may have ended a wait, or others gave back what this
-     * task held.
+     * Handles what happened since the last operation: an error may have ended a wait, or others may have released what
+     * this task held.
      */
     private void settle() {
         if (wish != null) withdraw();
@@ -394,7 +394,7 @@ final class Task {
         else fullTraces++;
     }
 
-    /** A way is new to the task. If it is to the process too, it is written. */
+    /** A way is new to the task. If it is also new to the process, it is written. */
     private void see() {
         way.isTaken = true;
         fresh = base + size;
@@ -403,7 +403,7 @@ final class Task {
         Recording.write(this);
     }
 
-    /** The task holds a lock no more. What it did since it took it is taken back, if nothing of it was new. */
+    /** The task no longer holds a lock. What it did since it took the lock is dropped, if nothing of it was new. */
     private void giveBack(Held entry) {
         operations++;
         if (held[depth - 1] != entry) {
@@ -420,7 +420,7 @@ final class Task {
         entry.clear();
     }
 
-    /** Only so many records stay. */
+    /** Only this many records stay. */
     private void takeBack(int count) {
         repeats += base + size - count + 1;
         if (count < base) {
@@ -431,9 +431,9 @@ final class Task {
     }
 
     /**
-     * A lock is given back before others that were taken later: these move up to its place. What is taken back begins
-     * where just those before it are held: that is where the one before it began, if that is a lock of the same code,
-     * or else nowhere.
+     * A lock is released before others that were taken later: these move up to its place. What is dropped begins where
+     * just those before it are held: that is where the one before it began, if that is a lock with the same code, or
+     * nowhere.
      */
     private void giveBackEarly(Held entry) {
         int at = depth - 1;
@@ -466,7 +466,7 @@ final class Task {
         if (!lock.isApart) lock.tellApart();
     }
 
-    /** The lock that is held alone gets another one under it: it becomes a lock of its own, and so does its record. */
+    /** The lock that is held alone gets another one under it: it becomes a single lock, and so does its record. */
     private void tellHeldApart(Held entry) {
         if (!entry.lock.isApart) entry.lock.tellApart();
         int code = entry.lock.key << 3 | entry.code & 7;
@@ -498,7 +498,7 @@ final class Task {
         isOver = true;
     }
 
-    /** The thread waits for a monitor at the end, as is found out from outside. */
+    /** The thread waits for a monitor at the end, which is found out from outside. */
     void waitsFor(Known lock, int site) {
         push(lock, lock.get(), Modes.WRITE, site);
     }

@@ -1,6 +1,6 @@
 package java.lockdep;
 
-/** What is rewritten first, before any class of the program's, so that the rewriter is loaded by then. */
+/** What is rewritten first, before any class of the program, so that the rewriter is loaded by then. */
 final class Warm {
     private final Object lock = new Object();
 

@@ -3,7 +3,7 @@ package java.lockdep;
 import java.util.concurrent.ConcurrentHashMap;
 
 /**
- * The locks that a task holds, as a node of the tree of all that it held. What is held there is a code at each step.
+ * The locks that a task holds, as a node of the tree of everything that it held. Each step is the code of a held lock.
  */
 final class Way {
     /** The same in the tree of all tasks of the process. */

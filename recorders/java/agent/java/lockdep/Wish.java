@@ -6,7 +6,7 @@ final class Wish {
 
     private final Task task;
     private final Known lock;
-    /** What is written already; null if there is nothing to write, or if it is written when the lock was taken. */
+    /** What is already written; null if there is nothing to write, or if it is written after the lock was taken. */
     private final Held wanted;
 
     private Wish(Task task, Known lock, Held wanted) {
@@ -16,8 +16,8 @@ final class Wish {
     }
 
     /**
-     * What is to be waited for. A lock of the JDK's is written before it is waited for. A lock of the program's own
-     * may call others, so it is written when it was taken.
+     * What is to be waited for. A lock of the JDK is written before the wait. One of the program's own locks may call
+     * others, so it is written after it was taken.
      */
     static Wish of(Object lock, int site) {
         Task task = lock == null ? null : Task.begin();

@@ -10,12 +10,12 @@ import java.util.Set;
 
 /**
  * Begins the recording before the program's first class is loaded: `-javaagent:lockdep-agent.jar`, or
- * `-javaagent:lockdep-agent.jar=FOLDER` if no `record` runs the program. The environment says the rest: LOCKDEP_JAVA
- * has the folder of the processes' files, LOCKDEP_JAVA_JDK the beginnings of names of the JDK's classes that are
- * recorded too, LOCKDEP_JAVA_SOURCES folders of sources.
+ * `-javaagent:lockdep-agent.jar=FOLDER` if no `record` runs the program. The rest is in the environment: LOCKDEP_JAVA
+ * has the folder of the processes' files, LOCKDEP_JAVA_JDK the name prefixes of the JDK's classes that are also
+ * recorded, LOCKDEP_JAVA_SOURCES the folders of sources.
  */
 public final class Agent {
-    /** Comes after the program's own hooks, which may take locks. */
+    /** Runs after the program's own hooks, which may take locks. */
     private static final int LAST_HOOK = 9;
 
     private Agent() {
@@ -39,7 +39,7 @@ public final class Agent {
         return text == null || text.isEmpty() ? new String[0] : text.split(separator);
     }
 
-    /** The folder of the processes' files in the folder of a recording, which is made. */
+    /** The folder of the processes' files in the folder of a recording; it is created. */
     private static File folderOf(String folder) throws IOException {
         File raw = new File(folder, "raw");
         raw.mkdirs();
@@ -47,7 +47,7 @@ public final class Agent {
         return raw;
     }
 
-    /** Lets the recorder look at what the JDK keeps to itself. What can't be looked at is done without. */
+    /** Lets the recorder look at private parts of the JDK. It does without those that it can't look at. */
     private static void open(Instrumentation machine) {
         try {
             Module base = Object.class.getModule();
@@ -60,7 +60,7 @@ public final class Agent {
         }
     }
 
-    /** Classes of the JDK that are to be recorded and were loaded before. */
+    /** Classes of the JDK that are to be recorded but were already loaded. */
     private static void rewriteLoaded(Rewriter rewriter, Instrumentation machine) {
         if (!rewriter.asksForJdk()) return;
         for (Class<?> type : machine.getAllLoadedClasses()) {

@@ -8,7 +8,7 @@ import org.objectweb.asm.Opcodes;
 import org.objectweb.asm.Type;
 import org.objectweb.asm.tree.MethodInsnNode;
 
-/** The calls that are replaced by those of Hooks, which get the object and where they stand as well. */
+/** The calls that are replaced by those of Hooks, which also get the object and the place of the call. */
 final class Calls {
     static final String HOOKS = "java/lockdep/Hooks";
     static final String REFERENCES = "java/lockdep/References";
@@ -42,7 +42,7 @@ final class Calls {
     private Calls() {
     }
 
-    /** What a call's object is taken for by the call of Hooks; null if the call stays. */
+    /** The type that the call of Hooks has for the call's object; null if the call stays. */
     static String receiver(MethodInsnNode call, Locking locking) {
         if (call.getOpcode() != Opcodes.INVOKEVIRTUAL && call.getOpcode() != Opcodes.INVOKEINTERFACE) return null;
         String signature = call.name + call.desc;
@@ -55,7 +55,7 @@ final class Calls {
         return signature.equals("halt(I)V") && call.owner.equals("java/lang/Runtime") ? "java/lang/Runtime" : null;
     }
 
-    /** Whether the call of Hooks is told where it stands. */
+    /** Whether the call of Hooks gets the place of the call. */
     static boolean hasSite(MethodInsnNode call) {
         return !call.name.equals("newCondition") && !call.name.equals("halt")
                 && !VIEWS.containsKey(call.name + call.desc);
@@ -72,7 +72,7 @@ final class Calls {
     }
 
     /**
-     * The class that a reference's object is taken for, which it may have already; null if that isn't one of
+     * The class that is used for a reference's object, which it may already have; null if that isn't one of
      * References.
      */
     static String objectOf(String descriptor, String owner) {

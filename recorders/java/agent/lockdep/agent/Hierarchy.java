@@ -6,7 +6,7 @@ import java.util.Set;
 
 import org.objectweb.asm.ClassReader;
 
-/** Whether a class of the program's is a lock: its file says what is above it, and no class is loaded for that. */
+/** Whether a class of the program is a lock: its file names its superclasses, and no class is loaded for that. */
 final class Hierarchy {
     static final String LOCKS = "java/util/concurrent/locks/";
     static final Set<String> LOCK = Set.of(LOCKS + "Lock", LOCKS + "ReentrantLock",

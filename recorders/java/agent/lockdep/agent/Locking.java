@@ -10,7 +10,7 @@ import org.objectweb.asm.tree.FieldInsnNode;
 import org.objectweb.asm.tree.MethodNode;
 import org.objectweb.asm.tree.VarInsnNode;
 
-/** What a class does with monitors, which says where objects that come to be locks are made. */
+/** What a class does with monitors, which says where objects that are used as locks are made. */
 final class Locking {
     /** Classes of the JDK whose objects are locks, or are often used as such: where they are made is always noted. */
     private static final Set<String> LOCKS = Set.of("java/lang/Object", "java/util/Vector", "java/util/Stack",
@@ -26,7 +26,7 @@ final class Locking {
 
     final Hierarchy hierarchy;
     final ClassLoader loader;
-    /** Whether buffers of strings are recorded, of which there are too many to be noted else. */
+    /** Whether string buffers are recorded. Otherwise they aren't noted, since there are too many of them. */
     private final boolean hasBuffers;
     /** Whether this class takes the monitor of its own objects, or they are locks. */
     final boolean isOfItself;
@@ -58,7 +58,7 @@ final class Locking {
         return fields.contains(field.owner + "." + field.name);
     }
 
-    /** What puts the object of a monitorenter on the stack: the compiler keeps a copy of it for the exit. */
+    /** The instruction that puts the object of a monitorenter on the stack: the compiler keeps a copy for the exit. */
     private static AbstractInsnNode operand(AbstractInsnNode enter) {
         AbstractInsnNode before = realBefore(enter);
         if (before != null && before.getOpcode() == Opcodes.ASTORE) {

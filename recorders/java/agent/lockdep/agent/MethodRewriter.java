@@ -27,8 +27,8 @@ import org.objectweb.asm.tree.TypeInsnNode;
 import org.objectweb.asm.tree.VarInsnNode;
 
 /**
- * Rewrites a method. What is added has no branches, so the frames of the method stay right; only the handler of a
- * synchronized method gets one of its own.
+ * Rewrites a method. The added code has no branches, so the frames of the method stay right; only the handler of a
+ * synchronized method gets its own frame.
  */
 final class MethodRewriter {
     private final ClassNode type;
@@ -50,7 +50,7 @@ final class MethodRewriter {
         code = method.instructions;
     }
 
-    /** Returns whether anything of the method is changed. */
+    /** Returns whether anything in the method is changed. */
     boolean rewrite() {
         boolean isSynchronized = (method.access & Opcodes.ACC_SYNCHRONIZED) != 0;
         if (isSynchronized && !canBeWrapped())
@@ -133,7 +133,7 @@ final class MethodRewriter {
         isChanged = true;
     }
 
-    /** References to methods of locks, as `lock::unlock`, become references to what is called in their place. */
+    /** References to methods of locks, such as `lock::unlock`, become references to what is called instead. */
     private void rewriteReferences(InvokeDynamicInsnNode made) {
         for (int at = 0; at < made.bsmArgs.length; at++) {
             if (!(made.bsmArgs[at] instanceof Handle)) continue;
@@ -179,7 +179,7 @@ final class MethodRewriter {
     // ---- Synchronized methods.
 
     /**
-     * Whether the object of a method is in its place all through it. (Compilers leave it there; what shrinks programs
+     * Whether the object of a method is in its place throughout. (Compilers leave it there; tools that shrink programs
      * may not.)
      */
     private boolean canBeWrapped() {
@@ -211,7 +211,7 @@ final class MethodRewriter {
         }
     }
 
-    /** The method enters the monitor before its first line. It exits before each return, and if an error leaves it. */
+    /** The method enters the monitor before its first line, and exits it before each return and on an error. */
     private void wrap() {
         line = firstLine();
         for (AbstractInsnNode each = code.getFirst(); each != null; each = each.getNext()) {

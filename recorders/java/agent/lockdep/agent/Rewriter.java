@@ -17,11 +17,11 @@ import org.objectweb.asm.tree.LineNumberNode;
 import org.objectweb.asm.tree.AbstractInsnNode;
 import org.objectweb.asm.tree.MethodNode;
 
-/** Rewrites the program's classes when they are loaded. One that can't be rewritten stays as it is, and is counted. */
+/** Rewrites the program's classes when they are loaded. One that can't be rewritten is left unchanged, and counted. */
 final class Rewriter implements ClassFileTransformer {
-    /** The newest version of class files that this ASM reads. Newer ones have had nothing else in them so far. */
+    /** The newest version of class files that this ASM reads. Newer ones so far contain nothing else. */
     private static final int NEWEST = Opcodes.V20;
-    /** What the recorder itself is made of, or what is under it, whatever is asked for. */
+    /** What the recorder itself uses, or what is below it, whatever is requested. */
     private static final String[] NEVER = {"java/lang/Object", "java/lang/Thread", "java/lang/VirtualThread",
             "java/lang/BaseVirtualThread",
         "java/lang/Class", "java/lang/ref/", "java/lang/invoke/", "java/lang/System", "java/lang/Shutdown",
@@ -45,7 +45,7 @@ final class Rewriter implements ClassFileTransformer {
         return jdk.length > 0;
     }
 
-    /** Loads what a rewriting needs, so that none of it is loaded in the middle of one. */
+    /** Loads what rewriting needs, so that none of it is loaded in the middle of it. */
     void warmUp() throws IOException {
         try (InputStream file = ClassLoader.getSystemResourceAsStream("java/lockdep/Warm.class")) {
             if (file != null) rewrite(null, file.readAllBytes(), null, false);
@@ -69,7 +69,7 @@ final class Rewriter implements ClassFileTransformer {
         }
     }
 
-    /** Whether a class of the JDK is one that was asked for. */
+    /** Whether a class of the JDK was requested. */
     boolean isAsked(String name, Module module) {
         return isOfJdk(module, name) && begins(name, jdk) && (!begins(name, NEVER) || begins(name, ALWAYS));
     }

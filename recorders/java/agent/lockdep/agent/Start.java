@@ -5,8 +5,8 @@ import java.lang.instrument.Instrumentation;
 import java.util.jar.JarFile;
 
 /**
- * What the machine calls first. The agent has to be loaded by the boot loader, for which the jar's manifest names the
- * jar. That doesn't work if the jar's path has a space, so this makes sure of it.
+ * What the JVM calls first. The agent has to be loaded by the boot loader, for which the jar's manifest names the jar.
+ * That doesn't work if the jar's path has a space, so this class makes sure of it.
  */
 public final class Start {
     private Start() {
@@ -20,7 +20,7 @@ public final class Start {
             }
             Class.forName("lockdep.agent.Agent", true, null).getMethod("begin", String.class, Instrumentation.class)
                     .invoke(null, folder, machine);
-        } catch (Throwable error) { // the program runs all the same, and `record` says that nothing was recorded
+        } catch (Throwable error) { // the program runs nevertheless, and `record` says that nothing was recorded
             System.err.println("record: this Java isn't recorded: " + (error.getCause() == null ? error
                     : error.getCause()));
         }
