@@ -51,6 +51,13 @@ __attribute__((constructor)) static void at_start(void) { look_up(); }
 
 static inline bool resolved(void) { return LIKELY(LOAD(&resolve_state) == 2) || look_up(); }
 
+/* The real function, if the real functions can be found; else NULL. One that is known is all that has to be looked at. */
+#define READY(name) ((__typeof__(&name))ready(&real_##name, #name))
+static inline void *ready(void **known, const char *name) {
+    void *real = LOAD(known);
+    return LIKELY(real) ? real : resolved() ? find_real(known, name) : NULL;
+}
+
 /* ---- Acquisitions. A call has taken the lock if it returns 0, or if the owner died with a robust mutex held. */
 
 static inline bool took(int answer) { return answer == 0 || answer == EOWNERDEAD; }
@@ -58,9 +65,10 @@ static inline bool took(int answer) { return answer == 0 || answer == EOWNERDEAD
 /* A call that takes a lock or fails at once. */
 #define TRYING(name, mode, parameters, arguments)                                                                      \
     EXPORT int name parameters {                                                                                       \
-        if (!resolved())                                                                                               \
+        __typeof__(&name) real = READY(name);                                                                          \
+        if (!real)                                                                                                     \
             return 0;                                                                                                  \
-        int answer = REAL(name) arguments;                                                                             \
+        int answer = real arguments;                                                                                   \
         tried((uintptr_t)lock, !took(answer));                                                                         \
         if (took(answer))                                                                                              \
             acquired((uintptr_t)lock, mode, IS_EXCLUSIVE(lock), HERE);                                                 \
@@ -71,9 +79,10 @@ static inline bool took(int answer) { return answer == 0 || answer == EOWNERDEAD
    a call would refuse for another reason than that, it refuses as before: `is_sound` says that it may be tried. */
 #define TAKING(name, try, taken, mode, is_sound, parameters, arguments)                                                \
     EXPORT int name parameters {                                                                                       \
-        if (!resolved())                                                                                               \
+        __typeof__(&try) real_try = READY(try);                                                                        \
+        if (!real_try)                                                                                                 \
             return 0;                                                                                                  \
-        int answer = is_sound ? REAL(try)(lock) : taken;                                                               \
+        int answer = is_sound ? real_try(lock) : taken;                                                                \
         if (answer != taken) {                                                                                         \
             if (took(answer))                                                                                          \
                 acquired((uintptr_t)lock, mode, IS_EXCLUSIVE(lock), HERE);                                             \
@@ -92,10 +101,11 @@ static inline bool took(int answer) { return answer == 0 || answer == EOWNERDEAD
 
 #define RELEASING(name, type)                                                                                          \
     EXPORT int name(type *lock) {                                                                                      \
-        if (!resolved())                                                                                               \
+        __typeof__(&name) real = READY(name);                                                                          \
+        if (!real)                                                                                                     \
             return 0;                                                                                                  \
         releasing((uintptr_t)lock, HERE);                                                                              \
-        return REAL(name)(lock);                                                                                       \
+        return real(lock);                                                                                             \
     }
 
 #define DESTROYING(name, type)                                                                                         \
