@@ -1,5 +1,6 @@
-/* Processes that the program forks, and programs that it starts: which, how often, and whether this library goes along with them. `record` looks at their files at the
-   end, since one that is linked statically or that gets other rights isn't recorded. Nothing of what is started is changed. */
+/* Processes that the program forks, and programs that it starts: which, how often, and whether this library goes along with them. `record`
+   looks at the files of these at the end, since one that is linked statically or that gets other rights isn't recorded. Nothing of what is
+   started is changed. */
 #include "own.h"
 
 #include <errno.h>
