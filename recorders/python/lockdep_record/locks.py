@@ -10,7 +10,7 @@ import threading
 from importlib import _bootstrap
 
 from . import recording
-from .recording import TRY, WRITE, Lock as Record, failed_try, gave, getframe, grant, made_at, not_granted, took, wish
+from .recording import TRY, WRITE, Lock as Record, break_off, failed_try, gave, getframe, grant, made_at, not_granted, took, wish
 
 # How long a lock is waited for before that is written, in seconds. Who is in a deadlock waits longer.
 PATIENCE = 0.05
@@ -44,19 +44,36 @@ def take(record, inner, blocking, timeout):
 
 def wait_for(record, acquire, release, timeout):
     """Waits for a lock that isn't free, by its real method."""
-    if acquire(True, PATIENCE if timeout < 0 else min(PATIENCE, timeout)):
+    if timeout < 0:
+        return wait_without_end(record, acquire, release)
+    if acquire(True, min(PATIENCE, timeout)):
         return keep(record, WRITE, release)
-    if 0 <= timeout <= PATIENCE:
+    if timeout <= PATIENCE:
         return False
     wish(record)
     is_taken = False
     try:
-        is_taken = acquire(True, timeout - PATIENCE if timeout >= 0 else timeout)
+        is_taken = acquire(True, timeout - PATIENCE)
     finally:
         if not is_taken:
             not_granted(record)
     if not is_taken or grant(record):
         return is_taken
+    return keep(record, WRITE, release)
+
+
+def wait_without_end(record, acquire, release):
+    """Waits for a lock for as long as it takes, or till an error of a signal's handler ends that."""
+    try:
+        is_taken = acquire(True, PATIENCE)
+        if not is_taken:
+            wish(record)
+            acquire(True, -1)
+    except BaseException:
+        break_off(record)
+        raise
+    if not is_taken and grant(record):
+        return True
     return keep(record, WRITE, release)
 
 
@@ -301,6 +318,7 @@ def replace_asyncio(module):
     """Notes what is done with the locks of `asyncio.locks`, in their own class."""
     recording.find_task = find_task_first
     recording.find_loop = sys.modules["asyncio.events"]._get_running_loop
+    leave_alone(sys.modules.get("asyncio.mixins"), "_global_lock")
     real = module.Lock
     make, real_acquire, real_release = real.__init__, real.acquire, real.release
 
@@ -314,17 +332,14 @@ def replace_asyncio(module):
             self._locked = True
             took(record, WRITE)
             return True
-        if not self._locked:
-            is_taken = await real_acquire(self)
-            took(record, WRITE)
-            return is_taken
         wish(record, False)
-        is_taken = False
         try:
             is_taken = await real_acquire(self)
-        finally:
-            if not is_taken:
-                not_granted(record)
+        except GeneratorExit:  # it is not the task itself that runs this: its end says what it waited for
+            raise
+        except BaseException:
+            break_off(record)
+            raise
         if not grant(record):
             took(record, WRITE)
         return is_taken
@@ -334,6 +349,13 @@ def replace_asyncio(module):
         real_release(self)
 
     put_in_place(real, __init__, acquire, release)
+
+
+def leave_alone(module, name):
+    """Puts the real lock back into a module, as one that is taken between the beginning of a wait and the wait itself."""
+    own = getattr(module, name, None)
+    if isinstance(own, lock):
+        setattr(module, name, own.inner)
 
 
 def put_in_place(real, *functions):
