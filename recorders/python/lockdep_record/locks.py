@@ -446,10 +446,10 @@ def replace_hooks():
     sys.excepthook, threading.excepthook = excepthook, thread_excepthook
 
 
-def begin(folder):
-    """Records this process from here on."""
+def begin(folder, is_fork_server):
+    """Records this process from here on. Of the server that forks processes for `multiprocessing` only these are recorded."""
     recording.is_typed = getattr(sys, "argv", [])[:1] == ["-c"]
-    recording.begin_process(folder)
+    recording.begin_process(folder, is_fork_server)
     replace_hooks()
     for each in (lock, RLock):
         each.__module__ = "_thread"

@@ -651,19 +651,21 @@ def broken_off_lines():
 # ---- The file.
 
 class Process:
-    """A process, and its file."""
+    """A process, and its file. One that is left out has none."""
 
-    def __init__(self, folder):
+    def __init__(self, folder, is_left_out):
         self.folder, self.tasks, self.common = folder, set(), Way(None)
         self.counts = dict.fromkeys(("reentered", "beyond-held", "full-traces", "unseen-releases", "repeats", "retried-tries",
                                      "interrupted", "alike", "operations"), 0)
-        self.told, self.written, self.like, self.task_count, self.is_off = {}, {}, {}, 0, False
+        self.told, self.written, self.like, self.task_count = {}, {}, {}, 0
         self.places, self.place_numbers, self.pid = {}, counting(1), os.getpid()
         self.broken_off = deque(maxlen=MOST_BROKEN_OFF)
         number = 0
         while os.path.lexists(self.path_of(number)):
             number += 1
-        self.path = self.path_of(number)
+        self.path, self.is_off = self.path_of(number), is_left_out
+        if is_left_out:
+            return
         put_bytes(self, b"process %d %d\n" % (self.pid, time_ns()))
         try:
             os.chmod(self.path, 0o666)  # a program may give up its rights
@@ -829,10 +831,10 @@ def begin_in_child():
         task.fresh = len(task.records)
 
 
-def begin_process(folder):
-    """From here on this process is recorded."""
+def begin_process(folder, is_left_out=False):
+    """From here on this process is recorded, or what is forked by it."""
     global process, LEFT_OUT
-    process = Process(folder)
+    process = Process(folder, is_left_out)
     over = Task()
     over.is_over = over.is_busy = True
     process.tasks.discard(over)
