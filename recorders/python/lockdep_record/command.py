@@ -62,6 +62,8 @@ def record(folder, command, environment, then):
     folder.finish()
     if then:
         folder.file.close()
+        for number in PASSED_ON:
+            signal.signal(number, signal.SIG_IGN)  # what judges the traces isn't disturbed, nor by what has come since
         signal.pthread_sigmask(signal.SIG_SETMASK, mask)
         os.execv(then, [then, "--end", folder.path, str(status)])
     seen = folder.say_what_was_seen()

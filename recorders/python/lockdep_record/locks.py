@@ -338,7 +338,7 @@ def replace_asyncio(module):
         except GeneratorExit:  # it is not the task itself that runs this: its end says what it waited for
             raise
         except BaseException:
-            break_off(record)
+            (not_granted if has_limit(getframe(0)) else break_off)(record)
             raise
         if not grant(record):
             took(record, WRITE)
@@ -349,6 +349,15 @@ def replace_asyncio(module):
         real_release(self)
 
     put_in_place(real, __init__, acquire, release)
+
+
+def has_limit(frame):
+    """Whether it is `asyncio.wait_for` that awaits the coroutine of this frame, and for a time: that is an acquisition with a timeout."""
+    above = frame.f_back
+    if above is not None and above.f_code is sys.modules["asyncio.tasks"].wait_for.__code__:
+        return above.f_locals.get("timeout") is not None
+    running = recording.find_task(recording.find_loop())
+    return getattr(running.get_coro(), "cr_frame", None) is frame and recording.caller_of(running) is not None
 
 
 def leave_alone(module, name):
