@@ -142,7 +142,7 @@ def next_signal(interrupted):
 def say_it_runs():
     """A program of Python's that Ctrl-C has come to may go on, since its threads are waited for."""
     if "LOCKDEP_RUN_HOME" in os.environ and not os.environ.get("LOCKDEP_RUN_QUIET"):
-        print("lockdep: the command still runs, as Python does while threads of it run; a second Ctrl-C goes on to it, which ends that",
+        print("lockdep: the command still runs, as Python does while it waits for its threads; a second Ctrl-C ends that",
               file=sys.stderr, flush=True)
 
 
