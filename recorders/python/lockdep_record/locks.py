@@ -15,7 +15,7 @@ from .recording import TRY, WRITE, Lock as Record, break_off, failed_try, gave, 
 # How long a lock is waited for before that is written, in seconds. Who is in a deadlock waits longer.
 PATIENCE = 0.05
 
-allocate, RealRLock = _thread.allocate_lock, _thread.RLock
+allocate, RealRLock, RealLock = _thread.allocate_lock, _thread.RLock, _thread.LockType
 of_threading, of_imports = vars(threading), vars(_bootstrap)
 of_condition = threading.Condition.__init__.__code__
 
@@ -102,8 +102,15 @@ class Replaced:
         return getattr(self.inner, name)
 
 
-class lock(Replaced):
-    """In place of `threading.Lock`."""
+class Kind(type):
+    """Locks of the real type, as those inside `threading`, are of this one's too, as a program sees it."""
+
+    def __instancecheck__(cls, instance):
+        return type.__instancecheck__(cls, instance) or type(instance) is RealLock
+
+
+class lock(Replaced, metaclass=Kind):
+    """In place of `threading.Lock`, and of `_thread.LockType`."""
 
     __slots__ = ()
 
@@ -363,7 +370,7 @@ def has_limit(frame):
 def leave_alone(module, name):
     """Puts the real lock back into a module, as one that is taken between the beginning of a wait and the wait itself."""
     own = getattr(module, name, None)
-    if isinstance(own, lock):
+    if type(own) is lock:
         setattr(module, name, own.inner)
 
 
@@ -409,9 +416,9 @@ def replace_everywhere(old, new):
 def replace_locks():
     """Takes the place of the functions that make locks."""
     real_lock, real_rlock = threading.Lock, threading.RLock
-    threading.Lock = _thread.allocate_lock = _thread.allocate = lock
+    threading.Lock = _thread.allocate_lock = _thread.allocate = _thread.LockType = lock
     threading.RLock = _thread.RLock = RLock
-    for old, new in ((real_lock, lock), (allocate, lock), (real_rlock, RLock), (RealRLock, RLock)):
+    for old, new in ((real_lock, lock), (allocate, lock), (RealLock, lock), (real_rlock, RLock), (RealRLock, RLock)):
         replace_everywhere(old, new)
     replace_semaphores()
 
@@ -429,7 +436,15 @@ def replace_exit():
 
 
 def hide(error):
-    """Takes the functions of this file out of the trace of an error, and of those that led to it."""
+    """Takes the functions of this file out of the trace of an error, and of those that led to it. What comes in between, as another
+    Ctrl-C, isn't an error of the program's hook."""
+    try:
+        take_out(error)
+    except BaseException:
+        pass
+
+
+def take_out(error):
     known = set()
     while error is not None and error not in known:
         known.add(error)
