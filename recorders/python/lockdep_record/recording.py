@@ -152,7 +152,7 @@ def name_at(frame):
     """A place as the part of a name: `module.function:line`, and which call of the line if it isn't the first."""
     code, instruction = frame.f_code, frame.f_lasti
     module = frame.f_globals.get("__name__") or "?"
-    if module == "__main__":
+    if module in ("__main__", "__mp_main__"):  # as the main module is called in a process that `multiprocessing` spawned
         module = os.path.splitext(os.path.basename(code.co_filename))[0]
     function = function_of(frame)
     function = "" if function == "<module>" else "." + function
