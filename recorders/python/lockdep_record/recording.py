@@ -460,15 +460,12 @@ def gave_oddly(lock, real, task):
 
 
 def gave_for_another(lock, entry, real):
-    """A lock is given back that another task took: its acquisition ends at that task's next operation. But of the tasks of one loop only
-    one runs at a time, so an acquisition of a lock of asyncio ends here, and nothing is lost."""
-    if entry is not None and hasattr(real, "_lockdep_record") and not entry.task.is_busy and entry in entry.task.held:
-        lock.spare = None
-        give_back(entry.task, entry)
-        return
-    if entry is not LEFT_OUT:
+    """A lock is given back that another task took: its acquisition ends at that task's next operation. Of the tasks of one loop only one
+    runs at a time, so with a lock of asyncio nothing can have come in between, and nothing is lost."""
+    is_known = entry is not None and not entry.task.is_over
+    if entry is not LEFT_OUT and not (is_known and hasattr(real, "_lockdep_record")):
         process.counts["unseen-releases"] += 1
-    if entry is not None and not entry.task.is_over:
+    if is_known:
         lock.spare = None
         entry.task.dropped.append(entry)
 
