@@ -19,6 +19,7 @@
 #include <sys/file.h>
 #include <sys/prctl.h>
 #include <sys/stat.h>
+#include <sys/syscall.h>
 #include <sys/wait.h>
 #include <time.h>
 #include <unistd.h>
@@ -33,6 +34,10 @@
 
 /* How long the end of what was left in the background is waited for without a word. */
 #define PATIENCE_NANOSECONDS 500000000
+
+/* How often it is seen whether a signal came to the whole group, and how long it takes from one look to the next. */
+#define WITNESS_LOOKS 5
+#define WITNESS_NANOSECONDS 1000000
 
 /* ---- Finding the command. */
 
@@ -164,8 +169,77 @@ static void become(char **command, const sigset_t *mask, const struct sigaction 
     _exit(status);
 }
 
+/* ---- Who tells whether a signal came to the whole group. */
+
+/* The witness is a process of this one's group that does nothing. The signals that are passed on are blocked in it, so it keeps them: one
+   that it has got too was for the whole group, as `timeout` and `kill 0` send them, and the command has that already. It has no file
+   open, and ends with this process, however that ends. Without it, if no process can be started, such a signal comes twice. */
+static pid_t begin_witness(void) {
+    pid_t maker = getpid(), witness = fork();
+    if (witness != 0)
+        return witness;
+    prctl(PR_SET_PDEATHSIG, SIGKILL);
+#ifdef SYS_close_range
+    bool is_closed = syscall(SYS_close_range, 0U, ~0U, 0U) == 0;
+#else
+    bool is_closed = false;
+#endif
+    for (int file = 0; !is_closed && file < sysconf(_SC_OPEN_MAX); file++)
+        close(file);
+    while (getppid() == maker)
+        pause();
+    _exit(0);
+}
+
+static void end_witness(pid_t *witness) {
+    if (*witness > 0 && kill(*witness, SIGKILL) == 0)
+        waitpid(*witness, NULL, 0);
+    *witness = 0;
+}
+
+/* Whether the witness has got a signal. */
+static bool has_got(pid_t witness, int signal_number) {
+    char path[64], line[256];
+    unsigned long long pending = 0;
+    snprintf(path, sizeof path, "/proc/%d/status", (int)witness);
+    FILE *file = witness > 0 ? fopen(path, "r") : NULL;
+    while (file && fgets(line, sizeof line, file))
+        if (sscanf(line, "ShdPnd: %llx", &pending) == 1)
+            break;
+    if (file)
+        fclose(file);
+    return pending >> (signal_number - 1) & 1;
+}
+
+static void pause_shortly(void) {
+    struct timespec pause = {0, WITNESS_NANOSECONDS};
+    nanosleep(&pause, NULL);
+}
+
+/* Whether a signal that has just come was for the whole group. Then the next one is seen by a new witness, and what came to this process
+   twice, as by `timeout`, counts once. */
+static bool is_to_group(pid_t *witness, int signal_number) {
+    for (int i = 0; i < WITNESS_LOOKS; i++) {
+        bool has_it = has_got(*witness, signal_number);
+        pause_shortly();
+        if (!has_it)
+            continue;
+        sigset_t alike;
+        struct timespec none = {0, 0};
+        sigemptyset(&alike);
+        sigaddset(&alike, signal_number);
+        sigtimedwait(&alike, NULL, &none);
+        end_witness(witness);
+        *witness = begin_witness();
+        return true;
+    }
+    return false;
+}
+
+/* ---- The run. */
+
 struct run {
-    pid_t command;
+    pid_t command, witness;
     bool has_ended, is_waiting, is_told, is_over;
     int status; /* the command's, once it has ended */
     unsigned signals; /* how many came after the command's end */
@@ -183,7 +257,10 @@ static void reap(struct run *run) {
             run->has_ended = true;
             run->status = status_of(waited);
             run->is_over |= !run->is_waiting;
+            end_witness(&run->witness);
         }
+        if (ended > 0 && ended == run->witness)
+            run->witness = 0;
         if (ended == 0)
             return;
         if (ended < 0 && errno != EINTR) {
@@ -193,11 +270,12 @@ static void reap(struct run *run) {
     }
 }
 
-/* A signal of the terminal's goes to its whole foreground group: the command has it already if it is in this one's. But a terminal
-   that hangs up sends SIGHUP to the leader of its session alone. */
-static bool has_it_already(const struct run *run, const siginfo_t *info) {
+/* A signal of the terminal's goes to its whole foreground group, and others may: the command has it already if it is in this one's. But a
+   terminal that hangs up sends SIGHUP to the leader of its session alone. */
+static bool has_it_already(struct run *run, const siginfo_t *info) {
     bool is_to_leader = info->si_signo == SIGHUP && getsid(0) == getpid();
-    return info->si_code == SI_KERNEL && !is_to_leader && getpgid(run->command) == getpgrp();
+    bool is_told = is_to_group(&run->witness, info->si_signo) || (info->si_code == SI_KERNEL && !is_to_leader);
+    return is_told && getpgid(run->command) == getpgrp();
 }
 
 /* What this process was started to ignore is passed on too, since the command may have chosen to heed it. But it doesn't end the
@@ -279,9 +357,11 @@ static int go(bool is_waiting, const char *record, const char *folder, char **co
     await_signals(&awaited, &run.ignored);
     sigprocmask(SIG_BLOCK, &awaited, &before);
     prctl(PR_SET_CHILD_SUBREAPER, 1);
+    run.witness = begin_witness();
     run.command = fork();
     if (run.command < 0) {
         fprintf(stderr, "%s: no process can be started: %s\n", said_by(), strerror(errno));
+        end_witness(&run.witness);
         run = (struct run){.status = NOT_RUNNABLE, .has_ended = true, .is_over = true};
     }
     if (run.command == 0)

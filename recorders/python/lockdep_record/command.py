@@ -2,11 +2,14 @@
 import os
 import signal
 import sys
+from time import monotonic, sleep
 
 from lockdep_record.folder import Folder, Refusal, say
 
 PASSED_ON = (signal.SIGHUP, signal.SIGINT, signal.SIGQUIT, signal.SIGTERM, signal.SIGUSR1, signal.SIGUSR2)
 FROM_KERNEL = 128  # the code of a signal that a terminal sends
+WITNESS_LOOKS, WITNESS_PAUSE = 5, 0.001  # how often it is seen whether a signal came to the whole group, and the seconds in between
+PATIENCE = 2  # how long after Ctrl-C, in seconds, a command may still run before that is said
 
 
 def is_command(word):
@@ -15,15 +18,19 @@ def is_command(word):
     return not word.startswith("-") and which(word) is not None
 
 
-def start(command, environment):
-    """Starts the command, with the signals as they were for this process. Returns its process id, or the status if it can't be run."""
-    ignored = [number for number in PASSED_ON if signal.getsignal(number) == signal.SIG_IGN]
+def block_signals():
+    """From here on signals that are passed on are waited for."""
     signal.pthread_sigmask(signal.SIG_BLOCK, PASSED_ON + (signal.SIGCHLD,))
+
+
+def start(command, environment):
+    """Starts the command, with the signals as they were for this process. Returns its number."""
+    ignored = [number for number in PASSED_ON if signal.getsignal(number) == signal.SIG_IGN]
     for number in ignored:
         signal.signal(number, lambda *_: None)  # what is ignored can't be waited for
     child = os.fork()
     if child:
-        return child, 0
+        return child
     try:
         for number in ignored:
             signal.signal(number, signal.SIG_IGN)
@@ -41,27 +48,116 @@ def start(command, environment):
 mask = signal.pthread_sigmask(signal.SIG_BLOCK, ())
 
 
-def wait_for(child):
-    """Waits for the command and passes signals on to it. A terminal's signals reach the command anyway."""
+class Witness:
+    """A process of this one's group that does nothing. The signals that are passed on are blocked in it, so it keeps them: one that it has
+    got too was for the whole group, as `timeout` and `kill 0` send them, and the command has that already. It has no file open but a
+    pipe, by which it ends with this process, however that ends."""
+
+    def __init__(self):
+        self.begin()
+
+    def begin(self):
+        own_end, self.end = os.pipe()
+        try:
+            self.pid = os.fork()
+        except OSError:  # (then a signal to the group comes twice)
+            self.pid = None
+        if self.pid == 0:
+            try:
+                stay(own_end)
+            finally:
+                os._exit(0)
+        os.close(own_end)
+
+    def has(self, number):
+        """Whether it has got a signal."""
+        try:
+            with open("/proc/%s/status" % self.pid, encoding="utf-8", errors="replace") as file:
+                words = dict(line.split(":", 1) for line in file if ":" in line)
+            return int(words["ShdPnd"], 16) >> (number - 1) & 1 == 1
+        except (OSError, KeyError, ValueError):
+            return False
+
+    def saw(self, number):
+        """Whether a signal that has just come was for the whole group. Then the next one like it is seen by a new witness, and what came
+        to this process twice, as by `timeout`, counts once."""
+        for _ in range(WITNESS_LOOKS):
+            if self.has(number):
+                sleep(WITNESS_PAUSE)
+                signal.sigtimedwait([number], 0)
+                self.end_it()
+                self.begin()
+                return True
+            sleep(WITNESS_PAUSE)
+        return False
+
+    def end_it(self):
+        os.close(self.end)
+        if self.pid:
+            os.kill(self.pid, signal.SIGKILL)
+            os.waitpid(self.pid, 0)
+
+
+def stay(own_end):
+    """What a witness does: it waits for the other end of its pipe to be closed."""
+    for name in os.listdir("/proc/self/fd"):
+        if int(name) != own_end:
+            try:
+                os.close(int(name))
+            except OSError:  # the list's own
+                pass
+    os.read(own_end, 1)
+
+
+def wait_for(child, witness):
+    """Waits for the command and passes signals on to it. What a terminal or `timeout` sends, it sends to the command too."""
+    interrupted = None
     while True:
         ended, status = os.waitpid(child, os.WNOHANG)
         if ended:
             break
-        came = signal.sigwaitinfo(PASSED_ON + (signal.SIGCHLD,))
-        is_told = came.si_code == FROM_KERNEL and os.getpgid(child) == os.getpgrp()
-        if came.si_signo != signal.SIGCHLD and not is_told:
-            os.kill(child, came.si_signo)
+        came = next_signal(interrupted)
+        if came is None:
+            say_it_runs()
+            interrupted = float("inf")
+        elif came.si_signo != signal.SIGCHLD:
+            is_of_group = os.getpgid(child) == os.getpgrp()
+            is_told = witness.saw(came.si_signo) or came.si_code == FROM_KERNEL
+            if not (is_told and is_of_group):
+                os.kill(child, came.si_signo)
+            if came.si_signo == signal.SIGINT and interrupted is None:
+                interrupted = monotonic()
+    witness.end_it()
     return 128 + os.WTERMSIG(status) if os.WIFSIGNALED(status) else os.WEXITSTATUS(status)
+
+
+def next_signal(interrupted):
+    """The next signal; none if the command still runs so long after Ctrl-C that this has to be said."""
+    awaited = PASSED_ON + (signal.SIGCHLD,)
+    if interrupted is None or interrupted == float("inf"):
+        return signal.sigwaitinfo(awaited)
+    return signal.sigtimedwait(awaited, max(0, interrupted + PATIENCE - monotonic()))
+
+
+def say_it_runs():
+    """A program of Python's that Ctrl-C has come to may go on, since its threads are waited for."""
+    if "LOCKDEP_RUN_HOME" in os.environ and not os.environ.get("LOCKDEP_RUN_QUIET"):
+        print("lockdep: the command still runs, as Python does while it waits for its threads; a second Ctrl-C ends that",
+              file=sys.stderr, flush=True)
 
 
 def record(folder, command, environment, then):
     """Records a command in an environment. Returns its status, or becomes what runs after it."""
     folder.prepare()
-    child, _ = start(command, environment)
-    status = wait_for(child)
+    block_signals()
+    witness = Witness()
+    child = start(command, environment)
+    status = wait_for(child, witness)
     folder.finish()
     if then:
         folder.file.close()
+        for number in PASSED_ON:
+            signal.signal(number, signal.SIG_IGN)  # what judges the traces isn't disturbed, nor by what has come since
         signal.pthread_sigmask(signal.SIG_SETMASK, mask)
         os.execv(then, [then, "--end", folder.path, str(status)])
     seen = folder.say_what_was_seen()

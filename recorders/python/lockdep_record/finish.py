@@ -29,7 +29,7 @@ class Task:
     """The records of a task, each a code and a place."""
 
     def __init__(self, process):
-        self.process, self.records, self.waits, self.has_ended = process, [], False, False
+        self.process, self.records, self.waits, self.has_ended, self.broken_off = process, [], False, False, []
 
     def content(self):
         """What is equal for equal traces."""
@@ -85,6 +85,8 @@ class Process:
             task.waits = kind == "W"
         elif kind == "E":
             task.has_ended = True
+        elif kind == "I":
+            task.broken_off.append(words[1:])
 
     def key(self, number):
         """A lock of this process: its class, its number there, and the process. Threads write what they need concurrently, so a class
@@ -221,6 +223,9 @@ class Summary:
             self.waiting.append("%s waits for %s%s" % (name, trace.held[-1][1][0].name, ", holding " + holding if holding else ""))
         elif trace.task.has_ended and trace.held:
             self.holding.append("%s ended holding %s" % (name, trace.held_names(len(trace.held))))
+        for codes in trace.task.broken_off:
+            names = [trace.task.process.key(code >> 3)[0].name for code in codes]
+            self.waiting.append("%s waited for %s, holding %s, till that was broken off" % (name, names[-1], ", ".join(names[:-1])))
 
     def lines(self, recorder, processes, classes):
         operations = self.counts.get("operations", 0)

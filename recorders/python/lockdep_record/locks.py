@@ -10,12 +10,12 @@ import threading
 from importlib import _bootstrap
 
 from . import recording
-from .recording import TRY, WRITE, Lock as Record, failed_try, gave, getframe, grant, made_at, not_granted, took, wish
+from .recording import TRY, WRITE, Lock as Record, break_off, failed_try, gave, getframe, grant, made_at, not_granted, took, wish
 
 # How long a thread waits for a lock before that is written, in seconds. In a deadlock it waits longer.
 PATIENCE = 0.05
 
-allocate, RealRLock = _thread.allocate_lock, _thread.RLock
+allocate, RealRLock, RealLock = _thread.allocate_lock, _thread.RLock, _thread.LockType
 of_threading, of_imports = vars(threading), vars(_bootstrap)
 of_condition = threading.Condition.__init__.__code__
 
@@ -43,20 +43,37 @@ def take(record, inner, blocking, timeout):
 
 
 def wait_for(record, acquire, release, timeout):
-    """Waits for a lock that isn't free, with its real method."""
-    if acquire(True, PATIENCE if timeout < 0 else min(PATIENCE, timeout)):
+    """Waits for a lock that isn't free, by its real method."""
+    if timeout < 0:
+        return wait_without_end(record, acquire, release)
+    if acquire(True, min(PATIENCE, timeout)):
         return keep(record, WRITE, release)
-    if 0 <= timeout <= PATIENCE:
+    if timeout <= PATIENCE:
         return False
     wish(record)
     is_taken = False
     try:
-        is_taken = acquire(True, timeout - PATIENCE if timeout >= 0 else timeout)
+        is_taken = acquire(True, timeout - PATIENCE)
     finally:
         if not is_taken:
             not_granted(record)
     if not is_taken or grant(record):
         return is_taken
+    return keep(record, WRITE, release)
+
+
+def wait_without_end(record, acquire, release):
+    """Waits for a lock for as long as it takes, or till an error of a signal's handler ends that."""
+    try:
+        is_taken = acquire(True, PATIENCE)
+        if not is_taken:
+            wish(record)
+            acquire(True, -1)
+    except BaseException:
+        break_off(record)
+        raise
+    if not is_taken and grant(record):
+        return True
     return keep(record, WRITE, release)
 
 
@@ -85,8 +102,15 @@ class Replaced:
         return getattr(self.inner, name)
 
 
-class lock(Replaced):
-    """Replaces `threading.Lock`."""
+class Kind(type):
+    """Locks of the real type, as those inside `threading`, are of this one's too, as a program sees it."""
+
+    def __instancecheck__(cls, instance):
+        return type.__instancecheck__(cls, instance) or type(instance) is RealLock
+
+
+class lock(Replaced, metaclass=Kind):
+    """In place of `threading.Lock`, and of `_thread.LockType`."""
 
     __slots__ = ()
 
@@ -301,6 +325,7 @@ def replace_asyncio(module):
     """Notes what is done with the locks of `asyncio.locks`, in their own class."""
     recording.find_task = find_task_first
     recording.find_loop = sys.modules["asyncio.events"]._get_running_loop
+    leave_alone(sys.modules.get("asyncio.mixins"), "_global_lock")
     real = module.Lock
     make, real_acquire, real_release = real.__init__, real.acquire, real.release
 
@@ -314,17 +339,14 @@ def replace_asyncio(module):
             self._locked = True
             took(record, WRITE)
             return True
-        if not self._locked:
-            is_taken = await real_acquire(self)
-            took(record, WRITE)
-            return is_taken
         wish(record, False)
-        is_taken = False
         try:
             is_taken = await real_acquire(self)
-        finally:
-            if not is_taken:
-                not_granted(record)
+        except GeneratorExit:  # it is not the task itself that runs this: its end says what it waited for
+            raise
+        except BaseException:
+            (not_granted if has_limit(getframe(0)) else break_off)(record)
+            raise
         if not grant(record):
             took(record, WRITE)
         return is_taken
@@ -334,6 +356,22 @@ def replace_asyncio(module):
         real_release(self)
 
     put_in_place(real, __init__, acquire, release)
+
+
+def has_limit(frame):
+    """Whether it is `asyncio.wait_for` that awaits the coroutine of this frame, and for a time: that is an acquisition with a timeout."""
+    above = frame.f_back
+    if above is not None and above.f_code is sys.modules["asyncio.tasks"].wait_for.__code__:
+        return above.f_locals.get("timeout") is not None
+    running = recording.find_task(recording.find_loop())
+    return getattr(running.get_coro(), "cr_frame", None) is frame and recording.caller_of(running) is not None
+
+
+def leave_alone(module, name):
+    """Puts the real lock back into a module, as one that is taken between the beginning of a wait and the wait itself."""
+    own = getattr(module, name, None)
+    if type(own) is lock:
+        setattr(module, name, own.inner)
 
 
 def put_in_place(real, *functions):
@@ -378,9 +416,9 @@ def replace_everywhere(old, new):
 def replace_locks():
     """Replaces the functions that make locks."""
     real_lock, real_rlock = threading.Lock, threading.RLock
-    threading.Lock = _thread.allocate_lock = _thread.allocate = lock
+    threading.Lock = _thread.allocate_lock = _thread.allocate = _thread.LockType = lock
     threading.RLock = _thread.RLock = RLock
-    for old, new in ((real_lock, lock), (allocate, lock), (real_rlock, RLock), (RealRLock, RLock)):
+    for old, new in ((real_lock, lock), (allocate, lock), (RealLock, lock), (real_rlock, RLock), (RealRLock, RLock)):
         replace_everywhere(old, new)
     replace_semaphores()
 
@@ -398,7 +436,15 @@ def replace_exit():
 
 
 def hide(error):
-    """Removes the functions of this file from the traceback of an error, and of those that led to it."""
+    """Takes the functions of this file out of the trace of an error, and of those that led to it. What comes in between, as another
+    Ctrl-C, isn't an error of the program's hook."""
+    try:
+        take_out(error)
+    except BaseException:
+        pass
+
+
+def take_out(error):
     known = set()
     while error is not None and error not in known:
         known.add(error)
@@ -424,10 +470,10 @@ def replace_hooks():
     sys.excepthook, threading.excepthook = excepthook, thread_excepthook
 
 
-def begin(folder):
-    """Records this process from here on."""
+def begin(folder, is_fork_server):
+    """Records this process from here on. Of the server that forks processes for `multiprocessing` only these are recorded."""
     recording.is_typed = getattr(sys, "argv", [])[:1] == ["-c"]
-    recording.begin_process(folder)
+    recording.begin_process(folder, is_fork_server)
     replace_hooks()
     for each in (lock, RLock):
         each.__module__ = "_thread"

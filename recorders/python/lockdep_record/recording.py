@@ -12,17 +12,23 @@ is opened for each write, so that the program has no open file that it doesn't k
     W task                       G task                 the last record is waited for; it was taken
     B task count                 M task record code     only this many records stay; a record has another lock
     E task                                              the task has ended
+    I task code code...                                 it waited for the last lock, with the others held, just before the process ended,
+                                                        till an error broke that off
     S name count                                        what was counted so far"""
 import os
 import sys
 os.register_at_fork(after_in_child=lambda: begin_in_child())  # before that of threading
 import threading  # noqa: E402
 from _thread import allocate_lock
+from collections import deque
 from itertools import count as counting
-from time import time_ns
+from time import monotonic, time_ns
 
 WRITE, TRY, RELEASE = 0, 1, 2
 MOST_HELD, MOST_EVENTS, MOST_APART, MOST_ALIKE = 48, 1000000 - 2 * 48, 32, 32
+
+# How long before the end of the process, in seconds, a wait can have been broken off that is still named; and how many are.
+LATELY, MOST_BROKEN_OFF = 2, 16
 
 getframe = sys._getframe
 here = threading.local()
@@ -146,7 +152,7 @@ def name_at(frame):
     """A place as part of a name: `module.function:line`, and which call on the line if it isn't the first."""
     code, instruction = frame.f_code, frame.f_lasti
     module = frame.f_globals.get("__name__") or "?"
-    if module == "__main__":
+    if module in ("__main__", "__mp_main__"):  # as the main module is called in a process that `multiprocessing` spawned
         module = os.path.splitext(os.path.basename(code.co_filename))[0]
     function = function_of(frame)
     function = "" if function == "<module>" else "." + function
@@ -290,10 +296,32 @@ def current():
 
 
 def begin_coroutine(running):
-    """A task of asyncio takes its first lock."""
-    task = Task()
-    running._lockdep_guard = Guard(task)
-    return task
+    """A task of asyncio takes its first lock. What it does for another is that one's."""
+    caller = caller_of(running)
+    if caller is None:
+        guard = Guard(Task())
+    else:
+        guard = getattr(caller, "_lockdep_guard", None)
+        if guard is None or guard.task.is_over:
+            begin_coroutine(caller)
+            guard = caller._lockdep_guard
+    running._lockdep_guard = guard
+    return guard.task
+
+
+def caller_of(running):
+    """The task that waits for another one by `asyncio.wait_for`. Before Python 3.12 that makes a task of the coroutine which it is given,
+    and a future of its own, which gets a result when that task has ended and then wakes up the caller."""
+    if sys.version_info >= (3, 12):
+        return None
+    release_waiter = getattr(sys.modules["asyncio.tasks"], "_release_waiter", None)
+    for callback, _ in getattr(running, "_callbacks", None) or ():
+        if getattr(callback, "func", None) is release_waiter:
+            for wakeup, _ in getattr(callback.args[0], "_callbacks", None) or ():
+                caller = getattr(wakeup, "__self__", None)
+                if hasattr(caller, "get_coro"):
+                    return caller
+    return None
 
 
 def begin_thread():
@@ -413,7 +441,7 @@ def gave(lock, real):
         if entry is not None and entry.task is task:
             give_back(task, entry)
         elif real is not None and real.locked():
-            gave_for_another(lock, entry)
+            gave_for_another(lock, entry, real)
     except BaseException:
         abandon(task)
         raise
@@ -427,15 +455,17 @@ def gave_oddly(lock, real, task):
         gave(lock, real)
     else:
         process.counts["reentered"] += 1
-        gave_for_another(lock, lock.entry)
+        gave_for_another(lock, lock.entry, real)
         lock.entry = None
 
 
-def gave_for_another(lock, entry):
-    """A lock is released that another task took: its acquisition ends at that task's next operation."""
-    if entry is not LEFT_OUT:
+def gave_for_another(lock, entry, real):
+    """A lock is given back that another task took: its acquisition ends at that task's next operation. Of the tasks of one loop only one
+    runs at a time, so with a lock of asyncio nothing can have come in between, and nothing is lost."""
+    is_known = entry is not None and not entry.task.is_over
+    if entry is not LEFT_OUT and not (is_known and hasattr(real, "_lockdep_record")):
         process.counts["unseen-releases"] += 1
-    if entry is not None and not entry.task.is_over:
+    if is_known:
         lock.spare = None
         entry.task.dropped.append(entry)
 
@@ -575,21 +605,64 @@ def not_granted(lock):
         withdraw(task)
 
 
+def break_off(lock):
+    """What the running task waited for, for as long as it takes, didn't come, since an error ended that: one of a signal's handler, as
+    Ctrl-C has it, or a cancellation. The order is there all the same, and a deadlock may be what was ended so."""
+    wish(lock)  # if that wasn't noted yet, or locks that the handler took came in between
+    task = current()
+    if task.wish is None or task.wish.lock is not lock or task.is_busy:
+        return
+    task.is_busy = True
+    try:
+        keep_wait(task)
+    except BaseException:
+        abandon(task)
+        raise
+    task.is_busy = False
+
+
+def keep_wait(task):
+    """What a task waited for stays in its trace, as if it had taken it and given it back."""
+    entry = task.wish
+    task.wish = None
+    if entry.is_told:
+        put("G %d\n" % task.number)
+    if not task.way.is_taken:
+        see(task, task.way)
+    if len(task.held) > 1:
+        process.broken_off.append((monotonic(), task, [held.code for held in task.held]))
+    give_back(task, entry)
+
+
+def broken_off_lines():
+    """The waits that were broken off just now, when the process ends."""
+    lines = []
+    for when, task, codes in process.broken_off:
+        if task.number and monotonic() - when < LATELY:
+            for code in codes:
+                declare(code)
+            lines.append("I %d %s\n" % (task.number, " ".join(map(str, codes))))
+    return "".join(lines)
+
+
 # ---- The file.
 
 class Process:
-    """A process, and its file."""
+    """A process, and its file. One that is left out has none."""
 
-    def __init__(self, folder):
+    def __init__(self, folder, is_left_out):
         self.folder, self.tasks, self.common = folder, set(), Way(None)
         self.counts = dict.fromkeys(("reentered", "beyond-held", "full-traces", "unseen-releases", "repeats", "retried-tries",
                                      "interrupted", "alike", "operations"), 0)
-        self.told, self.written, self.like, self.task_count, self.is_off = {}, {}, {}, 0, False
+        self.told, self.written, self.like, self.task_count = {}, {}, {}, 0
         self.places, self.place_numbers, self.pid = {}, counting(1), os.getpid()
+        self.broken_off = deque(maxlen=MOST_BROKEN_OFF)
         number = 0
         while os.path.lexists(self.path_of(number)):
             number += 1
-        self.path = self.path_of(number)
+        self.path, self.is_off = self.path_of(number), is_left_out
+        if is_left_out:
+            return
         put_bytes(self, b"process %d %d\n" % (self.pid, time_ns()))
         try:
             os.chmod(self.path, 0o666)  # a program may drop its privileges
@@ -687,6 +760,8 @@ def count(task):
 def end(task):
     """A task has ended. What several tasks have already done in exactly this way isn't written again."""
     count(task)
+    if task.wish is not None and task.wish in task.held:
+        keep_wait(task)  # a task of asyncio that is gone while it waits
     settle(task)
     task.is_over = task.is_busy = True
     process.tasks.discard(task)
@@ -726,6 +801,7 @@ def end_process():
                 end(task)
             elif task.records:
                 write(task)
+    put(broken_off_lines())
     process.is_off = True
 
 
@@ -752,10 +828,10 @@ def begin_in_child():
         task.fresh = len(task.records)
 
 
-def begin_process(folder):
-    """From here on this process is recorded."""
+def begin_process(folder, is_left_out=False):
+    """From here on this process is recorded, or what is forked by it."""
     global process, LEFT_OUT
-    process = Process(folder)
+    process = Process(folder, is_left_out)
     over = Task()
     over.is_over = over.is_busy = True
     process.tasks.discard(over)

@@ -2,24 +2,39 @@
 import os
 import sys
 
+# What Python starts for `multiprocessing`, by the first words of its code: this runs none of the program's, and ends after it.
+TRACKER = "from multiprocessing.resource_tracker import main"
+# And this one forks the processes that run the program's code.
+FORK_SERVER = "from multiprocessing.forkserver import main"
 
-def begin():
-    """Replaces the locks, and removes this folder from the path, as if it had never been there."""
-    folder = os.path.dirname(os.path.abspath(__file__))
-    sys.path[:] = [path for path in sys.path if path != folder]
-    package = os.path.dirname(os.path.dirname(folder))
+
+def code_of_command():
+    """What follows `-c` on this process's command line."""
+    with open("/proc/self/cmdline", encoding="utf-8", errors="replace") as file:
+        words = file.read().split("\0")
+    return words[words.index("-c") + 1] if "-c" in words[:-1] else ""
+
+
+def begin(package):
+    """Takes the place of the locks."""
+    code = code_of_command()
+    if code.startswith(TRACKER):
+        return
     sys.path.insert(0, package)
     try:
         from lockdep_record import locks
     finally:
         sys.path.remove(package)
-    locks.begin(os.environ["LOCKDEP_PYTHON"])
+    locks.begin(os.environ["LOCKDEP_PYTHON"], code.startswith(FORK_SERVER))
 
 
+# This folder leaves the path in any case, as if it had never been there: the recording may be over, and a process that began in it not.
+folder = os.path.dirname(os.path.abspath(__file__))
+sys.path[:] = [path for path in sys.path if path != folder]
 if os.path.isdir(os.environ.get("LOCKDEP_PYTHON", "")):
     try:
-        begin()
-    except Exception:  # the program runs nevertheless, and the recorder says that nothing was recorded
+        begin(os.path.dirname(os.path.dirname(folder)))
+    except Exception:  # the program runs all the same, and the recorder says that nothing was recorded
         pass
 del sys.modules["sitecustomize"]
 import sitecustomize  # noqa: E402,F401 the one that would be loaded without the recorder; if there is none, Python expects this error
