@@ -118,7 +118,8 @@ int ldr_begin(struct ldr_task *task, char *buffer, size_t size, ldr_put *put, vo
    leaves it out. Without this call no places are written. */
 void ldr_places(struct ldr_task *task, char *buffer, size_t size, ldr_put *put, void *cookie);
 
-/* The task took a lock of this class. Called after the lock was taken, or before it is waited for if that can't fail.
+/* The task takes a lock of this class. Called before the lock is waited for, or else what a hung task waits for is missing;
+   when it was taken, if it can't be waited for or the wait can fail, as a try. Of a task that hangs, ldr_flush puts it.
    The name isn't copied: it stays as it is until the release. Counted instead: LDR_LEFT_WORDS, LDR_LEFT_HELD. */
 void ldr_acquire_at(struct ldr_task *task, const char *name, unsigned sub, unsigned mode, const char *place,
                     const char *function);
@@ -147,7 +148,8 @@ void ldr_on_at(struct ldr_task *task, unsigned irq, const char *place, const cha
    begun, which together say the same as one. */
 bool ldr_is_at_rest(const struct ldr_task *task);
 
-/* Puts what is in the buffers, as for a task that hangs; nothing during a call for this task. */
+/* Puts what is in the buffers, as for a task that hangs; nothing during a call for this task. A `put` that writes by
+   fwrite needs an fflush after it. */
 void ldr_flush(struct ldr_task *task);
 
 /* Ends the trace: puts what is in the buffers, and behind the places the counts that aren't 0, as lines `COUNT left a` for
@@ -156,7 +158,9 @@ void ldr_end(struct ldr_task *task);
 
 #else
 
-#define ldr_begin(task, buffer, size, put, cookie) 0
+/* (a function, since a number alone would be a statement without effect) */
+static inline int ldr_nothing(void) { return 0; }
+#define ldr_begin(task, buffer, size, put, cookie) ldr_nothing()
 #define ldr_places(task, buffer, size, put, cookie) ((void)0)
 #define ldr_acquire_at(...) ((void)0)
 #define ldr_acquire(task, name, sub, mode) ((void)0)
