@@ -118,7 +118,8 @@ int ldr_begin(struct ldr_task *task, char *buffer, size_t size, ldr_put *put, vo
    leaves it out. Without this call no places are written. */
 void ldr_places(struct ldr_task *task, char *buffer, size_t size, ldr_put *put, void *cookie);
 
-/* The task took a lock of this class. Called after the lock was taken, or before waiting for it if that can't fail.
+/* The task takes a lock of this class. Called before waiting for the lock, or else what a hung task waits for is missing;
+   or once it was taken, if the wait can fail, as a try. ldr_flush puts the record of a task that hangs.
    The name isn't copied: it must stay unchanged until the release. Counted instead: LDR_LEFT_WORDS, LDR_LEFT_HELD. */
 void ldr_acquire_at(struct ldr_task *task, const char *name, unsigned sub, unsigned mode, const char *place,
                     const char *function);
@@ -147,7 +148,8 @@ void ldr_on_at(struct ldr_task *task, unsigned irq, const char *place, const cha
    begun, which together say the same as one. */
 bool ldr_is_at_rest(const struct ldr_task *task);
 
-/* Puts what is in the buffers, for example for a task that hangs; does nothing during a call for this task. */
+/* Puts what is in the buffers, for example for a task that hangs; does nothing during a call for this task. A `put`
+   that writes with fwrite needs an fflush after it. */
 void ldr_flush(struct ldr_task *task);
 
 /* Ends the trace: puts what is in the buffers, and after the places the counts that aren't 0, as lines `COUNT left a` for
@@ -156,7 +158,9 @@ void ldr_end(struct ldr_task *task);
 
 #else
 
-#define ldr_begin(task, buffer, size, put, cookie) 0
+/* (a function, since a number alone would be a statement without effect) */
+static inline int ldr_nothing(void) { return 0; }
+#define ldr_begin(task, buffer, size, put, cookie) ldr_nothing()
 #define ldr_places(task, buffer, size, put, cookie) ((void)0)
 #define ldr_acquire_at(...) ((void)0)
 #define ldr_acquire(task, name, sub, mode) ((void)0)

@@ -7,7 +7,7 @@ _lockdep_options() {
         graph) echo --workers --many --findings --help ;;
         condense) echo --workers --help ;;
         chains | where) echo --help ;;
-        run) echo -o --recorder --frames --known --write-known --html --sarif --junit --json --quiet --error-exitcode --help ;;
+        run) echo -o --recorder --frames --known --write-known --html --sarif --junit --json --quiet --error-exitcode --confirmed-only --help ;;
         view) echo -o --sarif --junit --json --known --confirmed --left-out --waiting --help ;;
         record) echo -o --recorder --frames --no-wait --version-1 --finish --summary --help ;;
         confirm) echo --strict --help ;;

@@ -144,6 +144,9 @@ public final class Hooks {
         try {
             lock.lockInterruptibly();
             isTaken = true;
+        } catch (InterruptedException brokenOff) {
+            wish.breakOff();
+            throw brokenOff;
         } finally {
             wish.end(isTaken, site);
         }
@@ -309,6 +312,9 @@ public final class Hooks {
         long stamp = 0;
         try {
             stamp = lock.writeLockInterruptibly();
+        } catch (InterruptedException brokenOff) {
+            wish.breakOff();
+            throw brokenOff;
         } finally {
             wish.end(stamp != 0, site);
         }
@@ -320,6 +326,9 @@ public final class Hooks {
         long stamp = 0;
         try {
             stamp = lock.readLockInterruptibly();
+        } catch (InterruptedException brokenOff) {
+            wish.breakOff();
+            throw brokenOff;
         } finally {
             wish.end(stamp != 0, site);
         }

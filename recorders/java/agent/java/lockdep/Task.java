@@ -246,6 +246,15 @@ final class Task {
         entry.clear();
     }
 
+    /** What was wanted won't be waited for any longer, but would have been for ever: it is written as taken and given back. */
+    void breakOff(Held wanted) {
+        if (wanted == null || wanted != wish) return;
+        wish = null;
+        operations++;
+        if (!way.isTaken) see();
+        giveBack(wanted);
+    }
+
     /** A lock was taken, by a try or by a call that other code makes. */
     void took(Known lock, boolean isTry, int site) {
         failed = null;

@@ -8,6 +8,7 @@ final class Wish {
     private final Known lock;
     /** What is already written; null if there is nothing to write, or if it is written after the lock was taken. */
     private final Held wanted;
+    private boolean isBrokenOff;
 
     private Wish(Task task, Known lock, Held wanted) {
         this.task = task;
@@ -34,8 +35,21 @@ final class Wish {
         return wish;
     }
 
-    void end(boolean isTaken, int site) {
+    /** An interrupt ended a wait that had no limit: its order stays, as if the lock was taken and given back at once. */
+    void breakOff() {
         if (task == null || Task.begin() == null) return;
+        isBrokenOff = true;
+        try {
+            if (lock.isOfJdk) task.breakOff(wanted);
+        } catch (Throwable error) {
+            task.abandon();
+            return;
+        }
+        task.leave();
+    }
+
+    void end(boolean isTaken, int site) {
+        if (isBrokenOff || task == null || Task.begin() == null) return;
         try {
             if (!isTaken) task.withdraw(wanted);
             else if (lock.isOfJdk) task.grant(lock, wanted, site);
