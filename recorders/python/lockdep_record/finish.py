@@ -225,7 +225,7 @@ class Summary:
             self.holding.append("%s ended holding %s" % (name, trace.held_names(len(trace.held))))
         for codes in trace.task.broken_off:
             names = [trace.task.process.key(code >> 3)[0].name for code in codes]
-            self.waiting.append("%s waited for %s, holding %s, till that was broken off" % (name, names[-1], ", ".join(names[:-1])))
+            self.waiting.append("%s waited for %s, holding %s, until that was interrupted" % (name, names[-1], ", ".join(names[:-1])))
 
     def lines(self, recorder, processes, classes):
         operations = self.counts.get("operations", 0)
