@@ -54,7 +54,7 @@ _lockdep() {
     esac
     case $before in
         --workers) mapfile -t COMPREPLY < <(compgen -W '1 2 4 8 16 32 64' -- "$word") ;;
-        --recorder) mapfile -t COMPREPLY < <(compgen -W 'pthread python java rust' -- "$word") ;;
+        --recorder) mapfile -t COMPREPLY < <(compgen -W 'pthread python java rust embed' -- "$word") ;;
         --frames) mapfile -t COMPREPLY < <(compgen -W '1 2 3 4 6 8 12 16' -- "$word") ;;
         -o | --finish | --summary)
             # For `view` it is a file.

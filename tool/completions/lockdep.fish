@@ -33,7 +33,7 @@ complete -c lockdep -n '__lockdep_in graph' -l findings -d 'Show only what is pa
 complete -c lockdep -n '__lockdep_in run record' -s o -x -a '(__fish_complete_directories)' -d 'Where the recording is kept'
 complete -c lockdep -n '__lockdep_in run record' -l frames -x -d 'By how many callers a lock class is named, from 1 to 16'
 complete -c lockdep -n '__lockdep_in run view' -l known -r -d 'Findings that are known'
-complete -c lockdep -n '__lockdep_in run record' -l recorder -x -a 'pthread python java rust' -d 'What records the command'
+complete -c lockdep -n '__lockdep_in run record' -l recorder -x -a 'pthread python java rust embed' -d 'What records the command'
 complete -c lockdep -n '__lockdep_in run' -l html -r -d 'Where the page goes'
 complete -c lockdep -n '__lockdep_in view' -s o -r -d 'Where the page goes'
 complete -c lockdep -n '__lockdep_in run view' -l sarif -r -d 'Write the findings as SARIF'

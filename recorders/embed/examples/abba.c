@@ -1,5 +1,6 @@
 /* Two tasks that take two locks in opposite orders, one after the other, so that nothing hangs. */
 #include <stdio.h>
+#include <stdlib.h>
 
 #define LOCKDEP_RECORD_CODE
 #include "../lockdep_record.h"
@@ -15,9 +16,22 @@ static int put(void *file, const char *bytes, size_t size) {
     return fwrite(bytes, 1, size, (FILE *)file) == size ? 0 : -1;
 }
 
-static void begin(struct task *task, const char *trace, const char *places) {
-    task->trace = fopen(trace, "w");
-    task->places = fopen(places, "w");
+/* Opens a file in the folder that `lockdep run` names, or in `traces`. */
+static FILE *open_file(const char *name, const char *end) {
+    const char *folder = getenv("LOCKDEP_TRACES");
+    char path[4096];
+    snprintf(path, sizeof path, "%s/%s%s", folder ? folder : "traces", name, end);
+    FILE *file = fopen(path, "w");
+    if (!file) {
+        perror(path);
+        exit(2);
+    }
+    return file;
+}
+
+static void begin(struct task *task, const char *name) {
+    task->trace = open_file(name, "");
+    task->places = open_file(name, ".places");
     ldr_begin(&task->recorded, task->trace_bytes, sizeof task->trace_bytes, put, task->trace);
     ldr_places(&task->recorded, task->places_bytes, sizeof task->places_bytes, put, task->places);
 }
@@ -48,8 +62,8 @@ static void audits(struct task *task) {
 
 int main(void) {
     static struct task first, second;
-    begin(&first, "traces/task-0001.csv", "traces/task-0001.csv.places");
-    begin(&second, "traces/task-0002.csv", "traces/task-0002.csv.places");
+    begin(&first, "task-0001.csv");
+    begin(&second, "task-0002.csv");
     pays(&first);
     audits(&second);
     end(&first);

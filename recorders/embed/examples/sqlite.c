@@ -29,6 +29,7 @@ static const char *folder;
 struct sqlite3_mutex {
     pthread_mutex_t mutex;
     const char *name;
+    _Atomic(struct task *) holder; /* which only the holder itself finds to be itself */
     unsigned level;
 };
 
@@ -50,6 +51,7 @@ static void make(sqlite3_mutex *made, unsigned type) {
     pthread_mutex_init(&made->mutex, &attributes);
     pthread_mutexattr_destroy(&attributes);
     made->name = names[type];
+    made->holder = NULL;
     made->level = 0;
 }
 
@@ -69,26 +71,36 @@ static void forget(sqlite3_mutex *mutex) {
     free(mutex);
 }
 
+/* Records an acquisition, unless this thread holds the mutex already. */
 static void note(sqlite3_mutex *mutex, unsigned mode) {
-    if (mutex->level++ == 0)
+    if (mutex->holder != self)
         ldr_acquire_at(&self->recorded, mutex->name, 0, mode, self->place, self->doing);
 }
 
+static void hold(sqlite3_mutex *mutex) {
+    mutex->holder = self;
+    mutex->level++;
+}
+
 static void enter(sqlite3_mutex *mutex) {
+    note(mutex, LDR_W); /* before the wait */
     pthread_mutex_lock(&mutex->mutex);
-    note(mutex, LDR_W);
+    hold(mutex);
 }
 
 static int try(sqlite3_mutex *mutex) {
     if (pthread_mutex_trylock(&mutex->mutex) != 0)
         return SQLITE_BUSY;
     note(mutex, LDR_W | LDR_TRY);
+    hold(mutex);
     return SQLITE_OK;
 }
 
 static void leave(sqlite3_mutex *mutex) {
-    if (--mutex->level == 0)
+    if (--mutex->level == 0) {
+        mutex->holder = NULL;
         ldr_release(&self->recorded, mutex->name, 0);
+    }
     pthread_mutex_unlock(&mutex->mutex);
 }
 
@@ -154,7 +166,9 @@ static void *run(void *task) {
 int main(int argc, char **argv) {
     static const sqlite3_mutex_methods methods = {init, end, alloc, forget, enter, try, leave, NULL, NULL};
     pthread_t threads[THREADS];
-    folder = argc > 1 ? argv[1] : "traces";
+    folder = getenv("LOCKDEP_TRACES");
+    if (!folder)
+        folder = argc > 1 ? argv[1] : "traces";
     for (unsigned type = 0; type < NAMES; type++)
         make(&statics[type], type);
     begin_task(&tasks[THREADS]);
