@@ -296,10 +296,14 @@ static const char *end_of_line(const char *place) {
     return NULL;
 }
 
-/* Adds a place in words, `FILE:LINE FUNCTION`, as one of an address is written. The function may be absent. */
+/* Adds a place in words, `FILE:LINE FUNCTION`, as one of an address is written. The function may be absent, and line 0 says that
+   no line is known. */
 static void add_source(struct text *text, const char *place) {
     const char *end = end_of_line(place);
     char *line = checked(strndup(place, end ? (size_t)(end - place) : strlen(place)));
+    char *colon = strrchr(line, ':');
+    if (end && strcmp(colon, ":0") == 0)
+        *colon = 0;
     if (end && end[0] && end[1]) {
         add(text, end + 1);
         add(text, " at ");
