@@ -103,9 +103,9 @@ static void share_out(struct raw_arena *a, uint64_t bytes) {
 
 /* ---- Limits. */
 
-static uint64_t limit_of(int which) {
+static struct rlimit limits_of(int which) {
     struct rlimit limit;
-    return SYSTEM(prlimit64, 0, which, NULL, &limit) == 0 ? limit.rlim_cur : RLIM_INFINITY;
+    return SYSTEM(prlimit64, 0, which, NULL, &limit) == 0 ? limit : (struct rlimit){RLIM_INFINITY, RLIM_INFINITY};
 }
 
 static uint64_t least(uint64_t a, uint64_t b) { return a < b ? a : b; }
@@ -120,7 +120,7 @@ static bool is_under_valgrind(void) {
 
 /* Of the memory that the program may have, the recorder takes no more than a sixteenth for each of its mappings. */
 static uint64_t allowed_memory(void) {
-    uint64_t allowed = least(limit_of(RLIMIT_AS), limit_of(RLIMIT_DATA)) / 16;
+    uint64_t allowed = least(limits_of(RLIMIT_AS).rlim_cur, limits_of(RLIMIT_DATA).rlim_cur) / 16;
     return is_under_valgrind() ? least(allowed, BYTES_UNDER_VALGRIND) : allowed;
 }
 
@@ -134,13 +134,9 @@ static uint64_t allowed_on_disk(int file) {
 
 /* Gives the file its size. A limit that the program was given for itself is lifted meanwhile, as far as it can be. */
 static bool extend(int file, uint64_t bytes) {
-    struct rlimit limit, lifted;
-    bool is_lifted = SYSTEM(prlimit64, 0, RLIMIT_FSIZE, NULL, &limit) == 0 && limit.rlim_cur < bytes && limit.rlim_max > limit.rlim_cur;
-    if (is_lifted) {
-        lifted = (struct rlimit){limit.rlim_max, limit.rlim_max};
-        is_lifted = setrlimit(RLIMIT_FSIZE, &lifted) == 0;
-    }
-    bool is_allowed = limit_of(RLIMIT_FSIZE) >= bytes; /* a file beyond it would be the program's death */
+    struct rlimit limit = limits_of(RLIMIT_FSIZE), lifted = {limit.rlim_max, limit.rlim_max};
+    bool is_lifted = limit.rlim_cur < bytes && limit.rlim_max > limit.rlim_cur && setrlimit(RLIMIT_FSIZE, &lifted) == 0;
+    bool is_allowed = (is_lifted ? limit.rlim_max : limit.rlim_cur) >= bytes; /* a file beyond it would be the program's death */
     bool is_extended = is_allowed && SYSTEM(ftruncate, file, (off_t)bytes) == 0;
     if (is_lifted)
         setrlimit(RLIMIT_FSIZE, &limit);
@@ -160,7 +156,7 @@ static uint64_t private_room, private_used, private_used_above;
 /* So much is what every program uses of the file, and of the library's variables from the life page on. The system makes these pages in one go,
    which is cheaper than one by one. */
 #define USED_OF_FILE 8192
-#define USED_OF_VARIABLES 20480
+#define USED_OF_VARIABLES 16384
 
 static bool advise(void *from, uint64_t bytes, int what) { return SYSTEM(madvise, from, bytes, what) == 0; }
 
@@ -170,8 +166,8 @@ static void populate(void *from, uint64_t bytes, uint64_t room) { advise(from, l
 static void populate(void *from, uint64_t bytes, uint64_t room) { (void)from, (void)bytes, (void)room; }
 #endif
 
-static void map_private(void) {
-    uint64_t bytes = least(PRIVATE_BYTES, allowed_memory());
+static void map_private(uint64_t allowed) {
+    uint64_t bytes = least(PRIVATE_BYTES, allowed);
     for (; bytes >= PRIVATE_LEAST; bytes /= 2) {
         void *p = map_own(bytes, MAP_PRIVATE | MAP_ANONYMOUS | MAP_NORESERVE, -1);
         if (p == MAP_FAILED)
@@ -188,7 +184,7 @@ static void map_private(void) {
    variables, so that a small program doesn't use the mapping at all. */
 #define MUCH 16384
 /* A linker puts what is aligned most first, so this lies between what is LARGE and the small variables. */
-#define NEARBY 12288
+#define NEARBY 11520
 static char nearby[NEARBY] __attribute__((aligned(2048)));
 static uint64_t nearby_used;
 
@@ -219,8 +215,8 @@ void *take_private(size_t bytes) {
 
 /* ---- The beginning. */
 
-static struct raw_arena *map_file(int file) {
-    uint64_t bytes = least(least(RAW_BYTES, allowed_memory()), allowed_on_disk(file));
+static struct raw_arena *map_file(int file, uint64_t allowed) {
+    uint64_t bytes = least(least(RAW_BYTES, allowed), allowed_on_disk(file));
     for (; bytes >= RAW_LEAST; bytes /= 2) {
         bytes &= ~UINT64_C(4095);
         if (!extend(file, bytes))
@@ -239,10 +235,10 @@ static struct raw_arena *map_file(int file) {
 
 #define MOST_PROGRAMS 100000 /* that one process runs, one after the other */
 
-static void put_file_name(char *path, const char *folder, unsigned n) {
+static void put_file_name(char *path, const char *folder, uint32_t id, unsigned n) {
     char *end = put_text(path, folder, SIZE_MAX);
     *end++ = '/';
-    end = put_number(end, (unsigned)SYSTEM(getpid));
+    end = put_number(end, id);
     *end++ = '-';
     put_text(put_number(end, n), ".arena", SIZE_MAX);
 }
@@ -259,11 +255,11 @@ static void set_rights(int file) {
 
 /* Makes the process's file. The name has the process's number, and how many programs that process has run before. Without memory of
    its own the library can't use it, and says so by the file that it leaves. */
-static struct raw_arena *make_file(const char *folder) {
+static struct raw_arena *make_file(const char *folder, uint32_t id, uint64_t allowed) {
     char path[length_of(folder) + 64];
     int file = -1;
     for (unsigned n = 0; n < MOST_PROGRAMS; n++) {
-        put_file_name(path, folder, n);
+        put_file_name(path, folder, id, n);
         file = (int)SYSTEM(openat, AT_FDCWD, path, O_RDWR | O_CREAT | O_EXCL | O_CLOEXEC, 0644);
         if (file >= 0 || errno != EEXIST)
             break;
@@ -271,7 +267,7 @@ static struct raw_arena *make_file(const char *folder) {
     struct raw_arena *made = NULL;
     if (file >= 0) {
         set_rights(file);
-        made = private_from ? map_file(file) : NULL;
+        made = private_from ? map_file(file, allowed) : NULL;
         SYSTEM(close, file);
         if (!made)
             unlink(path);
@@ -283,13 +279,15 @@ static struct raw_arena *make_file(const char *folder) {
     return made;
 }
 
-static void note_process(uint32_t parent) {
+static uint32_t process_id(void) { return (uint32_t)SYSTEM(getpid); }
+
+static void note_process(uint32_t id, uint32_t parent) {
     own_process = take_part(RAW_PROCESSES);
     if (!own_process)
         return;
     struct raw_process *process = part_of(RAW_PROCESSES, own_process);
     process->parent = parent;
-    STORE(&process->id, (uint32_t)SYSTEM(getpid));
+    STORE(&process->id, id);
 }
 
 /* A system that can't make the page empty in a child has to have a handler of forks called there, before the program's own ones. */
@@ -303,7 +301,7 @@ static void begin_life(void) {
 /* A child goes on in its parent's file, and knows what its parent knew. */
 static void after_fork_in_child(void) {
     *alive = 1;
-    note_process(own_process);
+    note_process(process_id(), own_process);
     begin_threads();
 }
 
@@ -320,7 +318,7 @@ void begin_in_fork(void) {
     if (alive == &not_alive)
         return;
     struct raw_process *process = own_process ? part_of(RAW_PROCESSES, own_process) : NULL;
-    if (!process || process->id != (uint32_t)SYSTEM(getpid))
+    if (!process || process->id != process_id())
         after_fork_in_child();
 }
 
@@ -328,17 +326,19 @@ static void begin(void) {
     const char *folder = variable("LOCKDEP_RECORD");
     if (!folder || !folder[0] || length_of(folder) + 64 > 4096)
         return;
+    populate(life_page(), USED_OF_VARIABLES, USED_OF_VARIABLES); /* before any of these is written to */
     nearby_used = (uint64_t)((char *)life_page() + PAGE - nearby);
-    populate(life_page(), USED_OF_VARIABLES, USED_OF_VARIABLES);
-    map_private();
-    struct raw_arena *made = make_file(folder);
+    uint64_t allowed = allowed_memory();
+    map_private(allowed);
+    uint32_t id = process_id();
+    struct raw_arena *made = make_file(folder, id, allowed);
     if (!made)
         return;
     struct timespec now;
     SYSTEM(clock_gettime, CLOCK_REALTIME, &now);
     made->started = (uint64_t)now.tv_sec * 1000000000 + (uint64_t)now.tv_nsec;
     arena = made;
-    note_process(0);
+    note_process(id, 0);
     note_modules();
     begin_threads();
     begin_life();

@@ -54,7 +54,7 @@ uint32_t place_of_caller(uintptr_t caller) {
    found, it is the same. The sum of all of it tells a reader that comes while it is written. */
 
 #define MEMOS 1024
-#define FIRST_MEMOS 8
+#define FIRST_MEMOS 4
 
 struct memo {
     uintptr_t caller, frame;

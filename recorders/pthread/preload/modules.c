@@ -38,12 +38,81 @@ static bool has_slash(const char *name) {
     return *name;
 }
 
+/* ---- The program's path. /proc/self/exe has it, but to look there is one of the dearest things that a short process does at its start:
+   the system makes the process's folder for that, and takes it away when the process ends. So the name by which the program was
+   started is taken, if it is clear that it is the same. */
+
+extern void *__libc_stack_end; /* where the program's first thread began */
+
+/* The name by which the system started the program, or NULL. The system leaves it on the stack, behind the words and the environment.
+   That of a script is the script's, and its interpreter finds it among its words. */
+static const char *started_name(void) {
+    uintptr_t count = *(const uintptr_t *)__libc_stack_end;
+    char **words = (char **)__libc_stack_end + 1, **end = environ;
+    if (end != words + count + 1)
+        return NULL;
+    while (*end)
+        end++;
+    const ElfW(auxv_t) *said = (const ElfW(auxv_t) *)(end + 1);
+    while (said->a_type != AT_EXECFN && said->a_type != AT_NULL)
+        said++;
+    const char *name = said->a_type == AT_EXECFN ? (const char *)said->a_un.a_val : NULL;
+    for (uintptr_t i = 1; name && i < count; i++)
+        if (!words[i] || is_same_text(words[i], name))
+            return NULL;
+    return name;
+}
+
+static bool is_no_link(const char *path) {
+    char to;
+    return SYSTEM(readlinkat, AT_FDCWD, path, &to, 1) < 0 && errno == EINVAL;
+}
+
+/* One folder or file after the other, none of which may be a symbolic link. */
+static bool put_parts(char *path, char *end, const char *name) {
+    while (*name) {
+        const char *from = name;
+        while (*name && *name != '/')
+            name++;
+        size_t length = (size_t)(name - from);
+        name += *name == '/';
+        if (length == 0 || (length == 1 && from[0] == '.'))
+            continue;
+        if ((length == 2 && from[0] == '.' && from[1] == '.') || length + 1 > (size_t)(path + RAW_PATH - end))
+            return false;
+        *end++ = '/';
+        end = put_text(end, from, length);
+        if (!is_no_link(path))
+            return false;
+    }
+    return end > path;
+}
+
+static bool put_started_path(char *path) {
+    const char *name = started_name();
+    if (!name)
+        return false;
+    char *end = path;
+    if (name[0] != '/') {
+        if (SYSTEM(getcwd, path, RAW_PATH) < 0 || path[0] != '/')
+            return false;
+        end += path[1] ? length_of(path) : 0;
+    }
+    return put_parts(path, end, name);
+}
+
+static void put_program_path(char *path) {
+    if (put_started_path(path))
+        return;
+    long length = SYSTEM(readlinkat, AT_FDCWD, "/proc/self/exe", path, RAW_PATH);
+    path[length > 0 ? length : 0] = 0;
+}
+
 /* The path from the root, as far as there is room. The program itself has no name among the loader's. */
 static void put_path(char *path, const char *name) {
     path[0] = 0;
     if (!name[0]) {
-        long length = SYSTEM(readlinkat, AT_FDCWD, "/proc/self/exe", path, RAW_PATH);
-        path[length > 0 ? length : 0] = 0;
+        put_program_path(path);
         return;
     }
     char *to = path;

@@ -76,7 +76,7 @@ int main(int argc, char **argv) {
                   : !strcmp(work, "deep")    ? deep(20, 5000000)
                   : !strcmp(work, "pieces")  ? pieces(5000000)
                   : !strcmp(work, "objects") ? objects(20000)
-                  : argc > 2                 ? processes(argv[2], 1000)
+                  : argc > 2                 ? processes(argv[2], 100)
                                              : -1;
     printf("%.1f\n", took);
     return took < 0;
