@@ -1,5 +1,5 @@
 -- Explanations of equal facts.
-use Rattle.std.proofs.Common.{◌↔◌, ◌++◌, ℕ, List, [], ◌∷◌, inl, inr}
+use Rattle.std.proofs.Common.{◌++◌, ℕ, List, [], ◌∷◌, inl, inr}
 use Rattle.ld_trace.specs.declared.event.Irq.{Irq}
 use Rattle.ld_graph.specs.Arrows.{Arrow}
 use Rattle.ld_graph.specs.Facts.{AreSame}

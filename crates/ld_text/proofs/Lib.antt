@@ -13,3 +13,4 @@ pub mod PictureGrowing
 pub mod FindingLemmas
 pub mod KeyTextLemmas
 pub mod WriteFaultLemmas
+pub mod JoinedLemmas

@@ -1,5 +1,5 @@
 -- How an explanation grows, block by block.
-use Rattle.std.proofs.Common.{◌≡◌, ◌↔◌, ◌⊎◌, ℕ, Bool, suc, ◌+◌, ◌<◌, List, [], ◌∷◌, ◌++◌, All, Any, Contains, Some, codes, length, map, slice_get, slice_index_or, take, refl, sym, ap, ◌∙◌, subst, inl, inr, arith}
+use Rattle.std.proofs.Common.{◌≡◌, ◌↔◌, ◌⊎◌, ℕ, Bool, suc, ◌+◌, ◌<◌, List, [], ◌∷◌, ◌++◌, All, Any, Contains, Some, codes, length, slice_get, slice_index_or, take, refl, sym, ap, ◌∙◌, subst, inl, inr, arith}
 use Rattle.std.proofs.lemmas.List.{append_assoc, append-nil, length-append, take_more}
 use Rattle.std.proofs.lemmas.List.Elements.{Contains-push_cases, Contains-append_left, Contains-push}
 use Rattle.std.proofs.lemmas.Option.{get_or_from_slice_get}
@@ -15,9 +15,9 @@ use Rattle.ld_graph.specs.Links.{IsDoubleBy, IsLink, IsShortestInversion, link_b
 use Rattle.ld_graph.specs.Walks.{IsShortestFrom}
 use Rattle.ld_graph.specs.declared.fact.Fact.{Fact}
 use Rattle.ld_graph.specs.declared.fact.Fact.TheVariants.{Dependency, Marked}
-use Rattle.ld_text.specs.Explanation.{AreTold, IsCircleBlock, IsDependencyLine, IsDoubleBlock, IsEnabledLine, IsInversionBlock, IsOriginLine, IsTold, IsUsedLine, Told, comes_line, holds_line, waits_line, waits_text}
+use Rattle.ld_text.specs.Explanation.{AreTold, IsDependencyLine, IsDoubleBlock, IsEnabledLine, IsInversionBlock, IsOriginLine, IsTold, IsUsedLine, Told, comes_line, holds_line, waits_line, waits_text}
 use Rattle.ld_text.specs.Groups.{GrowsBy, InSequence, InTurn}
-use Rattle.ld_text.specs.Inside.Telling.{HasMembers, TellerParts, TellsCircles}
+use Rattle.ld_text.specs.Inside.Telling.{HasMembers, TellsCircles}
 use Rattle.ld_text.specs.Report.{double_line, inversion_line}
 use Rattle.ld_text.specs.Words.{irq_text}
 use Rattle.ld_text.proofs.GroupLemmas.{GrowsBy-none, GrowsBy-then}

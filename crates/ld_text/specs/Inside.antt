@@ -1,4 +1,5 @@
 pub mod Finding
+pub mod Joined
 pub mod Telling
 pub mod Tokens
 pub mod Turning

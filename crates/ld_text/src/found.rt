@@ -10,6 +10,7 @@ ghost use Rattle.ld_text.specs.Found.{AreFound, arrows_among, doubles_among, inv
 ghost use Rattle.ld_text.specs.Inside.Finding.{AddsThose};
 ghost use Rattle.ld_text.specs.Words.{kinds};
 
+use crate::joined::has_dependency;
 use ld_graph::{Kind, Mark};
 use ld_run::Settled;
 use ld_trace::{Irq, KeyId};
@@ -98,6 +99,15 @@ impl Found {
     }
 }
 
+// Whether the key is used in the state. If it isn't, no inversion begins with it.
+pub(crate) fn is_used_in(settled: &Settled, irq: Irq, a: KeyId) -> bool
+    ensures { IsFalse result → (b : ℕ) → ¬ IsInversion (HasFact settled.now) irq a b }
+{
+    let used = settled.has_mark(a.get(), Mark::UsedIn { irq, read: false });
+    let used_read = settled.has_mark(a.get(), Mark::UsedIn { irq, read: true });
+    used || used_read
+}
+
 // Where findings are looked for.
 #[derive(Clone, Copy)]
 struct Search<'a> {
@@ -122,20 +132,6 @@ impl Search<'_> {
             doubles,
             inversions,
         })
-    }
-
-    // Whether a dependency leads from the one key to the other. Where none does none is on a circle.
-    fn are_joined(self, from: KeyId, to: KeyId) -> bool
-        ensures { IsFalse result → (kind : Kind)
-            → ¬ OnCircle (HasFact self.entry.settled.now) (arrow from to kind) }
-    {
-        let facts = self.settled.facts();
-        let (from, to) = (from.get(), to.get());
-        let er = facts.has_dep(from, to, Kind::Er);
-        let en = facts.has_dep(from, to, Kind::En);
-        let sr = facts.has_dep(from, to, Kind::Sr);
-        let sn = facts.has_dep(from, to, Kind::Sn);
-        er || en || sr || sn
     }
 
     // The dependency, if it is on a circle.
@@ -181,7 +177,7 @@ impl Search<'_> {
         ensures { OnOk result (AddsThose (OnCircle (HasFact self.entry.settled.now)) (map (arrow from to) kinds)
             circles.old.items circles.new.items) }
     {
-        if self.are_joined(from, to) {
+        if has_dependency(self.settled, from, to) {
             self.add_circles_of_kinds(circles, from, to)
         } else {
             Ok(())
@@ -248,19 +244,6 @@ impl Search<'_> {
         Ok(())
     }
 
-    // Whether the key is used in the state. Where it isn't no inversion begins with it.
-    fn is_used_in(self, irq: Irq, a: KeyId) -> bool
-        ensures { IsFalse result → (b : ℕ) → ¬ IsInversion (HasFact self.entry.settled.now) irq a b }
-    {
-        let used = self
-            .settled
-            .has_mark(a.get(), Mark::UsedIn { irq, read: false });
-        let used_read = self
-            .settled
-            .has_mark(a.get(), Mark::UsedIn { irq, read: true });
-        used || used_read
-    }
-
     // The two keys, if they are in an inversion of the state.
     fn add_inversion(
         self,
@@ -304,7 +287,7 @@ impl Search<'_> {
         ensures { OnOk result (AddsThose (λ x. IsInversion (HasFact self.entry.settled.now) x.0 x.1.0 x.1.1)
             (map (λ b. (irq, (a, b))) self.entry.keys.now) inversions.old.items inversions.new.items) }
     {
-        if self.is_used_in(irq, a) {
+        if is_used_in(self.settled, irq, a) {
             self.add_inversions_with(inversions, irq, a)
         } else {
             Ok(())

@@ -6,6 +6,7 @@ mod because;
 mod chains_text;
 mod explanation;
 mod found;
+mod joined;
 mod json_text;
 mod key_texts;
 mod order;

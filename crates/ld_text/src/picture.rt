@@ -7,11 +7,13 @@ ghost use Rattle.ld_graph.specs.FactBits.{HasFact};
 ghost use Rattle.ld_graph.specs.Links.{IsDouble};
 ghost use Rattle.ld_text.specs.WriteFaults.{StopsWriting};
 ghost use Rattle.ld_text.specs.Groups.{GrowsBy, InTurn};
-ghost use Rattle.ld_text.specs.Picture.{AreJoined, IsFoundArrow, IsFoundKey, IsNode, IsPicture, ShowsDoubleLink, ShowsEdge, ShowsInversionLink, ShowsKey, arrow_text, end_text, escaped, quoted_key};
+ghost use Rattle.ld_text.specs.Inside.Joined.{AreJoinedKeys};
+ghost use Rattle.ld_text.specs.Picture.{AreJoined, IsFoundKey, IsNode, IsPicture, ShowsDoubleLink, ShowsEdge, ShowsInversionLink, ShowsKey, arrow_text, end_text, escaped, quoted_key};
 ghost use Rattle.ld_text.specs.Report.{IsUsageCharacter, forms};
 ghost use Rattle.ld_text.specs.Words.{kinds, name_at, states};
 
-use crate::found::{KINDS, STATES};
+use crate::found::{KINDS, STATES, is_used_in};
+use crate::joined::{has_dependency, is_found, joined_keys};
 use crate::order::sorted_keys;
 use crate::output::write_text;
 use crate::report::{FORMS, usage_character};
@@ -82,38 +84,6 @@ fn add_end(text: &mut Vec<u8>, red: bool) -> Result<(), AllocError>
 }
 
 impl PictureView<'_> {
-    // Whether the dependency is part of a finding.
-    fn is_found(self, from: KeyId, to: KeyId, kind: Kind) -> bool
-        ensures { IsTrue result ↔ IsFoundArrow (HasFact self.entry.settled.now) (arrow from to kind) }
-    {
-        let (from, to) = (from.get(), to.get());
-        self.settled.on_circle(from, to, kind) || self.settled.in_inversion(from, to, kind)
-    }
-
-    // Whether a dependency that is part of a finding leads from the one key to the other or back.
-    fn are_joined(self, key: KeyId, other: KeyId) -> bool
-        ensures { IsTrue result ↔ AreJoined (HasFact self.entry.settled.now) key other }
-    {
-        for kind in KINDS {
-            if self.is_found(key, other, kind) || self.is_found(other, key, kind) {
-                return true;
-            }
-        }
-        false
-    }
-
-    // Whether a dependency that is part of a finding leads from the key or to it.
-    fn is_joined(self, key: KeyId) -> bool
-        ensures { IsTrue result ↔ Any (AreJoined (HasFact self.entry.settled.now) key) self.entry.keys.now }
-    {
-        for other in self.keys {
-            if self.are_joined(key, *other) {
-                return true;
-            }
-        }
-        false
-    }
-
     // Whether the key is a double of some state.
     fn is_double(self, key: KeyId) -> bool
         ensures { IsTrue result ↔ Any (λ irq. IsDouble (HasFact self.entry.settled.now) irq key) states }
@@ -126,11 +96,12 @@ impl PictureView<'_> {
         false
     }
 
-    // Whether the key is part of a finding.
-    fn is_found_key(self, key: KeyId) -> bool
+    // Whether the key is part of a finding. `is_joined`: whether a dependency that is part of one leads from it or to it.
+    fn is_found_key(self, key: KeyId, is_joined: bool) -> bool
+        requires { IsTrue is_joined ↔ Any (AreJoined (HasFact self.settled.now) key) self.keys.now }
         ensures { IsTrue result ↔ IsFoundKey (HasFact self.entry.settled.now) self.entry.keys.now key }
     {
-        self.is_double(key) || self.is_joined(key)
+        self.is_double(key) || is_joined
     }
 
     // A key as it stands between double quotes.
@@ -172,28 +143,35 @@ impl PictureView<'_> {
         add_end(text, red)
     }
 
-    // The line of a key, where it is shown.
-    fn add_shown_key(self, text: &mut Vec<u8>, key: KeyId) -> Result<(), AllocError>
+    // The line of a key, if it is shown. `is_joined`: whether a dependency that is part of a finding leads from it or to it.
+    fn add_shown_key(
+        self,
+        text: &mut Vec<u8>,
+        key: KeyId,
+        is_joined: bool,
+    ) -> Result<(), AllocError>
+        requires { IsTrue is_joined ↔ Any (AreJoined (HasFact self.settled.now) key) self.keys.now }
         ensures { OnOk result (GrowsBy
             (ShowsKey (HasFact self.entry.settled.now) self.entry.names.now.names self.entry.keys.now self.entry.only key)
             text.old.items text.new.items) }
     {
-        let red = self.is_found_key(key);
+        let red = self.is_found_key(key, is_joined);
         if red || !self.only {
             self.add_node(text, key, red)?;
         }
         Ok(())
     }
 
-    // The lines of the keys.
-    fn add_keys(self, text: &mut Vec<u8>) -> Result<(), AllocError>
+    // The lines of the keys. `joined`: of each, whether a dependency that is part of a finding leads from it or to it.
+    fn add_keys(self, text: &mut Vec<u8>, joined: &[bool]) -> Result<(), AllocError>
+        requires { AreJoinedKeys (HasFact self.settled.now) self.keys.now joined.now }
         ensures { OnOk result (GrowsBy
             (InTurn (ShowsKey (HasFact self.entry.settled.now) self.entry.names.now.names self.entry.keys.now
             self.entry.only) self.entry.keys.now)
             text.old.items text.new.items) }
     {
-        for key in self.keys {
-            self.add_shown_key(text, *key)?;
+        for n in 0..self.keys.len() {
+            self.add_shown_key(text, self.keys[n], joined[n])?;
         }
         Ok(())
     }
@@ -233,7 +211,7 @@ impl PictureView<'_> {
         if !self.settled.has_dep(from.get(), to.get(), kind) {
             return Ok(());
         }
-        let red = self.is_found(from, to, kind);
+        let red = is_found(self.settled, from, to, kind);
         if red || !self.only {
             self.add_arrow(text, from, to, kind_word(kind))?;
             add_end(text, red)?;
@@ -248,6 +226,9 @@ impl PictureView<'_> {
             (arrow from to kind)) kinds)
             text.old.items text.new.items) }
     {
+        if !has_dependency(self.settled, from, to) {
+            return Ok(());
+        }
         for kind in KINDS {
             self.add_edge(text, from, to, kind)?;
         }
@@ -345,6 +326,9 @@ impl PictureView<'_> {
             self.entry.keys.now)
             text.old.items text.new.items) }
     {
+        if !is_used_in(self.settled, irq, a) {
+            return Ok(());
+        }
         for b in self.keys {
             self.add_inversion(text, irq, a, *b)?;
         }
@@ -395,9 +379,10 @@ fn picture_text(
         keys,
         only: findings,
     };
+    let joined = joined_keys(alloc, settled, keys)?;
     let mut text = Vec::new(alloc);
     add(&mut text, "digraph lockdep {\n  node [shape=box];\n")?;
-    view.add_keys(&mut text)?;
+    view.add_keys(&mut text, joined.as_slice())?;
     view.add_edges(&mut text)?;
     view.add_doubles(&mut text)?;
     view.add_inversions(&mut text)?;

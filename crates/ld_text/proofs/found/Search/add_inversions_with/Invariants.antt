@@ -1,5 +1,4 @@
 use Rattle.std.proofs.Common.{map, take}
-use Rattle.std.specs.List.{flat_map}
 use Rattle.ld_graph.specs.FactBits.{HasFact}
 use Rattle.ld_graph.specs.Links.{IsInversion}
 use Rattle.ld_text.specs.Inside.Finding.{AddsThose}

@@ -1,4 +1,4 @@
-use Rattle.std.proofs.Common.{codes, refl, subst}
+use Rattle.std.proofs.Common.{refl, subst}
 use Rattle.std.proofs.lemmas.Result.{on_ok_weaker}
 use Rattle.ld_text.specs.Inside.Tokens.{Adds}
 use Rattle.ld_text.specs.Json.{IsCircleObject}

@@ -1,5 +1,14 @@
-use Rattle.ld_text.proofs.GroupLemmas.{GrowsBy-more, GrowsBy-none}
+use Rattle.std.proofs.Common.{inr, refl}
+use Rattle.ld_graph.specs.Arrows.{arrow}
+use Rattle.ld_graph.specs.FactBits.{HasFact}
+use Rattle.ld_text.specs.Picture.{ShowsEdge}
+use Rattle.ld_text.specs.Words.{kinds}
+use Rattle.ld_text.proofs.GroupLemmas.{GrowsBy-more, GrowsBy-none, GrowsBy-nothing, InTurn-nothing}
 use Rattle.ld_text.proofs.picture.PictureView.add_edges_to.Goals as goal
+
+pub returns-then-not-has_dependency : goal.returns-then-not-has_dependency
+returns-then-not-has_dependency c = GrowsBy-nothing _ _
+    (InTurn-nothing (λ kind. ShowsEdge (HasFact c.args.self.settled.now) c.args.self.names.now.names c.args.self.only (arrow c.args.from c.args.to kind)) (λ kind. inr (c.has_dependency.ensures (let none = c.if-not-has_dependency.true in cc) kind, refl)) kinds)
 
 pub loop-kind-init : goal.loop-kind-init
 loop-kind-init c = GrowsBy-none _
