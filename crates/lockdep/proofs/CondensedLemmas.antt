@@ -1,10 +1,17 @@
--- Condensed traces of equal facts, and what condensing leaves where it is refused.
-use Rattle.std.proofs.Common.{ℕ, List, Option, refl}
+-- Condensed traces of equal facts, that their texts read back, and what condensing leaves where it is refused.
+use Rattle.std.proofs.Common.{◌≡◌, ◌≤◌, ℕ, List, [], Option, Result, Ok, Err, IfOk, IsOkAnd, arith, length, refl, subst}
 use Rattle.std.specs.Io.KnownBytes.{Keeps}
-use Rattle.ld_trace.specs.Names.{Name}
+use Rattle.ld_trace.specs.Events.{KeysBelow}
+use Rattle.ld_trace.specs.Laws.{NewTablesHaveRoom, TextsReadBack}
+use Rattle.ld_trace.specs.Names.{AreNumbered, Name, Table}
+use Rattle.ld_trace.specs.Writing.{trace_text}
+use Rattle.ld_trace.specs.declared.event.Event.{Event}
+use Rattle.ld_trace.specs.declared.raw_trace.TheConstants.{MAX_EVENTS}
+use Rattle.ld_run.specs.Condensing.{IsCondensed}
+use Rattle.ld_run.specs.declared.condense_fault.CondenseFault.{CondenseFault}
 use Rattle.ld_graph.specs.Facts.{AreSame}
 use Rattle.ld_graph.specs.declared.fact.Fact.{Fact}
-use Rattle.lockdep.specs.Condensed.{IsCondensedText}
+use Rattle.lockdep.specs.Condensed.{IsCondensedText, ReadsBackAnew}
 use Rattle.lockdep.specs.Faults.{IsBeforeWriting, StopsSettled}
 use Rattle.lockdep.specs.declared.fault.ReportFault.{ReportFault}
 use Rattle.lockdep.specs.declared.fault.ReportFault.TheVariants.{Step, Run, Survey, Condensing, Out}
@@ -22,7 +29,29 @@ IsCondensedText-same P Q same names text c = record {
     same = λ x. (λ t. (same x).0 ((c.condensed.same x).0 t), λ q. (c.condensed.same x).1 ((same x).1 q));
   };
   text_is = c.text_is;
+  reads_back = c.reads_back;
 }
+
+-- the text of a trace whose keys are those of a table reads back over a new table with room for as many names
+pub reads_back_anew : TextsReadBack → NewTablesHaveRoom → (table : Table) → AreNumbered table → (trace : List Event) → length trace ≤ MAX_EVENTS → KeysBelow (length table.names) trace → ReadsBackAnew table.names trace
+reads_back_anew back fits table numbered trace few below room within =
+    let own : Table = record { room = length table.names; names = table.names } in
+    let own_numbered : AreNumbered own = record {
+      most = omega (arith, numbered.most, numbered.few);
+      few = omega arith;
+      named = numbered.named;
+      once = numbered.once;
+    } in
+    let own_fits = fits own trace (record { numbered = own_numbered; below = below; few = few }) in
+    back table trace (record { numbered = numbered; below = below; few = few }) room [] (omega (arith, own_fits, within))
+
+-- the text of what condensing made is that of a condensed trace
+pub IsCondensedText-made : (Has : Fact → Type 0) (names : List Name) (keys : ℕ) → keys ≡ length names → (made : Result (List Event) CondenseFault) → IfOk made (IsCondensed keys Has) → (text : List ℕ) → IsOkAnd made (λ trace. KeysBelow (length names) trace → (text ≡ trace_text names trace) × ReadsBackAnew names trace) → IsCondensedText Has names text
+IsCondensedText-made Has names keys same (Ok trace) condensed text is =
+    let c = subst (λ (k : ℕ). IsCondensed k Has trace) same condensed in
+    let (text_is, back) = is c.below in
+    record { trace = trace; condensed = c; text_is = text_is; reads_back = back }
+IsCondensedText-made Has names keys same (Err fault) condensed text is = absurd is
 
 -- what is refused before writing leaves the writer as it was
 pub before_writing : (IsText : List ℕ → Type 0) (known : Option (List ℕ)) (fault : ReportFault) → Keeps known known → IsBeforeWriting fault → StopsSettled Condensed IsText known known fault

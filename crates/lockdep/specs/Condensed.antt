@@ -1,5 +1,6 @@
 -- The text of the condensed trace [this project's own].
-use Rattle.std.specs.Prelude.{◌≡◌, ℕ, List, length}
+use Rattle.std.specs.Prelude.{◌≡◌, ◌≤◌, ℕ, List, [], length}
+use Rattle.ld_trace.specs.Laws.{ReadsBack}
 use Rattle.ld_trace.specs.Names.{Name}
 use Rattle.ld_trace.specs.Writing.{trace_text}
 use Rattle.ld_trace.specs.declared.event.Event.{Event}
@@ -7,11 +8,17 @@ use Rattle.ld_graph.specs.declared.fact.Fact.{Fact}
 use Rattle.ld_run.specs.Condensing.{IsCondensed}
 use Rattle.ld_run.specs.TraceFacts.{TracesHave}
 
--- the text is that of one trace that has exactly these facts, of keys with these names
+-- the text of these events reads back: a new table with room for as many names takes it, and it stands for events that say the same
+abbrev pub ReadsBackAnew : List Name → List Event → Type 0
+ReadsBackAnew names trace = (room : ℕ) → length names ≤ room
+    → (new : List Name) × (read : List Event) × ReadsBack room names trace [] new read
+
+-- the text is that of one trace that has exactly these facts, of keys with these names, and it reads back
 pub record IsCondensedText (Has : Fact → Type 0) (names : List Name) (text : List ℕ) : Type 0 where
   pub trace : List Event
   pub condensed : IsCondensed (length names) Has trace
   pub text_is : text ≡ trace_text names trace
+  pub reads_back : ReadsBackAnew names trace
 
 -- the text is that of one trace that has exactly the facts of all these traces together
 abbrev pub IsCondensedOf : List (List Event) → List Name → List ℕ → Type 0

@@ -1,1 +1,2 @@
+pub mod CondensedFaults
 pub mod Sources

@@ -1,16 +1,19 @@
 //! The condensed trace of settled facts, and its text.
 
-ghost use Rattle.std.specs.Prelude.{◌≡◌, List, ℕ, IfErr, IfOk, OnOk, length};
+ghost use Rattle.std.specs.Prelude.{◌≡◌, List, ℕ, IfErr, IfOk, IsOkAnd, OnOk, length};
+ghost use Rattle.ld_trace.specs.Events.{KeysBelow};
+ghost use Rattle.ld_trace.specs.Writing.{trace_text};
 ghost use Rattle.std.specs.Io.KnownBytes.{Appends};
 ghost use Rattle.ld_graph.specs.FactBits.{HasFact};
-ghost use Rattle.lockdep.specs.Condensed.{IsCondensedText};
+ghost use Rattle.lockdep.specs.Condensed.{IsCondensedText, ReadsBackAnew};
 ghost use Rattle.lockdep.specs.Faults.{IsBeforeWriting, StopsSettled};
+ghost use Rattle.lockdep.specs.Inside.CondensedFaults.{no_text_of};
 ghost use Rattle.lockdep.specs.declared.wanted.Wanted.{Wanted};
 
 use crate::fault::ReportFault;
-use ld_run::{Settled, condense};
+use ld_run::{CondenseFault, Settled, condense};
 use ld_text::{WriteFault, sorted_keys, write_text};
-use ld_trace::{KeyTable, trace_text};
+use ld_trace::{KeyTable, RawTrace, trace_text, written_traces_read_back};
 use std::alloc::Global;
 use std::io::Write;
 
@@ -48,11 +51,35 @@ fn condensed_text(alloc: Global, settled: &Settled, keys: &KeyTable) -> Result<V
     let Ok(order) = sorted_keys(alloc, keys) else {
         return Err(ReportFault::Out(WriteFault::Memory));
     };
-    match condense(alloc, settled, order.as_slice()) {
-        Ok(trace) => match trace_text(alloc, &trace, keys) {
-            Ok(text) => Ok(text),
-            Err(_) => Err(ReportFault::Out(WriteFault::Memory)),
-        },
+    text_of(alloc, condense(alloc, settled, order.as_slice()), keys)
+}
+
+// The text of the trace that condensing made.
+fn text_of(
+    alloc: Global,
+    made: Result<RawTrace, CondenseFault>,
+    keys: &KeyTable,
+) -> Result<Vec<u8>, ReportFault>
+    ensures ok { IfOk result (λ text. IsOkAnd made (λ trace. KeysBelow (length keys.now.names) trace
+        → (text.items ≡ trace_text keys.now.names trace) × ReadsBackAnew keys.now.names trace)) }
+    ensures err { IfErr result (λ fault. fault ≡ no_text_of made) }
+{
+    match made {
+        Ok(trace) => text_of_trace(alloc, &trace, keys),
         Err(fault) => Err(ReportFault::Condensing(fault)),
+    }
+}
+
+// The text of a condensed trace, which reads back.
+fn text_of_trace(alloc: Global, trace: &RawTrace, keys: &KeyTable) -> Result<Vec<u8>, ReportFault>
+    ensures ok { IfOk result (λ text. KeysBelow (length keys.now.names) trace.now
+        → (text.items ≡ trace_text keys.now.names trace.now) × ReadsBackAnew keys.now.names trace.now) }
+    ensures err { IfErr result (λ fault. fault ≡ ReportFault.Out WriteFault.Memory) }
+{
+    written_traces_read_back();
+    let _ = (keys.len(), trace.len());
+    match trace_text(alloc, trace, keys) {
+        Ok(text) => Ok(text),
+        Err(_) => Err(ReportFault::Out(WriteFault::Memory)),
     }
 }

@@ -17,8 +17,9 @@ mod source;
 mod tests;
 mod wanted;
 
+use ld_text::WriteFault;
 use program::program;
-use refusal::{Refusal, refuse};
+use refusal::{REFUSED, Refusal, refuse};
 use std::io::{Read, Write};
 use std::rt::{Env, Files};
 use std::sync::Wait;
@@ -45,8 +46,8 @@ fn texts_of<'a>(alloc: Global, words: &'a [String]) -> Result<Vec<&'a str>, Allo
     Ok(texts)
 }
 
-// Runs the program over the process's own words, and answers its status.
-fn run<R, I, O, E>(rt: &R, input: I, out: &mut O, err: &mut E) -> u8
+// Runs the program over the process's own words, and answers its status, or how standard error failed where it refused.
+fn run<R, I, O, E>(rt: &R, input: I, out: &mut O, err: &mut E) -> Result<u8, WriteFault>
 where
     R: Files + Env + Threads + Wait + Sync + AllocGlobal,
     I: Read + Drop,
@@ -65,5 +66,8 @@ where
 
 fn main(rt: HostRuntime) -> ExitCode {
     let (mut out, mut err) = (rt.stdout(), rt.stderr());
-    ExitCode::from(run(&rt, rt.stdin(), &mut out, &mut err))
+    match run(&rt, rt.stdin(), &mut out, &mut err) {
+        Ok(status) => ExitCode::from(status),
+        Err(_) => ExitCode::from(REFUSED),
+    }
 }

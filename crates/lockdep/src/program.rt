@@ -1,6 +1,6 @@
 //! The program: a command line, the traces that it names, and what is written for them.
 
-ghost use Rattle.std.specs.Prelude.{◌≡◌, ◌<◌, ◌≤◌, ◌+◌, ◌∷◌, ◌++◌, [], ℕ, List, Option, None, All, IfOk, IfErr, IfSome, IsTrue, OnOk, ◌↔◌, length, map, option_map};
+ghost use Rattle.std.specs.Prelude.{◌≡◌, ◌<◌, ◌≤◌, ◌+◌, ◌∷◌, ◌++◌, [], ℕ, List, Option, None, All, IfOk, IfErr, IfSome, IsTrue, OnOk, OnErr, ◌↔◌, length, map, option_map};
 ghost use Rattle.std.specs.Io.KnownBytes.{Appends};
 ghost use Rattle.ld_trace.specs.Events.{KeysBelow};
 ghost use Rattle.ld_trace.specs.Reading.{ReadsTo};
@@ -8,7 +8,7 @@ ghost use Rattle.ld_trace.specs.declared.event.Event.{Event};
 ghost use Rattle.ld_task.specs.WellFormed.{IsFirstFault, IsWellFormed};
 ghost use Rattle.ld_trace.specs.declared.key_id.TheConstants.{MAX_KEYS, MAX_MANY};
 ghost use Rattle.ld_trace.specs.declared.raw_trace.TheConstants.{MAX_EVENTS};
-ghost use Rattle.lockdep.specs.Inside.Sources.{remaining_in};
+ghost use Rattle.lockdep.specs.Inside.Sources.{NamesFileAt, remaining_in};
 ghost use Rattle.ld_text.specs.ChainLines.{chains_text};
 ghost use Rattle.ld_words.specs.CommandLine.{IsLineFault};
 ghost use Rattle.lockdep.specs.FaultLines.{fault_line};
@@ -55,8 +55,8 @@ const NOT_CLEAN: u8 = 1;
 ///
 /// The status is 0 where the facts are clean, the condensed trace or the chains were written, or what was asked for was help
 /// or the version; 1 where a report, an explanation or a picture was written of facts that aren't clean; and 2 where the
-/// program refused. Exactly one line is written on `err` then, and none otherwise; where `err` fails, that is passed over.
-/// This project's own.
+/// program refused. Exactly one line is written on `err` then, and none otherwise. Where the program refused and `err` failed,
+/// the result is how it failed, and a beginning of the line was written. This project's own.
 pub fn program<R: Files + Threads + Wait + Sync, I: Read + Drop, O: Write, E: Write>(
     rt: &R,
     alloc: Global,
@@ -64,18 +64,22 @@ pub fn program<R: Files + Threads + Wait + Sync, I: Read + Drop, O: Write, E: Wr
     input: I,
     out: &mut O,
     err: &mut E,
-) -> u8
-    ensures status { result ≤ 2 }
-    ensures done { result < 2 → DoesWords (map (λ word. word.now) words.entry.now) (I.remaining input)
-        (O.contents out.old) (O.contents out.new) result }
-    ensures quiet { result < 2 → err.new ≡ err.old }
-    ensures refused { result ≡ 2 → (refusal : Refusal)
+) -> Result<u8, WriteFault>
+    ensures status { IfOk result (λ status. status ≤ 2) }
+    ensures done { IfOk result (λ status. status < 2 → DoesWords (map (λ word. word.now) words.entry.now) (I.remaining input)
+        (O.contents out.old) (O.contents out.new) status) }
+    ensures quiet { IfOk result (λ status. status < 2 → err.new ≡ err.old) }
+    ensures refused { IfOk result (λ status. status ≡ 2 → (refusal : Refusal)
         × RefusesWords (map (λ word. word.now) words.entry.now) (I.remaining input)
         (O.contents out.old) (O.contents out.new) refusal
-        × AppendsBeginning (E.contents err.old) (E.contents err.new) (fault_line refusal) }
+        × Appends (E.contents err.old) (E.contents err.new) (fault_line refusal)) }
+    ensures untold { OnErr result ((refusal : Refusal)
+        × RefusesWords (map (λ word. word.now) words.entry.now) (I.remaining input)
+        (O.contents out.old) (O.contents out.new) refusal
+        × AppendsBeginning (E.contents err.old) (E.contents err.new) (fault_line refusal)) }
 {
     match answer(rt, alloc, words, input, out) {
-        Ok(status) => status,
+        Ok(status) => Ok(status),
         Err(refusal) => refuse(err, refusal),
     }
 }
@@ -348,6 +352,10 @@ fn add_files<'a, R: Files, I: Read + Drop>(
     ensures ok { OnOk result (length session.new.traces ≡ length session.old.traces + length files.entry.now) }
     ensures below { OnOk result (All (KeysBelow (length session.new.names)) session.new.traces) }
     ensures err { (input : Option (List ℕ)) → IfErr result (StopsReading session.old.room (map (λ file. file.now) files.entry.now) input) }
+
+    // The refused file is the one after those that were read.
+    ensures named { IfErr result (λ refusal. (place : ℕ) × (length session.new.traces ≡ length session.old.traces + place)
+        × NamesFileAt (map (λ file. file.now) files.entry.now) place refusal) }
 {
     for file in files {
         add_file::<R, I>(rt, session, file)?;
@@ -364,6 +372,8 @@ fn add_file<'a, R: Files, I: Read + Drop>(
     ensures ok { OnOk result (length session.new.traces ≡ length session.old.traces + 1) }
     ensures below { OnOk result (All (KeysBelow (length session.new.names)) session.new.traces) }
     ensures err { IfErr result (StopsReading session.old.room (file.entry.now ∷ []) None) }
+    ensures named { IfErr result (NamesFileAt (file.entry.now ∷ []) 0) }
+    ensures kept { OnErr result (session.new.traces ≡ session.old.traces) }
 {
     match File::open(rt, file) {
         Ok(opened) => add_trace::<I, R::File>(session, file, Source::File(opened)),
@@ -383,6 +393,7 @@ fn add_trace<'a, I: Read + Drop, F: Read + Drop>(
     ensures below { All (KeysBelow (length session.new.names)) session.new.traces }
     ensures err { IfErr result (IsReadingRefusal file.entry.now session.old.room session.old.names
         (remaining_in I.remaining F.remaining opened)) }
+    ensures kept { OnErr result (session.new.traces ≡ session.old.traces) }
 {
     match session.add(opened) {
         Ok(()) => Ok(()),

@@ -1,6 +1,6 @@
 //! Why the program refused, and the one line that it says so with.
 
-ghost use Rattle.std.specs.Prelude.{◌≡◌, ◌+◌, ◌++◌, OnOk, OnErr, List, codes, decimal};
+ghost use Rattle.std.specs.Prelude.{◌≡◌, ◌+◌, ◌++◌, IfOk, OnOk, OnErr, List, codes, decimal};
 ghost use Rattle.std.specs.List.{flat_map};
 ghost use Rattle.std.specs.Io.KnownBytes.{Appends};
 ghost use Rattle.lockdep.specs.FaultLines.{fault_line, record_line};
@@ -13,7 +13,7 @@ use ld_trace::TraceFault;
 use std::io::Write;
 
 /// The status of a program that refused.
-const REFUSED: u8 = 2;
+pub(crate) const REFUSED: u8 = 2;
 
 /// Why the program refused.
 #[derive(Clone, Copy, PartialEq, Eq, Debug)]
@@ -87,11 +87,14 @@ fn tell<W: Write>(w: &mut W, refusal: Refusal<'_>) -> Result<(), WriteFault>
 }
 
 /// Writes the one line that says why the program refused, as `lockdep: a.txt: record 2: T2 BadRecord`, and answers the
-/// status. Takes no memory. A writer that fails is passed over; a beginning of the line was written then.
-pub(crate) fn refuse<W: Write>(w: &mut W, refusal: Refusal<'_>) -> u8
-    ensures status { result ≡ 2 }
-    ensures line { AppendsBeginning (W.contents w.old) (W.contents w.new) (fault_line refusal.entry) }
+/// status. Takes no memory. Where the writer failed, a beginning of the line was written.
+pub(crate) fn refuse<W: Write>(w: &mut W, refusal: Refusal<'_>) -> Result<u8, WriteFault>
+    ensures status { IfOk result (λ status. status ≡ 2) }
+    ensures line { OnOk result (Appends (W.contents w.old) (W.contents w.new) (fault_line refusal.entry)) }
+    ensures err { OnErr result (AppendsBeginning (W.contents w.old) (W.contents w.new) (fault_line refusal.entry)) }
 {
-    let _ = tell(w, refusal);
-    REFUSED
+    match tell(w, refusal) {
+        Ok(()) => Ok(REFUSED),
+        Err(fault) => Err(fault),
+    }
 }

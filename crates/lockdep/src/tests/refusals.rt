@@ -4,7 +4,7 @@ use crate::refusal::{Refusal, refuse};
 use crate::session::Session;
 use crate::tests::helpers::{assert_text, text_in};
 use crate::wanted::Wanted;
-use ld_run::RunFault;
+use ld_run::{CondenseFault, RunFault, SurveyFault};
 use ld_task::StepFault;
 use ld_text::WriteFault;
 use ld_trace::{TraceFault, TraceFaultKind};
@@ -56,7 +56,7 @@ fn traces_refused_in_reading(rt: HostRuntime) -> Result<(), Fail> {
 }
 
 // Refusals, and their lines.
-static LINES: [(Refusal<'_>, &str); 8] = [
+static LINES: [(Refusal<'_>, &str); 14] = [
     (Refusal::BadCommandLine, "lockdep: P1 BadCommandLine\n"),
     (
         Refusal::CannotOpen { file: "a b" },
@@ -82,8 +82,29 @@ static LINES: [(Refusal<'_>, &str); 8] = [
         },
         "lockdep: : record 1000001: S2 TooDeep\n",
     ),
+    (
+        Refusal::Run(RunFault::BadWorkers),
+        "lockdep: N1 BadWorkers\n",
+    ),
+    (
+        Refusal::Run(RunFault::TooManyTraces),
+        "lockdep: N2 TooManyTraces\n",
+    ),
     (Refusal::Run(RunFault::Unsettled), "lockdep: N3 Unsettled\n"),
     (Refusal::Run(RunFault::Memory), "lockdep: N4 Memory\n"),
+    (
+        Refusal::Survey(SurveyFault::TooTangled),
+        "lockdep: M1 TooTangled\n",
+    ),
+    (Refusal::Survey(SurveyFault::Memory), "lockdep: M2 Memory\n"),
+    (
+        Refusal::Condensing(CondenseFault::Unequal),
+        "lockdep: E1 Unequal\n",
+    ),
+    (
+        Refusal::Condensing(CondenseFault::Memory),
+        "lockdep: E2 Memory\n",
+    ),
 ];
 
 #[test]
@@ -92,7 +113,7 @@ fn lines_and_codes_of_refusals(rt: HostRuntime) {
         let (refusal, line) = *refusal_and_line;
         let mut text = Vec::new(rt.alloc());
         let status = refuse(&mut text, refusal);
-        assert_eq!(rt; (status, text_in(text.as_slice())), (2, line));
+        assert_eq!(rt; (status, text_in(text.as_slice())), (Ok(2), line));
     }
     let faults = [WriteFault::Failed, WriteFault::Stuck, WriteFault::Memory];
     let codes = ["O1 Failed", "O2 Stuck", "O3 Memory"];

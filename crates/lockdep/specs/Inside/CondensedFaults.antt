@@ -1,0 +1,11 @@
+-- Why there is no text of a condensed trace. No public clause speaks of this.
+use Rattle.std.specs.Prelude.{Result, Ok, Err}
+use Rattle.ld_run.specs.declared.condense_fault.CondenseFault.{CondenseFault}
+use Rattle.ld_text.specs.declared.write_fault.WriteFault.TheVariants.{Memory}
+use Rattle.lockdep.specs.declared.fault.ReportFault.{ReportFault}
+use Rattle.lockdep.specs.declared.fault.ReportFault.TheVariants.{Condensing, Out}
+
+-- condensing was refused so, or memory for the text of what it made
+abbrev pub no_text_of : {T : Type 0} → Result T CondenseFault → ReportFault
+no_text_of (Ok trace) = Out Memory
+no_text_of (Err fault) = Condensing fault
