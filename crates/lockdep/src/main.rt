@@ -9,13 +9,15 @@ use std::{env, io};
 
 mod condensed;
 mod fault;
+mod output;
 mod program;
 mod refusal;
+mod request;
 mod session;
+mod settled;
 mod source;
 #[cfg(test)]
 mod tests;
-mod wanted;
 
 use program::program;
 use refusal::{Refusal, refuse};
@@ -45,7 +47,7 @@ fn texts_of<'a>(alloc: Global, words: &'a [String]) -> Result<Vec<&'a str>, Allo
     Ok(texts)
 }
 
-// Runs the program over the process's own words, and answers its status.
+// Runs the program over the process's own words, and returns its status.
 fn run<R, I, O, E>(rt: &R, input: I, out: &mut O, err: &mut E) -> u8
 where
     R: Files + Env + Threads + Wait + Sync + AllocGlobal,
