@@ -21,7 +21,7 @@ use std::io::Write;
 /// What is written of all the traces of a session together.
 ///
 /// `files` are the names of the traces, in their order; a trace that has no name is called `stdin`.
-#[derive(Clone, Copy, Debug)]
+#[derive(Clone, Copy, PartialEq, Eq, Debug)]
 pub enum Output<'a> {
     /// The report.
     Report,

@@ -205,7 +205,7 @@ fn write_session<'a, R: Threads + Wait + Sync, O: Write>(
     }
 }
 
-// The status after the output was written of facts that are clean or not. A condensed trace has none of its own.
+// The status after an output was written: 1 if the facts aren't clean, and 0 otherwise and after a condensed trace.
 fn status_of(output: Output<'_>, clean: bool) -> u8
     ensures value { result ≡ status_of (view_of output.entry) clean }
     ensures few { result ≤ 1 }

@@ -12,7 +12,7 @@ use ld_words::Line;
 #[derive(Clone, Copy)]
 pub(crate) struct OutputRequest<'l, 'a> {
     pub(crate) output: Output<'l>,
-    /// Whether there is room for many keys.
+    /// Whether there is room for more than 256 keys.
     pub(crate) many: bool,
     pub(crate) workers: u16,
     pub(crate) files: &'l [&'a str],
@@ -36,7 +36,7 @@ pub(crate) fn request_of<'l, 'a>(line: &'l Line<'a>) -> Request<'l, 'a>
             workers,
             many,
             files,
-        } => of_traces(Output::Report, *many, *workers, files.as_slice()),
+        } => output_request(Output::Report, *many, *workers, files.as_slice()),
         Line::Explain {
             workers,
             many,
@@ -44,7 +44,7 @@ pub(crate) fn request_of<'l, 'a>(line: &'l Line<'a>) -> Request<'l, 'a>
             files,
         } => {
             let output = explanation_as(*json, files.as_slice());
-            of_traces(output, *many, *workers, files.as_slice())
+            output_request(output, *many, *workers, files.as_slice())
         }
         Line::Graph {
             workers,
@@ -55,17 +55,17 @@ pub(crate) fn request_of<'l, 'a>(line: &'l Line<'a>) -> Request<'l, 'a>
             let output = Output::Picture {
                 findings: *findings,
             };
-            of_traces(output, *many, *workers, files.as_slice())
+            output_request(output, *many, *workers, files.as_slice())
         }
         Line::Condense { workers, files } => {
-            of_traces(Output::Condensed, false, *workers, files.as_slice())
+            output_request(Output::Condensed, false, *workers, files.as_slice())
         }
         Line::Chains { file } => Request::Chains(*file),
     }
 }
 
 // The request for an output of the traces in these files.
-fn of_traces<'l, 'a>(
+fn output_request<'l, 'a>(
     output: Output<'l>,
     many: bool,
     workers: u16,

@@ -137,7 +137,8 @@ impl Session {
         Ok(settled.is_clean())
     }
 
-    /// Writes the report of all traces, as `write` does.
+    /// Checks all traces by `workers` workers, writes the report of all of them together, and returns whether their facts are
+    /// clean. Refusals are those of `write`, without E1 and E2.
     pub fn report<R: Threads + Wait + Sync, W: Write, G: Gate + Sync>(
         self,
         rt: &R,
