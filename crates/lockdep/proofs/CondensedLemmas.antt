@@ -1,6 +1,5 @@
--- Condensed traces of equal facts, that their texts read back, and what condensing leaves where it is refused.
-use Rattle.std.proofs.Common.{◌≡◌, ◌≤◌, ℕ, List, [], Option, Result, Ok, Err, IfOk, IsOkAnd, arith, length, refl, subst}
-use Rattle.std.specs.Io.KnownBytes.{Keeps}
+-- Condensed traces of equal facts, and that their texts read back.
+use Rattle.std.proofs.Common.{◌≡◌, ◌≤◌, ℕ, List, [], Result, Ok, Err, IfOk, IsOkAnd, arith, length, subst}
 use Rattle.ld_trace.specs.Events.{KeysBelow}
 use Rattle.ld_trace.specs.Laws.{NewTablesHaveRoom, TextsReadBack}
 use Rattle.ld_trace.specs.Names.{AreNumbered, Name, Table}
@@ -12,11 +11,6 @@ use Rattle.ld_run.specs.declared.condense_fault.CondenseFault.{CondenseFault}
 use Rattle.ld_graph.specs.Facts.{AreSame}
 use Rattle.ld_graph.specs.declared.fact.Fact.{Fact}
 use Rattle.lockdep.specs.Condensed.{IsCondensedText, ReadsBackAnew}
-use Rattle.lockdep.specs.Faults.{IsBeforeWriting, StopsSettled}
-use Rattle.lockdep.specs.declared.fault.ReportFault.{ReportFault}
-use Rattle.lockdep.specs.declared.fault.ReportFault.TheVariants.{Step, Run, Survey, Condensing, Out}
-use Rattle.ld_text.specs.declared.write_fault.WriteFault.TheVariants.{Failed, Stuck, Memory}
-use Rattle.lockdep.specs.declared.wanted.Wanted.TheVariants.{Condensed}
 
 -- a trace that has the one has the other
 pub IsCondensedText-same : (P Q : Fact → Type 0) → AreSame P Q → (names : List Name) (text : List ℕ) → IsCondensedText P names text → IsCondensedText Q names text
@@ -52,13 +46,3 @@ IsCondensedText-made Has names keys same (Ok trace) condensed text is =
     let (text_is, back) = is c.below in
     record { trace = trace; condensed = c; text_is = text_is; reads_back = back }
 IsCondensedText-made Has names keys same (Err fault) condensed text is = absurd is
-
--- what is refused before writing leaves the writer as it was
-pub before_writing : (IsText : List ℕ → Type 0) (known : Option (List ℕ)) (fault : ReportFault) → Keeps known known → IsBeforeWriting fault → StopsSettled Condensed IsText known known fault
-before_writing IsText known (Step trace at fault) kept before = absurd before
-before_writing IsText known (Run fault) kept before = absurd before
-before_writing IsText known (Survey fault) kept before = absurd before
-before_writing IsText known (Condensing fault) kept before = (refl, kept)
-before_writing IsText known (Out Failed) kept before = absurd (cc)
-before_writing IsText known (Out Stuck) kept before = absurd (cc)
-before_writing IsText known (Out Memory) kept before = kept

@@ -1,8 +1,7 @@
--- What a refused text leaves.
-use Rattle.std.proofs.Common.{◌≡◌, ◌<◌, ◌≤◌, ◌↔◌, ℕ, Bool, List, Option, Result, All, Ok, Err, OnOk, OnErr, IfErr, IsErrOf, length, refl, subst, sym, arith}
+-- What a refused output leaves.
+use Rattle.std.proofs.Common.{◌≡◌, ◌<◌, ◌≤◌, ◌↔◌, ℕ, Bool, List, Option, Result, All, Ok, Err, OnOk, IfErr, IsErrAnd, IsErrOf, MatchResult, length, refl, subst, sym, arith}
 use Rattle.std.specs.Bool.{⊤}
 use Rattle.std.specs.Io.KnownBytes.{Appends}
-use Rattle.ld_text.specs.Words.{Text}
 use Rattle.ld_trace.specs.Names.{Name}
 use Rattle.ld_trace.specs.declared.event.Event.{Event}
 use Rattle.ld_task.specs.WellFormed.{IsWellFormed}
@@ -12,40 +11,44 @@ use Rattle.ld_run.specs.declared.fault.RunFault.TheVariants as run
 use Rattle.lockdep.specs.declared.fault.ReportFault.{ReportFault}
 use Rattle.lockdep.specs.declared.fault.ReportFault.TheVariants.{Step, Run, Survey, Condensing, Out}
 use Rattle.ld_text.specs.declared.write_fault.WriteFault.{WriteFault}
-use Rattle.lockdep.specs.Faults.{StopsReport, StopsSettled, StopsText, out_of}
+use Rattle.lockdep.specs.Faults.{StopsSettled, StopsText}
 use Rattle.ld_text.specs.WriteFaults.{StopsWriting}
 use Rattle.ld_text.proofs.WriteFaultLemmas.{StopsWriting-same}
-use Rattle.lockdep.specs.Texts.{IsTextOf}
-use Rattle.lockdep.specs.declared.wanted.Wanted.{Wanted}
+use Rattle.lockdep.specs.Texts.{OutputView, IsTextOf}
 
-pub StopsSettled-same : (wanted : Wanted) (A B : List ℕ → Type 0) → ((text : List ℕ) → A text → B text) → (old new : Option (List ℕ)) (fault : ReportFault) → StopsSettled wanted A old new fault → StopsSettled wanted B old new fault
-StopsSettled-same wanted A B same old new (Step trace at fault) stops = absurd stops
-StopsSettled-same wanted A B same old new (Run fault) stops = absurd stops
-StopsSettled-same wanted A B same old new (Survey fault) stops = absurd stops
-StopsSettled-same wanted A B same old new (Condensing fault) stops = stops
-StopsSettled-same wanted A B same old new (Out fault) stops = StopsWriting-same A B same old new fault stops
+pub StopsSettled-same : (output : OutputView) (A B : List ℕ → Type 0) → ((text : List ℕ) → A text → B text) → (old new : Option (List ℕ)) (fault : ReportFault) → StopsSettled output A old new fault → StopsSettled output B old new fault
+StopsSettled-same output A B same old new (Step trace at fault) stops = absurd stops
+StopsSettled-same output A B same old new (Run fault) stops = absurd stops
+StopsSettled-same output A B same old new (Survey fault) stops = absurd stops
+StopsSettled-same output A B same old new (Condensing fault) stops = stops
+StopsSettled-same output A B same old new (Out fault) stops = StopsWriting-same A B same old new fault stops
 
--- a text that was written, or not, is the one that is wanted, if the texts that are as said are
-module _ (wanted : Wanted) (A B : List ℕ → Type 0) (same : (text : List ℕ) → A text → B text) (old new : Option (List ℕ)) (s : Result ⊤ ReportFault) where
-  pub written-ok : (r : Result ⊤ WriteFault) → s ≡ out_of r → OnOk r ((text : List ℕ) × A text × Appends old new text) → OnOk s ((text : List ℕ) × B text × Appends old new text)
-  written-ok (Ok x) is (text, is_text, wrote) = subst (λ (t : Result ⊤ ReportFault). OnOk t ((text : List ℕ) × B text × Appends old new text)) (sym is) (text, same text is_text, wrote)
-  written-ok (Err fault) is wrote = subst (λ (t : Result ⊤ ReportFault). OnOk t ((text : List ℕ) × B text × Appends old new text)) (sym is) tt
+-- a text that is as said was written, or not: so the output was, if such texts are its texts
+module _ (output kind : OutputView) (is : output ≡ kind) (A : List ℕ → Type 0) (traces : List (List Event)) (names : List Name) (same : (text : List ℕ) → A text → IsTextOf kind traces names text) (old new : Option (List ℕ)) where
+  text-is : (text : List ℕ) → A text → IsTextOf output traces names text
+  text-is text it = subst (λ (o : OutputView). IsTextOf o traces names text) (sym is) (same text it)
 
-  pub written-err : (r : Result ⊤ WriteFault) → s ≡ out_of r → IfErr r (StopsWriting A old new) → IfErr s (StopsSettled wanted B old new)
-  written-err (Ok x) is stops = subst (λ (t : Result ⊤ ReportFault). IfErr t (StopsSettled wanted B old new)) (sym is) tt
-  written-err (Err fault) is stops = subst (λ (t : Result ⊤ ReportFault). IfErr t (StopsSettled wanted B old new)) (sym is) (StopsWriting-same A B same old new fault stops)
+  pub written-ok : (r : Result ⊤ WriteFault) (s : Result ⊤ ReportFault) → MatchResult r (λ x. s ≡ Ok x) (λ e. IsErrAnd s (λ f. f ≡ Out e)) → OnOk r ((text : List ℕ) × A text × Appends old new text) → OnOk s ((text : List ℕ) × IsTextOf output traces names text × Appends old new text)
+  written-ok (Ok x) s made (text, it, wrote) = subst (λ (t : Result ⊤ ReportFault). OnOk t ((text : List ℕ) × IsTextOf output traces names text × Appends old new text)) (sym made) (text, text-is text it, wrote)
+  written-ok (Err fault) (Ok x) made wrote = absurd made
+  written-ok (Err fault) (Err f) made wrote = tt
+
+  pub written-err : (r : Result ⊤ WriteFault) (s : Result ⊤ ReportFault) → MatchResult r (λ x. s ≡ Ok x) (λ e. IsErrAnd s (λ f. f ≡ Out e)) → IfErr r (StopsWriting A old new) → IfErr s (StopsSettled output (IsTextOf output traces names) old new)
+  written-err (Ok x) s made stops = subst (λ (t : Result ⊤ ReportFault). IfErr t (StopsSettled output (IsTextOf output traces names) old new)) (sym made) tt
+  written-err (Err fault) (Ok x) made stops = absurd made
+  written-err (Err fault) (Err f) made stops = subst (StopsSettled output (IsTextOf output traces names) old new) (sym made) (StopsWriting-same A (IsTextOf output traces names) text-is old new fault stops)
 
 -- what is refused of settled facts is refused of the traces that they are of
-pub StopsText-settled : (wanted : Wanted) (traces : List (List Event)) (names : List Name) (files : List Text) (workers : ℕ) (old new : Option (List ℕ)) → IsCrew workers → length traces ≤ MAX_TRACES → All IsWellFormed traces → (fault : ReportFault) → StopsSettled wanted (IsTextOf wanted traces names files) old new fault → StopsText wanted traces names files workers old new fault
-StopsText-settled wanted traces names files workers old new crew few well_formed (Step trace at fault) stops = absurd stops
-StopsText-settled wanted traces names files workers old new crew few well_formed (Run fault) stops = absurd stops
-StopsText-settled wanted traces names files workers old new crew few well_formed (Survey fault) stops = absurd stops
-StopsText-settled wanted traces names files workers old new crew few well_formed (Condensing fault) stops = (crew, few, well_formed, stops.0, stops.1)
-StopsText-settled wanted traces names files workers old new crew few well_formed (Out fault) stops = (crew, few, well_formed, stops)
+pub StopsText-settled : (output : OutputView) (traces : List (List Event)) (names : List Name) (workers : ℕ) (old new : Option (List ℕ)) → IsCrew workers → length traces ≤ MAX_TRACES → All IsWellFormed traces → (fault : ReportFault) → StopsSettled output (IsTextOf output traces names) old new fault → StopsText output traces names workers old new fault
+StopsText-settled output traces names workers old new crew few well_formed (Step trace at fault) stops = absurd stops
+StopsText-settled output traces names workers old new crew few well_formed (Run fault) stops = absurd stops
+StopsText-settled output traces names workers old new crew few well_formed (Survey fault) stops = absurd stops
+StopsText-settled output traces names workers old new crew few well_formed (Condensing fault) stops = (crew, few, well_formed, stops.0, stops.1)
+StopsText-settled output traces names workers old new crew few well_formed (Out fault) stops = (crew, few, well_formed, stops)
 
-module _ (traces : List (List Event)) (names : List Name) (workers : ℕ) (old new : Option (List ℕ)) where
-  -- a report is refused for the number of workers exactly where there can't be so many
-  pub bad_workers_is : (r : Result Bool ReportFault) → OnOk r (IsCrew workers × (length traces ≤ MAX_TRACES)) → IfErr r (StopsReport traces names workers old new) → IsErrOf r (Run run.BadWorkers) ↔ (¬ IsCrew workers)
+module _ (output : OutputView) (traces : List (List Event)) (names : List Name) (workers : ℕ) (old new : Option (List ℕ)) where
+  -- an output is refused for the number of workers exactly if there can't be that many
+  pub bad_workers_is : (r : Result Bool ReportFault) → OnOk r (IsCrew workers × (length traces ≤ MAX_TRACES)) → IfErr r (StopsText output traces names workers old new) → IsErrOf r (Run run.BadWorkers) ↔ (¬ IsCrew workers)
   bad_workers_is (Ok x) crew stops = (λ e. absurd (cc), λ no. absurd (no crew.0))
   bad_workers_is (Err (Step trace at fault)) crew stops = (λ e. absurd (cc), λ no. absurd (no stops.1.0))
   bad_workers_is (Err (Run run.BadWorkers)) crew stops = (λ e. stops.0, λ no. refl)
@@ -57,8 +60,8 @@ module _ (traces : List (List Event)) (names : List Name) (workers : ℕ) (old n
   bad_workers_is (Err (Condensing fault)) crew stops = (λ e. absurd (cc), λ no. absurd (no stops.0))
   bad_workers_is (Err (Out fault)) crew stops = (λ e. absurd (cc), λ no. absurd (no stops.0))
 
-  -- and for the number of traces exactly where there are too many for a crew
-  pub too_many_is : (r : Result Bool ReportFault) → OnOk r (IsCrew workers × (length traces ≤ MAX_TRACES)) → IfErr r (StopsReport traces names workers old new) → IsErrOf r (Run run.TooManyTraces) ↔ (IsCrew workers × (MAX_TRACES < length traces))
+  -- and for the number of traces exactly if there are too many for a crew
+  pub too_many_is : (r : Result Bool ReportFault) → OnOk r (IsCrew workers × (length traces ≤ MAX_TRACES)) → IfErr r (StopsText output traces names workers old new) → IsErrOf r (Run run.TooManyTraces) ↔ (IsCrew workers × (MAX_TRACES < length traces))
   too_many_is (Ok x) crew stops = (λ e. absurd (cc), λ more. absurd (omega (arith, crew.1, more.1)))
   too_many_is (Err (Step trace at fault)) crew stops = (λ e. absurd (cc), λ more. absurd (omega (arith, stops.1.1, more.1)))
   too_many_is (Err (Run run.BadWorkers)) crew stops = (λ e. absurd (cc), λ more. absurd (stops.0 more.0))
@@ -69,3 +72,15 @@ module _ (traces : List (List Event)) (names : List Name) (workers : ℕ) (old n
   too_many_is (Err (Survey fault)) crew stops = (λ e. absurd (cc), λ more. absurd (omega (arith, stops.1, more.1)))
   too_many_is (Err (Condensing fault)) crew stops = (λ e. absurd (cc), λ more. absurd (omega (arith, stops.1, more.1)))
   too_many_is (Err (Out fault)) crew stops = (λ e. absurd (cc), λ more. absurd (omega (arith, stops.1, more.1)))
+
+-- what is refused by a number of workers is refused by another, if there can be both or neither
+pub StopsText-crew : (output : OutputView) (traces : List (List Event)) (names : List Name) (some others : ℕ) (old new : Option (List ℕ)) → IsCrew some ↔ IsCrew others → (fault : ReportFault) → StopsText output traces names some old new fault → StopsText output traces names others old new fault
+StopsText-crew output traces names some others old new same (Step trace at fault) stops = (stops.0, (same.0 stops.1.0, stops.1.1, stops.1.2), stops.2, stops.3)
+StopsText-crew output traces names some others old new same (Run run.BadWorkers) stops = (λ crew. stops.0 (same.1 crew), stops.1)
+StopsText-crew output traces names some others old new same (Run run.TooManyTraces) stops = ((same.0 stops.0.0, stops.0.1), stops.1)
+StopsText-crew output traces names some others old new same (Run run.Unsettled) stops = ((same.0 stops.0.0, stops.0.1, stops.0.2), stops.1)
+StopsText-crew output traces names some others old new same (Run run.Memory) stops = ((same.0 stops.0.0, stops.0.1), stops.1)
+StopsText-crew output traces names some others old new same (Run (run.Refused trace place fault)) stops = absurd stops.0
+StopsText-crew output traces names some others old new same (Survey fault) stops = (same.0 stops.0, stops.1, stops.2, stops.3, stops.4)
+StopsText-crew output traces names some others old new same (Condensing fault) stops = (same.0 stops.0, stops.1, stops.2, stops.3, stops.4)
+StopsText-crew output traces names some others old new same (Out fault) stops = (same.0 stops.0, stops.1, stops.2, stops.3)

@@ -1,15 +1,11 @@
--- What a refused text leaves [this project's own].
-use Rattle.std.specs.Prelude.{◌≡◌, ◌+◌, ◌<◌, ◌≤◌, ⊤, ℕ, List, [], Option, Result, Ok, Err, codes, All, length}
+-- What a refused output leaves [this project's own].
+use Rattle.std.specs.Prelude.{◌≡◌, ◌+◌, ◌<◌, ◌≤◌, ⊤, ℕ, List, Option, All, length}
 use Rattle.std.specs.Io.KnownBytes.{Keeps}
-use Rattle.ld_text.specs.Words.{Text}
 use Rattle.ld_trace.specs.Names.{Name}
 use Rattle.ld_trace.specs.declared.event.Event.{Event}
 use Rattle.ld_task.specs.WellFormed.{IsWellFormed}
 use Rattle.ld_text.specs.WriteFaults.{StopsWriting}
-use Rattle.lockdep.specs.Texts.{IsTextOf}
-use Rattle.lockdep.specs.declared.wanted.Wanted.{Wanted}
-use Rattle.lockdep.specs.declared.wanted.Wanted.TheVariants.{Report, Condensed}
-use Rattle.ld_text.specs.declared.write_fault.WriteFault.{WriteFault}
+use Rattle.lockdep.specs.Texts.{OutputView, report, condensed, IsTextOf}
 use Rattle.ld_text.specs.declared.write_fault.WriteFault.TheVariants.{Memory}
 use Rattle.ld_run.specs.Runs.{IsCrew, StopsRun}
 use Rattle.ld_run.specs.declared.runs.TheConstants.{MAX_TRACES}
@@ -22,21 +18,16 @@ use Rattle.ld_run.specs.declared.survey_fault.SurveyFault.{SurveyFault}
 use Rattle.ld_run.specs.declared.survey_fault.SurveyFault.TheVariants as survey
 use Rattle.ld_trace.specs.declared.key_id.TheConstants.{MAX_KEYS}
 
--- a refused write, as the refusal of a text
-abbrev pub out_of : Result ⊤ WriteFault → Result ⊤ ReportFault
-out_of (Ok x) = Ok x
-out_of (Err fault) = Err (Out fault)
+-- the output of settled facts was refused so: in condensing, if it is the condensed trace, and then nothing was written; or in
+-- writing a text that is as said
+abbrev pub StopsSettled : OutputView → (List ℕ → Type 0) → (old new : Option (List ℕ)) → ReportFault → Type 0
+StopsSettled output IsText old new (Step trace at fault) = ⊥
+StopsSettled output IsText old new (Run fault) = ⊥
+StopsSettled output IsText old new (Survey fault) = ⊥
+StopsSettled output IsText old new (Condensing fault) = (output ≡ condensed) × Keeps old new
+StopsSettled output IsText old new (Out fault) = StopsWriting IsText old new fault
 
--- the text that is wanted of settled facts was refused so: in condensing, where it is the condensed trace, and then nothing
--- was written, or in writing a text that is as said
-abbrev pub StopsSettled : Wanted → (List ℕ → Type 0) → (old new : Option (List ℕ)) → ReportFault → Type 0
-StopsSettled wanted IsText old new (Step trace at fault) = ⊥
-StopsSettled wanted IsText old new (Run fault) = ⊥
-StopsSettled wanted IsText old new (Survey fault) = ⊥
-StopsSettled wanted IsText old new (Condensing fault) = (wanted ≡ Condensed) × Keeps old new
-StopsSettled wanted IsText old new (Out fault) = StopsWriting IsText old new fault
-
--- condensing was refused, or memory for the text, so that there was nothing to write
+-- condensing was refused, or memory ran out for the text, so that there was nothing to write
 abbrev pub IsBeforeWriting : ReportFault → Type 0
 IsBeforeWriting (Step trace at fault) = ⊥
 IsBeforeWriting (Run fault) = ⊥
@@ -54,20 +45,20 @@ abbrev pub StopsSurveyOtherwise : List (List Event) → SurveyFault → Type 0
 StopsSurveyOtherwise traces (survey.Refused trace place fault) = ⊥
 StopsSurveyOtherwise traces fault = StopsSurvey traces fault
 
--- the text that is wanted of these traces of these files, by so many workers, was refused so: by the first trace that isn't
--- well formed, with the record of its first event that isn't allowed; by the run otherwise; by the survey otherwise, where there
--- are more than 256 keys; in condensing, where the condensed trace is wanted; or in writing
-abbrev pub StopsText : Wanted → List (List Event) → List Name → List Text → ℕ → (old new : Option (List ℕ)) → ReportFault → Type 0
-StopsText wanted traces names files workers old new (Step trace at fault) =
+-- the output of these traces, by this number of workers, was refused so: by the first trace that isn't well formed, with the
+-- record of its first event that isn't allowed; by the run otherwise; by the survey otherwise, if there are more than 256 keys;
+-- in condensing, if the output is the condensed trace; or in writing
+abbrev pub StopsText : OutputView → List (List Event) → List Name → (workers : ℕ) → (old new : Option (List ℕ)) → ReportFault → Type 0
+StopsText output traces names workers old new (Step trace at fault) =
     (place : ℕ) × StopsRun traces workers (Refused trace place fault) × (at ≡ place + 2) × Keeps old new
-StopsText wanted traces names files workers old new (Run fault) = StopsOtherwise traces workers fault × Keeps old new
-StopsText wanted traces names files workers old new (Survey fault) = IsCrew workers × (length traces ≤ MAX_TRACES)
+StopsText output traces names workers old new (Run fault) = StopsOtherwise traces workers fault × Keeps old new
+StopsText output traces names workers old new (Survey fault) = IsCrew workers × (length traces ≤ MAX_TRACES)
     × (MAX_KEYS < length names) × StopsSurveyOtherwise traces fault × Keeps old new
-StopsText wanted traces names files workers old new (Condensing fault) = IsCrew workers × (length traces ≤ MAX_TRACES)
-    × All IsWellFormed traces × (wanted ≡ Condensed) × Keeps old new
-StopsText wanted traces names files workers old new (Out fault) = IsCrew workers × (length traces ≤ MAX_TRACES)
-    × All IsWellFormed traces × StopsWriting (IsTextOf wanted traces names files) old new fault
+StopsText output traces names workers old new (Condensing fault) = IsCrew workers × (length traces ≤ MAX_TRACES)
+    × All IsWellFormed traces × (output ≡ condensed) × Keeps old new
+StopsText output traces names workers old new (Out fault) = IsCrew workers × (length traces ≤ MAX_TRACES)
+    × All IsWellFormed traces × StopsWriting (IsTextOf output traces names) old new fault
 
 -- the report was
 abbrev pub StopsReport : List (List Event) → List Name → ℕ → (old new : Option (List ℕ)) → ReportFault → Type 0
-StopsReport traces names = StopsText Report traces names []
+StopsReport traces names = StopsText report traces names

@@ -1,2 +1,3 @@
 pub mod CondensedFaults
+pub mod Requests
 pub mod Sources

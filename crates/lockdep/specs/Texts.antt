@@ -1,5 +1,5 @@
--- The texts that are written of all traces together [this project's own].
-use Rattle.std.specs.Prelude.{ℕ, List}
+-- What is written of all traces together [this project's own].
+use Rattle.std.specs.Prelude.{ℕ, Bool, List, map}
 use Rattle.ld_text.specs.Words.{Text}
 use Rattle.ld_trace.specs.Names.{Name}
 use Rattle.ld_trace.specs.declared.event.Event.{Event}
@@ -8,13 +8,28 @@ use Rattle.ld_text.specs.Explanation.{IsExplanationOf}
 use Rattle.ld_text.specs.Json.{IsJsonOf}
 use Rattle.ld_text.specs.Picture.{IsPictureOf}
 use Rattle.ld_text.specs.Report.{IsReportOf}
-use Rattle.lockdep.specs.declared.wanted.Wanted.{Wanted}
-use Rattle.lockdep.specs.declared.wanted.Wanted.TheVariants.{Report, Explanation, Json, Picture, Condensed}
+use Rattle.lockdep.specs.declared.output.Output.{Output}
+use Rattle.lockdep.specs.declared.output.Output.TheVariants.{Report, Explanation, Json, Picture, Condensed}
 
--- the text is the one that is wanted of these traces of these files
-abbrev pub IsTextOf : Wanted → List (List Event) → List Name → List Text → List ℕ → Type 0
-IsTextOf Report traces names files = IsReportOf traces names
-IsTextOf Explanation traces names files = IsExplanationOf traces names files
-IsTextOf Json traces names files = IsJsonOf traces names files
-IsTextOf (Picture findings) traces names files = IsPictureOf findings traces names
-IsTextOf Condensed traces names files = IsCondensedOf traces names
+-- an output as contracts see it: with the names of the files as texts
+pub data OutputView : Type 0 where
+  report : OutputView
+  explanation : List Text → OutputView
+  json : List Text → OutputView
+  picture : Bool → OutputView
+  condensed : OutputView
+
+abbrev pub view_of : Output → OutputView
+view_of Report = report
+view_of (Explanation files) = explanation (map (λ file. file.now) files.now)
+view_of (Json files) = json (map (λ file. file.now) files.now)
+view_of (Picture findings) = picture findings
+view_of Condensed = condensed
+
+-- the text is this output of these traces
+abbrev pub IsTextOf : OutputView → List (List Event) → List Name → List ℕ → Type 0
+IsTextOf report traces names = IsReportOf traces names
+IsTextOf (explanation files) traces names = IsExplanationOf traces names files
+IsTextOf (json files) traces names = IsJsonOf traces names files
+IsTextOf (picture findings) traces names = IsPictureOf findings traces names
+IsTextOf condensed traces names = IsCondensedOf traces names

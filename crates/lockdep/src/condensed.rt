@@ -8,7 +8,7 @@ ghost use Rattle.ld_graph.specs.FactBits.{HasFact};
 ghost use Rattle.lockdep.specs.Condensed.{IsCondensedText, ReadsBackAnew};
 ghost use Rattle.lockdep.specs.Faults.{IsBeforeWriting, StopsSettled};
 ghost use Rattle.lockdep.specs.Inside.CondensedFaults.{no_text_of};
-ghost use Rattle.lockdep.specs.declared.wanted.Wanted.{Wanted};
+ghost use Rattle.lockdep.specs.Texts.{condensed};
 
 use crate::fault::ReportFault;
 use ld_run::{CondenseFault, Settled, condense};
@@ -20,9 +20,9 @@ use std::io::Write;
 /// Writes one trace that has exactly the settled facts, with the keys in the order of their names: the same facts and names
 /// give the same text.
 ///
-/// Refusals: `Condensing` with E1 where the trace that was made doesn't have exactly the facts, and with E2 where memory for it
-/// is refused; `Out` with O3 where memory is refused for the order of the keys or the text, and with O1 and O2 where writing
-/// failed. Nothing was written but after O1 and O2 [this project's own].
+/// Refusals: `Condensing` with E1 if the trace that was made doesn't have exactly the facts, and with E2 if memory runs out for
+/// it; `Out` with O3 if memory runs out for the order of the keys or the text, and with O1 and O2 if writing failed. Nothing was
+/// written unless it is O1 or O2 [this project's own].
 pub(crate) fn write_condensed<W: Write>(
     alloc: Global,
     w: &mut W,
@@ -32,7 +32,7 @@ pub(crate) fn write_condensed<W: Write>(
     requires { settled.now.keys ≡ length keys.now.names }
     ensures ok { OnOk result ((text : List ℕ) × IsCondensedText (HasFact settled.now) keys.now.names text
         × Appends (W.contents w.old) (W.contents w.new) text) }
-    ensures err { IfErr result (StopsSettled Wanted.Condensed (IsCondensedText (HasFact settled.now) keys.now.names)
+    ensures err { IfErr result (StopsSettled condensed (IsCondensedText (HasFact settled.now) keys.now.names)
         (W.contents w.old) (W.contents w.new)) }
 {
     let text = condensed_text(alloc, settled, keys)?;

@@ -1,11 +1,11 @@
-//! Why no report was written.
+//! Why an output wasn't written.
 
 use ld_run::{CondenseFault, RunFault, SurveyFault};
 use ld_task::StepFault;
 use ld_text::WriteFault;
 use thiserror::Error;
 
-/// Why no report was written whole.
+/// Why an output wasn't written whole.
 #[derive(Clone, Copy, PartialEq, Eq, Debug, Error)]
 pub enum ReportFault {
     /// A trace isn't well formed: its place among the traces, the number of the record of its first event that isn't

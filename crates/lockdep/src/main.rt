@@ -9,15 +9,16 @@ use std::{env, io};
 
 mod condensed;
 mod fault;
+mod output;
 mod program;
 mod refusal;
+mod request;
 mod session;
+mod settled;
 mod source;
 #[cfg(test)]
 mod tests;
-mod wanted;
 
-use ld_text::WriteFault;
 use program::program;
 use refusal::{REFUSED, Refusal, refuse};
 use std::io::{Read, Write};
@@ -46,8 +47,8 @@ fn texts_of<'a>(alloc: Global, words: &'a [String]) -> Result<Vec<&'a str>, Allo
     Ok(texts)
 }
 
-// Runs the program over the process's own words, and answers its status, or how standard error failed where it refused.
-fn run<R, I, O, E>(rt: &R, input: I, out: &mut O, err: &mut E) -> Result<u8, WriteFault>
+// Runs the program over the process's own words, and returns its status.
+fn run<R, I, O, E>(rt: &R, input: I, out: &mut O, err: &mut E) -> u8
 where
     R: Files + Env + Threads + Wait + Sync + AllocGlobal,
     I: Read + Drop,
@@ -56,18 +57,15 @@ where
 {
     let words = match words_of(rt) {
         Ok(words) => words,
-        Err(refusal) => return refuse(err, refusal),
+        Err(refusal) => return refuse(err, refusal).unwrap_or(REFUSED),
     };
     match texts_of(rt.alloc(), words.as_slice()) {
         Ok(texts) => program(rt, rt.alloc(), texts.as_slice(), input, out, err),
-        Err(_) => refuse(err, Refusal::Memory),
+        Err(_) => refuse(err, Refusal::Memory).unwrap_or(REFUSED),
     }
 }
 
 fn main(rt: HostRuntime) -> ExitCode {
     let (mut out, mut err) = (rt.stdout(), rt.stderr());
-    match run(&rt, rt.stdin(), &mut out, &mut err) {
-        Ok(status) => ExitCode::from(status),
-        Err(_) => ExitCode::from(REFUSED),
-    }
+    ExitCode::from(run(&rt, rt.stdin(), &mut out, &mut err))
 }

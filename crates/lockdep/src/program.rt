@@ -1,6 +1,6 @@
 //! The program: a command line, the traces that it names, and what is written for them.
 
-ghost use Rattle.std.specs.Prelude.{◌≡◌, ◌<◌, ◌≤◌, ◌+◌, ◌∷◌, ◌++◌, [], ℕ, List, Option, None, All, IfOk, IfErr, IfSome, IsTrue, OnOk, OnErr, ◌↔◌, length, map, option_map};
+ghost use Rattle.std.specs.Prelude.{◌≡◌, ◌<◌, ◌≤◌, ◌+◌, ◌∷◌, ◌++◌, [], ℕ, List, Option, None, All, IfOk, IfErr, IfSome, OnOk, OnErr, length, map, option_map};
 ghost use Rattle.std.specs.Io.KnownBytes.{Appends};
 ghost use Rattle.ld_trace.specs.Events.{KeysBelow};
 ghost use Rattle.ld_trace.specs.Reading.{ReadsTo};
@@ -8,26 +8,22 @@ ghost use Rattle.ld_trace.specs.declared.event.Event.{Event};
 ghost use Rattle.ld_task.specs.WellFormed.{IsFirstFault, IsWellFormed};
 ghost use Rattle.ld_trace.specs.declared.key_id.TheConstants.{MAX_KEYS, MAX_MANY};
 ghost use Rattle.ld_trace.specs.declared.raw_trace.TheConstants.{MAX_EVENTS};
+ghost use Rattle.lockdep.specs.Inside.Requests.{output_asked};
 ghost use Rattle.lockdep.specs.Inside.Sources.{NamesFileAt, remaining_in};
 ghost use Rattle.ld_text.specs.ChainLines.{chains_text};
 ghost use Rattle.ld_words.specs.CommandLine.{IsLineFault};
 ghost use Rattle.lockdep.specs.FaultLines.{fault_line};
-ghost use Rattle.lockdep.specs.Faults.{StopsText};
 ghost use Rattle.ld_text.specs.Output.{AppendsBeginning};
-ghost use Rattle.lockdep.specs.Program.{AreTracesOf, Condenses, DoesLine, DoesWords, IsReadingRefusal, IsReportRefusal, IsStepRefusal, RefusesChains, RefusesHelp, RefusesLine, RefusesNoLine, RefusesOpened, RefusesText, RefusesTrace, RefusesTraces, RefusesWords, StopsReading, TellsOf, WritesChains, WritesHelp, WritesText, explanation_as, known_of, room_of, write_refusal_of};
-ghost use Rattle.lockdep.specs.Texts.{IsTextOf};
+ghost use Rattle.lockdep.specs.Program.{AreTracesOf, DoesLine, DoesWords, IsReadingRefusal, IsReportRefusal, IsStepRefusal, RefusesChains, RefusesHelp, RefusesLine, RefusesNoLine, RefusesOpened, RefusesOutput, RefusesTrace, RefusesTraces, RefusesWords, StopsReading, WritesChains, WritesHelp, WritesOutput, WritesText, known_of, room_of, status_of, write_refusal_of};
+ghost use Rattle.lockdep.specs.Texts.{view_of};
 ghost use Rattle.lockdep.specs.declared.refusal.Refusal.{Refusal};
-ghost use Rattle.lockdep.specs.declared.wanted.Wanted.{Wanted};
-ghost use Rattle.ld_graph.specs.Links.{IsClean};
-ghost use Rattle.ld_run.specs.Runs.{IsCrew};
-ghost use Rattle.ld_run.specs.TraceFacts.{TracesHave};
-ghost use Rattle.ld_run.specs.declared.runs.TheConstants.{MAX_TRACES};
 
 use crate::fault::ReportFault;
-use crate::refusal::{Refusal, refuse};
+use crate::output::Output;
+use crate::refusal::{REFUSED, Refusal, refuse};
+use crate::request::{OutputRequest, Request, request_of};
 use crate::session::Session;
 use crate::source::Source;
-use crate::wanted::Wanted;
 use ld_run::OpenGate;
 use ld_task::{StepAt, check};
 use ld_text::{STDIN, WriteFault, file_of, write_chains, write_text};
@@ -40,24 +36,47 @@ use std::rt::Files;
 use std::sync::Wait;
 use std::thread::Threads;
 
-/// The status where the facts are clean, the condensed trace or the chains were written, or help was.
+/// The status if the facts are clean, or if the condensed trace, the chains or help was written.
 const DONE: u8 = 0;
 
-/// The status where a text was written of facts that aren't clean.
+/// The status if another output was written of facts that aren't clean.
 const NOT_CLEAN: u8 = 1;
 
 /// The program. The words begin with its name, `input` stands for standard input, `out` for standard output and `err` for
-/// standard error. `lockdep check [--workers N] [FILE...]` writes the report of the traces in these files, `lockdep explain
-/// [--json]` what was found in them and the records that it comes from, `lockdep graph [--findings]` a picture of their facts,
-/// `lockdep condense` one trace that has exactly their facts, and `lockdep chains [FILE]` the chains of a trace. Without a file
-/// one trace is read from the input. Each file is opened and read before the next one is. `lockdep --version` writes the
+/// standard error. `lockdep check [--workers N] [--many] [FILE...]` writes the report of the traces in these files, `lockdep
+/// explain [--json]` what was found in them and the records that it comes from, `lockdep graph [--findings]` a picture of their
+/// facts, `lockdep condense` one trace that has exactly their facts, and `lockdep chains [FILE]` the chains of a trace. Without a
+/// file one trace is read from the input. Each file is opened and read before the next one is. `lockdep --version` writes the
 /// version, and `lockdep help` how the program is called.
 ///
-/// The status is 0 where the facts are clean, the condensed trace or the chains were written, or what was asked for was help
-/// or the version; 1 where a report, an explanation or a picture was written of facts that aren't clean; and 2 where the
-/// program refused. Exactly one line is written on `err` then, and none otherwise. Where the program refused and `err` failed,
-/// the result is how it failed, and a beginning of the line was written. This project's own.
+/// The status is 0 if the facts are clean, if the condensed trace or the chains were written, or if help or the version was
+/// asked for; 1 if a report, an explanation or a picture was written of facts that aren't clean; and 2 if the program refused.
+/// Then exactly one line is written to `err`, and otherwise none; if `err` fails, that is ignored. This project's own.
 pub fn program<R: Files + Threads + Wait + Sync, I: Read + Drop, O: Write, E: Write>(
+    rt: &R,
+    alloc: Global,
+    words: &[&str],
+    input: I,
+    out: &mut O,
+    err: &mut E,
+) -> u8
+    ensures status { result ≤ 2 }
+    ensures done { result < 2 → DoesWords (map (λ word. word.now) words.entry.now) (I.remaining input)
+        (O.contents out.old) (O.contents out.new) result }
+    ensures quiet { result < 2 → err.new ≡ err.old }
+    ensures refused { result ≡ 2 → (refusal : Refusal)
+        × RefusesWords (map (λ word. word.now) words.entry.now) (I.remaining input)
+        (O.contents out.old) (O.contents out.new) refusal
+        × AppendsBeginning (E.contents err.old) (E.contents err.new) (fault_line refusal) }
+{
+    match answer_or_refuse(rt, alloc, words, input, out, err) {
+        Ok(status) => status,
+        Err(_) => REFUSED,
+    }
+}
+
+// Does what the words ask for, or writes why not, and returns the status; or how `err` failed, if it did.
+fn answer_or_refuse<R: Files + Threads + Wait + Sync, I: Read + Drop, O: Write, E: Write>(
     rt: &R,
     alloc: Global,
     words: &[&str],
@@ -84,7 +103,7 @@ pub fn program<R: Files + Threads + Wait + Sync, I: Read + Drop, O: Write, E: Wr
     }
 }
 
-// Does what the words ask for, and answers the status.
+// Does what the words ask for, and returns the status.
 fn answer<'a, R: Files + Threads + Wait + Sync, I: Read + Drop, O: Write>(
     rt: &R,
     alloc: Global,
@@ -104,7 +123,7 @@ fn answer<'a, R: Files + Threads + Wait + Sync, I: Read + Drop, O: Write>(
     }
 }
 
-// Does what the line asks for.
+// Does what the line asks for, and returns the status.
 fn answer_line<'a, R: Files + Threads + Wait + Sync, I: Read + Drop, O: Write>(
     rt: &R,
     alloc: Global,
@@ -116,67 +135,13 @@ fn answer_line<'a, R: Files + Threads + Wait + Sync, I: Read + Drop, O: Write>(
     ensures few { IfOk result (λ status. status ≤ 1) }
     ensures err { IfErr result (RefusesLine line.entry.now (I.remaining input) (O.contents out.old) (O.contents out.new)) }
 {
-    match line {
-        Line::Check {
-            workers,
-            many,
-            files,
-        } => {
-            let files = files.as_slice();
-            let room = room_of(*many);
-            answer_traces(rt, alloc, Wanted::Report, room, *workers, files, input, out)
-        }
-        Line::Explain {
-            workers,
-            many,
-            json,
-            files,
-        } => {
-            let wanted = explanation_as(*json);
-            let room = room_of(*many);
-            let files = files.as_slice();
-            answer_traces(rt, alloc, wanted, room, *workers, files, input, out)
-        }
-        Line::Graph {
-            workers,
-            many,
-            findings,
-            files,
-        } => {
-            let wanted = Wanted::Picture {
-                findings: *findings,
-            };
-            let room = room_of(*many);
-            let files = files.as_slice();
-            answer_traces(rt, alloc, wanted, room, *workers, files, input, out)
-        }
-        Line::Condense { workers, files } => {
-            answer_condensed(rt, alloc, *workers, files.as_slice(), input, out)
-        }
-        Line::Chains { file } => answer_chains(rt, alloc, *file, input, out),
+    match request_of(line) {
+        Request::Output(request) => answer_output(rt, alloc, request, input, out),
+        Request::Chains(file) => answer_chains(rt, alloc, file, input, out),
     }
 }
 
-// How many keys there is room for.
-fn room_of(many: bool) -> u16
-    ensures value { result ≡ room_of many }
-    ensures few { result ≤ MAX_MANY }
-{
-    if many { MAX_MANY } else { MAX_KEYS }
-}
-
-// Which text tells what was found: JSON, if that is asked for.
-fn explanation_as(json: bool) -> Wanted
-    ensures { result ≡ explanation_as json }
-{
-    if json {
-        Wanted::Json
-    } else {
-        Wanted::Explanation
-    }
-}
-
-// Writes the text that was asked for, or answers why the command line is refused.
+// Writes the text that was asked for, or returns why the command line is refused.
 fn answer_fault<'a, O: Write>(
     alloc: Global,
     fault: &LineFault,
@@ -214,116 +179,72 @@ fn answer_help<'a, O: Write>(
     }
 }
 
-// Writes the condensed trace of the traces in the files, or of the one in the input where there are none.
-fn answer_condensed<'a, R: Files + Threads + Wait + Sync, I: Read + Drop, O: Write>(
+// Writes the output for the traces in the files, or for the one on standard input if there are no files.
+fn answer_output<'a, R: Files + Threads + Wait + Sync, I: Read + Drop, O: Write>(
     rt: &R,
     alloc: Global,
-    workers: u16,
-    files: &[&'a str],
+    request: OutputRequest<'_, 'a>,
     input: I,
     out: &mut O,
 ) -> Result<u8, Refusal<'a>>
-    ensures ok { IfOk result (Condenses workers (map (λ file. file.now) files.entry.now) (I.remaining input)
+    ensures ok { IfOk result (WritesOutput (output_asked request.entry) (I.remaining input)
         (O.contents out.old) (O.contents out.new)) }
     ensures few { IfOk result (λ status. status ≤ 1) }
-    ensures err { IfErr result (RefusesText Wanted.Condensed MAX_KEYS workers (map (λ file. file.now) files.entry.now)
-        (I.remaining input) (O.contents out.old) (O.contents out.new)) }
-{
-    match answer_traces(
-        rt,
-        alloc,
-        Wanted::Condensed,
-        MAX_KEYS,
-        workers,
-        files,
-        input,
-        out,
-    ) {
-        Ok(_) => Ok(DONE),
-        Err(refusal) => Err(refusal),
-    }
-}
-
-// Writes the text that is wanted of the traces in the files, or of the one in the input where there are none.
-fn answer_traces<'a, R: Files + Threads + Wait + Sync, I: Read + Drop, O: Write>(
-    rt: &R,
-    alloc: Global,
-    wanted: Wanted,
-    room: u16,
-    workers: u16,
-    files: &[&'a str],
-    input: I,
-    out: &mut O,
-) -> Result<u8, Refusal<'a>>
-    requires { room ≤ MAX_MANY }
-    ensures ok { IfOk result (TellsOf wanted room workers (map (λ file. file.now) files.entry.now) (I.remaining input)
+    ensures err { IfErr result (RefusesOutput (output_asked request.entry) (I.remaining input)
         (O.contents out.old) (O.contents out.new)) }
-    ensures err { IfErr result (RefusesText wanted room workers (map (λ file. file.now) files.entry.now)
-        (I.remaining input) (O.contents out.old) (O.contents out.new)) }
 {
-    let Ok(mut session) = Session::with_room(alloc, room) else {
+    let Ok(mut session) = Session::with_room(alloc, room_of(request.many)) else {
         return Err(Refusal::Memory);
     };
-    match add_traces(rt, &mut session, files, input) {
-        Ok(()) => answer_session(rt, alloc, wanted, workers, files, session, out),
+    match add_traces(rt, &mut session, request.files, input) {
+        Ok(()) => write_session(rt, alloc, request, session, out),
         Err(refusal) => Err(refusal),
     }
 }
 
-// Writes the text that is wanted of the session's traces, which are those of the files, by as many of the workers as are worth their
-// threads: the text is the same for each number of them.
-fn answer_session<'a, R: Threads + Wait + Sync, O: Write>(
+// How many keys there is room for.
+fn room_of(many: bool) -> u16
+    ensures value { result ≡ room_of many }
+    ensures few { result ≤ MAX_MANY }
+{
+    if many { MAX_MANY } else { MAX_KEYS }
+}
+
+// Writes the output for the session's traces, which are those of the files, by as many of the workers as are worth their threads:
+// the text is the same for each number of them.
+fn write_session<'a, R: Threads + Wait + Sync, O: Write>(
     rt: &R,
     alloc: Global,
-    wanted: Wanted,
-    workers: u16,
-    files: &[&'a str],
+    request: OutputRequest<'_, 'a>,
     session: Session,
     out: &mut O,
 ) -> Result<u8, Refusal<'a>>
-    ensures ok { IfOk result (WritesText wanted workers (map (λ file. file.now) files.entry.now)
+    ensures ok { IfOk result (WritesText (view_of request.entry.output) request.entry.workers
         session.names session.traces (O.contents out.old) (O.contents out.new)) }
-    ensures err { IfErr result (RefusesTraces wanted workers (map (λ file. file.now) files.entry.now)
-        session.names session.traces (O.contents out.old) (O.contents out.new)) }
+    ensures few { IfOk result (λ status. status ≤ 1) }
+    ensures err { IfErr result (RefusesTraces (view_of request.entry.output) request.entry.workers
+        (map (λ file. file.now) request.entry.files.now) session.names session.traces
+        (O.contents out.old) (O.contents out.new)) }
 {
-    let useful = session.useful_workers(workers);
-    match write_session(rt, alloc, wanted, useful, files, session, out) {
-        Ok(clean) => Ok(if clean { DONE } else { NOT_CLEAN }),
-        Err(fault) => Err(report_refusal(files, fault)),
+    let workers = session.useful_workers(request.workers);
+    match session.write(rt, alloc, workers, &OpenGate, request.output, out) {
+        Ok(clean) => Ok(status_of(request.output, clean)),
+        Err(fault) => Err(report_refusal(request.files, fault)),
     }
 }
 
-// The same, with the answer whether their facts are clean.
-fn write_session<R: Threads + Wait + Sync, O: Write>(
-    rt: &R,
-    alloc: Global,
-    wanted: Wanted,
-    workers: u16,
-    files: &[&str],
-    session: Session,
-    out: &mut O,
-) -> Result<bool, ReportFault>
-    ensures ok { IfOk result (λ clean. All IsWellFormed session.traces
-        × (IsTrue clean ↔ IsClean (TracesHave session.traces))
-        × ((text : List ℕ)
-        × IsTextOf wanted session.traces session.names (map (λ file. file.now) files.entry.now) text
-        × Appends (O.contents out.old) (O.contents out.new) text)) }
-    ensures crew { OnOk result (IsCrew workers × (length session.traces ≤ MAX_TRACES)) }
-    ensures refused { IfErr result (StopsText wanted session.traces session.names
-        (map (λ file. file.now) files.entry.now) workers (O.contents out.old) (O.contents out.new)) }
+// The status after an output was written: 1 if the facts aren't clean, and 0 otherwise and after a condensed trace.
+fn status_of(output: Output<'_>, clean: bool) -> u8
+    ensures value { result ≡ status_of (view_of output.entry) clean }
+    ensures few { result ≤ 1 }
 {
-    match wanted {
-        Wanted::Report => session.report(rt, alloc, workers, &OpenGate, out),
-        Wanted::Explanation => session.explain(rt, alloc, workers, &OpenGate, files, out),
-        Wanted::Json => session.explain_json(rt, alloc, workers, &OpenGate, files, out),
-        Wanted::Picture { findings } => {
-            session.graph(rt, alloc, workers, &OpenGate, findings, out)
-        }
-        Wanted::Condensed => session.condense(rt, alloc, workers, &OpenGate, out),
+    match output {
+        Output::Condensed => DONE,
+        _ => if clean { DONE } else { NOT_CLEAN },
     }
 }
 
-// Reads the traces of the files, or that of the input where there are none, into a session that has none.
+// Reads the traces of the files, or that of the input if there are no files, into a session that has none.
 fn add_traces<'a, R: Files, I: Read + Drop>(
     rt: &R,
     session: &mut Session,
@@ -401,7 +322,7 @@ fn add_trace<'a, I: Read + Drop, F: Read + Drop>(
     }
 }
 
-// Writes the chains of the trace in the file, or of that in the input where none is named.
+// Writes the chains of the trace in the file, or of that in the input if no file is named.
 fn answer_chains<'a, R: Files, I: Read + Drop, O: Write>(
     rt: &R,
     alloc: Global,
@@ -477,7 +398,7 @@ fn step_refusal<'a>(file: &'a str, found: StepAt) -> Refusal<'a>
     }
 }
 
-// The refusal of a text that wasn't written whole.
+// The refusal of an output that wasn't written whole.
 fn write_refusal<'a>(fault: WriteFault) -> Refusal<'a>
     ensures { result ≡ write_refusal_of fault }
 {
@@ -487,7 +408,7 @@ fn write_refusal<'a>(fault: WriteFault) -> Refusal<'a>
     }
 }
 
-// The refusal of a report on the traces of these files.
+// The refusal for the traces of these files, if their output wasn't written whole.
 fn report_refusal<'a>(files: &[&'a str], fault: ReportFault) -> Refusal<'a>
     ensures { IsReportRefusal (map (λ file. file.now) files.entry.now) fault result }
 {

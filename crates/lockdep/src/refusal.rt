@@ -86,8 +86,8 @@ fn tell<W: Write>(w: &mut W, refusal: Refusal<'_>) -> Result<(), WriteFault>
     }
 }
 
-/// Writes the one line that says why the program refused, as `lockdep: a.txt: record 2: T2 BadRecord`, and answers the
-/// status. Takes no memory. Where the writer failed, a beginning of the line was written.
+/// Writes the one line that says why the program refused, as `lockdep: a.txt: record 2: T2 BadRecord`, and returns the
+/// status. Takes no memory. If the writer failed, how it failed is returned, and a beginning of the line was written.
 pub(crate) fn refuse<W: Write>(w: &mut W, refusal: Refusal<'_>) -> Result<u8, WriteFault>
     ensures status { IfOk result (λ status. status ≡ 2) }
     ensures line { OnOk result (Appends (W.contents w.old) (W.contents w.new) (fault_line refusal.entry)) }

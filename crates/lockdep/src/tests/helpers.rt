@@ -1,8 +1,8 @@
-//! Traces as the tables of the tests have them, and what sessions say of them.
+//! Traces as the tables of the tests have them, and what sessions write of them.
 
 use crate::fault::ReportFault;
+use crate::output::Output;
 use crate::session::Session;
-use crate::wanted::Wanted;
 use ld_run::OpenGate;
 use std::alloc::{AllocError, Global};
 use std::process::Abort;
@@ -36,38 +36,15 @@ pub(crate) fn text_in(written: &[u8]) -> &str {
     str::from_utf8(written).unwrap_or("no UTF-8")
 }
 
-// Writes the wanted text of the session's traces. The first two come from files, and the others have no names.
-fn write_wanted(
-    rt: &(impl Threads + Wait + Sync + AllocGlobal),
-    session: Session,
-    wanted: Wanted,
-    workers: u16,
-    w: &mut Vec<u8>,
-) -> Result<bool, ReportFault> {
-    match wanted {
-        Wanted::Report => session.report(rt, rt.alloc(), workers, &OpenGate, w),
-        Wanted::Explanation => {
-            session.explain(rt, rt.alloc(), workers, &OpenGate, &["a.txt", "b.txt"], w)
-        }
-        Wanted::Json => {
-            session.explain_json(rt, rt.alloc(), workers, &OpenGate, &["a.txt", "b.txt"], w)
-        }
-        Wanted::Picture { findings } => {
-            session.graph(rt, rt.alloc(), workers, &OpenGate, findings, w)
-        }
-        Wanted::Condensed => session.condense(rt, rt.alloc(), workers, &OpenGate, w),
-    }
-}
-
-/// Asserts what the session, asked for this text by so many workers, returns and writes.
+/// Asserts what the session returns and writes, asked for this output by this number of workers.
 pub(crate) fn assert_text(
     rt: &(impl Threads + Wait + Sync + Abort + AllocGlobal),
     session: Session,
-    wanted: Wanted,
+    output: Output<'_>,
     workers: u16,
     (returned, text): (Result<bool, ReportFault>, &str),
 ) {
     let mut written = Vec::new(rt.alloc());
-    let got = write_wanted(rt, session, wanted, workers, &mut written);
+    let got = session.write(rt, rt.alloc(), workers, &OpenGate, output, &mut written);
     assert_eq!(rt; (got, text_in(written.as_slice())), (returned, text));
 }

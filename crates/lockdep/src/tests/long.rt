@@ -1,9 +1,9 @@
 //! Traces of many events or keys, and many traces: their reports, each by several numbers of workers.
 
 use crate::fault::ReportFault;
+use crate::output::Output;
 use crate::session::Session;
 use crate::tests::helpers::{assert_text, text_in};
-use crate::wanted::Wanted;
 use ld_run::RunFault;
 use ld_task::StepFault;
 use ld_text::digits_of;
@@ -51,7 +51,7 @@ struct Case<'t> {
     text: Long<'t>,
 }
 
-// Adds a trace to the session so many times.
+// Adds a trace to the session `copies` times.
 fn add_copies(session: &mut Session, trace: &[u8], copies: u16) -> Result<(), Fail> {
     for _ in 0..copies {
         session.add(trace)?;
@@ -89,7 +89,7 @@ static CASES: [Case<'_>; 10] = [
             "",
         ),
     },
-    // The same, with 16,400 events in each of four traces: so many that two workers really walk them. More than two: `tests/runs`.
+    // The same, with 16,400 events in each of four traces: enough for two workers to really walk them. More than two: `tests/runs`.
     Case {
         many: false,
         traces: &[
@@ -212,7 +212,7 @@ static CASES: [Case<'_>; 10] = [
     },
 ];
 
-// Asserts what the session of a case returns and writes with so many workers.
+// Asserts what the session of a case returns and writes with this number of workers.
 fn assert_case(
     rt: &(impl Threads + Wait + Sync + Abort + AllocGlobal),
     case: &Case<'_>,
@@ -221,7 +221,7 @@ fn assert_case(
     let session = session_of(rt.alloc(), case)?;
     let text = spelled(rt.alloc(), case.text)?;
     let wanted = (case.returned, text_in(text.as_slice()));
-    assert_text(rt, session, Wanted::Report, workers, wanted);
+    assert_text(rt, session, Output::Report, workers, wanted);
     Ok(())
 }
 

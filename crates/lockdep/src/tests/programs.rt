@@ -9,13 +9,13 @@ use std::rt::Files;
 use std::sync::Wait;
 use std::thread::Threads;
 
-// A run of the program: its words, its standard input, the calls at which its two outputs fail (none, if 0), its status (none, if it
-// couldn't write why it refused), and what it has written on the two outputs by then.
+// A run of the program: its words, its standard input, the calls at which its two outputs fail (none, if 0), its status, and what it
+// has written on the two outputs by then.
 type Run<'t> = (
     &'t [&'t str],
     &'t str,
     (usize, usize),
-    (Option<u8>, &'t str, &'t str),
+    (u8, &'t str, &'t str),
 );
 
 static RUNS: [Run<'_>; 12] = [
@@ -24,7 +24,7 @@ static RUNS: [Run<'_>; 12] = [
         "lockdep,1\nacq,A,0,w\nenter,hardirq\nacq,B,0,w\nrel,B,0\nleave\n",
         (0, 0),
         (
-            Some(0),
+            0,
             "traces 1\nevents 5\nkeys 2\ndependencies 0\nclean yes\nusage A/0 {+.+.}\nusage B/0 {-...}\n",
             "",
         ),
@@ -34,7 +34,7 @@ static RUNS: [Run<'_>; 12] = [
         "lockdep,1\nacq,A,0,w\nacq,A,0,rr\n",
         (0, 0),
         (
-            Some(1),
+            1,
             "traces 1\nevents 2\nkeys 1\ndependencies 1\nclean no\nusage A/0 {++++}\ncircle A/0 ER A/0\nbecause A/0 ER A/0\n",
             "",
         ),
@@ -43,59 +43,59 @@ static RUNS: [Run<'_>; 12] = [
         &["lockdep", "chains"],
         "lockdep,1\nrel,A,0\n",
         (0, 0),
-        (Some(2), "", "lockdep: stdin: record 2: S1 NotHeld\n"),
+        (2, "", "lockdep: stdin: record 2: S1 NotHeld\n"),
     ),
     // A caller needn't name the program, but a shell always does.
     (
         &[],
         "lockdep,1\n",
         (0, 0),
-        (Some(2), "", "lockdep: P1 BadCommandLine\n"),
+        (2, "", "lockdep: P1 BadCommandLine\n"),
     ),
     (
         &["lockdep", "check", "nofile"],
         "",
         (0, 0),
-        (Some(2), "", "lockdep: nofile: P2 CannotOpen\n"),
+        (2, "", "lockdep: nofile: P2 CannotOpen\n"),
     ),
     (
         &["lockdep", "check", "--workers", "0"],
         "lockdep,1\nacq,A,0,w\n",
         (0, 0),
-        (Some(2), "", "lockdep: N1 BadWorkers\n"),
+        (2, "", "lockdep: N1 BadWorkers\n"),
     ),
     (
         &["lockdep", "check", "--workers", "65"],
         "lockdep,1\nacq,A,0,w\n",
         (0, 0),
-        (Some(2), "", "lockdep: N1 BadWorkers\n"),
+        (2, "", "lockdep: N1 BadWorkers\n"),
     ),
     // Outputs that fail when they have taken a few bytes.
     (
         &["lockdep", "check"],
         "lockdep,1\nacq,A,0,w\n",
         (3, 0),
-        (Some(2), "tr", "lockdep: P3 Output\n"),
+        (2, "tr", "lockdep: P3 Output\n"),
     ),
     (
         &["lockdep", "chains"],
         "lockdep,1\nacq,A,0,w\n",
         (3, 0),
-        (Some(2), "ac", "lockdep: P3 Output\n"),
+        (2, "ac", "lockdep: P3 Output\n"),
     ),
     (
         &["lockdep", "help"],
         "",
         (3, 0),
-        (Some(2), "Ch", "lockdep: P3 Output\n"),
+        (2, "Ch", "lockdep: P3 Output\n"),
     ),
     (
         &["lockdep", "-V"],
         "",
         (3, 0),
-        (Some(2), "lo", "lockdep: P3 Output\n"),
+        (2, "lo", "lockdep: P3 Output\n"),
     ),
-    (&["lockdep"], "", (0, 9), (None, "", "lockdep:")),
+    (&["lockdep"], "", (0, 9), (2, "", "lockdep:")),
 ];
 
 // Asserts how a run ends whose outputs fail in this way.
@@ -106,7 +106,7 @@ fn assert_run(
 ) {
     let mut out = Narrow::new(rt.alloc(), out_fails_at, failure);
     let mut err = Narrow::new(rt.alloc(), err_fails_at, failure);
-    let status = program(rt, rt.alloc(), words, input.as_bytes(), &mut out, &mut err).ok();
+    let status = program(rt, rt.alloc(), words, input.as_bytes(), &mut out, &mut err);
     let (out, err) = (text_in(out.taken.as_slice()), text_in(err.taken.as_slice()));
     assert_eq!(rt; (status, out, err), ends, "{words:?}");
 }

@@ -1,9 +1,9 @@
 //! Traces that are refused in reading, and what is said of each refusal.
 
+use crate::output::Output;
 use crate::refusal::{Refusal, refuse};
 use crate::session::Session;
 use crate::tests::helpers::{assert_text, text_in};
-use crate::wanted::Wanted;
 use ld_run::{CondenseFault, RunFault, SurveyFault};
 use ld_task::StepFault;
 use ld_text::WriteFault;
@@ -50,7 +50,7 @@ fn traces_refused_in_reading(rt: HostRuntime) -> Result<(), Fail> {
         let (text, kind, at, report) = *reading;
         let mut session = Session::with_room(rt.alloc(), 2)?;
         assert_eq!(rt; session.add(text.as_bytes()), Err(TraceFault { kind, at }));
-        assert_text(&rt, session, Wanted::Report, 4, (Ok(true), report));
+        assert_text(&rt, session, Output::Report, 4, (Ok(true), report));
     }
     Ok(())
 }

@@ -1,7 +1,7 @@
 //! Whole reports of small traces, each by an example that was worked out by hand.
 
+use crate::output::Output;
 use crate::tests::helpers::{assert_text, session_of};
-use crate::wanted::Wanted;
 use std::test::Fail;
 
 // Traces, each with the version of its header and its records, and the report of them all.
@@ -35,7 +35,7 @@ static REPORTS: [(&[&str], &str); 35] = [
         &["1 acq,A,0,w acq,B,0,rr", "1 acq,B,0,w acq,A,0,w"],
         "traces 2\nevents 4\nkeys 2\ndependencies 2\nclean no\nusage A/0 {+.+.}\nusage B/0 {++++}\ncircle A/0 ER B/0\ncircle B/0 EN A/0\nbecause A/0 ER B/0 EN A/0\n",
     ),
-    // Two circles, of which the shorter is told, though the longer has the lesser key.
+    // Two circles, of which the shorter is spelled out, though the longer has the lesser key.
     (
         &[
             "1 acq,X,0,w acq,Y,0,w rel,Y,0 rel,X,0",
@@ -47,7 +47,7 @@ static REPORTS: [(&[&str], &str); 35] = [
         ],
         "traces 6\nevents 16\nkeys 6\ndependencies 6\nclean no\nusage A/0 {+.+.}\nusage B/0 {+.+.}\nusage C/0 {+.+.}\nusage D/0 {+.+.}\nusage X/0 {+.+.}\nusage Y/0 {+.+.}\ncircle A/0 EN B/0\ncircle B/0 EN C/0\ncircle C/0 EN A/0\ncircle X/0 EN Y/0\ncircle Y/0 EN X/0\nbecause X/0 EN Y/0 EN X/0\n",
     ),
-    // A circle is told from its least key on, whatever its number.
+    // A circle is spelled out from its least key on, whatever its number.
     (
         &[
             "1 acq,c,0,w acq,a,1,r",
@@ -224,7 +224,7 @@ fn reports_of_small_traces(rt: HostRuntime) -> Result<(), Fail> {
         let (traces, report) = *example;
         let session = session_of(rt.alloc(), traces)?;
         let returned = Ok(report.contains("clean yes"));
-        assert_text(&rt, session, Wanted::Report, 4, (returned, report));
+        assert_text(&rt, session, Output::Report, 4, (returned, report));
     }
     Ok(())
 }

@@ -1,8 +1,8 @@
 //! Whole explanations, pictures and condensed traces of small traces, of which `examples` has more, and traces that are refused.
 
 use crate::fault::ReportFault;
+use crate::output::Output;
 use crate::tests::helpers::{assert_text, session_of};
-use crate::wanted::Wanted;
 use ld_run::OpenGate;
 use ld_task::StepFault;
 use std::test::Fail;
@@ -20,44 +20,47 @@ const INVERSION: [&str; 3] = [
     "1 acq,B,0,w rel,B,0",
 ];
 
-// What is wanted of some traces, what is returned, and the text.
-static TEXTS: [(Wanted, &[&str], Result<bool, ReportFault>, &str); 12] = [
-    // A dependency off a circle isn't told.
+// The names of the first two traces. The others have none.
+const FILES: &[&str] = &["a.txt", "b.txt"];
+
+// An output, the traces, what is returned, and the text.
+static TEXTS: [(Output<'_>, &[&str], Result<bool, ReportFault>, &str); 12] = [
+    // A dependency off a circle isn't reported.
     (
-        Wanted::Explanation,
+        Output::Explanation { files: FILES },
         &CIRCLE,
         Ok(false),
         "findings 1\n\ncircle A\\/0 EN B/0 EN A\\/0\n  A\\/0 EN B/0: a.txt: record 3 takes B/0 w, with A\\/0 w held since record 2\n  B/0 EN A\\/0: b.txt: record 3 takes A\\/0 w, with B/0 w held since record 2\n  task 1 holds A\\/0 and waits for B/0\n  task 2 holds B/0 and waits for A\\/0\n",
     ),
     // A trace whose file has no name is called `stdin`.
     (
-        Wanted::Explanation,
+        Output::Explanation { files: FILES },
         &INVERSION,
         Ok(false),
         "findings 1\n\ninversion softirq A/0 B/0\n  A/0 EN B/0: b.txt: record 4 takes B/0 w, with A/0 w held since record 3\n  used in softirq: a.txt: record 3 takes A/0 w\n  used with softirqs on: stdin: record 2 takes B/0 w\n  task 1 holds B/0\n  task 2 holds A/0 and waits for B/0\n  a softirq comes in at task 1 and waits for A/0\n",
     ),
     (
-        Wanted::Explanation,
+        Output::Explanation { files: FILES },
         &["1 acq,A,0,w acq,B,0,w"],
         Ok(true),
         "findings 0\n",
     ),
     // What is on a circle is red, and what is on none is left out of findings.
     (
-        Wanted::Picture { findings: false },
+        Output::Picture { findings: false },
         &CIRCLE,
         Ok(false),
         "digraph lockdep {\n  node [shape=box];\n  \"A\\\\/0\" [label=\"A\\\\/0 {+.+.}\", color=red, fontcolor=red];\n  \"B/0\" [label=\"B/0 {+.+.}\", color=red, fontcolor=red];\n  \"C/0\" [label=\"C/0 {+.+.}\"];\n  \"A\\\\/0\" -> \"B/0\" [label=\"EN\", color=red, fontcolor=red];\n  \"A\\\\/0\" -> \"C/0\" [label=\"EN\"];\n  \"B/0\" -> \"A\\\\/0\" [label=\"EN\", color=red, fontcolor=red];\n}\n",
     ),
     (
-        Wanted::Picture { findings: true },
+        Output::Picture { findings: true },
         &CIRCLE,
         Ok(false),
         "digraph lockdep {\n  node [shape=box];\n  \"A\\\\/0\" [label=\"A\\\\/0 {+.+.}\", color=red, fontcolor=red];\n  \"B/0\" [label=\"B/0 {+.+.}\", color=red, fontcolor=red];\n  \"A\\\\/0\" -> \"B/0\" [label=\"EN\", color=red, fontcolor=red];\n  \"B/0\" -> \"A\\\\/0\" [label=\"EN\", color=red, fontcolor=red];\n}\n",
     ),
     // A double is joined to itself.
     (
-        Wanted::Picture { findings: true },
+        Output::Picture { findings: true },
         &[
             "1 enter,hardirq acq,L,0,w rel,L,0 leave",
             "1 acq,L,0,w rel,L,0",
@@ -67,14 +70,14 @@ static TEXTS: [(Wanted, &[&str], Result<bool, ReportFault>, &str); 12] = [
     ),
     // The halves of a circle that recursive readers break are condensed into one trace.
     (
-        Wanted::Condensed,
+        Output::Condensed,
         &["1 acq,B,0,w acq,A,0,rr", "1 acq,A,0,r acq,B,0,w"],
         Ok(true),
         "lockdep,1\noff,hardirq\nacq,A,0,rr\nacq,B,0,w\nrel,B,0\nrel,A,0\nacq,B,0,w\nacq,A,0,rr\nrel,A,0\nrel,B,0\non,hardirq\noff,softirq\nacq,A,0,rr\nrel,A,0\nacq,B,0,w\nrel,B,0\non,softirq\nacq,A,0,rr\nrel,A,0\nacq,B,0,w\nrel,B,0\n",
     ),
     // Of several traces that aren't well formed the first is named.
     (
-        Wanted::Report,
+        Output::Report,
         &["1 acq,B,0,w", "1 leave", "1 rel,B,0"],
         Err(ReportFault::Step {
             trace: 1,
@@ -84,7 +87,7 @@ static TEXTS: [(Wanted, &[&str], Result<bool, ReportFault>, &str); 12] = [
         "",
     ),
     (
-        Wanted::Report,
+        Output::Report,
         &["1 rel,A,0"],
         Err(ReportFault::Step {
             trace: 0,
@@ -94,7 +97,7 @@ static TEXTS: [(Wanted, &[&str], Result<bool, ReportFault>, &str); 12] = [
         "",
     ),
     (
-        Wanted::Explanation,
+        Output::Explanation { files: FILES },
         &["1 acq,A,0,w rel,A,0", "1 enter,hardirq acq,A,0,w leave"],
         Err(ReportFault::Step {
             trace: 1,
@@ -104,7 +107,7 @@ static TEXTS: [(Wanted, &[&str], Result<bool, ReportFault>, &str); 12] = [
         "",
     ),
     (
-        Wanted::Picture { findings: true },
+        Output::Picture { findings: true },
         &["1 enter,softirq off,hardirq acq,A,0,w on,hardirq on,softirq"],
         Err(ReportFault::Step {
             trace: 0,
@@ -114,7 +117,7 @@ static TEXTS: [(Wanted, &[&str], Result<bool, ReportFault>, &str); 12] = [
         "",
     ),
     (
-        Wanted::Condensed,
+        Output::Condensed,
         &["1 enter,hardirq enter,hardirq"],
         Err(ReportFault::Step {
             trace: 0,
@@ -128,9 +131,9 @@ static TEXTS: [(Wanted, &[&str], Result<bool, ReportFault>, &str); 12] = [
 #[test]
 fn texts_and_refusals_of_small_traces(rt: HostRuntime) -> Result<(), Fail> {
     for row in &TEXTS {
-        let (wanted, traces, returned, text) = *row;
+        let (output, traces, returned, text) = *row;
         let session = session_of(rt.alloc(), traces)?;
-        assert_text(&rt, session, wanted, 4, (returned, text));
+        assert_text(&rt, session, output, 4, (returned, text));
     }
     Ok(())
 }
@@ -138,8 +141,9 @@ fn texts_and_refusals_of_small_traces(rt: HostRuntime) -> Result<(), Fail> {
 #[test]
 fn json_of_a_circle_says_that_it_is_not_clean(rt: HostRuntime) -> Result<(), Fail> {
     let session = session_of(rt.alloc(), &CIRCLE)?;
+    let output = Output::Json { files: FILES };
     let mut written = Vec::new(rt.alloc());
-    let got = session.explain_json(&rt, rt.alloc(), 4, &OpenGate, &["a.txt"], &mut written);
+    let got = session.write(&rt, rt.alloc(), 4, &OpenGate, output, &mut written);
     assert_eq!(rt; (got, written.is_empty()), (Ok(false), false));
     Ok(())
 }

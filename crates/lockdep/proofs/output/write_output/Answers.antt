@@ -1,0 +1,97 @@
+use Rattle.std.proofs.Common.{List, ℕ, IfErr, OnOk, ap, length, map, subst, sum_by, sym}
+use Rattle.std.proofs.lemmas.Result.{IfErr-weaker, IfOk-weaker}
+use Rattle.std.specs.Io.KnownBytes.{Appends}
+use Rattle.ld_graph.specs.FactBits.{HasFact}
+use Rattle.ld_run.specs.TraceFacts.{TracesHave}
+use Rattle.lockdep.specs.Condensed.{IsCondensedOf, IsCondensedText}
+use Rattle.ld_text.specs.Explanation.{IsExplanation, Told}
+use Rattle.ld_text.specs.Json.{IsJson}
+use Rattle.lockdep.specs.Faults.{StopsSettled}
+use Rattle.ld_text.specs.Picture.{IsPicture}
+use Rattle.ld_text.specs.Report.{IsReport}
+use Rattle.lockdep.specs.Texts.{report, explanation, json, picture, condensed, IsTextOf, view_of}
+use Rattle.lockdep.specs.declared.output.Output.{Output}
+use Rattle.lockdep.proofs.CondensedLemmas.{IsCondensedText-same}
+use Rattle.ld_text.proofs.ExplanationLemmas.{IsExplanation-same}
+use Rattle.ld_text.proofs.JsonLemmas.{IsJson-same}
+use Rattle.lockdep.proofs.FaultLemmas.{StopsSettled-same, written-err, written-ok}
+use Rattle.ld_text.proofs.PictureLemmas.{IsPicture-same}
+use Rattle.ld_text.proofs.ReportLemmas.{IsReport-same}
+use Rattle.lockdep.proofs.output.write_output.Goals as goal
+
+pub returns-in-Report-clause-ok : goal.returns-in-Report-clause-ok
+returns-in-Report-clause-ok g c =
+    let traces = c.args.traces.now in
+    written-ok _ report (ap view_of c.in-Report.is) (IsReport (HasFact c.args.settled.now) (length traces) (sum_by length traces) c.args.keys.now.names)
+    c.args.traces.now c.args.keys.now.names (IsReport-same (HasFact c.args.settled.now) (TracesHave c.args.traces.now) c.requires.facts (length traces) (sum_by length traces) c.args.keys.now.names)
+    _ _ c.write_report.result c.map_err.result c.map_err.ensures.cases c.write_report.ensures.ok
+
+pub returns-in-Report-clause-err : goal.returns-in-Report-clause-err
+returns-in-Report-clause-err g c =
+    let traces = c.args.traces.now in
+    written-err _ report (ap view_of c.in-Report.is) (IsReport (HasFact c.args.settled.now) (length traces) (sum_by length traces) c.args.keys.now.names)
+    c.args.traces.now c.args.keys.now.names (IsReport-same (HasFact c.args.settled.now) (TracesHave c.args.traces.now) c.requires.facts (length traces) (sum_by length traces) c.args.keys.now.names)
+    _ _ c.write_report.result c.map_err.result c.map_err.ensures.cases c.write_report.ensures.err
+
+pub returns-in-Explanation-clause-ok : goal.returns-in-Explanation-clause-ok
+returns-in-Explanation-clause-ok g c =
+    let told : Told = record { traces = c.args.traces.now; names = c.args.keys.now.names; files = map (λ file. file.now) c.in-Explanation.files.now } in
+    written-ok _ (explanation told.files) (ap view_of c.in-Explanation.is) (IsExplanation (HasFact c.args.settled.now) told)
+    c.args.traces.now c.args.keys.now.names (IsExplanation-same (HasFact c.args.settled.now) (TracesHave c.args.traces.now) c.requires.facts told)
+    _ _ c.write_explanation.result c.map_err-in-Explanation.result c.map_err-in-Explanation.ensures.cases c.write_explanation.ensures.ok
+
+pub returns-in-Explanation-clause-err : goal.returns-in-Explanation-clause-err
+returns-in-Explanation-clause-err g c =
+    let told : Told = record { traces = c.args.traces.now; names = c.args.keys.now.names; files = map (λ file. file.now) c.in-Explanation.files.now } in
+    written-err _ (explanation told.files) (ap view_of c.in-Explanation.is) (IsExplanation (HasFact c.args.settled.now) told)
+    c.args.traces.now c.args.keys.now.names (IsExplanation-same (HasFact c.args.settled.now) (TracesHave c.args.traces.now) c.requires.facts told)
+    _ _ c.write_explanation.result c.map_err-in-Explanation.result c.map_err-in-Explanation.ensures.cases c.write_explanation.ensures.err
+
+pub returns-in-Json-clause-ok : goal.returns-in-Json-clause-ok
+returns-in-Json-clause-ok g c =
+    let told : Told = record { traces = c.args.traces.now; names = c.args.keys.now.names; files = map (λ file. file.now) c.in-Json.files.now } in
+    written-ok _ (json told.files) (ap view_of c.in-Json.is) (IsJson (HasFact c.args.settled.now) told)
+    c.args.traces.now c.args.keys.now.names (IsJson-same (HasFact c.args.settled.now) (TracesHave c.args.traces.now) c.requires.facts told)
+    _ _ c.write_json.result c.map_err-in-Json.result c.map_err-in-Json.ensures.cases c.write_json.ensures.ok
+
+pub returns-in-Json-clause-err : goal.returns-in-Json-clause-err
+returns-in-Json-clause-err g c =
+    let told : Told = record { traces = c.args.traces.now; names = c.args.keys.now.names; files = map (λ file. file.now) c.in-Json.files.now } in
+    written-err _ (json told.files) (ap view_of c.in-Json.is) (IsJson (HasFact c.args.settled.now) told)
+    c.args.traces.now c.args.keys.now.names (IsJson-same (HasFact c.args.settled.now) (TracesHave c.args.traces.now) c.requires.facts told)
+    _ _ c.write_json.result c.map_err-in-Json.result c.map_err-in-Json.ensures.cases c.write_json.ensures.err
+
+pub returns-in-Picture-clause-ok : goal.returns-in-Picture-clause-ok
+returns-in-Picture-clause-ok g c =
+    written-ok _ (picture c.in-Picture.findings) (ap view_of c.in-Picture.is) (IsPicture (HasFact c.args.settled.now) c.in-Picture.findings c.args.keys.now.names)
+    c.args.traces.now c.args.keys.now.names (IsPicture-same (HasFact c.args.settled.now) (TracesHave c.args.traces.now) c.requires.facts c.in-Picture.findings c.args.keys.now.names)
+    _ _ c.write_picture.result c.map_err-in-Picture.result c.map_err-in-Picture.ensures.cases c.write_picture.ensures.ok
+
+pub returns-in-Picture-clause-err : goal.returns-in-Picture-clause-err
+returns-in-Picture-clause-err g c =
+    written-err _ (picture c.in-Picture.findings) (ap view_of c.in-Picture.is) (IsPicture (HasFact c.args.settled.now) c.in-Picture.findings c.args.keys.now.names)
+    c.args.traces.now c.args.keys.now.names (IsPicture-same (HasFact c.args.settled.now) (TracesHave c.args.traces.now) c.requires.facts c.in-Picture.findings c.args.keys.now.names)
+    _ _ c.write_picture.result c.map_err-in-Picture.result c.map_err-in-Picture.ensures.cases c.write_picture.ensures.err
+
+pub returns-in-Condensed-clause-ok : goal.returns-in-Condensed-clause-ok
+returns-in-Condensed-clause-ok g c =
+    let traces = c.args.traces.now in
+    let names = c.args.keys.now.names in
+    subst (λ (output : Output). OnOk c.write_condensed.result ((text : List ℕ) × IsTextOf (view_of output) traces names text
+    × Appends (g.W.Write.contents c.args.w.now) (g.W.Write.contents c.write_condensed.new.w) text))
+    (sym c.in-Condensed.is)
+    (IfOk-weaker c.write_condensed.result _ _
+    (λ _ wrote. (wrote.0, IsCondensedText-same (HasFact c.args.settled.now) (TracesHave traces) c.requires.facts names wrote.0 wrote.1, wrote.2))
+    c.write_condensed.ensures.ok)
+
+pub returns-in-Condensed-clause-err : goal.returns-in-Condensed-clause-err
+returns-in-Condensed-clause-err g c =
+    let traces = c.args.traces.now in
+    let names = c.args.keys.now.names in
+    subst (λ (output : Output). IfErr c.write_condensed.result (StopsSettled (view_of output) (IsTextOf (view_of output) traces names)
+    (g.W.Write.contents c.args.w.now) (g.W.Write.contents c.write_condensed.new.w)))
+    (sym c.in-Condensed.is)
+    (IfErr-weaker c.write_condensed.result _ _
+    (StopsSettled-same condensed (IsCondensedText (HasFact c.args.settled.now) names) (IsCondensedOf traces names)
+    (IsCondensedText-same (HasFact c.args.settled.now) (TracesHave traces) c.requires.facts names) _ _)
+    c.write_condensed.ensures.err)

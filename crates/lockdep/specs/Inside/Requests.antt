@@ -1,0 +1,21 @@
+-- What a request asks for, with the names of the files as texts. No public clause speaks of these.
+use Rattle.std.specs.Prelude.{map, option_map}
+use Rattle.lockdep.specs.Program.{Asked, OutputOf, output_of, chains_of}
+use Rattle.lockdep.specs.Texts.{view_of}
+use Rattle.lockdep.specs.declared.request.OutputRequest.{OutputRequest}
+use Rattle.lockdep.specs.declared.request.Request.{Request}
+use Rattle.lockdep.specs.declared.request.Request.TheVariants.{Output, Chains}
+
+-- an output with its many, workers and files
+abbrev pub output_asked : OutputRequest → OutputOf
+output_asked r = record {
+  output = view_of r.output;
+  many = r.many;
+  workers = r.workers;
+  files = map (λ file. file.now) r.files.now;
+}
+
+-- that, or chains
+abbrev pub asked_of : Request → Asked
+asked_of (Output r) = output_of (output_asked r)
+asked_of (Chains file) = chains_of (option_map (λ word. word.now) file)
