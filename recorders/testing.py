@@ -4,6 +4,7 @@ import difflib
 import os
 import re
 import shutil
+import signal
 import subprocess
 import sys
 
@@ -14,6 +15,8 @@ lockdep = os.environ.get("LOCKDEP", os.path.join(top, "lockdep"))
 has_compiler = shutil.which(os.environ.get("CC", "cc")) is not None
 LIMIT = 60  # of one program with its recording, in seconds
 counts = {True: 0, False: 0}
+# A shell that starts a test in the background lets it ignore SIGINT, and so all that it starts.
+signal.signal(signal.SIGINT, signal.default_int_handler)
 
 
 def same(what, wanted, got):
