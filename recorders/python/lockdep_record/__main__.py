@@ -28,13 +28,14 @@ class Python:
 
     name, called, usage = "python", "python3 -m lockdep_record", USAGE
     is_python, is_command_next = True, False
+    is_chosen = True  # by the user, and not by `lockdep run`
 
     def takes(self, word, words):
         """Whether a word is one of this recorder's own options: each of them ends the options."""
         if word == "--command":
             if not words:
                 raise command.Refusal("--command needs a command")
-            self.is_python = False
+            self.is_python, self.is_chosen = False, "LOCKDEP_RUN_HOME" not in os.environ
         elif word == "--either":
             self.is_python = not words or words[0].endswith((".py", ".pyz")) or not command.is_command(words[0])
         else:
