@@ -16,9 +16,11 @@ Usage: python3 -m lockdep_record [-o FOLDER] [--] [OPTIONS OF PYTHON] SCRIPT [WO
   --command COMMAND runs a command that isn't a Python script: every Python program that it starts is recorded
   --finish FOLDER   writes the traces of a recording whose recorder was killed
   --summary FOLDER  prints again what was recorded and what was left out. The status is 0 if nothing was left out, 1 if
-                    something was, and 2 if no lock was seen
+                    something was, and 2 if no lock of the program's own was seen
 
-The status is the program's, or 128 plus the signal's number if a signal ended it. Instead of 0 it is 2 if no lock was seen.
+The status is the program's, or 128 plus the signal's number if a signal ended it. Instead of 0 it is 2 if no lock of the program's own
+was seen, or if it started a Python that couldn't be recorded, as by -E.
+
 SIGHUP, SIGINT, SIGQUIT, SIGTERM, SIGUSR1 and SIGUSR2 are passed on to the program; its traces are written when it has ended.
 """
 

@@ -173,7 +173,7 @@ def record(folder, command, environment, then, is_chosen):
         signal.pthread_sigmask(signal.SIG_SETMASK, mask)
         os.execv(then, [then, "--end", folder.path, str(status)])
     seen = folder.say_what_was_seen()
-    return status or (2 if seen == 2 else 0)
+    return status or (2 if seen == 2 or folder.has_unreached() else 0)
 
 
 def value(words, option, what="a folder"):

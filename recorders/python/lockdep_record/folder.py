@@ -190,6 +190,10 @@ class Folder:
         except OSError:
             raise Refusal(self.unmade() if os.path.isfile(self.mark) else "%s has no recording" % self.path)
 
+    def has_unreached(self):
+        """Whether a program that was started couldn't be recorded."""
+        return any(line.startswith("unreached-runs ") for line in self.summary())
+
     def say_what_was_seen(self):
         """Prints what was recorded and what was left out. Returns 0, 1 if something was left out, and 2 if no lock was seen."""
         lines = self.summary()

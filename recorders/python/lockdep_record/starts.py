@@ -136,7 +136,7 @@ def note_shell(text, cwd, environment):
                 note_passed(command, cwd, environment, is_exact, before != "&&")
             command, before, skips = [], word, False
         elif word.strip("<>&|") == "":
-            skips = True
+            skips, is_exact = True, is_exact and not command[-1:] == ["2"]  # (which may be a part of `2>file`)
         elif skips:
             skips = False
         else:
