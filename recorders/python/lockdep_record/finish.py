@@ -152,9 +152,9 @@ def start_lines(starts, texts):
     """Starts as lines of SUMMARY, with how often there was each."""
     counts = {}
     for start in starts:
-        line = start.text() + "%s", texts.get(start.reason, "")
+        line = start.text(), texts.get(start.reason)
         counts[line] = counts.get(line, 0) + 1
-    return ["    " + text % ", %d time%s" % (count, "" if count == 1 else "s") + (": " + why if why else "")
+    return ["    %s, %d time%s%s" % (text, count, "" if count == 1 else "s", ": " + why if why else "")
             for (text, why), count in counts.items()]
 
 

@@ -95,7 +95,7 @@ class Folder:
     def prepare(self, is_chosen):
         """Prepares the folder for a recording. Files that are in the way are left alone, and if nothing can be written there, nothing
         is left beside them."""
-        was_there = [path for path in (self.path, self.list) if os.path.lexists(path)]
+        was_there = [path for path in (self.path, self.list, self.raw) if os.path.lexists(path)]
         try:
             self.lock()
             self.look_for_others()
@@ -129,7 +129,8 @@ class Folder:
 
     def drop_made(self, was_there):
         """Takes away what was made for a recording that can't begin."""
-        shutil.rmtree(self.raw, ignore_errors=True)
+        if self.raw not in was_there:
+            shutil.rmtree(self.raw, ignore_errors=True)
         if self.list not in was_there and os.path.lexists(self.list):
             os.unlink(self.list)
         if self.path not in was_there and os.path.isdir(self.path) and not os.listdir(self.path):

@@ -18,6 +18,7 @@ SHELLS = frozenset(("sh", "bash", "dash", "ksh", "zsh"))
 PASSES_ON = frozenset(("env", "exec", "nice", "nohup", "setsid", "stdbuf", "time", "timeout"))  # what starts the program that it names
 NO_PROGRAM = frozenset(("-V", "-VV", "--version", "-h", "-?", "--help", "--help-env", "--help-xoptions", "--help-all"))
 STOPS = frozenset(("if", "while", "until", "for", "case", "{", "function", "[[", "!"))
+HOOK = os.path.join(recording.own_folder, "hook")
 known = {}
 
 
@@ -82,8 +83,13 @@ def why_not(words, line, environment):
                 break
         if word[1] in "cm":
             break
-    names = {os.fsdecode(name) for name in environment} if environment is not None else os.environ
-    return "environment" if "LOCKDEP_PYTHON" not in names or "PYTHONPATH" not in names else "-"
+    return "-" if can_load(os.environ if environment is None else environment) else "environment"
+
+
+def can_load(environment):
+    """Whether a Python with this environment loads the recorder."""
+    values = {os.fsdecode(name): os.fsdecode(value) for name, value in environment.items()}
+    return "LOCKDEP_PYTHON" in values and HOOK in values.get("PYTHONPATH", "").split(os.pathsep)
 
 
 def note(name, words, cwd, environment, is_exact=True, is_sure=True):
