@@ -133,6 +133,13 @@ def try_filled(words, name, room):
             has(what + ": the program's status", "this run isn't judged (the command ended with status 7)", done.said)
 
 
+def try_filled_once(words):
+    """Records a program that fills the disk, takes locks in new orders, and makes room again: that isn't lost in silence."""
+    done = Run(["unshare", "-m", "sh", "-c", FILLED, "0"] + words)
+    same("a disk that was full for a while: the program's output", "over", done.out.split("\n")[0])
+    has("a disk that was full for a while", "left out: 1 process whose recording couldn't be written to its end", done.said)
+
+
 def run_parts(parts):
     """Runs the parts that the command line names, or all, in a separate folder, and ends with the counts."""
     for part in parts:
