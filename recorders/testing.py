@@ -13,7 +13,7 @@ name_of_recorder = "recorders/" + os.path.basename(script)
 top = os.path.dirname(os.path.dirname(script))
 lockdep = os.environ.get("LOCKDEP", os.path.join(top, "lockdep"))
 has_compiler = shutil.which(os.environ.get("CC", "cc")) is not None
-LIMIT = 60  # of one program with its recording, in seconds
+LIMIT = 300  # of one program with its recording, in seconds: long enough beside others that use all processors
 counts = {True: 0, False: 0}
 # A shell that starts a test in the background lets it ignore SIGINT, and so all that it starts.
 signal.signal(signal.SIGINT, signal.default_int_handler)
@@ -36,13 +36,26 @@ def has(what, wanted, text):
         print("%s: %s: no %r in %s" % (name_of_recorder, what, wanted, text))
 
 
+def end_group(child):
+    """Ends a process and all that it started, which would keep its output open."""
+    try:
+        os.killpg(child.pid, signal.SIGKILL)
+    except ProcessLookupError:
+        pass
+
+
 class Run:
-    """What a command wrote, and its status."""
+    """What a command wrote, and its status. After LIMIT it is ended, with all that it started."""
 
     def __init__(self, words, **named):
-        done = subprocess.run(words, stdin=subprocess.DEVNULL, stdout=subprocess.PIPE, stderr=subprocess.PIPE,
-                timeout=LIMIT, **named)
-        self.status, self.out, self.said = done.returncode, done.stdout.decode(), done.stderr.decode()
+        child = subprocess.Popen(words, stdin=subprocess.DEVNULL, stdout=subprocess.PIPE, stderr=subprocess.PIPE, start_new_session=True,
+                                 **named)
+        try:
+            out, said = child.communicate(timeout=LIMIT)
+        except subprocess.TimeoutExpired:
+            end_group(child)
+            raise
+        self.status, self.out, self.said = child.returncode, out.decode(), said.decode()
 
 
 def contents(path):
@@ -92,6 +105,41 @@ def explained(folder):
             stdout=subprocess.PIPE,
                           stderr=subprocess.PIPE, timeout=LIMIT)
     return done.stdout.decode()
+
+
+def can_mount():
+    """Whether a small disk can be mounted, for one command."""
+    try:
+        return os.geteuid() == 0 and Run(["unshare", "-m", "mount", "-t", "tmpfs", "-o", "size=4k", "tmpfs", "/mnt"]).status == 0
+    except OSError:
+        return False
+
+
+FILLED = "mount -t tmpfs -o size=256k tmpfs full && head -c $0 /dev/zero >full/fill 2>/dev/null; \"$@\"; echo $? $(ls -A full)"
+
+
+def try_filled(words, name, room):
+    """Records a program, which says a word, has one finding and ends with status 7, into a folder on a disk that is full but for
+    that many kilobytes or fewer."""
+    os.makedirs("full", exist_ok=True)
+    for filled in range(256, 255 - room, -8):
+        done = Run(["unshare", "-m", "sh", "-c", FILLED, "%dk" % filled] + words)
+        what = "a disk of 256k with %dk" % filled
+        has(what + ": what is said", name + "no space left in full/traces", done.said)
+        same(what + ": how often", 1, done.said.count("no space left"))
+        same(what + ": no traceback", False, "Traceback" in done.said or "Exception" in done.said)
+        same(what + ": status", "2", done.out.splitlines()[-1].split()[0])
+        if "over" not in done.out:
+            same(what + ": what is there", "2 fill\n", done.out)
+        elif "judged" in done.said:
+            has(what + ": the program's status", "this run isn't judged (the command ended with status 7)", done.said)
+
+
+def try_filled_once(words):
+    """Records a program that fills the disk, takes locks in new orders, and makes room again: that isn't lost in silence."""
+    done = Run(["unshare", "-m", "sh", "-c", FILLED, "0"] + words)
+    same("a disk that was full for a while: the program's output", "over", done.out.split("\n")[0])
+    has("a disk that was full for a while", "left out: 1 process whose recording couldn't be written to its end", done.said)
 
 
 def run_parts(parts):

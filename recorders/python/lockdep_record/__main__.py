@@ -16,9 +16,11 @@ Usage: python3 -m lockdep_record [-o FOLDER] [--] [OPTIONS OF PYTHON] SCRIPT [WO
   --command COMMAND runs a command that isn't a Python script: every Python program that it starts is recorded
   --finish FOLDER   writes the traces of a recording whose recorder was killed
   --summary FOLDER  prints again what was recorded and what was left out. The status is 0 if nothing was left out, 1 if
-                    something was, and 2 if no lock was seen
+                    something was, and 2 if no lock of the program's own was seen
 
-The status is the program's, or 128 plus the signal's number if a signal ended it. Instead of 0 it is 2 if no lock was seen.
+The status is the program's, or 128 plus the signal's number if a signal ended it. Instead of 0 it is 2 if no lock of the program's own
+was seen, or if it started a Python that couldn't be recorded, as by -E.
+
 SIGHUP, SIGINT, SIGQUIT, SIGTERM, SIGUSR1 and SIGUSR2 are passed on to the program; its traces are written when it has ended.
 """
 
@@ -28,13 +30,14 @@ class Python:
 
     name, called, usage = "python", "python3 -m lockdep_record", USAGE
     is_python, is_command_next = True, False
+    is_chosen = True  # by the user, and not by `lockdep run`
 
     def takes(self, word, words):
         """Whether a word is one of this recorder's own options: each of them ends the options."""
         if word == "--command":
             if not words:
                 raise command.Refusal("--command needs a command")
-            self.is_python = False
+            self.is_python, self.is_chosen = False, "LOCKDEP_RUN_HOME" not in os.environ
         elif word == "--either":
             self.is_python = not words or words[0].endswith((".py", ".pyz")) or not command.is_command(words[0])
         else:

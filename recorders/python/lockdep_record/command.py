@@ -4,7 +4,7 @@ import signal
 import sys
 from time import monotonic, sleep
 
-from lockdep_record.folder import Folder, Refusal, say
+from lockdep_record.folder import Folder, Refusal, say_refusal
 
 PASSED_ON = (signal.SIGHUP, signal.SIGINT, signal.SIGQUIT, signal.SIGTERM, signal.SIGUSR1, signal.SIGUSR2)
 FROM_KERNEL = 128  # the code of a signal that a terminal sends
@@ -146,14 +146,26 @@ def say_it_runs():
               file=sys.stderr, flush=True)
 
 
-def record(folder, command, environment, then):
+def command_end(status):
+    """How the command ended, unless well."""
+    if not status:
+        return ""
+    name = signal.Signals(status - 128).name if status - 128 in signal.valid_signals() else None
+    return " (the command ended with status %d%s)" % (status, ", as by " + name if name else "")
+
+
+def record(folder, command, environment, then, is_chosen):
     """Records a command in an environment. Returns its status, or becomes what runs after it."""
-    folder.prepare()
+    folder.prepare(is_chosen)
     block_signals()
     witness = Witness()
     child = start(command, environment)
     status = wait_for(child, witness)
-    folder.finish()
+    try:
+        folder.finish()
+    except Refusal as refusal:
+        say_refusal(str(refusal))
+        raise Refusal("this run isn't judged" + command_end(status))
     if then:
         folder.file.close()
         for number in PASSED_ON:
@@ -161,7 +173,7 @@ def record(folder, command, environment, then):
         signal.pthread_sigmask(signal.SIG_SETMASK, mask)
         os.execv(then, [then, "--end", folder.path, str(status)])
     seen = folder.say_what_was_seen()
-    return status or (2 if seen == 2 else 0)
+    return status or (2 if seen == 2 or folder.has_unreached() else 0)
 
 
 def value(words, option, what="a folder"):
@@ -205,7 +217,7 @@ def do(words, recorder):
     if not words:
         raise Refusal("which program? `%s --help` says how to call this" % recorder.called)
     folder = folder_of(path, recorder.name)
-    return record(folder, recorder.command(words), dict(os.environ, **recorder.environment(folder.raw)), then)
+    return record(folder, recorder.command(words), dict(os.environ, **recorder.environment(folder.raw)), then, recorder.is_chosen)
 
 
 def main(recorder):
@@ -213,5 +225,5 @@ def main(recorder):
     try:
         sys.exit(do(sys.argv[1:], recorder))
     except Refusal as refusal:
-        say(str(refusal))
+        say_refusal(str(refusal))
         sys.exit(2)

@@ -1,15 +1,30 @@
 """Makes traces from what the processes of a recording wrote (`recording` describes the format of their files)."""
 import os
+import re
 from binascii import crc32
 
 MOST_NAME, MOST_KEYS, MOST_TRACES, MOST_ALIKE = 53, 8192, 4096, 2
 RELEASE = 2
 WORDS = ("w", "tw", None, "r", "tr", "rr", "trr")  # of the modes; None is a release
+FILE = re.compile(r"[0-9]+-[0-9]+")  # the name of a process's file
+LIBRARY = "library"  # the kind of a class that the standard library makes for itself
 NOT_MADE = ("any object of", "the class object of")  # kinds of classes; all others are made somewhere
+
+LONGEST_COMMAND = 160
+
+# Why a Python wasn't recorded.
+WHY_NOT = {
+    "-": "it wrote nothing, as where it ended at once",
+    "-E": "it is started with -E, which hides the recorder from it",
+    "-I": "it is started with -I, which hides the recorder from it",
+    "-S": "it is started with -S, which hides the recorder from it",
+    "environment": "it is started without the environment that loads the recorder",
+}
 
 # What is counted, in the order of SUMMARY: its name there, and what it means.
 LOSSES = (
     ("unrewritten", "classes of the program's that couldn't be rewritten: what their code does with locks was not recorded"),
+    ("multiprocessing", "locks of multiprocessing: these weren't looked at, so an order among them, or of them with others, is missing"),
     ("unwritten", "processes whose recording couldn't be written to its end: an order among them may be missing"),
     ("full-traces", "acquisitions after a thread's first 1,000,000 events: an order among them may be missing"),
     ("beyond-classes", "acquisitions of classes beyond 8,192: no order that they are part of was recorded"),
@@ -42,8 +57,11 @@ class Process:
     def __init__(self, number, names):
         self.number, self.names, self.pid, self.began = number, names, 0, 0
         self.classes, self.keys, self.places, self.tasks, self.counts = {}, {}, {}, {}, {}
+        self.words, self.starts = None, []
 
     def read(self, path):
+        if os.path.exists(path + ".lost") or not os.path.getsize(path):
+            self.counts["unwritten"] = 1
         with open(path, encoding="utf-8", errors="replace") as file:
             for line in file:
                 if line.endswith("\n"):
@@ -68,6 +86,10 @@ class Process:
         elif kind == "S":
             name, count = rest.split()
             self.counts[name] = int(count)
+        elif kind == "L":
+            self.words = [word for word in rest.split("\t") if word]
+        elif kind == "X":
+            self.starts.append(Start(*rest.split(" ", 3)))
         else:
             self.take_record(kind, list(map(int, rest.split())))
 
@@ -93,6 +115,47 @@ class Process:
         may come after its lock in the file, or be missing if the process was killed."""
         of, ordinal = self.keys.get(number, (0, 0))
         return self.classes.get(of) or self.names.class_of("unknown", "?:0 ?", ""), ordinal, self.number
+
+
+class Start:
+    """A program that a recorded process started."""
+
+    def __init__(self, kind, is_exact, reason, rest):
+        self.kind, self.reason = kind, reason
+        self.path, *words = rest.split("\t")
+        self.words = [word for word in words if word] if is_exact == "1" else []
+
+    def is_of(self, words):
+        """Whether a process that these words started may be this one. A script's interpreter comes before the words of its start."""
+        return not self.words or words[-len(self.words):] == self.words
+
+    def text(self):
+        name = " ".join([self.path] + self.words)
+        return name if len(name) <= LONGEST_COMMAND else name[:LONGEST_COMMAND - 3] + "..."
+
+
+def unreached(processes):
+    """The starts of Pythons that weren't recorded: those that none of the processes is. What is known best comes first."""
+    left = [process.words for process in processes if process.words is not None]
+    starts = [start for process in processes for start in process.starts if start.kind == "python"]
+    found = []
+    for start in sorted(starts, key=lambda start: -len(start.words)):
+        own = next((words for words in left if start.is_of(words)), None) if start.reason == "-" else None
+        if own is None:
+            found.append(start)
+        else:
+            left.remove(own)
+    return found
+
+
+def start_lines(starts, texts):
+    """Starts as lines of SUMMARY, with how often there was each."""
+    counts = {}
+    for start in starts:
+        line = start.text(), texts.get(start.reason)
+        counts[line] = counts.get(line, 0) + 1
+    return ["    %s, %d time%s%s" % (text, count, "" if count == 1 else "s", ": " + why if why else "")
+            for (text, why), count in counts.items()]
 
 
 class Class:
@@ -194,7 +257,7 @@ def began(path):
 def read_all(raw):
     """The processes of a recording, those that began first coming first."""
     names, processes = Names(), []
-    for path in sorted((os.path.join(raw, name) for name in os.listdir(raw) if name[:1].isdigit()), key=began):
+    for path in sorted((os.path.join(raw, name) for name in os.listdir(raw) if FILE.fullmatch(name)), key=began):
         process = Process(len(processes) + 1, names)
         process.read(path)
         processes.append(process)
@@ -207,11 +270,16 @@ def write_lines(path, lines):
         file.write("".join(line + "\n" for line in lines))
 
 
+# In SUMMARY, the line before programs that call locks of pthreads where these aren't what is looked for.
+PTHREAD_NOTE = "pthread-runs, not counted"
+
+
 class Summary:
     """The contents of SUMMARY."""
 
     def __init__(self):
         self.counts, self.threads, self.events, self.waiting, self.holding = {}, 0, 0, [], []
+        self.unreached, self.pthread = [], []
 
     def add(self, name, count):
         self.counts[name] = self.counts.get(name, 0) + count
@@ -227,7 +295,9 @@ class Summary:
             names = [trace.task.process.key(code >> 3)[0].name for code in codes]
             self.waiting.append("%s waited for %s, holding %s, until that was interrupted" % (name, names[-1], ", ".join(names[:-1])))
 
-    def lines(self, recorder, processes, classes):
+    def lines(self, recorder, processes, used, is_chosen):
+        """The lines. Programs with locks of other kinds count as left out unless the user chose this recorder."""
+        classes, is_library_only = len(used), all(each.kind == LIBRARY for each in used)
         operations = self.counts.get("operations", 0)
         lines = ["processes %d" % processes, "threads %d" % (self.threads + self.counts.get("threads-alike", 0)),
                  "operations %d" % operations, "events %d" % self.events, "classes %d" % classes]
@@ -236,6 +306,16 @@ class Summary:
                 lines += ["%s %d" % (name, len(notes))] + ["  " + note for note in notes]
         if not operations:
             lines.append("unseen %s-%s" % (recorder, "nothing" if processes else "off"))
+        elif classes and is_library_only:
+            lines += ["library-only %d" % classes, "  classes of the standard library alone: it makes and takes these locks for itself"]
+        if self.unreached:
+            lines += ["unreached-runs %d" % len(self.unreached),
+                      "  runs of programs that the recorder isn't loaded into: nothing of them was recorded"]
+            lines += start_lines(self.unreached, WHY_NOT)
+        if self.pthread:
+            lines += [PTHREAD_NOTE if is_chosen else "pthread-runs %d" % len(self.pthread),
+                      "  runs of programs that call locks of pthreads: these weren't looked at"]
+            lines += start_lines(self.pthread, {})
         for name, meaning in LOSSES:
             if self.counts.get(name):
                 lines += ["%s %d" % (name, self.counts[name]), "  " + meaning]
@@ -266,10 +346,12 @@ def is_running(pid):
         return False
 
 
-def write_traces(raw, folder, recorder):
+def write_traces(raw, folder, recorder, is_chosen):
     """Writes the traces of a recording, its classes and its SUMMARY. Both recorders that use this write such files."""
     names, processes = read_all(raw)
     summary = Summary()
+    summary.unreached = unreached(processes)
+    summary.pthread = [start for process in processes for start in process.starts if start.kind == "pthread"]
     for process in processes:
         for name, count in process.counts.items():
             summary.add({"alike": "threads-alike"}.get(name, name), count)
@@ -290,4 +372,4 @@ def write_traces(raw, folder, recorder):
             write_lines(path + ".places", trace.places)
     write_lines(os.path.join(folder, "classes"), ["%s\t%s\t-\t%s" % (each.name, each.place, each.kind if each.kind in NOT_MADE else "made in")
                                                 for each in names.used])
-    write_lines(os.path.join(folder, "SUMMARY"), summary.lines(recorder, len(processes), len(names.used)))
+    write_lines(os.path.join(folder, "SUMMARY"), summary.lines(recorder, len(processes), names.used, is_chosen))

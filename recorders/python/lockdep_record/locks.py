@@ -9,7 +9,7 @@ import sys
 import threading
 from importlib import _bootstrap
 
-from . import recording
+from . import recording, starts
 from .recording import TRY, WRITE, Lock as Record, break_off, failed_try, gave, getframe, grant, made_at, not_granted, took, wish
 
 # How long a thread waits for a lock before that is written, in seconds. In a deadlock it waits longer.
@@ -339,23 +339,57 @@ def replace_asyncio(module):
             self._locked = True
             took(record, WRITE)
             return True
-        wish(record, False)
-        try:
-            is_taken = await real_acquire(self)
-        except GeneratorExit:  # it is not the task itself that runs this: its end says what it waited for
-            raise
-        except BaseException:
-            (not_granted if has_limit(getframe(0)) else break_off)(record)
-            raise
-        if not grant(record):
-            took(record, WRITE)
-        return is_taken
+        return await wait_in_loop(record, self, real_acquire)
 
     def release(self):
         gave(self._lockdep_record, self)
         real_release(self)
 
     put_in_place(real, __init__, acquire, release)
+    replace_asyncio_semaphores(module.Semaphore)
+
+
+def replace_asyncio_semaphores(real):
+    """Notes what is done with semaphores of value 1 of asyncio, and with those of its bounded ones, which are derived from them."""
+    make, real_acquire, real_release = real.__init__, real.acquire, real.release
+
+    def __init__(self, value=1, *words, **named):
+        make(self, value, *words, **named)
+        if value == 1:
+            self._lockdep_record = Record(made_at(getframe(0).f_back, "asyncio.Semaphore"))
+
+    async def acquire(self):
+        record = vars(self).get("_lockdep_record")
+        if record is None:
+            return await real_acquire(self)
+        if not self.locked() and not getattr(self, "_wakeup_scheduled", False):  # (as in Python 3.10)
+            self._value -= 1
+            took(record, WRITE)
+            return True
+        return await wait_in_loop(record, self, real_acquire)
+
+    def release(self):
+        record = vars(self).get("_lockdep_record")
+        if record is not None:
+            gave(record, self)
+        real_release(self)
+
+    put_in_place(real, __init__, acquire, release)
+
+
+async def wait_in_loop(record, real, real_acquire):
+    """Waits for a lock of asyncio that isn't free, in its `acquire`."""
+    wish(record, False)
+    try:
+        is_taken = await real_acquire(real)
+    except GeneratorExit:  # it is not the task itself that runs this: its end says what it waited for
+        raise
+    except BaseException:
+        (not_granted if has_limit(getframe(0).f_back) else break_off)(record)
+        raise
+    if not grant(record):
+        took(record, WRITE)
+    return is_taken
 
 
 def has_limit(frame):
@@ -382,21 +416,56 @@ def put_in_place(real, *functions):
         setattr(real, own.__name__, own)
 
 
+# ---- The locks of multiprocessing, which are only counted.
+
+def count_multiprocessing(module):
+    """Counts the locks that the program itself makes of `multiprocessing.synchronize`. Processes share them, and one may give back
+    what another took, so what is done with them isn't recorded."""
+    real = module.SemLock
+    make = real.__init__
+    inner = {each.__init__.__code__ for each in (module.Event, module.Barrier)}
+
+    def __init__(self, kind, value, *words, **named):
+        make(self, kind, value, *words, **named)
+        if value == 1 and is_made_by_program(getframe(0).f_back, inner):
+            recording.process.counts["multiprocessing"] += 1
+            recording.put(recording.count_lines())
+
+    put_in_place(real, __init__)
+
+
+def is_made_by_program(frame, inner):
+    """Whether `multiprocessing` makes a lock here because the program asks for one, and not as a part of something else."""
+    while frame is not None and frame.f_globals.get("__name__") in ("multiprocessing.synchronize", "multiprocessing.context"):
+        if frame.f_code in inner:
+            return False
+        frame = frame.f_back
+    return frame is not None and recording.kind_of(frame.f_code.co_filename) == recording.PLAIN
+
+
+# ---- Modules that are loaded later.
+
 class Finder:
-    """Waits for `asyncio.locks` to be loaded, and then removes itself."""
+    """Waits for modules to be loaded, and removes itself when all of them are."""
+
+    awaited = {"asyncio.locks": replace_asyncio, "multiprocessing.synchronize": count_multiprocessing}
 
     @staticmethod
     def find_spec(name, path=None, target=None):
-        if name != "asyncio.locks":
+        replace = Finder.awaited.pop(name, None)
+        if replace is None:
             return None
-        sys.meta_path.remove(Finder)
+        if not Finder.awaited:
+            sys.meta_path.remove(Finder)
         spec = _bootstrap._find_spec(name, path, target)
+        if spec is None:
+            return None
         run = spec.loader.exec_module
 
         def exec_module(module):
             del spec.loader.exec_module
             run(module)
-            replace_asyncio(module)
+            replace(module)
         spec.loader.exec_module = exec_module
         return spec
 
@@ -480,4 +549,5 @@ def begin(folder, is_fork_server):
     replace_locks()
     replace_exit()
     sys.meta_path.insert(0, Finder)
+    starts.begin()
     atexit.register(recording.end_process)

@@ -14,7 +14,11 @@ is opened for each write, so that the program has no open file that it doesn't k
     E task                                              the task has ended
     I task code code...                                 it waited for the last lock, with the others held, just before the process ended,
                                                         till an error broke that off
-    S name count                                        what was counted so far"""
+    S name count                                        what was counted so far
+    L word word...                                      the words that this process was started by, unless another one forked it
+    X kind is-told reason path word word...             a program that it starts (`starts`)
+
+A file PROCESS.lost, which is empty, is there if the file of that process couldn't be written to its end."""
 import os
 import sys
 os.register_at_fork(after_in_child=lambda: begin_in_child())  # before that of threading
@@ -62,6 +66,12 @@ def kind_of(name):
 
 
 is_typed = False
+
+
+def is_library_own(chain):
+    """Whether what is made here is the standard library's: made in a file of that, or in one that is frozen into Python."""
+    name = chain[0][0].co_filename if chain else ""
+    return kinds.get(name) == LIBRARY and (name[:1] != "<" or name.startswith("<frozen "))
 
 
 def chain_of(frame):
@@ -177,7 +187,7 @@ def made_at(frame, kind):
         with class_lock:
             made = classes.get(key)
             if made is None:
-                made = classes[key] = Made(len(classes) + 1, name, chain, kind)
+                made = classes[key] = Made(len(classes) + 1, name, chain, "library" if is_library_own(chain) else kind)
     return made
 
 
@@ -653,7 +663,7 @@ class Process:
     def __init__(self, folder, is_left_out):
         self.folder, self.tasks, self.common = folder, set(), Way(None)
         self.counts = dict.fromkeys(("reentered", "beyond-held", "full-traces", "unseen-releases", "repeats", "retried-tries",
-                                     "interrupted", "alike", "operations"), 0)
+                                     "interrupted", "alike", "operations", "multiprocessing"), 0)
         self.told, self.written, self.like, self.task_count = {}, {}, {}, 0
         self.places, self.place_numbers, self.pid = {}, counting(1), os.getpid()
         self.broken_off = deque(maxlen=MOST_BROKEN_OFF)
@@ -667,7 +677,7 @@ class Process:
         try:
             os.chmod(self.path, 0o666)  # a program may drop its privileges
         except OSError:
-            self.is_off = True
+            give_up(self)
 
     def path_of(self, number):
         return os.path.join(self.folder, "%d-%d" % (self.pid, number))
@@ -687,7 +697,16 @@ def put_bytes(of, raw):
         finally:
             os.close(file)
     except OSError:
-        of.is_off = True
+        give_up(of)
+
+
+def give_up(of):
+    """The file of a process can't be written any more. That is noted by an empty file, for which even a full disk may have room."""
+    of.is_off = True
+    try:
+        os.close(os.open(of.path + ".lost", os.O_WRONLY | os.O_CREAT | os.O_CLOEXEC, 0o666))
+    except OSError:
+        pass
 
 
 def put(text):

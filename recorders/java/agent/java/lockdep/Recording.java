@@ -26,6 +26,7 @@ public final class Recording {
 
     private static Recording it;
 
+    private final File path;
     private final FileOutputStream file;
     private final ArrayList<Task> tasks = new ArrayList<>();
     private final HashMap<String, Integer> places = new HashMap<>();
@@ -39,8 +40,9 @@ public final class Recording {
     private int nextSwept;
     private boolean hasEnded;
 
-    private Recording(FileOutputStream file) {
-        this.file = file;
+    private Recording(File path) throws IOException {
+        this.path = path;
+        this.file = new FileOutputStream(path, true);
     }
 
     /** From here on this process is recorded, into a folder of the recordings of all processes. */
@@ -49,7 +51,7 @@ public final class Recording {
         int number = 0;
         File path = new File(folder, pid + "-" + number);
         while (!path.createNewFile()) path = new File(folder, pid + "-" + ++number);
-        Recording recording = new Recording(new FileOutputStream(path, true));
+        Recording recording = new Recording(path);
         recording.put("process " + pid + " " + System.currentTimeMillis() + "000000\n");
         sources = sourceFolders;
         it = recording;
@@ -135,6 +137,16 @@ public final class Recording {
         } catch (IOException error) {
             hasEnded = true;
             isOver = true;
+            noteLost();
+        }
+    }
+
+    /** Notes by an empty file, for which even a full disk may have room, that this one isn't written to its end. */
+    private void noteLost() {
+        try {
+            new File(path + ".lost").createNewFile();
+        } catch (IOException error) {
+            return;
         }
     }
 

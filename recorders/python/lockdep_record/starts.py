@@ -1,0 +1,179 @@
+"""Notes the programs that this process starts, so that those that aren't recorded can be named at the end: other Pythons, and programs
+that call pthread locks. What a shell is told to run by `-c` is looked at too, as far as that is plain. What other programs start isn't
+known here.
+
+`finish` knows whether a Python that was started is among those that were recorded: by the words that both have."""
+import os
+import sys
+
+from . import recording
+
+NOTED = frozenset(("subprocess.Popen", "os.exec", "os.posix_spawn", "os.system"))
+PYTHON, PTHREAD = "python", "pthread"
+MOST_WORDS, LONGEST_WORD = 32, 200  # of a command, how many of the last are noted, and how much of each
+MOST_READ = 8000000  # of a program's file: the names of what it calls lie near its beginning
+SYSTEM = ("/bin/", "/sbin/", "/lib", "/usr/bin/", "/usr/sbin/", "/usr/lib", "/usr/libexec/")
+CALLS = tuple(b"\0pthread_%s\0" % name for name in (b"mutex_lock", b"mutex_trylock", b"rwlock_rdlock", b"rwlock_wrlock", b"spin_lock"))
+SHELLS = frozenset(("sh", "bash", "dash", "ksh", "zsh"))
+PASSES_ON = frozenset(("env", "exec", "nice", "nohup", "setsid", "stdbuf", "time", "timeout"))  # what starts the program that it names
+NO_PROGRAM = frozenset(("-V", "-VV", "--version", "-h", "-?", "--help", "--help-env", "--help-xoptions", "--help-all"))
+STOPS = frozenset(("if", "while", "until", "for", "case", "{", "function", "[[", "!"))
+HOOK = os.path.join(recording.own_folder, "hook")
+known = {}
+
+
+def words_of(words):
+    """Words as they are noted."""
+    return "\t".join(recording.visible(os.fsdecode(word)[:LONGEST_WORD]) for word in list(words)[-MOST_WORDS:])
+
+
+def note_itself():
+    """Notes the words that started this process."""
+    with open("/proc/self/cmdline", "rb") as file:
+        words = file.read().split(b"\0")[:-1]
+    recording.put("L %s\n" % words_of(words))
+
+
+def file_of(name, cwd, environment):
+    """The path of the program that is started by a name, or None."""
+    name = os.fsdecode(name)
+    if "/" in name:
+        paths = [os.path.join(os.fsdecode(cwd) if cwd else "", name)]
+    else:
+        paths = [os.path.join(folder, name) for folder in os.get_exec_path(environment)]
+    for path in paths:
+        if os.path.isfile(path) and os.access(path, os.X_OK):
+            return os.path.abspath(path)
+    return None
+
+
+def is_python_name(path):
+    name = os.path.basename(path)
+    return name[:6] == "python" and not name[6:].strip("0123456789.")
+
+
+def kind_of(path):
+    """What is to be said of a program if it isn't recorded: PYTHON, a script of Python's with its first line, PTHREAD, or nothing."""
+    if is_python_name(path):
+        return PYTHON, ""
+    with open(path, "rb") as file:
+        first = file.read(200)
+        if first[:2] == b"#!":
+            line = first[2:].partition(b"\n")[0]
+            return (PYTHON, os.fsdecode(line)) if b"python" in line else (None, "")
+        is_noted = first[:4] == b"\x7fELF" and not os.path.realpath(path).startswith(SYSTEM)
+        content = first + file.read(MOST_READ) if is_noted else b""
+    return (PTHREAD, "") if any(call in content for call in CALLS) else (None, "")
+
+
+def why_not(words, line, environment):
+    """Why a Python that is started by these words, or by the first line of its script, can't be recorded, as far as that can be seen.
+    `none` if it runs no program at all."""
+    options = [os.fsdecode(word) for word in (line.split() if line else words)]
+    at = next((at for at, word in enumerate(options) if line and is_python_name(word)), 0)
+    for word in options[at + 1:]:
+        if word in NO_PROGRAM:
+            return "none"
+        if word[:1] != "-" or word[:2] in ("-", "--"):
+            break
+        for letter in word[1:]:
+            if letter in "EIS":
+                return "-" + letter
+            if letter in "cmWX":
+                break
+        if word[1] in "cm":
+            break
+    return "-" if can_load(os.environ if environment is None else environment) else "environment"
+
+
+def can_load(environment):
+    """Whether a Python with this environment loads the recorder."""
+    values = {os.fsdecode(name): os.fsdecode(value) for name, value in environment.items()}
+    return "LOCKDEP_PYTHON" in values and HOOK in values.get("PYTHONPATH", "").split(os.pathsep)
+
+
+def note(name, words, cwd, environment, is_exact=True, is_sure=True):
+    """A program is started. It may be so by a shell, whose words aren't exactly those that the program gets, or only if another
+    program has ended well."""
+    path = file_of(name, cwd, environment)
+    if path is None:
+        return
+    base = os.path.basename(path)
+    words = list(words)
+    if base in SHELLS:
+        if len(words) > 2 and os.fsdecode(words[1]) in ("-c", "-ec", "-ce", "-lc"):
+            note_shell(os.fsdecode(words[2]), cwd, environment)
+        return
+    if base in PASSES_ON:
+        return note_passed(words[1:], cwd, environment, is_exact, is_sure)
+    if path not in known:
+        known[path] = kind_of(path)
+    kind, line = known[path]
+    reason = why_not(words, line, environment) if kind is PYTHON else "-"
+    if kind is None or reason == "none" or (kind is PYTHON and reason == "-" and not is_sure):
+        return
+    recording.put("X %s %d %s %s\t%s\n" % (kind, is_exact, reason, recording.visible(path), words_of(words[1:])))
+
+
+def note_passed(words, cwd, environment, is_exact, is_sure):
+    """A program is started by one that only starts it: it is the first word that is one."""
+    for at, word in enumerate(words):
+        word = os.fsdecode(word)
+        if word == "-i":
+            environment = {"PATH": os.environ.get("PATH", os.defpath)}
+        if word[:1] != "-" and "=" not in word and file_of(word, cwd, environment):
+            return note(word, words[at:], cwd, environment, is_exact, is_sure)
+
+
+def note_shell(text, cwd, environment):
+    """A shell runs a text. Nothing is noted of what runs only if another program fails, or of what is more than commands."""
+    from shlex import shlex
+    lexer = shlex(text, posix=True, punctuation_chars=";()<>|&\n")
+    lexer.whitespace, lexer.whitespace_split, lexer.commenters = " \t\r", True, "#"
+    is_exact = not any(letter in text for letter in "$`*?~{[")
+    command, before, skips = [], ";", False
+    for word in list(lexer) + [";"]:
+        if word.strip(";()|&\n") == "":
+            if command[:1] and command[0] in STOPS:
+                return
+            if command[:1] == ["cd"] and len(command) == 2:
+                cwd = os.path.join(os.fsdecode(cwd) if cwd else "", command[1])
+            elif command and before != "||":
+                note_passed(command, cwd, environment, is_exact, before != "&&")
+            command, before, skips = [], word, False
+        elif word.strip("<>&|") == "":
+            skips, is_exact = True, is_exact and not command[-1:] == ["2"]  # (which may be a part of `2>file`)
+        elif skips:
+            skips = False
+        else:
+            command.append(word)
+
+
+def note_event(event, words):
+    """Something is started, as the hooks of `sys.addaudithook` hear of it. Errors never reach the program."""
+    try:
+        if recording.process is None or recording.process.is_off:
+            return
+        if event == "os.system":
+            note_shell(os.fsdecode(words[0]), None, None)
+        elif event == "subprocess.Popen":
+            note(words[0], words[1], words[2], words[3])
+        elif not is_of_popen(sys._getframe(2)):
+            note(words[0], words[1], None, words[2])
+    except Exception:
+        pass
+
+
+def is_of_popen(frame):
+    """Whether it is `subprocess` that starts a program by `os.posix_spawn`, which was noted before."""
+    return frame is not None and frame.f_globals.get("__name__") == "subprocess"
+
+
+def begin():
+    """Notes from here on what this process starts."""
+    note_itself()
+
+    def hears(event, words, noted=NOTED, note_event=note_event):
+        if event in noted:
+            note_event(event, words)
+    sys.addaudithook(hears)
