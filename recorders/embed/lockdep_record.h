@@ -192,6 +192,15 @@ extern "C" {
 #define LDR_FENCE() atomic_signal_fence(memory_order_seq_cst)
 #endif
 
+/* The first line of a trace, after a word by which `lockdep run` recognises a program with this code, stripped or not.
+   The compiler mustn't take the line apart. */
+#define LDR_MARK "ldr1 lockdep,2\n"
+#if defined __GNUC__
+#define LDR_KEEP(text) __asm__("" : "+r"(text))
+#else
+#define LDR_KEEP(text) ((void)0)
+#endif
+
 /* ---- Bytes. */
 
 /* Adds a text, up to an end; NULL is none. */
@@ -347,7 +356,9 @@ int ldr_begin(struct ldr_task *task, char *buffer, size_t size, ldr_put *put, vo
     if (task->trace.size < LDR_ROOM)
         return -1;
     task->ended = LDR_REASONS;
-    task->trace.used = (uint32_t)(ldr_text(buffer, "lockdep,2\n", NULL) - buffer);
+    const char *first = &LDR_MARK[5];
+    LDR_KEEP(first);
+    task->trace.used = (uint32_t)(ldr_text(buffer, first, NULL) - buffer);
     return 0;
 }
 
