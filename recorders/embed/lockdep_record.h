@@ -158,21 +158,24 @@ void ldr_end(struct ldr_task *task);
 
 #else
 
+/* The arguments are named, in a call that is never made, so that the compiler doesn't warn of anything as unused. */
+static inline int ldr_named(int first, ...) { return first; }
+#define LDR_NEVER(...) (0 && ldr_named(0, __VA_ARGS__))
 /* (a function, since a number alone would be a statement without effect) */
-static inline int ldr_nothing(void) { return 0; }
-#define ldr_begin(task, buffer, size, put, cookie) ldr_nothing()
-#define ldr_places(task, buffer, size, put, cookie) ((void)0)
-#define ldr_acquire_at(...) ((void)0)
-#define ldr_acquire(task, name, sub, mode) ((void)0)
-#define ldr_release(task, name, sub) ((void)0)
-#define ldr_enter(task, irq) ((void)0)
-#define ldr_leave(task) ((void)0)
-#define ldr_off(task, irq) ((void)0)
-#define ldr_on_at(...) ((void)0)
-#define ldr_on(task, irq) ((void)0)
-#define ldr_is_at_rest(task) false
-#define ldr_flush(task) ((void)0)
-#define ldr_end(task) ((void)0)
+static inline int ldr_nothing(int number) { return number; }
+#define ldr_begin(task, buffer, size, put, cookie) ldr_nothing(LDR_NEVER(task, buffer, size, put, cookie))
+#define ldr_places(task, buffer, size, put, cookie) ((void)LDR_NEVER(task, buffer, size, put, cookie))
+#define ldr_acquire_at(...) ((void)LDR_NEVER(__VA_ARGS__))
+#define ldr_acquire(task, name, sub, mode) ((void)LDR_NEVER(task, name, sub, mode))
+#define ldr_release(task, name, sub) ((void)LDR_NEVER(task, name, sub))
+#define ldr_enter(task, irq) ((void)LDR_NEVER(task, irq))
+#define ldr_leave(task) ((void)LDR_NEVER(task))
+#define ldr_off(task, irq) ((void)LDR_NEVER(task, irq))
+#define ldr_on_at(...) ((void)LDR_NEVER(__VA_ARGS__))
+#define ldr_on(task, irq) ((void)LDR_NEVER(task, irq))
+#define ldr_is_at_rest(task) LDR_NEVER(task)
+#define ldr_flush(task) ((void)LDR_NEVER(task))
+#define ldr_end(task) ((void)LDR_NEVER(task))
 
 #endif
 
