@@ -11,13 +11,14 @@
 
    Who calls. The calls for one task are made by that task, and by the interrupts that come in while it runs. An interrupt
    that comes in during such a call is left out with everything it does, and counted; so keep interrupts off around the
-   calls if you can. Calls for different tasks are independent.
+   calls if you can. Calls for different tasks are independent. A forked child begins tasks of its own, which write
+   elsewhere, before it takes a lock: it may not use those that it inherited.
 
    What a trace can't express. Whatever the calls and their order, lockdep accepts the trace. A call that would break it
    isn't written, and is counted in `left`. That hides orders of locks but invents none, with one exception: see
    ldr_release. ldr_end writes the counts after the places.
 
-   With LDR_NOTHING defined the calls expand to nothing: their arguments aren't evaluated. */
+   With LDR_NOTHING defined the calls do nothing: their arguments have to be there, and aren't evaluated. */
 #ifndef LOCKDEP_RECORD_H
 #define LOCKDEP_RECORD_H
 
@@ -115,7 +116,8 @@ struct ldr_task {
 int ldr_begin(struct ldr_task *task, char *buffer, size_t size, ldr_put *put, void *cookie);
 
 /* After ldr_begin: places go to this `put`, as lines `RECORD FILE:LINE FUNCTION`. A buffer that is too small for a place
-   leaves it out. Without this call no places are written. */
+   leaves it out. Without this call no places are written. The end of the trace is among them: without it `lockdep run`
+   can't tell whether a trace is whole, and doesn't call it clean. */
 void ldr_places(struct ldr_task *task, char *buffer, size_t size, ldr_put *put, void *cookie);
 
 /* The task takes a lock of this class. Called before waiting for the lock, or else what a hung task waits for is missing;
