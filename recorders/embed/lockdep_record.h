@@ -11,13 +11,14 @@
 
    Who calls. The calls for one task are made by that task, and by the interrupts that come in while it runs. An interrupt
    that comes in during such a call is left out with everything it does, and counted; so keep interrupts off around the
-   calls if you can. Calls for different tasks are independent.
+   calls if you can. Calls for different tasks are independent. A forked child begins tasks of its own, which write
+   elsewhere, before it takes a lock: it may not use those that it inherited.
 
    What a trace can't express. Whatever the calls and their order, lockdep accepts the trace. A call that would break it
    isn't written, and is counted in `left`. That hides orders of locks but invents none, with one exception: see
    ldr_release. ldr_end writes the counts after the places.
 
-   With LDR_NOTHING defined the calls expand to nothing: their arguments aren't evaluated. */
+   With LDR_NOTHING defined the calls do nothing: their arguments have to be there, and aren't evaluated. */
 #ifndef LOCKDEP_RECORD_H
 #define LOCKDEP_RECORD_H
 
@@ -115,7 +116,8 @@ struct ldr_task {
 int ldr_begin(struct ldr_task *task, char *buffer, size_t size, ldr_put *put, void *cookie);
 
 /* After ldr_begin: places go to this `put`, as lines `RECORD FILE:LINE FUNCTION`. A buffer that is too small for a place
-   leaves it out. Without this call no places are written. */
+   leaves it out. Without this call no places are written. The end of the trace is among them: without it `lockdep run`
+   can't tell whether a trace is whole, and doesn't call it clean. */
 void ldr_places(struct ldr_task *task, char *buffer, size_t size, ldr_put *put, void *cookie);
 
 /* The task takes a lock of this class. Called before waiting for the lock, or else what a hung task waits for is missing;
@@ -158,21 +160,24 @@ void ldr_end(struct ldr_task *task);
 
 #else
 
+/* The arguments are named, in a call that is never made, so that the compiler doesn't warn of anything as unused. */
+static inline int ldr_named(int first, ...) { return first; }
+#define LDR_NEVER(...) (0 && ldr_named(0, __VA_ARGS__))
 /* (a function, since a number alone would be a statement without effect) */
-static inline int ldr_nothing(void) { return 0; }
-#define ldr_begin(task, buffer, size, put, cookie) ldr_nothing()
-#define ldr_places(task, buffer, size, put, cookie) ((void)0)
-#define ldr_acquire_at(...) ((void)0)
-#define ldr_acquire(task, name, sub, mode) ((void)0)
-#define ldr_release(task, name, sub) ((void)0)
-#define ldr_enter(task, irq) ((void)0)
-#define ldr_leave(task) ((void)0)
-#define ldr_off(task, irq) ((void)0)
-#define ldr_on_at(...) ((void)0)
-#define ldr_on(task, irq) ((void)0)
-#define ldr_is_at_rest(task) false
-#define ldr_flush(task) ((void)0)
-#define ldr_end(task) ((void)0)
+static inline int ldr_nothing(int number) { return number; }
+#define ldr_begin(task, buffer, size, put, cookie) ldr_nothing(LDR_NEVER(task, buffer, size, put, cookie))
+#define ldr_places(task, buffer, size, put, cookie) ((void)LDR_NEVER(task, buffer, size, put, cookie))
+#define ldr_acquire_at(...) ((void)LDR_NEVER(__VA_ARGS__))
+#define ldr_acquire(task, name, sub, mode) ((void)LDR_NEVER(task, name, sub, mode))
+#define ldr_release(task, name, sub) ((void)LDR_NEVER(task, name, sub))
+#define ldr_enter(task, irq) ((void)LDR_NEVER(task, irq))
+#define ldr_leave(task) ((void)LDR_NEVER(task))
+#define ldr_off(task, irq) ((void)LDR_NEVER(task, irq))
+#define ldr_on_at(...) ((void)LDR_NEVER(__VA_ARGS__))
+#define ldr_on(task, irq) ((void)LDR_NEVER(task, irq))
+#define ldr_is_at_rest(task) LDR_NEVER(task)
+#define ldr_flush(task) ((void)LDR_NEVER(task))
+#define ldr_end(task) ((void)LDR_NEVER(task))
 
 #endif
 
@@ -190,6 +195,15 @@ extern "C" {
 #else
 #include <stdatomic.h>
 #define LDR_FENCE() atomic_signal_fence(memory_order_seq_cst)
+#endif
+
+/* The first line of a trace, after a word by which `lockdep run` recognises a program with this code, stripped or not.
+   The compiler mustn't take the line apart. */
+#define LDR_MARK "ldr1 lockdep,2\n"
+#if defined __GNUC__
+#define LDR_KEEP(text) __asm__("" : "+r"(text))
+#else
+#define LDR_KEEP(text) ((void)0)
 #endif
 
 /* ---- Bytes. */
@@ -347,7 +361,9 @@ int ldr_begin(struct ldr_task *task, char *buffer, size_t size, ldr_put *put, vo
     if (task->trace.size < LDR_ROOM)
         return -1;
     task->ended = LDR_REASONS;
-    task->trace.used = (uint32_t)(ldr_text(buffer, "lockdep,2\n", NULL) - buffer);
+    const char *first = &LDR_MARK[5];
+    LDR_KEEP(first);
+    task->trace.used = (uint32_t)(ldr_text(buffer, first, NULL) - buffer);
     return 0;
 }
 

@@ -1,8 +1,9 @@
-/* Says why a recording of a program may see none of its locks, as far as its file shows that: look FILE
+/* Says why a recording of a program may see none of its locks, as far as its file shows that: look FILE, or look --each FILE...
 
    Writes one word a line: `static`, `setuid`, `other-machine`, `other-libc`, `go`, `rust`, `libpython`, `libjvm`; or, if it is none
    of these and the program itself calls no function of a pthread lock, `no-pthread-import`. Of a script the interpreter is
-   looked at. */
+   looked at. With --each it writes lines `WORD<tab>FILE`, for programs and libraries: `go`, `libpython`, `libjvm`, `embed` if there is
+   the code of lockdep_record.h in it, and `pthread` if it calls such a function. */
 #define _GNU_SOURCE
 #include <elf.h>
 #include <fcntl.h>
@@ -174,11 +175,29 @@ static void say(bool is_so, const char *word) {
     is_something_said = true;
 }
 
-static void look_at_program(const struct file *file) {
+static bool is_go(const struct file *file) { return has(file, "\xff Go buildinf:"); }
+
+static bool is_python(const struct symbols *symbols) {
+    return names_any(symbols, "libpython") || names_any(symbols, "Py_BytesMain");
+}
+
+static bool is_java(const struct symbols *symbols) { return names_any(symbols, "libjvm") || names_any(symbols, "libjli"); }
+
+/* The file's first part, if it is a program or a library. */
+static const Elf64_Ehdr *read_head(const struct file *file) {
     const Elf64_Ehdr *head = part(file, 0, sizeof *head);
-    if (!head || memcmp(head->e_ident, ELFMAG, SELFMAG) != 0)
+    return head && memcmp(head->e_ident, ELFMAG, SELFMAG) == 0 ? head : NULL;
+}
+
+static bool is_other_machine(const Elf64_Ehdr *head) {
+    return head->e_ident[EI_CLASS] != ELFCLASS64 || (MACHINE != EM_NONE && head->e_machine != MACHINE);
+}
+
+static void look_at_program(const struct file *file) {
+    const Elf64_Ehdr *head = read_head(file);
+    if (!head)
         return;
-    if (head->e_ident[EI_CLASS] != ELFCLASS64 || (MACHINE != EM_NONE && head->e_machine != MACHINE)) {
+    if (is_other_machine(head)) {
         puts("other-machine");
         return;
     }
@@ -187,14 +206,52 @@ static void look_at_program(const struct file *file) {
     struct symbols symbols = read_symbols(file, head);
     say(!loader[0], "static");
     say(strstr(loader, "musl"), "other-libc");
-    say(has(file, "\xff Go buildinf:"), "go");
+    say(is_go(file), "go");
     say(has(file, "RUST_BACKTRACE"), "rust");
-    say(names_any(&symbols, "libpython") || names_any(&symbols, "Py_BytesMain"), "libpython");
-    say(names_any(&symbols, "libjvm") || names_any(&symbols, "libjli"), "libjvm");
+    say(is_python(&symbols), "libpython");
+    say(is_java(&symbols), "libjvm");
     say(!is_something_said && symbols.count > 0 && !calls_locks(&symbols), "no-pthread-import");
 }
 
+/* Opens a file; of a script, that of its interpreter, whose path replaces that of the script. */
+static bool open_program(char *path, struct file *file) {
+    bool is_open = open_file(path, file);
+    for (int scripts = 0; is_open && scripts < MOST_SCRIPTS && interpreter(file, path); scripts++)
+        is_open = open_file(path, file);
+    return is_open;
+}
+
+static void say_of(bool is_so, const char *word, const char *path) {
+    if (is_so)
+        printf("%s\t%s\n", word, path);
+}
+
+static void look_at_each(const char *name) {
+    char path[PATH_MAX];
+    snprintf(path, sizeof path, "%s", name);
+    struct file file;
+    if (!open_program(path, &file))
+        return;
+    const Elf64_Ehdr *head = read_head(&file);
+    if (head) {
+        struct symbols symbols = {0};
+        if (!is_other_machine(head))
+            symbols = read_symbols(&file, head);
+        say_of(is_go(&file), "go", name);
+        say_of(is_python(&symbols), "libpython", name);
+        say_of(is_java(&symbols), "libjvm", name);
+        say_of(has(&file, "ldr1 lockdep,2\n"), "embed", name);
+        say_of(calls_locks(&symbols), "pthread", name);
+    }
+    munmap((void *)file.bytes, file.size);
+}
+
 int main(int argc, char **argv) {
+    if (argc > 1 && strcmp(argv[1], "--each") == 0) {
+        for (int i = 2; i < argc; i++)
+            look_at_each(argv[i]);
+        return 0;
+    }
     if (argc != 2) {
         fputs("look: this is a part of `record`\n", stderr);
         return 2;
@@ -202,9 +259,7 @@ int main(int argc, char **argv) {
     char path[PATH_MAX];
     snprintf(path, sizeof path, "%s", argv[1]);
     struct file file;
-    bool is_open = open_file(path, &file);
-    for (int scripts = 0; is_open && scripts < MOST_SCRIPTS && interpreter(&file, path); scripts++)
-        is_open = open_file(path, &file);
+    bool is_open = open_program(path, &file);
     say(gets_rights(path), "setuid");
     if (is_open)
         look_at_program(&file);

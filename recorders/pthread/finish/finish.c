@@ -142,6 +142,13 @@ static void tell_started(FILE *file) {
         }
 }
 
+/* The programs and libraries that were loaded; `record` looks at them, and takes these lines out. */
+static void tell_loaded(FILE *file) {
+    for (size_t i = 0; i < module_count; i++)
+        if (modules[i].path[0] == '/' && !strchr(modules[i].path, '\n'))
+            fprintf(file, "loaded %s\n", modules[i].path);
+}
+
 static void write_summary(const char *folder) {
     char path[4300];
     snprintf(path, sizeof path, "%s/SUMMARY", folder);
@@ -157,6 +164,7 @@ static void write_summary(const char *folder) {
         tell_unseen(file);
     tell_losses(file);
     tell_started(file);
+    tell_loaded(file);
     closed(file, path);
 }
 

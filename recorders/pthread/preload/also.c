@@ -167,11 +167,15 @@ EXPORT void __cxa_guard_abort(guard *g) {
 
 static uint64_t loader;
 
+/* Whether something was loaded after the start. */
+static bool has_opened;
+
 /* glibc looks where dlopen was called from, to know whose paths to search. So ours jumps to it, with nothing to be done afterwards:
    that the loader is left is seen by where the stack is when the thread comes again. */
 EXPORT void *dlopen(const char *name, int mode) {
     begin_once();
     if (is_recording()) {
+        STORE(&has_opened, true);
         if (mode & RTLD_DEEPBIND)
             ADD(&arena->deep_bound, 1);
         enter_loader((uintptr_t)&loader, HERE);
@@ -182,11 +186,18 @@ EXPORT void *dlopen(const char *name, int mode) {
 EXPORT void *dlmopen(Lmid_t space, const char *name, int mode) {
     begin_once();
     if (is_recording()) {
+        STORE(&has_opened, true);
         if (space != LM_ID_BASE)
             ADD(&arena->namespaces, 1);
         enter_loader((uintptr_t)&loader, HERE);
     }
     return REAL(dlmopen)(space, name, mode & ~RTLD_DEEPBIND);
+}
+
+/* What was loaded later is known by its locks, or else at the end: `record` says which files have other locks than those of pthreads. */
+__attribute__((destructor)) static void at_end(void) {
+    if (LOAD(&has_opened) && is_recording())
+        note_modules();
 }
 
 /* A library that goes takes its addresses with it. */

@@ -4,13 +4,18 @@
 #include "own.h"
 
 #include <errno.h>
+#include <fcntl.h>
 #include <pty.h>
 #include <spawn.h>
 #include <stdarg.h>
 #include <string.h>
 #include <unistd.h>
 
-#define REALS(X) X(fork) X(daemon) X(forkpty) X(execve) X(execv) X(execvp) X(execvpe) X(posix_spawn) X(posix_spawnp)
+/* (glibc has it since 2.34) */
+int execveat(int folder, const char *path, char *const words[], char *const with[], int how);
+
+#define REALS(X)                                                                                                       \
+    X(fork) X(daemon) X(forkpty) X(execve) X(execv) X(execvp) X(execvpe) X(fexecve) X(execveat) X(posix_spawn) X(posix_spawnp)
 REALS(KNOWN_REAL)
 FIND_AT_START(REALS)
 
@@ -114,6 +119,45 @@ STARTING(posix_spawnp,
          (pid_t * process, const char *path, const posix_spawn_file_actions_t *files, const posix_spawnattr_t *how,
           char *const words[], char *const with[]),
          (process, path, files, how, words, with), with)
+
+/* The forms that are told an open file. What it is called is asked for before, since the call closes it if it succeeds. */
+static const char *path_of_file(int file, char *path) {
+    char link[32] = "/proc/self/fd/";
+    put_number(link + strlen(link), (unsigned)file);
+    int saved = errno;
+    ssize_t length = readlink(link, path, RAW_PATH);
+    errno = saved;
+    if (length <= 0)
+        return NULL;
+    path[length] = 0;
+    return path;
+}
+
+EXPORT int fexecve(int file, char *const words[], char *const with[]) {
+    char room[RAW_PATH + 1];
+    const char *path = path_of_file(file, room);
+    count_start(path, with, 1);
+    int answer = REAL(fexecve)(file, words, with), saved = errno;
+    count_start(path, with, FAILED);
+    errno = saved;
+    return answer;
+}
+
+/* The path is of the file itself if it is empty, and else of one in that folder. */
+EXPORT int execveat(int folder, const char *path, char *const words[], char *const with[], int how) {
+    char room[2 * RAW_PATH + 2];
+    const char *whole = path;
+    if (path && path[0] != '/' && folder != AT_FDCWD && (whole = path_of_file(folder, room)) && path[0]) {
+        size_t length = strlen(room);
+        room[length] = '/';
+        put_text(room + length + 1, path, RAW_PATH);
+    }
+    count_start(whole, with, 1);
+    int answer = REAL(execveat)(folder, path, words, with, how), saved = errno;
+    count_start(whole, with, FAILED);
+    errno = saved;
+    return answer;
+}
 
 /* The forms whose words are arguments, up to a null pointer; the environment may follow that. */
 static size_t count_words(va_list words) {

@@ -163,6 +163,10 @@ impl Process {
         if folder.as_ref().is_some_and(|folder| folder.is_empty()) {
             return false;
         }
+        // Below the recorder of pthreads no folder was asked for: it names this program as one that isn't recorded.
+        if folder.is_none() && std::env::var_os("LOCKDEP_RECORD").is_some() {
+            return false;
+        }
         let folder = folder.unwrap_or_else(|| "lockdep-traces".into());
         let Ok(folder) = std::path::absolute(folder) else { return false };
         self.folder.add(folder.as_os_str().as_bytes());
