@@ -14,12 +14,24 @@ FIRST_LINE = "a recording by lockdep made these:"
 GUESSED = "guessed\n"  # in the mark of a recording whose recorder the user didn't name
 MADE = re.compile(r"classes|SUMMARY|report\.html|raw\.tar\.gz|objects|(objects/)?task-[0-9]+\.csv(\.places)?")
 
+
+def readme_of(recorder):
+    """Where the README of a recorder is: beside it, or where it is installed."""
+    recorders = os.path.dirname(os.path.dirname(os.path.dirname(os.path.realpath(__file__))))
+    installed = os.path.join(recorders, "../../../share/doc/lockdep/recorders")
+    for folder in (recorders, installed):
+        readme = os.path.join(folder, recorder, "README.md")
+        if os.path.isfile(readme):
+            return os.path.realpath(readme)
+    return "recorders/%s/README.md" % recorder
+
+
 # Why nothing was seen.
 REASONS = {
     "python-nothing": "it took no lock of threading or asyncio; those of C modules are seen by `--recorder pthread`",
     "python-off": "no Python was started, or one without its environment, as by -I, -E, -S or env -i",
     "java-nothing": "its own classes took no monitor and no lock of java.util.concurrent.locks; those of the JDK are seen "
-                    + ("if LOCKDEP_JAVA_JDK names them" if "LOCKDEP_RUN_HOME" in os.environ else "by --jdk"),
+                    + ("if LOCKDEP_JAVA_JDK names them (%s)" % readme_of("java") if "LOCKDEP_RUN_HOME" in os.environ else "by --jdk"),
     "java-off": "no Java was started, or one without its environment, as by env -i",
 }
 NOTES = ("processes threads operations events classes waiting held-at-end threads-alike repeats".split())
