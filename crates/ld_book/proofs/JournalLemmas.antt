@@ -10,8 +10,8 @@ use Rattle.std.proofs.lemmas.Option.{get_or_from_slice_get, slice_get_within}
 use Rattle.ld_task.specs.Chains.{ChainParts}
 use Rattle.ld_task.specs.ChainEquality.{chain_eq}
 use Rattle.ld_task.specs.Inside.ChainEqualityLaws.{chain_eq-decides, chain_eq-equivalence}
-use Rattle.ld_graph.specs.Counting.{IsNumberOf}
-use Rattle.ld_graph.specs.FactLaws.{Any-push}
+use Rattle.ld_facts.specs.Counting.{IsNumberOf}
+use Rattle.ld_facts.specs.ListLaws.{Any-push}
 use Rattle.ld_book.specs.Books.{StandsIn}
 use Rattle.ld_book.specs.Inside.Journals.{EntryParts, no_chain, entry_of, journal_of, IsJournal, PutsChain}
 

@@ -1,9 +1,9 @@
 -- What a book tells: all of it is read off the journal [this project's own].
 use Rattle.std.specs.Prelude.{◌≡◌, ℕ, ◌≤◌, List, length, Any, count_by, is_none, is_some}
 use Rattle.ld_task.specs.Chains.{ChainParts}
-use Rattle.ld_graph.specs.FactBits.{FactParts, HasFact}
-use Rattle.ld_graph.specs.Facts.{AreSame, ChainHas}
-use Rattle.ld_graph.specs.declared.fact.Fact.{Fact}
+use Rattle.ld_facts.specs.FactBits.{FactParts, HasFact}
+use Rattle.ld_facts.specs.Facts.{AreSame, ChainHas}
+use Rattle.ld_facts.specs.declared.fact.Fact.{Fact}
 
 -- what callers see of a book: its journal, an entry for each recorded chain with the trace that it comes from; the bound
 -- on the keys; and the most entries that the journal may have

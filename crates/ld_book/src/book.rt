@@ -2,11 +2,11 @@
 
 ghost use Rattle.std.specs.Prelude.{◌≡◌, ℕ, ◌≤◌, ◌++◌, ◌↔◌, [], ◌∷◌, length, option_map, slice_get, IfOk, OnOk, OnErr, IfErr, IsErrOf, IsTrue, IsFalse};
 ghost use Rattle.ld_task.specs.Chains.{ChainKeysBelow};
-ghost use Rattle.ld_graph.specs.Counting.{IsNumberOf};
-ghost use Rattle.ld_graph.specs.FactBits.{HasFact};
-ghost use Rattle.ld_graph.specs.Facts.{Adds, AreSame, ChainHas, DependenciesOf, Holds};
+ghost use Rattle.ld_facts.specs.Counting.{IsNumberOf};
+ghost use Rattle.ld_facts.specs.FactBits.{HasFact};
+ghost use Rattle.ld_facts.specs.Facts.{Adds, AreSame, ChainHas, DependenciesOf, Holds};
 ghost use Rattle.ld_graph.specs.Links.{IsClean};
-ghost use Rattle.ld_graph.specs.declared.fact.Fact.{Fact};
+ghost use Rattle.ld_facts.specs.declared.fact.Fact.{Fact};
 ghost use Rattle.ld_book.specs.Books.{JournalHas, StandsIn, acquisition_count, opening_count};
 ghost use Rattle.ld_book.specs.Inside.Journals.{HasRoomForNew};
 

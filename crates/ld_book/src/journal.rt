@@ -1,7 +1,7 @@
 //! Entries in order, with each distinct chain kept once.
 
 ghost use Rattle.std.specs.Prelude.{◌≡◌, ◌<◌, ◌++◌, [], ◌∷◌, length, option_map, slice_get, OnOk, OnErr, IsTrue, IsFalse, Some};
-ghost use Rattle.ld_graph.specs.Counting.{IsNumberOf};
+ghost use Rattle.ld_facts.specs.Counting.{IsNumberOf};
 ghost use Rattle.ld_book.specs.Books.{StandsIn};
 ghost use Rattle.ld_book.specs.Inside.Journals.{HasRoom, HasRoomForNew};
 

@@ -2,7 +2,7 @@
 
 ghost use Rattle.std.specs.Prelude.{[], IfOk, IsErrOf, IsFalse};
 ghost use Rattle.ld_task.specs.Chains.{ChainKeysBelow};
-ghost use Rattle.ld_graph.specs.Facts.{ChainHas, Holds};
+ghost use Rattle.ld_facts.specs.Facts.{ChainHas, Holds};
 ghost use Rattle.ld_book.specs.Books.{JournalHas};
 
 use crate::book::{Book, News};

@@ -1,6 +1,6 @@
 -- First occurrences, where more is seen.
 use Rattle.std.proofs.Common.{◌≡◌, ℕ, ◌⊎◌, ◌↔◌, Option, Some, None, refl, sym, subst, inl, inr, arith}
-use Rattle.ld_graph.specs.declared.fact.Fact.{Fact}
+use Rattle.ld_facts.specs.declared.fact.Fact.{Fact}
 use Rattle.ld_explain.specs.Origins.{AsNew, NoLater, OriginParts}
 use Rattle.ld_explain.specs.Inside.Firsts.{AreFirsts, IsKnown, PutsOrigin}
 use Rattle.ld_explain.specs.declared.origins.Origin.{Origin}

@@ -3,10 +3,10 @@ use Rattle.std.proofs.Common.{◌≡◌, ℕ, true, false, cond, eqb, List, Opti
 use Rattle.std.specs.Map.{lookup}
 use Rattle.std.proofs.lemmas.Bool.{cases_Bool, eq-eqb, eqb-true, true≢false}
 use Rattle.std.proofs.lemmas.Option.{none-some, same_Some}
-use Rattle.ld_graph.specs.FactBits.{FactBelow}
-use Rattle.ld_graph.specs.Laws.{FactsHaveDifferentBits}
-use Rattle.ld_graph.specs.Numbers.{fact_number}
-use Rattle.ld_graph.specs.declared.fact.Fact.{Fact}
+use Rattle.ld_facts.specs.FactBits.{FactBelow}
+use Rattle.ld_facts.specs.Laws.{FactsHaveDifferentBits}
+use Rattle.ld_facts.specs.Numbers.{fact_number}
+use Rattle.ld_facts.specs.declared.fact.Fact.{Fact}
 use Rattle.ld_explain.specs.Origins.{HasOrigin, OriginParts}
 use Rattle.ld_explain.specs.Inside.Firsts.{IsKnown, PutsOrigin}
 use Rattle.ld_explain.specs.declared.origins.Origin.{Origin}

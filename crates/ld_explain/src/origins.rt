@@ -8,17 +8,17 @@ ghost use Rattle.ld_task.specs.Chains.{ChainKeysBelow};
 ghost use Rattle.ld_task.specs.Placed.{IsPlacedAfter};
 ghost use Rattle.ld_task.specs.TraceChains as trace_chains;
 ghost use Rattle.ld_task.specs.WellFormed.{IsWellFormed};
-ghost use Rattle.ld_graph.specs.ChainFacts.{fact_slots};
-ghost use Rattle.ld_graph.specs.FactBits.{FactBelow};
-ghost use Rattle.ld_graph.specs.Facts.{ChainHas};
-ghost use Rattle.ld_graph.specs.declared.fact.Fact.{Fact};
-ghost use Rattle.ld_run.specs.declared.runs.TheConstants.{MAX_TRACES};
+ghost use Rattle.ld_facts.specs.ChainFacts.{fact_slots};
+ghost use Rattle.ld_facts.specs.FactBits.{FactBelow};
+ghost use Rattle.ld_facts.specs.Facts.{ChainHas};
+ghost use Rattle.ld_facts.specs.declared.fact.Fact.{Fact};
+ghost use Rattle.ld_trace.specs.declared.raw_trace.TheConstants.{MAX_TRACES};
 ghost use Rattle.ld_explain.specs.Origins.{AreOriginsOf, HasOrigin, IsOriginOf};
 ghost use Rattle.ld_explain.specs.Inside.Firsts.{AreFirsts, AreKept, ComesNext, IsKnown, PutsOrigin, SeenBefore, SeenFrom, SeenTo, slot_position};
 
 use indexmap::IndexMap;
-use ld_graph::{Fact, Facts, Kind, Mark, fact_in_slot, fact_slots, lock_of_slot};
-use ld_task::{Chain, PlacedState};
+use ld_facts::{Fact, Facts, fact_in_slot, fact_slots, lock_of_slot};
+use ld_task::{Chain, Kind, Mark, PlacedState};
 use ld_trace::{Event, RawTrace};
 use std::alloc::{AllocError, Global};
 use std::marker::Model;
@@ -174,7 +174,7 @@ impl Origins {
             → AreKept (SeenTo traces trace place) self.old facts.old
             → AreKept (SeenTo traces trace (place + 1)) self.new facts.new) }
     {
-        ld_graph::slots_have_what_is_given();
+        ld_facts::slots_have_what_is_given();
         if facts.add_chain(chain) {
             self.add_facts(trace, place, state, chain)?;
         }
@@ -195,7 +195,7 @@ impl Origins {
             → trace_chains.chain t place ≡ Some chain.now → AreFirsts (SeenTo traces trace place) self.old
             → AreFirsts (SeenFrom traces t trace place chain.now 0) self.new) }
     {
-        ld_graph::slots_have_what_is_given();
+        ld_facts::slots_have_what_is_given();
         let slots = fact_slots(chain);
         for passed in 0..slots {
             let n = slots - 1 - passed;
@@ -212,7 +212,7 @@ impl Origins {
         requires { FactBelow self.old.keys fact }
         ensures { OnOk result (PutsOrigin self.old self.new fact origin) }
     {
-        ld_graph::facts_are_bits();
+        ld_facts::facts_are_bits();
         let number = fact.number(self.keys) as u32;
         if self.origins.contains_key(&number) {
             return Ok(());

@@ -2,12 +2,12 @@
 use Rattle.std.proofs.Common.{◌≡◌, ℕ, ◌+◌, ◌<◌, List, length, slice_index, sym, ◌∙◌, subst, inl, inr, arith}
 use Rattle.std.specs.Prelude.{◌↔◌}
 use Rattle.std.proofs.lemmas.Bool.{cases_eq}
-use Rattle.ld_graph.specs.FactBits.{FactParts, FactBelow, HasFact}
-use Rattle.ld_graph.specs.Facts.{AreSame, Adds}
-use Rattle.ld_graph.specs.Numbers.{fact_number, bit_total}
-use Rattle.ld_graph.specs.Renumbered.{Renumbered, fact_by}
-use Rattle.ld_graph.specs.declared.fact.Fact.{Fact}
-use Rattle.ld_graph.proofs.Numbers.{fact_number-lt, fact_number-same}
+use Rattle.ld_facts.specs.FactBits.{FactParts, FactBelow, HasFact}
+use Rattle.ld_facts.specs.Facts.{AreSame, Adds}
+use Rattle.ld_facts.specs.Numbers.{fact_number, bit_total}
+use Rattle.ld_facts.specs.Renumbered.{Renumbered, fact_by}
+use Rattle.ld_facts.specs.declared.fact.Fact.{Fact}
+use Rattle.ld_facts.specs.NumberLaws.{fact_number-lt, fact_number-same}
 
 -- the facts with numbers below n have been taken over
 pub record TakenOver (facts now : FactParts) (listed : List ℕ) (n : ℕ) : Type 0 where

@@ -7,15 +7,15 @@ use Rattle.ld_task.specs.declared.mark.Mark.{Mark}
 use Rattle.ld_task.specs.declared.mark.Mark.TheVariants.{Used, UsedIn, Enabled}
 use Rattle.ld_task.specs.Kinds.{is_s, is_r}
 use Rattle.ld_trace.specs.declared.key_id.TheConstants.{MAX_KEYS}
-use Rattle.ld_graph.specs.Arrows.{Arrow, MayFollow, arrow}
-use Rattle.ld_graph.specs.Facts.{Holds, Adds, DependenciesOf}
-use Rattle.ld_graph.specs.FactBits.{FactBelow}
+use Rattle.ld_facts.specs.Arrows.{Arrow, MayFollow, arrow}
+use Rattle.ld_facts.specs.Facts.{Holds, Adds, DependenciesOf}
+use Rattle.ld_facts.specs.FactBits.{FactBelow}
 use Rattle.ld_graph.specs.FactLaws.{StrongWalk-more}
 use Rattle.ld_graph.specs.Walks.{OnCircle}
 use Rattle.ld_graph.specs.Links.{IsLink, IsClean}
-use Rattle.ld_graph.specs.Inside.Places.{place, arrival, Leaves, LeavesFrom, Leads, Path, none, Way, LinkArrives, LinkLeaves}
-use Rattle.ld_graph.specs.declared.fact.Fact.{Fact}
-use Rattle.ld_graph.specs.declared.fact.Fact.TheVariants.{Dependency, Marked}
+use Rattle.ld_facts.specs.Inside.Places.{place, arrival, Leaves, LeavesFrom, Leads, Path, none, Way, LinkArrives, LinkLeaves}
+use Rattle.ld_facts.specs.declared.fact.Fact.{Fact}
+use Rattle.ld_facts.specs.declared.fact.Fact.TheVariants.{Dependency, Marked}
 use Rattle.ld_graph.proofs.Circles.{OnCircle-new}
 use Rattle.ld_graph.proofs.Paths.{IsWithin, Leaves-from_MayFollow, MayFollow-from_Leaves, OnCircle-iff, Path-more}
 use Rattle.ld_graph.proofs.Links.{ClosesWith-iff, IsInversion-iff}

@@ -5,20 +5,20 @@ use Rattle.ld_task.specs.declared.mark.Mark.{Mark}
 use Rattle.ld_task.specs.declared.mark.Mark.TheVariants.{Used, UsedIn, Enabled}
 use Rattle.ld_task.specs.Kinds.{is_s}
 use Rattle.ld_trace.specs.declared.key_id.TheConstants.{MAX_KEYS}
-use Rattle.ld_graph.specs.Arrows.{Arrow}
-use Rattle.ld_graph.specs.Inside.Bits.{has_bit}
-use Rattle.ld_graph.specs.Facts.{Holds, Adds, DependenciesOf}
-use Rattle.ld_graph.specs.FactBits.{FactParts, FactBelow, HasFact, rows_allowed}
+use Rattle.ld_facts.specs.Arrows.{Arrow}
+use Rattle.ld_facts.specs.Inside.Bits.{has_bit}
+use Rattle.ld_facts.specs.Facts.{Holds, Adds, DependenciesOf}
+use Rattle.ld_facts.specs.FactBits.{FactParts, FactBelow, HasFact, rows_allowed}
 use Rattle.ld_graph.specs.FactLaws.{IsClean-fewer}
 use Rattle.ld_graph.specs.Walks.{OnCircle}
 use Rattle.ld_graph.specs.Links.{IsClean}
-use Rattle.ld_graph.specs.Inside.Places.{arrival, Leads, Leaves, Path, Way}
+use Rattle.ld_facts.specs.Inside.Places.{arrival, Leads, Leaves, Path, Way}
 use Rattle.ld_graph.specs.Inside.Tables.{reaches, Comes, AreSpan, TakesArrow}
 use Rattle.ld_graph.specs.Inside.Kept.{IsGraph, AreEnds, TakesMark, JoinsLinks, LeavesTarget, StaysClean, MarkTurnsBack, arrives_at, departs_from}
 use Rattle.ld_graph.specs.declared.ends.Ends.{Ends}
-use Rattle.ld_graph.specs.declared.fact.Fact.{Fact}
-use Rattle.ld_graph.specs.declared.fact.Fact.TheVariants.{Dependency, Marked}
-use Rattle.ld_graph.proofs.Circles.{OnCircle-member}
+use Rattle.ld_facts.specs.declared.fact.Fact.{Fact}
+use Rattle.ld_facts.specs.declared.fact.Fact.TheVariants.{Dependency, Marked}
+use Rattle.ld_graph.specs.FactLaws.{OnCircle-member}
 use Rattle.ld_graph.proofs.Paths.{OnCircle-iff, Path-more}
 use Rattle.ld_graph.proofs.Ways.{Comes-path, Path-append, Path-from_way, Way-through, ways_taken}
 use Rattle.ld_graph.proofs.CleanPlaces.{CleanPlaces-from, IsClean-from_places, CleanPlaces-dependency, CleanPlaces-mark, ComesBack, Joins, TurnsBackBy, arrows_within, arrows_added, Leads-kept, LinkArrives-adds, LinkLeaves-adds, LinkArrives-kept, LinkLeaves-kept}

@@ -5,14 +5,14 @@ use Rattle.ld_trace.specs.declared.event.Irq.{Irq}
 use Rattle.ld_trace.specs.declared.event.Irq.TheVariants.{Hard, Soft}
 use Rattle.ld_task.specs.declared.mark.Mark.{Mark}
 use Rattle.ld_task.specs.declared.mark.Mark.TheVariants.{Used, UsedIn, Enabled}
-use Rattle.ld_graph.specs.Inside.Bits.{has_bit}
-use Rattle.ld_graph.specs.Numbers.{irq_number}
-use Rattle.ld_graph.specs.Inside.Places.{LeavesFrom, LinkArrives, LinkLeaves}
+use Rattle.ld_facts.specs.Inside.Bits.{has_bit}
+use Rattle.ld_facts.specs.Numbers.{irq_number}
+use Rattle.ld_facts.specs.Inside.Places.{LeavesFrom, LinkArrives, LinkLeaves}
 use Rattle.ld_graph.specs.Inside.Tables.{reaches}
 use Rattle.ld_graph.specs.Inside.Kept.{TakesMark}
 use Rattle.ld_graph.specs.declared.ends.Ends.{Ends}
-use Rattle.ld_graph.specs.declared.fact.Fact.{Fact}
-use Rattle.ld_graph.specs.declared.fact.Fact.TheVariants.{Dependency, Marked}
+use Rattle.ld_facts.specs.declared.fact.Fact.{Fact}
+use Rattle.ld_facts.specs.declared.fact.Fact.TheVariants.{Dependency, Marked}
 
 -- ---- states by their numbers
 pub irq_number-lt : (irq : Irq) → irq_number irq < 2

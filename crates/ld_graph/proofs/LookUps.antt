@@ -7,15 +7,15 @@ use Rattle.ld_task.specs.declared.kind.Kind.TheVariants.{Er, En, Sr, Sn}
 use Rattle.ld_task.specs.declared.mark.Mark.TheVariants.{UsedIn, Enabled}
 use Rattle.ld_task.specs.Kinds.{is_s, is_r}
 use Rattle.ld_trace.specs.declared.key_id.TheConstants.{MAX_KEYS}
-use Rattle.ld_graph.specs.Arrows.{arrow}
-use Rattle.ld_graph.specs.Inside.Bits.{has_bit}
-use Rattle.ld_graph.specs.Facts.{Holds, DependenciesOf}
-use Rattle.ld_graph.specs.FactBits.{FactBelow}
+use Rattle.ld_facts.specs.Arrows.{arrow}
+use Rattle.ld_facts.specs.Inside.Bits.{has_bit}
+use Rattle.ld_facts.specs.Facts.{Holds, DependenciesOf}
+use Rattle.ld_facts.specs.FactBits.{FactBelow}
 use Rattle.ld_graph.specs.Links.{IsLink, IsDouble}
-use Rattle.ld_graph.specs.Inside.Places.{place, Leads, Way}
+use Rattle.ld_facts.specs.Inside.Places.{place, Leads, Way}
 use Rattle.ld_graph.specs.Inside.Kept.{ClosesWith, IsInversionBy}
-use Rattle.ld_graph.specs.declared.fact.Fact.{Fact}
-use Rattle.ld_graph.specs.declared.fact.Fact.TheVariants.{Marked}
+use Rattle.ld_facts.specs.declared.fact.Fact.{Fact}
+use Rattle.ld_facts.specs.declared.fact.Fact.TheVariants.{Marked}
 use Rattle.ld_graph.proofs.Links.{ClosesWith-iff, arrow-is}
 use Rattle.ld_graph.proofs.CleanPlaces.{arrows_within}
 

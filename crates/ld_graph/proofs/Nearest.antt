@@ -4,18 +4,19 @@ use Rattle.std.specs.Prelude.{Contains}
 use Rattle.std.proofs.lemmas.Bool.{cases_Bool, cases_eq, cases_lt, and_from, not_from_false}
 use Rattle.std.proofs.lemmas.List.{append-nil}
 use Rattle.ld_trace.specs.declared.key_id.TheConstants.{MAX_KEYS}
-use Rattle.ld_graph.specs.Arrows.{Arrow, MayFollow}
-use Rattle.ld_graph.specs.Facts.{DependenciesOf}
-use Rattle.ld_graph.specs.FactBits.{FactParts, HasFact}
+use Rattle.ld_facts.specs.Arrows.{Arrow, MayFollow}
+use Rattle.ld_facts.specs.Facts.{DependenciesOf}
+use Rattle.ld_facts.specs.FactBits.{FactParts, HasFact}
 use Rattle.ld_graph.specs.FactLaws.{StrongWalk-more}
-use Rattle.ld_graph.specs.Inside.Bits.{has_bit}
+use Rattle.ld_facts.specs.Inside.Bits.{has_bit}
 use Rattle.ld_task.specs.Kinds.{is_r}
-use Rattle.ld_graph.specs.declared.places.TheConstants.{PLACES}
-use Rattle.ld_graph.specs.Inside.Places.{place, arrival, Leaves, Leads, Path, none, step, Way}
+use Rattle.ld_facts.specs.declared.places.TheConstants.{PLACES}
+use Rattle.ld_facts.specs.Inside.Places.{place, arrival, Leaves, Leads, Path, none, step, Way}
 use Rattle.ld_graph.specs.Inside.Searching.{Edge, Reached, GoesTo, NoGoalBy, Avoids, LeastThrough}
 use Rattle.ld_graph.specs.Inside.Tables.{reaches}
 use Rattle.ld_graph.specs.Walks.{last, StrongWalk, ClosedWalk, IsCircle}
-use Rattle.ld_graph.proofs.Circles.{Contains-head, Contains-later, StrongWalk-head, ClosedWalk-turn_to}
+use Rattle.ld_graph.proofs.Circles.{StrongWalk-head, ClosedWalk-turn_to}
+use Rattle.ld_facts.specs.ListLaws.{Contains-head, Contains-later}
 use Rattle.ld_graph.proofs.Paths.{IsWithin, Leaves-from_MayFollow, MayFollow-from_Leaves, Path-from_walk}
 use Rattle.ld_graph.proofs.Ways.{Path-cases, Way-then_path}
 

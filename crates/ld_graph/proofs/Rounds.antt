@@ -5,17 +5,18 @@ use Rattle.std.proofs.lemmas.Bool.{cases_lt}
 use Rattle.std.proofs.lemmas.List.{length-map}
 use Rattle.ld_task.specs.Kinds.{is_s, is_r}
 use Rattle.ld_trace.specs.declared.key_id.TheConstants.{MAX_KEYS}
-use Rattle.ld_graph.specs.Arrows.{Arrow, MayFollow}
-use Rattle.ld_graph.specs.Facts.{DependenciesOf}
-use Rattle.ld_graph.specs.FactBits.{FactParts, HasFact}
-use Rattle.ld_graph.specs.Inside.Bits.{has_bit}
-use Rattle.ld_graph.specs.Inside.Places.{place, arrival, Leaves, Leads, Path, none, step, Way}
+use Rattle.ld_facts.specs.Arrows.{Arrow, MayFollow}
+use Rattle.ld_facts.specs.Facts.{DependenciesOf}
+use Rattle.ld_facts.specs.FactBits.{FactParts, HasFact}
+use Rattle.ld_facts.specs.Inside.Bits.{has_bit}
+use Rattle.ld_facts.specs.Inside.Places.{place, arrival, Leaves, Leads, Path, none, step, Way}
 use Rattle.ld_graph.specs.Inside.Searching.{Edge, Reached, GoesTo, NoGoalBy, LeadsRound, LeastRound}
 use Rattle.ld_graph.specs.Inside.Tables.{reaches, IsSource}
 use Rattle.ld_graph.specs.Walks.{last, StrongWalk, ClosedWalk, OnCircle, IsShortestFrom}
-use Rattle.ld_graph.specs.declared.fact.Fact.{Fact}
-use Rattle.ld_graph.proofs.Circles.{Contains-cases, ClosedWalk-from_circle}
-use Rattle.ld_graph.proofs.Counted.{distinct-few}
+use Rattle.ld_facts.specs.declared.fact.Fact.{Fact}
+use Rattle.ld_graph.proofs.Circles.{ClosedWalk-from_circle}
+use Rattle.ld_facts.specs.ListLaws.{Contains-cases}
+use Rattle.ld_facts.specs.CountingLaws.{distinct-few}
 use Rattle.ld_graph.proofs.Nearest.{GoesTo-walk}
 use Rattle.ld_graph.proofs.Paths.{IsWithin, Leaves-from_MayFollow, MayFollow-from_Leaves, StrongWalk-last}
 use Rattle.ld_graph.proofs.Ways.{Comes-path, Path-first}

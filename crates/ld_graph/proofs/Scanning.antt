@@ -7,16 +7,17 @@ use Rattle.ld_task.specs.declared.kind.Kind.{Kind}
 use Rattle.ld_task.specs.declared.kind.Kind.TheVariants.{Er}
 use Rattle.ld_task.specs.Kinds.{is_s, is_r}
 use Rattle.ld_trace.specs.declared.key_id.TheConstants.{MAX_KEYS}
-use Rattle.ld_graph.specs.Circles.{arrow_of}
-use Rattle.ld_graph.specs.FactBits.{FactParts, HasFact}
-use Rattle.ld_graph.specs.Numbers.{kind_number}
-use Rattle.ld_graph.specs.Inside.Bits.{has_bit}
-use Rattle.ld_graph.specs.Inside.Places.{place, arrival, Leaves, LeavesFrom}
-use Rattle.ld_graph.specs.Inside.Searching.{row_place, IsNextFrom, SearchParts, stands_at, StandsAt, IsTakenFrom, Pushes, Visits, Takes, Misses, Hits, SeesAllFrom}
-use Rattle.ld_graph.specs.declared.fact.Fact.TheVariants.{Dependency as Depends}
-use Rattle.ld_graph.specs.declared.dependency.Dependency.{Dependency}
+use Rattle.ld_facts.specs.Inside.Rows.{arrow_of}
+use Rattle.ld_facts.specs.FactBits.{FactParts, HasFact}
+use Rattle.ld_facts.specs.Numbers.{kind_number}
+use Rattle.ld_facts.specs.Inside.Bits.{has_bit}
+use Rattle.ld_facts.specs.Inside.Places.{place, arrival, Leaves, LeavesFrom}
+use Rattle.ld_graph.specs.Inside.Searching.{SearchParts, stands_at, StandsAt, IsTakenFrom, Pushes, Visits, Takes, Misses, Hits, SeesAllFrom}
+use Rattle.ld_facts.specs.Inside.Rows.{row_place, IsNextFrom}
+use Rattle.ld_facts.specs.declared.fact.Fact.TheVariants.{Dependency as Depends}
+use Rattle.ld_facts.specs.declared.dependency.Dependency.{Dependency}
 use Rattle.ld_graph.specs.declared.search.Step.{Step}
-use Rattle.ld_graph.proofs.Numbers.{kind_of, kind_of-number, kind_number-lt}
+use Rattle.ld_facts.specs.NumberLaws.{kind_of, kind_of-number, kind_number-lt}
 use Rattle.ld_graph.proofs.Paths.{place_parts}
 
 -- ---- an element more

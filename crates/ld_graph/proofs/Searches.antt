@@ -2,14 +2,14 @@
 use Rattle.std.proofs.Common.{◌≡◌, ℕ, suc, zero, ◌+◌, ◌-◌, ◌<◌, ◌≤◌, List, [], ◌∷◌, length, Some, slice_get, refl, ap, sym, ◌∙◌, subst, inl, inr, arith, true, false}
 use Rattle.std.proofs.lemmas.Bool.{cases_Bool, cases_lt}
 use Rattle.std.proofs.lemmas.Option.{slice_get_within, slice_get_cases, same_Some}
-use Rattle.ld_graph.specs.Arrows.{Arrow}
-use Rattle.ld_graph.specs.Circles.{arrow_of}
-use Rattle.ld_graph.specs.Facts.{DependenciesOf}
-use Rattle.ld_graph.specs.FactBits.{FactParts, HasFact}
-use Rattle.ld_graph.specs.Inside.Bits.{has_bit}
-use Rattle.ld_graph.specs.Inside.Places.{arrival}
+use Rattle.ld_facts.specs.Arrows.{Arrow}
+use Rattle.ld_facts.specs.Inside.Rows.{arrow_of}
+use Rattle.ld_facts.specs.Facts.{DependenciesOf}
+use Rattle.ld_facts.specs.FactBits.{FactParts, HasFact}
+use Rattle.ld_facts.specs.Inside.Bits.{has_bit}
+use Rattle.ld_facts.specs.Inside.Places.{arrival}
 use Rattle.ld_graph.specs.Inside.Searching.{Edge, Reached, GoesTo, SearchParts, stands_at, StandsAt, LeadsBack, Takes, Misses, Hits, SeesAllFrom, AreSteps, FindsGoal, NoGoalBy}
-use Rattle.ld_graph.specs.declared.dependency.Dependency.{Dependency}
+use Rattle.ld_facts.specs.declared.dependency.Dependency.{Dependency}
 use Rattle.ld_graph.specs.declared.search.Step.{Step}
 
 -- ---- where steps stand

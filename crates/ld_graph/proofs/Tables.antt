@@ -4,12 +4,12 @@ use Rattle.std.specs.Cmp.{both_ways}
 use Rattle.std.proofs.lemmas.Bool.{cases_eq, cases_lt, cases_Bool, or_cases, or_left, or_right, and_parts, and_from, not_from_false}
 use Rattle.std.proofs.lemmas.List.{get_or_past, get_or-replicate, length-replicate}
 use Rattle.ld_task.specs.Kinds.{is_s, is_r}
-use Rattle.ld_graph.specs.declared.places.TheConstants.{PLACES, ROW_WORDS}
-use Rattle.ld_graph.specs.Arrows.{Arrow}
-use Rattle.ld_graph.specs.Inside.Bits.{has_bit}
-use Rattle.ld_graph.specs.Inside.Places.{place, arrival, Leaves}
+use Rattle.ld_facts.specs.declared.places.TheConstants.{PLACES, ROW_WORDS}
+use Rattle.ld_facts.specs.Arrows.{Arrow}
+use Rattle.ld_facts.specs.Inside.Bits.{has_bit}
+use Rattle.ld_facts.specs.Inside.Places.{place, arrival, Leaves}
 use Rattle.ld_graph.specs.Inside.Tables.{reaches, Comes, IsSource, IsTarget, AreSpan, IsTransitive, TakesArrow, AreTables}
-use Rattle.ld_graph.proofs.BitLemmas.{has_bit-zeros, zeros_at}
+use Rattle.ld_facts.specs.BitLaws.{has_bit-zeros, zeros_at}
 use Rattle.ld_graph.proofs.Joining.{zero_row}
 
 -- ---- a table of zeros

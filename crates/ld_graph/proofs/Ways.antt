@@ -1,7 +1,7 @@
 -- Ways over places, and those that a new dependency opens.
 use Rattle.std.proofs.Common.{◌≡◌, ℕ, ◌⊎◌, ◌↔◌, List, refl, sym, subst, inl, inr, true}
-use Rattle.ld_graph.specs.Arrows.{Arrow}
-use Rattle.ld_graph.specs.Inside.Places.{arrival, Leaves, Leads, Path, none, step, Way}
+use Rattle.ld_facts.specs.Arrows.{Arrow}
+use Rattle.ld_facts.specs.Inside.Places.{arrival, Leaves, Leads, Path, none, step, Way}
 use Rattle.ld_graph.specs.Inside.Tables.{reaches, Comes, IsTransitive, TakesArrow}
 
 pub Path-append : (E : ℕ → ℕ → Type 0) {p q r : ℕ} → Path E p q → Path E q r → Path E p r

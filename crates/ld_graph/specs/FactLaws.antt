@@ -1,17 +1,16 @@
 -- Laws of sets of facts that the proofs of the crates above cite.
-use Rattle.std.specs.Prelude.{ℕ, zero, suc, ◌⊎◌, ◌↔◌, List, [], ◌∷◌, ◌++◌, All, Any, Contains}
-use Rattle.std.proofs.Common.{sym, subst, inl, inr, arith}
-use Rattle.std.proofs.lemmas.List.Elements.{Contains-push_cases, Contains-append_left, Contains-push}
+use Rattle.std.specs.Prelude.{ℕ, zero, suc, ◌↔◌, List, [], ◌∷◌, All}
+use Rattle.std.proofs.Common.{arith}
+use Rattle.std.proofs.lemmas.List.Elements.{All-contains}
 use Rattle.ld_trace.specs.declared.event.Irq.{Irq}
 use Rattle.ld_task.specs.declared.mark.Mark.TheVariants.{UsedIn, Enabled}
 use Rattle.ld_task.specs.Kinds.{is_s, is_r}
-use Rattle.ld_graph.specs.Arrows.{Arrow}
-use Rattle.ld_graph.specs.Counting.{IsNumberOf}
-use Rattle.ld_graph.specs.Facts.{AreSame, Holds, DependenciesOf}
+use Rattle.ld_facts.specs.Arrows.{Arrow}
+use Rattle.ld_facts.specs.Facts.{AreSame, Holds, DependenciesOf}
 use Rattle.ld_graph.specs.Links.{IsLink, IsDouble, IsDoubleBy, IsInversion, IsInversionWith, InInversion, IsShortestInversion, IsClean}
 use Rattle.ld_graph.specs.Walks.{StrongWalk, OnCircle, IsCircle, IsShortestCircle, IsShortestFrom}
-use Rattle.ld_graph.specs.declared.fact.Fact.{Fact}
-use Rattle.ld_graph.specs.declared.fact.Fact.TheVariants.{Dependency, Marked}
+use Rattle.ld_facts.specs.declared.fact.Fact.{Fact}
+use Rattle.ld_facts.specs.declared.fact.Fact.TheVariants.{Dependency, Marked}
 
 -- ---- the members of a strong walk
 -- each is one of the arrows
@@ -21,6 +20,11 @@ StrongWalk-members In a [] w zero d l = w
 StrongWalk-members In a [] w (suc i) d l = absurd (omega arith)
 StrongWalk-members In a (b ∷ rest) w zero d l = w.0
 StrongWalk-members In a (b ∷ rest) w (suc i) d l = StrongWalk-members In b rest w.2 i d (omega arith)
+
+-- what is on a circle is one of the arrows
+pub OnCircle-member : (Has : Fact → Type 0) (d : Arrow) → OnCircle Has d → DependenciesOf Has d
+OnCircle-member Has d (a, rest, w, c) =
+    All-contains (DependenciesOf Has) (a ∷ rest) d (StrongWalk-members (DependenciesOf Has) a rest w.0) c
 
 -- ---- a larger set
 pub StrongWalk-more : (P Q : Arrow → Type 0) → ((x : Arrow) → P x → Q x) →
@@ -122,32 +126,3 @@ module _ (P Q : Fact → Type 0) (same : AreSame P Q) where
 
   pub IsClean-same : IsClean P ↔ IsClean Q
   IsClean-same = (IsClean-fewer Q P back, IsClean-fewer P Q there)
-
-pub IsNumberOf-same : {A : Type 0} (P Q : A → Type 0) → ((x : A) → P x ↔ Q x) → (n : ℕ) →
-    IsNumberOf P n → IsNumberOf Q n
-IsNumberOf-same P Q same n number = record {
-  listed = number.listed;
-  once = number.once;
-  exact = λ x. ((λ h. (same x).0 ((number.exact x).0 h)), (λ h. (number.exact x).1 ((same x).1 h)));
-  count = number.count;
-}
-
--- ---- one member more in a list
-Any-member : {X : Type 0} (P : X → Type 0) (xs : List X) → Any P xs ↔ ((x : X) × Contains xs x × P x)
-Any-member P xs = (
-  (λ (k, x, l, e, h). (x, (k, l, e), h)),
-  (λ (x, c, h). let (k, l, e) = c in (k, x, l, e, h)),
-)
-
-pub Any-push : {X : Type 0} (P : X → Type 0) (xs : List X) (y : X) → Any P (xs ++ y ∷ []) ↔ (Any P xs ⊎ P y)
-Any-push P xs y = (
-  (λ h. let (x, c, p) = (Any-member P (xs ++ y ∷ [])).0 h in
-      elim (Contains-push_cases xs y x c) [
-        | inl i ↦ inl ((Any-member P xs).1 (x, i, p))
-        | inr e ↦ inr (subst P (sym e) p)
-      ]),
-  (λ h. (Any-member P (xs ++ y ∷ [])).1 (elim h [
-    | inl a ↦ (let (x, c, p) = (Any-member P xs).0 a in (x, Contains-append_left xs (y ∷ []) x c, p))
-    | inr p ↦ (y, Contains-push xs y, p)
-  ])),
-)

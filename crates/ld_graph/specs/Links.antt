@@ -4,11 +4,11 @@ use Rattle.std.specs.Prelude.{◌≡◌, ℕ, ◌≤◌, Bool, List, ◌∷◌, 
 use Rattle.ld_trace.specs.declared.event.Irq.{Irq}
 use Rattle.ld_task.specs.declared.mark.Mark.TheVariants.{UsedIn, Enabled}
 use Rattle.ld_task.specs.Kinds.{is_s, is_r, kind_of_letters}
-use Rattle.ld_graph.specs.Arrows.{Arrow, MayFollow, arrow}
-use Rattle.ld_graph.specs.Facts.{DependenciesOf}
+use Rattle.ld_facts.specs.Arrows.{Arrow, MayFollow, arrow}
+use Rattle.ld_facts.specs.Facts.{DependenciesOf}
 use Rattle.ld_graph.specs.Walks.{last, WalksTo, OnCircle}
-use Rattle.ld_graph.specs.declared.fact.Fact.{Fact}
-use Rattle.ld_graph.specs.declared.fact.Fact.TheVariants.{Marked}
+use Rattle.ld_facts.specs.declared.fact.Fact.{Fact}
+use Rattle.ld_facts.specs.declared.fact.Fact.TheVariants.{Marked}
 
 -- l is an interrupt link of the state: from a key that is used with it enabled to a key that is used in it.
 -- Its first letter is S for the read form of the one mark, its second R for the read form of the other

@@ -2,7 +2,7 @@
 
 ghost use Rattle.std.specs.Prelude.{◌≡◌, ℕ, ◌<◌, ◌≤◌, EachIndex, IfSome, length, map, option_map, slice_get, slice_index};
 ghost use Rattle.ld_trace.specs.declared.key_id.TheConstants.{MAX_MANY};
-ghost use Rattle.ld_graph.specs.Renumbered.{arrow_at};
+ghost use Rattle.ld_facts.specs.Renumbered.{arrow_at};
 ghost use Rattle.ld_graph.specs.Circles.{arrow_parts};
 
 use crate::walk::Walk;
@@ -22,7 +22,7 @@ pub struct Circle {
 impl Model for Circle {
     ghost use Rattle.std.specs.Prelude.{◌≤◌, List, length};
     ghost use Rattle.ld_graph.specs.declared.circle.TheConstants.{MAX_CIRCLE};
-    ghost use Rattle.ld_graph.specs.Arrows.{Arrow};
+    ghost use Rattle.ld_facts.specs.Arrows.{Arrow};
 
     ghost Value = { List Arrow };
 
@@ -40,8 +40,8 @@ impl Circle {
         Circle { walk }
     }
 
-    // The same circle by the keys that stand at the places that are its own keys.
-    pub(crate) fn by_keys(&self, keys: &[u16]) -> Circle
+    /// The same circle by the keys that stand at the places that are its own keys.
+    pub fn by_keys(&self, keys: &[u16]) -> Circle
         requires { EachIndex keys.now (λ i. slice_index keys.now i < MAX_MANY) }
         ensures { result ≡ map (arrow_at keys.now) self.now }
     {

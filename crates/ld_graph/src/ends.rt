@@ -2,15 +2,15 @@
 
 ghost use Rattle.std.specs.Prelude.{◌≡◌, ℕ, ◌<◌, ◌↔◌, ◌⊎◌, IsTrue, IsFalse};
 ghost use Rattle.ld_trace.specs.declared.event.Irq.{Irq};
-ghost use Rattle.ld_graph.specs.Inside.Bits.{has_bit};
-ghost use Rattle.ld_graph.specs.Numbers.{irq_number};
-ghost use Rattle.ld_graph.specs.Inside.Places.{LeavesFrom};
+ghost use Rattle.ld_facts.specs.Inside.Bits.{has_bit};
+ghost use Rattle.ld_facts.specs.Numbers.{irq_number};
+ghost use Rattle.ld_facts.specs.Inside.Places.{LeavesFrom};
 ghost use Rattle.ld_graph.specs.Inside.Kept.{arrives_at, departs_from, TakesMark, JoinsLinks, MarkTurnsBack};
 ghost use Rattle.ld_trace.specs.declared.key_id.TheConstants.{MAX_KEYS};
 
-use crate::bits;
-use crate::places::{ROW_WORDS, Row, place_of};
 use crate::reach::Reach;
+use ld_facts::places::{ROW_WORDS, Row, place_of};
+use ld_facts::{bits, irq_number};
 use ld_task::Mark;
 use ld_trace::Irq;
 
@@ -79,17 +79,6 @@ impl Ends {
             }
             Mark::Used => false,
         }
-    }
-}
-
-// The number of a state.
-pub(crate) fn irq_number(irq: Irq) -> usize
-    ensures value { result ≡ irq_number irq }
-    ensures below { result < 2 }
-{
-    match irq {
-        Irq::Hard => 0,
-        Irq::Soft => 1,
     }
 }
 

@@ -1,14 +1,14 @@
 //! Which places are reached from which, and from which places a place is reached.
 
 ghost use Rattle.std.specs.Prelude.{◌≡◌, ℕ, ◌+◌, ◌*◌, ◌<◌, ◌≤◌, ◌↔◌, ◌⊎◌, ◌||◌, ◌&&◌, length, IsTrue, IsFalse, IfOk};
-ghost use Rattle.ld_graph.specs.Arrows.{arrow};
-ghost use Rattle.ld_graph.specs.Inside.Bits.{has_bit};
-ghost use Rattle.ld_graph.specs.Inside.Places.{place, arrival, Leaves, LeavesFrom};
+ghost use Rattle.ld_facts.specs.Arrows.{arrow};
+ghost use Rattle.ld_facts.specs.Inside.Bits.{has_bit};
+ghost use Rattle.ld_facts.specs.Inside.Places.{place, arrival, Leaves, LeavesFrom};
 ghost use Rattle.ld_graph.specs.Inside.Tables.{reaches, IsSource, IsTarget, AreSpan, IsTransitive, TakesArrow};
 ghost use Rattle.ld_trace.specs.declared.key_id.TheConstants.{MAX_KEYS};
 
-use crate::bits;
-use crate::places::{PLACES, ROW_WORDS, Row, place_of};
+use ld_facts::bits;
+use ld_facts::places::{PLACES, ROW_WORDS, Row, place_of};
 use ld_task::Kind;
 use std::alloc::{AllocError, Global};
 use std::marker::Model;

@@ -2,21 +2,20 @@
 
 ghost use Rattle.std.specs.Prelude.{◌≡◌, ℕ, suc, ◌+◌, ◌-◌, ◌<◌, ◌≤◌, ◌⊎◌, ◌↔◌, [], ◌∷◌, ◌++◌, length, IsTrue, IsFalse, IsNone, IfSome};
 ghost use Rattle.ld_task.specs.Kinds.{is_r, is_s};
-ghost use Rattle.ld_graph.specs.Circles.{arrow_of};
-ghost use Rattle.ld_graph.specs.FactBits.{FactParts, HasFact};
-ghost use Rattle.ld_graph.specs.Facts.{DependenciesOf};
-ghost use Rattle.ld_graph.specs.Inside.Bits.{has_bit};
-ghost use Rattle.ld_graph.specs.Inside.Places.{arrival, Leaves};
-ghost use Rattle.ld_graph.specs.Inside.Searching.{AreSteps, FindsGoal, GoesTo, Hits, IsOfKeys, LeadsBack, Misses, NoGoalBy, SeesAllFrom, StandsAt, Takes, Visits};
+ghost use Rattle.ld_facts.specs.Inside.Rows.{arrow_of};
+ghost use Rattle.ld_facts.specs.FactBits.{FactParts, HasFact};
+ghost use Rattle.ld_facts.specs.Facts.{DependenciesOf};
+ghost use Rattle.ld_facts.specs.Inside.Bits.{has_bit};
+ghost use Rattle.ld_facts.specs.Inside.Places.{arrival, Leaves};
+ghost use Rattle.ld_graph.specs.Inside.Searching.{AreSteps, FindsGoal, GoesTo, Hits, LeadsBack, Misses, NoGoalBy, SeesAllFrom, StandsAt, Takes, Visits};
+ghost use Rattle.ld_facts.specs.Inside.Rows.{IsOfKeys};
 ghost use Rattle.ld_graph.specs.declared.walk.TheConstants.{MAX_WALK};
 ghost use Rattle.ld_trace.specs.declared.key_id.TheConstants.{MAX_KEYS};
 
-use crate::bits;
-use crate::dependency::Dependency;
-use crate::facts::Facts;
-use crate::places::{ROW_WORDS, Row, place_of};
 use crate::steps::Steps;
 use crate::walk::Walk;
+use ld_facts::places::{ROW_WORDS, Row, place_of};
+use ld_facts::{Dependency, Facts, bits};
 use ld_task::Kind;
 use std::marker::Model;
 

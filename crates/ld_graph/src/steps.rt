@@ -2,8 +2,8 @@
 
 ghost use Rattle.std.specs.Prelude.{◌≡◌, ◌+◌, ◌<◌, ◌≤◌, [], ◌∷◌, ◌++◌, length};
 
-use crate::places::PLACES;
 use crate::search::Step;
+use ld_facts::places::PLACES;
 use std::marker::Model;
 
 // The most steps of a search: the first, and one to each place.

@@ -2,12 +2,13 @@
 
 ghost use Rattle.std.specs.Prelude.{◌≡◌, ℕ, ◌<◌, ◌≤◌, [], ◌∷◌, EachIndex, IfSome, length, map, option_map, slice_get, slice_index};
 ghost use Rattle.ld_trace.specs.declared.key_id.TheConstants.{MAX_MANY};
-ghost use Rattle.ld_graph.specs.Circles.{arrow_of, arrow_parts};
-ghost use Rattle.ld_graph.specs.Inside.Searching.{IsOfManyKeys};
-ghost use Rattle.ld_graph.specs.Renumbered.{arrow_at};
+ghost use Rattle.ld_graph.specs.Circles.{arrow_parts};
+ghost use Rattle.ld_facts.specs.Inside.Rows.{arrow_of};
+ghost use Rattle.ld_facts.specs.Inside.Rows.{IsOfManyKeys};
+ghost use Rattle.ld_facts.specs.Renumbered.{arrow_at};
 
-use crate::dependency::Dependency;
-use crate::places::PLACES;
+use ld_facts::Dependency;
+use ld_facts::places::PLACES;
 use ld_task::Kind;
 use std::marker::Model;
 
@@ -26,7 +27,7 @@ pub struct Walk {
 impl Model for Walk {
     ghost use Rattle.std.specs.Prelude.{◌≡◌, ◌≤◌, List, length, take};
     ghost use Rattle.ld_graph.specs.declared.walk.TheConstants.{MAX_WALK};
-    ghost use Rattle.ld_graph.specs.Arrows.{Arrow};
+    ghost use Rattle.ld_facts.specs.Arrows.{Arrow};
     ghost use Rattle.ld_graph.specs.Circles.{forwards};
     ghost use Rattle.ld_graph.specs.Inside.Searching.{AreMembers};
 
@@ -59,8 +60,8 @@ impl Walk {
         self.len += 1;
     }
 
-    // The same walk by the keys that stand at the places that are its own keys.
-    pub(crate) fn by_keys(&self, keys: &[u16]) -> Walk
+    /// The same walk by the keys that stand at the places that are its own keys.
+    pub fn by_keys(&self, keys: &[u16]) -> Walk
         requires { EachIndex keys.now (λ i. slice_index keys.now i < MAX_MANY) }
         ensures { result ≡ map (arrow_at keys.now) self.now }
     {

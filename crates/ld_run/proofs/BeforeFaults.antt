@@ -7,9 +7,9 @@ use Rattle.ld_task.specs.declared.fault.StepFault.{StepFault}
 use Rattle.ld_task.specs.Laws.{BeginningsKeepTheirChains, BeginningsKeepTheirFaults}
 use Rattle.ld_task.specs.TraceChains.{chains}
 use Rattle.ld_task.specs.WellFormed.{IsWellFormed, IsFirstFault}
-use Rattle.ld_graph.specs.Facts.{TraceHas, ChainsHave, AreSame, Holds}
-use Rattle.ld_graph.specs.Laws.{TraceFactsAreTheChains}
-use Rattle.ld_graph.specs.declared.fact.Fact.{Fact}
+use Rattle.ld_facts.specs.Facts.{TraceHas, ChainsHave, AreSame, Holds}
+use Rattle.ld_facts.specs.Laws.{TraceFactsAreTheChains}
+use Rattle.ld_facts.specs.declared.fact.Fact.{Fact}
 use Rattle.ld_run.specs.Tallies.{HasBeforeFault}
 
 pub slice_get-take : {A : Type 0} (xs : List A) (i k : ℕ) → k < i → slice_get (take i xs) k ≡ slice_get xs k

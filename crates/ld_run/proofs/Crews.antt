@@ -6,10 +6,10 @@ use Rattle.std.proofs.lemmas.Bool.Decides.{nat_tests}
 use Rattle.std.proofs.lemmas.Option.{slice_get_within}
 use Rattle.ld_trace.specs.declared.event.Event.{Event}
 use Rattle.ld_task.specs.declared.fault.StepAt.{StepAt}
-use Rattle.ld_graph.specs.FactBits.{FactParts, HasFact}
-use Rattle.ld_graph.specs.Facts.{AreSame, Holds}
-use Rattle.ld_graph.specs.FactLaws.{Any-push}
-use Rattle.ld_graph.specs.declared.fact.Fact.{Fact}
+use Rattle.ld_facts.specs.FactBits.{FactParts, HasFact}
+use Rattle.ld_facts.specs.Facts.{AreSame, Holds}
+use Rattle.ld_facts.specs.ListLaws.{Any-push}
+use Rattle.ld_facts.specs.declared.fact.Fact.{Fact}
 use Rattle.ld_run.specs.Seats.{view, claims_of}
 use Rattle.ld_run.specs.Views.{newcomer, times, once_below, PutHas, SeenHas, KnowsFact}
 use Rattle.ld_run.specs.Tallies.{Every, HasBeforeFault, IsRefused, IsTally, LeastRefusedIs, OfSome}

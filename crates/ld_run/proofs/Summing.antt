@@ -9,11 +9,11 @@ use Rattle.ld_task.specs.EndState.{EndState}
 use Rattle.ld_task.specs.Steps.{GoesOn, IsStateAfter}
 use Rattle.ld_task.specs.TraceChains.{chains}
 use Rattle.ld_task.specs.WellFormed.{IsWellFormed}
-use Rattle.ld_graph.specs.FactBits.{FactParts, HasFact}
-use Rattle.ld_graph.specs.FactLaws.{Any-push}
-use Rattle.ld_graph.specs.Facts.{Adds, ChainHas, ChainsHave, TraceHas}
-use Rattle.ld_graph.specs.Laws.{TraceFactsAreTheChains}
-use Rattle.ld_graph.specs.declared.fact.Fact.{Fact}
+use Rattle.ld_facts.specs.FactBits.{FactParts, HasFact}
+use Rattle.ld_facts.specs.ListLaws.{Any-push}
+use Rattle.ld_facts.specs.Facts.{Adds, ChainHas, ChainsHave, TraceHas}
+use Rattle.ld_facts.specs.Laws.{TraceFactsAreTheChains}
+use Rattle.ld_facts.specs.declared.fact.Fact.{Fact}
 use Rattle.ld_run.proofs.Walking.{no_chains}
 
 -- the first n events of the trace were allowed, this is the state after them, and the facts of their chains were added

@@ -5,12 +5,12 @@ use Rattle.std.proofs.lemmas.Option.{get_or_from_slice_get}
 use Rattle.std.proofs.lemmas.List.Elements.{All-push}
 use Rattle.ld_trace.specs.declared.event.Event.{Event}
 use Rattle.ld_task.specs.WellFormed.{IsWellFormed}
-use Rattle.ld_graph.specs.FactBits.{FactParts, HasFact}
-use Rattle.ld_graph.specs.FactLaws.{Any-push}
-use Rattle.ld_graph.specs.Facts.{Adds, AreSame, TraceHas}
-use Rattle.ld_graph.specs.declared.fact.Fact.{Fact}
+use Rattle.ld_facts.specs.FactBits.{FactParts, HasFact}
+use Rattle.ld_facts.specs.ListLaws.{Any-push}
+use Rattle.ld_facts.specs.Facts.{Adds, AreSame, TraceHas}
+use Rattle.ld_facts.specs.declared.fact.Fact.{Fact}
 use Rattle.ld_run.specs.Surveys.{CompletesSurvey}
-use Rattle.ld_run.specs.TraceFacts.{TracesHave}
+use Rattle.ld_facts.specs.TraceFacts.{TracesHave}
 
 -- the first i traces are well formed, and these are their facts
 pub record IsSurveying (keys : ℕ) (facts : FactParts) (traces : List (List Event)) (i : ℕ) : Type 0 where

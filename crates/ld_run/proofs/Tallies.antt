@@ -5,13 +5,13 @@ use Rattle.ld_trace.specs.declared.event.Event.{Event}
 use Rattle.ld_task.specs.declared.fault.StepAt.{StepAt}
 use Rattle.ld_task.specs.Laws.{BeginningsKeepTheirChains}
 use Rattle.ld_task.specs.WellFormed.{IsWellFormed}
-use Rattle.ld_graph.specs.FactBits.{FactParts}
-use Rattle.ld_graph.specs.Facts.{TraceHas}
-use Rattle.ld_graph.specs.Laws.{TraceFactsAreTheChains}
-use Rattle.ld_run.specs.TraceFacts.{IsFirstRefused}
+use Rattle.ld_facts.specs.FactBits.{FactParts}
+use Rattle.ld_facts.specs.Facts.{TraceHas}
+use Rattle.ld_facts.specs.Laws.{TraceFactsAreTheChains}
+use Rattle.ld_facts.specs.TraceFacts.{IsFirstRefused}
 use Rattle.ld_run.specs.Runs.{CompletesRun, IsCrew}
 use Rattle.ld_run.specs.Tallies.{AreWellFormed, Every, HasBeforeFault, IsTally, OfSome}
-use Rattle.ld_run.specs.declared.runs.TheConstants.{MAX_TRACES}
+use Rattle.ld_trace.specs.declared.raw_trace.TheConstants.{MAX_TRACES}
 use Rattle.ld_run.proofs.BeforeFaults.{before_fault-all, slice_get-take}
 
 module _ (traces : List (List Event)) (facts : FactParts) where

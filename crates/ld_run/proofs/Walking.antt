@@ -11,9 +11,9 @@ use Rattle.ld_task.specs.Positions.{positions_below}
 use Rattle.ld_task.specs.EndState.{EndState}
 use Rattle.ld_task.specs.Steps.{GoesOn, IsStateAfter}
 use Rattle.ld_task.specs.TraceChains.{chains}
-use Rattle.ld_graph.specs.FactLaws.{Any-push}
-use Rattle.ld_graph.specs.Facts.{AreSame, ChainHas, ChainsHave, Holds}
-use Rattle.ld_graph.specs.declared.fact.Fact.{Fact}
+use Rattle.ld_facts.specs.ListLaws.{Any-push}
+use Rattle.ld_facts.specs.Facts.{AreSame, ChainHas, ChainsHave, Holds}
+use Rattle.ld_facts.specs.declared.fact.Fact.{Fact}
 use Rattle.ld_run.specs.Views.{KnowsFact}
 use Rattle.ld_run.specs.Work.{PutsOnly}
 use Rattle.ld_run.specs.Inside.Walks.{ComesNext, HasGathered, WalksOn, fault_in}

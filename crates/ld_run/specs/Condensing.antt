@@ -3,8 +3,8 @@ use Rattle.std.specs.Prelude.{ℕ, IsFalse, List}
 use Rattle.ld_trace.specs.declared.event.Event.{Event}
 use Rattle.ld_trace.specs.Events.{KeysBelow, has_try}
 use Rattle.ld_task.specs.WellFormed.{IsWellFormed}
-use Rattle.ld_graph.specs.Facts.{AreSame, TraceHas}
-use Rattle.ld_graph.specs.declared.fact.Fact.{Fact}
+use Rattle.ld_facts.specs.Facts.{AreSame, TraceHas}
+use Rattle.ld_facts.specs.declared.fact.Fact.{Fact}
 
 -- a well-formed trace without a try that has exactly these facts, with keys below their bound
 pub record IsCondensed (keys : ℕ) (Has : Fact → Type 0) (t : List Event) : Type 0 where

@@ -2,12 +2,13 @@
 use Rattle.std.specs.Prelude.{ℕ, ◌<◌, ◌≤◌, List, All, length, Result, Ok, Err}
 use Rattle.ld_trace.specs.declared.event.Event.{Event}
 use Rattle.ld_task.specs.WellFormed.{IsWellFormed}
-use Rattle.ld_graph.specs.FactBits.{FactParts, HasFact}
-use Rattle.ld_graph.specs.Facts.{AreSame}
-use Rattle.ld_run.specs.TraceFacts.{TracesHave, IsFirstRefused}
+use Rattle.ld_facts.specs.FactBits.{FactParts, HasFact}
+use Rattle.ld_facts.specs.Facts.{AreSame}
+use Rattle.ld_facts.specs.TraceFacts.{TracesHave, IsFirstRefused}
 use Rattle.ld_run.specs.declared.fault.RunFault.{RunFault}
 use Rattle.ld_run.specs.declared.fault.RunFault.TheVariants.{BadWorkers, TooManyTraces, Unsettled, Memory, Refused}
-use Rattle.ld_run.specs.declared.runs.TheConstants.{MAX_TRACES, MAX_WORKERS}
+use Rattle.ld_run.specs.declared.runs.TheConstants.{MAX_WORKERS}
+use Rattle.ld_trace.specs.declared.raw_trace.TheConstants.{MAX_TRACES}
 
 -- there can be this many workers
 abbrev pub IsCrew : ℕ → Type 0

@@ -1,7 +1,7 @@
 -- When a book settles with the workers' facts [this project's own].
 use Rattle.std.specs.Prelude.{◌≡◌}
-use Rattle.ld_graph.specs.FactBits.{FactParts, HasFact}
-use Rattle.ld_graph.specs.Facts.{AreSame}
+use Rattle.ld_facts.specs.FactBits.{FactParts, HasFact}
+use Rattle.ld_facts.specs.Facts.{AreSame}
 use Rattle.ld_book.specs.Books.{BookParts, JournalHas}
 
 -- the book's keys and facts are those of the tallies

@@ -2,11 +2,11 @@
 use Rattle.std.specs.Prelude.{⊤, List, All}
 use Rattle.ld_trace.specs.declared.event.Event.{Event}
 use Rattle.ld_task.specs.WellFormed.{IsWellFormed}
-use Rattle.ld_graph.specs.FactBits.{FactParts, HasFact}
-use Rattle.ld_graph.specs.Facts.{AreSame}
-use Rattle.ld_graph.specs.declared.parting_fault.PartingFault.{PartingFault}
-use Rattle.ld_graph.specs.declared.parting_fault.PartingFault.TheVariants as P
-use Rattle.ld_run.specs.TraceFacts.{TracesHave, IsFirstRefused}
+use Rattle.ld_facts.specs.FactBits.{FactParts, HasFact}
+use Rattle.ld_facts.specs.Facts.{AreSame}
+use Rattle.ld_parts.specs.declared.parting_fault.PartingFault.{PartingFault}
+use Rattle.ld_parts.specs.declared.parting_fault.PartingFault.TheVariants as P
+use Rattle.ld_facts.specs.TraceFacts.{TracesHave, IsFirstRefused}
 use Rattle.ld_run.specs.declared.survey_fault.SurveyFault.{SurveyFault}
 use Rattle.ld_run.specs.declared.survey_fault.SurveyFault.TheVariants.{TooTangled, Memory, Refused}
 

@@ -3,9 +3,9 @@ use Rattle.std.specs.Prelude.{◌≡◌, ◌<◌, ℕ, List, Option, Some, None,
 use Rattle.ld_trace.specs.declared.event.Event.{Event}
 use Rattle.ld_task.specs.declared.fault.StepAt.{StepAt}
 use Rattle.ld_task.specs.WellFormed.{IsWellFormed, IsFirstFault}
-use Rattle.ld_graph.specs.FactBits.{FactParts, HasFact}
-use Rattle.ld_graph.specs.Facts.{AreSame, TraceHas}
-use Rattle.ld_graph.specs.declared.fact.Fact.{Fact}
+use Rattle.ld_facts.specs.FactBits.{FactParts, HasFact}
+use Rattle.ld_facts.specs.Facts.{AreSame, TraceHas}
+use Rattle.ld_facts.specs.declared.fact.Fact.{Fact}
 
 -- the trace has the fact before its first event that isn't allowed: a well-formed beginning of it has
 abbrev pub HasBeforeFault : List Event → Fact → Type 0

@@ -2,8 +2,8 @@
 use Rattle.std.specs.Prelude.{◌≡◌, ◌⊎◌, ◌≤◌, ℕ, List, ◌∷◌, ◌++◌, Option, IfSome, IsFalse, Contains, length}
 use Rattle.ld_trace.specs.declared.event.Event.{Event}
 use Rattle.ld_task.specs.declared.fault.StepAt.{StepAt}
-use Rattle.ld_graph.specs.Facts.{Holds}
-use Rattle.ld_graph.specs.declared.fact.Fact.{Fact}
+use Rattle.ld_facts.specs.Facts.{Holds}
+use Rattle.ld_facts.specs.declared.fact.Fact.{Fact}
 use Rattle.ld_run.specs.Views.{PutHas, KnowsFact}
 use Rattle.ld_run.specs.Seats.{view}
 use Rattle.ld_run.specs.Tallies.{HasBeforeFault, IsRefused, LeastRefusedIs, OfSome}

@@ -3,10 +3,10 @@
 ghost use Rattle.std.specs.Prelude.{◌≡◌, IfErr, OnOk};
 ghost use Rattle.ld_trace.specs.Events.{KeysBelow};
 ghost use Rattle.ld_task.specs.WellFormed.{IsFirstFault, IsWellFormed};
-ghost use Rattle.ld_graph.specs.FactBits.{HasFact};
-ghost use Rattle.ld_graph.specs.Facts.{Adds, TraceHas};
+ghost use Rattle.ld_facts.specs.FactBits.{HasFact};
+ghost use Rattle.ld_facts.specs.Facts.{Adds, TraceHas};
 
-use ld_graph::Facts;
+use ld_facts::Facts;
 use ld_task::{StepAt, TaskState};
 use ld_trace::RawTrace;
 
@@ -18,7 +18,7 @@ pub(crate) fn add_trace(facts: &mut Facts, trace: &RawTrace) -> Result<(), StepA
     ensures adds { OnOk result (Adds (HasFact facts.old) (HasFact facts.new) (TraceHas trace.now)) }
     ensures refused { IfErr result (IsFirstFault trace.now) }
 {
-    ld_graph::trace_facts_are_the_chains();
+    ld_facts::trace_facts_are_the_chains();
     ld_task::chain_keys_are_the_traces();
     let mut state = TaskState::new();
     for place in 0..trace.len() {

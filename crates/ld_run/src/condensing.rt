@@ -7,14 +7,15 @@ ghost use Rattle.std.specs.Prelude.{◌≡◌, ◌≤◌, IfOk};
 ghost use Rattle.ld_trace.specs.declared.key_id.TheConstants.{MAX_MANY};
 ghost use Rattle.ld_trace.specs.Events.{KeysBelow};
 ghost use Rattle.ld_task.specs.WellFormed.{IsWellFormed};
-ghost use Rattle.ld_graph.specs.FactBits.{HasFact};
-ghost use Rattle.ld_graph.specs.Facts.{AreSame, TraceHas};
+ghost use Rattle.ld_facts.specs.FactBits.{HasFact};
+ghost use Rattle.ld_facts.specs.Facts.{AreSame, TraceHas};
 ghost use Rattle.ld_run.specs.Condensing.{IsCondensed};
 
 use crate::adding::add_trace;
 use crate::condense_fault::CondenseFault;
 use crate::settled::Settled;
-use ld_graph::{Facts, Kind, Mark};
+use ld_facts::Facts;
+use ld_graph::{Kind, Mark};
 use ld_trace::{Event, Irq, KeyId, Mode, RawTrace};
 use std::alloc::{AllocError, Global};
 

@@ -19,16 +19,13 @@ use crate::seat::Seat;
 use crate::settled::{Settled, settle};
 use crate::worker::{Lost, Worked, work};
 use ld_book::{Book, LockedBook};
-use ld_graph::Facts;
+use ld_facts::Facts;
 use ld_task::StepAt;
-use ld_trace::{Event, MAX_EVENTS, MAX_KEYS, RawTrace};
+use ld_trace::{Event, MAX_EVENTS, MAX_KEYS, MAX_TRACES, RawTrace};
 use std::alloc::{AllocError, Global};
 use std::sync::Wait;
 use std::thread;
 use std::thread::Threads;
-
-/// The most traces of a run.
-pub const MAX_TRACES: usize = 4096;
 
 /// The most workers of a run.
 pub const MAX_WORKERS: u16 = 64;
@@ -133,7 +130,7 @@ fn conclude(
     ensures keys { IfOk result (λ settled. settled.keys ≡ together.now.keys) }
     ensures allowed { ¬ IsErrOf result RunFault.BadWorkers × ¬ IsErrOf result RunFault.TooManyTraces }
 {
-    ld_graph::trace_facts_are_the_chains();
+    ld_facts::trace_facts_are_the_chains();
     ld_task::beginnings_keep_their_chains();
     match refused {
         None => settle(book, together),

@@ -5,7 +5,7 @@ ghost use Rattle.ld_run.specs.Views.{newcomer};
 ghost use Rattle.ld_run.specs.declared.seat.TheConstants.{MAX_CLAIMS};
 
 use crate::view::View;
-use ld_graph::FactWords;
+use ld_facts::FactWords;
 
 /// The most claims of a seat.
 pub const MAX_CLAIMS: u64 = 1 << 32;

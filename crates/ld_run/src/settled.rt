@@ -1,18 +1,20 @@
 //! The facts of a completed run, when a book has them, and what they mean.
 
 ghost use Rattle.std.specs.Prelude.{◌≡◌, ◌*◌, ◌≤◌, ◌↔◌, IfErr, IfOk, IfSome, IsNone, IsOk, IsTrue, length};
-ghost use Rattle.ld_graph.specs.Arrows.{Arrow, arrow};
-ghost use Rattle.ld_graph.specs.Counting.{IsNumberOf};
-ghost use Rattle.ld_graph.specs.FactBits.{HasFact};
-ghost use Rattle.ld_graph.specs.Facts.{DependenciesOf};
+ghost use Rattle.ld_facts.specs.Arrows.{Arrow, arrow};
+ghost use Rattle.ld_facts.specs.Counting.{IsNumberOf};
+ghost use Rattle.ld_facts.specs.FactBits.{HasFact};
+ghost use Rattle.ld_facts.specs.Facts.{DependenciesOf};
 ghost use Rattle.ld_graph.specs.Links.{InInversion, IsClean, IsDouble, IsDoubleBy, IsInversion, IsShortestInversion, link_by};
 ghost use Rattle.ld_graph.specs.Walks.{IsShortestCircle, IsShortestFrom, OnCircle};
-ghost use Rattle.ld_graph.specs.declared.fact.Fact.{Fact};
+ghost use Rattle.ld_facts.specs.declared.fact.Fact.{Fact};
 ghost use Rattle.ld_run.specs.Settling.{Settles};
 
 use crate::fault::RunFault;
 use ld_book::Book;
-use ld_graph::{Circle, Facts, Graph, InversionWalk, Kind, Mark, PartedGraph, Walk};
+use ld_facts::Facts;
+use ld_graph::{Circle, Graph, InversionWalk, Kind, Mark, Walk};
+use ld_parts::PartedGraph;
 use ld_trace::Irq;
 use std::marker::Model;
 
@@ -31,7 +33,7 @@ pub(crate) enum Answers {
 }
 
 impl Model for Settled {
-    ghost use Rattle.ld_graph.specs.FactBits.{FactParts};
+    ghost use Rattle.ld_facts.specs.FactBits.{FactParts};
     ghost use Rattle.ld_run.specs.Inside.Answering.{facts_in};
 
     ghost Value = { FactParts };

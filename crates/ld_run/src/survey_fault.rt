@@ -3,7 +3,7 @@
 ghost use Rattle.std.specs.Prelude.{◌≡◌};
 ghost use Rattle.ld_run.specs.Faults.{survey_code_of};
 
-use ld_graph::PartingFault;
+use ld_parts::PartingFault;
 use ld_task::StepFault;
 use std::alloc::AllocError;
 use thiserror::Error;

@@ -3,7 +3,7 @@
 ghost use Rattle.std.specs.Prelude.{◌≡◌, ◌<◌, ◌≤◌, ◌+◌, ℕ, List, All, IfOk, OnOk, length};
 ghost use Rattle.ld_trace.specs.declared.event.Event.{Event};
 ghost use Rattle.ld_trace.specs.Events.{KeysBelow};
-ghost use Rattle.ld_graph.specs.Facts.{Holds};
+ghost use Rattle.ld_facts.specs.Facts.{Holds};
 ghost use Rattle.ld_run.specs.Boards.{keys_of, IsSeatOf};
 ghost use Rattle.ld_run.specs.Seats.{view};
 ghost use Rattle.ld_run.specs.Views.{KnowsFact};
@@ -106,7 +106,7 @@ fn walk_trace<R: Wait, G: Gate>(
     ensures knows { OnOk result (Holds (KnowsFact (keys_of board.now) (view seat.new)) (HasBeforeFault events.now)) }
     ensures found { IfOk result (FirstFaultIs events.now) }
 {
-    ld_graph::trace_facts_are_the_chains();
+    ld_facts::trace_facts_are_the_chains();
     ld_task::beginnings_keep_their_chains();
     ld_task::beginnings_keep_their_faults();
     let mut state = TaskState::new();

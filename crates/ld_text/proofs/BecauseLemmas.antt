@@ -9,7 +9,7 @@ use Rattle.std.proofs.lemmas.List.Elements.{Contains-append_cases, Contains-appe
 use Rattle.std.proofs.lemmas.List.MinMax.{ranks_by}
 use Rattle.std.proofs.lemmas.Option.{get_or_from_slice_get}
 use Rattle.ld_trace.specs.Names.{Name}
-use Rattle.ld_graph.specs.Arrows.{Arrow}
+use Rattle.ld_facts.specs.Arrows.{Arrow}
 use Rattle.ld_text.specs.Inside.Turning.{TellsTurned, starts_before}
 use Rattle.ld_text.specs.Report.{member_text}
 use Rattle.ld_text.specs.Words.{key_text, name_at}

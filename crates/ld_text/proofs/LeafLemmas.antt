@@ -5,11 +5,11 @@ use Rattle.std.proofs.lemmas.List.{append_assoc, append-nil, length-append, take
 use Rattle.std.proofs.lemmas.Option.{get_or_from_slice_get}
 use Rattle.ld_trace.specs.Names.{Name}
 use Rattle.ld_trace.specs.declared.event.Event.{Event}
-use Rattle.ld_graph.specs.Arrows.{Arrow}
-use Rattle.ld_graph.specs.FactBits.{FactParts, HasFact}
-use Rattle.ld_graph.specs.Facts.{AreSame}
-use Rattle.ld_graph.specs.declared.fact.Fact.{Fact}
-use Rattle.ld_run.specs.TraceFacts.{TracesHave}
+use Rattle.ld_facts.specs.Arrows.{Arrow}
+use Rattle.ld_facts.specs.FactBits.{FactParts, HasFact}
+use Rattle.ld_facts.specs.Facts.{AreSame}
+use Rattle.ld_facts.specs.declared.fact.Fact.{Fact}
+use Rattle.ld_facts.specs.TraceFacts.{TracesHave}
 use Rattle.ld_explain.specs.Origins.{IsFirst, IsOriginOf}
 use Rattle.ld_explain.specs.declared.origins.Origin.{Origin}
 use Rattle.ld_text.specs.Explanation.{IsOriginLine, Told, occurrence_text, waits_line, waits_text}

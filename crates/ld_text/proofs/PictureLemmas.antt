@@ -1,11 +1,11 @@
 -- Pictures of equal facts.
 use Rattle.std.proofs.Common.{◌≡◌, ◌↔◌, ◌⊎◌, ℕ, Bool, true, false, List, Any, inl, inr}
 use Rattle.ld_trace.specs.Names.{Name}
-use Rattle.ld_graph.specs.Arrows.{Arrow, arrow}
-use Rattle.ld_graph.specs.Facts.{AreSame}
+use Rattle.ld_facts.specs.Arrows.{Arrow, arrow}
+use Rattle.ld_facts.specs.Facts.{AreSame}
 use Rattle.ld_graph.specs.FactLaws.{InInversion-same, IsDouble-same, IsInversion-same, OnCircle-same}
-use Rattle.ld_graph.specs.declared.fact.Fact.{Fact}
-use Rattle.ld_graph.specs.declared.fact.Fact.TheVariants.{Dependency}
+use Rattle.ld_facts.specs.declared.fact.Fact.{Fact}
+use Rattle.ld_facts.specs.declared.fact.Fact.TheVariants.{Dependency}
 use Rattle.ld_text.specs.Groups.{InSequence}
 use Rattle.ld_text.specs.Picture.{AreJoined, IsFoundArrow, IsFoundKey, IsNode, IsPicture, ShowsColoured, ShowsEdge, ShowsKey, edge_line, link_line}
 use Rattle.ld_text.specs.Report.{forms}

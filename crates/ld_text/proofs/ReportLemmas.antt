@@ -3,13 +3,14 @@ use Rattle.std.proofs.Common.{ℕ, Bool, List, [], ◌∷◌, IsTrue, ◌↔◌,
 use Rattle.ld_trace.specs.Names.{Name}
 use Rattle.ld_trace.specs.declared.event.Irq.{Irq}
 use Rattle.ld_task.specs.declared.mark.Mark.TheVariants.{UsedIn, Enabled}
-use Rattle.ld_graph.specs.Arrows.{Arrow}
-use Rattle.ld_graph.specs.Facts.{AreSame, DependenciesOf}
-use Rattle.ld_graph.specs.FactLaws.{IsClean-same, IsNumberOf-same, IsShortestCircle-same, OnCircle-same, StrongWalk-members}
+use Rattle.ld_facts.specs.Arrows.{Arrow}
+use Rattle.ld_facts.specs.Facts.{AreSame, DependenciesOf}
+use Rattle.ld_graph.specs.FactLaws.{IsClean-same, IsShortestCircle-same, OnCircle-same, StrongWalk-members}
+use Rattle.ld_facts.specs.CountingLaws.{IsNumberOf-same}
 use Rattle.ld_graph.specs.Walks.{OnCircle}
 use Rattle.ld_graph.specs.Links.{IsClean}
-use Rattle.ld_graph.specs.declared.fact.Fact.{Fact}
-use Rattle.ld_graph.specs.declared.fact.Fact.TheVariants.{Dependency, Marked}
+use Rattle.ld_facts.specs.declared.fact.Fact.{Fact}
+use Rattle.ld_facts.specs.declared.fact.Fact.TheVariants.{Dependency, Marked}
 use Rattle.ld_text.specs.Groups.{InSequence, InTurn, ShowsWhere}
 use Rattle.ld_text.specs.Report.{AreTotals, IsReport, IsUsageCharacter, IsUsageLine, ShowsBecause, forms}
 use Rattle.ld_text.proofs.FindingLemmas.{AreFound-same}

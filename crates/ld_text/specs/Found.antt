@@ -1,10 +1,10 @@
 -- What was found: the findings of facts as lists, in the report's order [this project's own].
 use Rattle.std.specs.Prelude.{◌≡◌, ◌⊎◌, ℕ, List, [], ◌∷◌, flat_map, map}
 use Rattle.ld_trace.specs.declared.event.Irq.{Irq}
-use Rattle.ld_graph.specs.Arrows.{Arrow, arrow}
+use Rattle.ld_facts.specs.Arrows.{Arrow, arrow}
 use Rattle.ld_graph.specs.Links.{IsDouble, IsInversion}
 use Rattle.ld_graph.specs.Walks.{OnCircle}
-use Rattle.ld_graph.specs.declared.fact.Fact.{Fact}
+use Rattle.ld_facts.specs.declared.fact.Fact.{Fact}
 use Rattle.ld_text.specs.Words.{kinds, states}
 
 -- those of a list that P holds of, in its order

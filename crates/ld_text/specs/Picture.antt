@@ -3,12 +3,12 @@ use Rattle.std.specs.Prelude.{◌≡◌, ◌==◌, ◌⊎◌, ℕ, Bool, true, f
 use Rattle.ld_trace.specs.Names.{Name}
 use Rattle.ld_trace.specs.declared.event.Event.{Event}
 use Rattle.ld_trace.specs.declared.event.Irq.{Irq}
-use Rattle.ld_graph.specs.Arrows.{Arrow, arrow}
-use Rattle.ld_graph.specs.Facts.{DependenciesOf}
+use Rattle.ld_facts.specs.Arrows.{Arrow, arrow}
+use Rattle.ld_facts.specs.Facts.{DependenciesOf}
 use Rattle.ld_graph.specs.Links.{InInversion, IsDouble, IsInversion}
 use Rattle.ld_graph.specs.Walks.{OnCircle}
-use Rattle.ld_graph.specs.declared.fact.Fact.{Fact}
-use Rattle.ld_run.specs.TraceFacts.{TracesHave}
+use Rattle.ld_facts.specs.declared.fact.Fact.{Fact}
+use Rattle.ld_facts.specs.TraceFacts.{TracesHave}
 use Rattle.ld_text.specs.Groups.{InSequence, InTurn, ShowsWhere}
 use Rattle.ld_text.specs.Order.{IsKeyOrder}
 use Rattle.ld_text.specs.Report.{IsUsageCharacter, forms}

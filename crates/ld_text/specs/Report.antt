@@ -6,14 +6,14 @@ use Rattle.ld_trace.specs.declared.event.Event.{Event}
 use Rattle.ld_trace.specs.declared.event.Irq.{Irq}
 use Rattle.ld_trace.specs.declared.event.Irq.TheVariants.{Hard, Soft}
 use Rattle.ld_task.specs.declared.mark.Mark.TheVariants.{UsedIn, Enabled}
-use Rattle.ld_graph.specs.Arrows.{Arrow}
-use Rattle.ld_graph.specs.Facts.{DependenciesOf}
-use Rattle.ld_graph.specs.declared.fact.Fact.{Fact}
-use Rattle.ld_graph.specs.declared.fact.Fact.TheVariants.{Marked}
+use Rattle.ld_facts.specs.Arrows.{Arrow}
+use Rattle.ld_facts.specs.Facts.{DependenciesOf}
+use Rattle.ld_facts.specs.declared.fact.Fact.{Fact}
+use Rattle.ld_facts.specs.declared.fact.Fact.TheVariants.{Marked}
 use Rattle.ld_graph.specs.Walks.{IsShortestCircle, OnCircle}
 use Rattle.ld_graph.specs.Links.{IsClean}
-use Rattle.ld_graph.specs.Counting.{IsNumberOf}
-use Rattle.ld_run.specs.TraceFacts.{TracesHave}
+use Rattle.ld_facts.specs.Counting.{IsNumberOf}
+use Rattle.ld_facts.specs.TraceFacts.{TracesHave}
 use Rattle.ld_text.specs.Words.{irq_text, key_text, kind_text, name_at}
 use Rattle.ld_text.specs.Order.{IsKeyOrder, name_cmp}
 use Rattle.ld_text.specs.Found.{AreFound, FoundParts}

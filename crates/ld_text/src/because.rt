@@ -2,7 +2,7 @@
 
 ghost use Rattle.std.specs.Prelude.{◌≡◌, ◌<◌, ◌≤◌, ◌-◌, ◌++◌, OnOk, Some, drop, flat_map, length, slice_get, string_bytes, take};
 ghost use Rattle.std.specs.List.{IsFirstBest};
-ghost use Rattle.ld_graph.specs.Arrows.{arrow};
+ghost use Rattle.ld_facts.specs.Arrows.{arrow};
 ghost use Rattle.ld_text.specs.Inside.Turning.{TellsTurned, starts_before};
 ghost use Rattle.ld_text.specs.Report.{member_text};
 

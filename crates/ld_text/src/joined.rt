@@ -1,9 +1,9 @@
 //! Which dependencies and keys are part of a finding.
 
 ghost use Rattle.std.specs.Prelude.{◌≡◌, ◌↔◌, ◌⊎◌, ℕ, ◌<◌, Any, IfOk, IsFalse, IsTrue, length, false, slice_index, slice_index_or};
-ghost use Rattle.ld_graph.specs.Arrows.{arrow};
-ghost use Rattle.ld_graph.specs.FactBits.{HasFact};
-ghost use Rattle.ld_graph.specs.declared.fact.Fact.{Fact};
+ghost use Rattle.ld_facts.specs.Arrows.{arrow};
+ghost use Rattle.ld_facts.specs.FactBits.{HasFact};
+ghost use Rattle.ld_facts.specs.declared.fact.Fact.{Fact};
 ghost use Rattle.ld_task.specs.declared.kind.Kind.{Kind};
 ghost use Rattle.ld_text.specs.Inside.Joined.{AreJoinedKeys, Leads};
 ghost use Rattle.ld_text.specs.Picture.{IsFoundArrow};

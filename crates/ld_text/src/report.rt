@@ -2,7 +2,7 @@
 
 ghost use Rattle.std.specs.Prelude.{◌≡◌, ◌++◌, List, ℕ, OnOk, IfOk, IfErr, flat_map, length, map, string_bytes, sum_by};
 ghost use Rattle.std.specs.Io.KnownBytes.{Appends};
-ghost use Rattle.ld_graph.specs.FactBits.{HasFact};
+ghost use Rattle.ld_facts.specs.FactBits.{HasFact};
 ghost use Rattle.ld_text.specs.WriteFaults.{StopsWriting};
 ghost use Rattle.ld_text.specs.Groups.{GrowsBy, InSequence, InTurn};
 ghost use Rattle.ld_text.specs.Report.{AreTotals, IsReport, IsUsageCharacter, IsUsageLine, ShowsBecause, circle_line, clean_line, double_line, findings, forms, inversion_line, total_line, usage_character};

@@ -9,6 +9,9 @@ use std::marker::Model;
 /// The most events that a trace may have.
 pub const MAX_EVENTS: usize = 1_000_000;
 
+/// The most traces that are taken together.
+pub const MAX_TRACES: usize = 4096;
+
 /// One task's events in order, at most 1,000,000 of them, not yet checked against each other.
 #[derive(Drop, Debug)]
 pub struct RawTrace {

@@ -8,8 +8,8 @@ use Rattle.ld_trace.specs.declared.event.Event.{Event}
 use Rattle.ld_trace.specs.declared.raw_trace.TheConstants.{MAX_EVENTS}
 use Rattle.ld_run.specs.Condensing.{IsCondensed}
 use Rattle.ld_run.specs.declared.condense_fault.CondenseFault.{CondenseFault}
-use Rattle.ld_graph.specs.Facts.{AreSame}
-use Rattle.ld_graph.specs.declared.fact.Fact.{Fact}
+use Rattle.ld_facts.specs.Facts.{AreSame}
+use Rattle.ld_facts.specs.declared.fact.Fact.{Fact}
 use Rattle.lockdep.specs.Condensed.{IsCondensedText, ReadsBackAnew}
 
 -- a trace that has the one has the other

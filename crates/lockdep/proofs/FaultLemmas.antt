@@ -6,7 +6,7 @@ use Rattle.ld_trace.specs.Names.{Name}
 use Rattle.ld_trace.specs.declared.event.Event.{Event}
 use Rattle.ld_task.specs.WellFormed.{IsWellFormed}
 use Rattle.ld_run.specs.Runs.{IsCrew}
-use Rattle.ld_run.specs.declared.runs.TheConstants.{MAX_TRACES}
+use Rattle.ld_trace.specs.declared.raw_trace.TheConstants.{MAX_TRACES}
 use Rattle.ld_run.specs.declared.fault.RunFault.TheVariants as run
 use Rattle.lockdep.specs.declared.fault.ReportFault.{ReportFault}
 use Rattle.lockdep.specs.declared.fault.ReportFault.TheVariants.{Step, Run, Survey, Condensing, Out}

@@ -8,7 +8,7 @@ use Rattle.ld_text.specs.WriteFaults.{StopsWriting}
 use Rattle.lockdep.specs.Texts.{OutputView, report, condensed, IsTextOf}
 use Rattle.ld_text.specs.declared.write_fault.WriteFault.TheVariants.{Memory}
 use Rattle.ld_run.specs.Runs.{IsCrew, StopsRun}
-use Rattle.ld_run.specs.declared.runs.TheConstants.{MAX_TRACES}
+use Rattle.ld_trace.specs.declared.raw_trace.TheConstants.{MAX_TRACES}
 use Rattle.ld_run.specs.declared.fault.RunFault.{RunFault}
 use Rattle.lockdep.specs.declared.fault.ReportFault.{ReportFault}
 use Rattle.lockdep.specs.declared.fault.ReportFault.TheVariants.{Step, Run, Survey, Condensing, Out}

@@ -9,7 +9,7 @@ use Rattle.ld_trace.specs.Reading.{ReadsTo, StopsAt}
 use Rattle.ld_task.specs.WellFormed.{IsFirstFault, IsWellFormed}
 use Rattle.ld_graph.specs.Links.{IsClean}
 use Rattle.ld_run.specs.Runs.{IsCrew}
-use Rattle.ld_run.specs.declared.runs.TheConstants.{MAX_TRACES}
+use Rattle.ld_trace.specs.declared.raw_trace.TheConstants.{MAX_TRACES}
 use Rattle.ld_text.specs.Words.{Text}
 use Rattle.ld_text.specs.ChainLines.{chains_text}
 use Rattle.ld_words.specs.CommandLine.{AskForText, IsLineOf}
@@ -17,7 +17,7 @@ use Rattle.lockdep.specs.Faults.{StopsText}
 use Rattle.ld_text.specs.Output.{AppendsBeginning}
 use Rattle.lockdep.specs.Texts.{OutputView, report, explanation, json, picture, condensed, IsTextOf}
 use Rattle.ld_text.specs.Words.{file_at}
-use Rattle.ld_run.specs.TraceFacts.{TracesHave}
+use Rattle.ld_facts.specs.TraceFacts.{TracesHave}
 use Rattle.ld_words.specs.declared.words.Line.{Line}
 use Rattle.ld_words.specs.declared.words.Line.TheVariants.{Check, Chains, Condense, Explain, Graph}
 use Rattle.lockdep.specs.declared.fault.ReportFault.{ReportFault}

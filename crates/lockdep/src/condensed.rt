@@ -4,7 +4,7 @@ ghost use Rattle.std.specs.Prelude.{◌≡◌, List, ℕ, IfErr, IfOk, IsOkAnd, 
 ghost use Rattle.ld_trace.specs.Events.{KeysBelow};
 ghost use Rattle.ld_trace.specs.Writing.{trace_text};
 ghost use Rattle.std.specs.Io.KnownBytes.{Appends};
-ghost use Rattle.ld_graph.specs.FactBits.{HasFact};
+ghost use Rattle.ld_facts.specs.FactBits.{HasFact};
 ghost use Rattle.lockdep.specs.Condensed.{IsCondensedText, ReadsBackAnew};
 ghost use Rattle.lockdep.specs.Faults.{IsBeforeWriting, StopsSettled};
 ghost use Rattle.lockdep.specs.Inside.CondensedFaults.{no_text_of};

@@ -4,9 +4,9 @@ ghost use Rattle.std.specs.Prelude.{◌≡◌, ◌≤◌, ℕ, List, All, IfErr,
 ghost use Rattle.std.specs.Io.KnownBytes.{Appends};
 ghost use Rattle.ld_trace.specs.Events.{KeysBelow};
 ghost use Rattle.ld_task.specs.WellFormed.{IsWellFormed};
-ghost use Rattle.ld_graph.specs.FactBits.{HasFact};
-ghost use Rattle.ld_graph.specs.Facts.{AreSame};
-ghost use Rattle.ld_run.specs.TraceFacts.{TracesHave};
+ghost use Rattle.ld_facts.specs.FactBits.{HasFact};
+ghost use Rattle.ld_facts.specs.Facts.{AreSame};
+ghost use Rattle.ld_facts.specs.TraceFacts.{TracesHave};
 ghost use Rattle.lockdep.specs.Faults.{StopsSettled};
 ghost use Rattle.lockdep.specs.Texts.{IsTextOf, view_of};
 

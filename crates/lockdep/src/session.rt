@@ -10,7 +10,7 @@ ghost use Rattle.ld_trace.specs.Reading.{ReadsTo, StopsAt};
 ghost use Rattle.ld_task.specs.WellFormed.{IsWellFormed};
 ghost use Rattle.ld_graph.specs.Links.{IsClean};
 ghost use Rattle.ld_run.specs.Runs.{IsCrew};
-ghost use Rattle.ld_run.specs.TraceFacts.{TracesHave};
+ghost use Rattle.ld_facts.specs.TraceFacts.{TracesHave};
 ghost use Rattle.ld_text.specs.Report.{IsReportOf};
 ghost use Rattle.lockdep.specs.Faults.{StopsReport, StopsText};
 ghost use Rattle.lockdep.specs.Texts.{IsTextOf, view_of};

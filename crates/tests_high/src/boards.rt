@@ -8,7 +8,8 @@ ghost use Rattle.ld_run.specs.Views.{newcomer};
 
 use crate::runs::gates::{Meeting, one_lock_each};
 use ld_book::{Book, LockedBook};
-use ld_graph::{Facts, Mark};
+use ld_facts::Facts;
+use ld_graph::Mark;
 use ld_run::{Board, BoardFault, MAX_TRACES, Seat, Worked, work};
 use ld_task::Chain;
 use ld_trace::RawTrace;

@@ -1,6 +1,6 @@
 //! Traces as constants, and what they give.
 
-use ld_graph::Facts;
+use ld_facts::Facts;
 use ld_task::{Chain, TaskState};
 use ld_trace::{Event, Irq, KeyId, MAX_KEYS, Mode, RawTrace};
 use std::alloc::Global;

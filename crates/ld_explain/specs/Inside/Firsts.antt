@@ -4,9 +4,9 @@ use Rattle.ld_trace.specs.declared.event.Event.{Event}
 use Rattle.ld_task.specs.Chains.{ChainParts}
 use Rattle.ld_task.specs.Placed.{IsPlacedAfter, PlacedParts, held_positions}
 use Rattle.ld_task.specs.WellFormed.{IsWellFormed}
-use Rattle.ld_graph.specs.ChainFacts.{chain_fact, fact_slots, slot_held}
-use Rattle.ld_graph.specs.FactBits.{FactParts, HasFact}
-use Rattle.ld_graph.specs.declared.fact.Fact.{Fact}
+use Rattle.ld_facts.specs.ChainFacts.{chain_fact, fact_slots, slot_held}
+use Rattle.ld_facts.specs.FactBits.{FactParts, HasFact}
+use Rattle.ld_facts.specs.declared.fact.Fact.{Fact}
 use Rattle.ld_explain.specs.Origins.{HasOrigin, NoLater, Occurs, OriginParts}
 use Rattle.ld_explain.specs.declared.origins.Origin.{Origin}
 

@@ -6,18 +6,18 @@ use Rattle.ld_task.specs.declared.mark.Mark.{Mark}
 use Rattle.ld_task.specs.declared.mark.Mark.TheVariants.{Used, UsedIn, Enabled}
 use Rattle.ld_task.specs.Kinds.{is_r}
 use Rattle.ld_trace.specs.declared.key_id.TheConstants.{MAX_KEYS}
-use Rattle.ld_graph.specs.Arrows.{Arrow, MayFollow, arrow}
-use Rattle.ld_graph.specs.Inside.Bits.{has_bit}
-use Rattle.ld_graph.specs.Facts.{DependenciesOf}
-use Rattle.ld_graph.specs.FactBits.{FactParts, HasFact, rows_allowed}
+use Rattle.ld_facts.specs.Arrows.{Arrow, MayFollow, arrow}
+use Rattle.ld_facts.specs.Inside.Bits.{has_bit}
+use Rattle.ld_facts.specs.Facts.{DependenciesOf}
+use Rattle.ld_facts.specs.FactBits.{FactParts, HasFact, rows_allowed}
 use Rattle.ld_graph.specs.Links.{IsLink, IsClean}
-use Rattle.ld_graph.specs.Numbers.{irq_number}
-use Rattle.ld_graph.specs.Inside.Places.{LeavesFrom, Leads, Way, LinkArrives, LinkLeaves}
+use Rattle.ld_facts.specs.Numbers.{irq_number}
+use Rattle.ld_facts.specs.Inside.Places.{LeavesFrom, Leads, Way, LinkArrives, LinkLeaves}
 use Rattle.ld_graph.specs.Inside.Tables.{reaches, IsSource, IsTarget}
 use Rattle.ld_graph.specs.Walks.{StrongWalk, last}
 use Rattle.ld_graph.specs.declared.ends.Ends.{Ends}
-use Rattle.ld_graph.specs.declared.fact.Fact.{Fact}
-use Rattle.ld_graph.specs.declared.fact.Fact.TheVariants.{Marked}
+use Rattle.ld_facts.specs.declared.fact.Fact.{Fact}
+use Rattle.ld_facts.specs.declared.fact.Fact.TheVariants.{Marked}
 
 -- the place is one where links of the state arrive, or one that they leave
 abbrev pub arrives_at : Ends → Irq → ℕ → Bool

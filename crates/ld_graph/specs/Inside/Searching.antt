@@ -1,49 +1,23 @@
 -- How a search over places goes: a list of steps, each a dependency and the step that it was taken from. The first step
 -- stands for the start.
-use Rattle.std.specs.Prelude.{◌≡◌, ℕ, suc, zero, ◌+◌, ◌*◌, ◌-◌, ◌<◌, ◌≤◌, ◌⊎◌, Bool, IsTrue, IsFalse, List, [], ◌∷◌, ◌++◌, length, Some, slice_get}
-use Rattle.ld_task.specs.declared.kind.Kind.{Kind}
-use Rattle.ld_graph.specs.Arrows.{Arrow}
-use Rattle.ld_graph.specs.Circles.{arrow_of}
-use Rattle.ld_graph.specs.Facts.{DependenciesOf}
-use Rattle.ld_graph.specs.FactBits.{FactParts, HasFact}
-use Rattle.ld_graph.specs.Numbers.{kind_number}
-use Rattle.ld_graph.specs.Inside.Bits.{has_bit, count_below}
+use Rattle.std.specs.Prelude.{◌≡◌, ℕ, suc, zero, ◌+◌, ◌-◌, ◌<◌, ◌≤◌, ◌⊎◌, Bool, IsTrue, IsFalse, List, [], ◌∷◌, ◌++◌, length, Some, slice_get}
+use Rattle.ld_facts.specs.Arrows.{Arrow}
+use Rattle.ld_facts.specs.Inside.Rows.{IsOfKeys, IsOfManyKeys, arrow_of}
+use Rattle.ld_facts.specs.Facts.{DependenciesOf}
+use Rattle.ld_facts.specs.FactBits.{FactParts, HasFact}
+use Rattle.ld_facts.specs.Inside.Bits.{has_bit, count_below}
 use Rattle.ld_graph.specs.declared.walk.TheConstants.{MAX_WALK}
-use Rattle.ld_graph.specs.declared.places.TheConstants.{PLACES, ROW_WORDS}
-use Rattle.ld_trace.specs.declared.key_id.TheConstants.{MAX_KEYS}
-use Rattle.ld_trace.specs.declared.key_id.TheConstants.{MAX_MANY}
-use Rattle.ld_graph.specs.Inside.Places.{arrival, Leaves, Leads}
+use Rattle.ld_facts.specs.declared.places.TheConstants.{PLACES, ROW_WORDS}
+use Rattle.ld_facts.specs.Inside.Places.{arrival, Leaves, Leads}
 use Rattle.ld_graph.specs.Walks.{ClosedWalk}
-use Rattle.ld_graph.specs.declared.fact.Fact.TheVariants.{Dependency as Depends}
-use Rattle.ld_graph.specs.declared.dependency.Dependency.{Dependency}
+use Rattle.ld_facts.specs.declared.fact.Fact.TheVariants.{Dependency as Depends}
+use Rattle.ld_facts.specs.declared.dependency.Dependency.{Dependency}
 use Rattle.ld_graph.specs.declared.search.Step.{Step}
-
--- both its keys are such as there can be
-abbrev pub IsOfKeys : Dependency → Type 0
-IsOfKeys d = (d.from < MAX_KEYS) × (d.to < MAX_KEYS)
-
--- both its keys are such as facts can be about
-abbrev pub IsOfManyKeys : Dependency → Type 0
-IsOfManyKeys d = (d.from < MAX_MANY) × (d.to < MAX_MANY)
 
 -- the members of a walk: as many as there are places, or fewer
 pub record AreMembers (members : List Dependency) : Type 0 where
   pub few : length members ≤ MAX_WALK
   pub below : (i : ℕ) (d : Dependency) → slice_get members i ≡ Some d → IsOfManyKeys d
-
--- ---- the dependencies from one key, in a row
--- the place of a dependency to that key among those from its start
-abbrev pub row_place : ℕ → Kind → ℕ
-row_place to kind = to * 4 + kind_number kind
-
--- the first dependency from the key that stands at the place n or later
-pub record IsNextFrom (facts : FactParts) (key n : ℕ) (d : Dependency) : Type 0 where
-  pub from_is : d.from ≡ key
-  pub below : IsOfKeys d
-  pub has : HasFact facts (Depends d.from d.to d.kind)
-  pub onwards : n ≤ row_place d.to d.kind
-  pub first : (to : ℕ) (kind : Kind) → n ≤ row_place to kind → row_place to kind < row_place d.to d.kind →
-      ¬ HasFact facts (Depends key to kind)
 
 -- ---- ways by arrows
 -- the arrows lead in turn from the place p to the place q

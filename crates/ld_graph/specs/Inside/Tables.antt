@@ -1,10 +1,10 @@
 -- A table of the places that are reached from each place: a row of bits for each.
 use Rattle.std.specs.Prelude.{◌≡◌, ℕ, ◌⊎◌, Bool, ◌↔◌, IsTrue, List, [], length, slice_index_or}
 use Rattle.ld_task.specs.Kinds.{is_s, is_r}
-use Rattle.ld_graph.specs.declared.places.TheConstants.{PLACES}
-use Rattle.ld_graph.specs.Arrows.{Arrow}
-use Rattle.ld_graph.specs.Inside.Bits.{has_bit}
-use Rattle.ld_graph.specs.Inside.Places.{place, LeavesFrom}
+use Rattle.ld_facts.specs.declared.places.TheConstants.{PLACES}
+use Rattle.ld_facts.specs.Arrows.{Arrow}
+use Rattle.ld_facts.specs.Inside.Bits.{has_bit}
+use Rattle.ld_facts.specs.Inside.Places.{place, LeavesFrom}
 
 -- the place q is in row p
 abbrev pub reaches : List (List ℕ) → ℕ → ℕ → Bool

@@ -1,5 +1,5 @@
 -- Which facts are asked about.
-use Rattle.ld_graph.specs.FactBits.{FactParts}
+use Rattle.ld_facts.specs.FactBits.{FactParts}
 use Rattle.ld_run.specs.declared.settled.Answers.{Answers}
 use Rattle.ld_run.specs.declared.settled.Answers.TheVariants.{Whole, ByRank}
 

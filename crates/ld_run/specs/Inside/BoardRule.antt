@@ -3,7 +3,7 @@ use Rattle.std.specs.Prelude.{◌≡◌, ℕ, ◌+◌, ◌-◌, ◌*◌, ◌<◌
 use mathlib.Core.Option.{some}
 use lib.ListN.{get_elem?}
 use Rattle.atomic_table.specs.Table.{State, Me, Step}
-use Rattle.ld_graph.specs.WordPairs.{word_total, bits_of, Within, NonePast}
+use Rattle.ld_facts.specs.WordPairs.{word_total, bits_of, Within, NonePast}
 use Rattle.ld_run.specs.Views.{newcomer, with_claim, times, once_below}
 use Rattle.ld_run.specs.declared.view.View.{View}
 use Rattle.ld_run.specs.declared.view.BoardSize.{BoardSize}

@@ -8,7 +8,7 @@ use Rattle.ld_task.specs.EndState.{EndState}
 use Rattle.ld_task.specs.Steps.{IsStateAfter}
 use Rattle.ld_task.specs.TraceChains.{chains}
 use Rattle.ld_task.specs.WellFormed.{IsWellFormed, IsFirstFault}
-use Rattle.ld_graph.specs.Facts.{ChainsHave, Holds}
+use Rattle.ld_facts.specs.Facts.{ChainsHave, Holds}
 use Rattle.ld_run.specs.Views.{KnowsFact}
 use Rattle.ld_run.specs.Work.{PutsOnly}
 use Rattle.ld_run.specs.declared.view.View.{View}

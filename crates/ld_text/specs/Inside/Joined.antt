@@ -1,7 +1,7 @@
 -- Keys that dependencies of findings lead from or to.
 use Rattle.std.specs.Prelude.{◌≡◌, ◌↔◌, ℕ, ◌<◌, Any, Bool, false, IsTrue, List, length, slice_index, slice_index_or}
-use Rattle.ld_graph.specs.Arrows.{arrow}
-use Rattle.ld_graph.specs.declared.fact.Fact.{Fact}
+use Rattle.ld_facts.specs.Arrows.{arrow}
+use Rattle.ld_facts.specs.declared.fact.Fact.{Fact}
 use Rattle.ld_text.specs.Picture.{AreJoined, IsFoundArrow}
 use Rattle.ld_text.specs.Words.{kinds}
 

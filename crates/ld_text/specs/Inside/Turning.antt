@@ -3,7 +3,7 @@ use Rattle.std.specs.Prelude.{◌≡◌, ℕ, Bool, List, ◌∷◌, ◌++◌, C
 use Rattle.std.specs.Ordering.{is_lt}
 use Rattle.std.specs.declared.cmp.Ordering.TheVariants.{Less}
 use Rattle.ld_trace.specs.Names.{Name}
-use Rattle.ld_graph.specs.Arrows.{Arrow}
+use Rattle.ld_facts.specs.Arrows.{Arrow}
 use Rattle.ld_text.specs.Order.{name_cmp}
 use Rattle.ld_text.specs.Report.{because_line}
 use Rattle.ld_text.specs.Words.{name_at}

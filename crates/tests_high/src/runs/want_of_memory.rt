@@ -2,7 +2,7 @@
 //! these tests with its first request refused, its second, and so on, and counts the lines that they print.
 
 use super::run_over;
-use ld_graph::Facts;
+use ld_facts::Facts;
 use ld_run::{Board, BoardFault, OpenGate, RunFault};
 use ld_trace::RawTrace;
 use std::alloc::Global;

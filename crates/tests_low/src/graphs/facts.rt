@@ -6,7 +6,8 @@ ghost use Rattle.ld_trace.specs.declared.key_id.TheConstants.{MAX_KEYS};
 
 use crate::steps::Step::{Read, Reread, TurnOff, TurnOn, Write};
 use crate::steps::{A, B, C, Step, last_chain};
-use ld_graph::{Fact, FactWords, Facts, Kind, Mark, fact_words};
+use ld_facts::{Fact, FactWords, Facts, fact_words};
+use ld_graph::{Kind, Mark};
 use ld_task::Chain;
 use ld_trace::Irq::{Hard, Soft};
 use ld_trace::{MAX_KEYS, MAX_MANY};

@@ -1,6 +1,7 @@
 //! What a graph and a graph in parts are both asked.
 
-use ld_graph::{Circle, Graph, InversionWalk, Kind, PartedGraph, Walk};
+use ld_graph::{Circle, Graph, InversionWalk, Kind, Walk};
+use ld_parts::PartedGraph;
 use ld_trace::Irq;
 
 pub(crate) trait Finds {

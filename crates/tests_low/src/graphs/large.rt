@@ -2,9 +2,9 @@
 
 use crate::steps::Step::{TurnOff, TurnOn, Write};
 use crate::steps::{A, B, C, Step, chains_of, last_chain};
-use ld_graph::{
-    Fact, Facts, Graph, Kind, Mark, PartedGraph, Ranks, are_ranked, fact_words, find_ranks,
-};
+use ld_facts::{Fact, Facts, fact_words};
+use ld_graph::{Graph, Kind, Mark};
+use ld_parts::{PartedGraph, Ranks, are_ranked, find_ranks};
 use ld_task::Chain;
 use ld_trace::Irq::Hard;
 use ld_trace::{MAX_KEYS, MAX_MANY};

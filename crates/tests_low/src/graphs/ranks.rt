@@ -1,11 +1,9 @@
 //! Ranks: whether an arrow goes down by them, whether facts are parted by them, and those that are found.
 
-use super::stories::ranks_of;
 use crate::steps::{A, B, C};
-use ld_graph::{
-    Fact, Facts, Kind, Mark, PartedGraph, PartingFault, Ranks, are_ranked, find_ranks,
-    find_ranks_of,
-};
+use super::stories::ranks_of;
+use ld_facts::{Fact, Facts, Kind, Mark};
+use ld_parts::{PartedGraph, PartingFault, Ranks, are_ranked, find_ranks, find_ranks_of};
 use ld_trace::Irq::{Hard, Soft};
 use ld_trace::MAX_MANY;
 use std::alloc::Global;

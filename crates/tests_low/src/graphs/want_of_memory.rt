@@ -1,7 +1,9 @@
 //! What a refused request for memory leaves. In an ordinary run none is refused: `tests/sweep` runs each of these tests with its
 //! first request refused, its second, and so on, and counts the lines that they print.
 
-use ld_graph::{Facts, Graph, Ranks};
+use ld_facts::Facts;
+use ld_graph::Graph;
+use ld_parts::Ranks;
 use std::test::Fail;
 
 #[test]

@@ -1,8 +1,8 @@
 use Rattle.std.proofs.Common.{◌≡◌, ◌+◌, ◌∷◌, [], ℕ, refl, sym, ap, ◌∙◌, subst, arith, slice_index}
 use Rattle.std.specs.Mem.Slots.{slots_items}
-use Rattle.ld_graph.specs.FactBits.{HasFact}
-use Rattle.ld_graph.specs.Facts.{Adds}
-use Rattle.ld_graph.specs.WordPairs.{NonePast, PairsHave, word_total}
+use Rattle.ld_facts.specs.FactBits.{HasFact}
+use Rattle.ld_facts.specs.Facts.{Adds}
+use Rattle.ld_facts.specs.WordPairs.{NonePast, PairsHave, word_total}
 use Rattle.ld_run.proofs.SeatFacts.{words_more}
 use Rattle.ld_run.proofs.SeatLists.{read_is}
 use Rattle.ld_run.proofs.board.unite_words.Goals.{After-word}

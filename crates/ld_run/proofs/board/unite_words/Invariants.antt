@@ -1,7 +1,7 @@
 use Rattle.std.proofs.Common.{◌≡◌}
 use Rattle.std.specs.Mem.Slots.{slots_items}
-use Rattle.ld_graph.specs.FactBits.{HasFact}
-use Rattle.ld_graph.specs.Facts.{AreSame}
+use Rattle.ld_facts.specs.FactBits.{HasFact}
+use Rattle.ld_facts.specs.Facts.{AreSame}
 use Rattle.ld_run.proofs.SeatFacts.{WordsHave}
 use Rattle.ld_run.proofs.board.unite_words.Given as goal
 

@@ -1,6 +1,6 @@
 use Rattle.std.proofs.Common.{◌≡◌, sym, subst, refl}
-use Rattle.ld_graph.specs.FactBits.{HasFact}
-use Rattle.ld_graph.specs.Facts.{AreSame}
+use Rattle.ld_facts.specs.FactBits.{HasFact}
+use Rattle.ld_facts.specs.Facts.{AreSame}
 use Rattle.ld_run.proofs.Settlements.{settles-same}
 use Rattle.ld_run.proofs.settled.settle.Goals as goal
 

@@ -1,6 +1,6 @@
 use Rattle.std.proofs.Common.{◌∙◌, ◌+◌, sym, subst, take, arith}
 use Rattle.ld_task.specs.TraceChains.{chains}
-use Rattle.ld_graph.specs.Facts.{ChainsHave}
+use Rattle.ld_facts.specs.Facts.{ChainsHave}
 use Rattle.ld_run.specs.Boards.{keys_of}
 use Rattle.ld_run.specs.Seats.{view}
 use Rattle.ld_run.specs.Tallies.{HasBeforeFault}

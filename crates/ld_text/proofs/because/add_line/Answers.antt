@@ -1,7 +1,7 @@
 use Rattle.std.proofs.Common.{◌≡◌, ◌-◌, ◌++◌, arith, codes, drop, subst, string_bytes, take}
 use Rattle.std.specs.List.{flat_map}
 use Rattle.std.proofs.lemmas.Grind.{common_steps}
-use Rattle.ld_graph.specs.Arrows.{Arrow, arrow}
+use Rattle.ld_facts.specs.Arrows.{Arrow, arrow}
 use Rattle.ld_text.specs.Report.{member_text}
 use Rattle.ld_text.specs.Words.{key_text, name_at}
 use Rattle.ld_text.proofs.BecauseLemmas.{TellsTurned-from}

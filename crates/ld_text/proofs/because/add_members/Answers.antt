@@ -2,7 +2,7 @@ use Rattle.std.proofs.Common.{◌≡◌, ◌∙◌, ◌<◌, ◌≤◌, ◌-◌,
 use Rattle.std.specs.List.{flat_map}
 use Rattle.std.proofs.lemmas.Grind.{common_steps}
 use Rattle.std.proofs.lemmas.List.{append_assoc}
-use Rattle.ld_graph.specs.Arrows.{Arrow, arrow}
+use Rattle.ld_facts.specs.Arrows.{Arrow, arrow}
 use Rattle.ld_text.specs.Report.{member_text}
 use Rattle.ld_text.proofs.BecauseLemmas.{members_next}
 use Rattle.ld_text.proofs.because.add_members.Goals as goal

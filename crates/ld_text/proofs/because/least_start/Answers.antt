@@ -3,7 +3,7 @@ use Rattle.std.specs.List.{IsFirstBest}
 use Rattle.std.specs.Ordering.{is_lt}
 use Rattle.std.proofs.lemmas.List.MinMax.{IsFirstBest-none, IsFirstBest-keeps, IsFirstBest-takes}
 use Rattle.std.proofs.lemmas.Option.{get_or_from_slice_get}
-use Rattle.ld_graph.specs.Arrows.{Arrow, arrow}
+use Rattle.ld_facts.specs.Arrows.{Arrow, arrow}
 use Rattle.ld_text.specs.Inside.Turning.{starts_before}
 use Rattle.ld_text.proofs.BecauseLemmas.{starts_before_ranks}
 use Rattle.ld_text.proofs.because.least_start.Goals as goal

@@ -1,6 +1,6 @@
 use Rattle.std.proofs.Common.{◌∙◌, ◌++◌, [], ap, refl, sym, codes}
 use Rattle.std.proofs.lemmas.List.{append-nil}
-use Rattle.ld_graph.specs.FactBits.{HasFact}
+use Rattle.ld_facts.specs.FactBits.{HasFact}
 use Rattle.ld_graph.specs.Links.{IsClean}
 use Rattle.ld_text.specs.Groups.{InSequence}
 use Rattle.ld_text.specs.Report.{total_line}

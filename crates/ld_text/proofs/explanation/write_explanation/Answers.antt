@@ -1,5 +1,5 @@
 use Rattle.std.proofs.Common.{map, string_bytes}
-use Rattle.ld_graph.specs.FactBits.{HasFact}
+use Rattle.ld_facts.specs.FactBits.{HasFact}
 use Rattle.ld_text.specs.Explanation.{IsExplanation}
 use Rattle.ld_text.proofs.WriteFaultLemmas.{StopsWriting-begun}
 use Rattle.ld_text.proofs.explanation.write_explanation.Goals as goal

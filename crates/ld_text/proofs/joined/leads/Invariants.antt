@@ -1,6 +1,6 @@
 use Rattle.std.proofs.Common.{Any, take}
-use Rattle.ld_graph.specs.Arrows.{arrow}
-use Rattle.ld_graph.specs.FactBits.{HasFact}
+use Rattle.ld_facts.specs.Arrows.{arrow}
+use Rattle.ld_facts.specs.FactBits.{HasFact}
 use Rattle.ld_text.specs.Picture.{IsFoundArrow}
 use Rattle.ld_text.proofs.joined.leads.Given as goal
 

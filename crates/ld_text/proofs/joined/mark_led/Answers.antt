@@ -1,5 +1,5 @@
 use Rattle.std.proofs.Common.{◌↔◌, ℕ, ◌+◌, ◌<◌, Any, Bool, true, IsTrue, List, length, slice_index, slice_index_or, take, refl, sym, subst, inl, inr, ◌∙◌, arith}
-use Rattle.ld_graph.specs.FactBits.{HasFact}
+use Rattle.ld_facts.specs.FactBits.{HasFact}
 use Rattle.std.proofs.lemmas.List.{length-set, take_all}
 use Rattle.ld_text.specs.Inside.Joined.{Leads}
 use Rattle.ld_text.proofs.JoinedLemmas.{Any-next, at-place, done-kept, done-set, from-place, rest-set}

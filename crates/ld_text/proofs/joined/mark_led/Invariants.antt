@@ -1,5 +1,5 @@
 use Rattle.std.proofs.Common.{◌≡◌, ◌↔◌, ◌⊎◌, ℕ, ◌<◌, ◌≤◌, Any, IsTrue, false, length, slice_index, slice_index_or, take}
-use Rattle.ld_graph.specs.FactBits.{HasFact}
+use Rattle.ld_facts.specs.FactBits.{HasFact}
 use Rattle.ld_text.specs.Inside.Joined.{Leads}
 use Rattle.ld_text.proofs.joined.mark_led.Given as goal
 

@@ -1,6 +1,6 @@
 use Rattle.std.proofs.Common.{[], refl}
 use Rattle.std.proofs.lemmas.Result.{IfOk-weaker}
-use Rattle.ld_graph.specs.FactBits.{HasFact}
+use Rattle.ld_facts.specs.FactBits.{HasFact}
 use Rattle.ld_graph.specs.Links.{IsClean}
 use Rattle.ld_text.specs.Groups.{InSequence}
 use Rattle.ld_text.proofs.FindingLemmas.{AreFound-nothing}

@@ -1,6 +1,6 @@
 use Rattle.std.proofs.Common.{◌≡◌, ◌∙◌, ◌++◌, ap, codes, drop}
 use Rattle.std.proofs.lemmas.Result.{IfOk-weaker}
-use Rattle.ld_graph.specs.FactBits.{HasFact}
+use Rattle.ld_facts.specs.FactBits.{HasFact}
 use Rattle.ld_graph.specs.Links.{IsDouble, IsInversion}
 use Rattle.ld_graph.specs.Walks.{OnCircle}
 use Rattle.ld_text.proofs.FindingLemmas.{AreThose-all}

@@ -1,5 +1,5 @@
 use Rattle.std.proofs.Common.{map}
-use Rattle.ld_graph.specs.FactBits.{HasFact}
+use Rattle.ld_facts.specs.FactBits.{HasFact}
 use Rattle.ld_text.specs.Json.{IsJson}
 use Rattle.ld_text.proofs.WriteFaultLemmas.{StopsWriting-begun}
 use Rattle.ld_text.proofs.json_text.write_json.Goals as goal

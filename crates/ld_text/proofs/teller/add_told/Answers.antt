@@ -1,9 +1,9 @@
 use Rattle.std.proofs.Common.{◌↔◌, ◌⊎◌, ◌<◌, Contains, length, refl, subst, arith}
 use Rattle.std.proofs.lemmas.List.{take_all}
 use Rattle.std.proofs.lemmas.Option.{get_or_from_slice_get}
-use Rattle.ld_graph.specs.Arrows.{Arrow, arrow}
-use Rattle.ld_graph.specs.FactBits.{FactBelow, HasFact}
-use Rattle.ld_graph.specs.Facts.{DependenciesOf}
+use Rattle.ld_facts.specs.Arrows.{Arrow, arrow}
+use Rattle.ld_facts.specs.FactBits.{FactBelow, HasFact}
+use Rattle.ld_facts.specs.Facts.{DependenciesOf}
 use Rattle.ld_text.proofs.TellingLemmas.{told-next, told-none}
 use Rattle.ld_text.proofs.teller.add_told.Goals as goal
 

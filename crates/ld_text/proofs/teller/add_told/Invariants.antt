@@ -1,7 +1,7 @@
 use Rattle.std.proofs.Common.{◌≡◌, ◌↔◌, ◌⊎◌, Contains, take}
-use Rattle.ld_graph.specs.Arrows.{Arrow}
-use Rattle.ld_graph.specs.FactBits.{HasFact}
-use Rattle.ld_graph.specs.Facts.{DependenciesOf}
+use Rattle.ld_facts.specs.Arrows.{Arrow}
+use Rattle.ld_facts.specs.FactBits.{HasFact}
+use Rattle.ld_facts.specs.Facts.{DependenciesOf}
 use Rattle.ld_text.proofs.teller.add_told.Given as goal
 
 -- the members so far

@@ -1,5 +1,5 @@
 use Rattle.std.proofs.lemmas.Result.{IfOk-weaker}
-use Rattle.ld_graph.specs.FactBits.{HasFact}
+use Rattle.ld_facts.specs.FactBits.{HasFact}
 use Rattle.lockdep.proofs.CondensedLemmas.{IsCondensedText-made}
 use Rattle.lockdep.proofs.condensed.condensed_text.Goals as goal
 

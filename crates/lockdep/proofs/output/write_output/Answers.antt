@@ -1,8 +1,8 @@
 use Rattle.std.proofs.Common.{List, ℕ, IfErr, OnOk, ap, length, map, subst, sum_by, sym}
 use Rattle.std.proofs.lemmas.Result.{IfErr-weaker, IfOk-weaker}
 use Rattle.std.specs.Io.KnownBytes.{Appends}
-use Rattle.ld_graph.specs.FactBits.{HasFact}
-use Rattle.ld_run.specs.TraceFacts.{TracesHave}
+use Rattle.ld_facts.specs.FactBits.{HasFact}
+use Rattle.ld_facts.specs.TraceFacts.{TracesHave}
 use Rattle.lockdep.specs.Condensed.{IsCondensedOf, IsCondensedText}
 use Rattle.ld_text.specs.Explanation.{IsExplanation, Told}
 use Rattle.ld_text.specs.Json.{IsJson}

@@ -1,6 +1,6 @@
 use Rattle.std.proofs.Common.{subst}
-use Rattle.ld_graph.specs.FactBits.{HasFact}
-use Rattle.ld_graph.specs.Facts.{AreSame}
+use Rattle.ld_facts.specs.FactBits.{HasFact}
+use Rattle.ld_facts.specs.Facts.{AreSame}
 use Rattle.ld_book.specs.Books.{JournalHas}
 use Rattle.ld_book.proofs.book.Book.into_graph.Goals as goal
 

@@ -1,6 +1,6 @@
 use Rattle.std.proofs.Common.{◌↔◌, subst}
 use Rattle.std.specs.Prelude.{IsTrue}
-use Rattle.ld_graph.specs.FactBits.{HasFact}
+use Rattle.ld_facts.specs.FactBits.{HasFact}
 use Rattle.ld_graph.specs.FactLaws.{IsClean-same}
 use Rattle.ld_graph.specs.Links.{IsClean}
 use Rattle.ld_book.specs.Books.{JournalHas}

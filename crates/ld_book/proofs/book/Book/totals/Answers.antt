@@ -1,9 +1,9 @@
 use Rattle.std.proofs.Common.{◌≡◌, ◌-◌, ◌∙◌, ap, length, sym, subst, arith}
-use Rattle.ld_graph.specs.Counting.{IsNumberOf}
-use Rattle.ld_graph.specs.FactBits.{HasFact}
-use Rattle.ld_graph.specs.FactLaws.{IsNumberOf-same}
-use Rattle.ld_graph.specs.Facts.{DependenciesOf}
-use Rattle.ld_graph.specs.declared.fact.Fact.TheVariants.{Dependency}
+use Rattle.ld_facts.specs.Counting.{IsNumberOf}
+use Rattle.ld_facts.specs.FactBits.{HasFact}
+use Rattle.ld_facts.specs.CountingLaws.{IsNumberOf-same}
+use Rattle.ld_facts.specs.Facts.{DependenciesOf}
+use Rattle.ld_facts.specs.declared.fact.Fact.TheVariants.{Dependency}
 use Rattle.ld_book.specs.Books.{BookParts, JournalHas, opening_count}
 use Rattle.ld_book.proofs.BookLemmas.{counts-length}
 use Rattle.ld_book.proofs.book.Book.totals.Goals as goal

@@ -1,7 +1,7 @@
 use Rattle.std.proofs.Common.{ℕ, ◌↔◌, List, [], Result, Ok, Err}
 use Rattle.std.specs.Prelude.{IfOk, IsFalse}
 use Rattle.ld_task.specs.Chains.{ChainParts}
-use Rattle.ld_graph.specs.Facts.{ChainHas, Holds}
+use Rattle.ld_facts.specs.Facts.{ChainHas, Holds}
 use Rattle.ld_book.specs.Books.{JournalHas}
 use Rattle.ld_book.specs.declared.book.News.{News}
 use Rattle.ld_book.specs.declared.fault.BookFault.{BookFault}

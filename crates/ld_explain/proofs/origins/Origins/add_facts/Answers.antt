@@ -1,6 +1,6 @@
 use Rattle.std.proofs.Common.{◌≡◌, ◌+◌, ◌-◌, ◌<◌, ◌∙◌, Some, ℕ, arith, refl, subst, sym}
-use Rattle.ld_graph.specs.ChainFacts.{chain_fact, fact_slots, slot_held}
-use Rattle.ld_graph.specs.FactBits.{FactBelow}
+use Rattle.ld_facts.specs.ChainFacts.{chain_fact, fact_slots, slot_held}
+use Rattle.ld_facts.specs.FactBits.{FactBelow}
 use Rattle.ld_explain.specs.Inside.Firsts.{AreFirsts, PutsOrigin, SeenFrom, slot_position}
 use Rattle.ld_explain.proofs.Slots.{from_empty, from_fact, from_last}
 use Rattle.ld_explain.proofs.origins.Origins.add_facts.Goals as goal

@@ -1,6 +1,6 @@
 use Rattle.std.proofs.Common.{◌∙◌, Some, ap, cond, eqb, is_some, subst, sym}
 use Rattle.std.specs.Map.{lookup}
-use Rattle.ld_graph.specs.FactBits.{FactBelow}
+use Rattle.ld_facts.specs.FactBits.{FactBelow}
 use Rattle.ld_explain.specs.Origins.{OriginParts}
 use Rattle.ld_explain.specs.Inside.Firsts.{PutsOrigin}
 use Rattle.ld_explain.proofs.Puts.{none_there, puts-known, puts-new}

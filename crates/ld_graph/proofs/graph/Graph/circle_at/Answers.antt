@@ -1,15 +1,15 @@
 use Rattle.std.proofs.Common.{◌≡◌, ◌∙◌, ◌&&◌, ◌<◌, ℕ, length, sym, ap, subst, refl, inl, inr, arith, not, true}
 use Rattle.std.proofs.lemmas.Bool.{cases_eq}
-use Rattle.ld_graph.specs.Circles.{arrow_of}
-use Rattle.ld_graph.specs.Facts.{DependenciesOf}
-use Rattle.ld_graph.specs.FactBits.{HasFact}
-use Rattle.ld_graph.specs.Inside.Bits.{has_bit}
-use Rattle.ld_graph.specs.Inside.Places.{arrival}
+use Rattle.ld_facts.specs.Inside.Rows.{arrow_of}
+use Rattle.ld_facts.specs.Facts.{DependenciesOf}
+use Rattle.ld_facts.specs.FactBits.{HasFact}
+use Rattle.ld_facts.specs.Inside.Bits.{has_bit}
+use Rattle.ld_facts.specs.Inside.Places.{arrival}
 use Rattle.ld_graph.specs.Inside.Searching.{GoesTo, NoGoalBy, LeastThrough}
 use Rattle.ld_graph.specs.Inside.Tables.{reaches}
 use Rattle.ld_graph.specs.Walks.{IsCircle}
-use Rattle.ld_graph.specs.declared.places.TheConstants.{ROW_WORDS}
-use Rattle.ld_graph.proofs.BitLemmas.{has_bit-zeros, zeros_at}
+use Rattle.ld_facts.specs.declared.places.TheConstants.{ROW_WORDS}
+use Rattle.ld_facts.specs.BitLaws.{has_bit-zeros, zeros_at}
 use Rattle.ld_graph.proofs.Joining.{zero_row}
 use Rattle.ld_graph.proofs.Nearest.{IsCircle-from_way, LeastThrough-outside, LeastThrough-searched, arrows_below}
 use Rattle.ld_graph.proofs.graph.Graph.circle_at.Goals as goal

@@ -1,11 +1,11 @@
 use Rattle.std.proofs.Common.{◌∙◌, ◌*◌, ◌<◌, ◌≤◌, length, sym, ap, subst, refl, inl, inr, arith}
 use Rattle.ld_trace.specs.declared.key_id.TheConstants.{MAX_KEYS}
-use Rattle.ld_graph.specs.Arrows.{Arrow, arrow}
-use Rattle.ld_graph.specs.Facts.{DependenciesOf}
-use Rattle.ld_graph.specs.FactBits.{HasFact}
+use Rattle.ld_facts.specs.Arrows.{Arrow, arrow}
+use Rattle.ld_facts.specs.Facts.{DependenciesOf}
+use Rattle.ld_facts.specs.FactBits.{HasFact}
 use Rattle.ld_graph.specs.Inside.Searching.{LeastRound}
 use Rattle.ld_graph.specs.Walks.{IsShortestFrom}
-use Rattle.ld_graph.proofs.Circles.{OnCircle-member}
+use Rattle.ld_graph.specs.FactLaws.{OnCircle-member}
 use Rattle.ld_graph.proofs.Nearest.{arrows_below}
 use Rattle.ld_graph.proofs.Rounds.{Closes, Closes-few, IsShortestFrom-closes, no_circle_through, no_round}
 use Rattle.ld_graph.proofs.graph.Graph.circle_through.Goals as goal

@@ -1,5 +1,5 @@
 use Rattle.std.proofs.Common.{◌≡◌, refl, true, false}
-use Rattle.ld_graph.specs.Arrows.{arrow}
+use Rattle.ld_facts.specs.Arrows.{arrow}
 use Rattle.ld_graph.proofs.graph.Graph.double_forms.Goals as goal
 
 pub returns-then-has_link-clause-none : goal.returns-then-has_link-clause-none

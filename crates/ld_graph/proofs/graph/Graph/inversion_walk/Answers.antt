@@ -4,16 +4,16 @@ use Rattle.std.proofs.lemmas.Option.{IfSome_then}
 use Rattle.ld_trace.specs.declared.key_id.TheConstants.{MAX_KEYS}
 use Rattle.ld_task.specs.declared.kind.Kind.{Kind}
 use Rattle.ld_task.specs.Kinds.{is_r, kind_of_letters, kind_of_letters-letters}
-use Rattle.ld_graph.specs.Arrows.{arrow}
-use Rattle.ld_graph.specs.Facts.{Holds, DependenciesOf}
-use Rattle.ld_graph.specs.FactBits.{FactBelow, HasFact}
+use Rattle.ld_facts.specs.Arrows.{arrow}
+use Rattle.ld_facts.specs.Facts.{Holds, DependenciesOf}
+use Rattle.ld_facts.specs.FactBits.{FactBelow, HasFact}
 use Rattle.ld_graph.specs.Links.{IsLink, link_by}
 use Rattle.ld_graph.specs.Inside.Searching.{LeadsRound, LeastRound}
 use Rattle.ld_graph.specs.declared.graph.InversionWalk.{InversionWalk}
 use Rattle.ld_graph.proofs.GraphSteps.{facts_within}
 use Rattle.ld_graph.proofs.Inversions.{LeastLinks, LeastLinks-more, IsShortestInversion-round, no_inversion, some_inversion}
-use Rattle.ld_graph.proofs.Numbers.{kind_number-lt}
-use Rattle.ld_graph.proofs.Options.{none_of}
+use Rattle.ld_facts.specs.NumberLaws.{kind_number-lt}
+use Rattle.ld_facts.specs.ListLaws.{none_of}
 use Rattle.ld_graph.proofs.Rounds.{no_round}
 use Rattle.ld_graph.proofs.graph.Graph.inversion_walk.Goals as goal
 use Rattle.ld_graph.proofs.graph.Graph.inversion_walk.Goals.{Start, After-loop-n, in-Some, in_default}

@@ -1,10 +1,10 @@
 use Rattle.std.proofs.Common.{◌≡◌, ◌<◌, ◌∙◌, ℕ, sym, subst, ap, arith, true}
 use Rattle.std.specs.Prelude.{◌↔◌, IsTrue}
 use Rattle.ld_trace.specs.declared.key_id.TheConstants.{MAX_KEYS}
-use Rattle.ld_graph.specs.Inside.Bits.{has_bit}
-use Rattle.ld_graph.specs.Facts.{DependenciesOf}
-use Rattle.ld_graph.specs.FactBits.{HasFact}
-use Rattle.ld_graph.specs.Inside.Places.{place, Leads, Way}
+use Rattle.ld_facts.specs.Inside.Bits.{has_bit}
+use Rattle.ld_facts.specs.Facts.{DependenciesOf}
+use Rattle.ld_facts.specs.FactBits.{HasFact}
+use Rattle.ld_facts.specs.Inside.Places.{place, Leads, Way}
 use Rattle.ld_graph.specs.Inside.Kept.{IsInversionBy}
 use Rattle.ld_graph.specs.Inside.Tables.{reaches}
 use Rattle.ld_graph.proofs.GraphSteps.{facts_within}

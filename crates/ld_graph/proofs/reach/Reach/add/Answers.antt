@@ -1,9 +1,9 @@
 use Rattle.std.proofs.Common.{◌≡◌, ◌↔◌, ◌||◌, ◌&&◌, ◌∙◌, ℕ, List, length, sym, ap, subst, true}
 use Rattle.std.proofs.lemmas.List.{with_items_is}
 use Rattle.std.specs.Vec.{with_items}
-use Rattle.ld_graph.specs.Arrows.{Arrow, arrow}
-use Rattle.ld_graph.specs.Inside.Bits.{has_bit}
-use Rattle.ld_graph.specs.Inside.Places.{place, arrival, LeavesFrom, Leaves}
+use Rattle.ld_facts.specs.Arrows.{Arrow, arrow}
+use Rattle.ld_facts.specs.Inside.Bits.{has_bit}
+use Rattle.ld_facts.specs.Inside.Places.{place, arrival, LeavesFrom, Leaves}
 use Rattle.ld_graph.specs.Inside.Tables.{reaches, AreSpan, IsTransitive, TakesArrow}
 use Rattle.ld_graph.proofs.Tables.{TakesArrow-joined, AreTables-joined}
 use Rattle.ld_graph.proofs.reach.Reach.add.Goals as goal

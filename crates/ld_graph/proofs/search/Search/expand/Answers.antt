@@ -1,7 +1,8 @@
 use Rattle.std.proofs.Common.{◌≡◌, ◌∙◌, ◌+◌, ◌<◌, length, get_or, sym, ap, subst, refl, arith, true}
 use Rattle.std.proofs.lemmas.Option.{same_Some}
-use Rattle.ld_graph.specs.Inside.Searching.{row_place, Takes, Hits, Visits}
-use Rattle.ld_graph.specs.declared.dependency.Dependency.{Dependency}
+use Rattle.ld_graph.specs.Inside.Searching.{Takes, Hits, Visits}
+use Rattle.ld_facts.specs.Inside.Rows.{row_place}
+use Rattle.ld_facts.specs.declared.dependency.Dependency.{Dependency}
 use Rattle.ld_graph.proofs.Scanning.{Scans, Scans-skip, Scans-visit, Takes-hit, SeesAll-scanned, blank, step_read, row_place-lt}
 use Rattle.ld_graph.proofs.search.Search.expand.Goals as goal
 use Rattle.ld_graph.proofs.search.Search.expand.Goals.{After-visit, Joined-else-may_go_on, else-may_go_on-via-then-may_go_on+else-visit, else-may_go_on-via-else-may_go_on}

@@ -1,8 +1,8 @@
 use Rattle.std.proofs.Common.{◌≡◌, ◌<◌, ◌∙◌, sym, ap, length, inl, inr, subst, false, arith, slice_get}
-use Rattle.ld_graph.specs.Inside.Searching.{IsOfKeys}
-use Rattle.ld_graph.specs.declared.places.TheConstants.{PLACES}
-use Rattle.ld_graph.specs.Inside.Bits.{has_bit, count_below}
-use Rattle.ld_graph.proofs.BitLemmas.{count_below-room, count_below-one_more}
+use Rattle.ld_facts.specs.Inside.Rows.{IsOfKeys}
+use Rattle.ld_facts.specs.declared.places.TheConstants.{PLACES}
+use Rattle.ld_facts.specs.Inside.Bits.{has_bit, count_below}
+use Rattle.ld_facts.specs.BitLaws.{count_below-room, count_below-one_more}
 use Rattle.ld_graph.proofs.Scanning.{slice_get_push_cases}
 use Rattle.ld_graph.proofs.search.Search.visit.Goals as goal
 use Rattle.ld_graph.proofs.search.Search.visit.Goals.{After-insert}

@@ -2,10 +2,10 @@ use Rattle.std.proofs.Common.{◌≡◌, ◌+◌, ◌↔◌, ◌/◌, ◌%◌, �
 use Rattle.std.specs.Prelude.{slice_index}
 use Rattle.std.specs.Int.{bit_at}
 use Rattle.std.specs.Mem.Slots.{slots_items}
-use Rattle.ld_graph.specs.FactBits.{FactBelow, HasFact}
-use Rattle.ld_graph.specs.Numbers.{fact_number}
-use Rattle.ld_graph.specs.WordPairs.{NonePast}
-use Rattle.ld_graph.specs.declared.fact.Fact.{Fact}
+use Rattle.ld_facts.specs.FactBits.{FactBelow, HasFact}
+use Rattle.ld_facts.specs.Numbers.{fact_number}
+use Rattle.ld_facts.specs.WordPairs.{NonePast}
+use Rattle.ld_facts.specs.declared.fact.Fact.{Fact}
 use Rattle.ld_run.specs.Inside.BoardRule.{Knows}
 use Rattle.ld_run.specs.Inside.Gathered.{gathered}
 use Rattle.ld_run.specs.declared.view.View.{View}

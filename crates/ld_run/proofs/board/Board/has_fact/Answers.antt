@@ -1,7 +1,7 @@
 use Rattle.std.proofs.Common.{◌≡◌, ◌∷◌, ◌/◌, ◌%◌, ◌^◌, ℕ, List, nat_eq, bit_and, refl, sym, ◌∙◌, subst, arith, eqb-true, true}
 use Rattle.std.specs.Int.{bit_at}
 use Rattle.std.proofs.lemmas.Nat.Bits.{shr_and_one}
-use Rattle.ld_graph.specs.WordPairs.{bits_of, Within}
+use Rattle.ld_facts.specs.WordPairs.{bits_of, Within}
 use Rattle.ld_run.specs.Seats.{view}
 use Rattle.ld_run.specs.declared.view.View.{View}
 use Rattle.ld_run.proofs.WordLists.{bit_into, or_self, within_cons}

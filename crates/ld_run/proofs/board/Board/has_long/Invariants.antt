@@ -1,7 +1,7 @@
 use Rattle.std.proofs.Common.{◌≡◌, ◌<◌, ℕ, Some}
-use Rattle.ld_graph.specs.ChainFacts.{chain_fact}
-use Rattle.ld_graph.specs.WordPairs.{bits_of, Within}
-use Rattle.ld_graph.specs.declared.fact.Fact.{Fact}
+use Rattle.ld_facts.specs.ChainFacts.{chain_fact}
+use Rattle.ld_facts.specs.WordPairs.{bits_of, Within}
+use Rattle.ld_facts.specs.declared.fact.Fact.{Fact}
 use Rattle.ld_run.specs.Boards.{IsSeatOf, keys_of}
 use Rattle.ld_run.specs.Seats.{view}
 use Rattle.ld_run.specs.Views.{SeenHas}

@@ -5,7 +5,7 @@ use Rattle.ld_run.specs.declared.seat.Seat.{Seat}
 use Rattle.ld_run.specs.Views.{newcomer}
 use Rattle.ld_run.specs.Inside.BoardRule.{left_view}
 use Rattle.ld_run.specs.declared.view.View.{View}
-use Rattle.ld_graph.specs.WordPairs.{word_total}
+use Rattle.ld_facts.specs.WordPairs.{word_total}
 use Rattle.ld_run.proofs.Moves.{cuts, opens}
 use Rattle.ld_run.proofs.board.Board.open.Goals as goal
 

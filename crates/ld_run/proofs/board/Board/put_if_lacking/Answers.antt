@@ -1,5 +1,5 @@
 use Rattle.std.proofs.Common.{◌≡◌, ◌∷◌, ◌++◌, ℕ, List, sym, ap, ◌∙◌, subst}
-use Rattle.ld_graph.specs.WordPairs.{bits_of, Within}
+use Rattle.ld_facts.specs.WordPairs.{bits_of, Within}
 use Rattle.ld_run.specs.Seats.{view}
 use Rattle.ld_run.specs.Inside.BoardRule.{with_look, with_put}
 use Rattle.ld_run.specs.declared.view.View.{View}

@@ -1,7 +1,7 @@
 use Rattle.std.proofs.Common.{◌≡◌, ◌++◌, ◌∙◌, ℕ, List, inl, inr, sym, subst}
-use Rattle.ld_graph.specs.WordLaws.{PairsHave-append, PairsHave-within}
-use Rattle.ld_graph.specs.WordPairs.{bits_of, PairsHave, Within}
-use Rattle.ld_graph.specs.declared.fact.Fact.{Fact}
+use Rattle.ld_facts.specs.WordLaws.{PairsHave-append, PairsHave-within}
+use Rattle.ld_facts.specs.WordPairs.{bits_of, PairsHave, Within}
+use Rattle.ld_facts.specs.declared.fact.Fact.{Fact}
 use Rattle.ld_run.specs.Boards.{keys_of}
 use Rattle.ld_run.specs.Seats.{view}
 use Rattle.ld_run.specs.Views.{KnowsFact, PutHas}

@@ -1,5 +1,5 @@
 use Rattle.std.proofs.Common.{◌≡◌, ℕ, ◌-◌, ◌<◌, ◌+◌, sym, subst, arith}
-use Rattle.ld_graph.specs.WordPairs.{word_total, NonePast}
+use Rattle.ld_facts.specs.WordPairs.{word_total, NonePast}
 use Rattle.ld_run.proofs.Moves.{puts}
 use Rattle.ld_run.proofs.board.Board.put_word.Goals as goal
 

@@ -1,7 +1,7 @@
 use Rattle.std.proofs.Common.{◌∙◌, ap, subst, sym}
 use Rattle.std.specs.Prelude.{◌↔◌, IsTrue}
-use Rattle.ld_graph.specs.Arrows.{arrow}
-use Rattle.ld_graph.specs.FactBits.{FactParts, HasFact}
+use Rattle.ld_facts.specs.Arrows.{arrow}
+use Rattle.ld_facts.specs.FactBits.{FactParts, HasFact}
 use Rattle.ld_graph.specs.Links.{InInversion}
 use Rattle.ld_run.specs.Inside.Answering.{facts_in}
 use Rattle.ld_run.proofs.settled.Settled.in_inversion.Goals as goal

@@ -1,6 +1,6 @@
 use Rattle.std.proofs.Common.{◌∙◌, ap, subst, sym}
 use Rattle.std.specs.Prelude.{◌↔◌, IsNone}
-use Rattle.ld_graph.specs.FactBits.{FactParts, HasFact}
+use Rattle.ld_facts.specs.FactBits.{FactParts, HasFact}
 use Rattle.ld_graph.specs.Links.{IsInversion}
 use Rattle.ld_run.specs.Inside.Answering.{facts_in}
 use Rattle.ld_run.proofs.settled.Settled.inversion_walk.Goals as goal

@@ -1,7 +1,7 @@
 use Rattle.std.proofs.Common.{◌∙◌, ap, subst, sym}
 use Rattle.std.specs.Prelude.{◌↔◌, IsNone}
-use Rattle.ld_graph.specs.Arrows.{Arrow}
-use Rattle.ld_graph.specs.FactBits.{FactParts, HasFact}
+use Rattle.ld_facts.specs.Arrows.{Arrow}
+use Rattle.ld_facts.specs.FactBits.{FactParts, HasFact}
 use Rattle.ld_graph.specs.Walks.{OnCircle}
 use Rattle.ld_run.specs.Inside.Answering.{facts_in}
 use Rattle.ld_run.proofs.settled.Settled.shortest_circle.Goals as goal

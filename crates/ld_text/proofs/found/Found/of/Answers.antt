@@ -1,5 +1,5 @@
 use Rattle.std.proofs.Common.{subst, sym}
-use Rattle.ld_graph.specs.FactBits.{HasFact}
+use Rattle.ld_facts.specs.FactBits.{HasFact}
 use Rattle.ld_text.specs.Found.{AreFound}
 use Rattle.ld_text.proofs.FindingLemmas.{AreFound-nothing}
 use Rattle.ld_text.proofs.found.Found.of.Goals as goal

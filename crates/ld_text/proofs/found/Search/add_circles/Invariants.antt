@@ -1,8 +1,8 @@
 use Rattle.std.proofs.Common.{map, take}
 use Rattle.std.specs.List.{flat_map}
-use Rattle.ld_graph.specs.FactBits.{HasFact}
+use Rattle.ld_facts.specs.FactBits.{HasFact}
 use Rattle.ld_graph.specs.Walks.{OnCircle}
-use Rattle.ld_graph.specs.Arrows.{arrow}
+use Rattle.ld_facts.specs.Arrows.{arrow}
 use Rattle.ld_text.specs.Words.{kinds}
 use Rattle.ld_text.specs.Inside.Finding.{AddsThose}
 use Rattle.ld_text.proofs.found.Search.add_circles.Given as goal

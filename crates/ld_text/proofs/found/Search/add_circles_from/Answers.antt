@@ -1,5 +1,5 @@
 use Rattle.std.proofs.Common.{map}
-use Rattle.ld_graph.specs.Arrows.{arrow}
+use Rattle.ld_facts.specs.Arrows.{arrow}
 use Rattle.ld_text.specs.Words.{kinds}
 use Rattle.ld_text.proofs.FindingLemmas.{AddsThose-none, AddsThose-next_item}
 use Rattle.ld_text.proofs.found.Search.add_circles_from.Goals as goal

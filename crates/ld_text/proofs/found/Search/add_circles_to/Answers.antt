@@ -1,6 +1,6 @@
-use Rattle.ld_graph.specs.Arrows.{arrow}
+use Rattle.ld_facts.specs.Arrows.{arrow}
 use Rattle.ld_text.specs.Words.{kinds}
-use Rattle.ld_graph.specs.FactBits.{HasFact}
+use Rattle.ld_facts.specs.FactBits.{HasFact}
 use Rattle.ld_text.proofs.ReportLemmas.{OnCircle-dependency}
 use Rattle.ld_text.proofs.FindingLemmas.{AddsThose-map_never}
 use Rattle.ld_text.proofs.found.Search.add_circles_to.Goals as goal

@@ -1,6 +1,6 @@
 use Rattle.std.proofs.Common.{map, take}
 use Rattle.std.specs.List.{flat_map}
-use Rattle.ld_graph.specs.FactBits.{HasFact}
+use Rattle.ld_facts.specs.FactBits.{HasFact}
 use Rattle.ld_graph.specs.Links.{IsDouble}
 use Rattle.ld_text.specs.Inside.Finding.{AddsThose}
 use Rattle.ld_text.proofs.found.Search.add_doubles.Given as goal

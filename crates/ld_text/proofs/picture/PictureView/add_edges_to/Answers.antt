@@ -1,6 +1,6 @@
 use Rattle.std.proofs.Common.{inr, refl}
-use Rattle.ld_graph.specs.Arrows.{arrow}
-use Rattle.ld_graph.specs.FactBits.{HasFact}
+use Rattle.ld_facts.specs.Arrows.{arrow}
+use Rattle.ld_facts.specs.FactBits.{HasFact}
 use Rattle.ld_text.specs.Picture.{ShowsEdge}
 use Rattle.ld_text.specs.Words.{kinds}
 use Rattle.ld_text.proofs.GroupLemmas.{GrowsBy-more, GrowsBy-none, GrowsBy-nothing, InTurn-nothing}

@@ -1,5 +1,5 @@
 use Rattle.ld_graph.specs.Links.{IsInversion}
-use Rattle.ld_graph.specs.FactBits.{HasFact}
+use Rattle.ld_facts.specs.FactBits.{HasFact}
 use Rattle.ld_text.proofs.GroupLemmas.{GrowsBy-hidden}
 use Rattle.ld_text.proofs.picture.PictureView.add_inversion.Goals as goal
 

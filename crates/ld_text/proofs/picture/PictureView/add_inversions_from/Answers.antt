@@ -1,4 +1,4 @@
-use Rattle.ld_graph.specs.FactBits.{HasFact}
+use Rattle.ld_facts.specs.FactBits.{HasFact}
 use Rattle.ld_graph.specs.Links.{IsInversion}
 use Rattle.ld_text.specs.Picture.{link_line}
 use Rattle.ld_text.proofs.GroupLemmas.{GrowsBy-all_hidden, GrowsBy-more_item, GrowsBy-none}

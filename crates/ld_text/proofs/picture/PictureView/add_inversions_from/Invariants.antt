@@ -1,5 +1,5 @@
 use Rattle.std.proofs.Common.{take}
-use Rattle.ld_graph.specs.FactBits.{HasFact}
+use Rattle.ld_facts.specs.FactBits.{HasFact}
 use Rattle.ld_text.specs.Groups.{GrowsBy, InTurn}
 use Rattle.ld_text.specs.Picture.{ShowsInversionLink}
 use Rattle.ld_text.proofs.picture.PictureView.add_inversions_from.Given as goal

@@ -1,6 +1,6 @@
 use Rattle.std.proofs.Common.{◌↔◌, Any, IsTrue, false, slice_index_or, subst}
 use Rattle.std.proofs.lemmas.List.{get_or_default}
-use Rattle.ld_graph.specs.FactBits.{HasFact}
+use Rattle.ld_facts.specs.FactBits.{HasFact}
 use Rattle.ld_text.specs.Picture.{AreJoined}
 use Rattle.ld_text.proofs.GroupLemmas.{GrowsBy-more, GrowsBy-none}
 use Rattle.ld_text.proofs.picture.PictureView.add_keys.Goals as goal

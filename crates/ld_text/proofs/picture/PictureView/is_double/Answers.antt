@@ -1,4 +1,4 @@
-use Rattle.ld_graph.specs.FactBits.{HasFact}
+use Rattle.ld_facts.specs.FactBits.{HasFact}
 use Rattle.ld_graph.specs.Links.{IsDouble}
 use Rattle.ld_text.specs.Words.{states}
 use Rattle.ld_text.proofs.PictureGrowing.{none-more}

@@ -1,5 +1,5 @@
 use Rattle.std.proofs.Common.{Any, take}
-use Rattle.ld_graph.specs.FactBits.{HasFact}
+use Rattle.ld_facts.specs.FactBits.{HasFact}
 use Rattle.ld_graph.specs.Links.{IsDouble}
 use Rattle.ld_text.proofs.picture.PictureView.is_double.Given as goal
 

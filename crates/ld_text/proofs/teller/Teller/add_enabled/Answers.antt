@@ -2,8 +2,8 @@ use Rattle.std.proofs.Common.{◌≡◌, ◌∙◌, ◌++◌, ap, codes, string_
 use Rattle.std.proofs.lemmas.List.{append_assoc}
 use Rattle.std.proofs.lemmas.Result.{on_ok_weaker}
 use Rattle.ld_task.specs.declared.mark.Mark.TheVariants.{Enabled}
-use Rattle.ld_graph.specs.declared.fact.Fact.{Fact}
-use Rattle.ld_graph.specs.declared.fact.Fact.TheVariants.{Marked}
+use Rattle.ld_facts.specs.declared.fact.Fact.{Fact}
+use Rattle.ld_facts.specs.declared.fact.Fact.TheVariants.{Marked}
 use Rattle.ld_text.specs.Words.{irq_text}
 use Rattle.ld_text.proofs.LeafLemmas.{origin_line}
 use Rattle.ld_text.proofs.teller.Teller.add_enabled.Goals as goal

@@ -1,6 +1,6 @@
 use Rattle.std.proofs.Common.{subst}
 use Rattle.std.proofs.lemmas.Result.{on_ok_weaker}
-use Rattle.ld_graph.specs.FactBits.{HasFact}
+use Rattle.ld_facts.specs.FactBits.{HasFact}
 use Rattle.ld_graph.specs.Links.{IsShortestInversion, link_by}
 use Rattle.ld_text.proofs.TellingLemmas.{inversion-are, inversion-grows}
 use Rattle.ld_text.proofs.teller.Teller.add_inversion.Goals as goal

@@ -1,8 +1,8 @@
 use Rattle.std.proofs.Common.{subst, sym, refl}
-use Rattle.ld_graph.specs.FactBits.{HasFact}
-use Rattle.ld_graph.specs.Facts.{DependenciesOf}
+use Rattle.ld_facts.specs.FactBits.{HasFact}
+use Rattle.ld_facts.specs.Facts.{DependenciesOf}
 use Rattle.ld_graph.specs.Walks.{IsShortestFrom}
-use Rattle.ld_graph.specs.Arrows.{arrow}
+use Rattle.ld_facts.specs.Arrows.{arrow}
 use Rattle.ld_text.proofs.TellingLemmas.{shortest-are}
 use Rattle.ld_text.proofs.teller.Teller.circle.Goals as goal
 

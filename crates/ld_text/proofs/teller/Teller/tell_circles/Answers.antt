@@ -1,5 +1,5 @@
 use Rattle.std.proofs.Common.{◌∙◌, arith, subst, sym}
-use Rattle.ld_graph.specs.FactBits.{HasFact}
+use Rattle.ld_facts.specs.FactBits.{HasFact}
 use Rattle.ld_graph.specs.Walks.{OnCircle}
 use Rattle.ld_text.proofs.TellingLemmas.{TellsCircles-none, TellsCircles-next_item}
 use Rattle.ld_text.proofs.teller.Teller.tell_circles.Goals as goal

@@ -2,9 +2,9 @@ use Rattle.std.proofs.Common.{◌↔◌, List, ℕ, All, IfErr, IsTrue, subst}
 use Rattle.std.proofs.lemmas.Result.{IfOk-from_err}
 use Rattle.std.specs.Io.KnownBytes.{Appends}
 use Rattle.ld_task.specs.WellFormed.{IsWellFormed}
-use Rattle.ld_graph.specs.FactBits.{HasFact}
+use Rattle.ld_facts.specs.FactBits.{HasFact}
 use Rattle.ld_graph.specs.Links.{IsClean}
-use Rattle.ld_run.specs.TraceFacts.{TracesHave}
+use Rattle.ld_facts.specs.TraceFacts.{TracesHave}
 use Rattle.ld_text.proofs.ReportLemmas.{clean_is-same}
 use Rattle.lockdep.specs.Faults.{StopsText}
 use Rattle.lockdep.specs.Sessions.{SessionParts}

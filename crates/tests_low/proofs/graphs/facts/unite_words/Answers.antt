@@ -1,7 +1,7 @@
 use Rattle.std.proofs.Common.{◌≡◌, ◌<◌, ◌∙◌, sym, subst, ℕ, List}
 use Rattle.std.proofs.lemmas.Option.{slice_get_within, get_or_from_slice_get}
 use Rattle.std.specs.Prelude.{All, slice_get, Some}
-use Rattle.ld_graph.specs.WordPairs.{word_total, NonePast}
+use Rattle.ld_facts.specs.WordPairs.{word_total, NonePast}
 use Rattle.tests_low.proofs.graphs.facts.unite_words.Goals as goal
 
 -- what holds of all pairs holds of one that is got

@@ -1,0 +1,10 @@
+pub mod BitLemmas
+pub mod Adding
+pub mod Counted
+pub mod Empty
+pub mod Words
+pub mod Uniting
+pub mod WordTables
+pub mod Gathering
+pub mod Meeting
+pub mod LawProofs

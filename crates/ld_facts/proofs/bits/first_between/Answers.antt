@@ -1,0 +1,39 @@
+use Rattle.std.proofs.Common.{◌/◌, ◌%◌, ◌^◌, ◌+◌, get_or, w64, inl, inr, arith, refl}
+use Rattle.std.specs.Int.{trailing_zeros}
+use Rattle.std.proofs.lemmas.Bool.{cases_lt}
+use Rattle.ld_facts.proofs.BitLemmas.{none_left, IsFirstFrom, first_left}
+use Rattle.ld_facts.proofs.bits.first_between.Goals as goal
+use Rattle.ld_facts.proofs.bits.first_between.Goals.{Then-rest-ne0}
+
+pub loop-at-preserved : goal.loop-at-preserved
+loop-at-preserved c = record {
+  onwards = let h = c.loop-at.invariant.onwards in omega arith;
+  none = λ k la lb. elim (cases_lt k c.loop-at.at) [
+    | inl before ↦ c.loop-at.invariant.none k la before
+    | inr here ↦ none_left c.args.words.now c.loop-at.at k c.if-rest-ne0.false here lb
+  ];
+}
+
+first : (c : Then-rest-ne0) → IsFirstFrom c.args.words.now c.loop-at.at
+    (c.loop-at.at + trailing_zeros w64 (get_or c.args.words.now (c.loop-at.at / 64) 0 / 2 ^ (c.loop-at.at % 64)))
+first c = first_left c.args.words.now c.loop-at.at (get_or c.args.words.now (c.loop-at.at / 64) 0 / 2 ^ (c.loop-at.at % 64)) (omega (arith, c.type_inv.words (c.loop-at.at / 64))) refl c.if-rest-ne0.true
+
+pub returns-then-bit-end-clause-some : goal.returns-then-bit-end-clause-some
+returns-then-bit-end-clause-some c =
+    let f = first (goal.at.returns-then-bit-end-clause-some c).Then-rest-ne0 in (
+      (let h = c.loop-at.invariant.onwards in omega arith),
+      c.if-bit-end.true,
+      f.set,
+      λ k la lb. elim (cases_lt k c.loop-at.at) [
+        | inl before ↦ c.loop-at.invariant.none k la before
+        | inr here ↦ f.before k here lb
+      ],
+    )
+
+pub returns-else-bit-end-clause-none : goal.returns-else-bit-end-clause-none
+returns-else-bit-end-clause-none c = λ _ k la lb.
+    let f = first (goal.at.returns-else-bit-end-clause-none c).Then-rest-ne0 in
+    elim (cases_lt k c.loop-at.at) [
+      | inl before ↦ c.loop-at.invariant.none k la before
+      | inr here ↦ f.before k here (let past = c.if-bit-end.false in omega arith)
+    ]

@@ -1,0 +1,13 @@
+use Rattle.std.proofs.Common.{◌-◌, ℕ, ◌<◌, ◌≤◌}
+use Rattle.std.specs.Prelude.{IsFalse}
+use Rattle.ld_facts.specs.Inside.Bits.{has_bit}
+use Rattle.ld_facts.proofs.bits.first_between.Given as goal
+
+abbrev pub invariant-loop-at : goal.invariant-loop-at
+invariant-loop-at l = record {
+  onwards : l.start ≤ l.at;
+  none : (k : ℕ) → l.start ≤ k → k < l.at → IsFalse (has_bit l.words k);
+}
+
+abbrev pub decreases-loop-at : goal.decreases-loop-at
+decreases-loop-at l = l.end - l.at

@@ -1,0 +1,5 @@
+use Rattle.ld_facts.specs.Inside.WordTable.{Gathered}
+use Rattle.ld_facts.proofs.chain_words.FactWords.add_dependencies.Given as goal
+
+abbrev pub invariant-loop-i : goal.invariant-loop-i
+invariant-loop-i l = Gathered l.keys l.chain l.self l.i

@@ -1,0 +1,14 @@
+use Rattle.std.proofs.Common.{◌≡◌, ℕ, ◌<◌, ◌≤◌, length, slice_index}
+use Rattle.std.specs.Prelude.{IsTrue}
+use Rattle.ld_facts.specs.Inside.Bits.{has_bit}
+use Rattle.ld_facts.proofs.chain_words.FactWords.clear.Given as goal
+
+-- what is still seen stands at a later place
+abbrev pub invariant-loop-i : goal.invariant-loop-i
+invariant-loop-i l = record {
+  places : l.self-inside.places ≡ l.initial.self-inside.places;
+  len : l.self-inside.len ≡ l.initial.self-inside.len;
+  seen_words : length l.self-inside.seen ≡ length l.initial.self-inside.seen;
+  later : (n : ℕ) → IsTrue (has_bit l.self-inside.seen n) →
+      (j : ℕ) × (l.i ≤ j) × (j < l.self-inside.len) × (slice_index l.self-inside.places j ≡ n);
+}

@@ -1,0 +1,60 @@
+use Rattle.std.proofs.Common.{rules, ◌≡◌, ◌<◌, ◌≤◌, ◌∙◌, sym, ap, subst, refl, length, false}
+use Rattle.std.proofs.lemmas.List.{with_items_is}
+use Rattle.std.specs.Vec.{with_items}
+use Rattle.ld_facts.specs.Inside.Bits.{has_bit}
+use Rattle.ld_facts.specs.Numbers.{dependency_total, bit_total}
+use Rattle.ld_facts.specs.FactBits.{FactParts, SetsBit}
+use Rattle.ld_trace.specs.declared.key_id.TheConstants.{MAX_MANY}
+use Rattle.ld_facts.proofs.Adding.{AreCounted-dependency, AreCounted-mark}
+use Rattle.ld_facts.specs.CountingLaws.{dependency_count-le, mark_count-le}
+use Rattle.ld_facts.proofs.facts.Facts.add_bit.Goals as goal
+use Rattle.ld_facts.proofs.facts.Facts.add_bit.Goals.{After-insert}
+
+abbrev before : After-insert → FactParts
+before c = record { keys = c.self.inside.keys; words = c.self.inside.bits.items }
+
+abbrev after : After-insert → FactParts
+after c = record { keys = c.self.inside.keys; words = (with_items c.self.inside.bits c.insert.new.words).items }
+
+words_are : (c : After-insert) → (with_items c.self.inside.bits c.insert.new.words).items ≡ c.insert.new.words
+words_are c = with_items_is c.self.inside.bits c.insert.new.words (c.insert.ensures.len ∙ c.deref_mut.ensures.len)
+
+sets : (c : After-insert) → SetsBit (before c) (after c) c.args.n
+sets c = record {
+  keys = refl;
+  set = ap (λ ws. has_bit ws c.args.n) (words_are c) ∙ c.insert.ensures.set;
+  others = λ k ne. ap (λ ws. has_bit ws k) (words_are c) ∙ c.insert.ensures.others k ne ∙ ap (λ ws. has_bit ws k) c.deref_mut.ensures.value;
+}
+
+len : (c : After-insert) → length (with_items c.self.inside.bits c.insert.new.words).items ≡ length c.self.inside.bits.items
+len c = ap length (words_are c) ∙ c.insert.ensures.len ∙ ap length c.deref_mut.ensures.value
+
+off : (c : After-insert) → has_bit c.self.inside.bits.items c.args.n ≡ false
+off c = ap (λ ws. has_bit ws c.args.n) (sym c.deref.ensures.value) ∙ sym c.has.ensures ∙ c.if-has.false
+
+below : (c : After-insert) → c.args.n < bit_total c.self.inside.keys
+below c = subst (λ v. c.args.n < bit_total v.keys) (sym c.self.view_is) c.requires
+
+pub overflow_add-self : goal.overflow_add-self
+overflow_add-self c =
+    let most = dependency_count-le (record { keys = c.self.inside.keys; words = c.self.inside.bits.items }) MAX_MANY c.self.invariant.are.few in
+    let is = c.self.invariant.dependencies in
+    search rules
+
+pub invariant_of-self : goal.invariant_of-self
+invariant_of-self c =
+    let d = (goal.at.invariant_of-self c).After-insert in
+    AreCounted-dependency (before d) (after d) c.args.n (sets d) c.self.inside.dependencies c.self.inside.marks (len d) c.self.invariant
+    (subst (λ k. c.args.n < dependency_total k) c.from-keys.ensures c.if-n-keys.true) (off d)
+
+pub overflow_add-self-else-n-keys : goal.overflow_add-self-else-n-keys
+overflow_add-self-else-n-keys c =
+    let most = mark_count-le (record { keys = c.self.inside.keys; words = c.self.inside.bits.items }) MAX_MANY c.self.invariant.are.few in
+    let is = c.self.invariant.marks in
+    search rules
+
+pub invariant_of-self-else-n-keys : goal.invariant_of-self-else-n-keys
+invariant_of-self-else-n-keys c =
+    let d = (goal.at.invariant_of-self-else-n-keys c).After-insert in
+    AreCounted-mark (before d) (after d) c.args.n (sets d) c.self.inside.dependencies c.self.inside.marks (len d) c.self.invariant
+    (subst (λ k. dependency_total k ≤ c.args.n) c.from-keys.ensures c.if-n-keys.false) (below d) (off d)

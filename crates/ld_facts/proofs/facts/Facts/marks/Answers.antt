@@ -1,0 +1,11 @@
+use Rattle.std.proofs.Common.{ap, sym, ◌∙◌, subst}
+use Rattle.ld_facts.specs.Counting.{IsNumberOf}
+use Rattle.ld_facts.specs.Facts.{MarksOf}
+use Rattle.ld_facts.specs.FactBits.{HasFact, mark_count}
+use Rattle.ld_facts.proofs.Counted.{IsNumberOf-marks}
+use Rattle.ld_facts.proofs.facts.Facts.marks.Goals as goal
+
+pub returns-clause-number : goal.returns-clause-number
+returns-clause-number c =
+    subst (IsNumberOf (MarksOf (HasFact c.args.self.now))) (sym (c.self.invariant.marks ∙ ap mark_count c.self.view_is))
+    (IsNumberOf-marks c.args.self.now)

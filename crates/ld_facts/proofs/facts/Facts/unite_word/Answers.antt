@@ -1,0 +1,54 @@
+use Rattle.std.proofs.Common.{◌≡◌, ◌+◌, ◌*◌, ◌/◌, ◌<◌, ◌∙◌, sym, ap, subst, arith, get_or, length, eqb-true}
+use Rattle.std.specs.Int.{bit_at}
+use Rattle.std.proofs.lemmas.List.{get_or_default}
+use Rattle.ld_facts.specs.Numbers.{bit_total}
+use Rattle.ld_facts.proofs.Uniting.{UnitesWord-known, UnitesBits-start, UnitesBits-on, UnitesBits-off, UnitesWord-bits, Adds-word}
+use Rattle.ld_facts.specs.FactBits.{UnitesWord}
+use Rattle.ld_facts.proofs.facts.Facts.unite_word.Goals as goal
+use Rattle.ld_facts.proofs.facts.Facts.unite_word.Goals.{After-index, After-loop-k, then-is_set, else-is_set}
+
+within : (c : After-index) → c.args.n < length c.self.inside.bits.items
+within c = let l = subst (λ v. c.args.n < (bit_total v.keys + 63) / 64) (sym c.self.view_is) c.requires.below in let w = c.self.invariant.are.words in omega arith
+
+word_is : (c : After-index) → c.index.result.now ≡ get_or c.args.self.now.words c.args.n 0
+word_is c =
+    c.index.ensures ∙ get_or_default c.self.inside.bits.items c.args.n c.index.result.now 0 (within c) ∙ ap (λ v. get_or v.words c.args.n 0) c.self.view_is
+
+pub returns-then-is_within-clause-unites : goal.returns-then-is_within-clause-unites
+returns-then-is_within-clause-unites c =
+    UnitesWord-known c.args.self.now c.args.n c.args.bits
+    (λ k l h. subst (λ x. bit_at x k ≡ 1) (word_is (goal.at.returns-then-is_within-clause-unites c).After-index) (c.is_within.ensures c.if-is_within.true k l h))
+
+pub returns-then-is_within-clause-adds : goal.returns-then-is_within-clause-adds
+returns-then-is_within-clause-adds c = Adds-word c.args.self.now c.args.self.now c.args.n c.args.bits (
+    UnitesWord-known c.args.self.now c.args.n c.args.bits
+    (λ k l h. subst (λ x. bit_at x k ≡ 1) (word_is (goal.at.returns-then-is_within-clause-adds c).After-index) (c.is_within.ensures c.if-is_within.true k l h)))
+
+pub loop-k-init : goal.loop-k-init
+loop-k-init c = UnitesBits-start c.args.self.now c.args.n c.args.bits
+
+pub add_bit-requires : goal.add_bit-requires
+add_bit-requires c =
+    subst (λ keys. c.args.n * 64 + c.loop-k.k < bit_total keys) (sym c.loop-k.invariant.keys)
+    (c.requires.none_past c.loop-k.k c.loop-k-test.true (eqb-true (bit_at c.args.bits c.loop-k.k) 1 (sym c.is_set.ensures ∙ c.if-is_set.true)))
+
+pub loop-k-preserved : goal.loop-k-preserved
+loop-k-preserved c = elim c.if-is_set.branch [
+  | then-is_set w ↦
+      rw w.self-is
+      (UnitesBits-on c.args.self.now c.loop-k.self c.args.n c.args.bits c.loop-k.k c.loop-k-test.true c.loop-k.invariant w.add_bit.new.self
+      (sym c.is_set.ensures ∙ w.if-is_set.true) w.add_bit.ensures.sets)
+  | else-is_set w ↦
+      rw w.self-is
+      (UnitesBits-off c.args.self.now c.loop-k.self c.args.n c.args.bits c.loop-k.k c.loop-k-test.true c.loop-k.invariant
+      (sym c.is_set.ensures ∙ w.if-is_set.false))
+]
+
+united : (c : After-loop-k) → UnitesWord c.args.self.now c.loop-k.self c.args.n c.args.bits
+united c = UnitesWord-bits c.args.self.now c.loop-k.self c.args.n c.args.bits c.loop-k.k c.loop-k-test.false c.loop-k.invariant
+
+pub returns-clause-unites : goal.returns-clause-unites
+returns-clause-unites c = united (goal.at.returns-clause-unites c).After-loop-k
+
+pub returns-clause-adds : goal.returns-clause-adds
+returns-clause-adds c = Adds-word c.args.self.now c.loop-k.self c.args.n c.args.bits (united (goal.at.returns-clause-adds c).After-loop-k)

@@ -1,8 +1,0 @@
-use Rattle.std.proofs.Common.{◌≡◌, ℕ, ◌<◌, ◌≤◌, slice_index, bit_and}
-use Rattle.ld_graph.proofs.bits.intersect.Given as goal
-
-abbrev pub invariant-loop-i : goal.invariant-loop-i
-invariant-loop-i l = record {
-  done : (k : ℕ) → k < l.i → slice_index l.words k ≡ bit_and (slice_index l.initial.words k) (slice_index l.other k);
-  rest : (k : ℕ) → l.i ≤ k → slice_index l.words k ≡ slice_index l.initial.words k;
-}

@@ -1,5 +1,0 @@
-use Rattle.ld_graph.specs.Inside.WordTable.{Gathered}
-use Rattle.ld_graph.proofs.chain_words.FactWords.add_dependencies.Given as goal
-
-abbrev pub invariant-loop-i : goal.invariant-loop-i
-invariant-loop-i l = Gathered l.keys l.chain l.self l.i

@@ -1,6 +1,0 @@
-use Rattle.std.proofs.Common.{◌*◌}
-use Rattle.ld_graph.specs.Inside.WordTable.{Gathered}
-use Rattle.ld_graph.proofs.chain_words.FactWords.add_marks_of_held.Given as goal
-
-abbrev pub invariant-loop-i : goal.invariant-loop-i
-invariant-loop-i l = Gathered l.keys l.chain l.self (l.i * 2)

@@ -1,6 +1,0 @@
-use Rattle.std.proofs.Common.{replicate}
-use Rattle.ld_graph.proofs.WordTables.{IsTable-empty, none_seen}
-use Rattle.ld_graph.proofs.chain_words.FactWords.new.Goals as goal
-
-pub invariant_of-result : goal.invariant_of-result
-invariant_of-result c = IsTable-empty (replicate 96 0) (replicate 96 0) (replicate 65 0) (none_seen 65)

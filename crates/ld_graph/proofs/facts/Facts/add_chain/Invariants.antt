@@ -1,5 +1,0 @@
-use Rattle.ld_graph.proofs.Growing.{Grown}
-use Rattle.ld_graph.proofs.facts.Facts.add_chain.Given as goal
-
-abbrev pub invariant-loop-n : goal.invariant-loop-n
-invariant-loop-n l = Grown l.initial.self l.self l.chain l.n l.fresh

@@ -1,5 +1,0 @@
-use Rattle.ld_graph.proofs.Uniting.{UnitesBits}
-use Rattle.ld_graph.proofs.facts.Facts.unite_word.Given as goal
-
-abbrev pub invariant-loop-k : goal.invariant-loop-k
-invariant-loop-k l = UnitesBits l.initial.self l.self l.n l.bits l.k

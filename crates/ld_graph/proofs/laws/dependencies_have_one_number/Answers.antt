@@ -1,7 +1,0 @@
-use Rattle.std.specs.Prelude.{Any}
-use Rattle.ld_graph.specs.Facts.{TraceHas, DependenciesOf}
-use Rattle.ld_graph.proofs.Counted.{IsNumberOf-unique}
-use Rattle.ld_graph.proofs.laws.dependencies_have_one_number.Goals as goal
-
-pub returns : goal.returns
-returns c = λ traces. IsNumberOf-unique (DependenciesOf (λ x. Any (λ t. TraceHas t x) traces))

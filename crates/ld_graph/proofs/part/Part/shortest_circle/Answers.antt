@@ -1,5 +1,0 @@
-use Rattle.std.proofs.Common.{refl}
-use Rattle.ld_graph.proofs.part.Part.shortest_circle.Goals as goal
-
-pub returns-in_err-circle-clause-none : goal.returns-in_err-circle-clause-none
-returns-in_err-circle-clause-none c = λ _. c.in_err-circle.ensures.none.0 refl

@@ -1,6 +1,0 @@
-use Rattle.std.proofs.Common.{slice_index}
-use Rattle.ld_graph.proofs.Climbing.{IsGreatest, IsEnabled}
-use Rattle.ld_graph.proofs.ranks.greatest_enabled.Given as goal
-
-abbrev pub invariant-loop-key : goal.invariant-loop-key
-invariant-loop-key l = IsGreatest (IsEnabled l.facts l.irq) (slice_index l.ranks) l.key l.greatest

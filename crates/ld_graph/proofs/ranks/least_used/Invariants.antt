@@ -1,6 +1,0 @@
-use Rattle.std.proofs.Common.{slice_index}
-use Rattle.ld_graph.proofs.Climbing.{IsLeast, IsUsed}
-use Rattle.ld_graph.proofs.ranks.least_used.Given as goal
-
-abbrev pub invariant-loop-key : goal.invariant-loop-key
-invariant-loop-key l = IsLeast (IsUsed l.facts l.irq) (slice_index l.ranks) l.key l.least

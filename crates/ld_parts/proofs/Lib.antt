@@ -1,0 +1,4 @@
+pub mod Climbing
+pub mod PartLaws
+pub mod Parts
+pub mod Parting

@@ -1,0 +1,227 @@
+-- What is found in a part is what is found among all facts.
+use Rattle.std.specs.Prelude.{◌≡◌, ℕ, ◌<◌, ◌↔◌, Bool, List, length, map, slice_index, Contains}
+use Rattle.std.proofs.Common.{refl, sym, ◌∙◌, subst}
+use Rattle.std.proofs.lemmas.List.Elements.{Contains-get_or}
+use Rattle.ld_trace.specs.declared.event.Irq.{Irq}
+use Rattle.ld_task.specs.declared.kind.Kind.{Kind}
+use Rattle.ld_facts.specs.Arrows.{Arrow, arrow}
+use Rattle.ld_facts.specs.FactBits.{FactParts, HasFact}
+use Rattle.ld_graph.specs.FactLaws.{OnCircle-same, IsShortestCircle-same, IsShortestFrom-same, IsDouble-same, IsDoubleBy-same, IsInversion-same, InInversion-same, IsShortestInversion-same, IsClean-same}
+use Rattle.ld_facts.specs.Facts.{AreSame}
+use Rattle.ld_graph.specs.Links.{IsDouble, IsDoubleBy, IsInversion, InInversion, IsShortestInversion, IsClean, link_by}
+use Rattle.ld_parts.specs.RankLaws.{are_found_by_rank}
+use Rattle.ld_parts.specs.Ranks.{AmongRank, AreFoundByRank, NoneGoesDown}
+use Rattle.ld_facts.specs.Renumbered.{AmongKeys, HasKeys, Renumbered, arrow_at}
+use Rattle.ld_parts.specs.FoundByPlace.{AreFoundByPlace}
+use Rattle.ld_parts.specs.RenumberedLaws.{are_found_by_place, AmongRank-listed}
+use Rattle.ld_graph.specs.Walks.{OnCircle, IsShortestCircle, IsShortestFrom}
+use Rattle.ld_parts.specs.Inside.Parts.{AreTogether, IsAtPlace, IsPart}
+use Rattle.ld_facts.specs.declared.fact.Fact.{Fact}
+use Rattle.ld_facts.specs.declared.fact.Fact.TheVariants.{Dependency, Marked}
+use Rattle.ld_parts.specs.declared.part.Part.{Part}
+
+-- ---- what is found in a part
+module _ (facts : FactParts) (part : Part) (rank : ℕ → ℕ) (r : ℕ) (is : IsPart facts rank r part) where
+  abbrev keys : List ℕ
+  keys = part.keys.items
+
+  abbrev Has : Fact → Type 0
+  Has = HasFact facts
+
+  abbrev Among : Fact → Type 0
+  Among = HasFact part.graph.facts
+
+  of_rank : (key : ℕ) → Contains keys key → rank key ≡ r
+  of_rank key (k, l, e) = subst (λ x. rank x ≡ r) e (is.keys_are.of k key l).1
+
+  all_keys : (x : Fact) → AmongRank Has rank r x → HasKeys keys x
+  all_keys (Dependency from to kind) ((below, set), (at_from, at_to)) =
+      (is.keys_are.all from below.0 at_from, is.keys_are.all to below.1 at_to)
+  all_keys (Marked key mark) ((below, set), at_key) = is.keys_are.all key below at_key
+
+  by_place : AreFoundByPlace Has keys
+  by_place = are_found_by_place Has keys is.keys_are.once
+
+  pub listed : AreSame (AmongRank Has rank r) (AmongKeys Has keys)
+  listed = AmongRank-listed Has rank r keys (record { of_rank = of_rank; all = all_keys })
+
+  unlisted : AreSame (AmongKeys Has keys) (AmongRank Has rank r)
+  unlisted x = ((listed x).1, (listed x).0)
+
+  rank_at : (key n : ℕ) → IsAtPlace keys key n → rank key ≡ r
+  rank_at key n (l, e) = subst (λ k. rank k ≡ r) e (of_rank (slice_index keys n) (Contains-get_or keys n 0 l))
+
+  module _ (none : NoneGoesDown Has rank) where
+    found : AreFoundByRank Has rank
+    found = are_found_by_rank Has rank none
+
+    pub on_circle : (i j : ℕ) (kind : Kind) → i < length keys → j < length keys →
+        OnCircle Has (arrow_at keys (arrow i j kind)) ↔ OnCircle Among (arrow i j kind)
+    on_circle i j kind li lj =
+        let d = arrow_at keys (arrow i j kind) in
+        let at_i = rank_at (slice_index keys i) i (li, refl) in
+        let at_j = rank_at (slice_index keys j) j (lj, refl) in (
+          (λ on.
+              let of_rank = subst (λ s. OnCircle (AmongRank Has rank s) d) at_i ((found.on_circle d).0 on).1 in
+              let of_keys = (OnCircle-same (AmongRank Has rank r) (AmongKeys Has keys) listed d).0 of_rank in
+              (OnCircle-same Among (Renumbered Has keys) is.same (arrow i j kind)).1 ((by_place.on_circle (arrow i j kind) li lj).1 of_keys)),
+          (λ on.
+              let by_places = (OnCircle-same Among (Renumbered Has keys) is.same (arrow i j kind)).0 on in
+              let of_keys = (by_place.on_circle (arrow i j kind) li lj).0 by_places in
+              let of_rank = (OnCircle-same (AmongRank Has rank r) (AmongKeys Has keys) listed d).1 of_keys in
+              (found.on_circle d).1 (at_i ∙ sym at_j, subst (λ s. OnCircle (AmongRank Has rank s) d) (sym at_i) of_rank)),
+        )
+
+    pub double : (irq : Irq) (i : ℕ) → i < length keys → IsDouble Has irq (slice_index keys i) ↔ IsDouble Among irq i
+    double irq i l =
+        let a = slice_index keys i in
+        let at_i = rank_at a i (l, refl) in (
+          (λ is_double.
+              let of_rank = subst (λ s. IsDouble (AmongRank Has rank s) irq a) at_i ((found.double irq a).0 is_double) in
+              let of_keys = (IsDouble-same (AmongRank Has rank r) (AmongKeys Has keys) listed irq a).0 of_rank in
+              (IsDouble-same Among (Renumbered Has keys) is.same irq i).1 ((by_place.double irq i l).1 of_keys)),
+          (λ is_double.
+              let of_keys = (by_place.double irq i l).0 ((IsDouble-same Among (Renumbered Has keys) is.same irq i).0 is_double) in
+              let of_rank = (IsDouble-same (AmongRank Has rank r) (AmongKeys Has keys) listed irq a).1 of_keys in
+              (found.double irq a).1 (subst (λ s. IsDouble (AmongRank Has rank s) irq a) (sym at_i) of_rank)),
+        )
+
+    pub double_by : (irq : Irq) (i : ℕ) (l : Arrow) → i < length keys → IsDoubleBy Among irq i l →
+        IsDoubleBy Has irq (slice_index keys i) (arrow_at keys l)
+    double_by irq i l within by =
+        let a = slice_index keys i in
+        let of_keys = by_place.double_by irq i l ((IsDoubleBy-same Among (Renumbered Has keys) is.same irq i l).0 by) in
+        let of_rank = (IsDoubleBy-same (AmongRank Has rank r) (AmongKeys Has keys) listed irq a (arrow_at keys l)).1 of_keys in
+        (found.double_by irq a (arrow_at keys l)).1
+        (subst (λ s. IsDoubleBy (AmongRank Has rank s) irq a (arrow_at keys l)) (sym (rank_at a i (within, refl))) of_rank)
+
+    pub inversion : (irq : Irq) (i j : ℕ) → i < length keys → j < length keys →
+        IsInversion Has irq (slice_index keys i) (slice_index keys j) ↔ IsInversion Among irq i j
+    inversion irq i j li lj =
+        let a = slice_index keys i in
+        let b = slice_index keys j in
+        let at_i = rank_at a i (li, refl) in
+        let at_j = rank_at b j (lj, refl) in (
+          (λ is_one.
+              let of_rank = subst (λ s. IsInversion (AmongRank Has rank s) irq a b) at_i ((found.inversion irq a b).0 is_one).1 in
+              let of_keys = (IsInversion-same (AmongRank Has rank r) (AmongKeys Has keys) listed irq a b).0 of_rank in
+              (IsInversion-same Among (Renumbered Has keys) is.same irq i j).1 ((by_place.inversion irq i j li lj).1 of_keys)),
+          (λ is_one.
+              let of_keys = (by_place.inversion irq i j li lj).0 ((IsInversion-same Among (Renumbered Has keys) is.same irq i j).0 is_one) in
+              let of_rank = (IsInversion-same (AmongRank Has rank r) (AmongKeys Has keys) listed irq a b).1 of_keys in
+              (found.inversion irq a b).1
+              (at_i ∙ sym at_j, subst (λ s. IsInversion (AmongRank Has rank s) irq a b) (sym at_i) of_rank)),
+        )
+
+    pub in_inversion : (i j : ℕ) (kind : Kind) → i < length keys → j < length keys →
+        InInversion Has (arrow_at keys (arrow i j kind)) ↔ InInversion Among (arrow i j kind)
+    in_inversion i j kind li lj =
+        let d = arrow_at keys (arrow i j kind) in
+        let at_i = rank_at (slice_index keys i) i (li, refl) in
+        let at_j = rank_at (slice_index keys j) j (lj, refl) in (
+          (λ in_one.
+              let of_rank = subst (λ s. InInversion (AmongRank Has rank s) d) at_i ((found.in_inversion d).0 in_one).1 in
+              let of_keys = (InInversion-same (AmongRank Has rank r) (AmongKeys Has keys) listed d).0 of_rank in
+              (InInversion-same Among (Renumbered Has keys) is.same (arrow i j kind)).1 ((by_place.in_inversion (arrow i j kind) li lj).1 of_keys)),
+          (λ in_one.
+              let by_places = (InInversion-same Among (Renumbered Has keys) is.same (arrow i j kind)).0 in_one in
+              let of_keys = (by_place.in_inversion (arrow i j kind) li lj).0 by_places in
+              let of_rank = (InInversion-same (AmongRank Has rank r) (AmongKeys Has keys) listed d).1 of_keys in
+              (found.in_inversion d).1 (at_i ∙ sym at_j, subst (λ s. InInversion (AmongRank Has rank s) d) (sym at_i) of_rank)),
+        )
+
+    pub shortest_from : (i j : ℕ) (kind : Kind) (walk : List Arrow) → i < length keys → j < length keys →
+        IsShortestFrom Among (arrow i j kind) walk →
+        IsShortestFrom Has (arrow_at keys (arrow i j kind)) (map (arrow_at keys) walk)
+    shortest_from i j kind walk li lj shortest =
+        let d = arrow_at keys (arrow i j kind) in
+        let told = map (arrow_at keys) walk in
+        let at_i = rank_at (slice_index keys i) i (li, refl) in
+        let at_j = rank_at (slice_index keys j) j (lj, refl) in
+        let by_places = IsShortestFrom-same Among (Renumbered Has keys) is.same (arrow i j kind) walk shortest in
+        let of_keys = by_place.shortest_from (arrow i j kind) walk by_places in
+        let of_rank = IsShortestFrom-same (AmongKeys Has keys) (AmongRank Has rank r) unlisted d told of_keys in
+        (found.shortest_from d told).1
+        (at_i ∙ sym at_j, subst (λ s. IsShortestFrom (AmongRank Has rank s) d told) (sym at_i) of_rank)
+
+    pub shortest_inversion : (irq : Irq) (i j : ℕ) (l : Arrow) (walk : List Arrow) → i < length keys → j < length keys →
+        IsShortestInversion Among irq i j l walk →
+        IsShortestInversion Has irq (slice_index keys i) (slice_index keys j) (arrow_at keys l) (map (arrow_at keys) walk)
+    shortest_inversion irq i j l walk li lj shortest =
+        let a = slice_index keys i in
+        let b = slice_index keys j in
+        let told = map (arrow_at keys) walk in
+        let at_i = rank_at a i (li, refl) in
+        let at_j = rank_at b j (lj, refl) in
+        let by_places = IsShortestInversion-same Among (Renumbered Has keys) is.same irq i j l walk shortest in
+        let of_keys = by_place.shortest_inversion irq i j l walk by_places in
+        let of_rank = IsShortestInversion-same (AmongKeys Has keys) (AmongRank Has rank r) unlisted irq a b (arrow_at keys l) told of_keys in
+        (found.shortest_inversion irq a b (arrow_at keys l) told).1
+        (at_i ∙ sym at_j, subst (λ s. IsShortestInversion (AmongRank Has rank s) irq a b (arrow_at keys l) told) (sym at_i) of_rank)
+
+  -- ---- what is found among the keys of its rank
+  pub shortest_of_rank : (circle : List Arrow) → IsShortestCircle Among circle →
+      IsShortestCircle (AmongRank Has rank r) (map (arrow_at keys) circle)
+  shortest_of_rank circle shortest =
+      IsShortestCircle-same (AmongKeys Has keys) (AmongRank Has rank r) unlisted (map (arrow_at keys) circle)
+      (by_place.shortest_circle circle (IsShortestCircle-same Among (Renumbered Has keys) is.same circle shortest))
+
+  pub clean_rank : IsClean Among ↔ IsClean (AmongRank Has rank r)
+  clean_rank = (
+    (λ clean. (IsClean-same (AmongRank Has rank r) (AmongKeys Has keys) listed).1
+        (by_place.clean.0 ((IsClean-same Among (Renumbered Has keys) is.same).0 clean))),
+    (λ clean. (IsClean-same Among (Renumbered Has keys) is.same).1
+        (by_place.clean.1 ((IsClean-same (AmongRank Has rank r) (AmongKeys Has keys) listed).0 clean))),
+  )
+
+-- ---- what a part's graph says of two keys that stand at places of it
+module _ (facts : FactParts) (part : Part) (a b i j : ℕ) (by : AreTogether facts part a b i j) where
+  pub on_circle_at : (kind : Kind) →
+      OnCircle (HasFact facts) (arrow a b kind) ↔ OnCircle (HasFact part.graph.facts) (arrow i j kind)
+  on_circle_at kind =
+      subst (λ y. OnCircle (HasFact facts) (arrow a y kind) ↔ OnCircle (HasFact part.graph.facts) (arrow i j kind)) by.at_b.1
+      (subst (λ x. OnCircle (HasFact facts) (arrow x (slice_index part.keys.items j) kind) ↔ OnCircle (HasFact part.graph.facts) (arrow i j kind)) by.at_a.1
+      (on_circle facts part by.of.0 by.of.1 by.of.3 by.of.2 i j kind by.at_a.0 by.at_b.0))
+
+  pub inversion_at : (irq : Irq) →
+      IsInversion (HasFact facts) irq a b ↔ IsInversion (HasFact part.graph.facts) irq i j
+  inversion_at irq =
+      subst (λ y. IsInversion (HasFact facts) irq a y ↔ IsInversion (HasFact part.graph.facts) irq i j) by.at_b.1
+      (subst (λ x. IsInversion (HasFact facts) irq x (slice_index part.keys.items j) ↔ IsInversion (HasFact part.graph.facts) irq i j) by.at_a.1
+      (inversion facts part by.of.0 by.of.1 by.of.3 by.of.2 irq i j by.at_a.0 by.at_b.0))
+
+  pub in_inversion_at : (kind : Kind) →
+      InInversion (HasFact facts) (arrow a b kind) ↔ InInversion (HasFact part.graph.facts) (arrow i j kind)
+  in_inversion_at kind =
+      subst (λ y. InInversion (HasFact facts) (arrow a y kind) ↔ InInversion (HasFact part.graph.facts) (arrow i j kind)) by.at_b.1
+      (subst (λ x. InInversion (HasFact facts) (arrow x (slice_index part.keys.items j) kind) ↔ InInversion (HasFact part.graph.facts) (arrow i j kind)) by.at_a.1
+      (in_inversion facts part by.of.0 by.of.1 by.of.3 by.of.2 i j kind by.at_a.0 by.at_b.0))
+
+  pub shortest_from_at : (kind : Kind) (walk : List Arrow) → IsShortestFrom (HasFact part.graph.facts) (arrow i j kind) walk →
+      IsShortestFrom (HasFact facts) (arrow a b kind) (map (arrow_at part.keys.items) walk)
+  shortest_from_at kind walk shortest =
+      subst (λ y. IsShortestFrom (HasFact facts) (arrow a y kind) (map (arrow_at part.keys.items) walk)) by.at_b.1
+      (subst (λ x. IsShortestFrom (HasFact facts) (arrow x (slice_index part.keys.items j) kind) (map (arrow_at part.keys.items) walk)) by.at_a.1
+      (shortest_from facts part by.of.0 by.of.1 by.of.3 by.of.2 i j kind walk by.at_a.0 by.at_b.0 shortest))
+
+  pub shortest_inversion_at : (irq : Irq) (enabled_read used_read : Bool) (walk : List Arrow) →
+      IsShortestInversion (HasFact part.graph.facts) irq i j (link_by j i enabled_read used_read) walk →
+      IsShortestInversion (HasFact facts) irq a b (link_by b a enabled_read used_read) (map (arrow_at part.keys.items) walk)
+  shortest_inversion_at irq enabled_read used_read walk shortest =
+      subst (λ y. IsShortestInversion (HasFact facts) irq a y (link_by y a enabled_read used_read) (map (arrow_at part.keys.items) walk)) by.at_b.1
+      (subst (λ x. IsShortestInversion (HasFact facts) irq x (slice_index part.keys.items j) (link_by (slice_index part.keys.items j) x enabled_read used_read) (map (arrow_at part.keys.items) walk)) by.at_a.1
+      (shortest_inversion facts part by.of.0 by.of.1 by.of.3 by.of.2 irq i j (link_by j i enabled_read used_read) walk by.at_a.0 by.at_b.0 shortest))
+
+-- ---- and of one
+module _ (facts : FactParts) (part : Part) (a b i j : ℕ) (by : AreTogether facts part a b i j) where
+  pub double_at : (irq : Irq) → IsDouble (HasFact facts) irq a ↔ IsDouble (HasFact part.graph.facts) irq i
+  double_at irq =
+      subst (λ x. IsDouble (HasFact facts) irq x ↔ IsDouble (HasFact part.graph.facts) irq i) by.at_a.1
+      (double facts part by.of.0 by.of.1 by.of.3 by.of.2 irq i by.at_a.0)
+
+  pub double_by_at : (irq : Irq) (enabled_read used_read : Bool) →
+      IsDoubleBy (HasFact part.graph.facts) irq i (link_by i i enabled_read used_read) →
+      IsDoubleBy (HasFact facts) irq a (link_by a a enabled_read used_read)
+  double_by_at irq enabled_read used_read link =
+      subst (λ x. IsDoubleBy (HasFact facts) irq x (link_by x x enabled_read used_read)) by.at_a.1
+      (double_by facts part by.of.0 by.of.1 by.of.3 by.of.2 irq i (link_by i i enabled_read used_read) by.at_a.0 link)

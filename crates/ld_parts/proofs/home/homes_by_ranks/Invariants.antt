@@ -1,0 +1,6 @@
+use Rattle.std.proofs.Common.{slice_index}
+use Rattle.ld_parts.specs.Inside.Parts.{AreHomes}
+use Rattle.ld_parts.proofs.home.homes_by_ranks.Given as goal
+
+abbrev pub invariant-loop-key : goal.invariant-loop-key
+invariant-loop-key l = AreHomes l.key (slice_index l.ranks) l.parts l.homes.items
