@@ -49,7 +49,6 @@ impl Lock {
         }
     }
 
-    // Its key.
     pub(crate) fn key(self) -> KeyId
         ensures { result ≡ self.key }
     {
