@@ -1,4 +1,4 @@
--- One bit more: one fact more, and the counts.
+-- One more bit: one more fact, and the counts.
 use Rattle.std.proofs.Common.{◌≡◌, ℕ, ◌+◌, ◌-◌, ◌*◌, ◌/◌, ◌<◌, ◌≤◌, length, ap, sym, ◌∙◌, subst, inl, inr, arith, true, false, cond, not}
 use Rattle.std.proofs.lemmas.Bool.{cases_eq}
 use Rattle.std.proofs.lemmas.Nat.{mul-le}

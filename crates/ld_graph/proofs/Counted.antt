@@ -62,7 +62,7 @@ module _ {A : Type 0} (test : ℕ → Bool) (read : ℕ → A) where
             ]
       ]
 
-  -- none is there twice where no two numbers are read alike
+  -- none is there twice if no two numbers are read alike
   listed-once : (n : ℕ) → ((j k : ℕ) → j < k → k < n → ¬ (read j ≡ read k)) → AllPairs (λ x y. ¬ (x ≡ y)) (listed n)
   unfolding listed
   listed-once zero apart = λ i j d l m. absurd (omega arith)
@@ -75,7 +75,8 @@ module _ {A : Type 0} (test : ℕ → Bool) (read : ℕ → A) where
         | inr t ↦ rw t before
       ]
 
--- each number below n is a thing's and each member of the set has one, which passes: so many members as pass
+-- each number below n is a thing's and each member of the set has one, which passes: as many members as numbers that
+-- pass
 IsNumberOf-numbered : {A : Type 0} (In : A → Type 0) (n : ℕ) (test : ℕ → Bool) (read : ℕ → A) (number : A → ℕ) →
     ((k : ℕ) → k < n → number (read k) ≡ k) → ((k : ℕ) → k < n → test k ≡ true → In (read k)) →
     ((x : A) → In x → (number x < n) × (test (number x) ≡ true) × (read (number x) ≡ x)) → IsNumberOf In (count_below test n)
@@ -128,8 +129,7 @@ module _ (facts : FactParts) where
       let (below, is) = marked_of-is facts.keys (place_of m) l in
       (l, h.1, ap mark_in (fact_number-same facts.keys (marked_of (place_of m)) (Marked m.0 m.1) below h.0 is)))
 
--- ---- one number
--- what stands at another place is there after a removal
+-- ---- one number what is at another place is there after a removal
 remove-keeps : {A : Type 0} (ys : List A) (p q : ℕ) (z : A) → p < length ys → q < length ys → ¬ (q ≡ p) → get_or ys q z ≡ z → Contains (remove ys p) z
 remove-keeps ys p q z lp lq other is =
     elim (cases_lt q p) [
@@ -142,7 +142,7 @@ remove-keeps ys p q z lp lq other is =
           )
     ]
 
--- the members of the rest stand elsewhere than the first
+-- the members of the rest are at other places than the first
 elsewhere : {A : Type 0} (x : A) (xs ys : List A) (p : ℕ) → AllPairs (λ x y. ¬ (x ≡ y)) (x ∷ xs) → p < length ys → get_or ys p x ≡ x →
     (z : A) → Contains xs z → Contains ys z → Contains (remove ys p) z
 elsewhere x xs ys p once lp is z (k, lk, at) (q, lq, found_z) =

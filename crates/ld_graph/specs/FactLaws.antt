@@ -132,7 +132,7 @@ IsNumberOf-same P Q same n number = record {
   count = number.count;
 }
 
--- ---- one member more in a list
+-- ---- one more member in a list
 Any-member : {X : Type 0} (P : X → Type 0) (xs : List X) → Any P xs ↔ ((x : X) × Contains xs x × P x)
 Any-member P xs = (
   (λ (k, x, l, e, h). (x, (k, l, e), h)),

@@ -32,7 +32,7 @@ SlotsHaveWhatIsGiven = (c : ChainParts) (x : Fact) (held : Option ℕ) → Given
 abbrev pub ChainsGiveWhatTheyHave : Type 0
 ChainsGiveWhatTheyHave = (c : ChainParts) (x : Fact) → ChainHas c x ↔ ((held : Option ℕ) × GivenBy c x held)
 
--- a later slot is that of a held lock that is as new, where both are of held locks
+-- a later slot is that of a held lock that is as new or newer, if both are of held locks
 abbrev pub LaterSlotsAreOfNewerLocks : Type 0
 LaterSlotsAreOfNewerLocks = (c : ChainParts) (m n : ℕ) → m ≤ n →
     IfSome (slot_held c n) (λ k. IfSome (slot_held c m) (λ i. i ≤ k))
@@ -51,7 +51,7 @@ AddingInTurnUnites = (old new : FactParts) (chains : List ChainParts) →
     AddsInTurn old chains new → (new.keys ≡ old.keys) ×
     Adds (HasFact old) (HasFact new) (ChainsHave chains)
 
--- the dependencies of some traces have one number, so that to tell one is to tell how many there are
+-- the number of the dependencies of some traces is unique, so any such number says how many there are
 abbrev pub DependenciesHaveOneNumber : Type 0
 DependenciesHaveOneNumber = (traces : List (List Event)) (m n : ℕ) →
     IsNumberOf (DependenciesOf (λ x. Any (λ t. TraceHas t x) traces)) m →
@@ -108,7 +108,7 @@ NewDoublesHaveNewMarks = (old new : Fact → Bool) (irq : Irq) (a : ℕ) (l : Ar
     IsDoubleBy (In new) irq a l → IsDoubleBy (In old) irq a l ⊎ HasNewEnd old new irq l
 
 -- an inversion is one by the earlier facts, or its link has a new mark, or its walk a new member: then a first part of
--- the walk ends before it and a last part begins behind it
+-- the walk ends before it and a last part begins after it
 abbrev pub NewInversionsHaveNewParts : Type 0
 NewInversionsHaveNewParts =
     (old new : Fact → Bool) (irq : Irq) (a b : ℕ) (d : Arrow) (rest : List Arrow) (l : Arrow) →
@@ -122,8 +122,7 @@ abbrev pub ShortestCirclesTurn : Type 0
 ShortestCirclesTurn = (facts : FactParts) (front back : List Arrow) →
     IsShortestCircle (HasFact facts) (front ++ back) → IsShortestCircle (HasFact facts) (back ++ front)
 
--- ---- ranks
--- where no arrow goes down, what is found among all facts is found among those of one rank
+-- ---- ranks if no arrow goes down, what is found among all facts is found among those of one rank
 abbrev pub FindingsAreThoseOfTheRanks : Type 0
 FindingsAreThoseOfTheRanks = (set : Fact → Bool) (rank : ℕ → ℕ) →
     NoneGoesDown (In set) rank → AreFoundByRank (In set) rank

@@ -15,11 +15,11 @@ abbrev pub HasKeys : List ℕ → Fact → Type 0
 HasKeys keys (Dependency from to kind) = Contains keys from × Contains keys to
 HasKeys keys (Marked key mark) = Contains keys key
 
--- those of the facts that are about keys of the list alone
+-- those of the facts that are only about keys of the list
 abbrev pub AmongKeys : (Fact → Type 0) → List ℕ → Fact → Type 0
 AmongKeys Has keys x = Has x × HasKeys keys x
 
--- the same fact, or arrow, with other keys for its own
+-- the same fact, or arrow, with its keys replaced
 abbrev pub fact_by : (ℕ → ℕ) → Fact → Fact
 fact_by other (Dependency from to kind) = Dependency (other from) (other to) kind
 fact_by other (Marked key mark) = Marked (other key) mark
@@ -27,11 +27,11 @@ fact_by other (Marked key mark) = Marked (other key) mark
 abbrev pub arrow_by : (ℕ → ℕ) → Arrow → Arrow
 arrow_by other d = arrow (other d.start) (other d.end) d.kind
 
--- the facts about places of the list that the set has of the keys that stand there
+-- the facts about places of the list that the set has about the keys there
 abbrev pub Renumbered : (Fact → Type 0) → List ℕ → Fact → Type 0
 Renumbered Has keys x = FactBelow (length keys) x × Has (fact_by (slice_index keys) x)
 
--- an arrow between places of the list, as one between the keys that stand there
+-- an arrow between places of the list, as one between the keys there
 abbrev pub arrow_at : List ℕ → Arrow → Arrow
 arrow_at keys = arrow_by (slice_index keys)
 
@@ -39,12 +39,12 @@ arrow_at keys = arrow_by (slice_index keys)
 abbrev pub HasEachOnce : List ℕ → Type 0
 HasEachOnce keys = AllPairs (λ a b. ¬ (a ≡ b)) keys
 
--- the list has keys of this rank alone, and all those that the facts are about
+-- the list has only keys of this rank, and all those that the facts are about
 pub record ListsRank (Has : Fact → Type 0) (rank : ℕ → ℕ) (r : ℕ) (keys : List ℕ) : Type 0 where
   pub of_rank : (key : ℕ) → Contains keys key → rank key ≡ r
   pub all : (x : Fact) → AmongRank Has rank r x → HasKeys keys x
 
--- what is found by places is what is found among the keys that stand there
+-- what is found by places is what is found among the keys there
 pub record AreFoundByPlace (Has : Fact → Type 0) (keys : List ℕ) : Type 0 where
   pub on_circle : (d : Arrow) → d.start < length keys → d.end < length keys →
       OnCircle (Renumbered Has keys) d ↔ OnCircle (AmongKeys Has keys) (arrow_at keys d)

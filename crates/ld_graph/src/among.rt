@@ -16,7 +16,7 @@ use ld_trace::Irq;
 use std::alloc::{AllocError, Global};
 
 impl Graph {
-    /// The facts that are about keys of the list alone, each key by its place there. It fails only if memory is refused.
+    /// The facts that are only about keys of the list, each key by its place there. It fails only if memory is refused.
     pub fn of_keys(alloc: Global, facts: &Facts, keys: &[u16]) -> Result<Graph, AllocError>
         requires few { length keys.now ≤ MAX_KEYS }
         ensures keys { IfOk result (λ g. g.facts.keys ≡ length keys.now) }
@@ -60,7 +60,7 @@ impl Fact {
         }
     }
 
-    // The same fact about the keys that stand at these places of a list.
+    // The same fact about the keys at these places of a list.
     fn at_places(self, keys: &[u16]) -> Fact
         requires { FactBelow (length keys.now) self }
         ensures { result ≡ fact_by (slice_index keys.now) self }

@@ -13,7 +13,7 @@ use std::marker::Model;
 // The most dependencies that a circle has: as many as there can be keys.
 pub(crate) const MAX_CIRCLE: usize = MAX_KEYS as usize;
 
-/// A walk of at most 256 dependencies, as `Graph::shortest_circle` answers it.
+/// A walk of at most 256 dependencies, as `Graph::shortest_circle` returns it.
 #[derive(Drop, Debug)]
 pub struct Circle {
     walk: Walk,
@@ -32,7 +32,7 @@ impl Model for Circle {
 }
 
 impl Circle {
-    // The circle of a walk that has no more members.
+    // The circle of a walk that isn't too long for one.
     pub(crate) fn of(walk: Walk) -> Circle
         requires { length walk ≤ MAX_CIRCLE }
         ensures { result ≡ walk }
@@ -40,7 +40,7 @@ impl Circle {
         Circle { walk }
     }
 
-    // The same circle by the keys that stand at the places that are its own keys.
+    // The same circle with each key, which is a place in `keys`, replaced by the key at that place.
     pub(crate) fn by_keys(&self, keys: &[u16]) -> Circle
         requires { EachIndex keys.now (λ i. slice_index keys.now i < MAX_MANY) }
         ensures { result ≡ map (arrow_at keys.now) self.now }
@@ -59,8 +59,7 @@ impl Circle {
     }
 
     /// The dependency at place `i`, counted from 0: the key that it leads from, the key that it leads to, and its kind.
-    /// None where there is none. Both keys are below
-    /// `MAX_MANY`.
+    /// None if there is none. Both keys are below `MAX_MANY`.
     pub fn get(&self, i: usize) -> Option<(u16, u16, Kind)>
         ensures value { result ≡ option_map arrow_parts (slice_get self.now i) }
         ensures below { IfSome result (λ d. (d.0 < MAX_MANY) × (d.1 < MAX_MANY)) }

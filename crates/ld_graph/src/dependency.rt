@@ -26,7 +26,7 @@ pub(crate) struct Dependency {
 }
 
 impl Dependency {
-    // Where it arrives.
+    // The place where it arrives.
     pub(crate) fn arrival(self) -> usize
         requires { self.to < MAX_KEYS }
         ensures value { result ≡ arrival (arrow_of self) }
@@ -71,7 +71,8 @@ impl Dependency {
         self.from == self.to && !(self.kind.ends_in_r() && self.kind.begins_with_s())
     }
 
-    // The one by the keys that stand at the places that are its own keys, or 0 where nothing does.
+    // The same dependency with each key, which is a place in `keys`, replaced by the key at that place, or by 0 if
+    // there is none.
     pub(crate) fn by_keys(self, keys: &[u16]) -> Dependency
         requires { EachIndex keys.now (λ i. slice_index keys.now i < MAX_MANY) }
         ensures keys { IsOfManyKeys result }
@@ -91,7 +92,7 @@ impl Dependency {
         usize::from(self.to) * 4 + kind_number(self.kind)
     }
 
-    // The one from the key that stands at that place of the key's row.
+    // The one from the key that is at that place of the key's row.
     pub(crate) fn at(from: u16, n: usize) -> Dependency
         requires from { from < MAX_KEYS }
         requires at { n < MAX_KEYS * 4 }
@@ -117,7 +118,7 @@ impl Default for Dependency {
     }
 }
 
-// The key that stands at the place, or 0 where none does.
+// The key at the place, or 0 if there is none.
 fn key_at(keys: &[u16], place: u16) -> u16
     ensures { result ≡ slice_index keys.now place }
 {

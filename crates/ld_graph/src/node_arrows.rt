@@ -1,4 +1,5 @@
-//! The arrows of some facts between nodes: one for each key, and one for each interrupt state, by way of which its links go.
+//! The arrows of some facts between nodes: one for each key, and one for each interrupt state, through which its links
+//! go.
 
 use crate::bit_rows::BitRows;
 use crate::ends::irq_number;
@@ -11,7 +12,7 @@ use std::alloc::{AllocError, Global};
 // How many interrupt states there are.
 const STATES: u16 = 2;
 
-// By node, the nodes that arrows lead to from it, and those that arrows lead from to it.
+// For each node, the nodes that arrows lead to from it, and those from which arrows lead to it.
 #[derive(Drop)]
 pub(crate) struct NodeArrows {
     pub(crate) forwards: BitRows,
@@ -33,7 +34,6 @@ impl NodeArrows {
         Ok(arrows)
     }
 
-    // Adds the dependencies.
     fn add_dependencies(&mut self, facts: &Facts) {
         let mut n = 0;
         while let Some(number) = facts.next_dependency(n) {
