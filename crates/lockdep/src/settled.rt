@@ -1,4 +1,4 @@
-//! What is settled of the traces of a session.
+//! What is settled about the traces of a session.
 
 ghost use Rattle.std.specs.Prelude.{◌≡◌, ◌+◌, ◌<◌, ◌≤◌, ℕ, List, Option, All, length, slice_get, IfOk, IfErr, IsSomeAnd};
 ghost use Rattle.ld_trace.specs.Names.{Name};

@@ -41,7 +41,7 @@ fn spelled(alloc: Global, (head, times, each, tail): Long<'_>) -> Result<Vec<u8>
     Ok(text)
 }
 
-// Traces that are given as many times as `copies` says, and what their session returns and writes, whatever the number of workers.
+// Traces that are added `copies` times each, and what their session returns and writes, whatever the number of workers.
 struct Case<'t> {
     many: bool,
     traces: &'t [Long<'t>],
@@ -201,7 +201,7 @@ static CASES: [Case<'_>; 10] = [
         returned: Err(ReportFault::Run(RunFault::TooManyTraces)),
         text: ("", 0, "", ""),
     },
-    // Numbers of workers that no run takes, not even one that would be refused otherwise.
+    // Numbers of workers that no run accepts, not even one that would be refused for another reason.
     Case {
         many: false,
         traces: &[("lockdep,1\nleave\n", 0, "", "")],
