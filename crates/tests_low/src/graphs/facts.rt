@@ -259,7 +259,7 @@ fn facts_by_words(alloc: Global, chain: &Chain, keys: u16) -> Option<Facts> {
     Some(facts)
 }
 
-// The same facts, united with none.
+// The same facts, united with an empty set.
 fn united(alloc: Global, facts: &Facts) -> Option<Facts> {
     let mut all = Facts::new(alloc, facts.keys()).ok()?;
     if all.same(facts) {
@@ -269,7 +269,7 @@ fn united(alloc: Global, facts: &Facts) -> Option<Facts> {
     Some(all)
 }
 
-// Whether the words of the last chain, which are put in place of others, and its facts, added in each way, are as wanted.
+// Whether the words of the last chain, which replace others, and its facts, added in each way, are as expected.
 fn is_as_wanted(alloc: Global, last: &Last, words: &mut FactWords) -> Option<bool> {
     let chain = last_chain(last.trace)?;
     let facts = facts_of(alloc, &chain, last.keys, words)?;
@@ -424,7 +424,7 @@ static SINGLES: [Singles; 3] = [
     },
 ];
 
-// Adds each of the facts once, and once more. Whether each is new the first time alone.
+// Adds each of the facts once, and once more. Whether each is new only the first time.
 fn add_each(facts: &mut Facts, all: &[Fact]) -> bool {
     for fact in all {
         if !fact.is_below(facts.keys())

@@ -1,5 +1,5 @@
-//! What graphs find in small traces. Each story is told to a graph and to a graph in parts, chain by chain, and all that
-//! they find is compared.
+//! What graphs find in small traces. Each story is given to a graph and to a graph in parts, chain by chain, and all
+//! that they find is compared.
 
 use super::finds::Finds;
 use crate::steps::Step::{Enter, Give, Leave, Read, Reread, TurnOff, TurnOn, Write};
@@ -41,7 +41,7 @@ struct Story {
     about: &'static str,
     keys: u16,
     traces: &'static [&'static [Step]],
-    // The ranks of the first keys by which the graph is parted. None are given where they are to be found.
+    // The ranks of the first keys by which the graph is parted. None are given if they are to be found.
     ranks: &'static [u16],
     dependencies: u64,
     // After how many of the first chains nothing is found.
@@ -742,13 +742,13 @@ fn finds<G: Finds>(graph: &G, story: &Story) -> bool {
     is_shortest_told(graph, story)
 }
 
-// That nothing is found among so many keys.
+// That nothing is found among this many keys.
 fn nothing(keys: u16) -> Story {
     Story { keys, ..NOTHING }
 }
 
-// Tells the graph the chains, and returns after how many of them nothing is found. None if its flag says something else
-// than its answers, or a key is out of range.
+// Gives the graph the chains, and returns after how many of them nothing is found. None if its flag disagrees with its
+// answers, or a key is out of range.
 fn tell(graph: &mut Graph, chains: &[Chain]) -> Option<usize> {
     let nothing = nothing(graph.keys());
     let mut clean = 0usize;
@@ -817,7 +817,7 @@ fn is_told(alloc: Global, story: &Story) -> Option<bool> {
     Some(counted && clean && finds(&graph, story))
 }
 
-// The first story of which something else is found.
+// The first story for which something else is found.
 fn misfit(alloc: Global, stories: &[Story]) -> Option<&'static str> {
     for story in stories {
         if is_told(alloc, story) != Some(true) {

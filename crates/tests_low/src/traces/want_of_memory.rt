@@ -7,7 +7,7 @@ use std::io::Print;
 use std::process::Abort;
 use std::test::Fail;
 
-// An empty table, made again where that was refused.
+// An empty table, made again if that was refused.
 fn table(alloc: Global) -> Result<KeyTable, Fail> {
     match KeyTable::new(alloc) {
         Ok(keys) => Ok(keys),
@@ -15,8 +15,8 @@ fn table(alloc: Global) -> Result<KeyTable, Fail> {
     }
 }
 
-// Reads a text of this many events. Where that is refused at a record, the table has as many names as `before` says for it, or
-// `all` of them behind the last record, and the same text is then read.
+// Reads a text of this many events. If that is refused at a record, the table has as many names as `before` says for
+// it, or `all` of them after the last record, and the same text is then read.
 fn reads(
     rt: &(impl Abort + AllocGlobal + Print),
     keys: &mut KeyTable,
