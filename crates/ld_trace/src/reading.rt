@@ -20,10 +20,11 @@ use std::io::Read;
 
 /// Reads a trace in the text format of version 1 or 2, and numbers its keys in the table.
 ///
-/// The records are those of CSV with the comma and the double quote, without a header row of CSV's own, of any length and
-/// untrimmed. The first is `lockdep,1` or `lockdep,2`. Each of the others is an event: `acq,NAME,SUB,MODE`, `rel,NAME,SUB`,
-/// `enter,STATE`, `leave`, `on,STATE` or `off,STATE`, where a name is 1 to 64 bytes of 0x21 to 0x7E, a subclass is a digit
-/// 0 to 7, a mode is `w`, `r` or `rr`, or in version 2 also `tw`, `tr` or `trr`, and a state is `hardirq` or `softirq`.
+/// The records are those of CSV with the comma and the double quote, without a header row of CSV's own, of any length
+/// and untrimmed. The first is `lockdep,1` or `lockdep,2`. Each of the others is an event: `acq,NAME,SUB,MODE`,
+/// `rel,NAME,SUB`, `enter,STATE`, `leave`, `on,STATE` or `off,STATE`, where a name is 1 to 64 bytes of 0x21 to 0x7E, a
+/// subclass is a digit 0 to 7, a mode is `w`, `r` or `rr`, or in version 2 also `tw`, `tr` or `trr`, and a state is
+/// `hardirq` or `softirq`.
 ///
 /// The first faulty record is refused, with the first of its faults in this order: T8 or T9 in getting it, T1, T7, T2,
 /// T3, T4, T5, T9 for the event's room, T6, T9 for the key. Keys that had numbers keep them. After a refusal the keys
