@@ -28,7 +28,8 @@ use Rattle.ld_task.proofs.Releases.{locks-release}
 use Rattle.ld_task.proofs.StateSteps.{is_held-at, is_of-at, locks-stay, lower, no-deeper, outer_level, refusal-is}
 use Rattle.ld_task.proofs.TraceSteps.{does-steps}
 
--- ---- a position for each lock the positions from place i on begin with that at i, if its lock was taken at the level
+-- ---- a position for each lock
+-- the positions from place i on begin with that at i, if its lock was taken at the level
 places_at-drop : (level : ℕ) (locks : List KeptLock) (places : List ℕ) (i : ℕ) (k : KeptLock) (d : ℕ) → length places ≡ length locks → slice_get locks i ≡ Some k →
     places_at level (drop i locks) (drop i places) ≡
     (if is_at level k then get_or places i d ∷ places_at level (drop (suc i) locks) (drop (suc i) places)

@@ -14,7 +14,8 @@ use arrayvec::ArrayVec;
 use ld_trace::{Event, KeyId, Mode};
 use std::marker::Model;
 
-/// The state of a task between two events, as `TaskState`, and the positions at which the locks that it keeps were taken.
+/// The state of a task between two events, as `TaskState`, and the positions at which the locks that it keeps were
+/// taken.
 #[derive(Drop, Debug)]
 pub struct PlacedState {
     state: TaskState,
