@@ -129,7 +129,8 @@ module _ (facts : FactParts) where
       let (below, is) = marked_of-is facts.keys (place_of m) l in
       (l, h.1, ap mark_in (fact_number-same facts.keys (marked_of (place_of m)) (Marked m.0 m.1) below h.0 is)))
 
--- ---- one number what is at another place is there after a removal
+-- ---- one number
+-- what is at another place is there after a removal
 remove-keeps : {A : Type 0} (ys : List A) (p q : ℕ) (z : A) → p < length ys → q < length ys → ¬ (q ≡ p) → get_or ys q z ≡ z → Contains (remove ys p) z
 remove-keeps ys p q z lp lq other is =
     elim (cases_lt q p) [

@@ -55,7 +55,7 @@ module _ (facts : FactParts) (table : List (List ℕ)) (ways : (p q : ℕ) → (
   strong : (a : Arrow) (rest : List Arrow) → StrongWalk (Avoids facts done) a rest → StrongWalk (DependenciesOf (HasFact facts)) a rest
   strong = StrongWalk-more (Avoids facts done) (DependenciesOf (HasFact facts)) (λ d h. h.0)
 
-  -- such a walk that x may follow leads to the place, where x arrives there
+  -- such a walk that x may follow leads to the place, if x arrives there
   leads_to : (x : Arrow) → Avoids facts done x → arrival x ≡ place → (d : Arrow) (rest : List Arrow) → StrongWalk (Avoids facts done) d rest →
       MayFollow (last d rest) x → has_bit inside (arrival d) ≡ true
   leads_to x has arrives d rest walk follows =
@@ -97,7 +97,8 @@ module _ (facts : FactParts) (table : List (List ℕ)) (ways : (p q : ℕ) → (
     | inr longer ↦ longer
   ]
 
--- ---- one more place is done a walk arrives at a place that is done, or avoids them
+-- ---- one more place is done
+-- a walk arrives at a place that is done, or avoids them
 meets_or_avoids : (facts : FactParts) (done : List ℕ) (a : Arrow) (rest : List Arrow) → StrongWalk (DependenciesOf (HasFact facts)) a rest →
     StrongWalk (Avoids facts done) a rest ⊎ ((d : Arrow) × Contains (a ∷ rest) d × (has_bit done (arrival d) ≡ true))
 meets_or_avoids facts done a [] w = elim (cases_Bool (has_bit done (arrival a))) [

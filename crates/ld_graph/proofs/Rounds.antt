@@ -187,7 +187,7 @@ module _ (In : Arrow → Type 0) (keys : ℕ) (below : (d : Arrow) → In d → 
             let m = long way leads in absurd (omega arith)
 
 -- ---- closed walks
--- a closed walk is its first alone, or leads back to it
+-- a closed walk is only its first member, or leads back to it
 ClosedWalk-rounds : (In : Arrow → Type 0) (d : Arrow) (rest : List Arrow) → ClosedWalk In d rest →
     MayFollow d d ⊎ LeadsRound In d rest
 ClosedWalk-rounds In d [] (has, closes) = inl closes

@@ -82,7 +82,8 @@ module _ (facts : FactParts) (within goal : List ℕ) (i : ℕ) (step : Step) (o
     ];
   }
 
--- ---- the dependencies from a step, in their row those before n have been examined
+-- ---- the dependencies from a step, in their row
+-- those before n have been examined
 pub record Scans (facts : FactParts) (within goal : List ℕ) (i : ℕ) (from : Dependency) (n : ℕ) (old new : SearchParts) : Type 0 where
   pub takes : Takes facts i old new
   pub missed : Misses goal old new

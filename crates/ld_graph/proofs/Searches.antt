@@ -157,8 +157,8 @@ NoGoalBy-done facts within goal start n first end found are m = λ k q l r. are.
         let (i, at) = are.listed p (reached m p r) in
         are.seen i (StandsAt-within found.steps i p at) p q at edge
 
--- ---- the way back after some of its steps: what is left leads back to the start, and the way continues to where it
--- began
+-- ---- the way back
+-- after some of its steps: what is left leads back to the start, and the way continues to where it began
 abbrev pub GoesBack : FactParts → List Step → (left i : ℕ) → List Arrow → ℕ → Type 0
 GoesBack facts steps left i way q = (m : ℕ) × LeadsBack facts steps left i m × GoesTo (DependenciesOf (HasFact facts)) m way q
 

@@ -122,7 +122,8 @@ abbrev pub ShortestCirclesTurn : Type 0
 ShortestCirclesTurn = (facts : FactParts) (front back : List Arrow) →
     IsShortestCircle (HasFact facts) (front ++ back) → IsShortestCircle (HasFact facts) (back ++ front)
 
--- ---- ranks if no arrow goes down, what is found among all facts is found among those of one rank
+-- ---- ranks
+-- if no arrow goes down, what is found among all facts is found among those of one rank
 abbrev pub FindingsAreThoseOfTheRanks : Type 0
 FindingsAreThoseOfTheRanks = (set : Fact → Bool) (rank : ℕ → ℕ) →
     NoneGoesDown (In set) rank → AreFoundByRank (In set) rank

@@ -11,7 +11,8 @@ use Rattle.ld_graph.specs.Numbers.{bit_total, fact_number}
 use Rattle.ld_graph.specs.WordPairs.{bits_of, Within, PairsHave, NonePast, word_total}
 use Rattle.ld_graph.specs.declared.fact.Fact.{Fact}
 
--- ---- unions of bits a bit of a union is a bit of one of the two
+-- ---- unions of bits
+-- a bit of a union is a bit of one of the two
 pub bit_or-bits : (a b k : ℕ) → (bit_at (bit_or a b) k ≡ 1) ↔ ((bit_at a k ≡ 1) ⊎ (bit_at b k ≡ 1))
 bit_or-bits a b k = (
   (λ h. let m : max (bit_at a k) (bit_at b k) ≡ 1 = sym (bit_at_or a b k) ∙ h in
@@ -44,7 +45,8 @@ Within-from_bits a b up = same_from_bits (bit_or a b) b (λ k.
       | inr ne ↦ omega (arith, bit_at_or a b k, bit_at-lt a k)
     ])
 
--- ---- pairs the bits of a pair for word n, if it is of that word
+-- ---- pairs
+-- the bits of a pair for word n, if it is of that word
 abbrev pub bits_if : ℕ → ℕ × ℕ → ℕ
 bits_if n p = if n == p.0 then p.1 else 0
 

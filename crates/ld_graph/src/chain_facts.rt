@@ -27,8 +27,8 @@ pub fn slots(chain: &Chain) -> usize
     }
 }
 
-/// The fact in slot `n` of a chain, if there is one: of an acquisition the dependencies, oldest first, and then the marks of
-/// the new lock; of an opening the marks of the held locks, oldest first.
+/// The fact in slot `n` of a chain, if there is one: of an acquisition the dependencies, oldest first, and then the
+/// marks of the new lock; of an opening the marks of the held locks, oldest first.
 #[inline(always)]
 pub fn fact_at(chain: &Chain, n: usize) -> Option<Fact>
     ensures { result ≡ chain_fact chain.now n }

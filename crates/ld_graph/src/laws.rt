@@ -10,8 +10,8 @@ pub fn trace_facts_are_the_chains()
     ld_task::marks_are_the_chains();
 }
 
-/// What a chain has is what it gives by one of its locks. Its slots have exactly these facts, each by the lock that gives it,
-/// and later slots are of newer held locks.
+/// What a chain has is what it gives by one of its locks. Its slots have exactly these facts, each by the lock that
+/// gives it, and later slots are of newer held locks.
 pub fn slots_have_what_is_given()
     ensures given { ChainsGiveWhatTheyHave }
     ensures exact { SlotsHaveWhatIsGiven }

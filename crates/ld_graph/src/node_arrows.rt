@@ -21,7 +21,7 @@ pub(crate) struct NodeArrows {
 
 impl NodeArrows {
     // The arrows of the facts: each dependency, and for each state one to its node from each key that is used with the
-    // state enabled, and one from its node to each key that is used in it. It fails only where memory is refused.
+    // state enabled, and one from its node to each key that is used in it. It fails only if memory is refused.
     pub(crate) fn of(alloc: Global, facts: &Facts) -> Result<NodeArrows, AllocError> {
         let nodes = node_count(facts);
         let mut arrows = NodeArrows {

@@ -35,7 +35,8 @@ pub record AreParts (facts : FactParts) (rank : ℕ → ℕ) (parts : List Part)
   pub parts_are : (r : ℕ) (part : Part) → r < length parts → IsPart facts rank r (get_or parts r part)
   pub all : (key : ℕ) → key < facts.keys → rank key < length parts
 
--- ---- homes the key is at the place n of the list
+-- ---- homes
+-- the key is at the place n of the list
 abbrev pub IsAtPlace : List ℕ → ℕ → ℕ → Type 0
 IsAtPlace keys key n = (n < length keys) × (slice_index keys n ≡ key)
 
@@ -79,7 +80,8 @@ abbrev pub AreApart : FactParts → (a b : ℕ) → Type 0
 AreApart facts a b = a < facts.keys → b < facts.keys →
     (rank : ℕ → ℕ) × NoneGoesDown (HasFact facts) rank × ¬ (rank a ≡ rank b)
 
--- ---- circles the circle is a shortest one of the part's graph, with the keys themselves
+-- ---- circles
+-- the circle is a shortest one of the part's graph, with the keys themselves
 pub record IsToldBy (part : Part) (circle : List Arrow) : Type 0 where
   pub own : List Arrow
   pub shortest : IsShortestCircle (HasFact part.graph.facts) own

@@ -136,8 +136,9 @@ abbrev pub SeesAllFrom : FactParts → List ℕ → ℕ → List Step → List �
 SeesAllFrom facts within i steps seen =
     (p q : ℕ) → StandsAt steps i p → Edge facts within p q → IsTrue (has_bit seen q)
 
--- ---- rounds after n rounds: the steps from `first` to `end` are n steps from the start, the later ones one more; all
--- that the steps below `next` lead to has been seen; and no goal
+-- ---- rounds
+-- after n rounds: the steps from `first` to `end` are n steps from the start, the later ones one more; all that the
+-- steps below `next` lead to has been seen; and no goal
 pub record AreSteps (facts : FactParts) (within goal : List ℕ) (start n first end next : ℕ) (found : SearchParts) : Type 0 where
   pub root : StandsAt found.steps 0 start
   pub listed : (q : ℕ) → IsTrue (has_bit found.seen q) → (i : ℕ) × StandsAt found.steps i q
