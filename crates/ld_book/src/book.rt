@@ -171,7 +171,8 @@ impl Book {
         self.graph.facts().has_mark(key, mark)
     }
 
-    /// Whether the facts of the journal are clean: no dependency is on a circle, and there is no double and no inversion.
+    /// Whether the facts of the journal are clean: no dependency is on a circle, and there is no double and no
+    /// inversion.
     pub fn is_clean(&self) -> bool
         ensures { IsTrue result ↔ IsClean (JournalHas self.now.journal) }
     {

@@ -13,8 +13,8 @@ use std::marker::Model;
 // The number of values of the lower half of a chain's number.
 const HALF: usize = 1 << 32;
 
-// An entry of a journal: the trace that a chain comes from, and the chain's number among the distinct ones. The number is
-// kept in halves, so that an entry takes 12 bytes.
+// An entry of a journal: the trace that a chain comes from, and the chain's number among the distinct ones. The number
+// is kept in halves, so that an entry takes 12 bytes.
 #[derive(Drop)]
 struct Entry {
     trace: u32,
