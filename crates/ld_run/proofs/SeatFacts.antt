@@ -103,7 +103,8 @@ pub and_true : (a : Bool) (m n : ℕ) → IsTrue (a && eqb m n) ↔ (IsTrue a ×
 and_true true m n = ((λ h. (refl, eqb-true m n h)), (λ h. eq-eqb m n h.1))
 and_true false m n = ((λ h. absurd (true≢false (sym h))), (λ h. absurd (true≢false (sym h.0))))
 
--- ---- the words of a closed board the fact's bit is set in one of the first n words after the claim word
+-- ---- the words of a closed board
+-- the fact's bit is set in one of the first n words after the claim word
 abbrev pub WordsHave : (keys : ℕ) → List ℕ → (n : ℕ) → Fact → Type 0
 WordsHave keys ws n x =
     FactBelow keys x × (fact_number keys x / 64 < n)

@@ -136,7 +136,8 @@ past_with keys n word bits ps p q = past_or keys n (cond (eqb n word) bits 0) (b
 pub past_append : (keys n : ℕ) (ps qs : List (ℕ × ℕ)) → NonePast keys (n, bits_of n ps) → NonePast keys (n, bits_of n qs) → NonePast keys (n, bits_of n (ps ++ qs))
 past_append keys n ps qs p q = subst (λ b. NonePast keys (n, b)) (sym (bits_of-append n ps qs)) (past_or keys n (bits_of n ps) (bits_of n qs) p q)
 
--- ---- pairs of which some are put what is in a word is in a pair of it
+-- ---- pairs of which some are put
+-- what is in a word is in a pair of it
 pub within_here : (n a b : ℕ) (s : List (ℕ × ℕ)) → Within a b → Within a (bits_of n ((n, b) ∷ s))
 within_here n a b s h = subst (λ (t : Bool). Within a (bit_or (cond t b 0) (bits_of n s))) (sym (eq-eqb n n refl)) (within_more a b (bits_of n s) h)
 

@@ -97,8 +97,8 @@ module _ (traces : List (List Event)) (drawn : List ℕ) (n : ℕ) (t : List Eve
   )
   least-more behind None None well whole = λ i u mine at. elim (Contains-cases n i drawn mine) [ inr m ↦ well i u m at | inl is ↦ subst IsWellFormed (this_one u i is at) whole ]
 
--- ---- a worker that continues the numbers drawn were claimed and the traces of their places walked; the number was
--- claimed last
+-- ---- a worker that continues
+-- the numbers drawn were claimed and the traces of their places walked; the number was claimed last
 pub record IsWorking (keys : ℕ) (traces : List (List Event)) (before now : View) (drawn : List ℕ) (number : ℕ) (refused : Option (ℕ × StepAt)) : Type 0 where
   pub claimed : now.claimed ≡ number ∷ (drawn ++ before.claimed)
   pub rises : (i : ℕ) → Contains drawn i → i < number

@@ -1,4 +1,4 @@
-//! A board: a word that numbers are claimed from, and words of facts, which threads share without waiting for one another.
+//! A board: a word to claim numbers from, and words of facts, which threads share without waiting for one another.
 
 ghost use Rattle.std.specs.Prelude.{◌≡◌, ◌≢◌, ◌⊎◌, ◌↔◌, ◌+◌, ◌/◌, ◌%◌, ◌<◌, ◌≤◌, ◌∷◌, ◌++◌, ℕ, length, All, AllPairs, Any, IsFalse, IsTrue, IfOk, IsErrOf, vec_len, bit_or, slice_index};
 ghost use Rattle.std.specs.Int.{bit_at};

@@ -152,8 +152,8 @@ fn refused_by(trace: usize, first: StepAt) -> RunFault
     }
 }
 
-// Gathers the facts of all traces on a board, and returns them with the first trace that isn't well formed. The board has a seat
-// for each worker, and one that stays here.
+// Gathers the facts of all traces on a board, and returns them with the first trace that isn't well formed. The board
+// has a seat for each worker, and one that stays here.
 fn gather<R: Threads + Wait + Sync, G: Gate + Sync>(
     crew: &Crew<R, G>,
     traces: &[RawTrace],

@@ -16,8 +16,8 @@ use ld_graph::{Circle, Facts, Graph, InversionWalk, Kind, Mark, PartedGraph, Wal
 use ld_trace::Irq;
 use std::marker::Model;
 
-/// The facts of a completed run, on which the book and the workers agree, or of a survey. Whoever has them can ask what they
-/// mean; no question takes memory.
+/// The facts of a completed run, on which the book and the workers agree, or of a survey. Whoever has them can ask what
+/// they mean; no question takes memory.
 #[derive(Drop)]
 pub struct Settled {
     answers: Answers,
@@ -152,7 +152,7 @@ impl Settled {
         }
     }
 
-    /// Whether the dependency is a member of the walk of some inversion. False where it isn't among the facts.
+    /// Whether the dependency is a member of the walk of some inversion. False if it isn't among the facts.
     pub fn in_inversion(&self, from: u16, to: u16, kind: Kind) -> bool
         ensures { IsTrue result ↔ InInversion (HasFact self.now) (arrow from to kind) }
     {

@@ -26,8 +26,8 @@ use std::sync::Wait;
 pub struct Worked {
     /// The seat that it worked with.
     pub seat: Seat,
-    /// The first of the traces that it claimed that isn't well formed: its place in the list, and its first event that isn't
-    /// allowed.
+    /// The first of the traces that it claimed that isn't well formed: its place in the list, and its first event that
+    /// isn't allowed.
     pub refused: Option<(usize, StepAt)>,
     /// Whether memory was refused when it recorded a chain, so that it ended there.
     pub lost: bool,

@@ -20,7 +20,7 @@ pub record HasGathered (keys : ℕ) (start now : View) (t : List Event) (n : ℕ
   pub puts : PutsOnly keys start now (ChainsHave (chains (take n t)))
   pub knows : Holds (KnowsFact keys now) (ChainsHave (chains (take n t)))
 
--- the event comes at n in the trace, whose keys are below the bound; this is the state before it, and the facts were
+-- the event is at n in the trace, whose keys are below the bound; this is the state before it, and the facts were
 -- gathered up to it
 pub record ComesNext (keys : ℕ) (start now : View) (state : EndState) (event : Event) (t : List Event) (n : ℕ) : Type 0 where
   pub after : IsStateAfter t n state
