@@ -49,9 +49,10 @@ const NOT_CLEAN: u8 = 1;
 /// trace. Without a file one trace is read from the input. Each file is opened and read before the next one is.
 /// `lockdep --version` writes the version, and `lockdep help` how to call the program.
 ///
-/// The status is 0 if the facts are clean, if the condensed trace or the chains were written, or if help or the version was
-/// asked for; 1 if a report, an explanation or a picture was written of facts that aren't clean; and 2 if the program refused.
-/// Then exactly one line is written to `err`, and otherwise none; if `err` fails, that is ignored. This project's own.
+/// The status is 0 if the facts are clean, if the condensed trace or the chains were written, or if help or the version
+/// was asked for; 1 if a report, an explanation or a picture was written of facts that aren't clean; and 2 if the
+/// program refused. Then exactly one line is written to `err`, and otherwise none; if `err` fails, that is ignored.
+/// This project's own.
 pub fn program<R: Files + Threads + Wait + Sync, I: Read + Drop, O: Write, E: Write>(
     rt: &R,
     alloc: Global,

@@ -14,8 +14,8 @@ use std::sync::Wait;
 use std::test::Fail;
 use std::thread::Threads;
 
-// A text that the table has in short: its head, how many times the next words follow it, with the numbers from 100 on for their '#',
-// and its tail.
+// A text that the table has in short: its head, how many times the next words follow it, with the numbers from 100 on
+// for their '#', and its tail.
 type Long<'t> = (&'t str, u32, &'t str, &'t str);
 
 // Adds the words, with the number for each '#'.
@@ -89,7 +89,8 @@ static CASES: [Case<'_>; 10] = [
             "",
         ),
     },
-    // The same, with 16,400 events in each of four traces: enough for two workers to really walk them. More than two: `tests/runs`.
+    // The same, with 16,400 events in each of four traces: enough for two workers to really walk them. More than two:
+    // `tests/runs`.
     Case {
         many: false,
         traces: &[

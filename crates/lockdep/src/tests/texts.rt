@@ -1,4 +1,5 @@
-//! Whole explanations, pictures and condensed traces of small traces, of which `examples` has more, and traces that are refused.
+//! Whole explanations, pictures and condensed traces of small traces, of which `examples` has more, and traces that are
+//! refused.
 
 use crate::fault::ReportFault;
 use crate::output::Output;
