@@ -33,8 +33,8 @@ struct Story {
 // A chain, by the steps whose last one it is, and what is returned for it.
 type Told = (&'static [Step], Said);
 
-// The chains of two locks that are taken in both orders: A; B under A; B; A under B. The third brings nothing, since the marks of B came
-// with the second.
+// The chains of two locks that are taken in both orders: A; B under A; B; A under B. The third brings nothing, since
+// the marks of B came with the second.
 const FIRST: Told = (&[Write(A)], Ok((true, true)));
 
 const SECOND: Told = (&[Write(A), Write(B)], Ok((true, true)));

@@ -127,8 +127,8 @@ fn forty_eight_locks_are_held_and_no_more(rt: HostRuntime) {
     assert_eq!(rt; are_forty_eight_held(rt.alloc()), Some(true));
 }
 
-// Steps, and their last chain: the locks that are held, the oldest first, the lock that is taken, whether hardirqs and softirqs are
-// on, and the least number above those of its keys.
+// Steps, and their last chain: the locks that are held, the oldest first, the lock that is taken, whether hardirqs and
+// softirqs are on, and the least number above those of its keys.
 struct Last {
     about: &'static str,
     steps: &'static [Step],

@@ -294,7 +294,8 @@ fn misfit(alloc: Global, lasts: &[Last]) -> Option<&'static str> {
     None
 }
 
-// Whether uniting the words of each of these traces' last chains gives what adding the chains gives, over the facts of those before.
+// Whether uniting the words of each of these traces' last chains gives what adding the chains gives, over the facts of
+// those before.
 fn are_united_in_turn(alloc: Global, traces: &[&[Step]]) -> Option<bool> {
     let mut facts = Facts::new(alloc, 3).ok()?;
     let mut by_words = Facts::new(alloc, 3).ok()?;

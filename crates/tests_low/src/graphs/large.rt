@@ -144,8 +144,8 @@ fn have_the_numbers_of_their_places(alloc: Global) -> Option<bool> {
     Some(counted && among.has_mark(0, Mark::Used) && graph.on_circle(1, 0, Kind::En))
 }
 
-// Facts about the last of all keys there may be: with one rank for all keys nothing goes down, and with a greater one for the last
-// the dependency from it does.
+// Facts about the last of all keys there may be: with one rank for all keys nothing goes down, and with a greater one
+// for the last the dependency from it does.
 fn go_down_from_the_last_key(alloc: Global) -> Option<bool> {
     let last = MAX_MANY - 1;
     let mut facts = Facts::new(alloc, MAX_MANY).ok()?;

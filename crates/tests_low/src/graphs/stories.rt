@@ -722,7 +722,8 @@ fn are_two_told<G: Finds>(graph: &G, story: &Story, a: u16, b: u16) -> bool {
     are_dependencies_told(graph, story, a, b) && are_inversions_told(graph, story, a, b)
 }
 
-// Whether a key is in what is found as the story says, by itself, with each other key, and with keys that are out of range.
+// Whether a key is in what is found as the story says, by itself, with each other key, and with keys that are out of
+// range.
 fn is_key_told<G: Finds>(graph: &G, story: &Story, key: u16) -> bool {
     for other in 0..=story.keys {
         if !are_two_told(graph, story, key, other) {
@@ -776,8 +777,8 @@ fn are_known(graph: &mut Graph, chains: &[Chain]) -> bool {
     graph.searched() == searched
 }
 
-// A graph of the story's traces, which finds what the story says. None if it finds anything else, memory is refused, or a
-// trace isn't well formed.
+// A graph of the story's traces, which finds what the story says. None if it finds anything else, memory is refused, or
+// a trace isn't well formed.
 fn told(alloc: Global, story: &Story) -> Option<Graph> {
     if story.keys > MAX_KEYS {
         return None;
