@@ -1,5 +1,5 @@
-//! What a refused request for memory leaves. In an ordinary run none is refused: `tests/sweep` runs this test with its first
-//! request refused, its second, and so on, and counts the lines that it prints.
+//! What a refused request for memory leaves. In an ordinary run none is refused: `tests/sweep` runs this test with its
+//! first request refused, its second, and so on, and counts the lines that it prints.
 
 use ld_explain::{Origin, Origins};
 use ld_graph::Kind;
