@@ -31,7 +31,6 @@ pub(crate) fn version_of(row: &ByteRecord) -> Option<Version>
     }
 }
 
-// The version of this word.
 fn version_named(word: &[u8]) -> Option<Version>
     ensures { result ≡ version_named word.now }
 {

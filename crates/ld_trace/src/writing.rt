@@ -146,7 +146,6 @@ fn irq_word(irq: Irq) -> &'static [u8]
     }
 }
 
-// Writes a record of these fields.
 fn write_record<W: Write + Drop>(rows: &mut Writer<W>, fields: &[&[u8]]) -> Result<(), AllocError>
     requires { IsBetween rows.old }
     ensures between { OnOk result (IsBetween rows.new) }
