@@ -74,7 +74,6 @@ impl Lock {
     }
 }
 
-// A mode's number.
 fn number_of(mode: Mode) -> u16
     ensures { result ≡ mode_number mode }
 {

@@ -1,4 +1,4 @@
--- The test of two chains is true exactly of equal ones. Cited by the laws of equality and hash.
+-- The test of two chains is true exactly for equal ones. Cited by the laws of equality and hash.
 use Rattle.std.specs.Prelude.{◌≡◌, Bool, ◌&&◌, Option, Some, None, refl}
 use Rattle.std.specs.Bool.{Decides, beq}
 use Rattle.std.specs.Cmp.{IsEquivalence, booleans_Decides, both_ways}
