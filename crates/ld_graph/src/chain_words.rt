@@ -61,7 +61,7 @@ impl FactWords {
         }
     }
 
-    /// Replaces the words by those of a chain. The chain's keys are below `keys`, which is at most 256.
+    /// Replaces the words with those of a chain. The chain's keys are below `keys`, which is at most 256.
     pub fn set_to(&mut self, chain: &Chain, keys: u16)
         requires few { keys ≤ MAX_KEYS }
         requires below { ChainKeysBelow keys chain.now }

@@ -64,7 +64,6 @@ impl Dependency {
         !(self.kind.ends_in_r() && next.kind.begins_with_s())
     }
 
-    // Whether it may follow itself.
     pub(crate) fn may_follow_itself(self) -> bool
         ensures { IsTrue result ↔ MayFollow (arrow_of self) (arrow_of self) }
     {

@@ -82,7 +82,6 @@ impl Ends {
     }
 }
 
-// The number of a state.
 pub(crate) fn irq_number(irq: Irq) -> usize
     ensures value { result ≡ irq_number irq }
     ensures below { result < 2 }

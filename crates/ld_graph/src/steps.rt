@@ -52,7 +52,6 @@ impl Steps {
         self.len
     }
 
-    // Appends a step.
     pub(crate) fn push(&mut self, step: Step)
         requires { length self.old.items < MAX_STEPS }
         ensures items { self.new.items ≡ self.old.items ++ step ∷ [] }
