@@ -32,7 +32,7 @@ impl LockedBook {
         }
     }
 
-    /// Waits for the lock, and then returns what `Book::record` of the book that it finds does, with the same refusals:
+    /// Waits for the lock, and then does what `Book::record` does with the book that it finds, with the same refusals:
     /// B1 if the book is full, B3 if a key of the chain isn't below the book's bound, B2 if memory is refused. After a
     /// refusal the book is as it was found. The chain is consumed in every case.
     pub fn record<R: Wait>(&self, rt: &R, trace: u32, chain: Chain) -> Result<News, BookFault>
@@ -43,7 +43,7 @@ impl LockedBook {
         self.lock(rt).record(trace, chain)
     }
 
-    /// Waits for the lock, and then returns what `Book::is_clean` of the book that it finds does.
+    /// Waits for the lock, and then returns what `Book::is_clean` returns for the book that it finds.
     pub fn is_clean<R: Wait>(&self, rt: &R) -> bool {
         self.lock(rt).is_clean()
     }
