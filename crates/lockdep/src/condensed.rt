@@ -42,7 +42,6 @@ pub(crate) fn write_condensed<W: Write>(
     }
 }
 
-// The text of the condensed trace.
 fn condensed_text(alloc: Global, settled: &Settled, keys: &KeyTable) -> Result<Vec<u8>, ReportFault>
     requires { settled.now.keys ≡ length keys.now.names }
     ensures ok { IfOk result (λ text. IsCondensedText (HasFact settled.now) keys.now.names text.items) }

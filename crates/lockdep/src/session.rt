@@ -88,7 +88,7 @@ impl Session {
     }
 
     // How many of the workers are worth their threads: one for every 32,768 events, and at least one. A number of
-    // workers that a run refuses stays one that it refuses.
+    // workers that a run refuses is returned as it is.
     pub(crate) fn useful_workers(&self, workers: u16) -> u16
         ensures crew { IsCrew result ↔ IsCrew workers }
         ensures few { result ≤ workers }

@@ -59,7 +59,6 @@ fn add_copies(session: &mut Session, trace: &[u8], copies: u16) -> Result<(), Fa
     Ok(())
 }
 
-// The session of a case.
 fn session_of(alloc: Global, case: &Case<'_>) -> Result<Session, Fail> {
     let room = if case.many { MAX_MANY } else { MAX_KEYS };
     let mut session = Session::with_room(alloc, room)?;
