@@ -15,7 +15,7 @@ pub const VERSION: &str = "0.7.0";
 /// What a command line asks for.
 #[derive(Debug, Drop)]
 pub enum Line<'a> {
-    /// The report of the traces in these files, or of the one on standard input if no file is named, with `workers`
+    /// The report of the traces in these files, or of the one on standard input if no file is named, by `workers`
     /// workers; with room for many keys if `many` is set.
     Check {
         workers: u16,
