@@ -798,7 +798,6 @@ pub(crate) fn ranks_of(alloc: Global, ranks: &[u16]) -> Option<Ranks> {
     Some(Ranks::of(ranks.to_vec(alloc).ok()?))
 }
 
-// The facts of a graph.
 fn facts_of(alloc: Global, graph: &Graph) -> Option<Facts> {
     let mut facts = Facts::new(alloc, graph.keys()).ok()?;
     facts.unite(graph.facts());
