@@ -1,4 +1,4 @@
--- The facts and the totals of a journal, and what one entry more does to them.
+-- The facts and the totals of a journal, and what one more entry does to them.
 use Rattle.std.proofs.Common.{◌≡◌, ℕ, ◌+◌, ◌↔◌, List, [], ◌∷◌, ◌++◌, length, length-append, Bool, true, false, cond, Option, Some, None, is_some, refl, sym, ap, subst, ◌∙◌, inl, inr, arith}
 use Rattle.std.specs.Prelude.{is_none, option_map}
 use Rattle.std.specs.Int.{from_bool}
@@ -16,7 +16,7 @@ pub AreSame-none : (facts : FactParts) → ((x : Fact) → ¬ HasFact facts x) �
 AreSame-none facts none x = ((λ h. absurd (none x h)), (λ h. absurd (let l = h.2 in omega arith)))
 
 module _ (facts : FactParts) (journal : List (ℕ × ChainParts)) (are : AreSame (HasFact facts) (JournalHas journal)) where
-  -- with the facts of one entry more
+  -- with the facts of one more entry
   pub AreSame-adds : (new : FactParts) (trace : ℕ) (chain : ChainParts) →
       Adds (HasFact facts) (HasFact new) (ChainHas chain) → AreSame (HasFact new) (JournalHas (journal ++ (trace, chain) ∷ []))
   AreSame-adds new trace chain adds x =
@@ -56,7 +56,7 @@ counts-length (e ∷ journal) =
     one None = refl
     one (Some _) = refl
 
--- an acquisition is told by its new lock
+-- an acquisition is known by its new lock
 pub from_bool-taken : {A B : Type 0} (f : A → B) (new : Option A) (taken : Option B) (is_acquisition : Bool) (n : ℕ) →
     taken ≡ option_map f new → is_acquisition ≡ is_some taken → n ≡ from_bool is_acquisition → n ≡ from_bool (is_some new)
 from_bool-taken {A = A} {B = B} f new taken is_acquisition n is told counted =
@@ -70,7 +70,7 @@ from_bool-taken {A = A} {B = B} f new taken is_acquisition n is told counted =
 pub has_room : (place count limit : ℕ) → place ≡ count → ¬ (place ≡ limit) → ¬ (count ≡ limit)
 has_room place count limit is differs = λ e. differs (is ∙ e)
 
--- ---- a lawful book with one entry more
+-- ---- a lawful book with one more entry
 pub IsLawful-entered : (old new : FactParts) (journal entered : List (ℕ × ChainParts)) (acquisitions limit trace : ℕ) (chain : ChainParts) →
     IsLawful old journal acquisitions limit → ¬ (length journal ≡ limit) → entered ≡ journal ++ (trace, chain) ∷ [] →
     AreSame (HasFact new) (JournalHas (journal ++ (trace, chain) ∷ [])) →

@@ -35,7 +35,7 @@ inserted-next keys rest new chain distinct inserted =
     let pushed : new ≡ keys ++ chain ∷ [] = inserted ∙ ap (λ b. if b then keys else keys ++ chain ∷ []) (absent-before keys chain rest distinct) in
     ap (λ l. l ++ rest) pushed ∙ append_assoc keys (chain ∷ []) rest
 
--- they are distinct with one behind them that is none of them
+-- they stay distinct if one that is none of them is appended
 pub AreChains-push : (all : List ChainParts) (chain : ChainParts) → AreChains all → ¬ (list_any (chain_eq chain) all ≡ true) → AreChains (all ++ chain ∷ [])
 AreChains-push all chain are absent = elim (cases_Bool (list_any (chain_eq chain) all)) [
   | inl found ↦ absurd (absent found)
@@ -60,7 +60,7 @@ PutsChain-there all n chain at = record {
   only = λ m l. inl l;
 }
 
--- one that is put behind the others
+-- one that is appended
 pub PutsChain-new : (old new : List ChainParts) (n : ℕ) (chain : ChainParts) → new ≡ old ++ chain ∷ [] → n ≡ length old → PutsChain old new n chain
 PutsChain-new old new n chain is at =
     let long : length new ≡ length old + 1 = ap length is ∙ length-append old (chain ∷ []) in record {
@@ -80,7 +80,7 @@ module _ (old new : List ChainParts) (number : ℕ) (chain kept : ChainParts) (i
   is_there : get_or new number no_chain ≡ chain
   is_there = get_or_from_slice_get new number kept no_chain at ∙ sym ((chain_eq-decides chain kept).0 same)
 
-  -- a chain that is new stands behind the others
+  -- a new chain comes after the others
   behind : list_any (chain_eq chain) old ≡ false → new ≡ old ++ chain ∷ [] → number ≡ length old
   behind absent is = elim (cases_lt number (length old)) [
     | inl l ↦

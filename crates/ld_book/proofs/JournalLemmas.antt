@@ -1,4 +1,4 @@
--- A journal that keeps each distinct chain once, and one entry more in it.
+-- A journal that keeps each distinct chain once, and one more entry in it.
 use Rattle.std.proofs.Common.{◌≡◌, ℕ, ◌<◌, ◌≤◌, ◌↔◌, List, [], ◌∷◌, ◌++◌, length, length-append, get_or, slice_get, true, Some, refl, sym, ap, ◌∙◌, inl, inr, arith}
 use Rattle.std.specs.Prelude.{All, Contains}
 use Rattle.std.specs.List.{list_any, IsDistinct}
@@ -15,7 +15,7 @@ use Rattle.ld_facts.specs.ListLaws.{Any-push}
 use Rattle.ld_book.specs.Books.{StandsIn}
 use Rattle.ld_book.specs.Inside.Journals.{EntryParts, no_chain, entry_of, journal_of, IsJournal, PutsChain}
 
--- the entries mean the same where more chains follow
+-- the entries mean the same if more chains follow
 journal_of-more : (chains more : List ChainParts) (entries : List EntryParts) → All (λ (e : EntryParts). e.number < length chains) entries →
     journal_of (chains ++ more) entries ≡ journal_of chains entries
 journal_of-more chains more [] below = refl
@@ -25,7 +25,7 @@ journal_of-more chains more (e ∷ entries) below =
     let tail = journal_of-more chains more entries (All-tail (λ (e : EntryParts). e.number < length chains) e entries below) in
     λ i. head i ∷ tail i
 
--- ---- what stands in the journal is what the chains are
+-- ---- what is in the journal is what the chains are
 module _ (chains : List ChainParts) (entries : List EntryParts) (is_journal : IsJournal chains entries) (chain : ChainParts) where
   stands : Contains chains chain → StandsIn (journal_of chains entries) chain
   stands (n, l, is) =
@@ -72,7 +72,7 @@ IsNumberOf-kept chains entries is_journal distinct = record {
   count = refl;
 }
 
--- ---- one entry more
+-- ---- one more entry
 module _ (old new : List ChainParts) (entries : List EntryParts) (is_journal : IsJournal old entries) (trace number : ℕ) (chain : ChainParts)
     (puts : PutsChain old new number chain) where
   abbrev entered : EntryParts

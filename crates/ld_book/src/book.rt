@@ -41,9 +41,9 @@ pub struct Totals {
 }
 
 /// A journal of chains, each with the trace that it comes from, and the facts of these chains [this project's own; the
-/// rules of the facts are those of the sections "Multi-lock dependency rules" and "Single-lock state rules"]. The keys are
-/// below a bound of at most 256, and the journal is no longer than a limit. Whatever a book answers is read off its
-/// journal, also after a refused entry.
+/// rules of the facts are those of the sections "Multi-lock dependency rules" and "Single-lock state rules"]. The keys
+/// are below a bound of at most 256, and the journal is no longer than a limit. Everything that a book returns is
+/// derived from its journal, even after a refused entry.
 #[derive(Drop)]
 pub struct Book {
     journal: Journal,
@@ -67,8 +67,8 @@ impl Model for Book {
 }
 
 impl Book {
-    /// A book without entries, for keys below `keys`, which is at most 256, and for at most `limit` entries. B2 where
-    /// memory was refused; nothing was made then.
+    /// A book without entries, for keys below `keys`, which is at most 256, and for at most `limit` entries. B2 if
+    /// memory is refused, and then no book is made.
     pub fn new(alloc: Global, keys: u16, limit: u64) -> Result<Book, BookFault>
         requires { keys ≤ MAX_KEYS }
         ensures empty { IfOk result (λ b. b ≡ record {
@@ -89,13 +89,14 @@ impl Book {
         })
     }
 
-    /// Puts a chain of a trace behind the other entries, and answers what it brought. The chain is consumed in every case.
+    /// Appends a chain of a trace, and returns what it brought. The chain is consumed in every case.
     ///
-    /// Refusals, in this order: B1 exactly where the journal has as many entries as the limit, B3 exactly where a key of
-    /// the chain isn't below the book's bound, B2 where memory was refused. After each nothing is changed.
+    /// Refusals, in this order: B1 exactly if the journal has as many entries as the limit, B3 exactly if a key of the
+    /// chain isn't below the book's bound, B2 if memory is refused. After each nothing is changed.
     ///
-    /// A chain that brings a new fact is kept without a look-up, since no chain before it had that fact. Where one comes that brings none,
-    /// those that were kept so move to the set of known chains; a chain that is there costs one look-up.
+    /// A chain that brings a new fact is kept without a look-up, since no chain before it had that fact. When one comes
+    /// that brings none, the chains that were kept that way move to the set of known chains; a chain that is already
+    /// there costs one look-up.
     pub fn record(&mut self, trace: u32, chain: Chain) -> Result<News, BookFault>
         ensures recorded { OnOk result (self.new ≡ record {
           journal = self.old.journal ++ (trace, chain) ∷ [];
@@ -148,7 +149,7 @@ impl Book {
         self.journal.len()
     }
 
-    /// The entry at place `i`, counted from 0 in the order of recording: its trace and its chain. None exactly where there
+    /// The entry at place `i`, counted from 0 in the order of recording: its trace and its chain. None exactly if there
     /// is none.
     pub fn entry(&self, i: usize) -> Option<(u32, &Chain)>
         ensures { option_map (λ e. (e.0, e.1.now)) result ≡ slice_get self.now.journal i }
@@ -156,21 +157,22 @@ impl Book {
         self.journal.entry(i)
     }
 
-    /// Whether the dependency is one of a chain of the journal. False where a key isn't below the bound.
+    /// Whether the dependency is one of a chain of the journal. False if a key isn't below the bound.
     pub fn has_dep(&self, from: u16, to: u16, kind: Kind) -> bool
         ensures { IsTrue result ↔ JournalHas self.now.journal (Fact.Dependency from to kind) }
     {
         self.graph.facts().has_dep(from, to, kind)
     }
 
-    /// Whether the key has the mark by a chain of the journal. False where the key isn't below the bound.
+    /// Whether the key has the mark by a chain of the journal. False if the key isn't below the bound.
     pub fn has_mark(&self, key: u16, mark: Mark) -> bool
         ensures { IsTrue result ↔ JournalHas self.now.journal (Fact.Marked key mark) }
     {
         self.graph.facts().has_mark(key, mark)
     }
 
-    /// Whether the facts of the journal are clean: no dependency is on a circle, and there is no double and no inversion.
+    /// Whether the facts of the journal are clean: no dependency is on a circle, and there is no double and no
+    /// inversion.
     pub fn is_clean(&self) -> bool
         ensures { IsTrue result ↔ IsClean (JournalHas self.now.journal) }
     {
@@ -201,7 +203,7 @@ impl Book {
         self.journal.distinct() as u64
     }
 
-    /// The graph of the book's facts. The journal is given up.
+    /// The graph of the book's facts. The journal is dropped.
     pub fn into_graph(self) -> Graph
         ensures keys { result.facts.keys ≡ self.keys }
         ensures facts { AreSame (HasFact result.facts) (JournalHas self.journal) }
@@ -211,8 +213,8 @@ impl Book {
     }
 }
 
-// Puts a chain behind the entries of a journal that has room for it, adds its facts to those of the journal, and answers whether
-// one of them is new. If so, no entry before it has that chain. Where memory is refused nothing is changed.
+// Appends a chain to a journal that has room for it, adds its facts to those of the journal, and returns whether one of
+// them is new. If so, no entry before it has that chain. If memory is refused, nothing is changed.
 fn enter(
     journal: &mut Journal,
     graph: &mut Graph,

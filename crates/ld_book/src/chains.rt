@@ -10,9 +10,9 @@ use ld_task::Chain;
 use std::alloc::{AllocError, Global};
 use std::marker::Model;
 
-// Distinct chains, numbered in order of first entry: those of a set, and behind them the latest, which are in no set yet. A
-// chain that is known to be new is put behind the latest without a look-up. Where one comes that may not be, the latest move to the
-// set. So each is hashed at most once, and none where each that came was known to be new.
+// Distinct chains, numbered in order of first entry: those of a set, and after them the latest, which aren't in the set
+// yet. A chain that is known to be new is appended to the latest without a look-up. When one comes that may not be new,
+// the latest move to the set. So each is hashed at most once, and none is if all that came were known to be new.
 #[derive(Drop)]
 pub(crate) struct Chains {
     indexed: IndexSet<Chain>,
@@ -44,7 +44,6 @@ impl Chains {
         }
     }
 
-    // How many there are.
     pub(crate) fn len(&self) -> usize
         ensures value { result ≡ length self.now.all }
         ensures distinct { AreChains self.now.all }
@@ -75,7 +74,7 @@ impl Chains {
         self.indexed.get_index_of(chain)
     }
 
-    // Makes room for one chain more.
+    // Makes room for one more chain.
     pub(crate) fn make_room(&mut self) -> Result<(), AllocError>
         ensures same { self.new.all ≡ self.old.all }
         ensures room { OnOk result (0 < self.new.room) }
@@ -83,7 +82,7 @@ impl Chains {
         self.latest.reserve(1)
     }
 
-    // Puts a chain behind the others, which is none of them.
+    // Appends a chain that isn't here yet.
     pub(crate) fn push_new(&mut self, chain: Chain)
         requires room { 0 < self.old.room }
         requires new { AreChains (self.old.all ++ chain ∷ []) }
@@ -92,7 +91,7 @@ impl Chains {
         self.latest.push_reserved(chain);
     }
 
-    // The number of a chain, which is put behind the others if it is none of them. Where memory is refused nothing is changed.
+    // The number of a chain, which is appended if it isn't here yet. If memory is refused, nothing is changed.
     pub(crate) fn insert(&mut self, chain: Chain) -> Result<usize, AllocError>
         ensures put { IfOk result (λ n. PutsChain self.old.all self.new.all n chain) }
         ensures refused { OnErr result (self.new.all ≡ self.old.all) }
@@ -105,7 +104,7 @@ impl Chains {
     }
 }
 
-// Moves chains behind those of a set, of which they are none. Where memory is refused nothing is changed.
+// Moves chains to the end of a set that has none of them. If memory is refused, nothing is changed.
 fn move_behind(indexed: &mut IndexSet<Chain>, latest: &mut Vec<Chain>) -> Result<(), AllocError>
     requires { IsDistinct chain_eq (indexed.old.keys ++ latest.old.items) }
     ensures moved { OnOk result (indexed.new.keys ≡ indexed.old.keys ++ latest.old.items) }

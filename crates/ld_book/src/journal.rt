@@ -13,8 +13,8 @@ use std::marker::Model;
 // The number of values of the lower half of a chain's number.
 const HALF: usize = 1 << 32;
 
-// An entry of a journal: the trace that a chain comes from, and the chain's number among the distinct ones. The number is
-// kept in halves, so that an entry takes 12 bytes.
+// An entry of a journal: the trace that a chain comes from, and the chain's number among the distinct ones. The number
+// is kept in halves, so that an entry takes 12 bytes.
 #[derive(Drop)]
 struct Entry {
     trace: u32,
@@ -88,7 +88,6 @@ impl Journal {
         }
     }
 
-    // The number of entries.
     pub(crate) fn len(&self) -> usize
         ensures { result ≡ length self.now.written }
     {
@@ -102,7 +101,7 @@ impl Journal {
         self.chains.len()
     }
 
-    // The entry at place `i`, or None where there is none.
+    // The entry at place `i`, or None if there is none.
     pub(crate) fn entry(&self, i: usize) -> Option<(u32, &Chain)>
         ensures { option_map (λ e. (e.0, e.1.now)) result ≡ slice_get self.now.written i }
     {
@@ -110,7 +109,7 @@ impl Journal {
         Some((entry.trace(), self.chains.get(entry.number())))
     }
 
-    // Makes room for one entry more, also for one with a chain that is new.
+    // Makes room for one more entry, even one with a new chain.
     pub(crate) fn make_room(&mut self) -> Result<(), AllocError>
         ensures same { self.new.written ≡ self.old.written }
         ensures room { OnOk result (HasRoomForNew self.new) }
@@ -119,7 +118,8 @@ impl Journal {
         self.chains.make_room()
     }
 
-    // Puts an entry behind the others if the set of chains has its chain, and answers whether it has. If it hasn't, nothing is changed.
+    // Appends an entry if the set of chains has its chain, and returns whether it has. If it hasn't, nothing is
+    // changed.
     pub(crate) fn push_indexed(&mut self, trace: u32, chain: &Chain) -> bool
         requires room { HasRoom self.old }
         ensures pushed { IsTrue result → self.new.written ≡ self.old.written ++ (trace, chain.now) ∷ [] }
@@ -133,7 +133,7 @@ impl Journal {
         true
     }
 
-    // Puts an entry behind the others, with a chain that no other has.
+    // Appends an entry with a chain that no other has.
     pub(crate) fn push_new(&mut self, trace: u32, chain: Chain)
         requires room { HasRoomForNew self.old }
         requires new { ¬ StandsIn self.old.written chain }
@@ -144,7 +144,7 @@ impl Journal {
         self.entries.push_reserved(Entry::new(trace, number));
     }
 
-    // Puts an entry behind the others. Where memory is refused nothing is changed.
+    // Appends an entry. If memory is refused, nothing is changed.
     pub(crate) fn push(&mut self, trace: u32, chain: Chain) -> Result<(), AllocError>
         requires room { HasRoom self.old }
         ensures pushed { OnOk result (self.new.written ≡ self.old.written ++ (trace, chain) ∷ []) }

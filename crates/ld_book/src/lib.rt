@@ -1,9 +1,9 @@
 //! The book that all workers write into: a journal of chains, together with the facts, the totals and the flag that
 //! belong to it.
 //!
-//! Whatever a `Book` answers is read off its journal. It keeps each distinct chain once. A chain that brings a new fact is new
-//! without a look-up, and one that is known costs one. A `LockedBook` is a book that several threads write into, one entry at a
-//! time.
+//! Everything that a `Book` returns is derived from its journal. It keeps each distinct chain once. A chain that brings
+//! a new fact needs no look-up, and a known one needs one. A `LockedBook` is a book that several threads write into,
+//! one entry at a time.
 #![tactic(auto)]
 
 mod book;

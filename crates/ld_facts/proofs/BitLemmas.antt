@@ -65,7 +65,7 @@ beyond_found words taken i li lx ly some =
           rw (q, r, ey) (ne_eqb (bit_at y t) 1 (omega (arith, bit_at-lt y t, e))),
         )
 
--- where no word has a bit beyond the other's, each bit of the one is a bit of the other
+-- if no word has a bit beyond the other's, each bit of the one is a bit of the other
 pub beyond_none : (words taken : List ℕ) (n : ℕ) → n ≡ length words →
     ((k : ℕ) → k < length words → get_or taken k 0 < 2 ^ 64) →
     ((k : ℕ) → k < n → bit_and (get_or words k 0) (bit_not w64 (get_or taken k 0)) ≡ 0) →

@@ -23,7 +23,7 @@ meet_found row other i lx some =
       has_bit-at other i t low.0 ∙ eq-eqb (bit_at y t) 1 (omega (arith, bit_at-lt x t, bit_at-lt y t, one)),
     )
 
--- where no word has a bit of both, no bit is set in both
+-- if no word has a bit of both, no bit is set in both
 pub meet_none : (row other : List ℕ) (n : ℕ) → length row ≤ n → ((k : ℕ) → k < n → bit_and (get_or row k 0) (get_or other k 0) ≡ 0) →
     (k : ℕ) → has_bit row k ≡ true → has_bit other k ≡ true → ⊥
 meet_none row other n all empty k a b =

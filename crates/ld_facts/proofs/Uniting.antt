@@ -155,7 +155,7 @@ AreSame-bits a b fa fb keys same = (
   ],
 )
 
--- ---- what the bits of a word stand for
+-- ---- the facts of a word's bits
 pub Adds-word : (old new : FactParts) (n bits : ℕ) → UnitesWord old new n bits →
     Adds (HasFact old) (HasFact new) (PairsHave old.keys ((n, bits) ∷ []))
 Adds-word old new n bits unites x =

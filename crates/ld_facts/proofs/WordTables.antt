@@ -1,4 +1,4 @@
--- The table that words of facts are kept in, and the pairs that it stands for.
+-- The table that words of facts are kept in, and the pairs that it holds.
 use Rattle.std.proofs.Common.{◌≡◌, ◌≢◌, ℕ, zero, suc, ◌+◌, ◌-◌, ◌*◌, ◌/◌, ◌%◌, ◌^◌, ◌<◌, ◌≤◌, ◌⊎◌, ◌↔◌, List, [], ◌∷◌, ◌++◌, length, get_or, set, take, refl, ap, sym, ◌∙◌, subst, inl, inr, arith, true, false, replicate, bit_or, eqb, get_or-set_same, get_or-set_other}
 use Rattle.std.specs.Prelude.{IsTrue}
 use Rattle.std.specs.Int.{bit_at}
@@ -40,7 +40,7 @@ module _ (places bits : List ℕ) (n : ℕ) (room : HaveRoom places bits n) wher
       get_or-take n (zip places bits) i d l ∙ get_or-zip places bits i d a b ∙
       (λ j. (get_or_default places i d.0 0 a j, get_or_default bits i d.1 0 b j))
 
--- a table's lists have room, and its length is that of what it stands for
+-- a table's lists have room, and its length is that of its pairs
 pub room_for : (places bits seen : List ℕ) (len : ℕ) → length places ≡ MAX_WORDS → length bits ≡ MAX_WORDS →
     IsTable places bits len seen → HaveRoom places bits len
 room_for places bits seen len p b is = let few = is.few in record { in_places = omega arith; in_bits = omega arith }
@@ -53,7 +53,7 @@ pub length-value : (places bits : List ℕ) (len : ℕ) (value : List (ℕ × �
     pairs_at places bits len ≡ value → length value ≡ len
 length-value places bits len value room is = ap length (sym is) ∙ length-pairs_at places bits len room
 
--- one pair more
+-- one more pair
 pairs_at-more : (places bits : List ℕ) (n : ℕ) → HaveRoom places bits (n + 1) →
     pairs_at places bits (n + 1) ≡ pairs_at places bits n ++ (get_or places n 0, get_or bits n 0) ∷ []
 pairs_at-more places bits n room =
@@ -69,7 +69,7 @@ bits_of-more m places bits n room =
     bits_of-append m (pairs_at places bits n) ((get_or places n 0, get_or bits n 0) ∷ []) ∙
     ap (bit_or (bits_of m (pairs_at places bits n))) (or_zero (bits_if m (get_or places n 0, get_or bits n 0)))
 
--- what stands at the first n places decides the pairs
+-- what is at the first n places decides the pairs
 pub pairs_at-same : (p b q c : List ℕ) (n : ℕ) → HaveRoom p b n → HaveRoom q c n →
     ((i : ℕ) → i < n → (get_or p i 0 ≡ get_or q i 0) × (get_or b i 0 ≡ get_or c i 0)) → pairs_at p b n ≡ pairs_at q c n
 pairs_at-same p b q c zero room other same = refl
@@ -86,7 +86,7 @@ pairs_at-same p b q c (suc n) room other same =
     (λ j. before j ++ (here.0 j, here.1 j) ∷ []) ∙
     sym (pairs_at-more q c n two) ∙ ap (pairs_at q c) (sym up)
 
--- ---- a word more
+-- ---- one more word
 module _ (places bits : List ℕ) (n word new : ℕ) (room : HaveRoom places bits (n + 1)) where
   pub set_room : HaveRoom (set places n word) (set bits n new) (n + 1)
   set_room = record {
@@ -109,7 +109,7 @@ pub UnitesPair-push : (pairs : List (ℕ × ℕ)) (word bits : ℕ) → UnitesPa
 UnitesPair-push pairs word bits n =
     bits_of-append n pairs ((word, bits) ∷ []) ∙ ap (bit_or (bits_of n pairs)) (or_zero (bits_if n (word, bits)))
 
--- ---- bits more in a word
+-- ---- more bits in a word
 bits_if-or : (m p a b : ℕ) → bits_if m (p, bit_or a b) ≡ bit_or (bits_if m (p, a)) (bits_if m (p, b))
 bits_if-or m p a b = elim (cases_eq m p) [
   | inl e ↦ bits_if-same m (p, bit_or a b) e ∙ (λ j. bit_or (sym (bits_if-same m (p, a) e) j) (sym (bits_if-same m (p, b) e) j))
@@ -395,7 +395,7 @@ TakesRun-one old new first run short inside words few unites = record {
   );
 }
 
--- a run that goes on in the next word
+-- a run that continues in the next word
 pub TakesRun-two : (old mid new : List (ℕ × ℕ)) (first run : ℕ) → run < 2 ^ 9 → 55 < first % 64 → AreWords new →
     length mid ≤ length old + 1 → length new ≤ length mid + 1 → UnitesPair old mid (first / 64) (run * 2 ^ (first % 64) % 2 ^ 64) →
     UnitesPair mid new (first / 64 + 1) (run / 2 ^ (64 - first % 64)) → TakesRun old new first run
@@ -425,7 +425,7 @@ TakesRun-two old mid new first run short past words few_mid few low high = recor
 pub one_shl : (k : ℕ) → k < 64 → 1 * 2 ^ k % 2 ^ 64 ≡ 2 ^ k
 one_shl k l = let small : 2 ^ k < 2 ^ 64 = pow-lt l in let one : 1 * 2 ^ k ≡ 2 ^ k = omega arith in ap (λ x. x % 2 ^ 64) one ∙ mod-eq_of_lt small
 
--- one bit more
+-- one more bit
 pub bit_or-pow : (run place k : ℕ) → (bit_at (bit_or run (2 ^ place)) k ≡ 1) ↔ ((bit_at run k ≡ 1) ⊎ (place ≡ k))
 bit_or-pow run place k = (
   (λ h. elim ((bit_or-bits run (2 ^ place) k).0 h) [

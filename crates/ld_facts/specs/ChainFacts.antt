@@ -63,8 +63,8 @@ fact_slots c = slots_by c.new_lock c
 abbrev pub StandsIn : ChainParts → Fact → ℕ → Type 0
 StandsIn c x bound = (n : ℕ) × (n < bound) × (chain_fact c n ≡ Some x)
 
--- ---- by which lock
--- the chain gives the fact by its held lock at this place, counted from the oldest, or else by the lock that it takes
+-- ---- which lock gives it
+-- the chain gives the fact by its held lock at this place, counted from the oldest, or by the lock that it takes
 abbrev pub GivenBy : ChainParts → Fact → (held : Option ℕ) → Type 0
 GivenBy c (Dependency from to kind) (Some k) =
     (d : ChainHasDependency c from to kind) × (slice_get c.held_locks k ≡ Some d.old)

@@ -81,12 +81,12 @@ mark_by_opening-place mode flags (UsedIn irq read) h = absurd (let f : false ≡
 mark_by_opening-place mode flags (Enabled Hard read) h = ap (Enabled Hard) (sym (same_form-same read (is_read mode) (and_parts (is_enabled Hard flags) (same_form read (is_read mode)) h).1))
 mark_by_opening-place mode flags (Enabled Soft read) h = ap (Enabled Soft) (sym (same_form-same read (is_read mode) (and_parts (is_enabled Soft flags) (same_form read (is_read mode)) h).1))
 
--- what is there only where a test passes
+-- what is there only if a test passes
 some-if : (test : Bool) (y x : Fact) → (if test then Some y else None) ≡ Some x → (test ≡ true) × (y ≡ x)
 some-if true y x e = (refl, same_Some y x e)
 some-if false y x e = absurd (none-some x e)
 
--- ---- what stands at a place is given by the lock of that place
+-- ---- what is at a place is given by the lock of that place
 fact_by-taking : (c : ChainParts) (new : Lock) (frame : Frame) (n : ℕ) (x : Fact) → c.new_lock ≡ Some (new, frame) → fact_by (Some (new, frame)) c n ≡ Some x →
     GivenBy c x (held_by (Some (new, frame)) c n)
 fact_by-taking c new frame n x is e =
@@ -145,7 +145,7 @@ GivenBy-has c (Marked key mark) None g = inl g
 pub chain_fact-sound : (c : ChainParts) (n : ℕ) (x : Fact) → chain_fact c n ≡ Some x → ChainHas c x
 chain_fact-sound c n x e = GivenBy-has c x (slot_held c n) (chain_fact-given c n x e)
 
--- ---- each fact stands at a place of the lock that gives it
+-- ---- each fact is at a place of the lock that gives it
 GivenBy-stands : (c : ChainParts) (x : Fact) (held : Option ℕ) → GivenBy c x held → StandsBy c x held
 GivenBy-stands c (Dependency from to kind) (Some k) (h, at) =
     let l : k < length c.held_locks = Rattle.std.proofs.lemmas.Option.slice_get_within c.held_locks k h.old at in
@@ -219,7 +219,7 @@ newer_by (Some new) c m n l = elim (cases_lt n (length c.held_locks)) [
 pub later_slots_are_of_newer_locks : LaterSlotsAreOfNewerLocks
 later_slots_are_of_newer_locks c m n l = newer_by c.new_lock c m n l
 
--- ---- a chain's facts name the chain's keys alone
+-- ---- a chain's facts name only the chain's keys
 pub FactBelow-chain : (keys : ℕ) (c : ChainParts) (x : Fact) → ChainKeysBelow keys c → ChainHas c x → FactBelow keys x
 FactBelow-chain keys c (Dependency from to kind) below h = (
   subst (λ k. k < keys) (sym h.from_is) (All-contains (λ lock. lock.key < keys) c.held_locks h.old below.held_below h.is_held),

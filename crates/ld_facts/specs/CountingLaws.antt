@@ -71,7 +71,7 @@ module _ {A : Type 0} (test : ℕ → Bool) (read : ℕ → A) where
       ]
 
 -- ---- one number
--- what stands at another place is there after a removal
+-- what is at another place is there after a removal
 remove-keeps : {A : Type 0} (ys : List A) (p q : ℕ) (z : A) → p < length ys → q < length ys → ¬ (q ≡ p) → get_or ys q z ≡ z → Contains (remove ys p) z
 remove-keeps ys p q z lp lq other is =
     elim (cases_lt q p) [
@@ -84,7 +84,7 @@ remove-keeps ys p q z lp lq other is =
           )
     ]
 
--- the members of the rest stand elsewhere than the first
+-- the members of the rest are at other places than the first
 elsewhere : {A : Type 0} (x : A) (xs ys : List A) (p : ℕ) → AllPairs (λ x y. ¬ (x ≡ y)) (x ∷ xs) → p < length ys → get_or ys p x ≡ x →
     (z : A) → Contains xs z → Contains ys z → Contains (remove ys p) z
 elsewhere x xs ys p once lp is z (k, lk, at) (q, lq, found_z) =

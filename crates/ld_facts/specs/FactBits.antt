@@ -31,7 +31,7 @@ abbrev pub mark_count : FactParts → ℕ
 mark_count facts =
     count_below (λ n. has_bit facts.words (dependency_total facts.keys + n)) (mark_total facts.keys)
 
--- as many rows as may be taken up for these facts, and for one more
+-- how many rows may be counted for these facts, and for one more fact
 abbrev pub rows_allowed : FactParts → ℕ
 rows_allowed facts = 2 * PLACES * dependency_count facts + PLACES * mark_count facts
 
@@ -51,7 +51,7 @@ pub record AreCounted (words : FactParts) (of_dependencies of_marks : ℕ) : Typ
   pub dependencies : of_dependencies ≡ dependency_count words
   pub marks : of_marks ≡ mark_count words
 
--- one bit more is set
+-- one more bit is set
 pub record SetsBit (old new : FactParts) (n : ℕ) : Type 0 where
   pub keys : new.keys ≡ old.keys
   pub set : IsTrue (has_bit new.words n)

@@ -37,7 +37,7 @@ Holds Has P = (x : Fact) → P x → Has x
 abbrev pub Adds : (Old New P : Fact → Type 0) → Type 0
 Adds Old New P = (x : Fact) → New x ↔ (Old x ⊎ P x)
 
--- the set's dependencies, as arrows, and its marks, each beside its key
+-- the set's dependencies, as arrows, and its marks, each with its key
 abbrev pub DependenciesOf : (Fact → Type 0) → Arrow → Type 0
 DependenciesOf Has d = Has (Dependency d.start d.end d.kind)
 

@@ -28,7 +28,7 @@ pub neither : (a b : Bool) → (a || b) ≡ false → (a ≡ false) × (b ≡ fa
 neither false b h = (refl, h)
 neither true b h = absurd (let e : true ≡ false = h in cc)
 
--- one slot more
+-- one more slot
 pub StandsIn-later : (c : ChainParts) (x : Fact) (n : ℕ) → StandsIn c x n → StandsIn c x (n + 1)
 StandsIn-later c x n (k, l, e) = (k, omega arith, e)
 
@@ -43,7 +43,7 @@ module _ (first now : FactParts) (c : ChainParts) (n : ℕ) (fresh : Bool) (was 
   later : fresh ≡ true → (x : Fact) × StandsIn c x (n + 1) × ¬ HasFact first x
   later h = let (x, s, ne) = was.news h in (x, StandsIn-later c x n s, ne)
 
-  -- the facts with that of one slot more
+  -- the facts with that of one more slot
   step : (new : FactParts) → ((x : Fact) → HasFact new x ↔ (HasFact now x ⊎ (chain_fact c n ≡ Some x))) →
       (x : Fact) → HasFact new x ↔ (HasFact first x ⊎ StandsIn c x (n + 1))
   step new one x = (

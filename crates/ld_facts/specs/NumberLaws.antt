@@ -120,7 +120,7 @@ fact_number-same keys (Marked a m) (Marked b n) la lb e =
 fact_number-same keys (Dependency a b k) (Marked c m) (la, lb) lc e = absurd (omega (arith, dependency-lt keys a b k la lb))
 fact_number-same keys (Marked c m) (Dependency a b k) lc (la, lb) e = absurd (omega (arith, dependency-lt keys a b k la lb))
 
--- ---- the fact that a number stands for
+-- ---- the fact of a number
 abbrev pub dependency_of : ℕ → ℕ → Fact
 dependency_of keys n = Dependency (n / 4 / keys) (n / 4 % keys) (kind_of (n % 4))
 

@@ -40,7 +40,7 @@ mark_total keys = keys * 9
 abbrev pub bit_total : ℕ → ℕ
 bit_total keys = dependency_total keys + mark_total keys
 
--- the bit of a fact about keys below `keys`: the marks stand after the dependencies
+-- the bit of a fact about keys below `keys`: the marks come after the dependencies
 abbrev pub fact_number : ℕ → Fact → ℕ
 fact_number keys (Dependency from to kind) = (from * keys + to) * 4 + kind_number kind
 fact_number keys (Marked key mark) = dependency_total keys + (key * 9 + mark_index mark)

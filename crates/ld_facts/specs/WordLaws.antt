@@ -12,7 +12,7 @@ use Rattle.ld_facts.specs.WordPairs.{bits_of, Within, PairsHave, NonePast, word_
 use Rattle.ld_facts.specs.declared.fact.Fact.{Fact}
 
 -- ---- unions of bits
--- a bit of a union is a bit of one of both
+-- a bit of a union is a bit of one of the two
 pub bit_or-bits : (a b k : ℕ) → (bit_at (bit_or a b) k ≡ 1) ↔ ((bit_at a k ≡ 1) ⊎ (bit_at b k ≡ 1))
 bit_or-bits a b k = (
   (λ h. let m : max (bit_at a k) (bit_at b k) ≡ 1 = sym (bit_at_or a b k) ∙ h in
@@ -46,7 +46,7 @@ Within-from_bits a b up = same_from_bits (bit_or a b) b (λ k.
     ])
 
 -- ---- pairs
--- the bits of a pair for word n, where it is of that word
+-- the bits of a pair for word n, if it is of that word
 abbrev pub bits_if : ℕ → ℕ × ℕ → ℕ
 bits_if n p = if n == p.0 then p.1 else 0
 
@@ -91,14 +91,14 @@ PairsHave-append keys ps qs x =
       ]),
     )
 
--- where each word of p is within that of q, q has all facts of p
+-- if each word of p is within that of q, q has all facts of p
 pub PairsHave-within : (keys : ℕ) (p q : List (ℕ × ℕ)) → ((n : ℕ) → Within (bits_of n p) (bits_of n q)) →
     Holds (PairsHave keys q) (PairsHave keys p)
 PairsHave-within keys p q within x (below, on) =
     let n : ℕ = fact_number keys x / 64 in
     (below, Within-bit (bits_of n p) (bits_of n q) (fact_number keys x % 64) (within n) on)
 
--- and back, where p has words of 64 bits with no bit past the last
+-- and back, if p has words of 64 bits with no bit past the last
 pub Within-facts : EachBitIsAFacts → (keys : ℕ) (p q : List (ℕ × ℕ)) → All (λ w. w.1 < 2 ^ 64) p → All (NonePast keys) p →
     Holds (PairsHave keys q) (PairsHave keys p) → (n : ℕ) → Within (bits_of n p) (bits_of n q)
 Within-facts each keys p q fits none_past holds n = Within-from_bits (bits_of n p) (bits_of n q) bit

@@ -27,8 +27,8 @@ pub fn slots(chain: &Chain) -> usize
     }
 }
 
-/// The fact in slot `n` of a chain, if there is one: of an acquisition the dependencies, oldest first, and then the marks of
-/// the new lock; of an opening the marks of the held locks, oldest first.
+/// The fact in slot `n` of a chain, if there is one: of an acquisition the dependencies, oldest first, and then the
+/// marks of the new lock; of an opening the marks of the held locks, oldest first.
 #[inline(always)]
 pub fn fact_at(chain: &Chain, n: usize) -> Option<Fact>
     ensures { result ≡ chain_fact chain.now n }
@@ -46,8 +46,8 @@ pub fn fact_at(chain: &Chain, n: usize) -> Option<Fact>
     }
 }
 
-/// The place of the held lock by which the fact in slot `n` of a chain is given, counted from the oldest; None where it is the
-/// lock that the chain takes.
+/// The place of the held lock by which the fact in slot `n` of a chain is given, counted from the oldest; None if it is
+/// the lock that the chain takes.
 pub fn held_of(chain: &Chain, n: usize) -> Option<usize>
     ensures { result ≡ slot_held chain.now n }
 {
@@ -125,7 +125,7 @@ fn enabled(irq: Irq, read: bool) -> Mark
     Mark::Enabled { irq, read }
 }
 
-// The mark on the key, where it is given.
+// The mark on the key, if it is given.
 fn mark_where(given: bool, key: KeyId, mark: Mark) -> Option<Fact>
     ensures { result ≡ (if given then Some (Fact.Marked key mark) else None) }
 {

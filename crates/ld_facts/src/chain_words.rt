@@ -61,8 +61,7 @@ impl FactWords {
         }
     }
 
-    /// Takes the words of a chain in place of those that are here. The chain's keys are below `keys`, which is at most
-    /// 256.
+    /// Replaces the words with those of a chain. The chain's keys are below `keys`, which is at most 256.
     pub fn set_to(&mut self, chain: &Chain, keys: u16)
         requires few { keys ≤ MAX_KEYS }
         requires below { ChainKeysBelow keys chain.now }
@@ -86,7 +85,7 @@ impl FactWords {
         self.len
     }
 
-    /// The number of the word at place `i` and its bits, or None where there is none.
+    /// The number of the word at place `i` and its bits, or None if there is none.
     pub fn get(&self, i: usize) -> Option<(usize, u64)>
         ensures { result ≡ slice_get self.now i }
     {
@@ -99,7 +98,6 @@ impl FactWords {
 }
 
 impl FactWords {
-    // Leaves no words.
     fn clear(&mut self)
         ensures { self.new ≡ [] }
     {
@@ -156,7 +154,7 @@ impl FactWords {
         }
     }
 
-    // Adds a fact's bit, where there is a fact.
+    // Adds a fact's bit, if there is a fact.
     #[inline(always)]
     fn add_if(&mut self, fact: Option<Fact>, keys: u16)
         requires room { length self.old < MAX_WORDS }
@@ -200,7 +198,6 @@ impl FactWords {
         }
     }
 
-    // Adds bits of a word.
     #[inline(always)]
     fn add_bits(&mut self, word: usize, bits: u64)
         requires room { length self.old < MAX_WORDS }
@@ -220,7 +217,7 @@ impl FactWords {
         }
     }
 
-    // Adds a word that is not among these.
+    // Adds a word that isn't here yet.
     fn push(&mut self, word: u16, bits: u64)
         requires room { length self.old < MAX_WORDS }
         requires low { word < 64 * SEEN_WORDS }
@@ -236,7 +233,7 @@ impl FactWords {
         bits::insert(&mut self.seen, usize::from(word));
     }
 
-    // Adds bits to a word that is among these.
+    // Adds bits to a word that is already here.
     fn unite(&mut self, word: u16, bits: u64)
         requires known { HasWord self.old word }
         ensures bits { UnitesPair self.old self.new word bits }
@@ -247,7 +244,7 @@ impl FactWords {
         self.bits[i] |= bits;
     }
 
-    // The place of a word that is among these. It is sought from the last, which it mostly is.
+    // The place of a word that is here. The search begins at the last word, which it usually is.
     fn find(&self, word: u16) -> usize
         requires { HasWord self.now word }
         ensures { StandsAt self.now word result }
@@ -260,7 +257,8 @@ impl FactWords {
     }
 }
 
-// The run of a key's marks with that of a fact, where there is one and it is a mark. Each mark has its place among the nine.
+// The run of a key's marks with that of a fact, if there is one and it is a mark. Each mark has its place among the
+// nine.
 fn with_mark(run: u64, fact: Option<Fact>) -> u64
     requires short { run < 2 ^ RUN_LEN }
     ensures short { result < 2 ^ RUN_LEN }

@@ -91,7 +91,7 @@ impl Dependency {
         usize::from(self.to) * 4 + kind_number(self.kind)
     }
 
-    // The one from the key that stands at that place of the key's row.
+    // The one from the key that is at that place of the key's row.
     pub(crate) fn at(from: u16, n: usize) -> Dependency
         requires from { from < MAX_KEYS }
         requires at { n < MAX_KEYS * 4 }
@@ -117,7 +117,7 @@ impl Default for Dependency {
     }
 }
 
-// The key that stands at the place, or 0 where none does.
+// The key at the place, or 0 if there is none.
 fn key_at(keys: &[u16], place: u16) -> u16
     ensures { result ≡ slice_index keys.now place }
 {

@@ -28,9 +28,9 @@ impl Fact {
         }
     }
 
-    /// The number of the fact among all those about keys below `keys`, which is at most `MAX_MANY`: below 264,448 for 256
-    /// keys, and below 268,509,184 for the most. The dependencies come first. That the fact's keys are below `keys` is the
-    /// caller's condition.
+    /// The number of the fact among all those about keys below `keys`, which is at most `MAX_MANY`: below 264,448 for
+    /// 256 keys, and below 268,509,184 for the most. The dependencies come first. The caller makes sure that the fact's
+    /// keys are below `keys`.
     pub fn number(self, keys: u16) -> usize
         requires few { keys ≤ MAX_MANY }
         requires below { FactBelow keys self }
@@ -107,7 +107,7 @@ fn mark_number(keys: u16, key: u16, mark: Mark) -> usize
     first_mark(keys, key) + mark_index(mark)
 }
 
-// The number of the bit of a key's first mark. The nine marks of a key stand in a row.
+// The number of the bit of a key's first mark. The nine marks of a key are next to each other.
 pub(crate) fn first_mark(keys: u16, key: u16) -> usize
     requires few { keys ≤ MAX_MANY }
     requires key { key < keys }

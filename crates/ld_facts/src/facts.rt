@@ -44,8 +44,8 @@ impl Model for Facts {
 }
 
 impl Facts {
-    /// No facts about the keys below `keys`, which is at most `MAX_MANY`: 34 MB of bits there. It fails only where memory is
-    /// refused.
+    /// No facts about the keys below `keys`, which is at most `MAX_MANY`: then the bits take 34 MB. It fails only if
+    /// memory is refused.
     pub fn new(alloc: Global, keys: u16) -> Result<Facts, AllocError>
         requires { keys ≤ MAX_MANY }
         ensures keys { IfOk result (λ f. f.keys ≡ keys) }
@@ -71,21 +71,21 @@ impl Facts {
         self.keys
     }
 
-    /// Whether the fact is among the facts. False where a key isn't below the bound.
+    /// Whether the fact is among the facts. False if a key isn't below the bound.
     pub fn has(&self, fact: Fact) -> bool
         ensures { IsTrue result ↔ HasFact self.now fact }
     {
         fact.is_below(self.keys) && bits::has(&self.bits, fact.number(self.keys))
     }
 
-    /// Whether the dependency is among the facts. False where a key isn't below the bound.
+    /// Whether the dependency is among the facts. False if a key isn't below the bound.
     pub fn has_dep(&self, from: u16, to: u16, kind: Kind) -> bool
         ensures { IsTrue result ↔ HasFact self.now (Fact.Dependency from to kind) }
     {
         self.has(Fact::Dependency { from, to, kind })
     }
 
-    /// Whether the key has the mark. False where the key isn't below the bound.
+    /// Whether the key has the mark. False if the key isn't below the bound.
     pub fn has_mark(&self, key: u16, mark: Mark) -> bool
         ensures { IsTrue result ↔ HasFact self.now (Fact.Marked key mark) }
     {
@@ -117,7 +117,7 @@ impl Facts {
         self.keys == other.keys && bits::same(&self.bits, &other.bits)
     }
 
-    /// Adds a fact about keys below the bound, and answers whether it is new. Where it isn't, nothing changes.
+    /// Adds a fact about keys below the bound, and returns whether it is new. If it isn't, nothing changes.
     pub fn add(&mut self, fact: Fact) -> bool
         requires { FactBelow self.old.keys fact }
         ensures keys { self.new.keys ≡ self.old.keys }
@@ -131,7 +131,7 @@ impl Facts {
         self.add_bit(n)
     }
 
-    /// Adds the facts of a chain whose keys are below the bound, and answers whether one of them is new. Where none is,
+    /// Adds the facts of a chain whose keys are below the bound, and returns whether one of them is new. If none is,
     /// nothing changes.
     pub fn add_chain(&mut self, chain: &Chain) -> bool
         requires { ChainKeysBelow self.old.keys chain.now }
@@ -168,7 +168,7 @@ impl Facts {
         self.bits.len()
     }
 
-    /// The facts' bits of word `n`. None exactly where `n` isn't below the number of words.
+    /// The facts' bits of word `n`. None exactly if `n` isn't below the number of words.
     pub fn word(&self, n: usize) -> Option<u64>
         ensures value { result ≡ slice_get self.now.words n }
         ensures none { IsNone result ↔ (word_total self.now.keys ≤ n) }
@@ -176,7 +176,8 @@ impl Facts {
         self.bits.get(n).copied()
     }
 
-    /// Adds the facts that bits of word `n` stand for. There is such a word, and none of the bits is past the last one.
+    /// Adds the facts that bits of word `n` stand for. There has to be such a word, and none of the bits may be past
+    /// the last one.
     pub fn unite_word(&mut self, n: usize, bits: u64)
         requires below { n < word_total self.old.keys }
         requires none_past { NonePast self.old.keys (n, bits) }
@@ -225,7 +226,7 @@ impl Facts {
         bits::first_between(&self.bits, n, keys * keys * 4)
     }
 
-    // Sets a bit, and answers whether it is new.
+    // Sets a bit, and returns whether it is new.
     fn add_bit(&mut self, n: usize) -> bool
         requires { n < bit_total self.old.keys }
         ensures sets { SetsBit self.old self.new n }

@@ -1,5 +1,5 @@
-//! Places, over which the tables go: a key together with whether the letter of arrival is R. A set of places is a row
-//! of bits.
+//! Places, by which the tables are indexed: a key together with whether the letter of arrival is R. A set of places is
+//! a row of bits.
 
 ghost use Rattle.std.specs.Prelude.{◌≡◌, ◌<◌};
 ghost use Rattle.ld_facts.specs.Inside.Places.{place};

@@ -21,7 +21,7 @@ module _ (facts : FactParts) (keys : List ℕ) where
     exact = λ x. ((λ h. absurd (none x h)), (λ h. absurd (let l = h.1 in omega arith)));
   }
 
-  -- of one number more there is one fact
+  -- one more number has one fact
   module _ (now : FactParts) (n : ℕ) (was : TakenOver facts now keys n) (x : Fact) (below : FactBelow (length keys) x)
       (number : fact_number (length keys) x ≡ n) where
     pub TakenOver-known : ¬ HasFact facts (fact_by (slice_index keys) x) → TakenOver facts now keys (n + 1)

@@ -1,4 +1,4 @@
--- Clean facts, told by places: no way leads from where a link arrives to where one of the same state leaves.
+-- Clean facts, by places: no way leads from where a link arrives to where one of the same state leaves.
 use Rattle.std.proofs.Common.{◌≡◌, ℕ, ◌<◌, ◌⊎◌, ◌↔◌, refl, ap, sym, ◌∙◌, subst, inl, inr, Bool, true, false}
 use Rattle.ld_trace.specs.declared.event.Irq.{Irq}
 use Rattle.ld_task.specs.declared.kind.Kind.{Kind}

@@ -68,7 +68,7 @@ OnCircle-by_table facts table few ways d has targets are =
       (λ (q, leaves, target). iff.1 (q, (comes q).0 ((are q).0 target), leaves)),
     )
 
--- links that a dependency joins, told by the rows of its sources and targets
+-- links that a dependency joins, by the rows of its sources and targets
 pub JoinsLinks-iff : (facts : FactParts) (table : List (List ℕ)) (ends : Ends) →
     ((p q : ℕ) → (reaches table p q ≡ true) ↔ Way (Leads (DependenciesOf (HasFact facts))) p q) → AreEnds (HasFact facts) ends →
     (d : Arrow) (sources targets : List ℕ) → AreSpan table d sources targets →

@@ -1,4 +1,4 @@
--- The ends of links by state, and what one mark more does to them.
+-- The ends of links by state, and what one more mark does to them.
 use Rattle.std.proofs.Common.{◌≡◌, ℕ, zero, suc, ◌<◌, ◌⊎◌, ◌↔◌, List, [], length, get_or, set, refl, ap, sym, ◌∙◌, subst, inl, inr, arith, Bool, true, false, get_or-set_same, get_or-set_other}
 use Rattle.std.proofs.lemmas.Bool.{cases_eq}
 use Rattle.ld_trace.specs.declared.event.Irq.{Irq}
@@ -73,7 +73,7 @@ none_arrives key mark other irq p (a, r, e, at) = other (sym (ap (λ x. form (ma
 none_leaves : (key : ℕ) (mark : Mark) → ¬ (form mark ≡ 2) → (irq : Irq) (q : ℕ) → LinkLeaves (Is key mark) irq q → ⊥
 none_leaves key mark other irq q (b, s, e, leaves) = other (sym (ap (λ x. form (mark_of x)) e))
 
--- ---- the ends with a mark more
+-- ---- the ends with one more mark
 unchanged : (b : Bool) (P : Type 0) → ¬ P → (b ≡ true) ↔ ((b ≡ true) ⊎ P)
 unchanged b P never = ((λ h. inl h), (λ h. elim h [ inl o ↦ o | inr n ↦ absurd (never n) ]))
 

@@ -19,7 +19,7 @@ use Rattle.ld_facts.specs.declared.fact.Fact.TheVariants.{Marked}
 use Rattle.ld_graph.proofs.Links.{ClosesWith-iff, arrow-is}
 use Rattle.ld_graph.proofs.CleanPlaces.{arrows_within}
 
--- ---- the test of the four: an arrow by E follows either, one by S only what arrives by N
+-- ---- the test of the four: an arrow that leaves by E follows either, one that leaves by S only what arrives by N
 abbrev Meets : Bool → Bool → Bool → Bool → Type 0
 Meets n r e s = ((e ≡ true) × (n ≡ true)) ⊎ ((e ≡ true) × (r ≡ true)) ⊎ ((s ≡ true) × (n ≡ true))
 

@@ -56,7 +56,7 @@ module _ (facts : FactParts) (table : List (List ℕ)) (ways : (p q : ℕ) → (
   strong : (a : Arrow) (rest : List Arrow) → StrongWalk (Avoids facts done) a rest → StrongWalk (DependenciesOf (HasFact facts)) a rest
   strong = StrongWalk-more (Avoids facts done) (DependenciesOf (HasFact facts)) (λ d h. h.0)
 
-  -- such a walk that x may follow leads to the place, where x arrives there
+  -- such a walk that x may follow leads to the place, if x arrives there
   leads_to : (x : Arrow) → Avoids facts done x → arrival x ≡ place → (d : Arrow) (rest : List Arrow) → StrongWalk (Avoids facts done) d rest →
       MayFollow (last d rest) x → has_bit inside (arrival d) ≡ true
   leads_to x has arrives d rest walk follows =
@@ -86,11 +86,11 @@ module _ (facts : FactParts) (table : List (List ℕ)) (ways : (p q : ℕ) → (
   reached_round d rest closed arrives =
       reached_along d (StrongWalk-head (Avoids facts done) d rest closed.0) arrives (inside_place d rest closed arrives) d rest 0 (length rest) (sym arrives) closed.0 closed.1 (omega arith)
 
-  -- where the place isn't inside there is no circle
+  -- if the place isn't inside, there is no circle
   pub LeastThrough-outside : (n : ℕ) → has_bit inside place ≡ false → LeastThrough facts done place n
   LeastThrough-outside n off d rest closed arrives = absurd (let on = inside_place d rest closed arrives in cc)
 
-  -- where the search finds no goal in fewer steps
+  -- if the search finds no goal in fewer steps
   pub LeastThrough-searched : (goal : List ℕ) (n : ℕ) → has_bit goal place ≡ true → ((m : ℕ) → m < n → NoGoalBy facts inside goal place m) →
       LeastThrough facts done place n
   LeastThrough-searched goal n is_goal missed d rest closed arrives = elim (cases_lt (suc (length rest)) n) [
@@ -98,7 +98,7 @@ module _ (facts : FactParts) (table : List (List ℕ)) (ways : (p q : ℕ) → (
     | inr longer ↦ longer
   ]
 
--- ---- one place more is done
+-- ---- one more place is done
 -- a walk arrives at a place that is done, or avoids them
 meets_or_avoids : (facts : FactParts) (done : List ℕ) (a : Arrow) (rest : List Arrow) → StrongWalk (DependenciesOf (HasFact facts)) a rest →
     StrongWalk (Avoids facts done) a rest ⊎ ((d : Arrow) × Contains (a ∷ rest) d × (has_bit done (arrival d) ≡ true))
@@ -114,7 +114,7 @@ meets_or_avoids facts done a (b ∷ rest) w = elim (cases_Bool (has_bit done (ar
   ]
 ]
 
--- each circle that arrives at a place that is done has so many members or more
+-- each circle that arrives at a place that is done has at least this many members
 abbrev pub LeastDone : FactParts → List ℕ → ℕ → Type 0
 LeastDone facts done n = (walk : List Arrow) → IsCircle (HasFact facts) walk → (d : Arrow) → Contains walk d → has_bit done (arrival d) ≡ true →
     n ≤ length walk
@@ -139,7 +139,7 @@ arrows_below facts few = record {
   ends = λ d h. let l = h.0.1 in omega arith;
 }
 
--- where all places are done, each circle has so many members or more
+-- if all places are done, each circle has at least this many members
 place-lt : (key : ℕ) (at_r : Bool) → key < MAX_KEYS → place key at_r < PLACES
 place-lt key true l = omega arith
 place-lt key false l = omega arith

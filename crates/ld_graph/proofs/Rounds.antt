@@ -100,7 +100,7 @@ spot_of-lt : (key keys : ℕ) (at_r : Bool) → key < keys → spot_of key at_r 
 spot_of-lt key keys true l = omega arith
 spot_of-lt key keys false l = omega arith
 
--- from each place that it meets the rest of a way leads on, and is shorter
+-- from each place that it meets the rest of a way continues, and is shorter
 behind : (In : Arrow → Type 0) (Goal : ℕ → Type 0) (p : ℕ) (way : List Arrow) → LeadsInto In Goal p way →
     (k d : ℕ) → k < length way →
     (y : Arrow) × (get_or (map spot way) k d ≡ spot y) ×
@@ -164,7 +164,7 @@ module _ (In : Arrow → Type 0) (keys : ℕ) (below : (d : Arrow) → In d → 
         (λ other (r, left, on). let n = least (a ∷ other) (omega arith, (r, left, (goes.0, goes.1, on))) in omega arith) in
         omega arith
 
-    -- and fewer, where l may not follow itself
+    -- and fewer, if l may not follow itself
     pub LeadsRound-fewer : l.end < keys → ¬ Leaves l (arrival l) → (way : List Arrow) → LeadsRound In l way →
         LeastRound In l (length way) →
         length way < 2 * keys
@@ -174,7 +174,7 @@ module _ (In : Arrow → Type 0) (keys : ℕ) (below : (d : Arrow) → In d → 
         others [] (q, leaves, same) = absurd (apart (subst (Leaves l) (sym same) leaves))
         others (b ∷ other) into = least (b ∷ other) (omega arith, into)
 
-    -- where each has more, there is none
+    -- if each has more, there is none
     pub no_round : LeastRound In l (2 * keys + 1) → (way : List Arrow) → ¬ LeadsRound In l way
     no_round long way = none_by (length way) way (omega arith)
       where
@@ -188,7 +188,7 @@ module _ (In : Arrow → Type 0) (keys : ℕ) (below : (d : Arrow) → In d → 
             let m = long way leads in absurd (omega arith)
 
 -- ---- closed walks
--- a closed walk is its first alone, or leads back to it
+-- a closed walk is only its first member, or leads back to it
 ClosedWalk-rounds : (In : Arrow → Type 0) (d : Arrow) (rest : List Arrow) → ClosedWalk In d rest →
     MayFollow d d ⊎ LeadsRound In d rest
 ClosedWalk-rounds In d [] (has, closes) = inl closes
@@ -201,7 +201,7 @@ ClosedWalk-from_round In within d has (b ∷ rest) round =
     let (walk, closes, starts) = LeadsRound-walk In within d (within.starts d has) (within.ends d has) b rest round in
     ((has, starts, walk), closes)
 
--- what is put behind d: nothing where d may follow itself, else a shortest way back to it
+-- what is appended to d: nothing if d may follow itself, otherwise a shortest way back to it
 abbrev pub Closes : (Arrow → Type 0) → Arrow → List Arrow → Type 0
 Closes In d rest = (MayFollow d d × (rest ≡ [])) ⊎
     ((¬ MayFollow d d) × LeadsRound In d rest × LeastRound In d (length rest))
@@ -227,7 +227,7 @@ module _ (Has : Fact → Type 0) (within : IsWithin (DependenciesOf Has)) (d : A
     ];
   }
 
-  -- where no way leads back to d, and it may not follow itself, it is on no circle
+  -- if no way leads back to d, and it may not follow itself, it is on no circle
   pub no_circle_through : ¬ MayFollow d d → ((way : List Arrow) → ¬ LeadsRound In d way) → ¬ OnCircle Has d
   no_circle_through apart none_back on =
       let (rest, closed) = ClosedWalk-from_circle Has d on in
@@ -267,7 +267,7 @@ module _ (facts : FactParts) (table : List (List ℕ))
       reached_along p q (arrival a) (suc n) k way leaves
       (m, r, ((a, has, out, refl), inside_from (arrival a) q way leaves goes)) goes (omega arith)
 
-  -- where no goal is found in fewer steps
+  -- if no goal is found in fewer steps
   pub LeastRound-searched : (goal : List ℕ) (n : ℕ) → ((q : ℕ) → Leaves l q → has_bit goal q ≡ true) →
       ((m : ℕ) → m < n → NoGoalBy facts inside goal (arrival l) m) → LeastRound Found l n
   LeastRound-searched goal n goals missed [] (some, leads) = absurd (omega arith)

@@ -20,7 +20,7 @@ use Rattle.ld_graph.specs.declared.search.Step.{Step}
 use Rattle.ld_facts.specs.NumberLaws.{kind_of, kind_of-number, kind_number-lt}
 use Rattle.ld_graph.proofs.Paths.{place_parts}
 
--- ---- an element more
+-- ---- one more element
 pub slice_get_pushed : {X : Type 0} (xs : List X) (x : X) (j : ℕ) (y : X) → slice_get xs j ≡ Some y → slice_get (xs ++ x ∷ []) j ≡ Some y
 slice_get_pushed [] x j y h = absurd (let e : ◌≡◌ {A = _} _ (Some y) = h in cc)
 slice_get_pushed (z ∷ xs) x zero y h = h
@@ -41,7 +41,7 @@ slice_get_push_cases (z ∷ xs) x (suc j) y h =
       | inr (e, s) ↦ inr (ap suc e, s)
     ]
 
--- ---- one step more
+-- ---- one more step
 pub Takes-none : (facts : FactParts) (i : ℕ) (found : SearchParts) → Takes facts i found found
 Takes-none facts i found = record {
   kept = λ j step h. h;
@@ -84,7 +84,7 @@ module _ (facts : FactParts) (within goal : List ℕ) (i : ℕ) (step : Step) (o
   }
 
 -- ---- the dependencies from a step, in their row
--- those that stand before n have been looked at
+-- those before n have been examined
 pub record Scans (facts : FactParts) (within goal : List ℕ) (i : ℕ) (from : Dependency) (n : ℕ) (old new : SearchParts) : Type 0 where
   pub takes : Takes facts i old new
   pub missed : Misses goal old new
@@ -109,7 +109,7 @@ row_place-lt to kind l = let k = kind_number-lt kind in omega arith
 
 module _ (facts : FactParts) (within goal : List ℕ) (i : ℕ) (from : Dependency) (n : ℕ) (old mid : SearchParts)
     (scans : Scans facts within goal i from n old mid) (d : Dependency) (next : IsNextFrom facts from.to n d) where
-  -- one that stands before the next is known, or is that one
+  -- one that is before the next is known, or is that one
   known_or_next : (to : ℕ) (kind : Kind) → row_place to kind < row_place d.to d.kind + 1 → HasFact facts (Depends from.to to kind) →
       (row_place to kind < n) ⊎ ((d.to ≡ to) × (d.kind ≡ kind))
   known_or_next to kind l has = elim (cases_lt (row_place to kind) n) [
@@ -120,7 +120,7 @@ module _ (facts : FactParts) (within goal : List ℕ) (i : ℕ) (from : Dependen
     ]
   ]
 
-  -- all before it, and itself where it may follow, have been seen
+  -- all before it, and itself if it may follow, have been seen
   sees_next : (new : SearchParts) → ((q : ℕ) → has_bit mid.seen q ≡ true → has_bit new.seen q ≡ true) →
       (LeavesFrom from.to (is_s d.kind) (arrival (arrow_of from)) → has_bit within (place d.to (is_r d.kind)) ≡ true → has_bit new.seen (place d.to (is_r d.kind)) ≡ true) →
       (to : ℕ) (kind : Kind) → row_place to kind < row_place d.to d.kind + 1 → HasFact facts (Depends from.to to kind) →
@@ -183,7 +183,7 @@ module _ (facts : FactParts) (within goal : List ℕ) (i : ℕ) (from : Dependen
       | inr (same, off, was) ↦ absurd (let f : true ≡ false = off in cc)
     ]
 
--- where none is left, all has been seen
+-- if none is left, all has been seen
 pub SeesAll-scanned : (facts : FactParts) (within goal : List ℕ) (i : ℕ) (from : Dependency) (n : ℕ) (old new : SearchParts) →
     Scans facts within goal i from n old new → facts.keys ≤ MAX_KEYS → from.to < MAX_KEYS →
     ((step : Step) → slice_get old.steps i ≡ Some step → step.dependency ≡ from) →

@@ -12,7 +12,7 @@ use Rattle.ld_graph.specs.Inside.Searching.{Edge, Reached, GoesTo, SearchParts, 
 use Rattle.ld_facts.specs.declared.dependency.Dependency.{Dependency}
 use Rattle.ld_graph.specs.declared.search.Step.{Step}
 
--- ---- where steps stand
+-- ---- where steps arrive
 pub StandsAt-within : (steps : List Step) (i p : ℕ) → StandsAt steps i p → i < length steps
 StandsAt-within steps i p (step, is, stands) = slice_get_within steps i step is
 
@@ -141,12 +141,12 @@ AreSteps-next facts within goal start n first end found some are = record {
         let (h, (i, li, at)) = are.reached m p (omega arith) r in
         seen_by i p q li at edge
 
--- no goal within as many edges as there were rounds
+-- no goal is within as many edges as there were rounds
 pub NoGoalBy-steps : (facts : FactParts) (within goal : List ℕ) (start n first end next : ℕ) (found : SearchParts) →
     AreSteps facts within goal start n first end next found → (m : ℕ) → m ≤ n → NoGoalBy facts within goal start m
 NoGoalBy-steps facts within goal start n first end next found are m l = λ k q lk r. are.missed q (are.reached k q (omega arith) r).0
 
--- nor any further on, where all steps have been expanded
+-- nor any further on, if all steps have been expanded
 pub NoGoalBy-done : (facts : FactParts) (within goal : List ℕ) (start n first end : ℕ) (found : SearchParts) →
     AreSteps facts within goal start n first end (length found.steps) found → (m : ℕ) → NoGoalBy facts within goal start m
 NoGoalBy-done facts within goal start n first end found are m = λ k q l r. are.missed q (reached k q r)
@@ -158,7 +158,7 @@ NoGoalBy-done facts within goal start n first end found are m = λ k q l r. are.
         are.seen i (StandsAt-within found.steps i p at) p q at edge
 
 -- ---- the way back
--- after so many of its steps: what is left leads back to the start, and the way goes on to where it began
+-- after some of its steps: what is left leads back to the start, and the way continues to where it began
 abbrev pub GoesBack : FactParts → List Step → (left i : ℕ) → List Arrow → ℕ → Type 0
 GoesBack facts steps left i way q = (m : ℕ) × LeadsBack facts steps left i m × GoesTo (DependenciesOf (HasFact facts)) m way q
 

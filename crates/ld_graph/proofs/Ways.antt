@@ -37,7 +37,7 @@ Way-through E p l t q before e after =
       | inr way ↦ Way-then_path E p t q (Way-step E p l t way e) after
     ]
 
--- ---- one edge more, from each place of some to the place t
+-- ---- one more edge, from each of some places to the place t
 module _ (E E' : ℕ → ℕ → Type 0) (L : ℕ → Type 0) (t : ℕ)
     (edges : (p q : ℕ) → E' p q ↔ (E p q ⊎ (L p × (t ≡ q)))) where
   -- one of the places is p, or is reached from it
@@ -104,7 +104,7 @@ module _ (E : ℕ → ℕ → Type 0) (table : List (List ℕ)) (ways : (p q : �
   pub IsTransitive-ways : IsTransitive table
   IsTransitive-ways p q r a b = (ways p r).1 (Way-then_path E p q r ((ways p q).0 a) (Path-from_way E q r ((ways q r).0 b)))
 
--- the steps of the set with one dependency more
+-- the steps of the set with one more dependency
 pub Leads-added : (Old New : Arrow → Type 0) (d : Arrow) → ((x : Arrow) → New x ↔ (Old x ⊎ (x ≡ d))) →
     (p q : ℕ) → Leads New p q ↔ (Leads Old p q ⊎ (Leaves d p × (arrival d ≡ q)))
 Leads-added Old New d one p q = (

@@ -48,7 +48,7 @@ NewDoublesHaveNewMarks = (old new : Fact → Bool) (irq : Irq) (a : ℕ) (l : Ar
     IsDoubleBy (In new) irq a l → IsDoubleBy (In old) irq a l ⊎ HasNewEnd old new irq l
 
 -- an inversion is one by the earlier facts, or its link has a new mark, or its walk a new member: then a first part of
--- the walk ends before it and a last part begins behind it
+-- the walk ends before it and a last part begins after it
 abbrev pub NewInversionsHaveNewParts : Type 0
 NewInversionsHaveNewParts =
     (old new : Fact → Bool) (irq : Irq) (a b : ℕ) (d : Arrow) (rest : List Arrow) (l : Arrow) →

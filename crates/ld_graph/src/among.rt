@@ -12,7 +12,7 @@ use ld_facts::{Fact, Facts};
 use std::alloc::{AllocError, Global};
 
 impl Graph {
-    /// The facts that are about keys of the list alone, each key by its place there. It fails only if memory is refused.
+    /// The facts that are only about keys of the list, each key by its place there. It fails only if memory is refused.
     pub fn of_keys(alloc: Global, facts: &Facts, keys: &[u16]) -> Result<Graph, AllocError>
         requires few { length keys.now ≤ MAX_KEYS }
         ensures keys { IfOk result (λ g. g.facts.keys ≡ length keys.now) }

@@ -13,7 +13,7 @@ use std::marker::Model;
 // The most dependencies that a circle has: as many as there can be keys.
 pub(crate) const MAX_CIRCLE: usize = MAX_KEYS as usize;
 
-/// A walk of at most 256 dependencies, as `Graph::shortest_circle` answers it.
+/// A walk of at most 256 dependencies, as `Graph::shortest_circle` returns it.
 #[derive(Drop, Debug)]
 pub struct Circle {
     walk: Walk,
@@ -32,7 +32,7 @@ impl Model for Circle {
 }
 
 impl Circle {
-    // The circle of a walk that has no more members.
+    // The circle of a walk that isn't too long for one.
     pub(crate) fn of(walk: Walk) -> Circle
         requires { length walk ≤ MAX_CIRCLE }
         ensures { result ≡ walk }
@@ -59,8 +59,7 @@ impl Circle {
     }
 
     /// The dependency at place `i`, counted from 0: the key that it leads from, the key that it leads to, and its kind.
-    /// None where there is none. Both keys are below
-    /// `MAX_MANY`.
+    /// None if there is none. Both keys are below `MAX_MANY`.
     pub fn get(&self, i: usize) -> Option<(u16, u16, Kind)>
         ensures value { result ≡ option_map arrow_parts (slice_get self.now i) }
         ensures below { IfSome result (λ d. (d.0 < MAX_MANY) × (d.1 < MAX_MANY)) }

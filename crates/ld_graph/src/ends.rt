@@ -37,7 +37,7 @@ impl Ends {
         }
     }
 
-    // Takes in the ends of the links by a mark.
+    // Adds the ends of the links by a mark.
     pub(crate) fn add(&mut self, key: u16, mark: Mark)
         requires { key < MAX_KEYS }
         ensures { TakesMark self.old self.new key mark }

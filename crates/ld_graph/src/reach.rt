@@ -118,9 +118,9 @@ impl Reach {
             && (kind.begins_with_s() || self.has_way(place_of(from, true), end))
     }
 
-    // Adds a dependency, whose sources come to reach its targets, and answers how many rows were read or written for
-    // it. Only rows that change are written: those of sources that do not reach the place of arrival yet, since the
-    // others reach all targets, and of targets that are not reached yet from each place that the dependency leaves.
+    // Adds a dependency, so that its sources reach its targets, and returns how many rows were read or written for it.
+    // Only rows that change are written: those of sources that do not reach the place of arrival yet, since the others
+    // reach all targets, and of targets that are not reached yet from each place that the dependency leaves.
     pub(crate) fn add(
         &mut self,
         from: u16,
@@ -149,7 +149,7 @@ impl Reach {
     }
 }
 
-// How many rows of a table a dependency takes up: those written, and those read, which are of the place where it
+// How many rows of a table are counted for a dependency: those written, and those read, which are of the place where it
 // arrives and of the places that it leaves.
 fn rows_taken(written: &Row, from: u16, to: u16, kind: Kind) -> u64
     requires from { from < MAX_KEYS }

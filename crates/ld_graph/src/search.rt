@@ -36,7 +36,7 @@ impl Default for Step {
 }
 
 // A search from a start: its steps in the order in which they were taken, and the places that they arrive at. The first
-// step stands for the start, which has not been seen before some step comes back to it.
+// step stands for the start, which isn't seen until some step comes back to it.
 #[derive(Drop)]
 pub(crate) struct Search {
     steps: Steps,
@@ -62,7 +62,7 @@ impl Search {
         }
     }
 
-    // Begins again, where the dependency arrives.
+    // Begins again, at the place where the dependency arrives.
     fn restart(&mut self, start: Dependency)
         requires { IsOfKeys start }
         ensures steps { self.new.steps ≡ record { dependency = start; before = 0 } ∷ [] }
@@ -76,7 +76,7 @@ impl Search {
         });
     }
 
-    // Takes a step, where it arrives at a place within that was not seen, and answers whether that is a goal.
+    // Takes a step if it arrives at a place in `within` that wasn't seen, and returns whether that is a goal.
     fn visit(&mut self, within: &Row, goal: &Row, step: Step) -> bool
         requires { IsOfKeys step.dependency }
         ensures { Visits within.now goal.now step self.old self.new result }
@@ -90,7 +90,7 @@ impl Search {
         bits::has(goal, place)
     }
 
-    // Takes the steps that follow step `i`, up to the first that arrives at a goal, and answers whether there is one.
+    // Takes the steps that follow step `i`, up to the first that arrives at a goal, and returns whether there is one.
     fn expand(&mut self, facts: &Facts, within: &Row, goal: &Row, i: usize) -> bool
         requires few { facts.now.keys ≤ MAX_KEYS }
         requires within { i < length self.old.steps }
@@ -114,7 +114,7 @@ impl Search {
         false
     }
 
-    // Expands the steps from `first` to `end`, up to the first goal, and answers whether there is one.
+    // Expands the steps from `first` to `end`, up to the first goal, and returns whether there is one.
     fn round(&mut self, facts: &Facts, within: &Row, goal: &Row, first: usize, end: usize) -> bool
         requires few { facts.now.keys ≤ MAX_KEYS }
         requires order { first ≤ end }
@@ -135,7 +135,7 @@ impl Search {
     }
 
     // The length of a shortest way, of one dependency or more, from where the start arrives to a goal, through places
-    // within, if there is one shorter than the bound. Its last step is then the last of all.
+    // in `within`, if there is one shorter than the bound. Its last step is then the last of all.
     pub(crate) fn find(
         &mut self,
         facts: &Facts,
@@ -168,7 +168,7 @@ impl Search {
         None
     }
 
-    // The way from the start to the last step, which is so many dependencies long.
+    // The way from the start to the last step, which is `count` dependencies long.
     pub(crate) fn way(&self, count: usize) -> Walk
         requires short { count ≤ MAX_WALK }
         requires leads_back { (facts : FactParts) × (q : ℕ) × LeadsBack facts self.now.steps count (length self.now.steps - 1) q }

@@ -39,14 +39,12 @@ impl Steps {
         }
     }
 
-    // Leaves no steps.
     pub(crate) fn clear(&mut self)
         ensures { self.new.items ≡ [] }
     {
         self.len = 0;
     }
 
-    // How many there are.
     pub(crate) fn len(&self) -> usize
         ensures value { result ≡ length self.now.items }
         ensures fits { result ≤ MAX_STEPS }
@@ -54,7 +52,6 @@ impl Steps {
         self.len
     }
 
-    // Puts a step behind the others.
     pub(crate) fn push(&mut self, step: Step)
         requires { length self.old.items < MAX_STEPS }
         ensures items { self.new.items ≡ self.old.items ++ step ∷ [] }
@@ -64,7 +61,6 @@ impl Steps {
         self.len += 1;
     }
 
-    // The steps.
     pub(crate) fn as_slice(&self) -> &[Step]
         ensures value { result.now ≡ self.now.items }
         ensures fits { length result.now ≤ MAX_STEPS }

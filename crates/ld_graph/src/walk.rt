@@ -1,4 +1,4 @@
-//! Strong walks, as they are told.
+//! Strong walks, as they are returned.
 
 ghost use Rattle.std.specs.Prelude.{◌≡◌, ℕ, ◌<◌, ◌≤◌, [], ◌∷◌, EachIndex, IfSome, length, map, option_map, slice_get, slice_index};
 ghost use Rattle.ld_trace.specs.declared.key_id.TheConstants.{MAX_MANY};
@@ -15,11 +15,11 @@ use std::marker::Model;
 // The most dependencies that a walk has: as many as there are places.
 pub(crate) const MAX_WALK: usize = PLACES;
 
-/// A walk of at most 512 dependencies, as `Graph::circle_through` and `Graph::inversion_walk` answer it. It may meet a
+/// A walk of at most 512 dependencies, as `Graph::circle_through` and `Graph::inversion_walk` return it. It may meet a
 /// key twice.
 #[derive(Drop, Debug)]
 pub struct Walk {
-    // The last first, so many of them as there are.
+    // The last first; only the first `len` are in use.
     backwards: [Dependency; MAX_WALK],
     len: usize,
 }
@@ -81,8 +81,7 @@ impl Walk {
     }
 
     /// The dependency at place `i`, counted from 0: the key that it leads from, the key that it leads to, and its kind.
-    /// None where there is none. Both keys are below
-    /// `MAX_MANY`.
+    /// None if there is none. Both keys are below `MAX_MANY`.
     pub fn get(&self, i: usize) -> Option<(u16, u16, Kind)>
         ensures value { result ≡ option_map arrow_parts (slice_get self.now i) }
         ensures below { IfSome result (λ d. (d.0 < MAX_MANY) × (d.1 < MAX_MANY)) }

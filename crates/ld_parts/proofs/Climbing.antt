@@ -1,4 +1,4 @@
--- What ranks are tested for: the greatest and the least rank of the keys with a property, and arrows by their bits.
+-- What is checked of ranks: the greatest and the least rank of the keys with a property, and arrows by their bits.
 use Rattle.std.proofs.Common.{◌≡◌, ℕ, ◌+◌, ◌/◌, ◌%◌, ◌<◌, ◌≤◌, ◌⊎◌, Bool, true, false, refl, sym, ap, ◌∙◌, subst, inl, inr, arith}
 use Rattle.std.specs.Prelude.{◌↔◌}
 use Rattle.std.proofs.lemmas.Bool.{cases_eq}
@@ -83,7 +83,7 @@ letters true false = (refl, refl)
 letters false true = (refl, refl)
 letters false false = (refl, refl)
 
--- each link climbs exactly where the greatest rank that one goes from is at most the least that one goes to
+-- each link climbs exactly if the greatest rank that one goes from is at most the least that one goes to
 pub LinksClimb-iff : (facts : FactParts) (rank : ℕ → ℕ) (irq : Irq) (greatest least : ℕ) → greatest ≤ 65535 →
     IsGreatest (IsEnabled facts irq) rank facts.keys greatest → IsLeast (IsUsed facts irq) rank facts.keys least →
     (greatest ≤ least) ↔ LinksClimb (HasFact facts) rank irq

@@ -174,7 +174,7 @@ module _ (facts : FactParts) (part : Part) (rank : ℕ → ℕ) (r : ℕ) (is : 
         (by_place.clean.1 ((IsClean-same (AmongRank Has rank r) (AmongKeys Has keys) listed).0 clean))),
   )
 
--- ---- what a part's graph says of two keys that stand at places of it
+-- ---- what a part's graph says of two keys at places of it
 module _ (facts : FactParts) (part : Part) (a b i j : ℕ) (by : AreTogether facts part a b i j) where
   pub on_circle_at : (kind : Kind) →
       OnCircle (HasFact facts) (arrow a b kind) ↔ OnCircle (HasFact part.graph.facts) (arrow i j kind)

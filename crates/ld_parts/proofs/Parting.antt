@@ -104,7 +104,7 @@ module _ (parts : List Part) (n : ℕ) (part : Part) (within : n < length parts)
   least_more circle before here s p other l other_is =
       first_more (LeastOf circle) parts n part within is before here s p l other other_is
 
-  -- a circle that the part tells is a shortest of its own
+  -- a circle that the part returns is a shortest of its own
   told_least : (circle : List Arrow) → IsToldBy part circle → LeastOf circle part
   told_least circle told other other_is =
       let least = told.shortest.least other other_is in

@@ -1,4 +1,4 @@
--- The parts of a parted graph: where keys stand, what isn't found between parts, and what is found in all of them.
+-- The parts of a parted graph: where keys are, what isn't found between parts, and what is found in all of them.
 use Rattle.std.specs.Prelude.{◌≡◌, ℕ, ◌<◌, ◌≤◌, ◌↔◌, List, [], ◌∷◌, length, get_or, All}
 use Rattle.std.proofs.Common.{refl, ap, sym, ◌∙◌, subst, inl, inr, arith}
 use Rattle.std.proofs.lemmas.Bool.{cases_lt}
@@ -26,7 +26,7 @@ use Rattle.ld_facts.specs.declared.fact.Fact.TheVariants.{Dependency, Marked}
 use Rattle.ld_parts.specs.declared.home.Home.{Home}
 use Rattle.ld_parts.specs.declared.part.Part.{Part}
 
--- ---- where keys stand
+-- ---- where keys are
 module _ (facts : FactParts) (parts : List Part) (homes : List Home) (are : IsParted facts parts homes) where
   -- a home that was read is that of the key
   pub home_read : (xs : List Home) (n key : ℕ) (home : Home) → xs ≡ homes → n ≡ key → n < length xs →
@@ -84,7 +84,7 @@ module _ (facts : FactParts) (a b : ℕ) (apart : AreApart facts a b) where
       let (rank, none, differ) = apart below.0 below.1 in
       differ (((are_found_by_rank (HasFact facts) rank none).in_inversion (arrow a b kind)).0 in_one).0
 
--- a key is apart from itself only where it isn't below the bound
+-- a key is apart from itself only if it isn't below the bound
 pub no_double_apart : (facts : FactParts) (a : ℕ) → AreApart facts a a → (irq : Irq) → ¬ IsDouble (HasFact facts) irq a
 no_double_apart facts a apart irq (l, (marks, at_a, to_a, follows)) =
     let below = subst (λ k. k < facts.keys) at_a marks.0.0 in
@@ -100,12 +100,12 @@ IsClean-none P none = record {
   inversions = λ irq a b (d, rest, l, with). none (Marked l.start (Enabled irq (is_s l.kind))) with.1.0;
 }
 
--- no circle is there where nothing is on one
+-- there is no circle if nothing is on one
 pub no_circle : (P : Fact → Type 0) → ((d : Arrow) → ¬ OnCircle P d) → (circle : List Arrow) → ¬ IsCircle P circle
 no_circle P none [] no_walk = no_walk
 no_circle P none (a ∷ rest) closed = none a (a, rest, closed, Contains-head a rest)
 
--- where a place of a list is, there is a member
+-- at a place of a list there is a member
 pub some_part : (parts : List Part) (r : ℕ) → r < length parts → Part
 some_part [] r l = absurd (omega arith)
 some_part (part ∷ parts) r l = part

@@ -9,12 +9,12 @@ use Rattle.ld_graph.specs.Walks.{OnCircle, IsShortestCircle, IsShortestFrom}
 use Rattle.ld_facts.specs.declared.fact.Fact.{Fact}
 use Rattle.ld_facts.specs.Renumbered.{AmongKeys, HasKeys, Renumbered, arrow_at}
 
--- the list has keys of this rank alone, and all those that the facts are about
+-- the list has only keys of this rank, and all those that the facts are about
 pub record ListsRank (Has : Fact → Type 0) (rank : ℕ → ℕ) (r : ℕ) (keys : List ℕ) : Type 0 where
   pub of_rank : (key : ℕ) → Contains keys key → rank key ≡ r
   pub all : (x : Fact) → AmongRank Has rank r x → HasKeys keys x
 
--- what is found by places is what is found among the keys that stand there
+-- what is found by places is what is found among the keys there
 pub record AreFoundByPlace (Has : Fact → Type 0) (keys : List ℕ) : Type 0 where
   pub on_circle : (d : Arrow) → d.start < length keys → d.end < length keys →
       OnCircle (Renumbered Has keys) d ↔ OnCircle (AmongKeys Has keys) (arrow_at keys d)

@@ -1,4 +1,4 @@
--- The law of one rank: where no arrow goes down, what is found among all facts is found among those of one rank.
+-- The law of one rank: if no arrow goes down, what is found among all facts is found among those of one rank.
 use Rattle.std.specs.Prelude.{◌≡◌, ℕ, ◌≤◌, ◌↔◌, List, [], ◌∷◌, Contains}
 use Rattle.std.proofs.Common.{refl, ap, sym, ◌∙◌, subst, arith}
 use Rattle.ld_trace.specs.declared.event.Irq.{Irq}

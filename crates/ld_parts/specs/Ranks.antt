@@ -28,16 +28,16 @@ abbrev pub IsCrowded : ℕ → (ℕ → ℕ) → ℕ → Type 0
 IsCrowded bound rank r = (keys : List ℕ) × (length keys ≡ MAX_KEYS + 1) ×
     AllPairs (λ a b. ¬ (a ≡ b)) keys × All (λ key. (key < bound) × (rank key ≡ r)) keys
 
--- the fact is about keys of this rank alone
+-- the fact is only about keys of this rank
 abbrev pub IsOfRank : (ℕ → ℕ) → ℕ → Fact → Type 0
 IsOfRank rank r (Dependency from to kind) = (rank from ≡ r) × (rank to ≡ r)
 IsOfRank rank r (Marked key mark) = rank key ≡ r
 
--- those of the facts that are about keys of this rank alone
+-- those of the facts that are only about keys of this rank
 abbrev pub AmongRank : (Fact → Type 0) → (ℕ → ℕ) → ℕ → Fact → Type 0
 AmongRank Has rank r x = Has x × IsOfRank rank r x
 
--- a shortest circle among the facts of its rank, where none of any rank is shorter
+-- a shortest circle among the facts of its rank, such that none of any rank is shorter
 pub record IsShortestOfRanks (Has : Fact → Type 0) (rank : ℕ → ℕ) (circle : List Arrow) : Type 0 where
   pub r : ℕ
   pub shortest : IsShortestCircle (AmongRank Has rank r) circle

@@ -1,4 +1,4 @@
--- Laws of renumbered facts: the keys of a list and their places stand for each other, and walks with them.
+-- Laws of renumbered facts: the keys of a list and their places may replace each other, and so may their walks.
 use Rattle.std.specs.Prelude.{◌≡◌, ℕ, zero, suc, ◌<◌, ◌↔◌, Bool, ◌==◌, if◌then◌else◌, List, [], ◌∷◌, length, get_or, map, slice_index, Contains, AllPairs}
 use Rattle.std.proofs.Common.{refl, ap, sym, ◌∙◌, subst, inl, inr, arith}
 use Rattle.std.proofs.lemmas.Bool.{cases_eq, cases_lt, eq-eqb, ne_eqb}
@@ -18,7 +18,7 @@ use Rattle.ld_graph.specs.Walks.{last, StrongWalk, ClosedWalk, OnCircle, IsCircl
 use Rattle.ld_facts.specs.declared.fact.Fact.{Fact}
 use Rattle.ld_facts.specs.declared.fact.Fact.TheVariants.{Dependency, Marked}
 
--- ---- other keys for the facts' own
+-- ---- facts with their keys replaced
 module _ (other : ℕ → ℕ) where
   last-by : (a : Arrow) (rest : List Arrow) →
       last (arrow_by other a) (map (arrow_by other) rest) ≡ arrow_by other (last a rest)
@@ -101,7 +101,7 @@ abbrev place_in : List ℕ → ℕ → ℕ
 place_in [] key = 0
 place_in (x ∷ keys) key = if x == key then 0 else suc (place_in keys key)
 
--- a key of the list stands at its place
+-- a key of the list is at its place
 abbrev StandsAt : List ℕ → ℕ → ℕ → Type 0
 StandsAt keys key n = (n < length keys) × (slice_index keys n ≡ key)
 

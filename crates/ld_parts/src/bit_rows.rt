@@ -1,9 +1,9 @@
-//! Rows of bits. That a row and a bit are below the numbers that were asked for is the caller's care; past the last word
-//! nothing is set and nothing is found.
+//! Rows of bits. The caller makes sure that a row and a bit are below the numbers that were asked for; past the last
+//! word nothing is set and nothing is found.
 
 use std::alloc::{AllocError, Global};
 
-// Rows of bits, each as long as the others.
+// Rows of bits, all of the same length.
 #[derive(Drop)]
 pub(crate) struct BitRows {
     row_words: u16,
@@ -11,7 +11,7 @@ pub(crate) struct BitRows {
 }
 
 impl BitRows {
-    // So many rows of at least so many bits, none of which is set. It fails only where memory is refused.
+    // `rows` rows of at least `bits` bits, none of which is set. It fails only if memory is refused.
     pub(crate) fn new(alloc: Global, rows: u16, bits: u16) -> Result<BitRows, AllocError> {
         let row_words = bits / 64 + 1;
         let words = vec![in alloc; 0; usize::from(rows) * usize::from(row_words)]?;
@@ -43,7 +43,6 @@ impl BitRows {
         None
     }
 
-    // A word of a row.
     fn word(&self, row: u16, i: u16) -> u64 {
         let place = self.place(row, i);
         if place < self.words.len() {
@@ -53,7 +52,7 @@ impl BitRows {
         }
     }
 
-    // Where a word of a row stands.
+    // Where a word of a row is.
     fn place(&self, row: u16, i: u16) -> usize {
         usize::from(row) * usize::from(self.row_words) + usize::from(i)
     }

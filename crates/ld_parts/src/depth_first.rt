@@ -3,8 +3,8 @@
 use crate::bit_rows::BitRows;
 use std::alloc::{AllocError, Global};
 
-// A search over nodes that goes depth first by some arrows: what it has visited, and the nodes that it has entered and not
-// yet left, each by an arrow from the one before.
+// A depth-first search over nodes by some arrows: what it has visited, and the nodes that it has entered and not yet
+// left, each by an arrow from the one before.
 #[derive(Drop)]
 pub(crate) struct DepthFirst {
     nodes: u16,
@@ -13,7 +13,7 @@ pub(crate) struct DepthFirst {
 }
 
 impl DepthFirst {
-    // Nothing is visited. It fails only where memory is refused.
+    // A search that has visited nothing yet. It fails only if memory is refused.
     pub(crate) fn new(alloc: Global, nodes: u16) -> Result<DepthFirst, AllocError> {
         Ok(DepthFirst {
             nodes,
@@ -22,8 +22,8 @@ impl DepthFirst {
         })
     }
 
-    // Visits what is reached from the root and wasn't visited before, and tells it in the order in which it is left. Each
-    // node is entered once and left once, so that twice as many steps as there are nodes are enough.
+    // Visits what is reached from the root and wasn't visited before, and returns it in the order in which it is left.
+    // Each node is entered once and left once, so twice as many steps as there are nodes are enough.
     pub(crate) fn tree(
         &mut self,
         alloc: Global,

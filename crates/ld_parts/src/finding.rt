@@ -1,4 +1,5 @@
-//! Finding ranks by which no arrow of some facts goes down. What is found is tested, by `are_ranked`, before it is used.
+//! Finding ranks by which no arrow of some facts goes down. What is found is checked, by `are_ranked`, before it is
+//! used.
 
 use crate::depth_first::DepthFirst;
 use crate::node_arrows::{NodeArrows, node_count};
@@ -7,15 +8,15 @@ use ld_facts::Facts;
 use ld_trace::MAX_KEYS;
 use std::alloc::{AllocError, Global};
 
-// Ranks by which no arrow of the facts goes down, numbered from 0 on. Keys that arrows lead round between have one rank.
-// Neighbouring parts are put together as long as they have at most 256 keys, so that there are few ranks: one for at most
-// 256 keys, and at most 63 for 8,192 where no part has more than 256. It fails only if memory is refused. No contract
-// says what is found: a caller asks `are_ranked`.
+// Ranks by which no arrow of the facts goes down, numbered from 0 on. Keys that reach each other by arrows have the
+// same rank. Neighbouring parts are put together as long as they have at most 256 keys, so that there are few ranks:
+// one for at most 256 keys, and at most 63 for 8,192 if no part has more than 256. It fails only if memory is refused.
+// No contract says what is found: a caller asks `are_ranked`.
 pub fn find_ranks(alloc: Global, facts: &Facts) -> Result<Ranks, AllocError> {
     find_ranks_of(alloc, facts, usize::from(MAX_KEYS))
 }
 
-// Such ranks, if parts with at most `most` keys are put together.
+// Such ranks, with parts put together as long as they have at most `most` keys.
 pub fn find_ranks_of(alloc: Global, facts: &Facts, most: usize) -> Result<Ranks, AllocError> {
     let keys = usize::from(facts.keys());
     let mut ranking = Ranking {
@@ -45,9 +46,9 @@ struct Ranking {
 }
 
 impl Ranking {
-    // Gives ranks to the strongly connected parts, in the order of the arrows. They are found by two searches: the first
-    // leaves a node only after all that is reached from it, so that the node that it leaves last is of a first part; what
-    // leads there by arrows is this part alone, and so on with the nodes that it left before.
+    // Gives ranks to the strongly connected parts, in the order of the arrows. They are found by two searches: the
+    // first leaves a node only after all that is reached from it, so the node that it leaves last is of a first part;
+    // only that part leads there by arrows, and so on with the nodes that it left before.
     fn add_parts(
         &mut self,
         alloc: Global,
@@ -63,7 +64,7 @@ impl Ranking {
         Ok(())
     }
 
-    // Gives a rank to the keys of a part: the last rank, or the next one where these would be too many.
+    // Gives a rank to the keys of a part: the last rank, or the next one if they would then be too many.
     fn add_part(&mut self, part: &[u16]) {
         let keys = self.ranks.len();
         let count = part

@@ -8,7 +8,7 @@ use crate::part::Part;
 use crate::ranks::Ranks;
 use std::alloc::{AllocError, Global};
 
-// Where a key stands: its part, and its place among the part's keys.
+// Where a key is: its part, and its place among the part's keys.
 #[derive(Clone, Copy)]
 pub(crate) struct Home {
     pub(crate) part: u16,

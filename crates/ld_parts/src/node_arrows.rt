@@ -1,4 +1,5 @@
-//! The arrows of some facts between nodes: one for each key, and one for each interrupt state, by way of which its links go.
+//! The arrows of some facts between nodes: one for each key, and one for each interrupt state, through which its links
+//! go.
 
 use crate::bit_rows::BitRows;
 use crate::ranks::{is_enabled, is_used};
@@ -9,7 +10,7 @@ use std::alloc::{AllocError, Global};
 // How many interrupt states there are.
 const STATES: u16 = 2;
 
-// By node, the nodes that arrows lead to from it, and those that arrows lead from to it.
+// For each node, the nodes that arrows lead to from it, and those from which arrows lead to it.
 #[derive(Drop)]
 pub(crate) struct NodeArrows {
     pub(crate) forwards: BitRows,
@@ -18,7 +19,7 @@ pub(crate) struct NodeArrows {
 
 impl NodeArrows {
     // The arrows of the facts: each dependency, and for each state one to its node from each key that is used with the
-    // state enabled, and one from its node to each key that is used in it. It fails only where memory is refused.
+    // state enabled, and one from its node to each key that is used in it. It fails only if memory is refused.
     pub(crate) fn of(alloc: Global, facts: &Facts) -> Result<NodeArrows, AllocError> {
         let nodes = node_count(facts);
         let mut arrows = NodeArrows {
@@ -31,7 +32,6 @@ impl NodeArrows {
         Ok(arrows)
     }
 
-    // Adds the dependencies.
     fn add_dependencies(&mut self, facts: &Facts) {
         let mut n = 0;
         while let Some(number) = facts.next_dependency(n) {

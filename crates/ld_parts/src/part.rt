@@ -17,7 +17,7 @@ use ld_graph::{Circle, Graph};
 use ld_trace::MAX_KEYS;
 use std::alloc::{AllocError, Global};
 
-// The keys of a rank, with the graph of the facts among them, where each key goes by its place.
+// The keys of a rank, with the graph of the facts among them, in which a key's number is its place.
 #[derive(Drop)]
 pub(crate) struct Part {
     pub(crate) keys: Vec<u16>,
@@ -25,7 +25,7 @@ pub(crate) struct Part {
 }
 
 impl Part {
-    // The part of a rank.
+    // The part of a rank, `TooTangled` if the rank has too many keys.
     fn of_rank(alloc: Global, facts: &Facts, ranks: &Ranks, rank: u16) -> Result<Part, PartingFault>
         ensures ok { IfOk result (IsPart facts.now (slice_index ranks.now) rank) }
         ensures tangled { result ≡ Err TooTangled
@@ -39,7 +39,7 @@ impl Part {
         Ok(Part { keys, graph })
     }
 
-    // A shortest circle of the part's graph, told by the keys.
+    // A shortest circle of the part's graph, with the keys themselves.
     fn shortest_circle(&self) -> Option<Circle>
         requires { MayBeTold self.now.keys.items }
         ensures none { IsNone result
@@ -68,7 +68,7 @@ pub(crate) fn parts_by_ranks(
     Ok(parts)
 }
 
-// One more than the greatest rank of a key below the bound, or 0 where there is no key.
+// One more than the greatest rank of a key below the bound, or 0 if there is no key.
 fn rank_count(keys: u16, ranks: &Ranks) -> usize
     ensures all { (key : ℕ) → key < keys → slice_index ranks.now key < result }
     ensures few { result ≤ 65_536 }
@@ -105,7 +105,7 @@ pub(crate) fn are_clean(parts: &[Part]) -> bool
     true
 }
 
-// A shortest of the circles of the parts' graphs, told by the keys.
+// A shortest of the circles of the parts' graphs, with the keys themselves.
 pub(crate) fn shortest_of(parts: &[Part]) -> Option<Circle>
     requires { All (λ part. MayBeTold part.keys.items) parts.now }
     ensures none { IsNone result

@@ -43,8 +43,8 @@ impl Model for PartedGraph {
 }
 
 impl PartedGraph {
-    /// The facts, with a graph for each of these ranks. It fails where an arrow goes down by them, where a rank has more than
-    /// 256 keys below the bound, and where memory is refused. What it takes grows with the greatest rank.
+    /// The facts, with a graph for each of these ranks. It fails if an arrow goes down by them, if a rank has more than
+    /// 256 keys below the bound, or if memory is refused. The memory that it takes grows with the greatest rank.
     pub fn by_ranks(alloc: Global, facts: Facts, ranks: &Ranks) -> Result<PartedGraph, PartingFault>
         ensures value { IfOk result (λ graph. graph ≡ facts) }
         ensures ranked { IfOk result (λ _. NoneGoesDown (HasFact facts) (slice_index ranks.now)) }
@@ -65,8 +65,8 @@ impl PartedGraph {
         })
     }
 
-    /// The facts, with a graph for each of some ranks that are found for them: keys that arrows lead round between have one
-    /// rank. It fails where more than 256 keys are so, and where memory is refused.
+    /// The facts, with a graph for each of some ranks that are found for them: keys that reach each other by arrows
+    /// have the same rank. It fails if more than 256 keys would have to have one rank, or if memory is refused.
     pub fn new(alloc: Global, facts: Facts) -> Result<PartedGraph, PartingFault>
         ensures value { IfOk result (λ graph. graph ≡ facts) }
     {
@@ -81,8 +81,8 @@ impl PartedGraph {
         &self.facts
     }
 
-    // The part in which both keys are, and their places there. None where they are in different parts or aren't both
-    // below the bound.
+    // The part in which both keys are, and their places there. None if they are in different parts or aren't both below
+    // the bound.
     fn together(&self, a: u16, b: u16) -> Option<(&Part, u16, u16)>
         ensures none { IsNone result → AreApart self.now a b }
         ensures some { IfSome result (λ found. AreTogether self.now found.0.now a b found.1 found.2) }
@@ -96,7 +96,7 @@ impl PartedGraph {
         Some((part, of_a.place, of_b.place))
     }
 
-    /// Whether the dependency is on a circle. False where it isn't among the facts.
+    /// Whether the dependency is on a circle. False if it isn't among the facts.
     pub fn on_circle(&self, from: u16, to: u16, kind: Kind) -> bool
         ensures { IsTrue result ↔ OnCircle (HasFact self.now) (arrow from to kind) }
     {
@@ -106,8 +106,8 @@ impl PartedGraph {
         }
     }
 
-    /// Whether the key is a double of the state: used in it and used with it enabled, and not by readers alone. False
-    /// where the key isn't below the bound.
+    /// Whether the key is a double of the state: used in it and used with it enabled, and not only by readers. False if
+    /// the key isn't below the bound.
     pub fn is_double(&self, irq: Irq, key: u16) -> bool
         ensures { IsTrue result ↔ IsDouble (HasFact self.now) irq key }
     {
@@ -119,7 +119,7 @@ impl PartedGraph {
 
     /// The forms of two marks that make the key a double of the state: whether the mark that it is used with the state
     /// enabled is the read form, and whether the mark that it is used in the state is. They are not both. None exactly
-    /// where the key is no double of the state. Which forms are told where several fit is left open.
+    /// if the key is no double of the state. If several forms fit, which are returned is unspecified.
     pub fn double_forms(&self, irq: Irq, key: u16) -> Option<(bool, bool)>
         ensures none { IsNone result ↔ ¬ IsDouble (HasFact self.now) irq key }
         ensures some { IfSome result (λ forms.
@@ -130,7 +130,7 @@ impl PartedGraph {
     }
 
     /// Whether `a` and `b` are an inversion of the state: a strong walk from `a` to `b` and an interrupt link from `b`
-    /// to `a`, each of which may follow the other. False where a key isn't below the bound.
+    /// to `a`, each of which may follow the other. False if a key isn't below the bound.
     pub fn is_inversion(&self, irq: Irq, a: u16, b: u16) -> bool
         ensures { IsTrue result ↔ IsInversion (HasFact self.now) irq a b }
     {
@@ -140,7 +140,7 @@ impl PartedGraph {
         }
     }
 
-    /// Whether the dependency is a member of the walk of some inversion. False where it isn't among the facts.
+    /// Whether the dependency is a member of the walk of some inversion. False if it isn't among the facts.
     pub fn in_inversion(&self, from: u16, to: u16, kind: Kind) -> bool
         ensures { IsTrue result ↔ InInversion (HasFact self.now) (arrow from to kind) }
     {
@@ -151,8 +151,8 @@ impl PartedGraph {
     }
 
     /// A shortest strong walk from `a` to `b` that makes them an inversion of the state, with the forms of the marks of
-    /// the link that it closes by. None exactly where they are no inversion of the state. Which walk and which link are
-    /// told where several are shortest is left open.
+    /// the link that it closes by. None exactly if they are no inversion of the state. If several walks are shortest,
+    /// which one is returned, and which link, is unspecified.
     pub fn inversion_walk(&self, irq: Irq, a: u16, b: u16) -> Option<InversionWalk>
         ensures none { IsNone result ↔ ¬ IsInversion (HasFact self.now) irq a b }
         ensures some { IfSome result (λ found. IsShortestInversion (HasFact self.now) irq a b
@@ -176,8 +176,8 @@ impl PartedGraph {
     }
 
     /// A shortest circle: a closed strong walk of the dependencies such that none has fewer members and no key is the
-    /// start of two. None exactly where no dependency is on a circle. Which one it is where several are shortest is
-    /// left open.
+    /// start of two. None exactly if no dependency is on a circle. If several are shortest, which one is returned is
+    /// unspecified.
     pub fn shortest_circle(&self) -> Option<Circle>
         ensures none { IsNone result ↔ ((d : Arrow) → ¬ OnCircle (HasFact self.now) d) }
         ensures some { IfSome result (λ circle. IsShortestCircle (HasFact self.now) circle) }
@@ -186,8 +186,8 @@ impl PartedGraph {
         shortest_of(&self.parts)
     }
 
-    /// A shortest of the closed strong walks that begin with the dependency. None exactly where it is on no circle, and
-    /// so where it isn't among the facts. Which walk it is where several are shortest is left open.
+    /// A shortest of the closed strong walks that begin with the dependency. None exactly if it is on no circle, and so
+    /// if it isn't among the facts. If several are shortest, which one is returned is unspecified.
     pub fn circle_through(&self, from: u16, to: u16, kind: Kind) -> Option<Walk>
         ensures none { IsNone result ↔ ¬ OnCircle (HasFact self.now) (arrow from to kind) }
         ensures some { IfSome result (λ walk.

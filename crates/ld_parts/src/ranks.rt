@@ -29,7 +29,7 @@ impl Model for Ranks {
 }
 
 impl Ranks {
-    /// Rank 0 for each key, and room for the ranks of those below `keys`. It fails only where memory is refused.
+    /// Rank 0 for each key, and room for the ranks of those below `keys`. It fails only if memory is refused.
     pub fn new(alloc: Global, keys: u16) -> Result<Ranks, AllocError>
         ensures room { IfOk result (λ ranks. length ranks ≡ keys) }
         ensures none { IfOk result (λ ranks. (key : ℕ) → slice_index ranks key ≡ 0) }
@@ -85,7 +85,7 @@ pub fn are_ranked(facts: &Facts, ranks: &Ranks) -> bool
         && links_climb(facts, ranks, Irq::Soft)
 }
 
-// Whether no dependency goes down. Words without one are passed over.
+// Whether no dependency goes down. Words without one are skipped.
 fn dependencies_climb(facts: &Facts, ranks: &Ranks) -> bool
     ensures { IsTrue result ↔ DependenciesClimb (HasFact facts.now) (slice_index ranks.now) }
 {
@@ -108,7 +108,7 @@ fn links_climb(facts: &Facts, ranks: &Ranks, irq: Irq) -> bool
     greatest_enabled(facts, ranks, irq) <= least_used(facts, ranks, irq)
 }
 
-// The greatest rank of a key that is used with the state enabled, or 0.
+// The greatest rank of a key that is used with the state enabled, or 0 if there is none.
 fn greatest_enabled(facts: &Facts, ranks: &Ranks, irq: Irq) -> u16
     ensures bound { (key : ℕ) (read : Bool) → HasFact facts.now (Fact.Marked key (Mark.Enabled irq read))
         → slice_index ranks.now key ≤ result }
@@ -125,7 +125,7 @@ fn greatest_enabled(facts: &Facts, ranks: &Ranks, irq: Irq) -> u16
     greatest
 }
 
-// The least rank of a key that is used in the state, or the greatest rank that there can be.
+// The least rank of a key that is used in the state, or the greatest rank that there can be if there is none.
 fn least_used(facts: &Facts, ranks: &Ranks, irq: Irq) -> u16
     ensures bound { (key : ℕ) (read : Bool) → HasFact facts.now (Fact.Marked key (Mark.UsedIn irq read))
         → result ≤ slice_index ranks.now key }

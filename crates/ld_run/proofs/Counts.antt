@@ -1,4 +1,4 @@
--- How many events make a chain, one event more.
+-- How many events make a chain, with one more event.
 use Rattle.std.proofs.Common.{◌≡◌, ℕ, ◌+◌, ◌<◌, length, slice_index_or, Bool, true, false, List, Some, count_by, take, slice_get, refl, ap, ◌∙◌, arith}
 use Rattle.std.specs.Int.{from_bool}
 use Rattle.std.proofs.lemmas.List.Sums.{count_by_more_yes, count_by_more_no}

@@ -1,4 +1,4 @@
--- What all workers of a board bring back together.
+-- What all workers of a board return together.
 use Rattle.std.proofs.Common.{◌≡◌, ◌⊎◌, ℕ, ◌+◌, ◌<◌, ◌≤◌, cond, Bool, List, [], ◌∷◌, ◌++◌, Option, Some, None, All, Any, Contains, IsFalse, map, slice_get, slice_index_or, length, sym, ap, ◌∙◌, subst, inl, inr, arith, eq-eqb, ne_eqb}
 use Rattle.std.proofs.lemmas.List.{append-nil}
 use Rattle.std.proofs.lemmas.Bool.{cases_eq, cases_lt, lt-ltb, le-ltb}
@@ -54,7 +54,7 @@ module _ (traces : List (List Event)) (IsMine IsOther : ℕ → Type 0) where
     )
   ]
 
--- one worker more
+-- one more worker
 pub least-push : (traces : List (List Event)) (ws : List Worked) (w : Worked) (refused : Option (ℕ × StepAt)) → LeastRefusedIs traces (SomeHasDrawn ws) refused → LeastRefusedIs traces (HasDrawn w) w.refused → LeastRefusedIs traces (SomeHasDrawn (ws ++ w ∷ [])) (earlier_refused refused w.refused)
 least-push traces ws w refused so_far its =
     least-same traces (λ i. SomeHasDrawn ws i ⊎ HasDrawn w i) (SomeHasDrawn (ws ++ w ∷ []))

@@ -41,7 +41,7 @@ module _ (op : ℕ → ℕ → ℕ) (unit : (a : ℕ) → op 0 a ≡ a) (comm : 
       ap (λ a. op a (gather op f (set xs i both))) none ∙ unit (gather op f (set xs i both)) ∙ gains xs i v both (f w) at e ∙ comm r (f w) ∙ ap (λ (u : View). op (f u) r) (sym (some-injective x w there))
   moves (x ∷ xs) (suc i) (suc j) v w both s at apart there e none = ap (op (f x)) (moves xs i j v w both s at (λ same. apart (ap suc same)) there e none)
 
-  -- a new view comes behind the others
+  -- a new view is appended
   pub comes : (vs : List View) (w : View) → gather op f (vs ++ w ∷ []) ≡ op (gather op f vs) (f w)
   comes [] w = unit_r (f w) ∙ sym (unit (f w))
   comes (x ∷ xs) w = ap (op (f x)) (comes xs w) ∙ sym (assoc (f x) (gather op f xs) (f w))

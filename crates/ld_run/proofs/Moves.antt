@@ -19,7 +19,7 @@ use Rattle.ld_run.proofs.Gather.{gains, stays, moves, comes, plus_unit, plus_com
 use Rattle.ld_facts.specs.WordLaws.{or_zero, or_assoc, bits_of-append}
 use Rattle.ld_run.proofs.WordLists.{or_unit, or_self, within_more, within_both, past_none, past_with, past_append, times_append, once_more, all_below, part_in}
 
--- each view fits, where one is changed and the words are others
+-- each view fits if one is changed and the words are others
 each_set : (keys : ℕ) (ws now : List ℕ) (vs : List View) (id : ℕ) (w : View) → ((j : ℕ) (u : View) → get_elem? vs j ≡ some u → Fits keys ws u) → ((u : View) → Fits keys ws u → Fits keys now u) → Fits keys now w
     → (j : ℕ) (u : View) → get_elem? (set vs id w) j ≡ some u → Fits keys now u
 each_set keys ws now vs id w all more mine j u e =

@@ -104,7 +104,7 @@ and_true true m n = ((λ h. (refl, eqb-true m n h)), (λ h. eq-eqb m n h.1))
 and_true false m n = ((λ h. absurd (true≢false (sym h))), (λ h. absurd (true≢false (sym h.0))))
 
 -- ---- the words of a closed board
--- the fact's bit is set in one of the first n words behind the claim word
+-- the fact's bit is set in one of the first n words after the claim word
 abbrev pub WordsHave : (keys : ℕ) → List ℕ → (n : ℕ) → Fact → Type 0
 WordsHave keys ws n x =
     FactBelow keys x × (fact_number keys x / 64 < n)
@@ -136,7 +136,7 @@ words_more keys n w ws Old New is adds so_far x =
       ]),
     )
 
--- what is read off them is what the seats have put, with all that they have seen
+-- what is read from them is what the seats have put, with all that they have seen
 module _ (keys : ℕ) (ss : List Seat) (ws : List ℕ) (knows : Knows keys (gathered ss) ws) (facts : FactParts) (same : (x : Fact) → HasFact facts x ↔ (FactBelow keys x × (bit_at (slice_index ws (fact_number keys x / 64 + 1)) (fact_number keys x % 64) ≡ 1))) where
   has_put : (x : Fact) → HasFact facts x ↔ PairsHave keys (gathered ss).put x
   has_put x =

@@ -24,7 +24,7 @@ module _ (traces : List (List Event)) (facts : FactParts) where
     (λ (k, t, l, is, has). let at = slice_get_read traces (length traces) k t refl l (sym is) in (k, t, tt, at, (law t (well k t tt at)).1 has)),
   )
 
-  -- where all are well formed their facts are those of the traces
+  -- if all are well formed, their facts are those of the traces
   pub completes : (workers : ℕ) → TraceFactsAreTheChains → BeginningsKeepTheirChains → IsCrew workers → length traces ≤ MAX_TRACES → IsTally traces facts None → CompletesRun traces workers facts
   completes workers chain_facts keep crew few tally = record {
     crew = crew;
@@ -41,7 +41,7 @@ module _ (traces : List (List Event)) (facts : FactParts) where
   length_take (x ∷ xs) zero = omega arith
   length_take (x ∷ xs) (suc k) = let r = length_take xs k in omega (arith, r)
 
-  -- or else the first that isn't was found
+  -- otherwise the first that isn't was found
   pub first_refused : (trace : ℕ) (first : StepAt) → IsTally traces facts (Some (trace, first)) → IsFirstRefused traces trace first
   first_refused trace first tally =
       let least = tally.refused_is in

@@ -129,7 +129,7 @@ gathered_puts keys start now t n Q same gathered = PutsOnly-more keys start now 
 pub gathered_knows : (keys : ℕ) (start now : View) (t : List Event) (n : ℕ) (Q : Fact → Type 0) → AreSame (ChainsHave (chains (take n t))) Q → HasGathered keys start now t n → Holds (KnowsFact keys now) Q
 gathered_knows keys start now t n Q same gathered x h = gathered.knows x ((same x).1 h)
 
--- nothing is refused where the worker was lost
+-- nothing is refused if the worker was lost
 pub none_in : (r : Result (Option StepFault) Lost) → IsErr r → fault_in r ≡ None
 none_in (Ok fault) is = absurd (true≢false (sym is))
 none_in (Err lost) is = refl

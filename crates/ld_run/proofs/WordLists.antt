@@ -1,4 +1,4 @@
--- Unions of bits, and how often a number stands in a list.
+-- Unions of bits, and how often a number is in a list.
 use Rattle.std.proofs.Common.{◌≡◌, ◌≢◌, ℕ, zero, suc, ◌+◌, ◌<◌, ◌≤◌, cond, eqb, List, [], ◌∷◌, ◌++◌, length, refl, sym, ap, ◌∙◌, subst, arith, bit_or, All, AllPairs, drop, get_or, drop-cons, eq-eqb, ne_eqb, Bool}
 use Rattle.std.proofs.lemmas.List.{get_or_default}
 use mathlib.Core.Logic.{dite}
@@ -36,7 +36,7 @@ times_append x (y ∷ ys) zs = let h = times_append x ys zs in omega arith
 pub once_more : (x n : ℕ) → once_below x (n + 1) ≡ once_below x n + cond (eqb x n) 1 0
 once_more x n = grind (arith, nat_tests)
 
--- where no number from n on stands in the list, each is below n
+-- if no number from n on is in the list, each is below n
 pub all_below : (xs : List ℕ) (n : ℕ) → ((x : ℕ) → n ≤ x → times x xs ≡ 0) → All (λ x. x < n) xs
 all_below [] n h k d l = absurd (omega arith)
 all_below (x ∷ xs) n h zero d l = grind (arith, nat_tests, h x)
@@ -65,7 +65,7 @@ put_step n facts p i inside =
     sym (or_assoc r k (bits_of n p)) ∙ ap (λ a. bit_or a (bits_of n p)) (or_comm r k)
     ∙ ap (λ (l : List (ℕ × ℕ)). bit_or (bits_of n l) (bits_of n p)) (ap (λ j. x ∷ drop j facts) next ∙ sym (drop-cons facts i (0, 0) inside))
 
--- a word is loaded, whose number stands in no pair before
+-- a word is loaded, whose number is in no pair before
 module _ (facts : List (ℕ × ℕ)) (i found : ℕ) (s : List (ℕ × ℕ)) (inside : i < length facts) (once : AllPairs (λ p q. p.0 ≢ q.0) facts) (seen : Within (bits_of (get_or facts i (0, 0)).0 s) found) where
   here : bits_of (get_or facts i (0, 0)).0 (((get_or facts i (0, 0)).0, found) ∷ s) ≡ found
   here = let n : ℕ = (get_or facts i (0, 0)).0 in ap (λ (b : Bool). bit_or (cond b found 0) (bits_of n s)) (eq-eqb n n refl) ∙ or_comm found (bits_of n s) ∙ seen
@@ -105,7 +105,7 @@ all_from_pairs (x ∷ xs) s each n = within_both (cond (eqb n x.0) x.1 0) (bits_
 pub pairs_from_all : (facts s : List (ℕ × ℕ)) → ((n : ℕ) → Within (bits_of n facts) (bits_of n s)) → (k : ℕ) (d : ℕ × ℕ) → k < length facts → Within (get_or facts k d).1 (bits_of (get_or facts k d).0 s)
 pairs_from_all facts s all k d l = within_through (get_or facts k d).1 (bits_of (get_or facts k d).0 facts) (bits_of (get_or facts k d).0 s) (pair_in facts k d l) (all (get_or facts k d).0)
 
--- a bit of a word stands there wherever some pair has it
+-- a bit of a word is there wherever some pair has it
 pub bit_into : (n b : ℕ) (ps : List (ℕ × ℕ)) (k : ℕ) (d : ℕ × ℕ) → k < length ps → n ≡ (get_or ps k d).0 → bit_at (get_or ps k d).1 b ≡ 1 → bit_at (bits_of n ps) b ≡ 1
 bit_into n b [] k d l same one = absurd (omega arith)
 bit_into n b (p ∷ ps) zero d l same one =
@@ -114,7 +114,7 @@ bit_into n b (p ∷ ps) zero d l same one =
 bit_into n b (p ∷ ps) (suc k) d l same one =
     omega (arith, bit_into n b ps k d (omega arith) same one, bit_at_or (cond (eqb n p.0) p.1 0) (bits_of n ps) b, bit_at-lt (cond (eqb n p.0) p.1 0) b)
 
--- a union has no bit past the last one where its parts have none
+-- a union has no bit past the last one if its parts have none
 past_or : (keys n a b : ℕ) → NonePast keys (n, a) → NonePast keys (n, b) → NonePast keys (n, bit_or a b)
 past_or keys n a b p q k l one = dite (ℕ_discrete (bit_at a k) 1) (λ e. p k l e)
     (λ other. q k l (let e = bit_at_or a b k in let la = bit_at-lt a k in let lb = bit_at-lt b k in omega (arith, e, one, la, lb, other)))
@@ -125,7 +125,7 @@ past_zero keys n k l one = absurd (let z = bit_at-zero k in omega (arith, one, z
 pub past_none : (keys n : ℕ) → NonePast keys (n, bits_of n [])
 past_none keys n = past_zero keys n
 
--- a pair more
+-- one more pair
 pub past_with : (keys n word bits : ℕ) (ps : List (ℕ × ℕ)) → NonePast keys (word, bits) → NonePast keys (n, bits_of n ps) → NonePast keys (n, bits_of n ((word, bits) ∷ ps))
 past_with keys n word bits ps p q = past_or keys n (cond (eqb n word) bits 0) (bits_of n ps)
     (dite (ℕ_discrete n word)
@@ -137,7 +137,7 @@ pub past_append : (keys n : ℕ) (ps qs : List (ℕ × ℕ)) → NonePast keys (
 past_append keys n ps qs p q = subst (λ b. NonePast keys (n, b)) (sym (bits_of-append n ps qs)) (past_or keys n (bits_of n ps) (bits_of n qs) p q)
 
 -- ---- pairs of which some are put
--- what is in a word stands in a pair of it
+-- what is in a word is in a pair of it
 pub within_here : (n a b : ℕ) (s : List (ℕ × ℕ)) → Within a b → Within a (bits_of n ((n, b) ∷ s))
 within_here n a b s h = subst (λ (t : Bool). Within a (bit_or (cond t b 0) (bits_of n s))) (sym (eq-eqb n n refl)) (within_more a b (bits_of n s) h)
 

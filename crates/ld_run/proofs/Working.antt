@@ -53,7 +53,7 @@ module _ (traces : List (List Event)) (IsMine IsOther : ℕ → Type 0) (same : 
     (λ (i, t, mine, at, has). (i, t, (same_one i t at).1 mine, at, has)),
   )
 
--- one that is refused, where the first is
+-- one that is refused, if the first is
 pub refused_of : (traces : List (List Event)) (IsMine : ℕ → Type 0) (refused : Option (ℕ × StepAt)) → LeastRefusedIs traces IsMine refused → IfSome refused (IsRefused traces IsMine)
 refused_of traces IsMine None well = tt
 refused_of traces IsMine (Some found) least = least.0
@@ -63,7 +63,7 @@ pub refused-more : (traces : List (List Event)) (IsMine IsOther : ℕ → Type 0
 refused-more traces IsMine IsOther up None is = tt
 refused-more traces IsMine IsOther up (Some found) is = record { refused = is.refused; is_mine = up found.0 is.is_mine; at = is.at; fault = is.fault }
 
--- ---- one trace more, behind the others
+-- ---- one more trace, after the others
 module _ (traces : List (List Event)) (drawn : List ℕ) (n : ℕ) (t : List Event) (here : slice_get traces n ≡ Some t) where
   this_one : (u : List Event) (i : ℕ) → n ≡ i → slice_get traces i ≡ Some u → t ≡ u
   this_one u i is at = some_same (sym here ∙ ap (slice_get traces) is ∙ at)
@@ -97,7 +97,7 @@ module _ (traces : List (List Event)) (drawn : List ℕ) (n : ℕ) (t : List Eve
   )
   least-more behind None None well whole = λ i u mine at. elim (Contains-cases n i drawn mine) [ inr m ↦ well i u m at | inl is ↦ subst IsWellFormed (this_one u i is at) whole ]
 
--- ---- a worker that goes on
+-- ---- a worker that continues
 -- the numbers drawn were claimed and the traces of their places walked; the number was claimed last
 pub record IsWorking (keys : ℕ) (traces : List (List Event)) (before now : View) (drawn : List ℕ) (number : ℕ) (refused : Option (ℕ × StepAt)) : Type 0 where
   pub claimed : now.claimed ≡ number ∷ (drawn ++ before.claimed)

@@ -21,9 +21,9 @@ pub record CompletesRun (traces : List (List Event)) (workers : ℕ) (facts : Fa
   pub well_formed : All IsWellFormed traces
   pub facts_are : AreSame (HasFact facts) (TracesHave traces)
 
--- the run of this many workers over these traces was refused: for the number of workers; for the number of traces; by the
--- first trace that isn't well formed, with its first event that isn't allowed; for want of memory; or because the facts
--- differ, which they only do if all traces are well formed
+-- the run of this many workers over these traces was refused: for the number of workers; for the number of traces; by
+-- the first trace that isn't well formed, with its first event that isn't allowed; because memory was refused; or
+-- because the facts differ, which they only do if all traces are well formed
 abbrev pub StopsRun : List (List Event) → ℕ → RunFault → Type 0
 StopsRun traces workers BadWorkers = ¬ IsCrew workers
 StopsRun traces workers TooManyTraces = IsCrew workers × (MAX_TRACES < length traces)

@@ -15,15 +15,15 @@ pub record CompletesSurvey (traces : List (List Event)) (facts : FactParts) : Ty
   pub well_formed : All IsWellFormed traces
   pub facts_are : AreSame (HasFact facts) (TracesHave traces)
 
--- it was refused: by the first trace that isn't well formed, with its first event that isn't allowed; for want of memory; or
--- because the keys don't come apart, which is only asked of well-formed traces
+-- it was refused: by the first trace that isn't well formed, with its first event that isn't allowed; because memory
+-- was refused; or because the keys can't be split, which is only tried for well-formed traces
 abbrev pub StopsSurvey : List (List Event) → SurveyFault → Type 0
 StopsSurvey traces (Refused trace place fault) =
     IsFirstRefused traces trace (record { fault = fault; place = place })
 StopsSurvey traces TooTangled = All IsWellFormed traces
 StopsSurvey traces Memory = ⊤
 
--- why facts have no parts, as why the survey isn't completed
+-- the reason why facts have no parts, as a reason why the survey isn't completed
 abbrev pub parting_fault : PartingFault → SurveyFault
 parting_fault P.TooTangled = TooTangled
 parting_fault P.Memory = Memory

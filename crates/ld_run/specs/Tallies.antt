@@ -26,8 +26,8 @@ pub record IsRefused (traces : List (List Event)) (IsMine : ℕ → Type 0) (fou
   pub at : slice_get traces found.0 ≡ Some refused
   pub fault : IsFirstFault refused found.1
 
--- of the traces whose places are mine, this is the first that isn't well formed, with its first event that isn't allowed; or
--- none is there, and all of them are well formed
+-- of the traces whose places are mine, this is the first that isn't well formed, with its first event that isn't
+-- allowed; or there is none, and all of them are well formed
 abbrev pub LeastRefusedIs : List (List Event) → (ℕ → Type 0) → Option (ℕ × StepAt) → Type 0
 LeastRefusedIs traces IsMine None = AreWellFormed traces IsMine
 LeastRefusedIs traces IsMine (Some found) =

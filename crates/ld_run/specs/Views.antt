@@ -9,7 +9,7 @@ use Rattle.ld_run.specs.declared.view.View.{View}
 abbrev pub newcomer : ℕ → View
 newcomer parts = record { parts = parts; claimed = []; put = []; seen = [] }
 
--- one number more is claimed
+-- one more number is claimed
 abbrev pub with_claim : View → ℕ → View
 with_claim v n = record v { claimed = n ∷ v.claimed }
 
@@ -24,15 +24,15 @@ SeenHas keys v x = PairsHave keys v.seen x
 abbrev pub KnowsFact : (keys : ℕ) → View → Fact → Type 0
 KnowsFact keys v x = PutHas keys v x ⊎ SeenHas keys v x
 
--- the facts' bits stand in one word
+-- the facts' bits are in one word
 abbrev pub ShareWord : (keys : ℕ) → Fact → Fact → Type 0
 ShareWord keys x y = fact_number keys x / 64 ≡ fact_number keys y / 64
 
--- how often x stands in the list
+-- how often x is in the list
 abbrev pub times : ℕ → List ℕ → ℕ
 times x [] = 0
 times x (y ∷ ys) = (if x == y then 1 else 0) + times x ys
 
--- 1 where x is below n
+-- 1 if x is below n, otherwise 0
 abbrev pub once_below : ℕ → ℕ → ℕ
 once_below x n = if nat_lt x n then 1 else 0

@@ -30,8 +30,8 @@ pub record HasFinished (keys : ℕ) (traces : List (List Event)) (drawn : List �
   pub knows : Holds (KnowsFact keys after) (DrawnHave traces drawn)
   pub least : LeastRefusedIs traces (Contains drawn) refused
 
--- what a call of `work` leaves of the view that it got: the numbers drawn were claimed, facts of the traces drawn alone were
--- put, and a trace drawn that isn't well formed may be named; unless the worker was lost, it has finished
+-- what a call of `work` leaves of the view that it got: the numbers drawn were claimed, only facts of the traces drawn
+-- were put, and a trace drawn that isn't well formed may be named; unless the worker was lost, it has finished
 pub record HasWorked (keys : ℕ) (traces : List (List Event)) (before : View) (worked : Worked) : Type 0 where
   pub drawn : List ℕ
   pub claimed : (view worked.seat).claimed ≡ drawn ++ before.claimed

@@ -10,7 +10,7 @@ use ld_facts::Facts;
 use ld_task::{StepAt, TaskState};
 use ld_trace::RawTrace;
 
-// Adds the facts of a trace, if it is well formed; else answers its first event that isn't allowed.
+// Adds the facts of a trace if it is well formed; otherwise returns its first event that isn't allowed.
 pub(crate) fn add_trace(facts: &mut Facts, trace: &RawTrace) -> Result<(), StepAt>
     requires { KeysBelow facts.old.keys trace.now }
     ensures keys { facts.new.keys ≡ facts.old.keys }

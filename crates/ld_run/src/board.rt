@@ -1,4 +1,4 @@
-//! A board: a word that numbers are claimed from, and words of facts, which threads share without waiting for one another.
+//! A board: a word to claim numbers from, and words of facts, which threads share without waiting for one another.
 
 ghost use Rattle.std.specs.Prelude.{◌≡◌, ◌≢◌, ◌⊎◌, ◌↔◌, ◌+◌, ◌/◌, ◌%◌, ◌<◌, ◌≤◌, ◌∷◌, ◌++◌, ℕ, length, All, AllPairs, Any, IsFalse, IsTrue, IfOk, IsErrOf, vec_len, bit_or, slice_index};
 ghost use Rattle.std.specs.Int.{bit_at};
@@ -26,16 +26,17 @@ use ld_facts::{Fact, Facts};
 use ld_task::Chain;
 use std::alloc::Global;
 
-// How many held locks are few: the words of a chain with no more are found as quickly as its facts are looked for one by one.
+// How many held locks count as few: the words of a chain with no more are found as quickly as its facts are looked up
+// one by one.
 const FEW_HELD: usize = 6;
 
 /// The most seats of a board.
 pub const MAX_SEATS: usize = 65;
 
-/// A board that threads share, each by a seat of its own. From it they claim numbers, each of which is given out once, and on it
-/// they put facts about keys below a bound, which the others then see. `claim`, `put` and `covers` wait for nobody, take no memory
-/// and don't fail; each is made of single steps on one word, and nothing is promised of how the steps of several threads follow
-/// one another.
+/// A board that threads share, each by a seat of its own. From it they claim numbers, each of which is given out once,
+/// and on it they put facts about keys below a bound, which the others then see. `claim`, `put` and `covers` wait for
+/// nobody, take no memory and don't fail; each is made of single steps on one word, and nothing is promised about how
+/// the steps of several threads follow one another.
 #[derive(Drop)]
 pub struct Board {
     table: Table<(), View, BoardSize, BoardRule, Global>,
@@ -54,7 +55,7 @@ impl Board {
 
     /// A board about the keys below `keys`, which is at most 256, and its seats. No number was claimed and no fact put.
     ///
-    /// C1 where `seats` isn't 1 to 65, else C2 where memory was refused.
+    /// C1 if `seats` isn't 1 to 65, otherwise C2 if memory is refused.
     pub fn open(alloc: Global, keys: u16, seats: usize) -> Result<(Board, Vec<Seat>), BoardFault>
         requires { keys ≤ MAX_KEYS }
         ensures refused { IsErrOf result BoardFault.Seats ↔ ((seats ≡ 0) ⊎ (MAX_SEATS < seats)) }
@@ -85,8 +86,8 @@ impl Board {
         Ok((board, all))
     }
 
-    /// Claims the next number, counted from 0: one that no seat of the board has claimed. That the seat is one of this board, and
-    /// that its `claims_left` isn't 0, are the caller's conditions.
+    /// Claims the next number, counted from 0: one that no seat of the board has claimed. The caller makes sure that
+    /// the seat is one of this board, and that its `claims_left` isn't 0.
     pub fn claim(&self, seat: &mut Seat) -> u64
         requires seat { IsSeatOf self.now seat.old }
         requires left { length (view seat.old).claimed < MAX_CLAIMS }
@@ -98,8 +99,8 @@ impl Board {
         self.table.shared.fetch_add::<Claim>(&mut seat.seat, 0, 1)
     }
 
-    /// Puts the facts of a chain on the board. That the seat is one of this board, and that the chain's keys are below the board's,
-    /// are the caller's conditions.
+    /// Puts the facts of a chain on the board. The caller makes sure that the seat is one of this board, and that the
+    /// chain's keys are below the board's bound.
     pub fn put(&self, seat: &mut Seat, chain: &Chain)
         requires seat { IsSeatOf self.now seat.old }
         requires below { ChainKeysBelow (keys_of self.now) chain.now }
@@ -112,8 +113,8 @@ impl Board {
         self.put_words(seat);
     }
 
-    /// Loads the words that hold bits of the chain's facts, and answers whether all of these facts were found there. That the seat
-    /// is one of this board, and that the chain's keys are below the board's, are the caller's conditions.
+    /// Loads the words that hold bits of the chain's facts, and returns whether all of these facts were found there.
+    /// The caller makes sure that the seat is one of this board, and that the chain's keys are below the board's bound.
     pub fn covers(&self, seat: &mut Seat, chain: &Chain) -> bool
         requires seat { IsSeatOf self.now seat.old }
         requires below { ChainKeysBelow (keys_of self.now) chain.now }
@@ -130,8 +131,8 @@ impl Board {
         self.covers_words(seat)
     }
 
-    // Puts those facts of a chain on the board whose words lack some, and answers whether there were any: what `covers` and then `put`
-    // do, for workers. A word that lacks none is only loaded.
+    // Puts those facts of a chain on the board whose words lack some, and returns whether there were any: what `covers`
+    // and then `put` do, for workers. A word that lacks none is only loaded.
     pub(crate) fn put_unless_covered(&self, seat: &mut Seat, chain: &Chain) -> bool
         requires seat { IsSeatOf self.now seat.old }
         requires below { ChainKeysBelow (keys_of self.now) chain.now }
@@ -149,11 +150,12 @@ impl Board {
         self.put_lacking_words(seat)
     }
 
-    /// The facts that are on the board at the end, where the list holds each of its seats once: exactly those that the seats have
-    /// put, with all that any of them has seen. The numbers that they have claimed together are those below some number, each
-    /// once. That each seat is one of this board is the caller's condition.
+    /// The facts that are on the board at the end, if the list holds each of its seats once: exactly those that the
+    /// seats have put, with all that any of them has seen. The numbers that they have claimed together are those below
+    /// some number, each once. The caller makes sure that each seat is one of this board.
     ///
-    /// C1 where the list doesn't hold each of the board's seats, else C2 where memory was refused. The board is then given up.
+    /// C1 if the list doesn't hold each of the board's seats, otherwise C2 if memory is refused. The board is then
+    /// dropped.
     pub fn close(self, mut seats: Vec<Seat>) -> Result<Facts, BoardFault>
         requires { All (IsSeatOf self) seats.items }
         ensures refused { IsErrOf result BoardFault.Seats ↔ (vec_len seats ≢ seat_count self) }
@@ -227,9 +229,9 @@ impl Board {
         }
     }
 
-    // Looks for the facts of a chain with many held locks one after the other, up to the first that isn't there, and answers whether
-    // all are. Most are, and then the chain's words need not be found. For a chain with few held locks, whose words are found as
-    // quickly, it answers no.
+    // Looks up the facts of a chain with many held locks one after the other, up to the first that isn't there, and
+    // returns whether all are. Usually they are, and then the chain's words need not be found. For a chain with few
+    // held locks, whose words are found as quickly, it returns false.
     fn has_long(&self, seat: &mut Seat, chain: &Chain) -> bool
         requires seat { IsSeatOf self.now seat.old }
         ensures seat { IsSeatOf self.now seat.new }
@@ -253,7 +255,7 @@ impl Board {
         true
     }
 
-    // Loads the word of a fact, and answers whether the fact is there.
+    // Loads the word of a fact, and returns whether the fact is there.
     fn has_fact(&self, seat: &mut Seat, fact: Fact) -> bool
         requires seat { IsSeatOf self.now seat.old }
         ensures seat { IsSeatOf self.now seat.new }
@@ -270,7 +272,7 @@ impl Board {
         found >> (n % 64) & 1 == 1
     }
 
-    // Puts those of the seat's words whose bits aren't all there, and answers whether there were any.
+    // Puts those of the seat's words whose bits aren't all there, and returns whether there were any.
     fn put_lacking_words(&self, seat: &mut Seat) -> bool
         requires seat { IsSeatOf self.now seat.old }
         requires words { All (λ p. p.0 < word_total (keys_of self.now)) seat.old.words }
@@ -294,7 +296,7 @@ impl Board {
         any
     }
 
-    // Puts bits into one fact word unless they are all there, and answers whether it has put them.
+    // Puts bits into one fact word unless they are all there, and returns whether it has put them.
     fn put_if_lacking(&self, seat: &mut Seat, word: usize, wanted: u64) -> bool
         requires seat { IsSeatOf self.now seat.old }
         requires word { word < word_total (keys_of self.now) }
@@ -317,7 +319,7 @@ impl Board {
         true
     }
 
-    // Loads the seat's words, and answers whether all their bits were found.
+    // Loads the seat's words, and returns whether all their bits were found.
     fn covers_words(&self, seat: &mut Seat) -> bool
         requires seat { IsSeatOf self.now seat.old }
         requires words { All (λ p. p.0 < word_total (keys_of self.now)) seat.old.words }
@@ -380,7 +382,7 @@ fn gather(
     one
 }
 
-// Adds the facts that the words of a closed board stand for, to no facts.
+// Adds the facts of a closed board's words to an empty set of facts.
 fn unite_words(facts: &mut Facts, closed: &Closed<(), Global>)
     requires none { (x : Fact) → ¬ HasFact facts.old x }
     requires full { IsFull closed.now.words }

@@ -9,7 +9,7 @@ use thiserror::Error;
 /// Why a board isn't opened or closed.
 #[derive(Clone, Copy, PartialEq, Eq, Debug, Error)]
 pub enum BoardFault {
-    /// C1: a board has 1 to 65 seats, and to close it takes each of them.
+    /// C1: a board has 1 to 65 seats, and closing it takes each of them.
     #[error("the seats are not those of a board")]
     Seats,
     /// C2: memory was refused.

@@ -9,7 +9,8 @@ use thiserror::Error;
 /// Why facts aren't condensed.
 #[derive(Clone, Copy, PartialEq, Eq, Debug, Error)]
 pub enum CondenseFault {
-    /// E1: the trace that was made doesn't have exactly the facts, as where a key of theirs isn't in the order.
+    /// E1: the trace that was made doesn't have exactly the facts, for example because a key of theirs isn't in the
+    /// order.
     #[error("the condensed trace does not have the same facts")]
     Unequal,
     /// E2: memory was refused.

@@ -1,7 +1,7 @@
 //! Condensing: one trace that has exactly the facts of a run.
 //!
-//! The trace is put together from the facts alone, part by part, and then walked. That it has the facts is what the walk
-//! found, so no proof looks at how it was put together.
+//! The trace is made from the facts alone, part by part, and then walked. The walk checks that it has the facts, so no
+//! proof depends on how it was made.
 
 ghost use Rattle.std.specs.Prelude.{◌≡◌, ◌≤◌, IfOk};
 ghost use Rattle.ld_trace.specs.declared.key_id.TheConstants.{MAX_MANY};
@@ -19,13 +19,13 @@ use ld_graph::{Kind, Mark};
 use ld_trace::{Event, Irq, KeyId, Mode, RawTrace};
 use std::alloc::{AllocError, Global};
 
-/// One trace that has exactly the settled facts, put together from them alone: the same facts in the same order of keys give
-/// the same trace, and what comes of it gives itself. It has no try, so version 1 of the format has it, and it has at most
-/// about 540,000 events.
+/// One trace that has exactly the settled facts, made from them alone: the same facts in the same order of keys give
+/// the same trace, and condensing the result again gives the result. It has no try, so version 1 of the format can
+/// write it, and it has at most about 540,000 events.
 ///
-/// The order has each key that the facts speak of, each once. Refusals: E2 where memory was refused, E1 where the trace that
-/// was made doesn't have exactly the facts, as where the order lacks a key. Of the facts of well-formed traces, in an order
-/// that has all their keys, tests have met no E1; that none can come isn't proved.
+/// The order has each key that the facts are about, once. Refusals: E2 if memory is refused, E1 if the trace that was
+/// made doesn't have exactly the facts, for example because the order lacks a key. For facts of well-formed traces, in
+/// an order that has all their keys, no test has met E1; that it can't happen isn't proved.
 pub fn condense(
     alloc: Global,
     settled: &Settled,
@@ -68,7 +68,7 @@ fn trace_of(alloc: Global, facts: &Facts, order: &[KeyId]) -> Result<RawTrace, C
     RawTrace::from_events(events).ok_or(CondenseFault::Unequal)
 }
 
-// All parts, each behind the flags that it needs.
+// All parts, each after the flags that it needs.
 fn add_parts(events: &mut Vec<Event>, facts: &Facts, order: &[KeyId]) -> Result<(), AllocError> {
     events.push(Event::TurnOff { irq: Irq::Hard })?;
     add_dependencies(events, facts, order)?;
@@ -82,7 +82,7 @@ fn add_parts(events: &mut Vec<Event>, facts: &Facts, order: &[KeyId]) -> Result<
 }
 
 // The keys' dependencies, with hardirqs off, so that an acquisition marks its key as ever used and no more. A key that
-// stands in none is taken by itself.
+// is in none is taken by itself.
 fn add_dependencies(
     events: &mut Vec<Event>,
     facts: &Facts,
@@ -99,7 +99,7 @@ fn add_dependencies(
     Ok(())
 }
 
-// Whether the key was used, and stands in no dependency.
+// Whether the key was used, and is in no dependency.
 fn stands_alone(facts: &Facts, order: &[KeyId], key: KeyId) -> bool {
     facts.has_mark(key.get(), Mark::Used)
         && !order.iter().any(|other| leads_to(facts, key, *other) || leads_to(facts, *other, key))
@@ -110,12 +110,12 @@ fn leads_to(facts: &Facts, from: KeyId, to: KeyId) -> bool {
     leads_by(facts, from, to, false) || leads_by(facts, from, to, true)
 }
 
-// Whether there is one with this first letter.
+// Whether there is a dependency with this first letter.
 fn leads_by(facts: &Facts, from: KeyId, to: KeyId, first_is_s: bool) -> bool {
     has_dep(facts, from, to, first_is_s, true) || has_dep(facts, from, to, first_is_s, false)
 }
 
-// Whether there is one with these letters.
+// Whether there is a dependency with these letters.
 fn has_dep(facts: &Facts, from: KeyId, to: KeyId, first_is_s: bool, second_is_r: bool) -> bool {
     let kind = Kind::of_letters(first_is_s, second_is_r);
     facts.has_dep(from.get(), to.get(), kind)
@@ -154,7 +154,7 @@ fn form(read: bool) -> Mode {
     if read { Mode::RecRead } else { Mode::Write }
 }
 
-// The key is taken and given back.
+// The key is taken and released.
 fn add_use(events: &mut Vec<Event>, key: KeyId, mode: Mode) -> Result<(), AllocError> {
     events.push(Event::Acquire { mode, key })?;
     events.push(Event::Release { key })?;
@@ -197,7 +197,7 @@ fn add_used_in(
     Ok(())
 }
 
-// The key is taken and given back in a frame of the state, with hardirqs off.
+// The key is taken and released in a frame of the state, with hardirqs off.
 fn add_use_in(events: &mut Vec<Event>, irq: Irq, key: KeyId, mode: Mode) -> Result<(), AllocError> {
     events.push(Event::Enter { irq })?;
     if irq == Irq::Soft {

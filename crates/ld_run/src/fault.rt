@@ -21,8 +21,8 @@ pub enum RunFault {
     /// N4: memory was refused.
     #[error("out of memory")]
     Memory,
-    /// N5: a trace isn't well formed. The least such trace by its place in the list, the place of its first event that
-    /// isn't allowed, both counted from 0, and why it isn't.
+    /// N5: a trace isn't well formed. The place of the first such trace in the list, the place of its first event that
+    /// isn't allowed, both counted from 0, and why it isn't allowed.
     #[error("trace {trace} is not well formed at event {place}: {fault}")]
     Refused {
         trace: usize,

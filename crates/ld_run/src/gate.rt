@@ -1,10 +1,10 @@
 //! What a worker calls before it records a chain.
 
-/// What the workers of a run call just before each chain is recorded. Whoever runs them can watch them by it, or hold them
-/// up. This project's own.
+/// What the workers of a run call just before each chain is recorded. With it, whoever runs them can watch them or hold
+/// them up. This project's own.
 pub trait Gate {
-    /// The chain of this number in its trace, counted from 0, is about to be recorded; `trace` is the trace's place in the
-    /// list.
+    /// The chain of this number in its trace, counted from 0, is about to be recorded; `trace` is the trace's place in
+    /// the list.
     fn before_record(&self, trace: usize, number: u64);
 }
 

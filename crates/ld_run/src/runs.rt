@@ -30,7 +30,7 @@ use std::thread::Threads;
 /// The most workers of a run.
 pub const MAX_WORKERS: u16 = 64;
 
-// What the workers of a run share beside the board, and how many they are.
+// What the workers of a run share besides the board, and how many there are.
 #[derive(Clone, Copy)]
 struct Crew<'a, R, G> {
     rt: &'a R,
@@ -40,17 +40,17 @@ struct Crew<'a, R, G> {
     gate: &'a G,
 }
 
-/// Walks the traces, whose keys are below `keys`, with `workers` workers, each in a thread of its own. The workers claim the traces
-/// from one board and put the facts of their chains on it; a chain that brings something new is recorded in one book that all
-/// share, and the gate is called just before (see `work`). The answer is the facts of all traces together, where the book and the
-/// board agree on them. Where a thread can't be made the calling thread does its work, and where there are fewer traces than workers
-/// none is made for those that would find nothing to do.
+/// Walks the traces, whose keys are below `keys`, with `workers` workers, each in a thread of its own. The workers
+/// claim the traces from one board and put the facts of their chains on it; a chain that brings something new is
+/// recorded in one book that all share, and the gate is called just before (see `work`). The result is the facts of all
+/// traces together, if the book and the board agree on them. If a thread can't be made, the calling thread does its
+/// work; if there are fewer traces than workers, no thread is made for those that would find nothing to do.
 ///
-/// That all keys of the traces are below `keys`, and that `keys` is at most 256, are the caller's conditions.
+/// The caller makes sure that all keys of the traces are below `keys`, and that `keys` is at most 256.
 ///
-/// Refusals, in this order: N1 where `workers` isn't 1 to 64; N2 where there are more than 4,096 traces; N4 where memory was
-/// refused; N5 where a trace isn't well formed, with the least such trace and its first event that isn't allowed; N3 where the
-/// book and the board don't agree. The traces are only lent.
+/// Refusals, in this order: N1 if `workers` isn't 1 to 64; N2 if there are more than 4,096 traces; N4 if memory is
+/// refused; N5 if a trace isn't well formed, with the first such trace and its first event that isn't allowed; N3 if
+/// the book and the board don't agree. The traces are only borrowed.
 pub fn run<R: Threads + Wait + Sync, G: Gate + Sync>(
     rt: &R,
     alloc: Global,
@@ -111,7 +111,7 @@ fn complete<R: Threads + Wait + Sync, G: Gate + Sync>(
     }
 }
 
-// How many of the workers have something to do: no more than there are traces, and one at least.
+// How many of the workers have something to do: no more than there are traces, and at least one.
 fn busy_workers(workers: usize, traces: usize) -> usize
     requires { IsCrew workers }
     ensures { IsCrew result }
@@ -119,7 +119,7 @@ fn busy_workers(workers: usize, traces: usize) -> usize
     workers.min(traces.max(1))
 }
 
-// The facts of the book, where all traces are well formed and it settles with what was gathered.
+// The facts of the book, if all traces are well formed and it settles with what was gathered.
 fn conclude(
     book: Book,
     together: &Facts,
@@ -149,8 +149,8 @@ fn refused_by(trace: usize, first: StepAt) -> RunFault
     }
 }
 
-// Gathers the facts of all traces on a board, and returns them with the first trace that isn't well formed. The board has a seat
-// for each worker, and one that stays here.
+// Gathers the facts of all traces on a board, and returns them with the first trace that isn't well formed. The board
+// has a seat for each worker, and one that stays here.
 fn gather<R: Threads + Wait + Sync, G: Gate + Sync>(
     crew: &Crew<R, G>,
     traces: &[RawTrace],
@@ -183,7 +183,7 @@ fn gather<R: Threads + Wait + Sync, G: Gate + Sync>(
     }
 }
 
-// Each seat goes to a worker in a thread of its own, or in this one where none can be made.
+// Each seat goes to a worker in a thread of its own, or in this one if none can be made.
 fn work_in_threads<R: Threads + Wait + Sync, G: Gate + Sync>(
     crew: &Crew<R, G>,
     board: &Board,
@@ -206,7 +206,8 @@ fn work_in_threads<R: Threads + Wait + Sync, G: Gate + Sync>(
     )
 }
 
-// Puts the workers' seats behind the others, and finds the first trace that one of them refused. None of them was lost.
+// Appends the workers' seats to the others, and finds the first trace that one of them refused. It fails if a worker
+// was lost.
 fn hand_in(
     mut back: Vec<Seat>,
     done: Vec<Worked>,
@@ -245,8 +246,8 @@ fn earlier(a: Option<(usize, StepAt)>, b: Option<(usize, StepAt)>) -> Option<(us
     }
 }
 
-// How many chains the traces have at most, which is the most that the book has to hold: their events that take a lock or
-// turn a flag on.
+// The most chains that the traces can have, and so the most that the book has to hold: the number of their events that
+// take a lock or turn a flag on.
 fn chain_count(traces: &[RawTrace]) -> u64
     requires { length traces.now ≤ MAX_TRACES }
     ensures { result ≡ sum_by (count_by makes_chain) traces.now }

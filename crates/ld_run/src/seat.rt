@@ -10,7 +10,8 @@ use ld_facts::FactWords;
 /// The most claims of a seat.
 pub const MAX_CLAIMS: u64 = 1 << 32;
 
-/// A seat of a board: by it one thread takes numbers and puts facts. The board makes its seats, and each exists once.
+/// A seat of a board: with it one thread claims numbers and puts facts. The board makes its seats, and each exists
+/// once.
 #[derive(Drop)]
 pub struct Seat {
     pub(crate) seat: atomic_table::Seat<(), View>,

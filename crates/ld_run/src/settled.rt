@@ -1,4 +1,4 @@
-//! The facts of a completed run, when a book has them, and what they mean.
+//! The facts of a completed run, if a book has them, and what they mean.
 
 ghost use Rattle.std.specs.Prelude.{◌≡◌, ◌*◌, ◌≤◌, ◌↔◌, IfErr, IfOk, IfSome, IsNone, IsOk, IsTrue, length};
 ghost use Rattle.ld_facts.specs.Arrows.{Arrow, arrow};
@@ -18,8 +18,8 @@ use ld_parts::PartedGraph;
 use ld_trace::Irq;
 use std::marker::Model;
 
-/// The facts of a completed run, on which the book and the workers agree, or of a survey. Whoever has them can ask what they
-/// mean; no question takes memory.
+/// The facts of a completed run, on which the book and the workers agree, or of a survey. Whoever has them can ask what
+/// they mean; no question takes memory.
 #[derive(Drop)]
 pub struct Settled {
     answers: Answers,
@@ -65,7 +65,7 @@ impl Settled {
         self.facts().has_mark(key, mark)
     }
 
-    /// How many distinct dependencies there are, at most 262,144 of 256 keys.
+    /// How many distinct dependencies there are, at most 262,144 for 256 keys.
     pub fn dependencies(&self) -> u64
         ensures { IsNumberOf (DependenciesOf (HasFact self.now)) result }
     {
@@ -82,7 +82,7 @@ impl Settled {
         }
     }
 
-    /// Whether the dependency is on a circle. False where it isn't among the facts.
+    /// Whether the dependency is on a circle. False if it isn't among the facts.
     pub fn on_circle(&self, from: u16, to: u16, kind: Kind) -> bool
         ensures { IsTrue result ↔ OnCircle (HasFact self.now) (arrow from to kind) }
     {
@@ -93,8 +93,8 @@ impl Settled {
     }
 
     /// A shortest circle: a closed strong walk of the dependencies such that none has fewer members and no key is the
-    /// start of two. None exactly where no dependency is on a circle. Which one it is where several are shortest is
-    /// left open.
+    /// start of two. None exactly if no dependency is on a circle. If several are shortest, which one is returned is
+    /// unspecified.
     pub fn shortest_circle(&self) -> Option<Circle>
         ensures none { IsNone result ↔ ((d : Arrow) → ¬ OnCircle (HasFact self.now) d) }
         ensures some { IfSome result (λ circle. IsShortestCircle (HasFact self.now) circle) }
@@ -106,8 +106,8 @@ impl Settled {
         }
     }
 
-    /// A shortest of the closed strong walks that begin with the dependency. None exactly where it is on no circle, and
-    /// so where it isn't among the facts. Which walk it is where several are shortest is left open.
+    /// A shortest of the closed strong walks that begin with the dependency. None exactly if it is on no circle, and so
+    /// if it isn't among the facts. If several are shortest, which one is returned is unspecified.
     pub fn circle_through(&self, from: u16, to: u16, kind: Kind) -> Option<Walk>
         ensures none { IsNone result ↔ ¬ OnCircle (HasFact self.now) (arrow from to kind) }
         ensures some { IfSome result (λ walk. IsShortestFrom (HasFact self.now) (arrow from to kind) walk) }
@@ -119,7 +119,7 @@ impl Settled {
         }
     }
 
-    /// Whether the key is a double of the state: used in it and used with it enabled, and not by readers alone.
+    /// Whether the key is a double of the state: used in it and used with it enabled, and not only by readers.
     pub fn is_double(&self, irq: Irq, key: u16) -> bool
         ensures { IsTrue result ↔ IsDouble (HasFact self.now) irq key }
     {
@@ -131,7 +131,7 @@ impl Settled {
 
     /// The forms of two marks that make the key a double of the state: whether the mark that it is used with the state
     /// enabled is the read form, and whether the mark that it is used in the state is. They are not both. None exactly
-    /// where the key is no double of the state. Which forms are told where several fit is left open.
+    /// if the key is no double of the state. If several forms fit, which are returned is unspecified.
     pub fn double_forms(&self, irq: Irq, key: u16) -> Option<(bool, bool)>
         ensures none { IsNone result ↔ ¬ IsDouble (HasFact self.now) irq key }
         ensures some { IfSome result (λ forms.
@@ -154,7 +154,7 @@ impl Settled {
         }
     }
 
-    /// Whether the dependency is a member of the walk of some inversion. False where it isn't among the facts.
+    /// Whether the dependency is a member of the walk of some inversion. False if it isn't among the facts.
     pub fn in_inversion(&self, from: u16, to: u16, kind: Kind) -> bool
         ensures { IsTrue result ↔ InInversion (HasFact self.now) (arrow from to kind) }
     {
@@ -165,8 +165,8 @@ impl Settled {
     }
 
     /// A shortest strong walk from `a` to `b` that makes them an inversion of the state, with the forms of the marks of
-    /// the link that it closes by. None exactly where they are no inversion of the state. Which walk and which link are
-    /// told where several are shortest is left open.
+    /// the link that it closes by. None exactly if they are no inversion of the state. If several walks are shortest,
+    /// which one is returned, and which link, is unspecified.
     pub fn inversion_walk(&self, irq: Irq, a: u16, b: u16) -> Option<InversionWalk>
         ensures none { IsNone result ↔ ¬ IsInversion (HasFact self.now) irq a b }
         ensures some { IfSome result (λ found. IsShortestInversion (HasFact self.now) irq a b

@@ -11,15 +11,15 @@ use thiserror::Error;
 /// Why a survey isn't completed.
 #[derive(Clone, Copy, PartialEq, Eq, Debug, Error)]
 pub enum SurveyFault {
-    /// M1: more than 256 keys are tangled, so that they don't come apart: each leads to each other by dependencies and interrupt
-    /// links, as far as a search found.
+    /// M1: the keys can't be split into parts of at most 256. As far as a search found, more than 256 of them all lead
+    /// to each other by dependencies and interrupt links.
     #[error("more than 256 keys are tangled")]
     TooTangled,
     /// M2: memory was refused.
     #[error("out of memory")]
     Memory,
-    /// N5, as in a run: a trace isn't well formed. The least such trace by its place in the list, the place of its first event
-    /// that isn't allowed, both counted from 0, and why it isn't.
+    /// N5, as in a run: a trace isn't well formed. The place of the first such trace in the list, the place of its
+    /// first event that isn't allowed, both counted from 0, and why it isn't allowed.
     #[error("trace {trace} is not well formed at event {place}: {fault}")]
     Refused {
         trace: usize,

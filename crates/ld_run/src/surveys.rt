@@ -14,14 +14,14 @@ use ld_task::StepAt;
 use ld_trace::RawTrace;
 use std::alloc::Global;
 
-/// Walks the traces, whose keys are below `keys`, one after the other in the calling thread, and answers what their facts mean.
-/// There may be many keys, up to 8,192: what is found among all of them is found in parts, each of which has at most 256, where
-/// that can be.
+/// Walks the traces, whose keys are below `keys`, one after the other in the calling thread, and returns the facts of
+/// all of them. There may be many keys, up to 8,192, if they can be split into parts of at most 256 such that what is
+/// found among all keys is found in the parts.
 ///
-/// That all keys of the traces are below `keys`, and that `keys` is at most 8,192, are the caller's conditions.
+/// The caller makes sure that all keys of the traces are below `keys`, and that `keys` is at most 8,192.
 ///
-/// Refusals: N5 where a trace isn't well formed, with the least such trace and its first event that isn't allowed; M2 where memory
-/// was refused; M1 where the keys don't come apart. The traces are only lent [this project's own].
+/// Refusals: N5 if a trace isn't well formed, with the first such trace and its first event that isn't allowed; M2 if
+/// memory is refused; M1 if the keys can't be split that way. The traces are only borrowed [this project's own].
 pub fn survey(alloc: Global, traces: &[RawTrace], keys: u16) -> Result<Settled, SurveyFault>
     requires few { keys ≤ MAX_MANY }
     requires below { All (KeysBelow keys) traces.now }

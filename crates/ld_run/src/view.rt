@@ -1,12 +1,12 @@
-//! What a seat of a board knows, the rule of the board's table, and what each step tells.
+//! What a seat of a board knows, the rule of the board's table, and what each step returns.
 
 ghost use Rattle.ld_run.specs.Inside.BoardRule.{Kept, Claimed, Put, Looked, first_view, joined, left_view, right_view, spent_view};
 
 use atomic_table::{Join, Play, Split, TableRule};
 use std::collections::LinkedList;
 
-/// What a seat has claimed, put and seen: numbers, and pairs of a fact word and bits of it. No value of it is made; proofs alone
-/// speak of it.
+/// What a seat has claimed, put and seen: numbers, and pairs of a fact word and bits of it. No value of it is made;
+/// only proofs speak of it.
 pub struct View {
     /// How many of the board's seats have been gathered in this one: 1 until the board is closed.
     pub parts: u64,

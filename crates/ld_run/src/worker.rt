@@ -21,19 +21,20 @@ use ld_task::{Chain, StepAt, StepFault, TaskState};
 use ld_trace::{Event, MAX_EVENTS, RawTrace};
 use std::sync::Wait;
 
-/// What a worker brings back.
+/// What a worker returns.
 #[derive(Drop)]
 pub struct Worked {
     /// The seat that it worked with.
     pub seat: Seat,
-    /// The first of the traces that it claimed that isn't well formed: its place in the list, and its first event that isn't
-    /// allowed.
+    /// The first of the traces that it claimed that isn't well formed: its place in the list, and its first event that
+    /// isn't allowed.
     pub refused: Option<(usize, StepAt)>,
     /// Whether memory was refused when it recorded a chain, so that it ended there.
     pub lost: bool,
 }
 
-// What the workers of a run share beside the board: how they wait, the book that they record in, and the gate that they call.
+// What the workers of a run share besides the board: how they wait, the book that they record in, and the gate that
+// they call.
 #[derive(Clone, Copy)]
 struct Walk<'a, R, G> {
     rt: &'a R,
@@ -45,14 +46,14 @@ struct Walk<'a, R, G> {
 #[derive(Clone, Copy, Debug)]
 pub(crate) struct Lost;
 
-/// Claims traces by the seat until it gets a number that is no trace's place, and walks each up to its first event that isn't
-/// allowed. A chain that the board covers isn't recorded. Of any other the facts are put on the board; then the gate is called
-/// with the trace's place and the chain's number in its trace, and the chain is recorded. Several threads may each make such a
-/// call, with seats of one board, for the same traces.
+/// Claims traces with the seat until it gets a number that is no trace's place, and walks each up to its first event
+/// that isn't allowed. A chain that the board covers isn't recorded. The facts of any other are put on the board; then
+/// the gate is called with the trace's place and the chain's number in its trace, and the chain is recorded. Several
+/// threads may each make such a call, with seats of one board, for the same traces.
 ///
-/// That the seat is one of the board, that the traces' keys are below the board's, and that the seat's `claims_left` is greater
-/// than the number of traces are the caller's conditions. A book that is full or doesn't know a key is passed over. Where it has
-/// no memory the worker ends, and is `lost`.
+/// The caller makes sure that the seat is one of the board, that the traces' keys are below the board's bound, and that
+/// the seat's `claims_left` is greater than the number of traces. If the book is full or doesn't take a key of the
+/// chain, the chain isn't recorded. If memory is refused there, the worker ends, and is `lost`.
 pub fn work<R: Wait, G: Gate>(
     rt: &R,
     board: &Board,
@@ -123,8 +124,8 @@ fn walk_trace<R: Wait, G: Gate>(
     Ok(None)
 }
 
-// Goes on by one event of a trace, and returns why it isn't allowed, if it isn't. The number is that of the trace's next
-// chain: the events of a trace that make a chain are counted.
+// Advances by one event of a trace, and returns why it isn't allowed, if it isn't. The number is that of the trace's
+// next chain: the events of a trace that make a chain are counted.
 fn walk_event<R: Wait, G: Gate>(
     walk: &Walk<R, G>,
     board: &Board,
@@ -160,8 +161,8 @@ fn walk_event<R: Wait, G: Gate>(
     }
 }
 
-// Calls the gate, and records the chain. A book that is full or doesn't know a key is passed over: settling finds what that
-// lost.
+// Calls the gate, and records the chain. If the book is full or doesn't take a key of the chain, the chain isn't
+// recorded: settling finds what that lost.
 fn record_chain<R: Wait, G: Gate>(
     walk: &Walk<R, G>,
     trace: usize,
@@ -177,7 +178,7 @@ fn record_chain<R: Wait, G: Gate>(
     }
 }
 
-// The trace that was refused before, or else this one, if it is.
+// The trace that was refused before, or otherwise this one, if it is refused.
 fn first_of(
     before: Option<(usize, StepAt)>,
     trace: usize,

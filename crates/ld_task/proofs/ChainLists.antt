@@ -1,4 +1,4 @@
--- The chains of a trace: where each one comes from, and what one event more adds.
+-- The chains of a trace: where each one comes from, and what one more event adds.
 use Rattle.std.proofs.Common.{◌≡◌, ℕ, zero, suc, ◌<◌, ◌≤◌, true, List, [], ◌∷◌, ◌++◌, length, length-append, map, All, Contains, slice_index_or, ◌⊎◌, Option, Some, None, refl, sym, ap, ◌∙◌, subst, inl, inr, arith, option_and_then}
 use Rattle.std.specs.List.{filter_map, cons_option, Any}
 use Rattle.std.specs.Option.{option_to_list}
@@ -74,19 +74,19 @@ module _ (t : List Event) where
   within j None c e h = cc
   within j (Some x) c e h = slice_get_within t j x e
 
-  -- a chain at a position tells what one of the chains tells
+  -- what the chain at a position says, one of the chains says
   pub Any-chains : (P : ChainParts → Type 0) (j : ℕ) (c : ChainParts) → chain t j ≡ Some c → P c → Any P (chains t)
   unfolding chains chains_below
   Any-chains P j c e p =
       let m = Contains-chains_below (length t) c (record { at = j; below = within j (event t j) c refl e; is_chain = e }) in
       (m.0, c, m.1, m.2, p)
 
-  -- what one of the chains tells is told by the chain at some position
+  -- what one of the chains says, the chain at some position says
   pub chains-Any : (P : ChainParts → Type 0) → Any P (chains t) → (c : ChainParts) × IsChainBelow t (length t) c × P c
   unfolding chains chains_below
   chains-Any P a = (a.1, chains_below-contains (length t) a.1 (a.0, a.2, a.3), a.4)
 
-  -- what each position's chain tells, each of the chains tells
+  -- what each position's chain says, each of the chains says
   pub chains-All : (P : ChainParts → Type 0) → ((j : ℕ) (c : ChainParts) → chain t j ≡ Some c → P c) → All P (chains t)
   unfolding chains chains_below
   chains-All P each k d l =
@@ -110,7 +110,7 @@ module _ (s t : List Event) (n : ℕ) (a : Agree s t n) where
   chain_of-agree j l Leave = refl
   chain_of-agree j l (TurnOff irq) = refl
 
-  -- the chain at a position depends on the events up to there alone
+  -- the chain at a position depends only on the events up to there
   pub chain-agree : (j : ℕ) → j < n → chain s j ≡ chain t j
   chain-agree j l = ap (option_and_then (chain_of s j)) (a.same j l) ∙ each (event t j)
     where
@@ -123,7 +123,7 @@ module _ (s t : List Event) (n : ℕ) (a : Agree s t n) where
   chains_below-agree zero l = refl
   chains_below-agree (suc j) l = chains_below-suc s j ∙ ap (λ z. z ++ option_to_list (chain s j)) (chains_below-agree j (omega arith)) ∙ ap (λ o. chains_below t j ++ option_to_list o) (chain-agree j (omega arith)) ∙ sym (chains_below-suc t j)
 
--- one event more adds its own chain, if it makes one
+-- one more event adds its own chain, if it makes one
 pub chains-snoc : (h : List Event) (e : Event) → chains (h ++ e ∷ []) ≡ chains h ++ option_to_list (chain (h ++ e ∷ []) (length h))
 unfolding chains chains_below
 chains-snoc h e =

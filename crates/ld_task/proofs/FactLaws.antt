@@ -41,7 +41,7 @@ frame_is a b f g e = ap (λ (o : Option (Lock × Frame)). second o) e
     second (Some x) = x.1
 
 module _ (t : List Event) where
-  -- what is held at a position stands among its held locks
+  -- what is held at a position is among its held locks
   is_held-among : (i j : ℕ) → is_held t i j ≡ true → Contains (held_locks_at t j) (lock_at t i)
   unfolding held_locks_at
   is_held-among i j h =

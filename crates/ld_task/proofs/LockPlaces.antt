@@ -1,4 +1,4 @@
--- The positions of the locks that a task keeps, beside its state.
+-- The positions of the locks that a task keeps, together with its state.
 use Rattle.std.proofs.Common.{◌≡◌, ℕ, zero, suc, ◌+◌, ◌<◌, ◌≤◌, Bool, true, false, ◌&&◌, not, eqb, List, [], ◌∷◌, ◌++◌, length, map, filter, drop, take, remove, get_or, slice_get, option_map, option_and_then, Option, Some, None, Result, Ok, Err, refl, sym, ap, ◌∙◌, subst, IsTrue, inl, inr, arith, if◌then◌else◌}
 use Rattle.std.specs.Prelude.{OnErr}
 use Rattle.std.proofs.lemmas.Bool.{cases_Bool, true≢false}
@@ -28,7 +28,7 @@ use Rattle.ld_task.proofs.Releases.{locks-release}
 use Rattle.ld_task.proofs.StateSteps.{is_held-at, is_of-at, locks-stay, lower, no-deeper, outer_level, refusal-is}
 use Rattle.ld_task.proofs.TraceSteps.{does-steps}
 
--- ---- positions beside locks
+-- ---- a position for each lock
 -- the positions from place i on begin with that at i, if its lock was taken at the level
 places_at-drop : (level : ℕ) (locks : List KeptLock) (places : List ℕ) (i : ℕ) (k : KeptLock) (d : ℕ) → length places ≡ length locks → slice_get locks i ≡ Some k →
     places_at level (drop i locks) (drop i places) ≡
@@ -52,21 +52,21 @@ module _ (level : ℕ) (locks : List KeptLock) (places : List ℕ) (i : ℕ) (k 
   taken : (d : ℕ) → is_at level k ≡ true → places_at level (drop i locks) (drop i places) ≡ get_or places i d ∷ rest
   taken d hit = places_at-drop level locks places i k d same at ∙ ap (λ b. if b then get_or places i d ∷ rest else rest) hit
 
-  -- what is sought stays the same where a lock of another level is passed
+  -- what is searched for stays the same if a lock of another level is passed
   pub slice_get-pass : (left : ℕ) → is_at level k ≡ false →
       slice_get (places_at level (drop i locks) (drop i places)) left ≡ slice_get (places_at level (drop (i + 1) locks) (drop (i + 1) places)) left
   slice_get-pass left miss = rw next (ap (λ xs. slice_get xs left) (passed miss))
 
-  -- its number is one less where one of the level is
+  -- its number is one less if one of the level is
   pub slice_get-count : (left : ℕ) → is_at level k ≡ true →
       slice_get (places_at level (drop i locks) (drop i places)) (suc left) ≡ slice_get (places_at level (drop (i + 1) locks) (drop (i + 1) places)) left
   slice_get-count left hit = rw next (ap (λ xs. slice_get xs (suc left)) (taken 0 hit))
 
-  -- and number 0 is found where one of the level is
+  -- and number 0 is found if one of the level is
   pub slice_get-found : (d : ℕ) → is_at level k ≡ true → slice_get (places_at level (drop i locks) (drop i places)) 0 ≡ Some (get_or places i d)
   slice_get-found d hit = ap (λ xs. slice_get xs 0) (taken d hit)
 
--- positions beside what they map to
+-- positions, each for what it maps to
 places_at-mapped : (level : ℕ) (f : ℕ → KeptLock) (xs : List ℕ) → places_at level (map f xs) xs ≡ filter (λ i. is_at level (f i)) xs
 places_at-mapped level f [] = refl
 places_at-mapped level f (x ∷ xs) =
@@ -93,7 +93,7 @@ last_place-map q f xs =
     ∙ last_below-cong (λ i. passes q (slice_get (map f xs) i)) (λ i. passes (λ k. q (f k)) (slice_get xs i)) (length xs)
     (λ i l. ap (passes q) (slice_get-map f xs i) ∙ passes-map q f (slice_get xs i))
 
--- ---- the kept positions go on as the code says
+-- ---- the kept positions change as the code says
 module _ (t : List Event) (n : ℕ) (a : AllowedTo t n) where
   kept-release : (key : ℕ) → event t n ≡ Some (Release key) → fault t n ≡ None →
       kept_positions t (suc n) ≡ without_place (kept_positions t n) (newest (state_at t n) key)
@@ -167,7 +167,7 @@ pub placed-keeps : (old : PlacedParts) (n : ℕ) (e : Event) (new : PlacedParts)
 placed-keeps old n e new (Ok answer) does = tt
 placed-keeps old n e new (Err fault) does = λ i. record { state = does.0.1 i; places = does.2 i }
 
--- as many are left of both
+-- equally many are left of both
 pub length-without : (places places' : List ℕ) (locks locks' : List KeptLock) (k : ℕ) → length places ≡ length locks → k < length locks →
     places' ≡ remove places k → locks' ≡ remove locks k → length places' ≡ length locks'
 length-without places places' locks locks' k same within p l =

@@ -8,11 +8,11 @@ use Rattle.ld_task.specs.contracts.frame.FlagsPartialEq.TheImpl as flags
 use Rattle.ld_task.specs.Chains.{ChainParts}
 use Rattle.ld_task.specs.Locks.{LockParts, lock_word}
 
--- two locks are the same where their words are
+-- two locks are the same if their words are
 abbrev pub lock_eq : LockParts → LockParts → Bool
 lock_eq a b = lock_word a == lock_word b
 
--- so are two new locks where the locks and their frames are
+-- two new locks are the same if the locks and their frames are
 abbrev pub new_lock_eq : LockParts × Frame → LockParts × Frame → Bool
 new_lock_eq a b = lock_eq a.0 b.0 && frame.eq-value.it a.1 b.1
 

@@ -1,4 +1,4 @@
--- What a chain is, and what it tells by itself ["Performance" speaks of chains; their parts are this project's own].
+-- What a chain is, and what it says by itself ["Performance" speaks of chains; their parts are this project's own].
 use Rattle.std.specs.Prelude.{◌≡◌, ℕ, ◌<◌, List, All, Contains, IsTrue, IfSome, Option, Some, None, ◌⊎◌}
 use Rattle.ld_trace.specs.declared.event.Mode.{Mode}
 use Rattle.ld_task.specs.declared.frame.Flags.{Flags}
@@ -25,7 +25,7 @@ key_and_mode lock = (lock.key, lock.mode)
 abbrev pub key_mode_and_frame : Lock × Frame → ℕ × Mode × Frame
 key_mode_and_frame new = (new.0.key, new.0.mode, new.1)
 
--- the chain has a dependency of this kind between these keys: from one of its held locks to its new one, where that may be
+-- the chain has a dependency of this kind between these keys: from one of its held locks to its new one, if that may be
 -- waited for
 pub record ChainHasDependency (c : ChainParts) (from to : ℕ) (kind : Kind) : Type 0 where
   pub old : Lock

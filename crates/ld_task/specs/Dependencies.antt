@@ -7,7 +7,8 @@ use Rattle.ld_task.specs.Kinds.{kind_between}
 use Rattle.ld_trace.specs.Modes.{may_wait}
 use Rattle.ld_trace.specs.declared.event.Event.{Event}
 
--- the trace has a dependency of this kind between these keys: one is held where the other is taken, and may be waited for
+-- the trace has a dependency of this kind between these keys: one is held when the other is taken by an acquisition
+-- that may wait
 pub record IsDependency (t : List Event) (from to : ℕ) (dependency : Kind) : Type 0 where
   pub i : ℕ
   pub j : ℕ

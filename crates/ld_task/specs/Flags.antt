@@ -24,12 +24,12 @@ abbrev pub with_flag : Irq → Bool → Flags → Flags
 with_flag Hard on flags = record flags { hard_on = on }
 with_flag Soft on flags = record flags { soft_on = on }
 
--- a use with these flags is one with the state enabled: a softirq comes only with hardirqs on too
+-- a use with these flags is one with the state enabled: a softirq comes only if hardirqs are on too
 abbrev pub is_enabled : Irq → Flags → Bool
 is_enabled Hard flags = is_on Hard flags
 is_enabled Soft flags = is_on Hard flags && is_on Soft flags
 
--- an interrupt of the state may come in a frame of this kind with these flags: a softirq only in the task's
+-- an interrupt of the state may come in a frame of this kind with these flags: a softirq only in the task frame
 abbrev pub may_enter : Irq → Frame → Flags → Bool
 may_enter Hard frame flags = is_enabled Hard flags
 may_enter Soft frame flags = is_task frame && is_enabled Soft flags
@@ -56,7 +56,7 @@ may_change Soft Hardirq = false
 unfoldable pub last_change : List Event → Irq → ℕ → Option ℕ
 last_change t irq j = last_below j (λ k. changes_flag irq (event t k) && one_frame t k j)
 
--- what the change at this position sets, and the start value where there is none
+-- what the change at this position sets, or the start value if there is none
 abbrev pub flag_from : List Event → Irq → Frame → Option ℕ → Bool
 flag_from t irq frame None = starts_on irq frame
 flag_from t irq frame (Some k) = is_turn_on (event t k)

@@ -8,8 +8,8 @@ use Rattle.ld_trace.specs.declared.event.Event.{Event}
 use Rattle.ld_trace.specs.declared.event.Event.TheVariants.{Enter}
 use Rattle.ld_trace.specs.declared.event.Irq.TheVariants.{Hard, Soft}
 
--- the entries before a position less the leaves before it. The subtraction stops at 0, so of a list that leaves the task
--- frame the depths behind that leave mean nothing; no fault or chain before it depends on them
+-- the entries before a position less the leaves before it. The subtraction stops at 0, so if a list leaves the task
+-- frame, the depths after that leave mean nothing; no fault or chain before it depends on them
 unfoldable pub depth : List Event → ℕ → ℕ
 depth t j = count_below j (λ k. is_enter (event t k)) - count_below j (λ k. is_leave (event t k))
 
@@ -28,7 +28,7 @@ frame_opened (Some (Enter Hard)) = Hardirq
 frame_opened (Some (Enter Soft)) = Softirq
 frame_opened _ = Task
 
--- the kind of the frame that the entry at this position opened, and the task frame where there is none
+-- the kind of the frame that the entry at this position opened, or the task frame if there is none
 abbrev pub kind_from : List Event → Option ℕ → Frame
 kind_from t None = Task
 kind_from t (Some k) = frame_opened (event t k)

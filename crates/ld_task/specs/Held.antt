@@ -17,12 +17,12 @@ count_since t i k test = count_between i k (λ p. one_frame t i p && test (event
 abbrev pub acquisitions_since : List Event → ℕ → ℕ → ℕ
 acquisitions_since t i k = count_since t i k (takes (key_at t i))
 
--- how often i's key is given back in i's frame, after i and before k
+-- how often i's key is released in i's frame, after i and before k
 abbrev pub releases_since : List Event → ℕ → ℕ → ℕ
 releases_since t i k = count_since t i k (gives_back (key_at t i))
 
--- acquisition i is still kept at j: its frame stays open up to j, and nowhere up to j has its key been given back more
--- often than it was taken again since i (a release gives back the newest lock of its key, so the later ones go first)
+-- acquisition i is still kept at j: its frame stays open up to j, and nowhere up to j has its key been released more
+-- often than it was taken again since i (a release is of the newest lock of its key, so the later ones go first)
 unfoldable pub is_kept : List Event → ℕ → ℕ → Bool
 is_kept t i j =
     nat_lt i j && is_acquire (event t i)

@@ -26,8 +26,8 @@ kind_of_letters false false = En
 kind_of_letters true true = Sr
 kind_of_letters true false = Sn
 
--- the kind of a dependency from a lock held in the first mode to one taken in the second: the first letter is S where the
--- held lock was taken by a reader of either kind, the second R where the new one is taken by a recursive reader
+-- the kind of a dependency from a lock held in the first mode to one taken in the second: the first letter is S if the
+-- held lock was taken by a reader of either kind, the second R if the new one is taken by a recursive reader
 abbrev pub kind_between : Mode → Mode → Kind
 kind_between held taken = kind_of_letters (is_read held) (is_recursive taken)
 

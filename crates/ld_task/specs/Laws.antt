@@ -40,7 +40,7 @@ BeginningsKeepTheirChains = (t : List Event) (m n : ℕ) → m ≤ n →
 abbrev pub BeginningsKeepTheirFaults : Type 0
 BeginningsKeepTheirFaults = (t : List Event) (m j : ℕ) → j < m → fault (take m t) j ≡ fault t j
 
--- one event more adds its own chain, if it makes one
+-- one more event adds its own chain, if it makes one
 abbrev pub OneMoreEventAddsItsChain : Type 0
 OneMoreEventAddsItsChain =
     (t : List Event) (e : Event)

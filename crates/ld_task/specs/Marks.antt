@@ -30,7 +30,7 @@ same_form true read = read
 same_form false read = not read
 
 -- an acquisition in this mode, with the frame's kind and the flags just before it, gives this mark: a key is used in a
--- state where it may be waited for
+-- state only if it may be waited for
 abbrev pub marks_taken : Mode → Frame → Flags → Mark → Bool
 marks_taken mode frame flags Used = true
 marks_taken mode frame flags (UsedIn irq read) =

@@ -1,4 +1,4 @@
--- The state of a task beside the positions of its locks [this project's own].
+-- The state of a task together with the positions of its locks [this project's own].
 use Rattle.std.specs.Prelude.{◌≡◌, ℕ, ◌+◌, List, Option, Result, Ok, Err}
 use Rattle.ld_trace.specs.declared.event.Event.{Event}
 use Rattle.ld_task.specs.Chains.{ChainParts}
@@ -27,8 +27,8 @@ pub record IsPlacedAfter (t : List Event) (n : ℕ) (placed : PlacedParts) : Typ
   pub state : IsStateAfter t n placed.state
   pub places : placed.places ≡ kept_positions t n
 
--- The event at n, after the first n events of t: either this is the state after it, and the answer is the chain at n; or the
--- event at n is the first of t that isn't allowed, with this fault.
+-- The event at n, after the first n events of t: either this is the state after it, and the result is the chain at n;
+-- or the event at n is the first of t that isn't allowed, with this fault.
 abbrev pub GoesOnPlaced : List Event → ℕ → PlacedParts → Result (Option ChainParts) StepFault → Type 0
 GoesOnPlaced t n new (Ok answer) = IsPlacedAfter t (n + 1) new × (answer ≡ chain t n)
 GoesOnPlaced t n new (Err refused) = IsFirstFault t (record { fault = refused; place = n })

@@ -1,4 +1,4 @@
-//! Chains: what one acquisition or opening tells.
+//! Chains: what one acquisition or opening shows.
 
 ghost use Rattle.std.specs.Prelude.{◌≡◌, ◌≤◌, ◌↔◌, IsTrue, length, option_map, slice_get};
 ghost use Rattle.ld_task.specs.Flags.{is_on};
@@ -11,9 +11,9 @@ use ld_trace::{Irq, KeyId, Mode};
 use std::hash::{Hash, Hasher};
 use std::marker::Model;
 
-/// What an acquisition or an opening tells: the locks that are held in its frame, oldest first; for an acquisition the
-/// new lock and the frame; and the flags, just before an acquisition or just after an opening. At most 48 locks
-/// are held.
+/// What an acquisition or an opening shows: the locks that are held in its frame, oldest first; for an acquisition the
+/// new lock and the frame; and the flags, just before an acquisition or just after an opening. At most 48 locks are
+/// held.
 #[derive(Drop, Debug)]
 pub struct Chain {
     held: ArrayVec<Lock, MAX_HELD>,
@@ -81,7 +81,7 @@ impl Chain {
         self.held.len()
     }
 
-    /// The held lock at place `i`, counted from the oldest, or None where there is none.
+    /// The held lock at place `i`, counted from the oldest, or None if there is none.
     pub fn held(&self, i: usize) -> Option<(KeyId, Mode)>
         ensures { result ≡ option_map key_and_mode (slice_get self.now.held_locks i) }
     {

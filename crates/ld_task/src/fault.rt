@@ -7,10 +7,10 @@ use thiserror::Error;
 /// Why an event isn't allowed after the events before it.
 #[derive(Clone, Copy, PartialEq, Eq, Debug, Error)]
 pub enum StepFault {
-    /// A release, where no lock of its key is held in the frame.
+    /// A release of a key of which no lock is held in the frame.
     #[error("the frame holds no lock of the key that is given back")]
     NotHeld,
-    /// An acquisition, where 48 locks are kept over all open frames.
+    /// An acquisition while 48 locks are kept over all open frames.
     #[error("48 locks are held already")]
     TooDeep,
     /// An entry that the frame or its flags don't allow.
@@ -49,7 +49,7 @@ impl StepFault {
 #[derive(Clone, Copy, PartialEq, Eq, Debug, Error)]
 #[error("event {place}: {fault}")]
 pub struct StepAt {
-    /// Why it isn't.
+    /// Why it isn't allowed.
     pub fault: StepFault,
     /// Its position, counted from 0.
     pub place: usize,

@@ -18,7 +18,7 @@ impl Frame {
     ghost use Rattle.ld_task.specs.Flags.{may_change, starts_on};
     ghost use Rattle.ld_task.specs.Frames.{is_task};
 
-    // Whether it is the task's.
+    // Whether it is the task frame.
     pub(crate) fn is_task(self) -> bool
         ensures { result ≡ is_task self }
     {
@@ -83,7 +83,7 @@ impl Flags {
         }
     }
 
-    /// Whether a use with these flags is one with this state enabled.
+    /// Whether a lock used with these flags is used with this state enabled.
     pub fn is_enabled(self, irq: Irq) -> bool
         ensures { result ≡ is_enabled irq self }
     {
@@ -93,7 +93,7 @@ impl Flags {
         }
     }
 
-    // The flags with that of this state set.
+    // The flags with the flag of this state set to `on`.
     pub(crate) fn with(self, irq: Irq, on: bool) -> Flags
         ensures { result ≡ with_flag irq on self }
     {
@@ -110,7 +110,7 @@ impl Flags {
     }
 }
 
-/// An open frame, with the flags that are its own.
+/// An open frame, with its own flags.
 #[derive(Clone, Copy, PartialEq, Eq, Debug)]
 pub struct OpenFrame {
     pub kind: Frame,
@@ -165,7 +165,7 @@ impl OpenFrame {
         }
     }
 
-    // The frame with the flag of this state set.
+    // The frame with the flag of this state set to `on`.
     pub(crate) fn turned(self, irq: Irq, on: bool) -> OpenFrame
         ensures { result ≡ turned irq on self }
     {

@@ -48,7 +48,7 @@ pub(crate) fn newest_of(
     found
 }
 
-/// Of positions beside the locks, the one beside the lock number `n` of those that were taken at this level.
+/// Given a position for each of the locks, the position of lock number `n` of those that were taken at this level.
 pub(crate) fn place_at(
     locks: &ArrayVec<KeptLock, MAX_HELD>,
     places: &ArrayVec<u32, MAX_HELD>,

@@ -3,8 +3,8 @@
 use ld_trace::Mode;
 
 /// How the two ends of a dependency are taken ["Dependency types and strong dependency paths"]. The first letter is E
-/// where the held lock was taken by a writer and S where by a reader of either kind; the second is R where the new lock
-/// is taken by a recursive reader and N where it isn't.
+/// if the held lock was taken by a writer and S if by a reader of either kind; the second is R if the new lock is taken
+/// by a recursive reader and N if it isn't.
 #[derive(Clone, Copy, PartialEq, Eq, Debug, Hash)]
 pub enum Kind {
     Er,

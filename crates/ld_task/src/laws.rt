@@ -32,7 +32,7 @@ pub fn beginnings_keep_their_faults()
     ensures { BeginningsKeepTheirFaults }
 {}
 
-/// One event more adds its own chain to those of a trace, if it makes one.
+/// One more event adds its own chain to those of a trace, if it makes one.
 pub fn one_more_event_adds_its_chain()
     ensures { OneMoreEventAddsItsChain }
 {}
@@ -42,7 +42,7 @@ pub fn turning_on_turns_on()
     ensures { TurningOnTurnsOn }
 {}
 
-/// Two chains are equal exactly where all their parts are.
+/// Two chains are equal exactly if all their parts are.
 pub fn equal_chains_have_equal_parts()
     ensures { (a b : ChainParts) → IsTrue (⟦<Chain as PartialEq>⟧.eq a b) ↔ (a ≡ b) }
 {}

@@ -49,7 +49,6 @@ impl Lock {
         }
     }
 
-    // Its key.
     pub(crate) fn key(self) -> KeyId
         ensures { result ≡ self.key }
     {
@@ -75,7 +74,6 @@ impl Lock {
     }
 }
 
-// A mode's number.
 fn number_of(mode: Mode) -> u16
     ensures { result ≡ mode_number mode }
 {

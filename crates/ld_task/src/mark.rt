@@ -2,8 +2,7 @@
 
 use ld_trace::Irq;
 
-/// A usage mark of a key ["State"]. A mark is in its read form where a reader of either kind set it [this
-/// project's own].
+/// A usage mark of a key ["State"]. A mark is in its read form if a reader of either kind set it [this project's own].
 #[derive(Clone, Copy, PartialEq, Eq, Debug, Hash)]
 pub enum Mark {
     /// Taken at all.

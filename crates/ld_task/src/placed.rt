@@ -1,4 +1,4 @@
-//! The state of a task beside the positions of its locks.
+//! The state of a task together with the positions of its locks.
 
 ghost use Rattle.std.specs.Prelude.{◌≡◌, ℕ, ◌+◌, ◌<◌, List, length, IsTrue, OnErr, Some, slice_get};
 ghost use Rattle.ld_trace.specs.declared.event.Event.{Event};
@@ -14,7 +14,8 @@ use arrayvec::ArrayVec;
 use ld_trace::{Event, KeyId, Mode};
 use std::marker::Model;
 
-/// The state of a task between two events, as `TaskState`, and the positions at which the locks that it keeps were taken.
+/// The state of a task between two events, as `TaskState`, and the positions at which the locks that it keeps were
+/// taken.
 #[derive(Drop, Debug)]
 pub struct PlacedState {
     state: TaskState,
@@ -43,7 +44,6 @@ impl PlacedState {
         }
     }
 
-    // Takes a lock.
     fn acquire(&mut self, place: u32, key: KeyId, mode: Mode) -> Result<Option<Chain>, StepFault>
         ensures { DoesPlaced self.old place (Event.Acquire mode key) self.new result }
     {
@@ -52,7 +52,7 @@ impl PlacedState {
         Ok(answer)
     }
 
-    // Gives back the newest lock of the key in this frame.
+    // Releases the newest lock of the key in this frame.
     fn release(&mut self, place: u32, key: KeyId) -> Result<Option<Chain>, StepFault>
         ensures { DoesPlaced self.old place (Event.Release key) self.new result }
     {
@@ -61,7 +61,6 @@ impl PlacedState {
         Ok(None)
     }
 
-    // One event.
     fn advance(&mut self, place: u32, event: Event) -> Result<Option<Chain>, StepFault>
         ensures { DoesPlaced self.old place event self.new result }
     {
@@ -75,7 +74,7 @@ impl PlacedState {
         }
     }
 
-    /// Goes on by one event, which stands at the position `place` of its trace, and answers the chain of an acquisition or
+    /// Advances by one event, which is at the position `place` of its trace, and returns the chain of an acquisition or
     /// an opening. An event that isn't allowed is refused, and nothing changes. The refusals are those of
     /// `TaskState::step`. Takes no memory.
     pub fn step(&mut self, place: u32, event: Event) -> Result<Option<Chain>, StepFault>
@@ -86,8 +85,8 @@ impl PlacedState {
         self.advance(place, event)
     }
 
-    /// After an event that made a chain: the position at which the chain's held lock number `n` was taken, counted from the
-    /// oldest, where there is one.
+    /// After an event that made a chain: the position at which the chain's held lock number `n`, counted from the
+    /// oldest, was taken. The result means nothing if the chain holds no such lock.
     pub fn held_place(&self, n: usize) -> Option<u32>
         ensures { (t : List Event) (j : ℕ) (event : Event) → IsPlacedAfter t (j + 1) self.now
             → slice_get t j ≡ Some event → IsTrue (makes_chain event) → n < length (held_positions t j)

@@ -51,7 +51,7 @@ impl Trace {
         self.events.as_slice()
     }
 
-    /// The event at this place, counted from 0. None exactly from the length on.
+    /// The event at this place, counted from 0. None exactly if the place isn't below the length.
     pub fn event(&self, i: usize) -> Option<Event>
         ensures { result ≡ slice_get self.now i }
     {

@@ -8,8 +8,8 @@ use crate::state::TaskState;
 use crate::trace::Trace;
 use ld_trace::RawTrace;
 
-/// The well-formed trace of these events. Succeeds exactly where each event is allowed after those before it; else
-/// answers the first one that isn't, with its fault, and the events are given up. Takes no memory.
+/// The well-formed trace of these events. Succeeds exactly if each event is allowed after those before it; otherwise
+/// the first one that isn't is returned, with its fault, and the events are dropped. Takes no memory.
 pub fn check(events: RawTrace) -> Result<Trace, StepAt>
     ensures accepts { IsOk result ↔ IsWellFormed events }
     ensures keeps { IfOk result (λ trace. trace ≡ events) }

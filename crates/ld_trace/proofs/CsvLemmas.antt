@@ -1,4 +1,4 @@
--- The records that a reader gave one after the other are the first records of its text.
+-- The records that a reader returned one after the other are the first records of its text.
 use Rattle.std.proofs.Common.{◌≡◌, ◌⊎◌, inl, inr, ℕ, zero, suc, ◌+◌, ◌-◌, ◌≤◌, ◌<◌, Bool, true, false, List, [], ◌∷◌, ◌++◌, length, Option, Some, None, IfSome, option_map, refl, sym, ap, ◌∙◌, arith, if◌then◌else◌}
 use Rattle.std.proofs.lemmas.List.{append-nil}
 use Rattle.csv.specs.Machine.{Read, ends_at_end, field_after, fields_after, is_end, next_record, step}
@@ -64,7 +64,7 @@ records-reached cfg n s s2 xs ys (r ∷ rs) h =
     let z : suc (length rs) + n ≡ suc (length rs + n) = omega arith in
     rw (z, h.1, h.2, records-reached cfg n h.0.1 s2 h.0.2 ys rs h.3)
 
--- where no record follows, there is none
+-- if no record follows, there is none
 records-none : (cfg : Config) (n : ℕ) (s : State) (ys : List ℕ) → next_record cfg s [] [] ys ≡ None → records_from cfg n s ys ≡ []
 unfolding records_from
 records-none cfg zero s ys e = refl
@@ -81,7 +81,7 @@ records-begin bytes s2 ys rows h =
     let few = few-records default_config st.StartRecord s2 (strip_bom bytes) ys rows h in
     (records_from default_config (length (strip_bom bytes) + 1 - length rows) s2 ys, records-split bytes s2 ys rows (length (strip_bom bytes) + 1 - length rows) (omega arith) h)
 
--- and where no record follows, they are all
+-- and if no record follows, they are all
 pub records-all : (bytes : List ℕ) (s2 : State) (ys : List ℕ) (rows : List Record) → Reached default_config st.StartRecord (strip_bom bytes) rows s2 ys
     → next_record default_config s2 [] [] ys ≡ None → records_of bytes ≡ rows
 records-all bytes s2 ys rows h e =
@@ -90,20 +90,20 @@ records-all bytes s2 ys rows h e =
     ∙ rw (records-none default_config (length (strip_bom bytes) + 1 - length rows) s2 ys e, append-nil rows)
 
 module _ {R : Type 0} (rem : R → Option (List ℕ)) where
-  -- a new reader gave none yet
+  -- a new reader has returned none yet
   pub given-none : (known : Option (List ℕ)) (a : Reader R) → source_of rem a ≡ option_map strip_bom known → reader_state a ≡ st.StartRecord → HasGiven rem known a []
   unfolding Reached
   given-none None a e s = tt
   given-none (Some bytes) a e s = (strip_bom bytes, e, (sym s, refl))
 
-  -- one more record was given
+  -- one more record was returned
   pub given-more : (known : Option (List ℕ)) (a b : Reader R) (rows : List Record) (r : Record) → ReadsPlain a → HasGiven rem known a rows → ReadRecord rem a b true r
       → HasGiven rem known b (rows ++ r ∷ [])
   given-more None a b rows r p h read = tt
   given-more (Some bytes) a b rows r p h read =
       rows-more rem a b r default_config st.StartRecord (strip_bom bytes) h.0 rows p.config h.1 h.2 read
 
-  -- the records that were given begin those of the bytes
+  -- the records that were returned begin those of the bytes
   pub given-begin : (known : Option (List ℕ)) (a : Reader R) (rows : List Record) → HasGiven rem known a rows
       → IfSome known (λ bytes. (rest : List Record) × (records_of bytes ≡ rows ++ rest))
   given-begin None a rows h = tt

@@ -40,7 +40,7 @@ unfolding field_at
 four-fields [] a b d f n h i j k = absurd (omega arith)
 four-fields (x ∷ r) a b d f n h i j k = let e : r ≡ b ∷ d ∷ f ∷ [] = three-fields r b d f (omega arith) i j k in cc
 
--- what a record of so many fields says
+-- what a record with this many fields says
 pub line_of_record-one : (version : Version) (fs : Record) (a : List ℕ) → length fs ≡ 1 → field_at fs 0 ≡ Some a → line_of_record version fs ≡ leave_line a
 unfolding line_of_record
 line_of_record-one version fs a n h = rw (one-field fs a n h)

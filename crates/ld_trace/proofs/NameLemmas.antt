@@ -9,7 +9,7 @@ use Rattle.indexmap.specs.IndexSet.{insert_key}
 use Rattle.ld_trace.specs.Names.{AreNumbered, Name, is_known, is_name, is_one_too_many, is_same, place_of, with_name}
 
 module _ {X : Type 0} (f : X → Name) (eq : X → X → Bool) (says : (a b : X) → eq a b ≡ is_same (f a) (f b)) where
-  -- a value is in the set where its name is known
+  -- a value is in the set exactly if its name is known
   pub known-map : (ks : List X) (v : X) → list_any (eq v) ks ≡ is_known (map f ks) (f v)
   known-map [] v = refl
   known-map (k ∷ ks) v = rw (says v k, known-map ks v)
@@ -54,7 +54,7 @@ AreNumbered-none room most = record { most = most; few = omega arith; named = re
 pub fits-known : (room : ℕ) (names : List Name) (name : Name) → is_known names name ≡ true → is_one_too_many room names name ≡ false
 fits-known room names name known = rw known refl
 
--- a new one is, where there is no room
+-- a new one is, if there is no room
 pub too-many-new : (room : ℕ) (names : List Name) (name : Name) → is_known names name ≡ false → room ≤ length names → is_one_too_many room names name ≡ true
 too-many-new room names name new full = rw new (grind (arith, nat_tests))
 

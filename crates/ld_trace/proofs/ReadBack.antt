@@ -266,7 +266,7 @@ same-name a b h =
     let sub = (Decides-eqb a.1 b.1).0 parts.1 in
     λ i. (class i, sub i)
 
--- a new name stands at the end
+-- a new name is at the end
 new-there : (names : List Name) (name : Name) → is_known names name ≡ false → slice_get (names ++ name ∷ []) (place_of names name) ≡ Some name
 new-there [] name h = refl
 new-there (x ∷ xs) name h =
@@ -282,7 +282,7 @@ found-there (x ∷ xs) name h = by (is_same name x) refl (found-there xs name)
     by true e rest = rw e (ap Some (sym (same-name name x e)))
     by false e rest = let next : 1 + place_of xs name ≡ suc (place_of xs name) = omega arith in rw (e, next) (rest (rw e at h))
 
--- a name stands at its place in the names with it
+-- a name is at its place in the names with it
 with_name-there : (names : List Name) (name : Name) → slice_get (with_name names name) (place_of names name) ≡ Some name
 with_name-there names name = by (is_known names name) refl
   where

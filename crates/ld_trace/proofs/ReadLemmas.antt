@@ -39,7 +39,7 @@ header-says version (w ∷ v ∷ []) named e = by (bytes_eq w (codes "lockdep"))
     by false is = absurd (let none : version_of (w ∷ v ∷ []) ≡ None = rw is refl in cc)
 header-says version (w ∷ v ∷ x ∷ rest) named e = absurd (cc)
 
--- the header alone was taken
+-- only the header was taken
 pub taken-header : (room : ℕ) (version : Version) (old : List Name) (h : Record) → version_of h ≡ Some version → AreTaken room version old (h ∷ []) old []
 unfolding fault_at names_after
 taken-header room version old h e = record {

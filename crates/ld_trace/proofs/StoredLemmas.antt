@@ -11,7 +11,7 @@ use Rattle.ld_trace.specs.declared.key_table.TheConstants.{MAX_SUB}
 use Rattle.ld_trace.specs.declared.stored_name.StoredName.{StoredName}
 use Rattle.ld_trace.proofs.NameLemmas.{position-found, known-map, place-map, with_name-map, distinct-map}
 
--- two stored names are equal where their names are
+-- two stored names are equal exactly if their names are
 eq-is_same : (a b : StoredName) → eq-value.it a b ≡ is_same (name_of a) (name_of b)
 eq-is_same a b = refl
 

@@ -40,7 +40,7 @@ unfolding names_after
 names_after-push version old [] r = refl
 names_after-push version old (q ∷ rows) r = names_after-push version (with_read old (line_of_record version q)) rows r
 
--- what stands in front doesn't look at what follows
+-- what comes first doesn't depend on what follows
 pub names_before-front : (version : Version) (old : List Name) (rows rest : List Record) (i : ℕ) → i ≤ length rows → names_before version old (rows ++ rest) i ≡ names_before version old rows i
 names_before-front version old rows rest i h = ap (names_after version old) (take-append-le i rows rest h)
 
@@ -89,7 +89,7 @@ taken-faultless room version now new before after r place t few = rw (few-places
 taken-event : (room : ℕ) (version : Version) (now new : List Name) (before after : List Event) (r : Record) (t : TakesLine room version now new before after r) → line_event now (line_of_record version r) ≡ Some (event_of now t.line)
 taken-event room version now new before after r t = rw t.says refl
 
--- a known name stands within the names
+-- the place of a known name is within the names
 first-below : {X : Type 0} (p : X → Bool) (xs : List X) → list_any p xs ≡ true → position_or_len p xs < length xs
 first-below p [] h = absurd (true≢false (sym h))
 first-below p (x ∷ xs) h = by (p x) (first-below p xs) h
@@ -98,7 +98,7 @@ first-below p (x ∷ xs) h = by (p x) (first-below p xs) h
     by true rest g = omega arith
     by false rest g = omega (arith, rest g)
 
--- and each name within those with it
+-- and that of each name within the names with it
 pub place-below : (names : List Name) (name : Name) → place_of names name < length (with_name names name)
 place-below names name = by (is_known names name) refl
   where

@@ -23,9 +23,9 @@ pub record AreOfTable (table : Table) (events : List Event) : Type 0 where
   pub below : KeysBelow (length table.names) events
   pub few : length events ≤ MAX_EVENTS
 
--- the text of these events reads without fault over the names `old`, where there is room for so many: it takes them to `new`,
--- which has the events' names too, and stands for events that say the same, each with the number that its key's name has in
--- `new`
+-- with room for `room` names, the text of these events reads without fault over the names `old`: it takes them to
+-- `new`, which has the events' names too, and stands for events that say the same, each with the number of its key's
+-- name in `new`
 pub record ReadsBack (room : ℕ) (names : List Name) (events : List Event) (old new : List Name) (read : List Event) : Type 0 where
   pub reads : ReadsTo room old (trace_text names events) new read
   pub names_are : new ≡ with_lines old (lines_at names events)

@@ -26,7 +26,7 @@ pub data Line : Type 0 where
   turns_on : Irq → Line
   turns_off : Irq → Line
 
--- the mode of a try: `tw`, `tr` or `trr`, which version 1 has not
+-- the mode of a try: `tw`, `tr` or `trr`, which version 1 doesn't have
 abbrev pub try_mode_of : Version → List ℕ → Option Mode
 try_mode_of One word = None
 try_mode_of Two word = if bytes_eq word (codes "tw") then Some TryWrite
@@ -53,7 +53,7 @@ sub_of [] = None
 sub_of (digit ∷ []) = if nat_le 48 digit && nat_le digit 55 then Some (digit - 48) else None
 sub_of (digit ∷ more ∷ rest) = None
 
--- the name of a class's name and a subclass, of which the class's name is judged first
+-- the name of a class's name and a subclass, of which the class's name is checked first
 abbrev pub name_of_fields : List ℕ → Option ℕ → Result Name TraceFaultKind
 name_of_fields class None = if is_class_name class then Err BadSub else Err BadName
 name_of_fields class (Some sub) = if is_class_name class then Ok (class, sub) else Err BadName

@@ -48,7 +48,8 @@ pub record Table : Type 0 where
   pub room : ℕ
   pub names : List Name
 
--- what a table keeps: room for at most 8,192 names, and no more names than it has room for, each a name, none of them twice
+-- the invariant of a table: room for at most 8,192 names, and no more names than it has room for, each a valid name,
+-- none of them twice
 pub record AreNumbered (table : Table) : Type 0 where
   pub most : table.room ≤ MAX_MANY
   pub few : length table.names ≤ table.room

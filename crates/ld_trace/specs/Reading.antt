@@ -12,11 +12,11 @@ use Rattle.ld_trace.specs.Lines.{Line, Record, event_of, is_over, line_of_record
 use Rattle.ld_trace.specs.Names.{Name}
 use Rattle.ld_trace.specs.TraceFaults.{is_of_text}
 
--- the records of these bytes, as the definition of the crate `csv` gives them. They stand at places 0, 1, and so on
+-- the records of these bytes, as the definition of the crate `csv` gives them. They are at places 0, 1, and so on
 abbrev pub records_of : List ℕ → List Record
 records_of bytes = records default_config (strip_bom bytes)
 
--- the version of a trace of these records, which the first of them names: where it names none, the trace is refused there
+-- the version of a trace of these records, which the first of them names; if it names none, the trace is refused there
 abbrev pub version_in : List Record → Version
 version_in [] = One
 version_in (r ∷ rs) = unwrap_or (version_of r) One
@@ -46,7 +46,7 @@ abbrev pub header_fault : Option Record → Option TraceFaultKind
 header_fault None = Some NoHeader
 header_fault (Some r) = version_fault (version_of r)
 
--- the fault of what a record says, where there is room for so many names
+-- the fault of what a record says, with room for `room` names
 abbrev pub line_fault : ℕ → List Name → Result Line TraceFaultKind → Option TraceFaultKind
 line_fault room names (Err fault) = Some fault
 line_fault room names (Ok line) = if is_over room names line then Some TooManyKeys else None
@@ -82,16 +82,16 @@ event_at version old rows place =
 abbrev pub version_of_trace : List ℕ → Version
 version_of_trace bytes = version_in (records_of bytes)
 
--- these bytes are a trace without fault, where there is room for so many names: it stands for these events, the event at
--- place i being that of the record at place i + 1, and takes the names of the keys from old to new
+-- with room for `room` names, these bytes are a trace without fault: it stands for these events, the event at place i
+-- being that of the record at place i + 1, and takes the names of the keys from old to new
 pub record ReadsTo (room : ℕ) (old : List Name) (bytes : List ℕ) (new : List Name) (events : List Event) : Type 0 where
   pub faultless : (place : ℕ) → fault_at room (version_of_trace bytes) old (records_of bytes) place ≡ None
   pub count : length (records_of bytes) ≡ suc (length events)
   pub each : (i : ℕ) → slice_get events i ≡ event_at (version_of_trace bytes) old (records_of bytes) (suc i)
   pub names : new ≡ names_after (version_of_trace bytes) old (records_of bytes)
 
--- reading these bytes stopped with this fault, where there is room for so many names: the record of its number, counted from
--- 1, is the least with a fault of the text, or the reader or memory failed there; the names are those before that record
+-- with room for `room` names, reading these bytes stopped with this fault: the record with its number, counted from 1,
+-- is the first with a fault of the text, or the reader or memory failed there; the names are those before that record
 pub record StopsAt (room : ℕ) (old : List Name) (bytes : List ℕ) (new : List Name) (fault : TraceFault) : Type 0 where
   pub place : ℕ
   pub number : fault.at ≡ suc place

@@ -14,7 +14,7 @@ use Rattle.ld_trace.specs.Events.{has_try}
 use Rattle.ld_trace.specs.Lines.{Line, Record, takes, gives_back, enters, leaves, turns_on, turns_off}
 use Rattle.ld_trace.specs.Names.{Name}
 
--- the name of the key of this number; an empty one where there is no such key
+-- the name of the key of this number; an empty one if there is no such key
 abbrev pub name_at : List Name → ℕ → Name
 name_at names key = unwrap_or (slice_get names key) ([], 0)
 
@@ -63,8 +63,9 @@ abbrev pub header_of : Version → Record
 header_of One = codes "lockdep" ∷ codes "1" ∷ []
 header_of Two = codes "lockdep" ∷ codes "2" ∷ []
 
--- the text of a record, as the definition of the crate `csv` gives it: its fields with commas between them, a line feed behind
--- them, and a field with a comma or a double quote in it between double quotes, each double quote in it written twice
+-- the text of a record, as the definition of the crate `csv` gives it: its fields with commas between them, a line feed
+-- after them, and a field with a comma or a double quote in it between double quotes, each double quote in it written
+-- twice
 abbrev pub record_text : Record → List ℕ
 record_text fields = row_text default_writer fields
 

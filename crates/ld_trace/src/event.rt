@@ -70,15 +70,15 @@ pub enum Irq {
 pub enum Event {
     /// The task takes a lock of this key.
     Acquire { mode: Mode, key: KeyId },
-    /// It gives back a lock of this key.
+    /// It releases a lock of this key.
     Release { key: KeyId },
     /// An interrupt of this kind begins in it.
     Enter { irq: Irq },
     /// The innermost interrupt ends.
     Leave,
-    /// It lets interrupts of this kind in.
+    /// It enables interrupts of this kind.
     TurnOn { irq: Irq },
-    /// It keeps interrupts of this kind out.
+    /// It disables interrupts of this kind.
     TurnOff { irq: Irq },
 }
 

@@ -4,10 +4,10 @@ ghost use Rattle.std.specs.Prelude.{◌≡◌, ◌<◌, ◌↔◌, IsSome, IfSom
 
 use std::marker::Model;
 
-/// The most lock keys of a table of `KeyTable::new`, and so of a run as it is specified.
+/// The most lock keys in a table made by `KeyTable::new`, and so of a run as it is specified.
 pub const MAX_KEYS: u16 = 256;
 
-/// The most lock keys that there are: the number of each is below it, and fits in 13 bits.
+/// The most lock keys that there can be: each key's number is below it, and so fits in 13 bits.
 pub const MAX_MANY: u16 = 8_192;
 
 /// The number of a lock key, below `MAX_MANY`.
@@ -38,7 +38,7 @@ impl Default for KeyId {
 }
 
 impl KeyId {
-    /// The key of this number. None exactly from `MAX_KEYS` on.
+    /// The key with this number. None exactly if it isn't below `MAX_KEYS`.
     pub fn new(number: u16) -> Option<KeyId>
         ensures exact { IsSome result ↔ (number < MAX_KEYS) }
         ensures value { IfSome result (λ key. key ≡ number) }
@@ -50,7 +50,7 @@ impl KeyId {
         }
     }
 
-    /// The key of this number, as a table that was made for many has them. None exactly from `MAX_MANY` on.
+    /// The key with this number, as in a table made for many keys. None exactly if it isn't below `MAX_MANY`.
     pub fn of_many(number: u16) -> Option<KeyId>
         ensures exact { IsSome result ↔ (number < MAX_MANY) }
         ensures value { IfSome result (λ key. key ≡ number) }

@@ -1,7 +1,7 @@
-//! Records of names that the table found lately, made into events at once.
+//! Records whose names the table found recently, turned into events at once.
 //!
-//! Such a record needs no look at each byte of its name, since the table holds none but good names. What is found here is
-//! what reading the record whole would find; where nothing is found, it is read whole.
+//! The bytes of such a record's name needn't be checked, since the table holds only valid names. What is found here is
+//! what reading the whole record would find; if nothing is found, the whole record is read.
 
 ghost use Rattle.std.specs.Prelude.{◌≡◌, IfSome, IsSomeAnd, codes, true};
 ghost use Rattle.std.specs.Str.{bytes_eq};
@@ -14,8 +14,8 @@ use crate::version::Version;
 use crate::{Event, KeyId, KeyTable};
 use csv::ByteRecord;
 
-// The event of a record whose name the table found lately. None says nothing. The name is looked for first: that takes longest, and
-// needn't wait until it is known whether the record takes a lock or gives it back.
+// The event of a record whose name the table found recently; None says nothing about the record. The name is looked up
+// first: that takes longest, and needn't wait until it is known whether the record takes or releases a lock.
 pub(crate) fn known_event(version: Version, row: &ByteRecord, keys: &KeyTable) -> Option<Event>
     ensures { IfSome result (IsEventOf keys.now.room keys.now.names (line_of_record version (fields_of row.now))) }
 {

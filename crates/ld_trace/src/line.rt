@@ -5,7 +5,7 @@ ghost use Rattle.ld_trace.specs.Names.{is_name};
 
 use crate::{Event, Irq, KeyFault, KeyId, KeyTable, Mode, TraceFaultKind};
 
-// A class's name and a subclass, both as the format wants them. The name lies in the record's own bytes.
+// A class's name and a subclass, both as the format requires. The name is borrowed from the record's own bytes.
 #[derive(Clone, Copy)]
 pub(crate) struct LineName<'r> {
     pub(crate) class: &'r str,
@@ -13,7 +13,7 @@ pub(crate) struct LineName<'r> {
     ghost named: { is_name (class.now, sub) ≡ true },
 }
 
-// What a record says, with the lock's name where it has one.
+// What a record says, with the lock's name if it has one.
 #[derive(Clone, Copy)]
 pub(crate) enum Line<'r> {
     Takes(LineName<'r>, Mode),
@@ -32,8 +32,8 @@ impl Line<'_> {
 
     // Its event, with the number of its key in the table.
     //
-    // `TooManyKeys` where the key would be one more than there is room for, `Memory` where memory for a new key was refused. The table is then
-    // unchanged.
+    // `TooManyKeys` if the key would be one more than there is room for, `Memory` if memory for a new key is refused.
+    // The table is then unchanged.
     pub(crate) fn numbered(&self, keys: &mut KeyTable) -> Result<Event, TraceFaultKind>
         ensures event { IfOk result (λ event. event ≡ event_of keys.old.names (line_read self.now)) }
         ensures names { IfOk result (λ _. keys.new.names ≡ with_line keys.old.names (line_read self.now)) }
@@ -70,7 +70,7 @@ impl LineName<'_> {
     ghost use Rattle.ld_trace.specs.Inside.ReadLines.{name_read};
     ghost use Rattle.ld_trace.specs.TraceFaults.{is_of_text};
 
-    // The number of its key in the table. Refusals as above.
+    // The number of its key in the table. Refusals are those of `Line::numbered`.
     fn numbered(&self, keys: &mut KeyTable) -> Result<KeyId, TraceFaultKind>
         ensures value { IfOk result (λ key. key ≡ place_of keys.old.names (name_read self.now)) }
         ensures names { IfOk result (λ _. keys.new.names ≡ with_name keys.old.names (name_read self.now)) }

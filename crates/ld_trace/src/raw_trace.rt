@@ -31,7 +31,7 @@ impl Model for RawTrace {
 }
 
 impl RawTrace {
-    /// The trace of these events. None exactly where there are more than 1,000,000, and then they are given up.
+    /// The trace of these events. None exactly if there are more than 1,000,000, and then they are dropped.
     pub fn from_events(events: Vec<Event>) -> Option<RawTrace>
         ensures exact { IsSome result ↔ (length events.items ≤ MAX_EVENTS) }
         ensures events { IfSome result (λ trace. trace ≡ events.items) }
@@ -43,7 +43,7 @@ impl RawTrace {
         }
     }
 
-    // The trace of these events, of which there are few enough.
+    // The trace of these events, at most 1,000,000 of them.
     pub(crate) fn of_few(events: Vec<Event>) -> RawTrace
         requires { length events.items ≤ MAX_EVENTS }
         ensures { result ≡ events.items }
@@ -66,7 +66,7 @@ impl RawTrace {
         &self.events
     }
 
-    /// The event at this place, counted from 0. None exactly from the length on.
+    /// The event at this place, counted from 0. None exactly if the place isn't below the length.
     pub fn event(&self, i: usize) -> Option<Event>
         ensures { result ≡ slice_get self.now i }
     {
@@ -80,7 +80,7 @@ impl RawTrace {
         self.events.iter().all(|event| event.key_is_below(n))
     }
 
-    /// Whether one of the events takes a lock by a try, so that the trace is one of version 2 alone.
+    /// Whether one of the events takes a lock by a try, which only version 2 of the format can say.
     pub fn has_try(&self) -> bool
         ensures { result ≡ has_try self.now }
     {

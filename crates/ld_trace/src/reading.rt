@@ -20,14 +20,15 @@ use std::io::Read;
 
 /// Reads a trace in the text format of version 1 or 2, and numbers its keys in the table.
 ///
-/// The records are those of CSV with the comma and the double quote, without a header row of CSV's own, of any length and
-/// untrimmed. The first is `lockdep,1` or `lockdep,2`. Each of the others is an event: `acq,NAME,SUB,MODE`, `rel,NAME,SUB`,
-/// `enter,STATE`, `leave`, `on,STATE` or `off,STATE`, where a name is 1 to 64 bytes of 0x21 to 0x7E, a subclass is a digit
-/// 0 to 7, a mode is `w`, `r` or `rr`, or in version 2 also `tw`, `tr` or `trr`, and a state is `hardirq` or `softirq`.
+/// The records are those of CSV with the comma and the double quote, without a header row of CSV's own, of any length
+/// and untrimmed. The first is `lockdep,1` or `lockdep,2`. Each of the others is an event: `acq,NAME,SUB,MODE`,
+/// `rel,NAME,SUB`, `enter,STATE`, `leave`, `on,STATE` or `off,STATE`, where a name is 1 to 64 bytes of 0x21 to 0x7E, a
+/// subclass is a digit 0 to 7, a mode is `w`, `r` or `rr`, or in version 2 also `tw`, `tr` or `trr`, and a state is
+/// `hardirq` or `softirq`.
 ///
-/// The least faulty record is refused, by the first of its faults in this order: T8 or T9 in getting it, T1, T7, T2, T3,
-/// T4, T5, T9 for the event's room, T6, T9 for the key. Keys that had numbers keep them. After a refusal the keys of the
-/// events before it have numbers too, and that of the refused record has not.
+/// The first faulty record is refused, with the first of its faults in this order: T8 or T9 in getting it, T1, T7, T2,
+/// T3, T4, T5, T9 for the event's room, T6, T9 for the key. Keys that had numbers keep them. After a refusal the keys
+/// of the events before it have numbers too, and the refused record has added none.
 pub fn read_trace<R: Read + Drop>(
     alloc: Global,
     reader: R,
@@ -38,7 +39,7 @@ pub fn read_trace<R: Read + Drop>(
     ensures refused { IfErr result (λ fault. IfSome (R.remaining reader)
         (λ bytes. StopsAt keys.old.room keys.old.names bytes keys.new.names fault)) }
 
-    // These hold of any reader, also of one that doesn't tell its bytes.
+    // These hold for any reader, even if its bytes aren't known.
     ensures numbered { IfOk result (λ trace. KeysBelow (length keys.new.names) trace) }
     ensures kept { (added : List Name) × (keys.new.names ≡ keys.old.names ++ added) }
     ensures room { keys.new.room ≡ keys.old.room }
@@ -107,7 +108,7 @@ fn take_header<R: Read>(
     }
 }
 
-// Takes the next record as an event, and says whether there was one.
+// Takes the next record as an event, and returns whether there was one.
 fn take_event<R: Read>(
     version: Version,
     source: &mut Reader<R>,
@@ -148,7 +149,7 @@ fn take_event<R: Read>(
     Ok(true)
 }
 
-// Gets the next record, and says whether there was one.
+// Gets the next record, and returns whether there was one.
 fn get_record<R: Read>(source: &mut Reader<R>, row: &mut ByteRecord) -> Result<bool, TraceFaultKind>
     requires { ReadsPlain source.old }
     ensures reads { IfOk result
@@ -162,7 +163,7 @@ fn get_record<R: Read>(source: &mut Reader<R>, row: &mut ByteRecord) -> Result<b
     }
 }
 
-// The fault of an error in getting a record: want of memory, or else the source's failure.
+// The fault for an error in getting a record: out of memory, or else a failure of the source.
 fn fault_of(error: &csv::Error) -> TraceFaultKind
     ensures value { result ≡ read_fault (error_kind error.now) }
     ensures not_text { is_of_text result ≡ false }

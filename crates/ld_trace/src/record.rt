@@ -31,7 +31,6 @@ pub(crate) fn version_of(row: &ByteRecord) -> Option<Version>
     }
 }
 
-// The version of this word.
 fn version_named(word: &[u8]) -> Option<Version>
     ensures { result ≡ version_named word.now }
 {
@@ -102,7 +101,7 @@ pub(crate) fn is_acquire(verb: &[u8]) -> bool
     matches!(verb, [b'a', b'c', b'q'])
 }
 
-// Whether it gives one back.
+// Whether a record of this verb releases a lock.
 pub(crate) fn is_release(verb: &[u8]) -> bool
     ensures { result ≡ bytes_eq verb.now (codes "rel") }
 {
@@ -142,7 +141,7 @@ fn acquire_line<'r>(
     }
 }
 
-// The name of these two fields, of which the class's name is judged first.
+// The name in these two fields; the class's name is checked first.
 fn name_of<'r>(class: &'r [u8], sub: &[u8]) -> Result<LineName<'r>, TraceFaultKind>
     ensures says { SaysName (name_of_fields class.now (sub_of sub.now)) result }
     ensures text { IfErr result (λ kind. is_of_text kind ≡ true) }
@@ -178,7 +177,6 @@ pub(crate) fn sub_of(sub: &[u8]) -> Option<u8>
     }
 }
 
-// The mode of this field.
 pub(crate) fn mode_of(version: Version, word: &[u8]) -> Option<Mode>
     ensures { result ≡ mode_of version word.now }
 {
@@ -190,7 +188,7 @@ pub(crate) fn mode_of(version: Version, word: &[u8]) -> Option<Mode>
     }
 }
 
-// The mode of a try, which version 1 has not.
+// The mode of a try, which version 1 doesn't have.
 fn try_mode_of(version: Version, word: &[u8]) -> Option<Mode>
     ensures { result ≡ try_mode_of version word.now }
 {
@@ -221,14 +219,12 @@ fn irq_of(word: &[u8]) -> Option<Irq>
     }
 }
 
-// Whether a field is this word.
 fn is_word(field: &[u8], word: &[u8]) -> bool
     ensures { result ≡ bytes_eq field.now word.now }
 {
     field == word
 }
 
-// The field at this place.
 pub(crate) fn field(row: &ByteRecord, place: usize) -> &[u8]
     requires { place < length (fields_of row.now) }
     ensures { field_at (fields_of row.now) place ≡ Some result.now }

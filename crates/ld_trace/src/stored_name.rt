@@ -12,7 +12,7 @@ pub const MAX_NAME: usize = 64;
 // The number of slots that names fall into.
 pub(crate) const SLOTS: usize = 4096;
 
-// A class's name and a subclass, kept without memory of their own.
+// A class's name and a subclass, stored in place, without memory of their own.
 #[derive(Clone, Copy, PartialEq, Eq, Hash, Debug)]
 pub(crate) struct StoredName {
     pub(crate) text: ArrayString<MAX_NAME>,
@@ -39,7 +39,7 @@ impl StoredName {
     }
 }
 
-// A cheap number of a name and a subclass: a few of the bytes, turned against each other. Names that differ may share it.
+// A cheap hash of a name and a subclass, made from a few of the bytes. Names that differ may share it.
 pub(crate) fn slot_of(text: &[u8], sub: u8) -> usize
     ensures { result < SLOTS }
 {
@@ -48,7 +48,8 @@ pub(crate) fn slot_of(text: &[u8], sub: u8) -> usize
     (mixed.wrapping_mul(0x9E37_79B1) >> 20) as usize % SLOTS
 }
 
-// The first and the middle four bytes of a text, and its last three; of a shorter one its first and last byte.
+// The first four bytes of a text, the middle four and the last three; of a text of fewer than four, its first and last
+// byte.
 fn samples_of(text: &[u8]) -> (u32, u32, u32) {
     let count = text.len();
     if count >= 4 {
@@ -62,7 +63,8 @@ fn samples_of(text: &[u8]) -> (u32, u32, u32) {
     }
 }
 
-// The last three bytes, one by one: they were just written so, and the processor would have to wait until it can get them in one.
+// The last three bytes, one by one: they were just written that way, and the processor would have to wait before it
+// could load them together.
 fn last_three(text: &[u8]) -> u32
     requires { 3 ≤ length text.now }
 {
@@ -71,7 +73,6 @@ fn last_three(text: &[u8]) -> u32
     u32::from(third) << 14 ^ u32::from(second) << 7 ^ u32::from(last)
 }
 
-// The four bytes at this place.
 fn four_at(text: &[u8], place: usize) -> u32
     requires { place + 4 ≤ length text.now }
 {

@@ -23,7 +23,7 @@ pub enum TraceFaultKind {
     /// The mode is unknown.
     #[error("no such mode")]
     BadMode,
-    /// The record would add one more key than the table has room for: to a table of `KeyTable::new`, a 257th.
+    /// The record would add one more key than the table has room for: in a table made by `KeyTable::new`, the 257th.
     #[error("the table has no room for another lock key")]
     TooManyKeys,
     /// It is the 1,000,001st record of an event, whatever its fields.
@@ -32,7 +32,7 @@ pub enum TraceFaultKind {
     /// The records' source failed.
     #[error("the trace can't be read")]
     Source,
-    /// Memory was refused while the record was got or stored.
+    /// Memory was refused while the record was read or stored.
     #[error("out of memory")]
     Memory,
 }

@@ -5,6 +5,6 @@
 pub(crate) enum Version {
     /// Without try acquisitions.
     One,
-    /// With them.
+    /// With try acquisitions.
     Two,
 }

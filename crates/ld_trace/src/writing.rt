@@ -14,12 +14,12 @@ use csv::{Writer, WriterBuilder};
 use std::alloc::{AllocError, Global};
 use std::io::Write;
 
-/// The text of a trace, with the names that its keys have in the table: version 1 of the format where none of its events is
-/// a try, and else version 2.
+/// The text of a trace, with the names that its keys have in the table: version 1 of the format if none of its events
+/// is a try, and otherwise version 2.
 ///
 /// Each record ends with one newline byte. A name with a comma or a double quote is written between double quotes, each
 /// double quote in it twice; no other field is. A key that isn't in the table is written with an empty name, which no
-/// reader takes. It fails only where memory is refused.
+/// reader accepts. It fails only if memory is refused.
 pub fn trace_text(alloc: Global, events: &RawTrace, keys: &KeyTable) -> Result<Vec<u8>, AllocError>
     ensures { IfOk result (λ text. text.items ≡ trace_text keys.now.names events.now) }
 {
@@ -74,7 +74,6 @@ fn version_for(events: &RawTrace) -> Version
     }
 }
 
-// Writes the header of a version.
 fn write_header<W: Write + Drop>(rows: &mut Writer<W>, version: Version) -> Result<(), AllocError>
     requires { IsBetween rows.old }
     ensures between { OnOk result (IsBetween rows.new) }
@@ -87,7 +86,6 @@ fn write_header<W: Write + Drop>(rows: &mut Writer<W>, version: Version) -> Resu
     }
 }
 
-// Writes the record of an event.
 fn write_event<W: Write + Drop>(
     rows: &mut Writer<W>,
     keys: &KeyTable,
@@ -114,7 +112,7 @@ fn write_event<W: Write + Drop>(
     }
 }
 
-// The bytes of the class's name and the subclass of a key; an empty name where there is no such key.
+// The bytes of the class's name and the subclass of a key; an empty name if there is no such key.
 fn name_of(keys: &KeyTable, key: KeyId) -> (&[u8], u8)
     ensures name { (result.0.now, result.1) ≡ name_at keys.now.names key }
     ensures digit { result.1 ≤ MAX_SUB }
@@ -125,7 +123,6 @@ fn name_of(keys: &KeyTable, key: KeyId) -> (&[u8], u8)
     }
 }
 
-// The word of a mode.
 fn mode_word(mode: Mode) -> &'static [u8]
     ensures { result.now ≡ mode_word mode }
 {
@@ -149,7 +146,6 @@ fn irq_word(irq: Irq) -> &'static [u8]
     }
 }
 
-// Writes a record of these fields.
 fn write_record<W: Write + Drop>(rows: &mut Writer<W>, fields: &[&[u8]]) -> Result<(), AllocError>
     requires { IsBetween rows.old }
     ensures between { OnOk result (IsBetween rows.new) }

@@ -1,4 +1,4 @@
--- What the getters of clap's matches give, said of the rows that its definition gives.
+-- What the getters of clap's matches return, in terms of the rows of its definition.
 use Rattle.std.proofs.Common.{◌≡◌, ◌∙◌, ℕ, Bool, List, [], Option, Some, None, Result, Ok, codes, false, map, option_map, refl, ap, subst, true, Bor}
 use Rattle.std.specs.Prelude.{unwrap_or, Box}
 use Rattle.std.specs.Box.{box_value}
@@ -19,7 +19,7 @@ module _ {Z : Type 0} where
   subcommand_met None name rows named e = absurd (cc)
   subcommand_met (Some b) name rows named e = cc
 
--- the values of an argument, none where it has no entry
+-- the values of an argument, none if it has no entry
 pub all_values : (given : Option (Bor (List (Bor Text)))) (f : Found) (id : Text) → option_map (λ s. map (λ v. v.now) s.now) given ≡ option_map raw_values (matched_of f id) → unwrap_or (option_map (λ s. map (λ v. v.now) s.now) given) [] ≡ unwrap_or (all_of id (rows_of f)) []
 all_values given f id is = ap (λ values. unwrap_or values []) (is ∙ raw_values-rows f id)
 

@@ -11,7 +11,7 @@ use Rattle.ld_words.specs.declared.words.LineFault.TheVariants.{Help, Refused, M
 use Rattle.ld_words.specs.declared.words.Line.{Line}
 use Rattle.ld_words.specs.declared.words.Line.TheVariants.{Check, Chains, Condense, Explain, Graph}
 
--- `--workers N`: a whole number from 0 to 65,535, 4 where it isn't given
+-- `--workers N`: a whole number from 0 to 65,535, 4 if it isn't given
 abbrev pub workers_rule : Rule
 workers_rule = record (new_rule (codes "workers")) {
   long = Some (codes "workers");
@@ -26,7 +26,7 @@ files_rule = record (new_rule (codes "FILE")) {
   range = Some (record { start_inclusive = 0; end_inclusive = usize_max });
 }
 
--- `[FILE]`: one word at most
+-- `[FILE]`: at most one word
 abbrev pub file_rule : Rule
 file_rule = new_rule (codes "FILE")
 
@@ -80,7 +80,7 @@ lockdep_app = let app = new_app (codes "lockdep") in
     (record app { top = record app.top { subcommand_required = true; has_version = true } })
     check_shape) explain_shape) graph_shape) condense_shape) chains_shape
 
--- the arguments say so many workers and these files
+-- the arguments give this number of workers and these files
 pub record ReadsCheck (rows : List Row) (workers : ℕ) (files : List Text) : Type 0 where
   pub text : Text
   pub given : one_of (codes "workers") rows ≡ Some text

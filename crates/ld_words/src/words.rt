@@ -15,14 +15,14 @@ pub const VERSION: &str = "0.7.0";
 /// What a command line asks for.
 #[derive(Debug, Drop)]
 pub enum Line<'a> {
-    /// The report of the traces in these files, or of the one on standard input where no file is named, by so many workers; of
-    /// many keys, if `many` is set.
+    /// The report of the traces in these files, or of the one on standard input if no file is named, by `workers`
+    /// workers; with room for many keys if `many` is set.
     Check {
         workers: u16,
         many: bool,
         files: Vec<&'a str>,
     },
-    /// What was found in these traces, and the records that it comes from; as JSON, if `json` is set.
+    /// What was found in these traces, and the records that cause it; as JSON if `json` is set.
     Explain {
         workers: u16,
         many: bool,
@@ -41,7 +41,7 @@ pub enum Line<'a> {
         workers: u16,
         files: Vec<&'a str>,
     },
-    /// The chains of the trace in this file, or of the one on standard input where no file is named.
+    /// The chains of the trace in this file, or of the one on standard input if no file is named.
     Chains {
         file: Option<&'a str>,
     },
@@ -52,7 +52,7 @@ pub enum Line<'a> {
 pub enum LineFault {
     /// Help or the version was asked for. The error's text is what to write.
     Help(clap::Error),
-    /// P1: the words are no command line of the program.
+    /// P1: the words aren't a command line of the program.
     Refused,
     /// P4: memory was refused.
     Memory,
@@ -102,7 +102,7 @@ fn file_argument<'a>(alloc: Global) -> Arg<'a>
     )
 }
 
-// Whether JSON is wanted, `--json`.
+// Whether JSON is asked for, `--json`.
 fn json_option<'a>(alloc: Global) -> Arg<'a>
     ensures rule { rule_of result ≡ json_rule }
     ensures local { result.global ≡ false }
@@ -113,7 +113,7 @@ fn json_option<'a>(alloc: Global) -> Arg<'a>
         .help("Write the findings as JSON")
 }
 
-// Whether only findings are wanted, `--findings`.
+// Whether only findings are asked for, `--findings`.
 fn findings_option<'a>(alloc: Global) -> Arg<'a>
     ensures rule { rule_of result ≡ findings_rule }
     ensures local { result.global ≡ false }
@@ -183,7 +183,7 @@ fn chains_command<'a>(alloc: Global) -> Result<Command<'a>, AllocError>
         .arg(file_argument(alloc))
 }
 
-// The command lines that the program takes.
+// The command lines that the program accepts.
 fn command<'a>(alloc: Global) -> Result<Command<'a>, AllocError>
     ensures { IfOk result (λ command. app_of command ≡ lockdep_app) }
 {
@@ -215,7 +215,7 @@ fn files_of<'a>(alloc: Global, found: &ArgMatches<'a>) -> Result<Vec<&'a str>, A
     Ok(files)
 }
 
-// The workers and the files that the words of a subcommand say.
+// The number of workers and the files that the words of a subcommand give.
 fn workers_and_files<'a>(
     alloc: Global,
     found: &ArgMatches<'a>,
@@ -331,12 +331,12 @@ fn fault_of(error: clap::Error) -> LineFault
 }
 
 /// What the command line asks for. The words begin with the program's name, and are read as `clap` defines it: `check
-/// [--workers N] [--many] [FILE...]`, with N a whole number from 0 to 65,535 and 4 where it isn't given, `explain [--workers N]
-/// [--many] [--json] [FILE...]`, `graph [--workers N] [--many] [--findings] [FILE...]`, `condense [--workers N] [FILE...]` and
-/// `chains [FILE]`.
+/// [--workers N] [--many] [FILE...]`, with N a whole number from 0 to 65,535 and 4 if it isn't given, `explain
+/// [--workers N] [--many] [--json] [FILE...]`, `graph [--workers N] [--many] [--findings] [FILE...]`, `condense
+/// [--workers N] [FILE...]` and `chains [FILE]`.
 ///
-/// Refusals: `Help` where help or the version is asked for, `Memory` where memory is refused, and `Refused` for every other
-/// line that isn't taken [this project's own].
+/// Refusals: `Help` if help or the version is asked for, `Memory` if memory is refused, and `Refused` for every other
+/// line that isn't accepted [this project's own].
 pub fn command_line<'a>(alloc: Global, words: &'a [&'a str]) -> Result<Line<'a>, LineFault>
     ensures ok { IfOk result (IsLineOf (map (λ word. word.now) words.entry.now)) }
     ensures refused { IfErr result (IsLineFault (map (λ word. word.now) words.entry.now)) }

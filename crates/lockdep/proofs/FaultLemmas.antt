@@ -38,7 +38,7 @@ module _ (output kind : OutputView) (is : output ≡ kind) (A : List ℕ → Typ
   written-err (Err fault) (Ok x) made stops = absurd made
   written-err (Err fault) (Err f) made stops = subst (StopsSettled output (IsTextOf output traces names) old new) (sym made) (StopsWriting-same A (IsTextOf output traces names) text-is old new fault stops)
 
--- what is refused of settled facts is refused of the traces that they are of
+-- what is refused for settled facts is refused for their traces
 pub StopsText-settled : (output : OutputView) (traces : List (List Event)) (names : List Name) (workers : ℕ) (old new : Option (List ℕ)) → IsCrew workers → length traces ≤ MAX_TRACES → All IsWellFormed traces → (fault : ReportFault) → StopsSettled output (IsTextOf output traces names) old new fault → StopsText output traces names workers old new fault
 StopsText-settled output traces names workers old new crew few well_formed (Step trace at fault) stops = absurd stops
 StopsText-settled output traces names workers old new crew few well_formed (Run fault) stops = absurd stops
@@ -73,7 +73,7 @@ module _ (output : OutputView) (traces : List (List Event)) (names : List Name) 
   too_many_is (Err (Condensing fault)) crew stops = (λ e. absurd (cc), λ more. absurd (omega (arith, stops.1, more.1)))
   too_many_is (Err (Out fault)) crew stops = (λ e. absurd (cc), λ more. absurd (omega (arith, stops.1, more.1)))
 
--- what is refused by a number of workers is refused by another, if there can be both or neither
+-- what is refused with one number of workers is refused with another, if there can be both or neither
 pub StopsText-crew : (output : OutputView) (traces : List (List Event)) (names : List Name) (some others : ℕ) (old new : Option (List ℕ)) → IsCrew some ↔ IsCrew others → (fault : ReportFault) → StopsText output traces names some old new fault → StopsText output traces names others old new fault
 StopsText-crew output traces names some others old new same (Step trace at fault) stops = (stops.0, (same.0 stops.1.0, stops.1.1, stops.1.2), stops.2, stops.3)
 StopsText-crew output traces names some others old new same (Run run.BadWorkers) stops = (λ crew. stops.0 (same.1 crew), stops.1)

@@ -48,7 +48,7 @@ StopsReading-among room file files input (Run fault) among h = absurd h
 StopsReading-among room file files input (Survey fault) among h = absurd h
 StopsReading-among room file files input (Condensing fault) among h = absurd h
 
--- of no files it is standard input
+-- without files it is standard input
 pub StopsReading-input : (room : ℕ) (files : List Text) (input : Option (List ℕ)) (refusal : Refusal) → files ≡ [] → IsReadingRefusal (codes "stdin") room [] input refusal → StopsReading room files input refusal
 StopsReading-input room files input BadCommandLine none h = absurd h
 StopsReading-input room files input (CannotOpen named) none h = absurd h
@@ -60,7 +60,7 @@ StopsReading-input room files input (Run fault) none h = absurd h
 StopsReading-input room files input (Survey fault) none h = absurd h
 StopsReading-input room files input (Condensing fault) none h = absurd h
 
--- what holds of the error that is answered
+-- what holds of the error that is returned
 pub IfErr-passed : {T E : Type 0} (r : Result T E) (e : E) (P : E → Type 0) → IsErr r × IsErrAnd r (λ x. x ≡ e) → P e → IfErr r P
 IfErr-passed (Ok x) e P is p = tt
 IfErr-passed (Err x) e P is p = subst P (sym is.1) p

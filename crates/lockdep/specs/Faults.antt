@@ -18,8 +18,8 @@ use Rattle.ld_run.specs.declared.survey_fault.SurveyFault.{SurveyFault}
 use Rattle.ld_run.specs.declared.survey_fault.SurveyFault.TheVariants as survey
 use Rattle.ld_trace.specs.declared.key_id.TheConstants.{MAX_KEYS}
 
--- the output of settled facts was refused so: in condensing, if it is the condensed trace, and then nothing was written; or in
--- writing a text that is as said
+-- the output of settled facts was refused in this way: in condensing, if it is the condensed trace, and then nothing
+-- was written; or in writing a text that is as said
 abbrev pub StopsSettled : OutputView → (List ℕ → Type 0) → (old new : Option (List ℕ)) → ReportFault → Type 0
 StopsSettled output IsText old new (Step trace at fault) = ⊥
 StopsSettled output IsText old new (Run fault) = ⊥
@@ -35,19 +35,19 @@ IsBeforeWriting (Survey fault) = ⊥
 IsBeforeWriting (Condensing fault) = ⊤
 IsBeforeWriting (Out fault) = fault ≡ Memory
 
--- the run was refused so, and not for a trace that isn't well formed
+-- the run was refused in this way, and not for a trace that isn't well formed
 abbrev pub StopsOtherwise : List (List Event) → ℕ → RunFault → Type 0
 StopsOtherwise traces workers (Refused trace place fault) = ⊥
 StopsOtherwise traces workers fault = StopsRun traces workers fault
 
--- and the survey of many keys
+-- and so was the survey of many keys
 abbrev pub StopsSurveyOtherwise : List (List Event) → SurveyFault → Type 0
 StopsSurveyOtherwise traces (survey.Refused trace place fault) = ⊥
 StopsSurveyOtherwise traces fault = StopsSurvey traces fault
 
--- the output of these traces, by this number of workers, was refused so: by the first trace that isn't well formed, with the
--- record of its first event that isn't allowed; by the run otherwise; by the survey otherwise, if there are more than 256 keys;
--- in condensing, if the output is the condensed trace; or in writing
+-- the output of these traces, with this number of workers, was refused in this way: by the first trace that isn't well
+-- formed, with the record of its first event that isn't allowed; by the run for another reason; by the survey for
+-- another reason, if there are more than 256 keys; in condensing, if the output is the condensed trace; or in writing
 abbrev pub StopsText : OutputView → List (List Event) → List Name → (workers : ℕ) → (old new : Option (List ℕ)) → ReportFault → Type 0
 StopsText output traces names workers old new (Step trace at fault) =
     (place : ℕ) × StopsRun traces workers (Refused trace place fault) × (at ≡ place + 2) × Keeps old new
@@ -59,6 +59,6 @@ StopsText output traces names workers old new (Condensing fault) = IsCrew worker
 StopsText output traces names workers old new (Out fault) = IsCrew workers × (length traces ≤ MAX_TRACES)
     × All IsWellFormed traces × StopsWriting (IsTextOf output traces names) old new fault
 
--- the report was
+-- the report was refused in this way
 abbrev pub StopsReport : List (List Event) → List Name → ℕ → (old new : Option (List ℕ)) → ReportFault → Type 0
 StopsReport traces names = StopsText report traces names

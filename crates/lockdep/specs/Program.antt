@@ -29,8 +29,8 @@ use Rattle.lockdep.specs.declared.refusal.Refusal.TheVariants.{BadCommandLine, C
 
 -- What is asked for.
 
--- an output of the traces in these files together, or of the one on standard input if there are none; by this number of workers,
--- and with room for many keys, if that is set
+-- an output of the traces in these files together, or of the one on standard input if there are none; with this number
+-- of workers, and with room for many keys if that is set
 pub record OutputOf : Type 0 where
   pub output : OutputView
   pub many : Bool
@@ -69,14 +69,15 @@ abbrev pub status_of : OutputView → (clean : Bool) → ℕ
 status_of condensed clean = 0
 status_of output clean = if clean then 0 else 1
 
--- these are the traces that were read, with room for this number of keys: one of each file, or the one that standard input holds.
--- Of the traces of files their number is said, and that their keys are in the table; no contract can tell what a file holds
+-- these are the traces that were read, with room for this number of keys: one of each file, or the one that standard
+-- input holds. About the traces of files only their number is said, and that their keys are in the table; no contract
+-- can say what a file holds
 pub record AreTracesOf (room : ℕ) (files : List Text) (input : Option (List ℕ)) (names : List Name) (traces : List (List Event)) : Type 0 where
   pub below : All (KeysBelow (length names)) traces
   pub from_input : length files ≡ 0 → (trace : List Event) × (traces ≡ trace ∷ []) × IfSome input (λ bytes. ReadsTo room [] bytes names trace)
   pub from_files : 0 < length files → length traces ≡ length files
 
--- the output of the traces was written, by this number of workers, and the status is the one for their facts
+-- the output of the traces was written, with this number of workers, and the status is the one for their facts
 pub record WritesText (output : OutputView) (workers : ℕ) (names : List Name) (traces : List (List Event)) (old new : Option (List ℕ)) (status : ℕ) : Type 0 where
   pub crew : IsCrew workers
   pub few : length traces ≤ MAX_TRACES
@@ -95,7 +96,7 @@ pub record WritesOutput (asked : OutputOf) (input old new : Option (List ℕ)) (
   pub read : AreTracesOf (room_of asked.many) asked.files input names traces
   pub writes : WritesText asked.output asked.workers names traces old new status
 
--- what is known of the bytes of a trace: those that standard input holds, and of a file's nothing
+-- what is known of the bytes of a trace: those that standard input holds, and nothing about a file's
 abbrev pub known_of : Option Text → (input : Option (List ℕ)) → Option (List ℕ)
 known_of None input = input
 known_of (Some file) input = None
@@ -137,7 +138,8 @@ DoesWords words input old new status =
 
 -- What is refused, and what is left on standard output.
 
--- the trace with these bytes is refused in reading, with room for this number of names, of which these were there before
+-- the trace with these bytes is refused while it is read, with room for this number of names, of which these were there
+-- before
 abbrev pub IsReadingRefusal : (file : Text) (room : ℕ) (names : List Name) (bytes : Option (List ℕ)) → Refusal → Type 0
 IsReadingRefusal file room names bytes (Reading named fault) =
     (named.now ≡ file) × IfSome bytes (λ known. (new : List Name) × StopsAt room names known new fault)
@@ -149,8 +151,8 @@ IsStepRefusal file trace (Step named at fault) = (named.now ≡ file)
     × ((place : ℕ) × (at ≡ place + 2) × IsFirstFault trace (record { fault = fault; place = place }))
 IsStepRefusal file trace _ = ⊥
 
--- the traces of these files weren't all read, with room for this number of keys: one can't be opened or is refused in reading, or
--- memory ran out before
+-- the traces of these files weren't all read, with room for this number of keys: one can't be opened or is refused
+-- while it is read, or memory ran out before
 abbrev pub StopsReading : (room : ℕ) → List Text → (input : Option (List ℕ)) → Refusal → Type 0
 StopsReading room files input (CannotOpen named) = Contains files named.now
 StopsReading room files input (Reading named fault) = Contains files named.now
@@ -180,7 +182,8 @@ pub record RefusesTraces (output : OutputView) (workers : ℕ) (files : List Tex
   pub stops : StopsText output traces names workers old new fault
   pub refusal_is : IsReportRefusal files fault refusal
 
--- no such output was written whole: in reading, and then nothing was written, or after it
+-- no such output was written whole: it was refused while the traces were read, and then nothing was written, or after
+-- that
 abbrev pub RefusesOutput : OutputOf → (input old new : Option (List ℕ)) → Refusal → Type 0
 RefusesOutput asked input old new refusal = (StopsReading (room_of asked.many) asked.files input refusal × Keeps old new)
     ⊎ ((names : List Name) × (traces : List (List Event)) × AreTracesOf (room_of asked.many) asked.files input names traces
@@ -191,7 +194,7 @@ abbrev pub RefusesTrace : (file : Text) → List Name → List Event → (old ne
 RefusesTrace file names trace old new refusal = (IsStepRefusal file trace refusal × Keeps old new)
     ⊎ (IsWellFormed trace × (refusal ≡ Output) × AppendsBeginning old new (chains_text names trace))
 
--- no chains were written whole: memory ran out before, or the trace in reading, or after it
+-- no chains were written whole: memory ran out before, or the trace was refused while it was read, or after that
 abbrev pub RefusesOpened : (file : Text) → (bytes old new : Option (List ℕ)) → Refusal → Type 0
 RefusesOpened file bytes old new refusal =
     (((refusal ≡ Memory) ⊎ IsReadingRefusal file MAX_KEYS [] bytes refusal) × Keeps old new)
@@ -204,12 +207,12 @@ RefusesChains file input old new (CannotOpen named) = (file ≡ Some named.now) 
 RefusesChains file input old new refusal =
     RefusesOpened (unwrap_or file (codes "stdin")) (known_of file input) old new refusal
 
--- what was asked for is refused so
+-- what was asked for is refused in this way
 abbrev pub RefusesAsked : Asked → (input old new : Option (List ℕ)) → Refusal → Type 0
 RefusesAsked (output_of asked) = RefusesOutput asked
 RefusesAsked (chains_of file) = RefusesChains file
 
--- what the line asks for is refused so
+-- what the line asks for is refused in this way
 abbrev pub RefusesLine : Line → (input old new : Option (List ℕ)) → Refusal → Type 0
 RefusesLine line = RefusesAsked (asked_by line)
 
@@ -223,7 +226,7 @@ abbrev pub RefusesNoLine : List Text → (old new : Option (List ℕ)) → Refus
 RefusesNoLine words old new refusal =
     (((refusal ≡ BadCommandLine) ⊎ (refusal ≡ Memory)) × Keeps old new) ⊎ (AskForText words × RefusesHelp old new refusal)
 
--- what the words ask for is refused so
+-- what the words ask for is refused in this way
 abbrev pub RefusesWords : List Text → (input old new : Option (List ℕ)) → Refusal → Type 0
 RefusesWords words input old new refusal =
     ((line : Line) × IsLineOf words line × RefusesLine line input old new refusal) ⊎ RefusesNoLine words old new refusal

@@ -1,4 +1,4 @@
--- What is written of all traces together [this project's own].
+-- What is written about all traces together [this project's own].
 use Rattle.std.specs.Prelude.{ℕ, Bool, List, map}
 use Rattle.ld_text.specs.Words.{Text}
 use Rattle.ld_trace.specs.Names.{Name}

@@ -17,12 +17,12 @@ use ld_trace::{KeyTable, RawTrace, trace_text, written_traces_read_back};
 use std::alloc::Global;
 use std::io::Write;
 
-/// Writes one trace that has exactly the settled facts, with the keys in the order of their names: the same facts and names
-/// give the same text.
+/// Writes one trace that has exactly the settled facts, with the keys in the order of their names: the same facts and
+/// names give the same text.
 ///
-/// Refusals: `Condensing` with E1 if the trace that was made doesn't have exactly the facts, and with E2 if memory runs out for
-/// it; `Out` with O3 if memory runs out for the order of the keys or the text, and with O1 and O2 if writing failed. Nothing was
-/// written unless it is O1 or O2 [this project's own].
+/// Refusals: `Condensing` with E1 if the trace that was made doesn't have exactly the facts, and with E2 if memory runs
+/// out for it; `Out` with O3 if memory runs out for the order of the keys or the text, and with O1 and O2 if writing
+/// failed. Nothing was written unless it is O1 or O2 [this project's own].
 pub(crate) fn write_condensed<W: Write>(
     alloc: Global,
     w: &mut W,
@@ -42,7 +42,6 @@ pub(crate) fn write_condensed<W: Write>(
     }
 }
 
-// The text of the condensed trace.
 fn condensed_text(alloc: Global, settled: &Settled, keys: &KeyTable) -> Result<Vec<u8>, ReportFault>
     requires { settled.now.keys ≡ length keys.now.names }
     ensures ok { IfOk result (λ text. IsCondensedText (HasFact settled.now) keys.now.names text.items) }

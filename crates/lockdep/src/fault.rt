@@ -16,10 +16,10 @@ pub enum ReportFault {
         at: usize,
         fault: StepFault,
     },
-    /// The run was refused otherwise. Nothing was written.
+    /// The run was refused for another reason. Nothing was written.
     #[error("{0}")]
     Run(RunFault),
-    /// The survey of many keys was refused otherwise. Nothing was written.
+    /// The survey of many keys was refused for another reason. Nothing was written.
     #[error("{0}")]
     Survey(SurveyFault),
     /// The facts weren't condensed. Nothing was written.

@@ -1,4 +1,4 @@
-//! What is written of all the traces of a session.
+//! What is written about all the traces of a session.
 
 ghost use Rattle.std.specs.Prelude.{◌≡◌, ◌≤◌, ℕ, List, All, IfErr, OnOk, length};
 ghost use Rattle.std.specs.Io.KnownBytes.{Appends};
@@ -18,7 +18,7 @@ use ld_trace::{KeyTable, RawTrace};
 use std::alloc::Global;
 use std::io::Write;
 
-/// What is written of all the traces of a session together.
+/// What is written about all the traces of a session together.
 ///
 /// `files` are the names of the traces, in their order; a trace that has no name is called `stdin`.
 #[derive(Clone, Copy, PartialEq, Eq, Debug)]

@@ -42,16 +42,17 @@ const DONE: u8 = 0;
 /// The status if another output was written of facts that aren't clean.
 const NOT_CLEAN: u8 = 1;
 
-/// The program. The words begin with its name, `input` stands for standard input, `out` for standard output and `err` for
-/// standard error. `lockdep check [--workers N] [--many] [FILE...]` writes the report of the traces in these files, `lockdep
-/// explain [--json]` what was found in them and the records that it comes from, `lockdep graph [--findings]` a picture of their
-/// facts, `lockdep condense` one trace that has exactly their facts, and `lockdep chains [FILE]` the chains of a trace. Without a
-/// file one trace is read from the input. Each file is opened and read before the next one is. `lockdep --version` writes the
-/// version, and `lockdep help` how the program is called.
+/// The program. The words begin with its name, `input` is standard input, `out` standard output and `err` standard
+/// error. `lockdep check [--workers N] [--many] [FILE...]` writes the report of the traces in these files, `lockdep
+/// explain [--json]` what was found in them and the records that cause it, `lockdep graph [--findings]` a picture of
+/// their facts, `lockdep condense` one trace that has exactly their facts, and `lockdep chains [FILE]` the chains of a
+/// trace. Without a file one trace is read from the input. Each file is opened and read before the next one is.
+/// `lockdep --version` writes the version, and `lockdep help` how to call the program.
 ///
-/// The status is 0 if the facts are clean, if the condensed trace or the chains were written, or if help or the version was
-/// asked for; 1 if a report, an explanation or a picture was written of facts that aren't clean; and 2 if the program refused.
-/// Then exactly one line is written to `err`, and otherwise none; if `err` fails, that is ignored. This project's own.
+/// The status is 0 if the facts are clean, if the condensed trace or the chains were written, or if help or the version
+/// was asked for; 1 if a report, an explanation or a picture was written of facts that aren't clean; and 2 if the
+/// program refused. Then exactly one line is written to `err`, and otherwise none; if `err` fails, that is ignored.
+/// This project's own.
 pub fn program<R: Files + Threads + Wait + Sync, I: Read + Drop, O: Write, E: Write>(
     rt: &R,
     alloc: Global,
@@ -75,7 +76,7 @@ pub fn program<R: Files + Threads + Wait + Sync, I: Read + Drop, O: Write, E: Wr
     }
 }
 
-// Does what the words ask for, or writes why not, and returns the status; or how `err` failed, if it did.
+// Does what the words ask for, or writes why not, and returns the status; if `err` failed, it returns how.
 fn answer_or_refuse<R: Files + Threads + Wait + Sync, I: Read + Drop, O: Write, E: Write>(
     rt: &R,
     alloc: Global,
@@ -210,8 +211,8 @@ fn room_of(many: bool) -> u16
     if many { MAX_MANY } else { MAX_KEYS }
 }
 
-// Writes the output for the session's traces, which are those of the files, by as many of the workers as are worth their threads:
-// the text is the same for each number of them.
+// Writes the output for the session's traces, which are those of the files, with as many of the workers as are worth
+// their threads: the text doesn't depend on their number.
 fn write_session<'a, R: Threads + Wait + Sync, O: Write>(
     rt: &R,
     alloc: Global,

@@ -1,4 +1,4 @@
-//! Why the program refused, and the one line that it says so with.
+//! Why the program refused, and the one line that says so.
 
 ghost use Rattle.std.specs.Prelude.{◌≡◌, ◌+◌, ◌++◌, IfOk, OnOk, OnErr, List, codes, decimal};
 ghost use Rattle.std.specs.List.{flat_map};
@@ -28,7 +28,7 @@ pub(crate) enum Refusal<'a> {
     Output,
     /// P4: memory was refused in the command line, in making the session or the key table, or in writing.
     Memory,
-    /// A trace is refused in reading.
+    /// A trace is refused while it is read.
     Reading {
         file: &'a str,
         fault: TraceFault,
@@ -39,9 +39,9 @@ pub(crate) enum Refusal<'a> {
         at: usize,
         fault: StepFault,
     },
-    /// The run over the traces is refused otherwise.
+    /// The run over the traces is refused for another reason.
     Run(RunFault),
-    /// The survey of many keys is refused otherwise.
+    /// The survey of many keys is refused for another reason.
     Survey(SurveyFault),
     /// The facts of the traces aren't condensed.
     Condensing(CondenseFault),

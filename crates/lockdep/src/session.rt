@@ -1,4 +1,4 @@
-//! A session: traces that are read one after the other, and what is written of all of them together.
+//! A session: traces that are read one after the other, and what is written about all of them together.
 
 ghost use Rattle.std.specs.Prelude.{◌≡◌, ◌+◌, ◌<◌, ◌≤◌, ◌∷◌, ◌++◌, [], ℕ, List, All, length, IfOk, IfErr, IfSome, IsErrOf, IsOkAnd, IsTrue, OnOk, ◌↔◌};
 ghost use Rattle.std.specs.Io.KnownBytes.{Appends};
@@ -29,7 +29,7 @@ use std::marker::Model;
 use std::sync::Wait;
 use std::thread::Threads;
 
-// As many events as one worker walks in about a millisecond. With fewer for each, more workers take as long as one.
+// How many events one worker walks in about a millisecond. With fewer events each, more workers take as long as one.
 const EVENTS_PER_WORKER: u128 = 32_768;
 
 /// Traces that were read, and the names of their keys.
@@ -53,15 +53,15 @@ impl Model for Session {
 }
 
 impl Session {
-    /// A session without traces, with room for the names of 256 keys. K4 is the only refusal that its type leaves room for.
+    /// A session without traces, with room for the names of 256 keys. It never fails, although its type allows a fault.
     pub fn new(alloc: Global) -> Result<Session, KeyFault>
         ensures { IsOkAnd result (λ session. session ≡ record { room = MAX_KEYS; names = []; traces = [] }) }
     {
         Session::with_room(alloc, MAX_KEYS)
     }
 
-    /// A session without traces, with room for the names of `room` keys, at most `MAX_MANY`. K4 is the only refusal that its
-    /// type leaves room for.
+    /// A session without traces, with room for the names of `room` keys, at most `MAX_MANY`. It never fails, although
+    /// its type allows a fault.
     pub fn with_room(alloc: Global, room: u16) -> Result<Session, KeyFault>
         requires { room ≤ MAX_MANY }
         ensures { IsOkAnd result (λ session. session ≡ record { room = room; names = []; traces = [] }) }
@@ -73,9 +73,9 @@ impl Session {
         })
     }
 
-    /// Reads one trace, and keeps it after the others. Room for it is made before reading: if memory runs out for that, the
-    /// fault is T9 at record 1. Every other fault is that of `read_trace`. After a refusal the traces are unchanged, and
-    /// the keys of the events before the refused record have numbers.
+    /// Reads one trace, and keeps it after the others. Room for it is made before reading: if memory runs out for that,
+    /// the fault is T9 at record 1. Every other fault is that of `read_trace`. After a refusal the traces are
+    /// unchanged, and the keys of the events before the refused record have numbers.
     pub fn add<R: Read + Drop>(&mut self, reader: R) -> Result<(), TraceFault>
         ensures ok { IfOk result (λ _. (trace : List Event) × (self.new.traces ≡ self.old.traces ++ trace ∷ [])
             × IfSome (R.remaining reader) (λ bytes. ReadsTo self.old.room self.old.names bytes self.new.names trace)) }
@@ -87,8 +87,8 @@ impl Session {
         read_into(self.alloc, reader, &mut self.keys, &mut self.traces)
     }
 
-    // How many of the workers are worth their threads: one for every 32,768 events, and one at least. A number of workers that a
-    // run refuses stays as it is.
+    // How many of the workers are worth their threads: one for every 32,768 events, and at least one. A number of
+    // workers that a run refuses is returned as it is.
     pub(crate) fn useful_workers(&self, workers: u16) -> u16
         ensures crew { IsCrew result ↔ IsCrew workers }
         ensures few { result ≤ workers }
@@ -100,17 +100,18 @@ impl Session {
         workers.min(shares.max(1).min(u128::from(MAX_WORKERS)) as u16)
     }
 
-    /// Checks all traces by `workers` workers, writes the output for all of them together, and returns whether their facts are
-    /// clean. What is written doesn't depend on the number of workers. Each worker calls the gate just before it records a
-    /// chain. The session is consumed in every case.
+    /// Checks all traces with `workers` workers, writes the output for all of them together, and returns whether their
+    /// facts are clean. What is written doesn't depend on the number of workers. Each worker calls the gate just before
+    /// it records a chain. The session is consumed in every case.
     ///
-    /// Refusals, in this order: `Run` with N1 if `workers` isn't 1 to 64, with N2 if there are more than 4,096 traces, and with
-    /// N4 if the run is out of memory; `Step` with the first trace that isn't well formed, the record of its first event that
-    /// isn't allowed, and why; `Run` with N3 if the workers don't agree on the facts; `Condensing` with E2 if memory runs out for
-    /// a condensed trace, and with E1 if it doesn't have exactly the facts, which no test has met; `Out` if writing failed. For
-    /// more than 256 keys one survey is made instead of a run: then N4 is `Survey` with M2, and N3 is `Survey` with M1, if the
-    /// keys can't be split into parts of at most 256. Nothing was written in any of these cases, nor with O3, which means that
-    /// memory ran out for the text; with O1 and O2 exactly a beginning of the text was [this project's own].
+    /// Refusals, in this order: `Run` with N1 if `workers` isn't 1 to 64, with N2 if there are more than 4,096 traces,
+    /// and with N4 if the run is out of memory; `Step` with the first trace that isn't well formed, the record of its
+    /// first event that isn't allowed, and why; `Run` with N3 if the workers don't agree on the facts; `Condensing`
+    /// with E2 if memory runs out for a condensed trace, and with E1 if it doesn't have exactly the facts, which no
+    /// test has met; `Out` if writing failed. For more than 256 keys one survey is made instead of a run: then N4 is
+    /// `Survey` with M2, and N3 is `Survey` with M1, if the keys can't be split into parts of at most 256. Nothing was
+    /// written in any of these cases, nor with O3, which means that memory ran out for the text; with O1 and O2 exactly
+    /// a beginning of the text was [this project's own].
     pub fn write<R: Threads + Wait + Sync, W: Write, G: Gate + Sync>(
         self,
         rt: &R,
@@ -137,8 +138,8 @@ impl Session {
         Ok(settled.is_clean())
     }
 
-    /// Checks all traces by `workers` workers, writes the report of all of them together, and returns whether their facts are
-    /// clean. Refusals are those of `write`, without E1 and E2.
+    /// Checks all traces with `workers` workers, writes the report of all of them together, and returns whether their
+    /// facts are clean. Refusals are those of `write`, without E1 and E2.
     pub fn report<R: Threads + Wait + Sync, W: Write, G: Gate + Sync>(
         self,
         rt: &R,

@@ -1,4 +1,4 @@
-//! What is settled of the traces of a session.
+//! What is settled about the traces of a session.
 
 ghost use Rattle.std.specs.Prelude.{◌≡◌, ◌+◌, ◌<◌, ◌≤◌, ℕ, List, Option, All, length, slice_get, IfOk, IfErr, IsSomeAnd};
 ghost use Rattle.ld_trace.specs.Names.{Name};
@@ -15,7 +15,8 @@ use std::alloc::Global;
 use std::sync::Wait;
 use std::thread::Threads;
 
-/// The facts of the traces, and what they mean: by a run of the workers, or by a survey if there are more than 256 keys.
+/// The facts of the traces, and what they mean: by a run of the workers, or by a survey if there are more than 256
+/// keys.
 pub(crate) fn settled_of<R: Threads + Wait + Sync, G: Gate + Sync>(
     rt: &R,
     alloc: Global,
@@ -40,7 +41,8 @@ pub(crate) fn settled_of<R: Threads + Wait + Sync, G: Gate + Sync>(
     }
 }
 
-// The facts of traces with more than 256 keys, by one survey, whatever the number of workers. N1 and N2 are those of a run.
+// The facts of traces with more than 256 keys, by one survey, whatever the number of workers. N1 and N2 are those of a
+// run.
 fn surveyed(
     alloc: Global,
     workers: u16,

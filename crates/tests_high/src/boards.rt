@@ -21,7 +21,7 @@ use std::thread::Threads;
 use tests_low::steps::Step::{Give, Write};
 use tests_low::steps::{A, B, C, chains_of};
 
-// The chains of one trace that takes the first lock, the second under it, gives the first back and takes the third.
+// The chains of one trace that takes the first lock, the second under it, releases the first and takes the third.
 fn released_between(alloc: Global) -> Result<Vec<Chain>, Fail> {
     Ok(chains_of(alloc, &[&[Write(A), Write(B), Give(A), Write(C)]]).ok_or("no chains")?)
 }
@@ -29,7 +29,7 @@ fn released_between(alloc: Global) -> Result<Vec<Chain>, Fail> {
 // How many numbers a thread claims.
 const CLAIMS: usize = 1000;
 
-// A seat, and the numbers that were claimed by it.
+// A seat, and the numbers that were claimed with it.
 #[derive(Drop)]
 struct Claimed {
     seat: Seat,
@@ -65,7 +65,7 @@ fn claim_in_threads<R: Threads + Sync>(
     )
 }
 
-// Whether each number below twice as many was claimed once.
+// Whether each number below `2 * CLAIMS` was claimed once.
 fn are_all(one: &[u64; CLAIMS], two: &[u64; CLAIMS]) -> bool {
     let mut seen = [false; 2 * CLAIMS];
     for number in one.iter().chain(two) {

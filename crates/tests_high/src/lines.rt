@@ -3,8 +3,9 @@
 use ld_words::{Line, LineFault, command_line};
 use std::slice::from_ref;
 
-// What a line asks for: its word, its workers, whether it has `--many`, whether it has the flag of its own, `--json` or `--findings`, and
-// its files. Chains have no workers, which counts as 0, and so do lines that are refused or ask for help.
+// What a line asks for: its word, its workers, whether it has `--many`, whether it has the flag of its own, `--json` or
+// `--findings`, and its files. Chains have no workers, which counts as 0, and so do lines that are refused or ask for
+// help.
 type Asked<'l, 'a> = (&'static str, u16, bool, bool, &'l [&'a str]);
 
 fn asked<'l, 'a>(line: &'l Result<Line<'a>, LineFault>) -> Asked<'l, 'a> {

@@ -1,4 +1,4 @@
-//! What books say of small traces.
+//! What books say about small traces.
 
 mod want_of_memory;
 
@@ -12,14 +12,16 @@ use ld_trace::MAX_KEYS;
 use std::alloc::Global;
 use std::sync::Wait;
 
-// What a book says of a chain: whether it brings a fact and whether the book is clean then, or the code that it is refused with.
+// What a book returns for a chain: whether it brings a fact and whether the book is clean then, or the code with which
+// it is refused.
 type Said = Result<(bool, bool), &'static str>;
 
-// What a book says of its size: its totals, its distinct chains and its entries.
+// What a book says about its size: its totals, its distinct chains and its entries.
 type Size = (Totals, u64, usize);
 
-// Chains, each the last one of its steps, and what a book of so many keys and at most so many entries says of each; and of its size after
-// them all: its entries, acquisitions, openings and dependencies, its distinct chains and its entries again.
+// Chains, each the last one of its steps, and what a book for `keys` keys and at most `limit` entries returns for each;
+// and its size after them all: its entries, acquisitions, openings and dependencies, its distinct chains and its
+// entries again.
 struct Story {
     about: &'static str,
     keys: u16,
@@ -28,11 +30,11 @@ struct Story {
     size: ([u64; 4], u64, usize),
 }
 
-// A chain, by the steps whose last it is, and what is said of it.
+// A chain, by the steps whose last one it is, and what is returned for it.
 type Told = (&'static [Step], Said);
 
-// The chains of two locks that are taken in both orders: A; B under A; B; A under B. The third brings nothing, since the marks of B came
-// with the second.
+// The chains of two locks that are taken in both orders: A; B under A; B; A under B. The third brings nothing, since
+// the marks of B came with the second.
 const FIRST: Told = (&[Write(A)], Ok((true, true)));
 
 const SECOND: Told = (&[Write(A), Write(B)], Ok((true, true)));
@@ -71,8 +73,8 @@ static STORIES: [Story; 5] = [
         ],
         size: ([5, 5, 0, 1], 2, 5),
     },
-    // The third chain is new and brings no fact, so that the first two move to the set; the fourth comes after it; and then known chains
-    // come, of both.
+    // The third chain is new and brings no fact, so the first two move to the set; the fourth comes after it; and then
+    // known chains of both come.
     Story {
         about: "chains that move to the set",
         keys: 2,
@@ -139,7 +141,7 @@ fn told(book: &Book) -> Size {
     (book.totals(), book.distinct(), book.len())
 }
 
-// What a book tells of the facts of the two orders.
+// What a book says about the facts of the two orders.
 fn facts_told(book: &Book) -> [bool; 6] {
     [
         book.is_clean(),
@@ -158,7 +160,7 @@ fn said(recorded: Result<News, BookFault>) -> Said {
     }
 }
 
-// Whether the book says this of the chain, and is as it was if that is a refusal.
+// Whether the book returns this for the chain, and is as it was if that is a refusal.
 fn says(book: &mut Book, trace: u32, chain: Chain, wanted: Said) -> bool {
     let before = (told(&*book), facts_told(&*book));
     let said = said(book.record(trace, chain));
@@ -166,7 +168,8 @@ fn says(book: &mut Book, trace: u32, chain: Chain, wanted: Said) -> bool {
     said == wanted && (said.is_ok() || is_as_before)
 }
 
-// Whether the book says what the story says, of each chain and of its size. The chains have the traces 0, 1, 2 and so on.
+// Whether the book says what the story says, about each chain and about its size. The chains have the traces 0, 1, 2
+// and so on.
 fn says_all(book: &mut Book, story: &Story) -> Option<bool> {
     let mut trace = 0u32;
     for (steps, wanted) in story.chains {
@@ -225,7 +228,7 @@ fn is_flag(said: Said, is_clean: bool) -> bool {
     }
 }
 
-// The same of a book under a lock, by one thread.
+// The same for a book under a lock, by one thread.
 fn says_all_under_a_lock(rt: &impl Wait, book: &LockedBook, story: &Story) -> Option<bool> {
     let mut trace = 0u32;
     for (steps, wanted) in story.chains {

@@ -1,4 +1,4 @@
-//! What graphs say of small traces.
+//! What graphs say about small traces.
 
 mod facts;
 mod finds;

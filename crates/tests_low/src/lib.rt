@@ -1,4 +1,4 @@
-//! Tests of the lower crates: what traces, tasks, graphs and books give by example. They stand in a crate of their own
+//! Tests of the lower crates: what traces, tasks, graphs and books return, by example. They are in a crate of their own
 //! so that the crates that they test are proved once. `steps` has what all tests make their traces of.
 #![tactic(auto)]
 

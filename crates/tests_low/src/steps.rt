@@ -58,7 +58,6 @@ fn take(number: u16, mode: Mode) -> Event {
     }
 }
 
-// The key of this number.
 pub fn key(number: u16) -> KeyId {
     KeyId::new(number).unwrap_or(KeyId::default())
 }

@@ -91,7 +91,7 @@ fn takes(alloc: Global, locks: u16) -> Option<Vec<Step>> {
     Some(steps)
 }
 
-// How many dependencies the steps bring, a lock that is held and one that is taken each.
+// How many dependencies the steps bring, each from a lock that is held to one that is taken.
 fn dependencies_of(steps: &[Step]) -> Option<u64> {
     let mut state = TaskState::new();
     let mut dependencies = 0u64;
@@ -115,7 +115,7 @@ fn is_the_last_too_deep(alloc: Global, steps: &mut Vec<Step>) -> Option<bool> {
     Some(true)
 }
 
-// Each of 48 locks is held when the next is taken: 48 times 47 pairs, and half of them.
+// Each of 48 locks is held when the later ones are taken: half of 48 times 47 pairs.
 fn are_forty_eight_held(alloc: Global) -> Option<bool> {
     let mut steps = takes(alloc, 48)?;
     let are_held = is_refused(alloc, &steps, None)? && dependencies_of(&steps)? == 1128;
@@ -127,8 +127,8 @@ fn forty_eight_locks_are_held_and_no_more(rt: HostRuntime) {
     assert_eq!(rt; are_forty_eight_held(rt.alloc()), Some(true));
 }
 
-// Steps, and their last chain: the locks that are held, the oldest first, the lock that is taken, whether hardirqs and softirqs are
-// on, and the least number above those of its keys.
+// Steps, and their last chain: the locks that are held, the oldest first, the lock that is taken, whether hardirqs and
+// softirqs are on, and the least number above those of its keys.
 struct Last {
     about: &'static str,
     steps: &'static [Step],
@@ -301,7 +301,7 @@ fn hash_of(chain: &Chain) -> u64 {
     state.finish()
 }
 
-// Whether two ways to the same chain are equal, and a chain of a reader is another.
+// Whether two ways to the same chain give equal chains, and a chain of a reader is another.
 fn are_compared_whole() -> Option<bool> {
     let writes = last_chain(&[Write(A), Write(B)])?;
     let again = last_chain(&[Read(C), Give(C), Write(A), Write(B)])?;

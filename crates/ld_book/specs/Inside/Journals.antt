@@ -35,7 +35,7 @@ pub record IsJournal (chains : List ChainParts) (entries : List EntryParts) : Ty
   pub numbers : All (λ (e : EntryParts). e.number < length chains) entries
   pub entered : (n : ℕ) → n < length chains → Any (λ (e : EntryParts). e.number ≡ n) entries
 
--- the later chains are the earlier ones, with this one at that place: there already, or behind them
+-- the later chains are the earlier ones, with this one at that place: there already, or after them
 pub record PutsChain (old new : List ChainParts) (number : ℕ) (chain : ChainParts) : Type 0 where
   pub more : List ChainParts
   pub extends : new ≡ old ++ more

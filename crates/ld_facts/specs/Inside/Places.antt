@@ -1,7 +1,7 @@
--- Places: a key together with whether the letter of arrival is R. What may follow is told by places: an arrow arrives at
+-- Places: a key together with whether the letter of arrival is R. Places decide what may follow: an arrow arrives at
 -- one, by its second letter, and leaves one or two, by its first.
 --
---      key a            key b             An S-arrow from b leaves place b alone, since it may not
+--      key a            key b             An S-arrow from b leaves only place b, since it may not
 --     (a  ) --(S.N)--> (b  ) --(S.N)-->   follow what ends in R. An E-arrow from b leaves both
 --                                         places of b. An arrow that ends in R arrives at (b,R).
 --     (a,R)            (b,R)
@@ -15,7 +15,7 @@ use Rattle.ld_facts.specs.Arrows.{Arrow}
 use Rattle.ld_facts.specs.declared.fact.Fact.{Fact}
 use Rattle.ld_facts.specs.declared.fact.Fact.TheVariants.{Marked}
 
--- the number of a place: those of R stand after those of N
+-- the number of a place: those of R come after those of N
 abbrev pub place : ℕ → Bool → ℕ
 place key at_r = if at_r then key + MAX_KEYS else key
 

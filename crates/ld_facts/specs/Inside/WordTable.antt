@@ -28,12 +28,12 @@ pub record IsTable (places bits : List ℕ) (len : ℕ) (seen : List ℕ) : Type
 abbrev pub HasWord : List (ℕ × ℕ) → ℕ → Type 0
 HasWord pairs n = Any (λ p. p.0 ≡ n) pairs
 
--- word n stands at place i of the pairs
+-- word n is at place i of the pairs
 pub record StandsAt (pairs : List (ℕ × ℕ)) (n i : ℕ) : Type 0 where
   pub within : i < length pairs
   pub is : (d : ℕ × ℕ) → (slice_index_or pairs i d).0 ≡ n
 
--- each word stands once, and has some bit
+-- each word is there once, and has some bit
 pub record AreWords (pairs : List (ℕ × ℕ)) : Type 0 where
   pub few : length pairs ≤ MAX_WORDS
   pub once : AllPairs (λ p q. p.0 ≢ q.0) pairs

@@ -1,4 +1,4 @@
--- What a graph keeps beside its facts: a table of places, and the places where links end.
+-- What a graph keeps besides its facts: a table of places, and the places where links end.
 use Rattle.std.specs.Prelude.{◌≡◌, ℕ, ◌≤◌, ◌⊎◌, ◌↔◌, Bool, IsTrue, List}
 use Rattle.ld_trace.specs.declared.event.Irq.{Irq}
 use Rattle.ld_task.specs.declared.kind.Kind.{Kind}
@@ -76,7 +76,7 @@ IsInversionBy Has irq a b read = (kind : Kind) × (is_r kind ≡ read) ×
     IsLink Has irq (arrow b a kind) × ClosesWith (DependenciesOf Has) (arrow b a kind)
 
 -- the table is that of the ways, the ends are those of the links, the flag says that the facts are clean, and no more
--- rows were taken up than may be
+-- rows were counted than may be
 pub record IsGraph (facts : FactParts) (table : List (List ℕ)) (ends : Ends) (clean : Bool) (searched : ℕ) : Type 0 where
   pub few : facts.keys ≤ MAX_KEYS
   pub ways : (p q : ℕ) → IsTrue (reaches table p q) ↔

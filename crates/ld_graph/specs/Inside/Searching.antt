@@ -66,14 +66,14 @@ LeadsBack facts steps (suc n) i p = (step : Step) × (slice_get steps i ≡ Some
     HasFact facts (Depends step.dependency.from step.dependency.to step.dependency.kind) ×
     ((m : ℕ) × Leaves (arrow_of step.dependency) m × LeadsBack facts steps n step.before m)
 
--- a step to a place within that was not seen is taken; the answer is whether it is a goal
+-- a step to a place in `within` that wasn't seen is taken; `hit` is whether it is a goal
 pub record Pushes (within goal : List ℕ) (step : Step) (old new : SearchParts) (hit : Bool) : Type 0 where
   pub steps_are : new.steps ≡ old.steps ++ step ∷ []
   pub set : IsTrue (has_bit new.seen (stands_at step))
   pub others : (q : ℕ) → ¬ (q ≡ stands_at step) → has_bit new.seen q ≡ has_bit old.seen q
   pub hits : hit ≡ has_bit goal (stands_at step)
 
--- it is taken, or it was seen or is not within and nothing changes
+-- it is taken, or its place was seen or isn't in `within`, and nothing changes
 abbrev pub Visits : (within goal : List ℕ) → Step → (old new : SearchParts) → Bool → Type 0
 Visits within goal step old new hit =
     Pushes within goal step old new hit ⊎
@@ -111,8 +111,8 @@ SeesAllFrom facts within i steps seen =
     (p q : ℕ) → StandsAt steps i p → Edge facts within p q → IsTrue (has_bit seen q)
 
 -- ---- rounds
--- after n rounds: the steps from `first` to `end` stand n steps from the start, the later ones one more; from the steps
--- below `next` all has been seen; and no goal
+-- after n rounds: the steps from `first` to `end` are n steps from the start, the later ones one more; all that the
+-- steps below `next` lead to has been seen; and no goal
 pub record AreSteps (facts : FactParts) (within goal : List ℕ) (start n first end next : ℕ) (found : SearchParts) : Type 0 where
   pub root : StandsAt found.steps 0 start
   pub listed : (q : ℕ) → IsTrue (has_bit found.seen q) → (i : ℕ) × StandsAt found.steps i q
@@ -128,7 +128,7 @@ pub record AreSteps (facts : FactParts) (within goal : List ℕ) (start n first 
 abbrev pub FindsGoal : FactParts → List ℕ → ℕ → SearchParts → Type 0
 FindsGoal facts goal n found = (q : ℕ) × LeadsBack facts found.steps n (length found.steps - 1) q × IsTrue (has_bit goal q)
 
--- no goal is reached from the start by as many edges, one or more
+-- no goal is reached from the start by n edges or fewer, but at least one
 abbrev pub NoGoalBy : FactParts → (within goal : List ℕ) → (start n : ℕ) → Type 0
 NoGoalBy facts within goal start n = (m q : ℕ) → suc m ≤ n → Reached (Edge facts within) start (suc m) q →
     IsFalse (has_bit goal q)
@@ -148,6 +148,6 @@ LeastThrough facts done place n = (a : Arrow) (rest : List Arrow) → ClosedWalk
 abbrev pub LeadsRound : (Arrow → Type 0) → Arrow → List Arrow → Type 0
 LeadsRound In l way = (0 < length way) × ((q : ℕ) × Leaves l q × GoesTo In (arrival l) way q)
 
--- none that do are fewer than n
+-- none that do so are fewer than n
 abbrev pub LeastRound : (Arrow → Type 0) → Arrow → ℕ → Type 0
 LeastRound In l n = (way : List Arrow) → LeadsRound In l way → n ≤ length way

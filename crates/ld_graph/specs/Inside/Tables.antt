@@ -33,7 +33,7 @@ IsTransitive table =
     (p q r : ℕ) → IsTrue (reaches table p q) → IsTrue (reaches table q r) →
     IsTrue (reaches table p r)
 
--- the arrow's sources come to reach its targets
+-- the arrow's sources reach its targets now
 abbrev pub TakesArrow : (old new : List (List ℕ)) → Arrow → Type 0
 TakesArrow old new d = (p q : ℕ) → IsTrue (reaches new p q) ↔
     (IsTrue (reaches old p q) ⊎ (IsSource old d.start (is_s d.kind) p ×

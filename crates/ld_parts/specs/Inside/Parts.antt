@@ -36,11 +36,11 @@ pub record AreParts (facts : FactParts) (rank : ℕ → ℕ) (parts : List Part)
   pub all : (key : ℕ) → key < facts.keys → rank key < length parts
 
 -- ---- homes
--- the key stands at the place n of the list
+-- the key is at the place n of the list
 abbrev pub IsAtPlace : List ℕ → ℕ → ℕ → Type 0
 IsAtPlace keys key n = (n < length keys) × (slice_index keys n ≡ key)
 
--- the key stands at home: in the part of its rank, at that place
+-- the key is at its home: in the part of its rank, at that place
 pub record IsHome (rank : ℕ → ℕ) (parts : List Part) (key : ℕ) (home : Home) : Type 0 where
   pub of_rank : home.part ≡ rank key
   pub within : home.part < length parts
@@ -69,7 +69,7 @@ pub record IsParted (facts : FactParts) (parts : List Part) (homes : List Home) 
 abbrev pub IsPartOf : FactParts → Part → Type 0
 IsPartOf facts part = (rank : ℕ → ℕ) × (r : ℕ) × NoneGoesDown (HasFact facts) rank × IsPart facts rank r part
 
--- two keys stand at these places of one part
+-- two keys are at these places of one part
 pub record AreTogether (facts : FactParts) (part : Part) (a b i j : ℕ) : Type 0 where
   pub of : IsPartOf facts part
   pub at_a : IsAtPlace part.keys.items a i
@@ -81,7 +81,7 @@ AreApart facts a b = a < facts.keys → b < facts.keys →
     (rank : ℕ → ℕ) × NoneGoesDown (HasFact facts) rank × ¬ (rank a ≡ rank b)
 
 -- ---- circles
--- the circle is a shortest one of the part's graph, told by the keys
+-- the circle is a shortest one of the part's graph, with the keys themselves
 pub record IsToldBy (part : Part) (circle : List Arrow) : Type 0 where
   pub own : List Arrow
   pub shortest : IsShortestCircle (HasFact part.graph.facts) own

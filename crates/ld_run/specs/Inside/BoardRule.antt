@@ -1,4 +1,4 @@
--- The rule of a board over plain data, and what each step tells its seat [this project's own].
+-- The rule of a board over plain data, and what each step shows its seat [this project's own].
 use Rattle.std.specs.Prelude.{◌≡◌, ℕ, ◌+◌, ◌-◌, ◌*◌, ◌<◌, ◌≤◌, List, [], ◌∷◌, ◌++◌, length, slice_index, bit_or, All}
 use mathlib.Core.Option.{some}
 use lib.ListN.{get_elem?}

@@ -1,4 +1,4 @@
--- What the workers of a run bring back together [this project's own].
+-- What the workers of a run return together [this project's own].
 use Rattle.std.specs.Prelude.{ℕ, List, Option, Some, None, Any, Contains, if◌then◌else◌, nat_lt}
 use Rattle.ld_task.specs.declared.fault.StepAt.{StepAt}
 use Rattle.ld_run.specs.Seats.{view}
@@ -12,7 +12,7 @@ HasDrawn w i = Contains (view w.seat).claimed i
 abbrev pub SomeHasDrawn : List Worked → ℕ → Type 0
 SomeHasDrawn ws i = Any (λ w. HasDrawn w i) ws
 
--- of two refused traces the earlier one
+-- the earlier of two refused traces
 abbrev pub earlier_refused : Option (ℕ × StepAt) → Option (ℕ × StepAt) → Option (ℕ × StepAt)
 earlier_refused (Some a) (Some b) = Some (if nat_lt b.0 a.0 then b else a)
 earlier_refused (Some a) None = Some a

@@ -20,7 +20,7 @@ pub record HasGathered (keys : ℕ) (start now : View) (t : List Event) (n : ℕ
   pub puts : PutsOnly keys start now (ChainsHave (chains (take n t)))
   pub knows : Holds (KnowsFact keys now) (ChainsHave (chains (take n t)))
 
--- the event comes at n in the trace, whose keys are below the bound; this is the state before it, and the facts were
+-- the event is at n in the trace, whose keys are below the bound; this is the state before it, and the facts were
 -- gathered up to it
 pub record ComesNext (keys : ℕ) (start now : View) (state : EndState) (event : Event) (t : List Event) (n : ℕ) : Type 0 where
   pub after : IsStateAfter t n state
@@ -28,14 +28,14 @@ pub record ComesNext (keys : ℕ) (start now : View) (state : EndState) (event :
   pub below : KeysBelow keys t
   pub gathered : HasGathered keys start now t n
 
--- the event at n was allowed, this is the state after it, and the facts were gathered behind it; or it is the first that
--- isn't allowed, and they were gathered up to it
+-- the event at n was allowed, this is the state after it, and the facts were gathered up to and with it; or it is the
+-- first that isn't allowed, and they were gathered up to it
 abbrev pub WalksOn : (keys : ℕ) (start now : View) → EndState → List Event → ℕ → Option StepFault → Type 0
 WalksOn keys start now state t n None = IsStateAfter t (n + 1) state × HasGathered keys start now t (n + 1)
 WalksOn keys start now state t n (Some fault) =
     IsFirstFault t (record { fault = fault; place = n }) × HasGathered keys start now t n
 
--- why the event isn't allowed; none also where the worker was lost behind it
+-- why the event isn't allowed; none also if the worker was lost after it
 abbrev pub fault_in : Result (Option StepFault) Lost → Option StepFault
 fault_in (Ok fault) = fault
 fault_in (Err lost) = None
@@ -45,7 +45,7 @@ abbrev pub FirstFaultIs : List Event → Option StepAt → Type 0
 FirstFaultIs t None = IsWellFormed t
 FirstFaultIs t (Some found) = IsFirstFault t found
 
--- the trace that was refused before, or else this one, if it is
+-- the trace that was refused before, or otherwise this one, if it is refused
 abbrev pub first_refused_of : Option (ℕ × StepAt) → ℕ → Option StepAt → Option (ℕ × StepAt)
 first_refused_of (Some before) trace found = Some before
 first_refused_of None trace (Some first) = Some (trace, first)

@@ -1,4 +1,4 @@
--- The test of two chains finds what is equal, and it alone. Cited by the laws of equality and hash.
+-- The test of two chains is true exactly for equal ones. Cited by the laws of equality and hash.
 use Rattle.std.specs.Prelude.{◌≡◌, Bool, ◌&&◌, Option, Some, None, refl}
 use Rattle.std.specs.Bool.{Decides, beq}
 use Rattle.std.specs.Cmp.{IsEquivalence, booleans_Decides, both_ways}
@@ -55,7 +55,7 @@ flags_eq-decides a b =
     both (beq a.hard_on b.hard_on) (beq a.soft_on b.soft_on) (booleans_Decides a.hard_on b.hard_on) (booleans_Decides a.soft_on b.soft_on)
     (λ p i. record { hard_on = p.0 i; soft_on = p.1 i }) (λ e. (λ i. (e i).hard_on, λ i. (e i).soft_on))
 
--- two chains are equal exactly where all their parts are
+-- two chains are equal exactly if all their parts are
 pub chain_eq-decides : (a b : ChainParts) → Decides (chain_eq a b) (a ≡ b)
 chain_eq-decides a b =
     both _ _ locks (flags_eq-decides a.flags b.flags)

@@ -1,4 +1,4 @@
--- How the positions of a task's locks go on by one event. Only private clauses cite these words.
+-- How one event changes the positions of a task's locks. Only private clauses cite these words.
 use Rattle.std.specs.Prelude.{◌≡◌, ℕ, List, [], ◌∷◌, ◌++◌, Option, Some, None, Result, OnOk, OnErr, remove, if◌then◌else◌}
 use Rattle.ld_trace.specs.declared.event.Event.{Event}
 use Rattle.ld_trace.specs.declared.event.Event.TheVariants.{Acquire, Release, Enter, Leave, TurnOn, TurnOff}
@@ -9,7 +9,7 @@ use Rattle.ld_task.specs.Placed.{PlacedParts}
 use Rattle.ld_task.specs.declared.fault.StepFault.{StepFault}
 use Rattle.ld_task.specs.declared.lock.KeptLock.{KeptLock}
 
--- the positions but for the one at this place of the list
+-- the positions except the one at this place of the list
 abbrev pub without_place : List ℕ → Option ℕ → List ℕ
 without_place places None = places
 without_place places (Some k) = remove places k
@@ -30,7 +30,7 @@ DoesPlaced old n e new r =
     × OnOk r (new.places ≡ places_after old.state old.places n e)
     × OnErr r (new.places ≡ old.places)
 
--- of positions beside locks, those whose lock was taken at this level
+-- given a position for each lock, those whose lock was taken at this level
 abbrev pub places_at : ℕ → List KeptLock → List ℕ → List ℕ
 places_at level [] places = []
 places_at level (k ∷ ks) [] = []

@@ -21,7 +21,7 @@ pub record ReadsPlain {R : Type 0} (source : Reader R) : Type 0 where
   pub trim : reader_trim source ≡ trim.None
   pub ready : Ready source
 
--- where the bytes are known, these are their first records, and the source has the bytes after them
+-- if the bytes are known, these are their first records, and the source has the bytes after them
 abbrev pub HasGiven : {R : Type 0} → (R → Option (List ℕ)) → Option (List ℕ) → Reader R
     → List Record → Type 0
 HasGiven rem known source rows =

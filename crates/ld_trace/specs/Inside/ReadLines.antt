@@ -1,4 +1,5 @@
--- The lines that the reader hands on, whose names lie in the record's own bytes. No public clause speaks of these.
+-- The lines that the reader passes on, whose names are borrowed from the record's own bytes. No public clause speaks of
+-- these.
 use Rattle.std.specs.Prelude.{◌≡◌, Result, Ok, Err}
 use Rattle.ld_trace.specs.declared.line.Line.{Line as ReadLine}
 use Rattle.ld_trace.specs.declared.line.Line.TheVariants.{Takes, GivesBack, Enters, Leaves, TurnsOn, TurnsOff}
@@ -20,7 +21,7 @@ line_read Leaves = leaves
 line_read (TurnsOn irq) = turns_on irq
 line_read (TurnsOff irq) = turns_off irq
 
--- an answer says this
+-- a result says this
 abbrev pub Says : Result Line TraceFaultKind → Result ReadLine TraceFaultKind → Type 0
 Says what (Ok line) = what ≡ Ok (line_read line)
 Says what (Err fault) = what ≡ Err fault

@@ -5,7 +5,7 @@ use Rattle.ld_text.specs.declared.write_fault.WriteFault.TheVariants.{Memory}
 use Rattle.lockdep.specs.declared.fault.ReportFault.{ReportFault}
 use Rattle.lockdep.specs.declared.fault.ReportFault.TheVariants.{Condensing, Out}
 
--- condensing was refused so, or memory for the text of what it made
+-- condensing was refused in this way, or memory for the text of what it made
 abbrev pub no_text_of : {T : Type 0} → Result T CondenseFault → ReportFault
 no_text_of (Ok trace) = Out Memory
 no_text_of (Err fault) = Condensing fault

@@ -43,7 +43,8 @@ fn chains_on(alloc: Global, trace: &str, w: &mut Narrow) -> Result<Result<(), Wr
     Ok(write_chains(w, &trace, &keys))
 }
 
-// Asserts what writing the chains returns where the writer fails in this way when it has taken so many bytes, and that it has these.
+// Asserts what writing the chains returns if the writer fails in this way after `done` bytes, and that it has taken
+// these.
 fn assert_chains(
     rt: &(impl Abort + AllocGlobal),
     (trace, chains): (&str, &str),

@@ -1,4 +1,4 @@
-//! Sessions whose gate tells that the workers really run side by side.
+//! Sessions whose gate shows that the workers really run side by side.
 
 use crate::tests::helpers::{session_of, text_in};
 use ld_run::Gate;

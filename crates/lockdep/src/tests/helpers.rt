@@ -11,7 +11,8 @@ use std::sync::Wait;
 use std::test::Fail;
 use std::thread::Threads;
 
-/// The text of a trace that a table has in one line: the version of its header and then its records, with spaces between them.
+/// The text of a trace that a table has in one line: the version of its header and then its records, with spaces
+/// between them.
 pub(crate) fn trace_text(alloc: Global, trace: &str) -> Result<Vec<u8>, AllocError> {
     let mut text = Vec::new(alloc);
     text.extend_from_slice(b"lockdep,".as_slice())?;

@@ -14,8 +14,8 @@ use std::sync::Wait;
 use std::test::Fail;
 use std::thread::Threads;
 
-// A text that the table has in short: its head, how many times the next words follow it, with the numbers from 100 on for their '#',
-// and its tail.
+// A text that the table has in short: its head, how many times the next words follow it, with the numbers from 100 on
+// for their '#', and its tail.
 type Long<'t> = (&'t str, u32, &'t str, &'t str);
 
 // Adds the words, with the number for each '#'.
@@ -41,7 +41,7 @@ fn spelled(alloc: Global, (head, times, each, tail): Long<'_>) -> Result<Vec<u8>
     Ok(text)
 }
 
-// Traces that are given as many times as `copies` says, and what their session returns and writes, whatever the number of workers.
+// Traces that are added `copies` times each, and what their session returns and writes, whatever the number of workers.
 struct Case<'t> {
     many: bool,
     traces: &'t [Long<'t>],
@@ -59,7 +59,6 @@ fn add_copies(session: &mut Session, trace: &[u8], copies: u16) -> Result<(), Fa
     Ok(())
 }
 
-// The session of a case.
 fn session_of(alloc: Global, case: &Case<'_>) -> Result<Session, Fail> {
     let room = if case.many { MAX_MANY } else { MAX_KEYS };
     let mut session = Session::with_room(alloc, room)?;
@@ -89,7 +88,8 @@ static CASES: [Case<'_>; 10] = [
             "",
         ),
     },
-    // The same, with 16,400 events in each of four traces: enough for two workers to really walk them. More than two: `tests/runs`.
+    // The same, with 16,400 events in each of four traces: enough for two workers to really walk them. More than two:
+    // `tests/runs`.
     Case {
         many: false,
         traces: &[
@@ -201,7 +201,7 @@ static CASES: [Case<'_>; 10] = [
         returned: Err(ReportFault::Run(RunFault::TooManyTraces)),
         text: ("", 0, "", ""),
     },
-    // Numbers of workers that no run takes, not even one that would be refused otherwise.
+    // Numbers of workers that no run accepts, not even one that would be refused for another reason.
     Case {
         many: false,
         traces: &[("lockdep,1\nleave\n", 0, "", "")],

@@ -9,8 +9,8 @@ use std::rt::Files;
 use std::sync::Wait;
 use std::thread::Threads;
 
-// A run of the program: its words, its standard input, the calls at which its two outputs fail (none, if 0), its status, and what it
-// has written on the two outputs by then.
+// A run of the program: its words, its standard input, the calls at which its two outputs fail (none, if 0), its
+// status, and what it has written on the two outputs by then.
 type Run<'t> = (
     &'t [&'t str],
     &'t str,

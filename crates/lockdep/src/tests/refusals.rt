@@ -1,4 +1,4 @@
-//! Traces that are refused in reading, and what is said of each refusal.
+//! Traces that are refused while they are read, and what is said about each refusal.
 
 use crate::output::Output;
 use crate::refusal::{Refusal, refuse};
@@ -10,7 +10,8 @@ use ld_text::WriteFault;
 use ld_trace::{TraceFault, TraceFaultKind};
 use std::test::Fail;
 
-// Traces that are refused in reading by a session with room for two keys, why, and the report of what the session keeps.
+// Traces that a session with room for two keys refuses while it reads them, why, and the report of what the session
+// keeps.
 static READINGS: [(&str, TraceFaultKind, usize, &str); 5] = [
     (
         "",

@@ -35,7 +35,7 @@ static REPORTS: [(&[&str], &str); 35] = [
         &["1 acq,A,0,w acq,B,0,rr", "1 acq,B,0,w acq,A,0,w"],
         "traces 2\nevents 4\nkeys 2\ndependencies 2\nclean no\nusage A/0 {+.+.}\nusage B/0 {++++}\ncircle A/0 ER B/0\ncircle B/0 EN A/0\nbecause A/0 ER B/0 EN A/0\n",
     ),
-    // Two circles, of which the shorter is spelled out, though the longer has the lesser key.
+    // Two circles, of which the shorter is spelled out, although the longer one has the lesser key.
     (
         &[
             "1 acq,X,0,w acq,Y,0,w rel,Y,0 rel,X,0",
@@ -56,7 +56,7 @@ static REPORTS: [(&[&str], &str); 35] = [
         ],
         "traces 3\nevents 6\nkeys 3\ndependencies 3\nclean no\nusage a/1 {++++}\nusage b/0 {+.+.}\nusage c/0 {+.+.}\ncircle a/1 EN b/0\ncircle b/0 EN c/0\ncircle c/0 EN a/1\nbecause a/1 EN b/0 EN c/0 EN a/1\n",
     ),
-    // Circles that pass a key twice, or reach it by two letters, both of which are gone on from.
+    // Circles that pass a key twice, or reach it by two letters, both of which the walk continues from.
     (
         &[
             "1 acq,X,0,w acq,Y,0,rr",
@@ -80,7 +80,7 @@ static REPORTS: [(&[&str], &str); 35] = [
         ],
         "traces 5\nevents 10\nkeys 4\ndependencies 5\nclean no\nusage A/0 {+.+.}\nusage B/0 {++++}\nusage C/0 {+.+.}\nusage D/0 {+.+.}\ncircle A/0 EN C/0\ncircle B/0 SN D/0\ncircle C/0 EN B/0\ncircle D/0 EN A/0\nbecause A/0 EN C/0 EN B/0 SN D/0 EN A/0\n",
     ),
-    // Locks that one task takes twice, and that it gives back out of their order.
+    // Locks that one task takes twice, and that it releases out of order.
     (
         &["1 acq,A,0,rr acq,A,0,rr"],
         "traces 1\nevents 2\nkeys 1\ndependencies 1\nclean yes\nusage A/0 {.+.+}\n",

@@ -1,4 +1,5 @@
-//! Whole explanations, pictures and condensed traces of small traces, of which `examples` has more, and traces that are refused.
+//! Whole explanations, pictures and condensed traces of small traces, of which `examples` has more, and traces that are
+//! refused.
 
 use crate::fault::ReportFault;
 use crate::output::Output;
@@ -75,7 +76,7 @@ static TEXTS: [(Output<'_>, &[&str], Result<bool, ReportFault>, &str); 12] = [
         Ok(true),
         "lockdep,1\noff,hardirq\nacq,A,0,rr\nacq,B,0,w\nrel,B,0\nrel,A,0\nacq,B,0,w\nacq,A,0,rr\nrel,A,0\nrel,B,0\non,hardirq\noff,softirq\nacq,A,0,rr\nrel,A,0\nacq,B,0,w\nrel,B,0\non,softirq\nacq,A,0,rr\nrel,A,0\nacq,B,0,w\nrel,B,0\n",
     ),
-    // Of several traces that aren't well formed the first is named.
+    // The first of several traces that aren't well formed is named.
     (
         Output::Report,
         &["1 acq,B,0,w", "1 leave", "1 rel,B,0"],

@@ -1,5 +1,5 @@
-//! What a refused request for memory, or for a thread, leaves. In an ordinary run none is refused: `tests/sweep` runs each of
-//! these tests with its first request refused, its second, and so on, and counts the lines that they print.
+//! What a refused request for memory, or for a thread, leaves. In an ordinary run none is refused: `tests/sweep` runs
+//! each of these tests with its first request refused, its second, and so on, and counts the lines that they print.
 
 use crate::fault::ReportFault;
 use crate::session::Session;
@@ -43,7 +43,7 @@ impl Sheet {
 }
 
 impl Write for Sheet {
-    // One byte a call.
+    // One byte per call.
     fn write(&mut self, buf: &[u8]) -> io::Result<usize> {
         match (buf.first(), self.bytes.get_mut(self.len)) {
             (Some(byte), Some(place)) => {
@@ -60,7 +60,7 @@ impl Write for Sheet {
     }
 }
 
-// An empty session, made again where that was refused.
+// An empty session, made again if that was refused.
 fn session(rt: &(impl Abort + AllocGlobal + Print)) -> Result<Session, Fail> {
     match Session::new(rt.alloc()) {
         Ok(session) => Ok(session),
@@ -107,7 +107,7 @@ fn want_of_memory_in_a_session(rt: HostRuntime) -> Result<(), Fail> {
     Ok(())
 }
 
-// Both traces, with their keys added to these; None where memory was refused.
+// Both traces, with their keys added to these; None if memory was refused.
 fn read_both(alloc: Global, keys: &mut KeyTable) -> Option<Vec<RawTrace>> {
     let mut traces = Vec::new(alloc);
     for text in TRACES {
@@ -116,7 +116,7 @@ fn read_both(alloc: Global, keys: &mut KeyTable) -> Option<Vec<RawTrace>> {
     Some(traces)
 }
 
-// The traces, their names, and what a run over them settles; None where memory was refused.
+// The traces, their names, and what a run over them settles; None if memory was refused.
 fn settled<R: Threads + Wait + Sync>(
     rt: &R,
     alloc: Global,

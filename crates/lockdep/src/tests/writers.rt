@@ -1,4 +1,4 @@
-//! A writer that takes one byte a call and fails at one.
+//! A writer that takes one byte per call and fails at one call.
 
 use crate::fault::ReportFault;
 use crate::tests::helpers::session_of;
@@ -19,7 +19,7 @@ pub(crate) const FAILURES: [(Option<io::ErrorKind>, WriteFault); 3] = [
     (None, WriteFault::Stuck),
 ];
 
-// Takes one byte a call. At one call it fails, or takes nothing.
+// Takes one byte per call. At one call it fails, or takes nothing.
 #[derive(Drop)]
 pub(crate) struct Narrow {
     pub taken: Vec<u8>,
@@ -69,7 +69,8 @@ const TRACES: [&str; 2] = [
 const REPORT: &str =
     "traces 2\nevents 8\nkeys 2\ndependencies 2\nclean no\nusage A/0 {+.+.}\nusage B/0 {+.+.}\ncircle A/0 EN B/0\ncircle B/0 EN A/0\nbecause A/0 EN B/0 EN A/0\n";
 
-// Asserts what a report returns whose writer fails in this way when it has taken so many bytes, and that it has these.
+// Asserts what a report returns if its writer fails in this way after `done` bytes, and that the writer has taken
+// these.
 fn assert_report(
     rt: &(impl Threads + Wait + Sync + Abort + AllocGlobal),
     done: usize,

@@ -1,5 +1,5 @@
-//! What a refused request for memory leaves. In an ordinary run none is refused: `tests/sweep` runs this test with its first
-//! request refused, its second, and so on, and counts the lines that it prints.
+//! What a refused request for memory leaves. In an ordinary run none is refused: `tests/sweep` runs this test with its
+//! first request refused, its second, and so on, and counts the lines that it prints.
 
 use ld_explain::{Origin, Origins};
 use ld_graph::Kind;
@@ -14,12 +14,12 @@ use std::thread::Threads;
 use tests_low::steps::Step::{Give, Write};
 use tests_low::steps::{A, B, traces_of};
 
-// A trace of two locks; None where memory was refused.
+// A trace of two locks; None if memory was refused.
 fn traces(alloc: Global) -> Option<Vec<RawTrace>> {
     traces_of(alloc, &[&[Write(A), Write(B), Give(B), Give(A)]], 1)
 }
 
-// The origin of the one dependency; None where memory was refused.
+// The origin of the one dependency; None if memory was refused.
 fn origin(
     rt: &(impl Threads + Wait + Sync + Abort + AllocGlobal),
     traces: &[RawTrace],

@@ -1,4 +1,4 @@
-//! That condensing refuses none of the facts that traces have, and what the trace of small facts is.
+//! That condensing refuses none of the facts that traces have, and which trace small sets of facts give.
 
 use super::run_over;
 use ld_run::{CondenseFault, OpenGate, Settled, condense};
@@ -187,7 +187,7 @@ fn settled_of_one<R: Threads + Wait + Sync + Abort>(
     settled_of(rt, alloc, &traces, keys)
 }
 
-// Condenses. None if what comes of it isn't condensed to the same, or has other facts.
+// Condenses. None if condensing the result again gives another trace, or if it has other facts.
 fn condensed<R: Threads + Wait + Sync + Abort>(
     rt: &R,
     alloc: Global,
@@ -249,7 +249,7 @@ fn an_order_that_lacks_a_key(rt: HostRuntime) {
     assert_eq!(rt; lacking(&rt, rt.alloc()), Some(CondenseFault::Unequal));
 }
 
-// Numbers that look like chance, the same in every run.
+// Numbers that look random, the same in every run.
 #[derive(Drop)]
 struct Chance {
     state: u32,
@@ -302,7 +302,7 @@ fn any_mode(chance: &mut Chance) -> Mode {
     }
 }
 
-// A well-formed trace of up to so many events: of those tried, the ones that are allowed.
+// A well-formed trace of up to `tried` events: of those tried, the ones that are allowed.
 fn any_trace(alloc: Global, chance: &mut Chance, tried: usize) -> Result<RawTrace, Fail> {
     let mut events = Vec::new(alloc);
     let mut state = TaskState::new();

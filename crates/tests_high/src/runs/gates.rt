@@ -75,7 +75,8 @@ fn gate_two(rt: HostRuntime) {
     assert_eq!(rt; meet(&rt, rt.alloc()), Some(true));
 }
 
-// A gate that counts its calls, and has the numbers of the chains, of which none is above 9, as the digits of one number.
+// A gate that counts its calls, and has the numbers of the chains, of which none is above 9, as the digits of one
+// number.
 #[derive(Drop)]
 struct Counting {
     calls: AtomicU64,
@@ -93,8 +94,8 @@ impl Gate for Counting {
     }
 }
 
-// Traces that one worker walks, how often the whole list of them is given, how often the gate is called, and the numbers
-// of the chains that it is called for.
+// Traces that one worker walks, how often the whole list of them is given, how often the gate is called, and the
+// numbers of the chains that it is called for.
 struct Calls {
     about: &'static str,
     traces: &'static [&'static [Step]],

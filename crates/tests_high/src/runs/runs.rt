@@ -1,4 +1,4 @@
-//! What runs say, by any number of workers.
+//! What runs return, with any number of workers.
 
 use super::run_over;
 use ld_graph::{Kind, Mark};
@@ -12,7 +12,8 @@ use std::thread::Threads;
 use tests_low::steps::Step::{Enter, Give, Leave, Write};
 use tests_low::steps::{A, B, Step, facts_of, trace_of, traces_of};
 
-// Traces, how often the whole list of them is given, by how many workers they are run, and how each of these runs ends.
+// Traces, how often the whole list of them is given, with how many workers they are run, and how each of these runs
+// ends.
 struct Run {
     about: &'static str,
     keys: u16,
@@ -151,7 +152,7 @@ fn is_ended(alloc: Global, ended: Result<Settled, RunFault>, run: &Run) -> bool 
     }
 }
 
-// Whether the run ends as it is to by each number of workers.
+// Whether the run ends as expected with each number of workers.
 fn ends_as_told<R: Threads + Wait + Sync + Abort>(
     rt: &R,
     alloc: Global,
@@ -186,7 +187,7 @@ fn runs_by_any_number_of_workers(rt: HostRuntime) {
     assert_eq!(rt; misfit(&rt, rt.alloc(), &RUNS), None);
 }
 
-// What the run over these traces says.
+// What the run over these traces settles.
 fn settled_of<R: Threads + Wait + Sync + Abort>(
     rt: &R,
     alloc: Global,
@@ -217,7 +218,8 @@ fn tells_its_inversion(settled: &Settled) -> Option<bool> {
     Some(none && members && inside && !found.enabled_read && !found.used_read)
 }
 
-// A lock that is used in an interrupt, and with them on, where another is taken under it and then the other way round.
+// A lock that is used in an interrupt, and with interrupts on, and another that is taken under it and then the other
+// way round.
 fn tells_its_findings<R: Threads + Wait + Sync + Abort>(rt: &R, alloc: Global) -> Option<bool> {
     let used: &[Step] = &[Enter(Irq::Hard), Write(A)];
     let under: &[Step] = &[Write(A), Write(B), Give(B), Give(A)];

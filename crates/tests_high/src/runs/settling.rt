@@ -8,7 +8,7 @@ use std::sync::Wait;
 use tests_low::steps::Step::{Give, Write};
 use tests_low::steps::{A, B, C, Step, chains_of, facts_of};
 
-// A book of the chains of some traces but the one left out, and the facts of others, about three keys.
+// A book of the chains of some traces except the one left out, and the facts of others, about three keys.
 struct Settling {
     about: &'static str,
     // The bound on the book's keys.
@@ -16,7 +16,7 @@ struct Settling {
     book: &'static [&'static [Step]],
     left_out: usize,
     facts: &'static [&'static [Step]],
-    // How many dependencies are settled. None where the book doesn't settle.
+    // How many dependencies are settled. None if the book doesn't settle.
     dependencies: Option<u64>,
     // Whether A and B are on a circle.
     circle: bool,

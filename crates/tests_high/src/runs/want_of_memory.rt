@@ -1,5 +1,5 @@
-//! What a refused request for memory, or for a thread, leaves. In an ordinary run none is refused: `tests/sweep` runs each of
-//! these tests with its first request refused, its second, and so on, and counts the lines that they print.
+//! What a refused request for memory, or for a thread, leaves. In an ordinary run none is refused: `tests/sweep` runs
+//! each of these tests with its first request refused, its second, and so on, and counts the lines that they print.
 
 use super::run_over;
 use ld_facts::Facts;
@@ -14,7 +14,7 @@ use std::thread::Threads;
 use tests_low::steps::Step::{Give, Write};
 use tests_low::steps::{A, B, traces_of};
 
-// Two locks that two traces take in both orders; None where memory was refused.
+// Two locks that two traces take in both orders; None if memory was refused.
 fn traces(alloc: Global) -> Option<Vec<RawTrace>> {
     traces_of(
         alloc,
@@ -26,7 +26,7 @@ fn traces(alloc: Global) -> Option<Vec<RawTrace>> {
     )
 }
 
-// Runs two locks that two traces take in both orders. A run that is refused says N4, and the same run then goes through.
+// Runs two locks that two traces take in both orders. A run that is refused returns N4, and the same run then succeeds.
 fn runs(
     rt: &(impl Threads + Wait + Sync + Abort + AllocGlobal + Print),
     workers: u16,

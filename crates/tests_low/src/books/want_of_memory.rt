@@ -1,5 +1,5 @@
-//! What a refused request for memory leaves. In an ordinary run none is refused: `tests/sweep` runs each of these tests with its
-//! first request refused, its second, and so on, and counts the lines that they print.
+//! What a refused request for memory leaves. In an ordinary run none is refused: `tests/sweep` runs each of these tests
+//! with its first request refused, its second, and so on, and counts the lines that they print.
 
 use crate::books::{are, chain_at, facts_told, told};
 use ld_book::Book;
@@ -7,7 +7,7 @@ use std::io::Print;
 use std::process::Abort;
 use std::test::Fail;
 
-// Records a chain of the two orders. Where that is refused the book stands as it was, and the same call then goes through.
+// Records a chain of the two orders. If that is refused, the book is as it was, and the same call then succeeds.
 fn record_anyway(rt: &(impl Abort + Print), book: &mut Book, place: usize) -> Result<(), Fail> {
     let before = (told(&*book), facts_told(&*book), book.is_clean());
     if let Err(fault) = book.record(0, chain_at(place).ok_or("a chain")?) {

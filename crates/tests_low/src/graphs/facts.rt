@@ -260,7 +260,7 @@ fn facts_by_words(alloc: Global, chain: &Chain, keys: u16) -> Option<Facts> {
     Some(facts)
 }
 
-// The same facts, united with none.
+// The same facts, united with an empty set.
 fn united(alloc: Global, facts: &Facts) -> Option<Facts> {
     let mut all = Facts::new(alloc, facts.keys()).ok()?;
     if all.same(facts) {
@@ -270,7 +270,7 @@ fn united(alloc: Global, facts: &Facts) -> Option<Facts> {
     Some(all)
 }
 
-// Whether the words of the last chain, which are put in place of others, and its facts, added in each way, are as wanted.
+// Whether the words of the last chain, which replace others, and its facts, added in each way, are as expected.
 fn is_as_wanted(alloc: Global, last: &Last, words: &mut FactWords) -> Option<bool> {
     let chain = last_chain(last.trace)?;
     let facts = facts_of(alloc, &chain, last.keys, words)?;
@@ -295,7 +295,8 @@ fn misfit(alloc: Global, lasts: &[Last]) -> Option<&'static str> {
     None
 }
 
-// Whether uniting the words of each of these traces' last chains gives what adding the chains gives, over the facts of those before.
+// Whether uniting the words of each of these traces' last chains gives what adding the chains gives, over the facts of
+// those before.
 fn are_united_in_turn(alloc: Global, traces: &[&[Step]]) -> Option<bool> {
     let mut facts = Facts::new(alloc, 3).ok()?;
     let mut by_words = Facts::new(alloc, 3).ok()?;
@@ -425,7 +426,7 @@ static SINGLES: [Singles; 3] = [
     },
 ];
 
-// Adds each of the facts once, and once more. Whether each is new the first time alone.
+// Adds each of the facts once, and once more. Whether each is new only the first time.
 fn add_each(facts: &mut Facts, all: &[Fact]) -> bool {
     for fact in all {
         if !fact.is_below(facts.keys())

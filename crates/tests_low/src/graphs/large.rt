@@ -1,4 +1,4 @@
-//! Traces and facts that are too large for a table, and a graph of some keys alone.
+//! Traces and facts that are too large for a table, and a graph of only some keys.
 
 use crate::steps::Step::{TurnOff, TurnOn, Write};
 use crate::steps::{A, B, C, Step, chains_of, last_chain};
@@ -10,7 +10,7 @@ use ld_trace::Irq::Hard;
 use ld_trace::{MAX_KEYS, MAX_MANY};
 use std::alloc::Global;
 
-// Takes 48 locks, one under the other, whose keys are so far apart.
+// Takes 48 locks, one under the other, whose keys are `apart` apart.
 fn take_forty_eight(trace: &mut Vec<Step>, apart: u16) -> Option<()> {
     for number in 0..48u16 {
         trace.push(Write(number.saturating_mul(apart))).ok()?;
@@ -42,8 +42,8 @@ fn give_a_dependency_a_pair(alloc: Global) -> Option<bool> {
     Some(graph.is_clean() && facts.dependencies() == 1128 && facts.marks() == 144)
 }
 
-// The marks stand from bit 262,144 on, nine a key: those of key 0 at 3 and 7, of key 5 at 48 and 52, and of key 235, the
-// last, at 2,118 and 2,122.
+// The marks are the bits from 262,144 on, nine per key: those of key 0 at 3 and 7, of key 5 at 48 and 52, and of key
+// 235, the last, at 2,118 and 2,122.
 fn are_marked_by_an_opening(alloc: Global) -> Option<bool> {
     let mut trace = vec![in alloc; TurnOff(Hard)].ok()?;
     take_forty_eight(&mut trace, 5)?;
@@ -122,8 +122,8 @@ fn have_a_circle_in_parts(alloc: Global) -> Option<bool> {
     Some(found && graph.shortest_circle()?.len() == 2)
 }
 
-// Two keys in each other's way, A and C, and a dependency on B that isn't about them alone. The keys of the graph of C and
-// A have the numbers of their places.
+// Two keys in each other's way, A and C, and a dependency on B that isn't only about them. The keys of the graph of C
+// and A have the numbers of their places.
 fn have_the_numbers_of_their_places(alloc: Global) -> Option<bool> {
     let mut facts = Facts::new(alloc, 3).ok()?;
     for (from, to) in [(A, C), (C, A), (A, B)] {
@@ -144,8 +144,8 @@ fn have_the_numbers_of_their_places(alloc: Global) -> Option<bool> {
     Some(counted && among.has_mark(0, Mark::Used) && graph.on_circle(1, 0, Kind::En))
 }
 
-// Facts about the last of all keys there may be: with one rank for all keys nothing goes down, and with a greater one for the last
-// the dependency from it does.
+// Facts about the last of all keys there may be: with one rank for all keys nothing goes down, and with a greater one
+// for the last the dependency from it does.
 fn go_down_from_the_last_key(alloc: Global) -> Option<bool> {
     let last = MAX_MANY - 1;
     let mut facts = Facts::new(alloc, MAX_MANY).ok()?;

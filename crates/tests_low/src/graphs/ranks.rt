@@ -8,8 +8,8 @@ use ld_trace::Irq::{Hard, Soft};
 use ld_trace::MAX_MANY;
 use std::alloc::Global;
 
-// Facts about the first keys, the ranks of these keys, whether no arrow goes down by them, and whether the facts are then
-// parted. What is parted takes room for each rank up to the greatest, so with the last ranks nothing is.
+// Facts about the first keys, the ranks of these keys, whether no arrow goes down by them, and whether the facts are
+// then parted. Parting takes room for each rank up to the greatest, so with the last ranks nothing is parted.
 struct Parting {
     about: &'static str,
     facts: &'static [Fact],
@@ -166,7 +166,7 @@ static PARTINGS: [Parting; 12] = [
     },
 ];
 
-// These facts about the keys below the bound. None where a key isn't, or memory is refused.
+// These facts about the keys below the bound. None if a key isn't, or memory is refused.
 fn facts_of(alloc: Global, keys: u16, all: &[Fact]) -> Option<Facts> {
     if keys > MAX_MANY {
         return None;
@@ -211,8 +211,8 @@ fn facts_are_parted_by_ranks(rt: HostRuntime) {
     assert_eq!(rt; misparted(rt.alloc(), &PARTINGS), None);
 }
 
-// Dependencies among the first keys, links of softirqs between them, and the ranks that are found where at most so many keys
-// are put together.
+// Dependencies among the first keys, links of softirqs between them, and the ranks that are found if at most `most`
+// keys are put together.
 struct Found {
     about: &'static str,
     dependencies: &'static [(u16, u16)],
@@ -323,7 +323,7 @@ fn have_ranks(ranks: &Ranks, wanted: &[u16]) -> bool {
     true
 }
 
-// Whether the ranks are found, and no arrow goes down by them. Up to 256 keys are put together where nothing else is said.
+// Whether the ranks are found, and no arrow goes down by them. Up to 256 keys are put together if nothing else is said.
 fn is_ranked(alloc: Global, found: &Found) -> Option<bool> {
     let facts = facts_to_rank(alloc, found)?;
     let ranks = if found.most == 256 {

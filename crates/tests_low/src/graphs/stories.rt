@@ -1,5 +1,5 @@
-//! What graphs find in small traces. Each story is told to a graph and to a graph in parts, chain by chain, and all that
-//! they find is compared.
+//! What graphs find in small traces. Each story is given to a graph and to a graph in parts, chain by chain, and all
+//! that they find is compared.
 
 use crate::steps::Step::{Enter, Give, Leave, Read, Reread, TurnOff, TurnOn, Write};
 use crate::steps::{A, B, C, D, Step, chains_of};
@@ -43,7 +43,7 @@ struct Story {
     about: &'static str,
     keys: u16,
     traces: &'static [&'static [Step]],
-    // The ranks of the first keys by which the graph is parted. None are given where they are to be found.
+    // The ranks of the first keys by which the graph is parted. None are given if they are to be found.
     ranks: &'static [u16],
     dependencies: u64,
     // After how many of the first chains nothing is found.
@@ -724,7 +724,8 @@ fn are_two_told<G: Finds>(graph: &G, story: &Story, a: u16, b: u16) -> bool {
     are_dependencies_told(graph, story, a, b) && are_inversions_told(graph, story, a, b)
 }
 
-// Whether a key is in what is found as the story says, by itself, with each other key, and with keys that are out of range.
+// Whether a key is in what is found as the story says, by itself, with each other key, and with keys that are out of
+// range.
 fn is_key_told<G: Finds>(graph: &G, story: &Story, key: u16) -> bool {
     for other in 0..=story.keys {
         if !are_two_told(graph, story, key, other) {
@@ -744,13 +745,13 @@ fn finds<G: Finds>(graph: &G, story: &Story) -> bool {
     is_shortest_told(graph, story)
 }
 
-// That nothing is found among so many keys.
+// That nothing is found among this many keys.
 fn nothing(keys: u16) -> Story {
     Story { keys, ..NOTHING }
 }
 
-// Tells the graph the chains, and returns after how many of them nothing is found. None if its flag says something else
-// than its answers, or a key is out of range.
+// Gives the graph the chains, and returns after how many of them nothing is found. None if its flag disagrees with its
+// answers, or a key is out of range.
 fn tell(graph: &mut Graph, chains: &[Chain]) -> Option<usize> {
     let nothing = nothing(graph.keys());
     let mut clean = 0usize;
@@ -778,8 +779,8 @@ fn are_known(graph: &mut Graph, chains: &[Chain]) -> bool {
     graph.searched() == searched
 }
 
-// A graph of the story's traces, which finds what the story says. None if it finds anything else, memory is refused, or a
-// trace isn't well formed.
+// A graph of the story's traces, which finds what the story says. None if it finds anything else, memory is refused, or
+// a trace isn't well formed.
 fn told(alloc: Global, story: &Story) -> Option<Graph> {
     if story.keys > MAX_KEYS {
         return None;
@@ -799,7 +800,6 @@ pub(crate) fn ranks_of(alloc: Global, ranks: &[u16]) -> Option<Ranks> {
     Some(Ranks::of(ranks.to_vec(alloc).ok()?))
 }
 
-// The facts of a graph.
 fn facts_of(alloc: Global, graph: &Graph) -> Option<Facts> {
     let mut facts = Facts::new(alloc, graph.keys()).ok()?;
     facts.unite(graph.facts());
@@ -819,7 +819,7 @@ fn is_told(alloc: Global, story: &Story) -> Option<bool> {
     Some(counted && clean && finds(&graph, story))
 }
 
-// The first story of which something else is found.
+// The first story for which something else is found.
 fn misfit(alloc: Global, stories: &[Story]) -> Option<&'static str> {
     for story in stories {
         if is_told(alloc, story) != Some(true) {

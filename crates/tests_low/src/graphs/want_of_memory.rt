@@ -1,5 +1,5 @@
-//! What a refused request for memory leaves. In an ordinary run none is refused: `tests/sweep` runs each of these tests with its
-//! first request refused, its second, and so on, and counts the lines that they print.
+//! What a refused request for memory leaves. In an ordinary run none is refused: `tests/sweep` runs each of these tests
+//! with its first request refused, its second, and so on, and counts the lines that they print.
 
 use ld_facts::Facts;
 use ld_graph::Graph;

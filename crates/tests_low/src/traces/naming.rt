@@ -38,7 +38,7 @@ fn number_all(keys: &mut KeyTable, alloc: Global) -> Option<()> {
     Some(())
 }
 
-// A table without more room than a run takes: 256 keys, and no further one, but a known one again.
+// A table with no more room than a run has: 256 keys, and not one more, but a known one again.
 fn numbers_256_keys(alloc: Global) -> Option<bool> {
     let mut keys = KeyTable::new(alloc).ok()?;
     number_all(&mut keys, alloc)?;

@@ -10,7 +10,7 @@ use std::alloc::Global;
 use std::io;
 use std::io::Read;
 
-// Gives one byte a call, and returns an error instead of the byte at this place.
+// Gives one byte per call, and returns an error instead of the byte at this place.
 #[derive(Drop)]
 struct Slow<'t> {
     text: &'t [u8],
@@ -71,7 +71,7 @@ static READINGS: [(&[u8], Ends); 26] = [
     (b"lockdep,1\nacq,A,0\n", Err((BadRecord, 2))),
     (b"lockdep,1\nlockdep,1\n", Err((BadRecord, 2))),
     (b"lockdep,1\n\"\"\n", Err((BadRecord, 2))),
-    // Tries are modes of version 2 alone.
+    // Tries are modes only in version 2.
     (b"lockdep,1\nacq,A,0,tw\n", Err((BadMode, 2))),
     (b"lockdep,1\nacq,A,0,tr\n", Err((BadMode, 2))),
     (b"lockdep,1\nacq,A,0,trr\n", Err((BadMode, 2))),
@@ -98,7 +98,7 @@ fn misread(alloc: Global, rows: &[(&[u8], Ends)]) -> Option<u8> {
     None
 }
 
-// A text of two records that is cut short after so many bytes.
+// How a text of two records ends that is cut short after this many bytes.
 fn end_of_cut(bytes: usize) -> Ends {
     match bytes {
         0..=8 => Err((NoHeader, 1)),
@@ -197,7 +197,8 @@ fn whole_texts(rt: HostRuntime) {
 
 const SLOW: &[u8; 38] = b"lockdep,1\nacq,A,0,w\nacq,B,0,w\nrel,A,0\n";
 
-// Whether a reader that fails after so many bytes ends the reading at the record that it was in, with the names of those before.
+// Whether a reader that fails after this many bytes ends the reading at the record that it was in, with the names of
+// those before.
 fn fails_after(alloc: Global, bytes: usize) -> Option<bool> {
     let mut keys = KeyTable::new(alloc).ok()?;
     let slow = Slow {
@@ -240,7 +241,7 @@ fn a_reader_of_one_byte_a_call_fails_at_any_call(rt: HostRuntime) {
     assert_eq!(rt; reads_slowly(rt.alloc()), Some(3));
 }
 
-// How a text that goes on like this ends.
+// How a text that continues like this ends.
 fn end_with(alloc: Global, text: &[u8], more: &[u8]) -> Option<Ends> {
     let mut longer = Vec::new(alloc);
     longer.extend_from_slice(text).ok()?;

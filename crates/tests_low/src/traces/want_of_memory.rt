@@ -1,5 +1,5 @@
-//! What a refused request for memory leaves. In an ordinary run none is refused: `tests/sweep` runs each of these tests with its
-//! first request refused, its second, and so on, and counts the lines that they print.
+//! What a refused request for memory leaves. In an ordinary run none is refused: `tests/sweep` runs each of these tests
+//! with its first request refused, its second, and so on, and counts the lines that they print.
 
 use ld_trace::{KeyTable, read_trace};
 use std::alloc::Global;
@@ -7,7 +7,7 @@ use std::io::Print;
 use std::process::Abort;
 use std::test::Fail;
 
-// An empty table, made again where that was refused.
+// An empty table, made again if that was refused.
 fn table(alloc: Global) -> Result<KeyTable, Fail> {
     match KeyTable::new(alloc) {
         Ok(keys) => Ok(keys),
@@ -15,8 +15,8 @@ fn table(alloc: Global) -> Result<KeyTable, Fail> {
     }
 }
 
-// Reads a text of this many events. Where that is refused at a record, the table has as many names as `before` says for it, or
-// `all` of them behind the last record, and the same text is then read.
+// Reads a text of this many events. If that is refused at a record, the table has as many names as `before` says for
+// it, or `all` of them after the last record, and the same text is then read.
 fn reads(
     rt: &(impl Abort + AllocGlobal + Print),
     keys: &mut KeyTable,

@@ -6,7 +6,7 @@ use std::io::Print;
 use std::process::Abort;
 use std::test::Fail;
 
-// Names of commas and double quotes.
+// Names with commas and double quotes.
 const MARKED: &[u8] =
     b"lockdep,1\nacq,\"a,b\",0,w\nacq,\"say\"\"so\"\"\",1,r\nacq,\"\"\"\",2,rr\nacq,it's;%_~!,4,w\nrel,\"a,b\",0\n";
 
@@ -78,7 +78,7 @@ fn reads_between_the_quotes(alloc: Global) -> Option<bool> {
     Some(marked && has_name(&keys, 2, ("\"", 2)) && has_name(&keys, 3, ("it's;%_~!", 4)))
 }
 
-// A key that the table has no name for is written as none.
+// A key that the table has no name for is written with an empty name.
 fn writes_no_name(alloc: Global) -> Option<bool> {
     let mut events = Vec::new(alloc);
     let key = KeyId::default();

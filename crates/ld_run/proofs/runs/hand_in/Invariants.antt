@@ -5,7 +5,7 @@ use Rattle.ld_run.specs.Inside.Crews.{HasDrawn, SomeHasDrawn}
 use Rattle.ld_run.specs.declared.worker.Worked.{Worked}
 use Rattle.ld_run.proofs.runs.hand_in.Given as goal
 
--- the seats of the workers so far are behind the others, and none of these workers was lost
+-- the seats of the workers so far come after the others, and none of these workers was lost
 abbrev pub invariant-loop-worked : goal.invariant-loop-worked
 invariant-loop-worked l =
     (goal.iterator-loop-worked).can_next l.worked-iterator

@@ -2,7 +2,7 @@ use Rattle.std.proofs.Common.{◌≡◌, drop, slice_get}
 use Rattle.ld_task.specs.Inside.Placing.{places_at}
 use Rattle.ld_task.proofs.kept_locks.place_at.Given as goal
 
--- what is sought among all is what is left to seek among the rest
+-- what is searched for among all is what is left to find among the rest
 abbrev pub invariant-loop-i : goal.invariant-loop-i
 invariant-loop-i l =
     slice_get (places_at l.level l.kept-items l.places.items) l.n

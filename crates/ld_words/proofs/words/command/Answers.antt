@@ -11,7 +11,7 @@ use Rattle.ld_words.proofs.words.command.Goals as goal
 abbrev top : App
 top = let app = new_app (codes "lockdep") in record app { top = record app.top { subcommand_required = true; has_version = true } }
 
--- one subcommand more
+-- one more subcommand
 added : (old sub new : Command) (app : App) (shape : Shape) → app_of old ≡ app → (out-Command sub).has_globals ≡ false → shape_of sub ≡ shape → AddsSubcommand old sub new → app_of new ≡ with_subcommand app shape
 added old sub new app shape app_is local shape_is adds =
     adds.shape local ∙ ap (λ (a : App). with_subcommand a (shape_of sub)) app_is ∙ ap (with_subcommand app) shape_is

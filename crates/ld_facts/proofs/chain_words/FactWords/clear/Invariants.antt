@@ -3,7 +3,7 @@ use Rattle.std.specs.Prelude.{IsTrue}
 use Rattle.ld_facts.specs.Inside.Bits.{has_bit}
 use Rattle.ld_facts.proofs.chain_words.FactWords.clear.Given as goal
 
--- what is still seen stands at a later place
+-- what is still seen is at a later place
 abbrev pub invariant-loop-i : goal.invariant-loop-i
 invariant-loop-i l = record {
   places : l.self-inside.places ≡ l.initial.self-inside.places;

@@ -1,7 +1,7 @@
 use Rattle.std.proofs.Common.{◌≡◌, ℕ, ◌<◌, ◌≤◌, slice_index}
 use Rattle.ld_facts.proofs.chain_words.FactWords.find.Given as goal
 
--- the word stands at this place or before it
+-- the word is at this place or before it
 abbrev pub invariant-loop-i : goal.invariant-loop-i
 invariant-loop-i l = (l.i < l.self-inside.len) × ((j : ℕ) × (j ≤ l.i) × (slice_index l.self-inside.places j ≡ l.word))
 

@@ -26,7 +26,7 @@ add-requires-else-leads-clause-span c = record {
       c.ends_in_r.ensures c.targets-targets.ensures;
 }
 
--- a new flag: set where the old one was and a test passes
+-- a new flag: set if the old one was and a test passes
 flag : (was now test : Bool) (P : Type 0) → ((test ≡ true) ↔ P) → (was ≡ true) → now ≡ test → (now ≡ true) ↔ ((was ≡ true) × P)
 flag was now test P iff on is = ((λ h. (on, iff.0 (sym is ∙ h))), (λ h. is ∙ iff.1 h.1))
 
@@ -59,7 +59,7 @@ is_new : (c : Joined-was_clean-3) → c.add.result ≡ true
 is_new c = not_false c.add.result
     (λ known. c.requires.new (subst (λ (g : GraphParts). HasFact g.facts c.args.fact) c.self.view_is (c.add.ensures.fresh.0 known)))
 
--- so no more were taken up than may be
+-- so no more were counted than may be
 within : (c : Joined-was_clean-3) → c.match-fact.self-inside.searched + c.if-was_clean-3.counted ≤ rows_allowed c.add.new.self
 within c =
     let more = c.add.ensures.allowed (is_new c) in

@@ -10,7 +10,7 @@ use Rattle.ld_graph.proofs.walk.Walk.by_keys.Goals as goal
 abbrev first : Dependency
 first = record { from = 0; to = 0; kind = Er }
 
--- one dependency more stands before the others
+-- one more dependency is before the others
 forwards-more : (xs : List Dependency) (i : ℕ) (d : Dependency) → i < length xs →
     forwards (take (i + 1) xs) ≡ arrow_of (get_or xs i d) ∷ forwards (take i xs)
 forwards-more xs i d l =

@@ -64,7 +64,7 @@ loop-n-preserved c =
           )),
     )
 
--- all words were gone over
+-- all words were visited
 past : (c : After-loop-n) → (k : ℕ) → k < length c.args.seat.now.words → k < c.loop-n.n
 past c k l =
     let test = c.loop-n-test.false in

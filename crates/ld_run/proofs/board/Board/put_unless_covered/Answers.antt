@@ -8,7 +8,7 @@ use Rattle.ld_run.specs.Views.{KnowsFact, PutHas}
 use Rattle.ld_run.specs.declared.view.View.{View}
 use Rattle.ld_run.proofs.board.Board.put_unless_covered.Goals as goal
 
--- the board was looked at alone
+-- the board was only looked at
 module _ (keys : ℕ) (old mid : View) (same : mid.put ≡ old.put) (seen : (n : ℕ) → Within (bits_of n old.seen) (bits_of n mid.seen)) where
   keeps_put : (x : Fact) → PutHas keys old x → PutHas keys mid x
   keeps_put x h = subst (λ ps. PairsHave keys ps x) (sym same) h

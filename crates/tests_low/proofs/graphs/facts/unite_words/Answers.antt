@@ -4,7 +4,7 @@ use Rattle.std.specs.Prelude.{All, slice_get, Some}
 use Rattle.ld_facts.specs.WordPairs.{word_total, NonePast}
 use Rattle.tests_low.proofs.graphs.facts.unite_words.Goals as goal
 
--- what holds of all pairs holds of one that is got
+-- what holds of all pairs holds of one that is read
 of_got : (P : ℕ × ℕ → Type 0) (pairs : List (ℕ × ℕ)) (i : ℕ) (p : ℕ × ℕ) → All P pairs → slice_get pairs i ≡ Some p → P p
 of_got P pairs i p all at = subst P (get_or_from_slice_get pairs i p p at) (all i p (slice_get_within pairs i p at))
 
