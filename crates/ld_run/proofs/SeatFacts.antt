@@ -5,13 +5,13 @@ use Rattle.std.proofs.lemmas.Bool.{cases_eq}
 use Rattle.std.proofs.lemmas.Nat.Bits.{bit_at-zero}
 use Rattle.std.proofs.lemmas.Option.{get_or_from_slice_get, slice_get_within}
 use Rattle.ld_task.specs.Chains.{ChainParts}
-use Rattle.ld_graph.specs.FactBits.{FactParts, FactBelow, HasFact}
-use Rattle.ld_graph.specs.Facts.{Adds, AreSame, ChainHas, Holds}
-use Rattle.ld_graph.specs.Laws.{EachBitIsAFacts}
-use Rattle.ld_graph.specs.Numbers.{fact_number}
-use Rattle.ld_graph.specs.WordLaws.{PairsHave-append, PairsHave-within, Within-bit, Within-facts, bit_or-bits, bits_of-bit}
-use Rattle.ld_graph.specs.WordPairs.{bits_of, Within, PairsHave, AreWordsOf}
-use Rattle.ld_graph.specs.declared.fact.Fact.{Fact}
+use Rattle.ld_facts.specs.FactBits.{FactParts, FactBelow, HasFact}
+use Rattle.ld_facts.specs.Facts.{Adds, AreSame, ChainHas, Holds}
+use Rattle.ld_facts.specs.Laws.{EachBitIsAFacts}
+use Rattle.ld_facts.specs.Numbers.{fact_number}
+use Rattle.ld_facts.specs.WordLaws.{PairsHave-append, PairsHave-within, Within-bit, Within-facts, bit_or-bits, bits_of-bit}
+use Rattle.ld_facts.specs.WordPairs.{bits_of, Within, PairsHave, AreWordsOf}
+use Rattle.ld_facts.specs.declared.fact.Fact.{Fact}
 use Rattle.ld_run.specs.Views.{newcomer, times, once_below, PutHas, SeenHas, ShareWord}
 use Rattle.ld_run.specs.Seats.{view, claims_of}
 use Rattle.ld_run.specs.Inside.BoardRule.{joined, Knows}

@@ -1,8 +1,8 @@
 -- What a seat of a board has claimed, put and seen [this project's own].
 use Rattle.std.specs.Prelude.{◌≡◌, ℕ, ◌+◌, ◌/◌, ◌⊎◌, ◌==◌, if◌then◌else◌, nat_lt, List, [], ◌∷◌, ◌++◌, Any}
-use Rattle.ld_graph.specs.Numbers.{fact_number}
-use Rattle.ld_graph.specs.WordPairs.{PairsHave}
-use Rattle.ld_graph.specs.declared.fact.Fact.{Fact}
+use Rattle.ld_facts.specs.Numbers.{fact_number}
+use Rattle.ld_facts.specs.WordPairs.{PairsHave}
+use Rattle.ld_facts.specs.declared.fact.Fact.{Fact}
 use Rattle.ld_run.specs.declared.view.View.{View}
 
 -- a view that has done nothing

@@ -6,11 +6,11 @@ ghost use Rattle.std.specs.Mem.Slots.{slots_items, slots_len, IsFull};
 ghost use Rattle.ld_trace.specs.declared.key_id.TheConstants.{MAX_KEYS};
 ghost use Rattle.ld_trace.specs.declared.key_id.TheConstants.{MAX_MANY};
 ghost use Rattle.ld_task.specs.Chains.{ChainKeysBelow};
-ghost use Rattle.ld_graph.specs.FactBits.{FactBelow, HasFact};
-ghost use Rattle.ld_graph.specs.Facts.{Adds, AreSame, ChainHas, Holds};
-ghost use Rattle.ld_graph.specs.Numbers.{fact_number};
-ghost use Rattle.ld_graph.specs.WordPairs.{bits_of, word_total, NonePast, PairsHave, Within};
-ghost use Rattle.ld_graph.specs.declared.fact.Fact.{Fact};
+ghost use Rattle.ld_facts.specs.FactBits.{FactBelow, HasFact};
+ghost use Rattle.ld_facts.specs.Facts.{Adds, AreSame, ChainHas, Holds};
+ghost use Rattle.ld_facts.specs.Numbers.{fact_number};
+ghost use Rattle.ld_facts.specs.WordPairs.{bits_of, word_total, NonePast, PairsHave, Within};
+ghost use Rattle.ld_facts.specs.declared.fact.Fact.{Fact};
 ghost use Rattle.ld_run.specs.Views.{newcomer, HasLoaded, once_below, times, with_claim, KnowsFact, PutHas, SeenHas, ShareWord};
 ghost use Rattle.ld_run.specs.Seats.{view, claims_of};
 ghost use Rattle.ld_run.specs.Work.{PutsOnly};
@@ -22,7 +22,7 @@ use crate::board_fault::BoardFault;
 use crate::seat::Seat;
 use crate::view::{BoardRule, BoardSize, Claim, Cut, Look, Put, View};
 use atomic_table::{Closed, Table};
-use ld_graph::{Fact, Facts};
+use ld_facts::{Fact, Facts};
 use ld_task::Chain;
 use std::alloc::Global;
 
@@ -127,7 +127,7 @@ impl Board {
         ensures claimed { (view seat.new).claimed ≡ (view seat.old).claimed }
         ensures seen { Holds (SeenHas (keys_of self.now) (view seat.new)) (SeenHas (keys_of self.now) (view seat.old)) }
     {
-        ld_graph::facts_are_bits();
+        ld_facts::facts_are_bits();
         seat.words.set_to(chain, self.keys);
         self.covers_words(seat)
     }
@@ -243,9 +243,9 @@ impl Board {
         if chain.held_len() <= FEW_HELD {
             return false;
         }
-        ld_graph::slots_have_what_is_given();
-        for n in 0..ld_graph::fact_slots(chain) {
-            let Some(fact) = ld_graph::fact_in_slot(chain, n) else {
+        ld_facts::slots_have_what_is_given();
+        for n in 0..ld_facts::fact_slots(chain) {
+            let Some(fact) = ld_facts::fact_in_slot(chain, n) else {
                 continue;
             };
             if !self.has_fact(seat, fact) {
@@ -395,7 +395,7 @@ fn unite_words(facts: &mut Facts, closed: &Closed<(), Global>)
     ensures facts { (x : Fact) → HasFact facts.new x ↔ (FactBelow facts.old.keys x
         × (bit_at (slice_index (slots_items closed.now.words) (fact_number facts.old.keys x / 64 + 1)) (fact_number facts.old.keys x % 64) ≡ 1)) }
 {
-    ld_graph::facts_are_bits();
+    ld_facts::facts_are_bits();
     for n in 0..words_of(facts.keys()) {
         facts.unite_word(n, closed.word(n + 1));
     }

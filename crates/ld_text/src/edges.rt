@@ -1,8 +1,8 @@
 //! The dependencies of a picture, and which keys those of findings lead from or to.
 
 ghost use Rattle.std.specs.Prelude.{◌≡◌, ◌↔◌, ◌⊎◌, ℕ, ◌<◌, Any, IfOk, IsTrue, OnOk, length, false, slice_index, slice_index_or};
-ghost use Rattle.ld_graph.specs.Arrows.{arrow};
-ghost use Rattle.ld_graph.specs.FactBits.{HasFact};
+ghost use Rattle.ld_facts.specs.Arrows.{arrow};
+ghost use Rattle.ld_facts.specs.FactBits.{HasFact};
 ghost use Rattle.ld_text.specs.Groups.{GrowsBy, InTurn};
 ghost use Rattle.ld_text.specs.Inside.Joined.{AreJoinedKeys, Leads};
 ghost use Rattle.ld_text.specs.Picture.{IsFoundArrow, ShowsEdge};

@@ -1,11 +1,11 @@
 //! What was found: the findings of settled facts as lists, in the report's order. Each text is made of these.
 
 ghost use Rattle.std.specs.Prelude.{◌≡◌, [], ◌∷◌, ℕ, IfOk, IsFalse, OnOk, flat_map, map};
-ghost use Rattle.ld_graph.specs.Arrows.{arrow};
-ghost use Rattle.ld_graph.specs.FactBits.{HasFact};
+ghost use Rattle.ld_facts.specs.Arrows.{arrow};
+ghost use Rattle.ld_facts.specs.FactBits.{HasFact};
 ghost use Rattle.ld_graph.specs.Links.{IsClean, IsDouble, IsInversion};
 ghost use Rattle.ld_graph.specs.Walks.{OnCircle};
-ghost use Rattle.ld_graph.specs.declared.fact.Fact.{Fact};
+ghost use Rattle.ld_facts.specs.declared.fact.Fact.{Fact};
 ghost use Rattle.ld_task.specs.declared.kind.Kind.{Kind};
 ghost use Rattle.ld_text.specs.Found.{AreFound, arrows_among, doubles_among, inversions_among};
 ghost use Rattle.ld_text.specs.Inside.Finding.{AddsThose};
@@ -32,7 +32,7 @@ pub(crate) struct Dependency {
 }
 
 impl Model for Dependency {
-    ghost use Rattle.ld_graph.specs.Arrows.{Arrow, arrow};
+    ghost use Rattle.ld_facts.specs.Arrows.{Arrow, arrow};
 
     ghost Value = { Arrow };
 

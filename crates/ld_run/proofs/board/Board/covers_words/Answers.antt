@@ -1,5 +1,5 @@
 use Rattle.std.proofs.Common.{rules, ◌≡◌, [], ◌∷◌, Any, ◌+◌, ◌<◌, ℕ, List, get_or, bit_or, refl, sym, ap, ◌∙◌, subst, arith}
-use Rattle.ld_graph.specs.WordPairs.{bits_of, Within, word_total}
+use Rattle.ld_facts.specs.WordPairs.{bits_of, Within, word_total}
 use Rattle.ld_run.specs.Boards.{keys_of}
 use Rattle.ld_run.specs.Seats.{view}
 use Rattle.ld_run.specs.declared.view.View.{View}

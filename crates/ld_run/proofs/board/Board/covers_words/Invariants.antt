@@ -1,5 +1,5 @@
 use Rattle.std.proofs.Common.{◌≡◌, ◌↔◌, ◌<◌, ℕ, Any, IsTrue, List, ◌++◌, slice_index_or}
-use Rattle.ld_graph.specs.WordPairs.{bits_of, Within}
+use Rattle.ld_facts.specs.WordPairs.{bits_of, Within}
 use Rattle.ld_run.specs.Boards.{IsSeatOf}
 use Rattle.ld_run.specs.Seats.{view}
 use Rattle.ld_run.proofs.board.Board.covers_words.Given as goal

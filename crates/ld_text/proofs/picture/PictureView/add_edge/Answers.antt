@@ -1,6 +1,6 @@
 use Rattle.std.proofs.Common.{◌≡◌, inl, refl}
-use Rattle.ld_graph.specs.Arrows.{arrow}
-use Rattle.ld_graph.specs.FactBits.{HasFact}
+use Rattle.ld_facts.specs.Arrows.{arrow}
+use Rattle.ld_facts.specs.FactBits.{HasFact}
 use Rattle.ld_text.specs.Picture.{IsFoundArrow, arrow_text, edge_line, end_text}
 use Rattle.ld_text.specs.Words.{kind_text}
 use Rattle.ld_text.proofs.JoinedLemmas.{IsFoundArrow-dependency}

@@ -1,7 +1,7 @@
 use Rattle.std.proofs.Common.{inr, refl, arith}
 use Rattle.std.proofs.lemmas.List.{take_all}
-use Rattle.ld_graph.specs.Arrows.{arrow}
-use Rattle.ld_graph.specs.FactBits.{HasFact}
+use Rattle.ld_facts.specs.Arrows.{arrow}
+use Rattle.ld_facts.specs.FactBits.{HasFact}
 use Rattle.ld_task.specs.declared.kind.Kind.{Kind}
 use Rattle.ld_text.specs.Inside.Joined.{Leads}
 use Rattle.ld_text.specs.Picture.{IsFoundArrow, ShowsEdge}

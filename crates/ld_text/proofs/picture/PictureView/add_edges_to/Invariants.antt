@@ -1,6 +1,6 @@
 use Rattle.std.proofs.Common.{◌↔◌, Any, IsTrue, take}
-use Rattle.ld_graph.specs.FactBits.{HasFact}
-use Rattle.ld_graph.specs.Arrows.{arrow}
+use Rattle.ld_facts.specs.FactBits.{HasFact}
+use Rattle.ld_facts.specs.Arrows.{arrow}
 use Rattle.ld_text.specs.Groups.{GrowsBy, InTurn}
 use Rattle.ld_text.specs.Picture.{IsFoundArrow, ShowsEdge}
 use Rattle.ld_text.proofs.picture.PictureView.add_edges_to.Given as goal
