@@ -59,6 +59,12 @@ module _ (keys : ℕ) (chain : ChainParts) (words : List (ℕ × ℕ)) (are : Ar
             (λ within b. Within-bit (bits_of (fact_number keys y / 64) put) (bits_of (fact_number keys y / 64) seen) (fact_number keys y % 64) within b) (mine i (0, 0) l) on,
       )
 
+  -- the word of each of them was loaded
+  pub loads_chain : (loaded : List (ℕ × ℕ)) → All (λ p. Any (λ q. q.0 ≡ p.0) loaded) words → (x : Fact) → ChainHas chain x → Any (λ q. q.0 ≡ fact_number keys x / 64) loaded
+  loads_chain loaded all x has =
+      let (i, l, at) = bits_of-bit (fact_number keys x / 64) (fact_number keys x % 64) words ((are.facts x).1 has).1 in
+      subst (λ n. Any (λ (q : ℕ × ℕ). q.0 ≡ n) loaded) (sym (at (0, 0)).0) (all i (0, 0) l)
+
 -- no pairs have no facts
 pub none_has : (keys : ℕ) (x : Fact) → PairsHave keys [] x → ⊥
 none_has keys x (below, on) = let z = bit_at-zero (fact_number keys x % 64) in omega (arith, z, on)

@@ -1,5 +1,5 @@
 -- What a seat of a board has claimed, put and seen [this project's own].
-use Rattle.std.specs.Prelude.{◌≡◌, ℕ, ◌+◌, ◌/◌, ◌⊎◌, ◌==◌, if◌then◌else◌, nat_lt, List, [], ◌∷◌}
+use Rattle.std.specs.Prelude.{◌≡◌, ℕ, ◌+◌, ◌/◌, ◌⊎◌, ◌==◌, if◌then◌else◌, nat_lt, List, [], ◌∷◌, ◌++◌, Any}
 use Rattle.ld_facts.specs.Numbers.{fact_number}
 use Rattle.ld_facts.specs.WordPairs.{PairsHave}
 use Rattle.ld_facts.specs.declared.fact.Fact.{Fact}
@@ -28,7 +28,13 @@ KnowsFact keys v x = PutHas keys v x ⊎ SeenHas keys v x
 abbrev pub ShareWord : (keys : ℕ) → Fact → Fact → Type 0
 ShareWord keys x y = fact_number keys x / 64 ≡ fact_number keys y / 64
 
--- how often x is in the list
+-- the seat looked at these words, and has now seen what was found in them and what it had seen before; the words of all
+-- facts that Has names are among them
+pub record HasLoaded (keys : ℕ) (Has : Fact → Type 0) (old new : View) (loaded : List (ℕ × ℕ)) : Type 0 where
+  pub seen : new.seen ≡ loaded ++ old.seen
+  pub each : (x : Fact) → Has x → Any (λ p. p.0 ≡ fact_number keys x / 64) loaded
+
+-- how often x stands in the list
 abbrev pub times : ℕ → List ℕ → ℕ
 times x [] = 0
 times x (y ∷ ys) = (if x == y then 1 else 0) + times x ys

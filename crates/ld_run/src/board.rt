@@ -1,6 +1,6 @@
 //! A board: a word to claim numbers from, and words of facts, which threads share without waiting for one another.
 
-ghost use Rattle.std.specs.Prelude.{◌≡◌, ◌≢◌, ◌⊎◌, ◌↔◌, ◌+◌, ◌/◌, ◌%◌, ◌<◌, ◌≤◌, ◌∷◌, ◌++◌, ℕ, length, All, AllPairs, Any, IsFalse, IsTrue, IfOk, IsErrOf, vec_len, bit_or, slice_index};
+ghost use Rattle.std.specs.Prelude.{◌≡◌, ◌≢◌, ◌⊎◌, ◌↔◌, ◌+◌, ◌/◌, ◌%◌, ◌<◌, ◌≤◌, ◌∷◌, ◌++◌, ℕ, length, All, AllPairs, Any, IsFalse, IsTrue, IfOk, IsErrOf, List, vec_len, bit_or, slice_index};
 ghost use Rattle.std.specs.Int.{bit_at};
 ghost use Rattle.std.specs.Mem.Slots.{slots_items, slots_len, IsFull};
 ghost use Rattle.ld_trace.specs.declared.key_id.TheConstants.{MAX_KEYS};
@@ -11,7 +11,7 @@ ghost use Rattle.ld_facts.specs.Facts.{Adds, AreSame, ChainHas, Holds};
 ghost use Rattle.ld_facts.specs.Numbers.{fact_number};
 ghost use Rattle.ld_facts.specs.WordPairs.{bits_of, word_total, NonePast, PairsHave, Within};
 ghost use Rattle.ld_facts.specs.declared.fact.Fact.{Fact};
-ghost use Rattle.ld_run.specs.Views.{newcomer, once_below, times, with_claim, KnowsFact, PutHas, SeenHas, ShareWord};
+ghost use Rattle.ld_run.specs.Views.{newcomer, HasLoaded, once_below, times, with_claim, KnowsFact, PutHas, SeenHas, ShareWord};
 ghost use Rattle.ld_run.specs.Seats.{view, claims_of};
 ghost use Rattle.ld_run.specs.Work.{PutsOnly};
 ghost use Rattle.ld_run.specs.Inside.BoardRule.{with_look, with_put};
@@ -120,6 +120,8 @@ impl Board {
         requires below { ChainKeysBelow (keys_of self.now) chain.now }
         ensures seat { IsSeatOf self.now seat.new }
         ensures answer { IsTrue result ↔ Holds (SeenHas (keys_of self.now) (view seat.new)) (ChainHas chain.now) }
+        ensures loaded { (loaded : List (ℕ × ℕ)) × HasLoaded (keys_of self.now) (ChainHas chain.now) (view seat.old) (view seat.new) loaded
+            × (IsTrue result ↔ Holds (PairsHave (keys_of self.now) loaded) (ChainHas chain.now)) }
         ensures mine { (x y : Fact) → ChainHas chain.now x → ShareWord (keys_of self.now) x y
             → PutHas (keys_of self.now) (view seat.old) y → SeenHas (keys_of self.now) (view seat.new) y }
         ensures put { (view seat.new).put ≡ (view seat.old).put }
@@ -327,6 +329,9 @@ impl Board {
         ensures seat { IsSeatOf self.now seat.new }
         ensures words { seat.new.words ≡ seat.old.words }
         ensures answer { IsTrue result ↔ ((n : ℕ) → Within (bits_of n seat.old.words) (bits_of n (view seat.new).seen)) }
+        ensures loaded { (loaded : List (ℕ × ℕ)) × ((view seat.new).seen ≡ loaded ++ (view seat.old).seen)
+            × All (λ p. Any (λ q. q.0 ≡ p.0) loaded) seat.old.words
+            × (IsTrue result ↔ ((n : ℕ) → Within (bits_of n seat.old.words) (bits_of n loaded))) }
         ensures mine { All (λ p. Within (bits_of p.0 (view seat.old).put) (bits_of p.0 (view seat.new).seen)) seat.old.words }
         ensures put { (view seat.new).put ≡ (view seat.old).put }
         ensures claimed { (view seat.new).claimed ≡ (view seat.old).claimed }

@@ -82,10 +82,6 @@ module _ {X : Type 0} (P : X → Type 0) where
   AddsThose-map_next_item f keys i y old mid new is within first more =
       AddsThose-map_next f keys i y old mid new within first (subst (λ z. AddsThose P (f z ∷ []) mid new) is more)
 
--- those that were added to nothing
-pub added_to_nothing : {X : Type 0} (P : X → Type 0) (xs old new : List X) → old ≡ [] → AddsThose P xs old new → AreThose P xs new
-added_to_nothing P xs old new none adds = subst (AreThose P xs) (sym (adds.grew ∙ ap (λ t. t ++ adds.those) none)) adds.are
-
 -- those that the same is said of
 AreThose-same : {X : Type 0} (P Q : X → Type 0) → ((x : X) → P x ↔ Q x) → (xs those : List X) → AreThose P xs those → AreThose Q xs those
 AreThose-same P Q same [] those none = none

@@ -1,5 +1,5 @@
 -- Groups of lines that grow.
-use Rattle.std.proofs.Common.{◌≡◌, ℕ, ◌+◌, ◌<◌, List, [], ◌∷◌, ◌++◌, take, length, slice_index_or, refl, sym, ap, ◌∙◌, subst, inl, inr}
+use Rattle.std.proofs.Common.{◌≡◌, ℕ, ◌+◌, ◌<◌, List, [], ◌∷◌, ◌++◌, take, length, slice_index_or, refl, sym, ap, ◌∙◌, subst, inr}
 use Rattle.std.specs.List.{flat_map}
 use Rattle.std.proofs.lemmas.List.{append_assoc, append-nil, take_more}
 use Rattle.ld_text.specs.Groups.{GrowsBy, InSequence, InTurn, ShowsWhere}
@@ -58,10 +58,6 @@ module _ {X A : Type 0} (R : X → List A → Type 0) where
 -- what is false adds nothing
 pub GrowsBy-hidden : (P : Type 0) (line text : List ℕ) → ¬ P → GrowsBy (ShowsWhere P line) text text
 GrowsBy-hidden P line text no_line = record { part = []; shows = inr (no_line, refl); grew = sym (append-nil text) }
-
--- the line of what is true
-pub GrowsBy-shown : (P : Type 0) (line old new : List ℕ) → P → new ≡ old ++ line → GrowsBy (ShowsWhere P line) old new
-GrowsBy-shown P line old new holds is = record { part = line; shows = inl (holds, refl); grew = is }
 
 -- where no text is allowed none was added
 pub GrowsBy-nothing : (Q : List ℕ → Type 0) (text : List ℕ) → Q [] → GrowsBy Q text text

@@ -1,8 +1,8 @@
 -- Which keys the dependencies of findings lead from and to.
-use Rattle.std.proofs.Common.{◌≡◌, ◌↔◌, ◌⊎◌, ◌≢◌, ℕ, ◌+◌, ◌<◌, ◌≤◌, Any, Bool, true, false, IsTrue, List, length, slice_index, slice_index_or, slice_set, take, sym, ◌∙◌, subst, inl, inr, arith}
+use Rattle.std.proofs.Common.{◌≡◌, ◌↔◌, ◌⊎◌, ◌≢◌, ℕ, ◌+◌, ◌<◌, ◌≤◌, Any, Bool, true, false, IsTrue, List, length, slice_index, slice_index_or, slice_set, take, replicate, refl, sym, ◌∙◌, subst, inl, inr, arith}
 use mathlib.Core.Logic.{dite}
 use native.Mathlib.Decide.{ℕ_discrete}
-use Rattle.std.proofs.lemmas.List.{get_or-set_other, get_or-set_same, get_or_default, take_all, take_more}
+use Rattle.std.proofs.lemmas.List.{get_or-replicate, get_or-set_other, get_or-set_same, get_or_default, take_all, take_more}
 use Rattle.ld_facts.specs.Arrows.{Arrow, arrow}
 use Rattle.ld_facts.specs.Facts.{DependenciesOf}
 use Rattle.ld_graph.specs.FactLaws.{StrongWalk-members}
@@ -11,6 +11,7 @@ use Rattle.ld_facts.specs.declared.fact.Fact.{Fact}
 use Rattle.ld_text.specs.Inside.Joined.{Leads}
 use Rattle.ld_text.specs.Picture.{AreJoined, IsFoundArrow}
 use Rattle.ld_text.specs.Words.{kinds}
+use Rattle.ld_text.proofs.PictureGrowing.{none-yet}
 use Rattle.ld_text.proofs.ReportLemmas.{OnCircle-dependency}
 
 -- what is part of a finding is a dependency
@@ -48,6 +49,19 @@ joined-either Has key keys =
 -- one of the list so far, or the next
 pub Any-next : {X : Type 0} (P : X → Type 0) (xs : List X) (n : ℕ) (d : X) → n < length xs → Any P (take (n + 1) xs) ↔ (Any P (take n xs) ⊎ P (slice_index_or xs n d))
 Any-next P xs n d within = subst (λ ys. Any P ys ↔ (Any P (take n xs) ⊎ P (slice_index_or xs n d))) (sym (take_more xs n d within)) (Any-push P (take n xs) (slice_index_or xs n d))
+
+-- whether it holds of one so far, after one of which it holds, and after one of which it doesn't
+pub next-true : {X : Type 0} (P : X → Type 0) (xs : List X) (n : ℕ) (d : X) → n < length xs → P (slice_index_or xs n d) → IsTrue true ↔ Any P (take (n + 1) xs)
+next-true P xs n d within p = (λ t. (Any-next P xs n d within).1 (inr p), λ any. refl)
+
+pub next-same : {X : Type 0} (P : X → Type 0) (xs : List X) (n : ℕ) (d : X) (any : Bool) → n < length xs → IsTrue any ↔ Any P (take n xs) → ¬ P (slice_index_or xs n d) → IsTrue any ↔ Any P (take (n + 1) xs)
+next-same P xs n d any within before isnt = (
+  λ t. (Any-next P xs n d within).1 (inl (before.0 t)),
+  λ more. elim ((Any-next P xs n d within).0 more) [
+    | inl earlier ↦ before.1 earlier
+    | inr here ↦ absurd (isnt here)
+  ],
+)
 
 -- a mark that is set, and the others
 pub set-true : (marks : List Bool) (n : ℕ) → n < length marks → IsTrue (slice_index_or (slice_set marks n true) n false)
@@ -116,7 +130,17 @@ module _ (Lead : ℕ → ℕ → Type 0) (keys : List ℕ) (n : ℕ) (within : n
       ))
       (λ other. subst (λ b. IsTrue b ↔ Joined Lead keys (n + 1) k) (sym (set-others marks n k other)) (forth k l, back k l (λ here. other here.0)))
 
--- the key at a place, whatever stands beyond the list
+-- before any key was gone through, no mark is set
+pub joined-none : (Lead : ℕ → ℕ → Type 0) (keys : List ℕ) (marks : List Bool) → marks ≡ replicate (length keys) false → (k : ℕ) → k < length keys → IsTrue (slice_index_or marks k false) ↔ Joined Lead keys 0 k
+joined-none Lead keys marks none k l = (
+  λ t. absurd (let unset : slice_index_or marks k false ≡ false = subst (λ ms. slice_index_or ms k false ≡ false) (sym none) (get_or-replicate (length keys) k false false l) in cc),
+  λ joined. elim joined [
+    | inl out ↦ absurd (omega (arith, out.0))
+    | inr any ↦ absurd (none-yet (λ a. Lead a (slice_index keys k)) any)
+  ],
+)
+
+-- the key at a place, whatever is beyond the list
 pub at-place : (Q : ℕ → Type 0) (keys : List ℕ) (n d : ℕ) → n < length keys → Q (slice_index_or keys n d) → Q (slice_index keys n)
 at-place Q keys n d within q = subst Q (get_or_default keys n d 0 within) q
 

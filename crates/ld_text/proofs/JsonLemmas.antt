@@ -1,8 +1,7 @@
 -- What is written of JSON, token by token.
-use Rattle.std.proofs.Common.{◌≡◌, Bool, ℕ, ◌+◌, ◌<◌, List, [], ◌∷◌, ◌++◌, Result, Ok, Err, OnOk, codes, length, map, slice_index_or, take, refl, sym, ap, ◌∙◌, subst}
+use Rattle.std.proofs.Common.{◌≡◌, Bool, ℕ, ◌+◌, ◌<◌, List, [], ◌∷◌, ◌++◌, Result, Ok, Err, OnOk, length, map, slice_index_or, take, refl, sym, ap, ◌∙◌, subst}
 use Rattle.std.proofs.lemmas.List.{append_assoc, append-nil, map-append, take_more}
 use Rattle.json.specs.Token.{Token}
-use Rattle.json.specs.Print.{print}
 use Rattle.json.specs.Written.{Writes, Written}
 use Rattle.ld_trace.specs.declared.event.Irq.{Irq}
 use Rattle.ld_task.specs.Kinds.{is_r-kind_of_letters, is_s-kind_of_letters}
@@ -16,7 +15,7 @@ use Rattle.ld_facts.specs.declared.fact.Fact.TheVariants.{Marked}
 use Rattle.ld_explain.specs.Origins.{IsFirst}
 use Rattle.ld_explain.specs.declared.origins.Origin.{Origin}
 use Rattle.ld_text.specs.Explanation.{Told}
-use Rattle.ld_text.specs.Groups.{GrowsBy, InSequence, InTurn}
+use Rattle.ld_text.specs.Groups.{InSequence, InTurn}
 use Rattle.ld_text.specs.Json.{IsDoubleObject, IsInversionObject, IsJson, IsLineOf, IsOrder, double_object, inversion_object}
 use Rattle.ld_text.specs.Inside.Tokens.{Adds, Takes}
 use Rattle.ld_text.proofs.ExplanationLemmas.{told-same}
@@ -69,19 +68,6 @@ Takes-next R xs i x old mid new is within before more = record {
 
 pub Takes-none : {X : Type 0} (R : X → List Token → Type 0) (w : Written) → Takes (InTurn R []) w w
 Takes-none R w = record { before = refl; grew = GrowsBy-none w.tokens }
-
--- a line that a writer wrote, behind the comma
-pub line-grows : (Q : List Token → Type 0) (old new : List ℕ) (begun ended : Written) → begun.before ≡ old ++ codes ",\n" → begun.tokens ≡ [] →
-    Takes Q begun ended → new ≡ ended.before ++ print ended.tokens → GrowsBy (IsLineOf Q) old new
-line-grows Q old new begun ended head none takes is =
-    let part = takes.grew.part in
-    let tokens : ended.tokens ≡ part = takes.grew.grew ∙ ap (λ t. t ++ part) none in
-    record {
-      part = codes ",\n" ++ print part;
-      shows = (part, takes.grew.shows, refl);
-      grew = is ∙ ap (λ t. t ++ print ended.tokens) (takes.before ∙ head) ∙ ap (λ t. (old ++ codes ",\n") ++ print t) tokens
-          ∙ append_assoc old (codes ",\n") (print part);
-    }
 
 -- a double, by what its marks are
 pub double-takes : (Has : Fact → Type 0) (told : Told) (irq : Irq) (lock : ℕ) (enabled_read used_read : Bool) (used enabled : Origin) (old new : Written) →

@@ -1,6 +1,6 @@
 -- What grows a picture, and what is found by going through lists.
-use Rattle.std.proofs.Common.{◌≡◌, ◌↔◌, ◌⊎◌, ℕ, ◌+◌, ◌<◌, ◌≤◌, Any, Bool, true, false, IsTrue, IsFalse, List, [], ◌++◌, length, not, ◌||◌, slice_index_or, take, refl, sym, ap, ◌∙◌, subst, inl, inr, arith}
-use Rattle.std.proofs.lemmas.List.{append-nil, append_assoc, get_or_default, take_all, take_more}
+use Rattle.std.proofs.Common.{◌≡◌, ◌↔◌, ◌⊎◌, ℕ, ◌+◌, ◌<◌, Any, Bool, true, false, IsTrue, IsFalse, List, [], ◌++◌, length, not, ◌||◌, slice_index_or, take, refl, sym, ap, ◌∙◌, subst, inl, inr, arith}
+use Rattle.std.proofs.lemmas.List.{append-nil, append_assoc, take_more}
 use Rattle.ld_facts.specs.ListLaws.{Any-push}
 use Rattle.ld_text.specs.Groups.{GrowsBy}
 use Rattle.ld_text.specs.Picture.{ShowsColoured}
@@ -31,21 +31,7 @@ module _ {X : Type 0} (P : X → Type 0) where
         | inr here ↦ isnt here
       ]
 
-  -- the same where the next was read off the list
-  pub none-more_item : (xs : List X) (i : ℕ) (x : X) → x ≡ slice_index_or xs i x → i < length xs → ¬ Any P (take i xs) → ¬ P x → ¬ Any P (take (i + 1) xs)
-  none-more_item xs i x is within none isnt = none-more xs i x within none (λ p. isnt (subst P (sym is) p))
-
-  pub none-all : (xs : List X) (i : ℕ) → length xs ≤ i → ¬ Any P (take i xs) → ¬ Any P xs
-  none-all xs i all none = subst (λ ys. ¬ Any P ys) (take_all i xs all) none
-
-  -- the one at a place
-  pub any-at : (xs : List X) (i : ℕ) (d : X) → i < length xs → P (slice_index_or xs i d) → Any P xs
-  any-at xs i d within p = (i, slice_index_or xs i d, within, get_or_default xs i (slice_index_or xs i d) d within, p)
-
--- what is found, or not
-pub says-true : (P : Type 0) → P → IsTrue true ↔ P
-says-true P p = (λ t. p, λ q. refl)
-
+-- what is not found
 pub says-false : (P : Type 0) → ¬ P → IsTrue false ↔ P
 says-false P never = (λ t. absurd (cc), λ p. absurd (never p))
 

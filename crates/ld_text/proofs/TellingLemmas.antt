@@ -12,7 +12,7 @@ use Rattle.ld_facts.specs.FactBits.{FactParts, HasFact}
 use Rattle.ld_graph.specs.FactLaws.{StrongWalk-members}
 use Rattle.ld_facts.specs.ListLaws.{Any-push}
 use Rattle.ld_facts.specs.Facts.{Adds, DependenciesOf}
-use Rattle.ld_graph.specs.Links.{IsDoubleBy, IsLink, IsShortestInversion, link_by}
+use Rattle.ld_graph.specs.Links.{IsDoubleBy, IsShortestInversion, link_by}
 use Rattle.ld_graph.specs.Walks.{IsShortestFrom}
 use Rattle.ld_facts.specs.declared.fact.Fact.{Fact}
 use Rattle.ld_facts.specs.declared.fact.Fact.TheVariants.{Dependency, Marked}
@@ -204,13 +204,6 @@ told-next old mid new walk i x is within so_far adds d =
 -- a line that is known
 pub GrowsBy-line : (line old new : List ℕ) → new ≡ old ++ line → GrowsBy (λ part. part ≡ line) old new
 GrowsBy-line line old new is = record { part = line; shows = refl; grew = is }
-
--- the marks of a link by its forms
-pub link-used : (Has : Fact → Type 0) (irq : Irq) (b a : ℕ) (enabled used : Bool) → IsLink Has irq (link_by b a enabled used) → Has (Marked a (UsedIn irq used))
-link-used Has irq b a enabled used link = subst (λ r. Has (Marked a (UsedIn irq r))) (is_r-kind_of_letters enabled used) link.1
-
-pub link-enabled : (Has : Fact → Type 0) (irq : Irq) (b a : ℕ) (enabled used : Bool) → IsLink Has irq (link_by b a enabled used) → Has (Marked b (Enabled irq enabled))
-link-enabled Has irq b a enabled used link = subst (λ s. Has (Marked b (Enabled irq s))) (is_s-kind_of_letters enabled used) link.0
 
 -- the line of where a key is used in a state, by the form of a link, and of where it is used with it enabled
 used_line : (told : Told) (irq : Irq) (key b a : ℕ) (enabled used : Bool) (old new : List ℕ) →

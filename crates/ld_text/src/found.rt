@@ -5,12 +5,12 @@ ghost use Rattle.ld_facts.specs.Arrows.{arrow};
 ghost use Rattle.ld_facts.specs.FactBits.{HasFact};
 ghost use Rattle.ld_graph.specs.Links.{IsClean, IsDouble, IsInversion};
 ghost use Rattle.ld_graph.specs.Walks.{OnCircle};
+ghost use Rattle.ld_facts.specs.declared.fact.Fact.{Fact};
 ghost use Rattle.ld_task.specs.declared.kind.Kind.{Kind};
 ghost use Rattle.ld_text.specs.Found.{AreFound, arrows_among, doubles_among, inversions_among};
 ghost use Rattle.ld_text.specs.Inside.Finding.{AddsThose};
 ghost use Rattle.ld_text.specs.Words.{kinds};
 
-use crate::joined::has_dependency;
 use ld_graph::{Kind, Mark};
 use ld_run::Settled;
 use ld_trace::{Irq, KeyId};
@@ -97,6 +97,19 @@ impl Found {
     {
         self.inversions.as_slice()
     }
+}
+
+// Whether a dependency of some kind leads from the one key to the other.
+pub(crate) fn has_dependency(settled: &Settled, from: KeyId, to: KeyId) -> bool
+    ensures { IsFalse result → (kind : Kind) → ¬ HasFact settled.now (Fact.Dependency from to kind) }
+{
+    let facts = settled.facts();
+    let (from, to) = (from.get(), to.get());
+    let er = facts.has_dep(from, to, Kind::Er);
+    let en = facts.has_dep(from, to, Kind::En);
+    let sr = facts.has_dep(from, to, Kind::Sr);
+    let sn = facts.has_dep(from, to, Kind::Sn);
+    er || en || sr || sn
 }
 
 // Whether the key is used in the state. If it isn't, no inversion begins with it.

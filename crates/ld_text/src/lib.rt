@@ -4,9 +4,9 @@
 
 mod because;
 mod chains_text;
+mod edges;
 mod explanation;
 mod found;
-mod joined;
 mod json_text;
 mod key_texts;
 mod order;

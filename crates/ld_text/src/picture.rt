@@ -12,14 +12,12 @@ ghost use Rattle.ld_text.specs.Picture.{AreJoined, IsFoundKey, IsNode, IsPicture
 ghost use Rattle.ld_text.specs.Report.{IsUsageCharacter, forms};
 ghost use Rattle.ld_text.specs.Words.{kinds, name_at, states};
 
-use crate::found::{KINDS, STATES, is_used_in};
-use crate::joined::{has_dependency, is_found, joined_keys};
+use crate::found::{STATES, is_used_in};
 use crate::order::sorted_keys;
 use crate::output::write_text;
 use crate::report::{FORMS, usage_character};
-use crate::words::{digits_of, irq_word, kind_word, name_of};
+use crate::words::{digits_of, irq_word, name_of};
 use crate::write_fault::WriteFault;
-use ld_graph::Kind;
 use ld_run::Settled;
 use ld_trace::{Irq, KeyId, KeyTable};
 use std::alloc::{AllocError, Global};
@@ -30,15 +28,22 @@ const LINK_END: &str = ", style=dashed, color=red, fontcolor=red];\n";
 
 // What a picture is written from.
 #[derive(Clone, Copy)]
-struct PictureView<'a> {
+pub(crate) struct PictureView<'a> {
     // The facts, with what they mean.
-    settled: &'a Settled,
+    pub settled: &'a Settled,
     // The names of the keys.
-    names: &'a KeyTable,
+    pub names: &'a KeyTable,
     // All keys, in the order of their names.
-    keys: &'a [KeyId],
+    pub keys: &'a [KeyId],
     // Whether only what is part of a finding is shown.
-    only: bool,
+    pub only: bool,
+}
+
+// Appends bytes.
+fn add_bytes(text: &mut Vec<u8>, more: &[u8]) -> Result<(), AllocError>
+    ensures { OnOk result (text.new.items ≡ text.old.items ++ more.now) }
+{
+    text.extend_from_slice(more)
 }
 
 // Appends a text.
@@ -69,8 +74,8 @@ fn add_name(text: &mut Vec<u8>, name: &[u8]) -> Result<(), AllocError>
     Ok(())
 }
 
-// Appends how the line of a key or a dependency ends, behind its label.
-fn add_end(text: &mut Vec<u8>, red: bool) -> Result<(), AllocError>
+// Appends how the line of a key or a dependency ends, after its label.
+pub(crate) fn add_end(text: &mut Vec<u8>, red: bool) -> Result<(), AllocError>
     ensures { OnOk result (text.new.items ≡ text.old.items ++ end_text red) }
 {
     add(
@@ -177,7 +182,7 @@ impl PictureView<'_> {
     }
 
     // An arrow from a key to a key, with its label.
-    fn add_arrow(
+    pub(crate) fn add_arrow(
         self,
         text: &mut Vec<u8>,
         from: KeyId,
@@ -194,72 +199,6 @@ impl PictureView<'_> {
         add(text, "\" [label=\"")?;
         add(text, label)?;
         add(text, "\"")
-    }
-
-    // The line of a dependency, where there is one and it is shown.
-    fn add_edge(
-        self,
-        text: &mut Vec<u8>,
-        from: KeyId,
-        to: KeyId,
-        kind: Kind,
-    ) -> Result<(), AllocError>
-        ensures { OnOk result (GrowsBy
-            (ShowsEdge (HasFact self.entry.settled.now) self.entry.names.now.names self.entry.only (arrow from to kind))
-            text.old.items text.new.items) }
-    {
-        if !self.settled.has_dep(from.get(), to.get(), kind) {
-            return Ok(());
-        }
-        let red = is_found(self.settled, from, to, kind);
-        if red || !self.only {
-            self.add_arrow(text, from, to, kind_word(kind))?;
-            add_end(text, red)?;
-        }
-        Ok(())
-    }
-
-    // The lines of the dependencies from the one key to the other.
-    fn add_edges_to(self, text: &mut Vec<u8>, from: KeyId, to: KeyId) -> Result<(), AllocError>
-        ensures { OnOk result (GrowsBy
-            (InTurn (λ kind. ShowsEdge (HasFact self.entry.settled.now) self.entry.names.now.names self.entry.only
-            (arrow from to kind)) kinds)
-            text.old.items text.new.items) }
-    {
-        if !has_dependency(self.settled, from, to) {
-            return Ok(());
-        }
-        for kind in KINDS {
-            self.add_edge(text, from, to, kind)?;
-        }
-        Ok(())
-    }
-
-    // The lines of the dependencies from the key.
-    fn add_edges_from(self, text: &mut Vec<u8>, from: KeyId) -> Result<(), AllocError>
-        ensures { OnOk result (GrowsBy
-            (InTurn (λ to. InTurn (λ kind. ShowsEdge (HasFact self.entry.settled.now) self.entry.names.now.names
-            self.entry.only (arrow from to kind)) kinds) self.entry.keys.now)
-            text.old.items text.new.items) }
-    {
-        for to in self.keys {
-            self.add_edges_to(text, from, *to)?;
-        }
-        Ok(())
-    }
-
-    // The lines of the dependencies.
-    fn add_edges(self, text: &mut Vec<u8>) -> Result<(), AllocError>
-        ensures { OnOk result (GrowsBy
-            (InTurn (λ from. InTurn (λ to. InTurn (λ kind. ShowsEdge (HasFact self.entry.settled.now)
-            self.entry.names.now.names self.entry.only (arrow from to kind)) kinds) self.entry.keys.now)
-            self.entry.keys.now)
-            text.old.items text.new.items) }
-    {
-        for from in self.keys {
-            self.add_edges_from(text, *from)?;
-        }
-        Ok(())
     }
 
     // The line of a key to itself, where it is a double.
@@ -379,11 +318,12 @@ fn picture_text(
         keys,
         only: findings,
     };
-    let joined = joined_keys(alloc, settled, keys)?;
+    let mut edges = Vec::new(alloc);
+    let joined = view.add_edges(alloc, &mut edges)?;
     let mut text = Vec::new(alloc);
     add(&mut text, "digraph lockdep {\n  node [shape=box];\n")?;
     view.add_keys(&mut text, joined.as_slice())?;
-    view.add_edges(&mut text)?;
+    add_bytes(&mut text, edges.as_slice())?;
     view.add_doubles(&mut text)?;
     view.add_inversions(&mut text)?;
     add(&mut text, "}\n")?;

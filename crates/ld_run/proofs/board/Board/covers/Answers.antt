@@ -1,7 +1,7 @@
 use Rattle.ld_facts.specs.WordLaws.{PairsHave-within}
 use Rattle.ld_run.specs.Boards.{keys_of}
 use Rattle.ld_run.specs.Seats.{view}
-use Rattle.ld_run.proofs.SeatFacts.{covers_chain, saw_own}
+use Rattle.ld_run.proofs.SeatFacts.{covers_chain, loads_chain, saw_own}
 use Rattle.ld_run.proofs.board.Board.covers.Goals as goal
 
 pub returns-clause-answer : goal.returns-clause-answer
@@ -15,3 +15,13 @@ returns-clause-mine c = saw_own (keys_of c.args.self.now) c.args.chain.now c.set
 
 pub returns-clause-seen : goal.returns-clause-seen
 returns-clause-seen c = PairsHave-within (keys_of c.args.self.now) (view c.args.seat.now).seen (view c.covers_words.new.seat).seen c.covers_words.ensures.seen
+
+pub returns-clause-loaded : goal.returns-clause-loaded
+returns-clause-loaded c =
+    let keys = keys_of c.args.self.now in
+    let (loaded, saw, all, has_all) = c.covers_words.ensures.loaded in
+    let law = covers_chain keys c.args.chain.now c.set_to.new.self c.set_to.ensures c.facts_are_bits.ensures.each loaded in (
+      loaded,
+      record { seen = saw; each = loads_chain keys c.args.chain.now c.set_to.new.self c.set_to.ensures loaded all },
+      ((λ t. law.0 (has_all.0 t)), (λ h. has_all.1 (law.1 h))),
+    )

@@ -1,14 +1,23 @@
-use Rattle.std.proofs.Common.{rules, ◌≡◌, ◌∷◌, ◌+◌, ◌<◌, ℕ, List, get_or, bit_or, refl, sym, ap, ◌∙◌, subst, arith}
+use Rattle.std.proofs.Common.{rules, ◌≡◌, [], ◌∷◌, Any, ◌+◌, ◌<◌, ℕ, List, get_or, bit_or, refl, sym, ap, ◌∙◌, subst, arith}
 use Rattle.ld_facts.specs.WordPairs.{bits_of, Within, word_total}
 use Rattle.ld_run.specs.Boards.{keys_of}
 use Rattle.ld_run.specs.Seats.{view}
 use Rattle.ld_run.specs.declared.view.View.{View}
-use Rattle.ld_run.proofs.SeatFacts.{and_true, pair_at}
-use Rattle.ld_run.proofs.WordLists.{or_self, all_from_pairs, pairs_from_all, each_step, each_back, within_cons}
+use Rattle.ld_run.proofs.SeatFacts.{Any-here, Any-later, and_true, pair_at}
+use Rattle.ld_run.proofs.WordLists.{or_self, all_from_pairs, pairs_from_all, each_next, each_step, each_back, within_cons, within_left, within_through}
 use Rattle.ld_run.proofs.board.Board.covers_words.Goals as goal
 
 pub loop-n-init : goal.loop-n-init
-loop-n-init c = (c.requires.seat, refl, refl, refl, (λ n. or_self _), ((λ _ k d l. absurd (omega arith)), (λ _. search rules)), λ k d l. absurd (omega arith))
+loop-n-init c = (
+  c.requires.seat,
+  refl,
+  refl,
+  refl,
+  (λ n. or_self _),
+  ((λ _ k d l. absurd (omega arith)), (λ _. search rules)),
+  (λ k d l. absurd (omega arith)),
+  ([], refl, (λ k d l. absurd (omega arith)), ((λ _ k d l. absurd (omega arith)), (λ _. search rules))),
+)
 
 pub look_word-found-requires : goal.look_word-found-requires
 look_word-found-requires c =
@@ -38,7 +47,10 @@ loop-n-preserved c =
     let before : Within (bits_of x.0 old.seen) found = subst (λ (p : ℕ × ℕ). Within (bits_of p.0 old.seen) found) (sym at.1) l.seen in
     let told = and_true c.loop-n.all (bit_or c.in-Some.bits found) found in
     let pair : Within c.in-Some.bits found → P x found = subst (λ (p : ℕ × ℕ). Within p.1 found) (sym at.1) in
-    let back : P x found → Within c.in-Some.bits found = subst (λ (p : ℕ × ℕ). Within p.1 found) at.1 in (
+    let back : P x found → Within c.in-Some.bits found = subst (λ (p : ℕ × ℕ). Within p.1 found) at.1 in
+    let (loaded, saw, each, has_all) = i.7 in
+    let loaded_before : Within (bits_of x.0 loaded) found = within_through (bits_of x.0 loaded) (bits_of x.0 old.seen) found
+    (subst (λ s. Within (bits_of x.0 loaded) (bits_of x.0 s)) (sym saw) (within_left x.0 (bits_of x.0 loaded) loaded was.seen (or_self (bits_of x.0 loaded)))) before in (
       l.seat,
       l.words ∙ i.1,
       ap (λ (v : View). v.put) l.looked ∙ i.2,
@@ -49,6 +61,16 @@ loop-n-preserved c =
         (λ all. let h = each_back words n found old.seen at.0 c.requires.once before P (subst (Each P) now all) in told.1 (i.5.1 h.1, back h.0)),
       ),
       subst (Each Q) (sym now) (each_step words n found old.seen at.0 c.requires.once before Q own i.6),
+      (
+        (x.0, found) ∷ loaded,
+        now ∙ ap (λ (s : List (ℕ × ℕ)). (x.0, found) ∷ s) saw,
+        each_next (λ p. Any (λ q. q.0 ≡ p.0) ((x.0, found) ∷ loaded)) words n at.0 (Any-here (λ q. q.0 ≡ x.0) (x.0, found) loaded refl)
+            (λ k d l. Any-later (λ q. q.0 ≡ (get_or words k d).0) (x.0, found) loaded (each k d l)),
+        (
+          (λ t. let h = told.0 t in each_step words n found loaded at.0 c.requires.once loaded_before P (pair h.1) (has_all.0 h.0)),
+          (λ all. let h = each_back words n found loaded at.0 c.requires.once loaded_before P all in told.1 (has_all.1 h.1, back h.0)),
+        ),
+      ),
     )
 
 pub returns-clause-answer : goal.returns-clause-answer
@@ -60,3 +82,16 @@ returns-clause-answer c =
     let end = c.len-n-end.ensures.exact in
     let all = c.loop-n.auto.n-end in
     ((λ t. all_from_pairs words seen (λ k d l. i.5.0 t k d (omega (arith, l)))), λ h. i.5.1 (λ k d l. pairs_from_all words seen h k d (omega (arith, l))))
+
+pub returns-clause-loaded : goal.returns-clause-loaded
+returns-clause-loaded c =
+    let words : List (ℕ × ℕ) = c.args.seat.now.words in
+    let test = c.loop-n-test.false in
+    let end = c.len-n-end.ensures.exact in
+    let all = c.loop-n.auto.n-end in
+    let (loaded, saw, each, has_all) = c.loop-n.invariant.7 in (
+      loaded,
+      saw,
+      (λ k d l. each k d (omega (arith, l))),
+      ((λ t. all_from_pairs words loaded (λ k d l. has_all.0 t k d (omega (arith, l)))), λ h. has_all.1 (λ k d l. pairs_from_all words loaded h k d (omega (arith, l)))),
+    )

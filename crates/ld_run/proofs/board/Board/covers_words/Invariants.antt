@@ -1,4 +1,4 @@
-use Rattle.std.proofs.Common.{◌≡◌, ◌↔◌, ◌<◌, ℕ, IsTrue, slice_index_or}
+use Rattle.std.proofs.Common.{◌≡◌, ◌↔◌, ◌<◌, ℕ, Any, IsTrue, List, ◌++◌, slice_index_or}
 use Rattle.ld_facts.specs.WordPairs.{bits_of, Within}
 use Rattle.ld_run.specs.Boards.{IsSeatOf}
 use Rattle.ld_run.specs.Seats.{view}
@@ -17,3 +17,6 @@ invariant-loop-n l =
     × ((n : ℕ) → Within (bits_of n was.seen) (bits_of n now.seen))
     × (IsTrue l.all ↔ ((k : ℕ) (d : ℕ × ℕ) → k < l.n → Within (slice_index_or words k d).1 (bits_of (slice_index_or words k d).0 now.seen)))
     × ((k : ℕ) (d : ℕ × ℕ) → k < l.n → Within (bits_of (slice_index_or words k d).0 was.put) (bits_of (slice_index_or words k d).0 now.seen))
+    × ((loaded : List (ℕ × ℕ)) × (now.seen ≡ loaded ++ was.seen)
+    × ((k : ℕ) (d : ℕ × ℕ) → k < l.n → Any (λ q. q.0 ≡ (slice_index_or words k d).0) loaded)
+    × (IsTrue l.all ↔ ((k : ℕ) (d : ℕ × ℕ) → k < l.n → Within (slice_index_or words k d).1 (bits_of (slice_index_or words k d).0 loaded))))

@@ -1,12 +1,13 @@
-use Rattle.std.proofs.Common.{take}
+use Rattle.std.proofs.Common.{◌↔◌, Any, IsTrue, take}
 use Rattle.ld_facts.specs.FactBits.{HasFact}
 use Rattle.ld_facts.specs.Arrows.{arrow}
 use Rattle.ld_text.specs.Groups.{GrowsBy, InTurn}
-use Rattle.ld_text.specs.Picture.{ShowsEdge}
+use Rattle.ld_text.specs.Picture.{IsFoundArrow, ShowsEdge}
 use Rattle.ld_text.proofs.picture.PictureView.add_edges_to.Given as goal
 
--- the lines of the kinds so far
+-- the lines of the kinds so far, and whether one of these is part of a finding
 abbrev pub invariant-loop-kind : goal.invariant-loop-kind
-invariant-loop-kind l =
-    GrowsBy (InTurn (λ kind. ShowsEdge (HasFact l.self.settled.now) l.self.names.now.names l.self.only (arrow l.from l.to kind)) (take l.kind-index l.kind-items))
-    l.initial.text.items l.text.items
+invariant-loop-kind l = record {
+  text : GrowsBy (InTurn (λ kind. ShowsEdge (HasFact l.self.settled.now) l.self.names.now.names l.self.only (arrow l.from l.to kind)) (take l.kind-index l.kind-items)) l.initial.text.items l.text.items;
+  leads : IsTrue l.any ↔ Any (λ kind. IsFoundArrow (HasFact l.self.settled.now) (arrow l.from l.to kind)) (take l.kind-index l.kind-items);
+}

@@ -1,5 +1,5 @@
 use Rattle.ld_text.proofs.PictureGrowing.{says-second}
-use Rattle.ld_text.proofs.joined.is_found.Goals as goal
+use Rattle.ld_text.proofs.edges.is_found.Goals as goal
 
 pub returns-else-on_circle : goal.returns-else-on_circle
 returns-else-on_circle c = says-second _ _ _
