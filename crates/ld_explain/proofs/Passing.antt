@@ -180,3 +180,9 @@ module _ (traces : List (List Event)) (asked : FactParts) where
         let r = are.gates d is_asked g has key in
         let among = is_among-decides g.gates.items key in
         ((λ h. r.0 (among.0 (sym is ∙ h))), (λ gate. is ∙ among.1 (r.1 gate)))
+
+    pub tells_none : (g : Guard) → HasGuard parts (Dependency d.start d.end d.kind) g → g.gates.items ≡ [] → (key : ℕ) → ¬ IsGate traces d key
+    tells_none g has none key gate =
+        let (k, l, at) = (are.gates d is_asked g has key).1 gate in
+        let none_there : length g.gates.items ≡ 0 = ap length none in
+        omega (arith, l, none_there)

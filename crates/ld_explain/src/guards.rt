@@ -1,6 +1,6 @@
 //! What speaks against findings.
 
-ghost use Rattle.std.specs.Prelude.{◌≡◌, ◌+◌, ◌∷◌, [], ◌<◌, ◌≤◌, ◌↔◌, ℕ, List, All, IfOk, IfSome, IsNone, IsTrue, OnOk, Some, length, slice_get};
+ghost use Rattle.std.specs.Prelude.{◌≡◌, ◌+◌, ◌∷◌, [], ◌<◌, ◌≤◌, ◌↔◌, ℕ, List, All, IfOk, IfSome, IsFalse, IsNone, IsTrue, OnOk, Some, length, slice_get};
 ghost use Rattle.ld_trace.specs.declared.event.Event.{Event};
 ghost use Rattle.ld_trace.specs.Events.{KeysBelow};
 ghost use Rattle.ld_task.specs.Placed.{IsPlacedAfter};
@@ -73,6 +73,19 @@ impl Guards {
     {
         match self.guard_of(Fact::Dependency { from, to, kind }) {
             Some(guard) => guard.gates.as_slice().contains(&gate),
+            None => false,
+        }
+    }
+
+    /// Whether some key may be a gate of the dependency. If not, none is. The dependency is one that was asked about and that
+    /// the traces have.
+    pub fn has_gates(&self, from: u16, to: u16, kind: Kind) -> bool
+        ensures { (traces : List (List Event)) (asked : FactParts) → AreGuardsOf traces asked self.now
+            → HasFact asked (Fact.Dependency from to kind) → TracesHave traces (Fact.Dependency from to kind)
+            → IsFalse result → (gate : ℕ) → ¬ IsGate traces (arrow from to kind) gate }
+    {
+        match self.guard_of(Fact::Dependency { from, to, kind }) {
+            Some(guard) => guard.has_gates(),
             None => false,
         }
     }
