@@ -1,9 +1,9 @@
 -- What speaks against a finding, in words.
-use Rattle.std.proofs.Common.{◌≡◌, ℕ, zero, suc, ◌+◌, ◌<◌, ◌≤◌, List, [], ◌∷◌, ◌++◌, Contains, Option, Some, None, codes, length, map, slice_get, take, refl, sym, ap, ◌∙◌, subst, inl, inr, arith}
+use Rattle.std.proofs.Common.{◌≡◌, ℕ, zero, suc, ◌+◌, ◌<◌, List, [], ◌∷◌, ◌++◌, Contains, Some, codes, length, map, slice_get, take, refl, sym, ap, ◌∙◌, subst, inl, inr, arith}
 use Rattle.std.specs.List.{flat_map}
-use Rattle.std.proofs.lemmas.List.{append_assoc, append-nil, length-take-le, map-append, take_all, take_more}
+use Rattle.std.proofs.lemmas.List.{append_assoc, append-nil, length-take-le, map-append, take_more}
 use Rattle.std.proofs.lemmas.List.Elements.{Contains-push_cases}
-use Rattle.std.proofs.lemmas.Option.{get_or_from_slice_get, none-some, slice_get_within}
+use Rattle.std.proofs.lemmas.Option.{get_or_from_slice_get, slice_get_within}
 use Rattle.ld_trace.specs.Names.{Name}
 use Rattle.ld_trace.specs.declared.event.Event.{Event}
 use Rattle.ld_graph.specs.Arrows.{Arrow}

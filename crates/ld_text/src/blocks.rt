@@ -103,7 +103,12 @@ impl Teller<'_> {
     }
 
     // The first line of a double's block.
-    pub(crate) fn add_double_head(&self, text: &mut String, irq: Irq, key: KeyId) -> Result<(), AllocError>
+    pub(crate) fn add_double_head(
+        &self,
+        text: &mut String,
+        irq: Irq,
+        key: KeyId,
+    ) -> Result<(), AllocError>
         ensures { OnOk result (string_bytes text.new ≡ string_bytes text.old
             ++ (codes "\n" ++ double_line self.now.told.names irq key)) }
     {
@@ -113,7 +118,12 @@ impl Teller<'_> {
     }
 
     // The block of a double.
-    pub(crate) fn add_double(&self, text: &mut String, irq: Irq, key: KeyId) -> Result<(), AllocError>
+    pub(crate) fn add_double(
+        &self,
+        text: &mut String,
+        irq: Irq,
+        key: KeyId,
+    ) -> Result<(), AllocError>
         requires { IsDouble (HasFact self.now.facts) irq key }
         ensures { OnOk result (GrowsBy (IsDoubleBlock (HasFact self.now.facts) self.now.told (irq, key))
             (string_bytes text.old) (string_bytes text.new)) }
@@ -129,7 +139,11 @@ impl Teller<'_> {
     }
 
     // The blocks of the doubles.
-    pub(crate) fn add_doubles(&self, text: &mut String, doubles: &[(Irq, KeyId)]) -> Result<(), AllocError>
+    pub(crate) fn add_doubles(
+        &self,
+        text: &mut String,
+        doubles: &[(Irq, KeyId)],
+    ) -> Result<(), AllocError>
         requires { All (λ x. IsDouble (HasFact self.now.facts) x.0 x.1) doubles.now }
         ensures { OnOk result (GrowsBy (InTurn (IsDoubleBlock (HasFact self.now.facts) self.now.told) doubles.now)
             (string_bytes text.old) (string_bytes text.new)) }
@@ -216,7 +230,12 @@ impl Teller<'_> {
     }
 
     // The blocks of all findings. Returns how many there are of circles.
-    pub(crate) fn tell(&self, text: &mut String, told: &mut Facts, found: &Found) -> Result<usize, AllocError>
+    pub(crate) fn tell(
+        &self,
+        text: &mut String,
+        told: &mut Facts,
+        found: &Found,
+    ) -> Result<usize, AllocError>
         requires bound { told.old.keys ≡ self.now.facts.keys }
         requires none { (x : Fact) → ¬ HasFact told.old x }
         requires circles { All (OnCircle (HasFact self.now.facts)) found.now.circles }

@@ -23,6 +23,7 @@ ghost use Rattle.ld_text.specs.Order.{IsKeyOrder};
 ghost use Rattle.ld_text.specs.Words.{key_text, name_at};
 
 use crate::found::{Dependency, Found};
+use crate::json_objects::Objects;
 use crate::key_texts::KeyTexts;
 use crate::order::sorted_keys;
 use crate::output::write_text;
@@ -39,14 +40,16 @@ use std::io::Write;
 use std::marker::Model;
 use std::mem::replace;
 
-use crate::json_objects::Objects;
-
 // What stands between two findings.
 const BETWEEN: &str = ",\n";
 
 impl Objects<'_> {
     // The line of a circle.
-    pub(crate) fn add_circle_object(&self, text: &mut Vec<u8>, walk: &Walk) -> Result<(), AllocError>
+    pub(crate) fn add_circle_object(
+        &self,
+        text: &mut Vec<u8>,
+        walk: &Walk,
+    ) -> Result<(), AllocError>
         requires some { 0 < length walk.now }
         requires are { All (DependenciesOf (HasFact self.now.facts)) walk.now }
         ensures { OnOk result (GrowsBy (IsLineOf (IsCircleObject self.now.told self.now.keys walk.now)) text.old.items text.new.items) }
@@ -58,7 +61,12 @@ impl Objects<'_> {
     }
 
     // The line of a double.
-    pub(crate) fn add_double_object(&self, text: &mut Vec<u8>, irq: Irq, key: KeyId) -> Result<(), AllocError>
+    pub(crate) fn add_double_object(
+        &self,
+        text: &mut Vec<u8>,
+        irq: Irq,
+        key: KeyId,
+    ) -> Result<(), AllocError>
         requires { IsDouble (HasFact self.now.facts) irq key }
         ensures { OnOk result (GrowsBy (IsLineOf (IsDoubleObject (HasFact self.now.facts) self.now.told (irq, key)))
             text.old.items text.new.items) }
@@ -132,7 +140,11 @@ impl Objects<'_> {
     }
 
     // The lines of the doubles.
-    pub(crate) fn tell_doubles(&self, text: &mut Vec<u8>, doubles: &[(Irq, KeyId)]) -> Result<(), AllocError>
+    pub(crate) fn tell_doubles(
+        &self,
+        text: &mut Vec<u8>,
+        doubles: &[(Irq, KeyId)],
+    ) -> Result<(), AllocError>
         requires { All (λ x. IsDouble (HasFact self.now.facts) x.0 x.1) doubles.now }
         ensures { OnOk result (GrowsBy (InTurn (λ x. IsLineOf (IsDoubleObject (HasFact self.now.facts) self.now.told x)) doubles.now)
             text.old.items text.new.items) }
@@ -161,7 +173,12 @@ impl Objects<'_> {
     }
 
     // The lines of all findings.
-    pub(crate) fn tell(&self, text: &mut Vec<u8>, told: &mut Facts, found: &Found) -> Result<(), AllocError>
+    pub(crate) fn tell(
+        &self,
+        text: &mut Vec<u8>,
+        told: &mut Facts,
+        found: &Found,
+    ) -> Result<(), AllocError>
         requires bound { told.old.keys ≡ self.now.facts.keys }
         requires none { (x : Fact) → ¬ HasFact told.old x }
         requires circles { All (OnCircle (HasFact self.now.facts)) found.now.circles }

@@ -66,7 +66,12 @@ pub(crate) fn add_only(w: &mut Writer, name: &str, value: &str) -> Result<(), Al
 }
 
 // A member whose value is a list of two texts.
-pub(crate) fn add_both(w: &mut Writer, name: &str, first: &str, second: &str) -> Result<(), AllocError>
+pub(crate) fn add_both(
+    w: &mut Writer,
+    name: &str,
+    first: &str,
+    second: &str,
+) -> Result<(), AllocError>
     ensures { OnOk result (Adds w.old w.new (list_member name.now (string first.now ∷ string second.now ∷ []))) }
 {
     w.key(name)?;

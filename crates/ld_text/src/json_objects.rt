@@ -23,6 +23,7 @@ ghost use Rattle.ld_text.specs.Order.{IsKeyOrder};
 ghost use Rattle.ld_text.specs.Words.{key_text, name_at};
 
 use crate::found::{Dependency, Found};
+use crate::json_members::{add_both, add_notes, add_number, add_only, add_text};
 use crate::key_texts::KeyTexts;
 use crate::order::sorted_keys;
 use crate::output::write_text;
@@ -38,8 +39,6 @@ use std::alloc::{AllocError, Global};
 use std::io::Write;
 use std::marker::Model;
 use std::mem::replace;
-
-use crate::json_members::{add_both, add_notes, add_number, add_only, add_text};
 
 // What findings are told from, with the keys as lines name them.
 #[derive(Drop)]
@@ -91,7 +90,12 @@ impl Objects<'_> {
     }
 
     // The lock that is held meanwhile.
-    pub(crate) fn add_held(&self, w: &mut Writer, trace: u32, held: Option<u32>) -> Result<(), AllocError>
+    pub(crate) fn add_held(
+        &self,
+        w: &mut Writer,
+        trace: u32,
+        held: Option<u32>,
+    ) -> Result<(), AllocError>
         ensures { OnOk result (Adds w.old w.new (held_members self.now.told trace held)) }
     {
         let Some(held) = held else {
@@ -236,7 +240,12 @@ impl Objects<'_> {
     }
 
     // A member whose value is an occurrence.
-    pub(crate) fn add_use(&self, w: &mut Writer, name: &str, origin: Origin) -> Result<(), AllocError>
+    pub(crate) fn add_use(
+        &self,
+        w: &mut Writer,
+        name: &str,
+        origin: Origin,
+    ) -> Result<(), AllocError>
         ensures { OnOk result (Adds w.old w.new (object_member name.now (occurrence_members self.now.told origin ∷ []))) }
     {
         w.key(name)?;
@@ -246,7 +255,12 @@ impl Objects<'_> {
     }
 
     // Where a key is used in a state, and where one is used with it enabled.
-    pub(crate) fn add_uses(&self, w: &mut Writer, used: Origin, enabled: Origin) -> Result<(), AllocError>
+    pub(crate) fn add_uses(
+        &self,
+        w: &mut Writer,
+        used: Origin,
+        enabled: Origin,
+    ) -> Result<(), AllocError>
         ensures { OnOk result (Adds w.old w.new (use_members self.now.told used enabled)) }
     {
         self.add_use(w, "used", used)?;
@@ -254,7 +268,12 @@ impl Objects<'_> {
     }
 
     // The report's line of a double.
-    pub(crate) fn add_double_line(&self, w: &mut Writer, irq: Irq, key: KeyId) -> Result<(), AllocError>
+    pub(crate) fn add_double_line(
+        &self,
+        w: &mut Writer,
+        irq: Irq,
+        key: KeyId,
+    ) -> Result<(), AllocError>
         ensures { OnOk result (Adds w.old w.new (list_member (codes "lines")
             (string (double_words self.now.told.names irq key) ∷ []))) }
     {
@@ -341,7 +360,13 @@ impl Objects<'_> {
     }
 
     // An inversion.
-    pub(crate) fn add_inversion(&self, w: &mut Writer, irq: Irq, a: KeyId, b: KeyId) -> Result<(), AllocError>
+    pub(crate) fn add_inversion(
+        &self,
+        w: &mut Writer,
+        irq: Irq,
+        a: KeyId,
+        b: KeyId,
+    ) -> Result<(), AllocError>
         requires { IsInversion (HasFact self.now.facts) irq a b }
         ensures { OnOk result (Takes (IsInversionObject (HasFact self.now.facts) self.now.told self.now.keys (irq, (a, b))) w.old w.new) }
     {

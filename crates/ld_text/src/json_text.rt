@@ -23,6 +23,7 @@ ghost use Rattle.ld_text.specs.Order.{IsKeyOrder};
 ghost use Rattle.ld_text.specs.Words.{key_text, name_at};
 
 use crate::found::{Dependency, Found};
+use crate::json_objects::Objects;
 use crate::key_texts::KeyTexts;
 use crate::order::sorted_keys;
 use crate::output::write_text;
@@ -38,8 +39,6 @@ use std::alloc::{AllocError, Global};
 use std::io::Write;
 use std::marker::Model;
 use std::mem::replace;
-
-use crate::json_objects::Objects;
 
 // What stands before the findings, and after them.
 const HEAD: &str = "{\"lockdep\":1,\"findings\":[";

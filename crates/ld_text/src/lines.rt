@@ -46,7 +46,12 @@ impl Teller<'_> {
     }
 
     // What the event at this place of a trace does.
-    pub(crate) fn add_event(&self, text: &mut String, trace: u32, place: u32) -> Result<(), AllocError>
+    pub(crate) fn add_event(
+        &self,
+        text: &mut String,
+        trace: u32,
+        place: u32,
+    ) -> Result<(), AllocError>
         ensures { OnOk result (string_bytes text.new ≡ string_bytes text.old
             ++ does_text self.now.told.names (event_of self.now.told.traces trace place)) }
     {
@@ -68,7 +73,12 @@ impl Teller<'_> {
     }
 
     // The lock that the event at this place of a trace took.
-    pub(crate) fn add_lock(&self, text: &mut String, trace: u32, place: u32) -> Result<(), AllocError>
+    pub(crate) fn add_lock(
+        &self,
+        text: &mut String,
+        trace: u32,
+        place: u32,
+    ) -> Result<(), AllocError>
         ensures { OnOk result (string_bytes text.new ≡ string_bytes text.old
             ++ lock_of self.now.told.names (event_of self.now.told.traces trace place)) }
     {
@@ -86,7 +96,12 @@ impl Teller<'_> {
     }
 
     // The lock that is held meanwhile.
-    pub(crate) fn add_while(&self, text: &mut String, trace: u32, held: Option<u32>) -> Result<(), AllocError>
+    pub(crate) fn add_while(
+        &self,
+        text: &mut String,
+        trace: u32,
+        held: Option<u32>,
+    ) -> Result<(), AllocError>
         ensures { OnOk result (string_bytes text.new
             ≡ string_bytes text.old ++ while_text self.now.told trace held) }
     {
@@ -193,7 +208,12 @@ impl Teller<'_> {
     }
 
     // Each member of a walk as a task that waits; the tasks are numbered from this one on.
-    pub(crate) fn add_waits(&self, text: &mut String, first: u32, walk: &Walk) -> Result<(), AllocError>
+    pub(crate) fn add_waits(
+        &self,
+        text: &mut String,
+        first: u32,
+        walk: &Walk,
+    ) -> Result<(), AllocError>
         requires { first ≤ 2 }
         ensures { OnOk result (string_bytes text.new
             ≡ string_bytes text.old ++ waits_text self.now.told.names first walk.now) }
@@ -237,7 +257,12 @@ impl Teller<'_> {
     }
 
     // An interrupt comes in and wants a lock.
-    pub(crate) fn add_interrupt(&self, text: &mut String, irq: Irq, key: KeyId) -> Result<(), AllocError>
+    pub(crate) fn add_interrupt(
+        &self,
+        text: &mut String,
+        irq: Irq,
+        key: KeyId,
+    ) -> Result<(), AllocError>
         ensures { OnOk result (string_bytes text.new
             ≡ string_bytes text.old ++ comes_line self.now.told.names irq key) }
     {

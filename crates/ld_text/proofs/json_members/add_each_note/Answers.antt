@@ -1,4 +1,4 @@
-use Rattle.std.proofs.Common.{◌∷◌, [], ◌∙◌, ap, arith, length, map, refl, string_bytes, subst, sym}
+use Rattle.std.proofs.Common.{◌∷◌, [], ◌∙◌, ap, arith, map, string_bytes, subst}
 use Rattle.std.proofs.lemmas.List.{take_all}
 use Rattle.json.specs.Token.{string}
 use Rattle.ld_text.specs.Inside.Tokens.{Adds}
