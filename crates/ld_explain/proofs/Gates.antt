@@ -12,7 +12,7 @@ use Rattle.ld_task.specs.PositionLaws.{positions_below-ascend, positions_below-p
 use Rattle.ld_task.specs.Positions.{positions_below}
 use Rattle.ld_task.specs.TraceChains.{chain, lock_at}
 use Rattle.ld_task.specs.declared.lock.Lock.{Lock}
-use Rattle.ld_graph.specs.ChainFacts.{fact_slots, slot_held}
+use Rattle.ld_facts.specs.ChainFacts.{fact_slots, slot_held}
 use Rattle.ld_explain.specs.Notes.{Guarded}
 use Rattle.ld_explain.specs.Inside.Firsts.{slot_origin, slot_position}
 use Rattle.ld_explain.specs.Inside.Guarding.{GuardsAt, IsGateBefore, gate_in}

@@ -24,9 +24,9 @@ use Rattle.ld_task.specs.declared.frame.Frame.{Frame}
 use Rattle.ld_task.specs.declared.kind.Kind.{Kind}
 use Rattle.ld_task.specs.declared.lock.Lock.{Lock}
 use Rattle.ld_task.specs.declared.mark.Mark.{Mark}
-use Rattle.ld_graph.specs.ChainFacts.{GivenBy, fact_slots, held_by, slot_held, slots_by}
-use Rattle.ld_graph.specs.declared.fact.Fact.{Fact}
-use Rattle.ld_graph.specs.declared.fact.Fact.TheVariants.{Dependency, Marked}
+use Rattle.ld_facts.specs.ChainFacts.{GivenBy, fact_slots, held_by, slot_held, slots_by}
+use Rattle.ld_facts.specs.declared.fact.Fact.{Fact}
+use Rattle.ld_facts.specs.declared.fact.Fact.TheVariants.{Dependency, Marked}
 use Rattle.ld_explain.specs.Origins.{Gives}
 
 -- the new lock of an acquisition's chain

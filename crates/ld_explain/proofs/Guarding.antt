@@ -2,7 +2,7 @@
 use Rattle.std.proofs.Common.{◌≡◌, ℕ, ◌⊎◌, ◌↔◌, List, Contains, Some, sym, ap, ◌∙◌, subst, inl, inr}
 use Rattle.std.proofs.lemmas.Option.{same_Some}
 use Rattle.ld_trace.specs.declared.event.Event.{Event}
-use Rattle.ld_graph.specs.declared.fact.Fact.{Fact}
+use Rattle.ld_facts.specs.declared.fact.Fact.{Fact}
 use Rattle.ld_explain.specs.Notes.{GuardParts, HasGuard}
 use Rattle.ld_explain.specs.Inside.Guarding.{AreGuards, GuardsAt, IsKept, PutsGuard}
 use Rattle.ld_explain.specs.declared.guard.Guard.{Guard}

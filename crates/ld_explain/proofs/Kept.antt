@@ -4,10 +4,10 @@ use Rattle.std.specs.Prelude.{IfSome}
 use Rattle.std.specs.Map.{lookup}
 use Rattle.std.proofs.lemmas.Bool.{cases_Bool, eq-eqb, eqb-true, true≢false}
 use Rattle.std.proofs.lemmas.Option.{same_Some}
-use Rattle.ld_graph.specs.FactBits.{FactBelow}
-use Rattle.ld_graph.specs.Laws.{FactsHaveDifferentBits}
-use Rattle.ld_graph.specs.Numbers.{fact_number}
-use Rattle.ld_graph.specs.declared.fact.Fact.{Fact}
+use Rattle.ld_facts.specs.FactBits.{FactBelow}
+use Rattle.ld_facts.specs.Laws.{FactsHaveDifferentBits}
+use Rattle.ld_facts.specs.Numbers.{fact_number}
+use Rattle.ld_facts.specs.declared.fact.Fact.{Fact}
 use Rattle.ld_explain.specs.Notes.{GuardParts, HasGuard}
 use Rattle.ld_explain.specs.Inside.Guarding.{IsGuardWith, IsKept, PutsGuard}
 use Rattle.ld_explain.specs.declared.guard.Guard.{Guard}

@@ -7,13 +7,13 @@ use Rattle.ld_trace.specs.declared.event.Event.{Event}
 use Rattle.ld_task.specs.Chains.{ChainParts}
 use Rattle.ld_task.specs.Dependencies.{IsDependency}
 use Rattle.ld_task.specs.TraceChains.{chain}
-use Rattle.ld_graph.specs.Arrows.{Arrow}
-use Rattle.ld_graph.specs.ChainFacts.{chain_fact, fact_slots}
-use Rattle.ld_graph.specs.FactBits.{FactParts, HasFact}
-use Rattle.ld_graph.specs.Facts.{DependenciesOf}
-use Rattle.ld_graph.specs.Laws.{SlotsHaveWhatIsGiven}
-use Rattle.ld_graph.specs.declared.fact.Fact.{Fact}
-use Rattle.ld_graph.specs.declared.fact.Fact.TheVariants.{Dependency}
+use Rattle.ld_facts.specs.Arrows.{Arrow}
+use Rattle.ld_facts.specs.ChainFacts.{chain_fact, fact_slots}
+use Rattle.ld_facts.specs.FactBits.{FactParts, HasFact}
+use Rattle.ld_facts.specs.Facts.{DependenciesOf}
+use Rattle.ld_facts.specs.Laws.{SlotsHaveWhatIsGiven}
+use Rattle.ld_facts.specs.declared.fact.Fact.{Fact}
+use Rattle.ld_facts.specs.declared.fact.Fact.TheVariants.{Dependency}
 use Rattle.ld_explain.specs.Notes.{AreGuardsOf, GuardParts, Guarded, HasGuard, IsAloneIn, IsGate}
 use Rattle.ld_explain.specs.Origins.{Gives, Occurs}
 use Rattle.ld_explain.specs.Inside.Firsts.{SeenBefore, SeenFrom, SeenTo, slot_origin}

@@ -10,11 +10,11 @@ use Rattle.ld_task.specs.Held.{is_held}
 use Rattle.ld_task.specs.Placed.{held_positions}
 use Rattle.ld_task.specs.PositionLaws.{positions_below-ascend}
 use Rattle.ld_task.specs.TraceChains.{chain}
-use Rattle.ld_graph.specs.ChainFacts.{chain_fact, fact_slots, slot_held}
-use Rattle.ld_graph.specs.FactBits.{FactParts, HasFact}
-use Rattle.ld_graph.specs.Facts.{Adds, ChainHas, Holds}
-use Rattle.ld_graph.specs.Laws.{ChainsGiveWhatTheyHave, LaterSlotsAreOfNewerLocks, SlotsHaveWhatIsGiven}
-use Rattle.ld_graph.specs.declared.fact.Fact.{Fact}
+use Rattle.ld_facts.specs.ChainFacts.{chain_fact, fact_slots, slot_held}
+use Rattle.ld_facts.specs.FactBits.{FactParts, HasFact}
+use Rattle.ld_facts.specs.Facts.{Adds, ChainHas, Holds}
+use Rattle.ld_facts.specs.Laws.{ChainsGiveWhatTheyHave, LaterSlotsAreOfNewerLocks, SlotsHaveWhatIsGiven}
+use Rattle.ld_facts.specs.declared.fact.Fact.{Fact}
 use Rattle.ld_explain.specs.Origins.{AsNew, Gives, NoLater, Occurs, OriginParts}
 use Rattle.ld_explain.specs.Inside.Firsts.{AreFirsts, AreKept, PutsOrigin, SeenFrom, SeenTo, slot_origin, slot_position}
 use Rattle.ld_explain.specs.declared.origins.Origin.{Origin}

@@ -7,13 +7,13 @@ use Rattle.ld_trace.specs.Modes.{is_read}
 use Rattle.ld_task.specs.Dependencies.{IsDependency}
 use Rattle.ld_task.specs.Events.{event, mode_taken}
 use Rattle.ld_task.specs.Held.{is_held, key_at}
-use Rattle.ld_graph.specs.Arrows.{Arrow}
-use Rattle.ld_graph.specs.FactBits.{FactBelow, FactParts, HasFact}
-use Rattle.ld_graph.specs.Facts.{DependenciesOf}
-use Rattle.ld_graph.specs.Numbers.{fact_number}
-use Rattle.ld_graph.specs.declared.fact.Fact.{Fact}
-use Rattle.ld_graph.specs.declared.fact.Fact.TheVariants.{Dependency}
-use Rattle.ld_run.specs.TraceFacts.{TracesHave}
+use Rattle.ld_facts.specs.Arrows.{Arrow}
+use Rattle.ld_facts.specs.FactBits.{FactBelow, FactParts, HasFact}
+use Rattle.ld_facts.specs.Facts.{DependenciesOf}
+use Rattle.ld_facts.specs.Numbers.{fact_number}
+use Rattle.ld_facts.specs.declared.fact.Fact.{Fact}
+use Rattle.ld_facts.specs.declared.fact.Fact.TheVariants.{Dependency}
+use Rattle.ld_facts.specs.TraceFacts.{TracesHave}
 use Rattle.ld_explain.specs.declared.guard.Guard.{Guard}
 
 -- ---- gates

@@ -6,12 +6,12 @@ ghost use Rattle.ld_trace.specs.Events.{KeysBelow};
 ghost use Rattle.ld_task.specs.Placed.{IsPlacedAfter};
 ghost use Rattle.ld_task.specs.TraceChains as trace_chains;
 ghost use Rattle.ld_task.specs.WellFormed.{IsWellFormed};
-ghost use Rattle.ld_graph.specs.Arrows.{arrow};
-ghost use Rattle.ld_graph.specs.ChainFacts.{fact_slots};
-ghost use Rattle.ld_graph.specs.FactBits.{FactBelow, FactParts, HasFact};
-ghost use Rattle.ld_graph.specs.declared.fact.Fact.{Fact};
-ghost use Rattle.ld_run.specs.TraceFacts.{TracesHave};
-ghost use Rattle.ld_run.specs.declared.runs.TheConstants.{MAX_TRACES};
+ghost use Rattle.ld_facts.specs.Arrows.{arrow};
+ghost use Rattle.ld_facts.specs.ChainFacts.{fact_slots};
+ghost use Rattle.ld_facts.specs.FactBits.{FactBelow, FactParts, HasFact};
+ghost use Rattle.ld_facts.specs.declared.fact.Fact.{Fact};
+ghost use Rattle.ld_facts.specs.TraceFacts.{TracesHave};
+ghost use Rattle.ld_trace.specs.declared.raw_trace.TheConstants.{MAX_TRACES};
 ghost use Rattle.ld_explain.specs.Notes.{AreGuardsOf, HasGuard, IsAloneIn, IsGate};
 ghost use Rattle.ld_explain.specs.Inside.Firsts.{ComesNext, SeenBefore, SeenFrom, SeenTo};
 ghost use Rattle.ld_explain.specs.Inside.Guarding.{AreGuards, Asked, IsGuardWith, IsKept, PutsGuard};
@@ -19,7 +19,8 @@ ghost use Rattle.ld_explain.specs.Inside.Guarding.{AreGuards, Asked, IsGuardWith
 use crate::guard::{Guard, gates_before};
 use arrayvec::ArrayVec;
 use indexmap::IndexMap;
-use ld_graph::{Fact, Facts, Kind, fact_in_slot, fact_slots, lock_of_slot};
+use ld_graph::Kind;
+use ld_facts::{Fact, Facts, fact_in_slot, fact_slots, lock_of_slot};
 use ld_task::{Chain, MAX_HELD, PlacedState};
 use ld_trace::{Event, RawTrace};
 use std::alloc::{AllocError, Global};
@@ -167,7 +168,7 @@ impl Guards {
             → AreGuards traces (Asked asked.now (SeenTo traces trace place)) self.old
             → AreGuards traces (Asked asked.now (SeenTo traces trace (place + 1))) self.new) }
     {
-        ld_graph::slots_have_what_is_given();
+        ld_facts::slots_have_what_is_given();
         let slots = fact_slots(chain);
         for passed in 0..slots {
             self.add_slot(asked, trace, chain, slots - 1 - passed)?;
@@ -211,7 +212,7 @@ impl Guards {
         requires { FactBelow self.old.keys fact }
         ensures { OnOk result (PutsGuard self.old self.new fact trace gates.items) }
     {
-        ld_graph::facts_are_bits();
+        ld_facts::facts_are_bits();
         let guard = self.guard_with(fact, trace, gates);
         let number = fact.number(self.keys) as u32;
         match self.guards.insert(number, guard) {

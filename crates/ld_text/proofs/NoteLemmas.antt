@@ -6,7 +6,7 @@ use Rattle.std.proofs.lemmas.List.Elements.{Contains-push_cases}
 use Rattle.std.proofs.lemmas.Option.{get_or_from_slice_get, slice_get_within}
 use Rattle.ld_trace.specs.Names.{Name}
 use Rattle.ld_trace.specs.declared.event.Event.{Event}
-use Rattle.ld_graph.specs.Arrows.{Arrow}
+use Rattle.ld_facts.specs.Arrows.{Arrow}
 use Rattle.ld_explain.specs.Notes.{IsAloneIn}
 use Rattle.ld_text.specs.Explanation.{AreNoteLines, note_line, dependency_text, gate_note, listed_text}
 use Rattle.ld_text.specs.Groups.{GrowsBy, InSequence, InTurn}

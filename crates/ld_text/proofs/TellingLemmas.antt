@@ -7,14 +7,15 @@ use Rattle.ld_trace.specs.Names.{Name}
 use Rattle.ld_trace.specs.declared.event.Irq.{Irq}
 use Rattle.ld_task.specs.Kinds.{is_r-kind_of_letters, is_s-kind_of_letters}
 use Rattle.ld_task.specs.declared.mark.Mark.TheVariants.{UsedIn, Enabled}
-use Rattle.ld_graph.specs.Arrows.{Arrow, arrow}
-use Rattle.ld_graph.specs.FactBits.{FactParts, HasFact}
-use Rattle.ld_graph.specs.FactLaws.{Any-push, StrongWalk-members}
-use Rattle.ld_graph.specs.Facts.{Adds, DependenciesOf}
+use Rattle.ld_facts.specs.Arrows.{Arrow, arrow}
+use Rattle.ld_facts.specs.FactBits.{FactParts, HasFact}
+use Rattle.ld_graph.specs.FactLaws.{StrongWalk-members}
+use Rattle.ld_facts.specs.ListLaws.{Any-push}
+use Rattle.ld_facts.specs.Facts.{Adds, DependenciesOf}
 use Rattle.ld_graph.specs.Links.{IsDoubleBy, IsLink, IsShortestInversion, link_by}
 use Rattle.ld_graph.specs.Walks.{IsShortestFrom}
-use Rattle.ld_graph.specs.declared.fact.Fact.{Fact}
-use Rattle.ld_graph.specs.declared.fact.Fact.TheVariants.{Dependency, Marked}
+use Rattle.ld_facts.specs.declared.fact.Fact.{Fact}
+use Rattle.ld_facts.specs.declared.fact.Fact.TheVariants.{Dependency, Marked}
 use Rattle.ld_text.specs.Explanation.{AreGateNotes, AreNoteLines, AreTold, IsDependencyLine, IsDoubleBlock, IsEnabledLine, IsInversionBlock, IsOriginLine, IsTold, IsUsedLine, Told, comes_line, holds_line, waits_line, waits_text}
 use Rattle.ld_text.specs.Groups.{GrowsBy, InSequence, InTurn}
 use Rattle.ld_text.specs.Inside.Telling.{HasMembers, TellsCircles}

@@ -1,10 +1,10 @@
 //! What speaks against a finding, in words.
 
 ghost use Rattle.std.specs.Prelude.{◌≡◌, ◌++◌, ◌∷◌, [], ◌<◌, ◌↔◌, ℕ, All, IfOk, IsFalse, IsTrue, OnOk, Some, flat_map, length, map, string_bytes};
-ghost use Rattle.ld_graph.specs.Arrows.{arrow};
-ghost use Rattle.ld_graph.specs.FactBits.{HasFact};
-ghost use Rattle.ld_graph.specs.Facts.{DependenciesOf};
-ghost use Rattle.ld_graph.specs.declared.fact.Fact.{Fact};
+ghost use Rattle.ld_facts.specs.Arrows.{arrow};
+ghost use Rattle.ld_facts.specs.FactBits.{HasFact};
+ghost use Rattle.ld_facts.specs.Facts.{DependenciesOf};
+ghost use Rattle.ld_facts.specs.declared.fact.Fact.{Fact};
 ghost use Rattle.ld_explain.specs.Notes.{IsAloneIn, IsGate};
 ghost use Rattle.ld_text.specs.Explanation.{AreCircleNotes, AreGateNotes, IsAloneNote, IsGateNote, dependency_text, gate_note, note_line};
 ghost use Rattle.ld_text.specs.Found.{AreThose};

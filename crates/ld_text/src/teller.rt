@@ -2,11 +2,11 @@
 
 ghost use Rattle.std.specs.Prelude.{◌≡◌, ◌<◌, ◌⊎◌, ◌↔◌, ◌∷◌, [], ℕ, All, Contains, IsFalse, IsTrue, Option, None, Some, length, slice_get};
 ghost use Rattle.ld_trace.specs.declared.event.Irq.{Irq};
-ghost use Rattle.ld_graph.specs.Arrows.{Arrow, arrow};
-ghost use Rattle.ld_graph.specs.FactBits.{FactBelow, HasFact};
-ghost use Rattle.ld_graph.specs.Facts.{DependenciesOf};
+ghost use Rattle.ld_facts.specs.Arrows.{Arrow, arrow};
+ghost use Rattle.ld_facts.specs.FactBits.{FactBelow, HasFact};
+ghost use Rattle.ld_facts.specs.Facts.{DependenciesOf};
 ghost use Rattle.ld_graph.specs.Walks.{OnCircle};
-ghost use Rattle.ld_graph.specs.declared.fact.Fact.{Fact};
+ghost use Rattle.ld_facts.specs.declared.fact.Fact.{Fact};
 ghost use Rattle.ld_explain.specs.Notes.{IsAloneIn, IsGate};
 ghost use Rattle.ld_explain.specs.Origins.{IsFirst};
 ghost use Rattle.ld_task.specs.declared.mark.Mark.{Mark};
@@ -15,7 +15,8 @@ ghost use Rattle.ld_text.specs.Inside.Telling.{ChoosesCircle};
 
 use crate::found::Dependency;
 use ld_explain::{Guards, Origin, Origins};
-use ld_graph::{Fact, Facts, Kind, Mark, Walk};
+use ld_graph::{Kind, Mark, Walk};
+use ld_facts::{Fact, Facts};
 use ld_run::Settled;
 use ld_trace::{Event, KeyId, KeyTable, RawTrace};
 use std::alloc::Global;
@@ -37,9 +38,9 @@ pub(crate) struct Teller<'a> {
 
 impl<'a> Model for Teller<'a> {
     ghost use Rattle.std.specs.Prelude.{◌≡◌, map};
-    ghost use Rattle.ld_graph.specs.FactBits.{HasFact};
-    ghost use Rattle.ld_graph.specs.Facts.{AreSame};
-    ghost use Rattle.ld_run.specs.TraceFacts.{TracesHave};
+    ghost use Rattle.ld_facts.specs.FactBits.{HasFact};
+    ghost use Rattle.ld_facts.specs.Facts.{AreSame};
+    ghost use Rattle.ld_facts.specs.TraceFacts.{TracesHave};
     ghost use Rattle.ld_explain.specs.Notes.{AreGuardsOf};
     ghost use Rattle.ld_explain.specs.Origins.{AreOriginsOf};
     ghost use Rattle.ld_text.specs.Inside.Telling.{TellerParts};

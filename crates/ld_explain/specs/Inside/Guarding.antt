@@ -5,8 +5,8 @@ use Rattle.ld_trace.specs.declared.event.Event.{Event}
 use Rattle.ld_trace.specs.Modes.{is_read}
 use Rattle.ld_task.specs.Chains.{ChainParts}
 use Rattle.ld_task.specs.declared.lock.Lock.{Lock}
-use Rattle.ld_graph.specs.FactBits.{FactParts, HasFact}
-use Rattle.ld_graph.specs.declared.fact.Fact.{Fact}
+use Rattle.ld_facts.specs.FactBits.{FactParts, HasFact}
+use Rattle.ld_facts.specs.declared.fact.Fact.{Fact}
 use Rattle.ld_explain.specs.Notes.{GuardParts, Guarded, HasGuard}
 use Rattle.ld_explain.specs.declared.guard.Guard.{Guard}
 use Rattle.ld_explain.specs.declared.origins.Origin.{Origin}

@@ -1,9 +1,9 @@
 -- How an explanation grows.
 use Rattle.std.specs.Prelude.{◌≡◌, ◌↔◌, ◌⊎◌, ℕ, zero, suc, Contains, List, [], ◌∷◌, ◌++◌, Option, None, Some, codes, length}
 use Rattle.ld_trace.specs.declared.event.Irq.{Irq}
-use Rattle.ld_graph.specs.Arrows.{Arrow}
-use Rattle.ld_graph.specs.FactBits.{FactParts, HasFact}
-use Rattle.ld_graph.specs.Facts.{DependenciesOf}
+use Rattle.ld_facts.specs.Arrows.{Arrow}
+use Rattle.ld_facts.specs.FactBits.{FactParts, HasFact}
+use Rattle.ld_facts.specs.Facts.{DependenciesOf}
 use Rattle.ld_graph.specs.Walks.{IsShortestFrom}
 use Rattle.ld_text.specs.Explanation.{AreTold, IsTold, Told}
 use Rattle.ld_text.specs.Found.{FoundParts}

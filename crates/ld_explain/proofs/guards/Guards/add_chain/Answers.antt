@@ -1,5 +1,5 @@
 use Rattle.std.proofs.Common.{◌≡◌, ℕ, ◌+◌, ◌-◌, ◌∙◌, arith, refl, subst}
-use Rattle.ld_graph.specs.ChainFacts.{fact_slots}
+use Rattle.ld_facts.specs.ChainFacts.{fact_slots}
 use Rattle.ld_explain.specs.Notes.{GuardParts}
 use Rattle.ld_explain.specs.Inside.Firsts.{SeenFrom}
 use Rattle.ld_explain.specs.Inside.Guarding.{AreGuards, Asked}

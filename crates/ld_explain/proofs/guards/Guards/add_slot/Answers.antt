@@ -3,8 +3,8 @@ use Rattle.std.proofs.lemmas.Bool.{true≢false}
 use Rattle.std.proofs.lemmas.Option.{none-some, same_Some}
 use Rattle.ld_trace.specs.declared.event.Event.{Event}
 use Rattle.ld_task.specs.TraceChains.{chain}
-use Rattle.ld_graph.specs.ChainFacts.{slot_held}
-use Rattle.ld_graph.specs.FactBits.{HasFact}
+use Rattle.ld_facts.specs.ChainFacts.{slot_held}
+use Rattle.ld_facts.specs.FactBits.{HasFact}
 use Rattle.ld_explain.specs.Inside.Firsts.{SeenFrom, slot_origin}
 use Rattle.ld_explain.specs.Inside.Guarding.{AreGuards, Asked, GuardsAt, PutsGuard}
 use Rattle.ld_explain.proofs.Gates.{gates-guard}

@@ -1,5 +1,5 @@
 use Rattle.std.proofs.Common.{refl}
-use Rattle.ld_graph.specs.Arrows.{arrow}
+use Rattle.ld_facts.specs.Arrows.{arrow}
 use Rattle.ld_explain.proofs.Passing.{tells_none}
 use Rattle.ld_explain.proofs.guards.Guards.has_gates.Goals as goal
 

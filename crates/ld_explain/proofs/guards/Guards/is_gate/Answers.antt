@@ -1,5 +1,5 @@
 use Rattle.std.proofs.Common.{◌∙◌, ap, refl}
-use Rattle.ld_graph.specs.Arrows.{arrow}
+use Rattle.ld_facts.specs.Arrows.{arrow}
 use Rattle.ld_explain.specs.Inside.Guarding.{is_among}
 use Rattle.ld_explain.proofs.Passing.{tells_gate}
 use Rattle.ld_explain.proofs.guards.Guards.is_gate.Goals as goal

@@ -1,5 +1,5 @@
 use Rattle.std.proofs.Common.{refl}
-use Rattle.ld_graph.specs.Arrows.{arrow}
+use Rattle.ld_facts.specs.Arrows.{arrow}
 use Rattle.ld_explain.proofs.guards.Guards.only_trace.Goals as goal
 
 pub returns-in-Some : goal.returns-in-Some

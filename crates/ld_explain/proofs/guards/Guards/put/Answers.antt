@@ -1,6 +1,6 @@
 use Rattle.std.proofs.Common.{◌∙◌, ap, cond, eqb, subst, sym, Some}
 use Rattle.std.specs.Map.{lookup}
-use Rattle.ld_graph.specs.FactBits.{FactBelow}
+use Rattle.ld_facts.specs.FactBits.{FactBelow}
 use Rattle.ld_explain.specs.Notes.{GuardParts}
 use Rattle.ld_explain.specs.Inside.Guarding.{IsGuardWith, PutsGuard}
 use Rattle.ld_explain.proofs.Kept.{puts-guard}

@@ -2,7 +2,7 @@ use Rattle.std.proofs.Common.{◌<◌, ◌∷◌, [], sym, arith, length, map, s
 use Rattle.std.proofs.lemmas.List.{take_all}
 use Rattle.std.proofs.lemmas.Option.{get_or_from_slice_get}
 use Rattle.json.specs.Token.{string}
-use Rattle.ld_graph.specs.Arrows.{Arrow, arrow}
+use Rattle.ld_facts.specs.Arrows.{Arrow, arrow}
 use Rattle.ld_text.specs.Inside.Tokens.{Adds}
 use Rattle.ld_text.specs.Words.{key_text, name_at}
 use Rattle.ld_text.proofs.JsonLemmas.{Adds-next, Adds-none, Adds-ok}

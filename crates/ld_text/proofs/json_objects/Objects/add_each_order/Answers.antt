@@ -1,7 +1,7 @@
 use Rattle.std.proofs.Common.{◌<◌, sym, arith, length, subst}
 use Rattle.std.proofs.lemmas.List.{take_all}
 use Rattle.std.proofs.lemmas.Option.{get_or_from_slice_get}
-use Rattle.ld_graph.specs.Arrows.{Arrow, arrow}
+use Rattle.ld_facts.specs.Arrows.{Arrow, arrow}
 use Rattle.ld_text.specs.Groups.{InTurn}
 use Rattle.ld_text.specs.Inside.Tokens.{Takes}
 use Rattle.ld_text.specs.Json.{IsOrder}

@@ -1,9 +1,9 @@
 use Rattle.std.proofs.Common.{◌∙◌, map, string_bytes, subst, sym}
 use Rattle.std.proofs.lemmas.Result.{on_ok_weaker}
 use Rattle.ld_task.specs.declared.mark.Mark.TheVariants.{UsedIn, Enabled}
-use Rattle.ld_graph.specs.FactBits.{HasFact}
+use Rattle.ld_facts.specs.FactBits.{HasFact}
 use Rattle.ld_graph.specs.Links.{IsShortestInversion, link_by}
-use Rattle.ld_graph.specs.declared.fact.Fact.TheVariants.{Marked}
+use Rattle.ld_facts.specs.declared.fact.Fact.TheVariants.{Marked}
 use Rattle.ld_explain.specs.Origins.{IsFirst}
 use Rattle.ld_text.specs.Explanation.{AreGateNotes}
 use Rattle.ld_text.proofs.JsonLemmas.{inversion-takes}

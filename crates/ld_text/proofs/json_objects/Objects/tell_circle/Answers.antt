@@ -1,6 +1,6 @@
 use Rattle.std.proofs.Common.{◌∷◌, [], None, Some, subst, sym}
 use Rattle.std.proofs.lemmas.Result.{on_ok_weaker}
-use Rattle.ld_graph.specs.FactBits.{HasFact}
+use Rattle.ld_facts.specs.FactBits.{HasFact}
 use Rattle.ld_text.specs.Inside.Telling.{ChoosesCircle, TellsCircles}
 use Rattle.ld_text.specs.Json.{IsCircleObject, IsLineOf}
 use Rattle.ld_text.proofs.TellingLemmas.{TellsCircles-off, TellsCircles-on, had-told, not_had-not_told, shortest-are, shortest-some}

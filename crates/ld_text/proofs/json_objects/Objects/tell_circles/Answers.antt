@@ -1,6 +1,6 @@
 use Rattle.std.proofs.Common.{◌∙◌, ℕ, ◌+◌, arith, subst, sym}
 use Rattle.std.proofs.lemmas.List.{take_all}
-use Rattle.ld_graph.specs.FactBits.{HasFact}
+use Rattle.ld_facts.specs.FactBits.{HasFact}
 use Rattle.ld_graph.specs.Walks.{OnCircle}
 use Rattle.ld_text.specs.Inside.Telling.{TellsCircles}
 use Rattle.ld_text.specs.Json.{IsCircleObject, IsLineOf}

@@ -1,5 +1,5 @@
 use Rattle.std.proofs.Common.{subst, sym}
-use Rattle.ld_graph.specs.FactBits.{HasFact}
+use Rattle.ld_facts.specs.FactBits.{HasFact}
 use Rattle.ld_graph.specs.Links.{IsInversion}
 use Rattle.ld_text.specs.Json.{IsInversionObject, IsLineOf}
 use Rattle.ld_text.proofs.GroupLemmas.{GrowsBy-more_item, GrowsBy-none}

@@ -1,6 +1,6 @@
 use Rattle.std.proofs.Common.{ap, map, string_bytes, subst}
 use Rattle.std.proofs.lemmas.Result.{on_ok_weaker}
-use Rattle.ld_graph.specs.FactBits.{HasFact}
+use Rattle.ld_facts.specs.FactBits.{HasFact}
 use Rattle.ld_graph.specs.Links.{IsShortestInversion, link_by}
 use Rattle.ld_text.specs.Explanation.{AreGateNotes}
 use Rattle.ld_text.proofs.NoteLemmas.{lines-grow}

@@ -1,5 +1,5 @@
 use Rattle.std.proofs.Common.{take, string_bytes}
-use Rattle.ld_graph.specs.FactBits.{HasFact}
+use Rattle.ld_facts.specs.FactBits.{HasFact}
 use Rattle.ld_text.specs.Explanation.{IsInversionBlock}
 use Rattle.ld_text.specs.Groups.{GrowsBy, InTurn}
 use Rattle.ld_text.proofs.teller.Teller.add_inversions.Given as goal

@@ -1,7 +1,7 @@
 use Rattle.std.proofs.Common.{◌≡◌, ◌∙◌, subst, sym}
 use Rattle.std.proofs.lemmas.Bool.{true≢false}
 use Rattle.std.proofs.lemmas.Option.{none-some, same_Some}
-use Rattle.ld_graph.specs.Arrows.{Arrow, arrow}
+use Rattle.ld_facts.specs.Arrows.{Arrow, arrow}
 use Rattle.ld_explain.specs.Notes.{IsAloneIn}
 use Rattle.ld_text.proofs.NoteLemmas.{alone-member}
 use Rattle.ld_text.proofs.teller.Teller.alone_in.Goals as goal

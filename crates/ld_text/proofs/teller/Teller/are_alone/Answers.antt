@@ -1,7 +1,7 @@
 use Rattle.std.proofs.Common.{◌∙◌, arith, refl, subst, sym}
 use Rattle.std.proofs.lemmas.Bool.{true≢false}
 use Rattle.std.proofs.lemmas.List.{take_all}
-use Rattle.ld_graph.specs.Arrows.{Arrow, arrow}
+use Rattle.ld_facts.specs.Arrows.{Arrow, arrow}
 use Rattle.ld_explain.specs.Notes.{IsAloneIn}
 use Rattle.ld_text.proofs.NoteLemmas.{alone-member, alone-more, alone-none}
 use Rattle.ld_text.proofs.teller.Teller.are_alone.Goals as goal

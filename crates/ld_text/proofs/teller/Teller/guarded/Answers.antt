@@ -1,6 +1,6 @@
 use Rattle.std.proofs.Common.{◌<◌, sym, arith, length}
 use Rattle.std.proofs.lemmas.Option.{get_or_from_slice_get}
-use Rattle.ld_graph.specs.Arrows.{Arrow, arrow}
+use Rattle.ld_facts.specs.Arrows.{Arrow, arrow}
 use Rattle.ld_text.proofs.FindingLemmas.{AddsThose-more_item}
 use Rattle.ld_text.proofs.teller.Teller.guarded.Goals as goal
 

@@ -1,8 +1,8 @@
 use Rattle.std.proofs.Common.{IsFalse, ℕ, subst, sym}
-use Rattle.ld_graph.specs.Arrows.{arrow}
-use Rattle.ld_graph.specs.FactBits.{HasFact}
-use Rattle.ld_graph.specs.declared.fact.Fact.{Fact}
-use Rattle.ld_graph.specs.declared.fact.Fact.TheVariants.{Dependency}
+use Rattle.ld_facts.specs.Arrows.{arrow}
+use Rattle.ld_facts.specs.FactBits.{HasFact}
+use Rattle.ld_facts.specs.declared.fact.Fact.{Fact}
+use Rattle.ld_facts.specs.declared.fact.Fact.TheVariants.{Dependency}
 use Rattle.ld_explain.specs.Notes.{IsGate}
 use Rattle.ld_text.proofs.teller.Teller.has_gates.Goals as goal
 

@@ -1,7 +1,7 @@
 use Rattle.std.proofs.Common.{◌<◌, [], ℕ, arith, length, refl, subst, sym}
 use Rattle.std.proofs.lemmas.List.{take_all}
 use Rattle.std.proofs.lemmas.Option.{get_or_from_slice_get}
-use Rattle.ld_graph.specs.Arrows.{Arrow, arrow}
+use Rattle.ld_facts.specs.Arrows.{Arrow, arrow}
 use Rattle.ld_explain.specs.Notes.{IsGate}
 use Rattle.ld_text.specs.Found.{AreThose}
 use Rattle.ld_text.proofs.FindingLemmas.{AreThose-none_more}

@@ -1,5 +1,5 @@
 use Rattle.std.proofs.Common.{◌∷◌, [], string_bytes, subst, sym}
-use Rattle.ld_graph.specs.FactBits.{HasFact}
+use Rattle.ld_facts.specs.FactBits.{HasFact}
 use Rattle.ld_text.specs.Explanation.{IsCircleBlock}
 use Rattle.ld_text.specs.Inside.Telling.{TellsCircles}
 use Rattle.ld_text.proofs.TellingLemmas.{TellsCircles-off, TellsCircles-on, had-told, not_had-not_told, shortest-are, shortest-some}
