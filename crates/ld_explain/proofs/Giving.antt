@@ -61,13 +61,13 @@ module _ (t : List Event) (j : ℕ) where
   lock_there k i at = slice_get-map (lock_at t) (held_positions t j) k ∙ ap (option_map (lock_at t)) at
 
   -- and the lock at a place has a position
-  record HasPosition (k : ℕ) (lock : Lock) : Type 0 where
-    i : ℕ
-    at : slice_get (held_positions t j) k ≡ Some i
-    is_held : is_held t i j ≡ true
-    is : lock_at t i ≡ lock
+  pub record HasPosition (k : ℕ) (lock : Lock) : Type 0 where
+    pub i : ℕ
+    pub at : slice_get (held_positions t j) k ≡ Some i
+    pub is_held : is_held t i j ≡ true
+    pub is : lock_at t i ≡ lock
 
-  position_there : (k : ℕ) (lock : Lock) → slice_get (held_locks_at t j) k ≡ Some lock → HasPosition k lock
+  pub position_there : (k : ℕ) (lock : Lock) → slice_get (held_locks_at t j) k ≡ Some lock → HasPosition k lock
   unfolding held_locks_at
   position_there k lock h = by (slice_get (held_positions t j) k) refl
     where
@@ -84,13 +84,13 @@ module _ (t : List Event) (j : ℕ) where
       let taken = (and_parts (ltb i j && is_acquire (event t i)) _ kept).0 in
       ltb-true i j (and_parts (ltb i j) (is_acquire (event t i)) taken).0
 
-  record IsHeldThere (i : ℕ) : Type 0 where
-    k : ℕ
-    at : slice_get (held_positions t j) k ≡ Some i
-    lock : slice_get (held_locks_at t j) k ≡ Some (lock_at t i)
-    has : Contains (held_locks_at t j) (lock_at t i)
+  pub record IsHeldThere (i : ℕ) : Type 0 where
+    pub k : ℕ
+    pub at : slice_get (held_positions t j) k ≡ Some i
+    pub lock : slice_get (held_locks_at t j) k ≡ Some (lock_at t i)
+    pub has : Contains (held_locks_at t j) (lock_at t i)
 
-  held_there : (i : ℕ) → is_held t i j ≡ true → IsHeldThere i
+  pub held_there : (i : ℕ) → is_held t i j ≡ true → IsHeldThere i
   held_there i h =
       let (k, at) = positions_below-has (λ m. is_held t m j) j i (held_before i h) h in
       let lock = lock_there k i at in
@@ -325,7 +325,7 @@ module _ (t : List Event) (j : ℕ) where
       by (Some (TurnOff irq)) here e = absurd (cc)
 
   -- its held locks are those held there
-  chain_held : (c : ChainParts) → chain t j ≡ Some c → held_locks_at t j ≡ c.held_locks
+  pub chain_held : (c : ChainParts) → chain t j ≡ Some c → held_locks_at t j ≡ c.held_locks
   unfolding chain_of
   chain_held c is = by (event t j) refl is
     where

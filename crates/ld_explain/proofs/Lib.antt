@@ -1,6 +1,11 @@
 pub mod Puts
 pub mod Firsts
+pub mod Gates
 pub mod Giving
+pub mod Guarding
 pub mod Keys
+pub mod Kept
+pub mod Passing
+pub mod Lists
 pub mod Slots
 pub mod Traces

@@ -34,11 +34,11 @@ module _ (traces : List (List Event)) (t : List Event) (trace place : ℕ) (c : 
       (λ x o. ((λ seen. inl seen), (λ h. elim h [ inl seen ↦ seen | inr (m, l, within, at, is) ↦ absurd (omega (arith, l, within)) ]))) firsts
 
   -- a slot more
-  more : (n : ℕ) (x : Fact) (o : Origin) → From (n + 1) x o → From n x o
+  pub more : (n : ℕ) (x : Fact) (o : Origin) → From (n + 1) x o → From n x o
   more n x o (inl seen) = inl seen
   more n x o (inr (m, l, within, at, is)) = inr (m, omega (arith, l), within, at, is)
 
-  less : (n : ℕ) (x : Fact) (o : Origin) → From n x o → From (n + 1) x o ⊎ ((chain_fact c n ≡ Some x) × (o ≡ slot_origin t trace place c n))
+  pub less : (n : ℕ) (x : Fact) (o : Origin) → From n x o → From (n + 1) x o ⊎ ((chain_fact c n ≡ Some x) × (o ≡ slot_origin t trace place c n))
   less n x o (inl seen) = inl (inl seen)
   less n x o (inr (m, l, within, at, is)) = elim (cases_eq m n) [
     | inl same ↦ inr (subst (λ k. chain_fact c k ≡ Some x) same at, subst (λ k. o ≡ slot_origin t trace place c k) same is)
@@ -180,30 +180,32 @@ module _ (traces : List (List Event)) (t : List Event) (trace place : ℕ) (c : 
     }
 
 -- an event that makes no chain
-module _ (traces : List (List Event)) (t : List Event) (trace place : ℕ) where
-  abbrev Seen : ℕ → Fact → Origin → Type 0
-  Seen n = SeenTo traces trace n
-
-  pub AreKept-none : (here : slice_get traces trace ≡ Some t) → chain t place ≡ None → (parts : OriginParts) (facts : FactParts) →
-      AreKept (Seen place) parts facts → AreKept (Seen (place + 1)) parts facts
-  AreKept-none here none parts facts kept = record {
-    firsts = AreFirsts-same (Seen place) (Seen (place + 1)) parts (λ x o. (up' x o, down x o)) kept.firsts;
-    known = kept.known;
-  }
-    where
-      up' : (x : Fact) (o : Origin) → Seen place x o → Seen (place + 1) x o
-      up' x o (occurs, inl earlier) = (occurs, inl earlier)
-      up' x o (occurs, inr (same, earlier)) = (occurs, inr (same, omega (arith, earlier)))
-
-      down : (x : Fact) (o : Origin) → Seen (place + 1) x o → Seen place x o
-      down x o (occurs, inl earlier) = (occurs, inl earlier)
-      down x o (occurs, inr (same, to)) = elim (cases_eq o.place place) [
+module _ (traces : List (List Event)) (t : List Event) (trace place : ℕ) (here : slice_get traces trace ≡ Some t) (none : chain t place ≡ None) where
+  -- nothing more is seen
+  pub seen_none : (x : Fact) (o : Origin) → SeenTo traces trace place x o ↔ SeenTo traces trace (place + 1) x o
+  seen_none x o = (
+    (λ (occurs, before). elim before [
+      | inl earlier ↦ (occurs, inl earlier)
+      | inr (same, earlier) ↦ (occurs, inr (same, omega (arith, earlier)))
+    ]),
+    (λ (occurs, before). elim before [
+      | inl earlier ↦ (occurs, inl earlier)
+      | inr (same, to) ↦ elim (cases_eq o.place place) [
         | inr ne ↦ (occurs, inr (same, omega (arith, to, ne)))
         | inl at ↦
             let same_trace : occurs.t ≡ t = same_Some occurs.t t (sym occurs.is_trace ∙ ap (slice_get traces) same ∙ here) in
             let gives : Gives t x place o.held = subst (λ p. Gives t x p o.held) at (subst (λ s. Gives s x o.place o.held) same_trace occurs.gives) in
             absurd (nothing_given t place none x o.held gives)
       ]
+    ]),
+  )
+
+  pub AreKept-none : (parts : OriginParts) (facts : FactParts) →
+      AreKept (SeenTo traces trace place) parts facts → AreKept (SeenTo traces trace (place + 1)) parts facts
+  AreKept-none parts facts kept = record {
+    firsts = AreFirsts-same (SeenTo traces trace place) (SeenTo traces trace (place + 1)) parts seen_none kept.firsts;
+    known = kept.known;
+  }
 
 -- what follows from what holds of a success holds of it
 pub after_ok : (P Q : Type 0) (r : Result (Unit {0}) AllocError) → (P → Q) → OnOk r P → OnOk r Q

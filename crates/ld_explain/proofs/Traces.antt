@@ -35,27 +35,37 @@ AreKept-none traces parts facts none no_fact = record {
     nowhere : (x : Fact) (o : Origin) → HasOrigin parts x o → ⊥
     nowhere x o (below, is) = none-some o (ap (lookup _) (sym none) ∙ is)
 
+-- at the start of a trace the same was seen as before it
+pub seen_start : (traces : List (List Event)) (trace : ℕ) (x : Fact) (o : Origin) → SeenBefore traces trace x o ↔ SeenTo traces trace zero x o
+seen_start traces trace x o = (
+  (λ (occurs, l). (occurs, inl l)),
+  (λ (occurs, before). elim before [ inl l ↦ (occurs, l) | inr (same, l) ↦ absurd (omega (arith, l)) ]),
+)
+
+-- and at its end the same as before the next one
+pub seen_end : (traces : List (List Event)) (trace : ℕ) (t : List Event) (place : ℕ) → slice_get traces trace ≡ Some t → length t ≤ place →
+    (x : Fact) (o : Origin) → SeenTo traces trace place x o ↔ SeenBefore traces (trace + 1) x o
+seen_end traces trace t place here past x o = (
+  (λ (occurs, before). elim before [ inl l ↦ (occurs, omega (arith, l)) | inr (same, l) ↦ (occurs, omega (arith, same)) ]),
+  (λ (occurs, l). elim (cases_eq o.trace trace) [
+    | inr ne ↦ (occurs, inl (omega (arith, l, ne)))
+    | inl same ↦
+        let same_trace : occurs.t ≡ t = same_Some occurs.t t (sym occurs.is_trace ∙ ap (slice_get traces) same ∙ here) in
+        let within = gives_within t x o.place o.held (subst (λ s. Gives s x o.place o.held) same_trace occurs.gives) in
+        (occurs, inr (same, omega (arith, within, past)))
+  ]),
+)
+
 module _ (traces : List (List Event)) (trace : ℕ) (parts : OriginParts) (facts : FactParts) where
   -- at the start of a trace
   pub AreKept-start : AreKept (SeenBefore traces trace) parts facts → AreKept (SeenTo traces trace zero) parts facts
-  AreKept-start = AreKept-same (SeenBefore traces trace) (SeenTo traces trace zero) parts facts (λ x o. (
-    (λ (occurs, l). (occurs, inl l)),
-    (λ (occurs, before). elim before [ inl l ↦ (occurs, l) | inr (same, l) ↦ absurd (omega (arith, l)) ]),
-  ))
+  AreKept-start = AreKept-same (SeenBefore traces trace) (SeenTo traces trace zero) parts facts (seen_start traces trace)
 
   -- and at its end
   pub AreKept-end : (t : List Event) (place : ℕ) → slice_get traces trace ≡ Some t → length t ≤ place →
       AreKept (SeenTo traces trace place) parts facts → AreKept (SeenBefore traces (trace + 1)) parts facts
-  AreKept-end t place here past = AreKept-same (SeenTo traces trace place) (SeenBefore traces (trace + 1)) parts facts (λ x o. (
-    (λ (occurs, before). elim before [ inl l ↦ (occurs, omega (arith, l)) | inr (same, l) ↦ (occurs, omega (arith, same)) ]),
-    (λ (occurs, l). elim (cases_eq o.trace trace) [
-      | inr ne ↦ (occurs, inl (omega (arith, l, ne)))
-      | inl same ↦
-          let same_trace : occurs.t ≡ t = same_Some occurs.t t (sym occurs.is_trace ∙ ap (slice_get traces) same ∙ here) in
-          let within = gives_within t x o.place o.held (subst (λ s. Gives s x o.place o.held) same_trace occurs.gives) in
-          (occurs, inr (same, omega (arith, within, past)))
-    ]),
-  ))
+  AreKept-end t place here past =
+      AreKept-same (SeenTo traces trace place) (SeenBefore traces (trace + 1)) parts facts (seen_end traces trace t place here past)
 
 -- ---- occurrences and facts
 has_place : (t : List Event) (x : Fact) → TraceHas t x → (place : ℕ) × (held : Option ℕ) × Gives t x place held
@@ -70,7 +80,7 @@ place_has t (Marked key mark) place (Some i) gives = inr gives.0
 place_has t (Marked key mark) place None gives = inl gives.0
 
 module _ (traces : List (List Event)) (x : Fact) where
-  occurs_somewhere : TracesHave traces x → (o : Origin) × Occurs traces x o
+  pub occurs_somewhere : TracesHave traces x → (o : Origin) × Occurs traces x o
   occurs_somewhere (k, t, l, at, has) =
       let (place, held, gives) = has_place t x has in
       (record { trace = k; place = place; held = held }, record { t = t; is_trace = slice_get-get_or traces k t l ∙ ap Some at; gives = gives })

@@ -27,8 +27,8 @@ module _ (P Q : Fact → Type 0) (same : AreSame P Q) where
     text_is = b.text_is;
   }
 
-  inversion-same : (told : Told) (x : Irq × (ℕ × ℕ)) (text : List ℕ) → IsInversionBlock P told x text → IsInversionBlock Q told x text
-  inversion-same told x text b = record {
+  inversion-same : (told : Told) (keys : List ℕ) (x : Irq × (ℕ × ℕ)) (text : List ℕ) → IsInversionBlock P told keys x text → IsInversionBlock Q told keys x text
+  inversion-same told keys x text b = record {
     walk = b.walk;
     l = b.l;
     by = IsShortestInversion-same P Q same x.0 x.1.0 x.1.1 b.l b.walk b.by;
@@ -59,7 +59,7 @@ module _ (P Q : Fact → Type 0) (same : AreSame P Q) where
               doubles,
               after_doubles,
               InTurn-same _ _ (double-same told) e.found.doubles doubles doubles_are,
-              (inversions, end, InTurn-same _ _ (inversion-same told) e.found.inversions inversions inversions_are, at_end, e4),
+              (inversions, end, InTurn-same _ _ (inversion-same told e.keys) e.found.inversions inversions inversions_are, at_end, e4),
               e3,
             ),
             e2,

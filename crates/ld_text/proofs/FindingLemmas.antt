@@ -33,6 +33,12 @@ module _ {X : Type 0} (P : X → Type 0) where
   AreThose-nothing never [] = refl
   AreThose-nothing never (x ∷ xs) = inr (never x, AreThose-nothing never xs)
 
+  -- nor of one thing more
+  pub AreThose-none_more : (xs : List X) (i : ℕ) (x : X) → x ≡ slice_index_or xs i x → i < length xs → AreThose P (take i xs) [] → ¬ P x → AreThose P (take (i + 1) xs) []
+  AreThose-none_more xs i x is within none isnt =
+      subst (λ ys. AreThose P ys []) (sym (take_more xs i x within))
+      (AreThose-append (take i xs) (slice_index_or xs i x ∷ []) [] [] none (inr (subst (λ y. ¬ P y) is isnt, refl)))
+
   pub AddsThose-none : (old : List X) → AddsThose P [] old old
   AddsThose-none old = record { those = []; are = refl; grew = sym (append-nil old) }
 
@@ -69,6 +75,13 @@ module _ {X : Type 0} (P : X → Type 0) where
       AddsThose P (flat_map f (take i keys)) old mid → AddsThose P (f y) mid new → AddsThose P (flat_map f (take (i + 1) keys)) old new
   AddsThose-next_item f keys i y old mid new is within first more =
       AddsThose-next f keys i y old mid new within first (subst (λ z. AddsThose P (f z) mid new) is more)
+
+  -- one thing more of a list itself
+  pub AddsThose-more_item : (xs : List X) (i : ℕ) (x : X) (old mid new : List X) → x ≡ slice_index_or xs i x → i < length xs →
+      AddsThose P (take i xs) old mid → AddsThose P (x ∷ []) mid new → AddsThose P (take (i + 1) xs) old new
+  AddsThose-more_item xs i x old mid new is within first more =
+      subst (λ ys. AddsThose P ys old new) (sym (take_more xs i x within))
+      (AddsThose-append (take i xs) (slice_index_or xs i x ∷ []) old mid new first (subst (λ z. AddsThose P (z ∷ []) mid new) is more))
 
   -- the same where it leads to one
   pub AddsThose-map_next : {Y : Type 0} (f : Y → X) (keys : List Y) (i : ℕ) (d : Y) (old mid new : List X) → i < length keys →

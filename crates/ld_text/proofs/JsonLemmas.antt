@@ -1,7 +1,8 @@
 -- What is written of JSON, token by token.
-use Rattle.std.proofs.Common.{◌≡◌, Bool, ℕ, ◌+◌, ◌<◌, List, [], ◌∷◌, ◌++◌, Result, Ok, Err, OnOk, length, map, slice_index_or, take, refl, sym, ap, ◌∙◌, subst}
+use Rattle.std.proofs.Common.{◌≡◌, Bool, ℕ, ◌+◌, ◌<◌, List, [], ◌∷◌, ◌++◌, Result, Ok, Err, OnOk, codes, length, map, slice_index_or, take, refl, sym, ap, ◌∙◌, subst}
 use Rattle.std.proofs.lemmas.List.{append_assoc, append-nil, map-append, take_more}
 use Rattle.json.specs.Token.{Token}
+use Rattle.json.specs.Print.{print}
 use Rattle.json.specs.Written.{Writes, Written}
 use Rattle.ld_trace.specs.declared.event.Irq.{Irq}
 use Rattle.ld_task.specs.Kinds.{is_r-kind_of_letters, is_s-kind_of_letters}
@@ -14,8 +15,9 @@ use Rattle.ld_facts.specs.declared.fact.Fact.{Fact}
 use Rattle.ld_facts.specs.declared.fact.Fact.TheVariants.{Marked}
 use Rattle.ld_explain.specs.Origins.{IsFirst}
 use Rattle.ld_explain.specs.declared.origins.Origin.{Origin}
-use Rattle.ld_text.specs.Explanation.{Told}
-use Rattle.ld_text.specs.Groups.{InSequence, InTurn}
+use Rattle.ld_text.specs.Explanation.{AreGateNotes, Told}
+use Rattle.ld_text.specs.Words.{Text}
+use Rattle.ld_text.specs.Groups.{GrowsBy, InSequence, InTurn}
 use Rattle.ld_text.specs.Json.{IsDoubleObject, IsInversionObject, IsJson, IsLineOf, IsOrder, double_object, inversion_object}
 use Rattle.ld_text.specs.Inside.Tokens.{Adds, Takes}
 use Rattle.ld_text.proofs.ExplanationLemmas.{told-same}
@@ -58,6 +60,11 @@ Adds-next f xs i x old mid new is within before more =
     ∙ ap (λ y. map f (take i xs) ++ f y ∷ []) (sym is)))
     (Adds-then old mid new (map f (take i xs)) (f x ∷ []) before more)
 
+-- a list of texts by a token each
+pub map-twice : {X Y Z : Type 0} (f : X → Y) (g : Y → Z) (xs : List X) → map (λ x. g (f x)) xs ≡ map g (map f xs)
+map-twice f g [] = refl
+map-twice f g (x ∷ xs) = ap (λ t. g (f x) ∷ t) (map-twice f g xs)
+
 -- one thing more of a list, as R says
 pub Takes-next : {X : Type 0} (R : X → List Token → Type 0) (xs : List X) (i : ℕ) (x : X) (old mid new : Written) → x ≡ slice_index_or xs i x → i < length xs →
     Takes (InTurn R (take i xs)) old mid → Takes (R x) mid new → Takes (InTurn R (take (i + 1) xs)) old new
@@ -86,14 +93,14 @@ double-takes Has told irq lock enabled_read used_read used enabled old new by us
     }
 
 -- an inversion, by its walk and what its marks are
-pub inversion-takes : (Has : Fact → Type 0) (told : Told) (irq : Irq) (a b : ℕ) (enabled_read used_read : Bool) (walk : List Arrow) (used enabled : Origin) (old new : Written) →
+pub inversion-takes : (Has : Fact → Type 0) (told : Told) (keys : List ℕ) (irq : Irq) (a b : ℕ) (enabled_read used_read : Bool) (walk : List Arrow) (used enabled : Origin) (notes : List Text) (old new : Written) →
     IsShortestInversion Has irq a b (link_by b a enabled_read used_read) walk → IsFirst told.traces (Marked a (UsedIn irq used_read)) used →
     IsFirst told.traces (Marked b (Enabled irq enabled_read)) enabled →
-    Takes (λ tokens. (orders : List Token) × InTurn (IsOrder told) walk orders × (tokens ≡ inversion_object told (irq, (a, b)) orders used enabled)) old new →
-    Takes (IsInversionObject Has told (irq, (a, b))) old new
-inversion-takes Has told irq a b enabled_read used_read walk used enabled old new by used_first enabled_first takes =
+    Takes (λ tokens. (orders : List Token) × InTurn (IsOrder told) walk orders × (tokens ≡ inversion_object told (irq, (a, b)) orders used enabled notes)) old new →
+    AreGateNotes told keys walk notes → Takes (IsInversionObject Has told keys (irq, (a, b))) old new
+inversion-takes Has told keys irq a b enabled_read used_read walk used enabled notes old new by used_first enabled_first takes notes_are =
     let (orders, orders_are, is) = takes.grew.shows in
-    Adds-takes (IsInversionObject Has told (irq, (a, b))) old new takes.grew.part (Takes-adds _ old new takes) record {
+    Adds-takes (IsInversionObject Has told keys (irq, (a, b))) old new takes.grew.part (Takes-adds _ old new takes) record {
       walk = walk;
       l = link_by b a enabled_read used_read;
       by = by;
@@ -103,6 +110,8 @@ inversion-takes Has told irq a b enabled_read used_read walk used enabled old ne
       used_first = subst (λ r. IsFirst told.traces (Marked a (UsedIn irq r)) used) (sym (is_r-kind_of_letters enabled_read used_read)) used_first;
       enabled = enabled;
       enabled_first = subst (λ s. IsFirst told.traces (Marked b (Enabled irq s)) enabled) (sym (is_s-kind_of_letters enabled_read used_read)) enabled_first;
+      notes = notes;
+      notes_are = notes_are;
       tokens_are = is;
     }
 
@@ -123,8 +132,8 @@ module _ (P Q : Fact → Type 0) (same : AreSame P Q) where
     is,
   )
 
-  inversion-same : (told : Told) (x : Irq × (ℕ × ℕ)) (text : List ℕ) → IsLineOf (IsInversionObject P told x) text → IsLineOf (IsInversionObject Q told x) text
-  inversion-same told x text (tokens, d, is) = (
+  inversion-same : (told : Told) (keys : List ℕ) (x : Irq × (ℕ × ℕ)) (text : List ℕ) → IsLineOf (IsInversionObject P told keys x) text → IsLineOf (IsInversionObject Q told keys x) text
+  inversion-same told keys x text (tokens, d, is) = (
     tokens,
     record {
       walk = d.walk;
@@ -136,6 +145,8 @@ module _ (P Q : Fact → Type 0) (same : AreSame P Q) where
       used_first = d.used_first;
       enabled = d.enabled;
       enabled_first = d.enabled_first;
+      notes = d.notes;
+      notes_are = d.notes_are;
       tokens_are = d.tokens_are;
     },
     is,
@@ -161,7 +172,7 @@ module _ (P Q : Fact → Type 0) (same : AreSame P Q) where
             doubles,
             after_doubles,
             InTurn-same _ _ (double-same told) e.found.doubles doubles doubles_are,
-            (inversions, end, InTurn-same _ _ (inversion-same told) e.found.inversions inversions inversions_are, at_end, e3),
+            (inversions, end, InTurn-same _ _ (inversion-same told e.keys) e.found.inversions inversions inversions_are, at_end, e3),
             e2,
           ),
           e1,

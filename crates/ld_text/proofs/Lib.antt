@@ -1,4 +1,5 @@
 pub mod OutputLemmas
+pub mod NoteLemmas
 pub mod OrderLemmas
 pub mod GroupLemmas
 pub mod BecauseLemmas

@@ -12,11 +12,11 @@ use Rattle.ld_facts.specs.FactBits.{FactParts, HasFact}
 use Rattle.ld_graph.specs.FactLaws.{StrongWalk-members}
 use Rattle.ld_facts.specs.ListLaws.{Any-push}
 use Rattle.ld_facts.specs.Facts.{Adds, DependenciesOf}
-use Rattle.ld_graph.specs.Links.{IsDoubleBy, IsShortestInversion, link_by}
+use Rattle.ld_graph.specs.Links.{IsDoubleBy, IsLink, IsShortestInversion, link_by}
 use Rattle.ld_graph.specs.Walks.{IsShortestFrom}
 use Rattle.ld_facts.specs.declared.fact.Fact.{Fact}
 use Rattle.ld_facts.specs.declared.fact.Fact.TheVariants.{Dependency, Marked}
-use Rattle.ld_text.specs.Explanation.{AreTold, IsDependencyLine, IsDoubleBlock, IsEnabledLine, IsInversionBlock, IsOriginLine, IsTold, IsUsedLine, Told, comes_line, holds_line, waits_line, waits_text}
+use Rattle.ld_text.specs.Explanation.{AreGateNotes, AreNoteLines, AreTold, IsDependencyLine, IsDoubleBlock, IsEnabledLine, IsInversionBlock, IsOriginLine, IsTold, IsUsedLine, Told, comes_line, holds_line, waits_line, waits_text}
 use Rattle.ld_text.specs.Groups.{GrowsBy, InSequence, InTurn}
 use Rattle.ld_text.specs.Inside.Telling.{HasMembers, TellsCircles}
 use Rattle.ld_text.specs.Report.{double_line, inversion_line}
@@ -234,16 +234,17 @@ double-grows Has told irq key enabled used old headed with_used with_enabled hel
     (GrowsBy-then _ _ with_enabled new new (GrowsBy-line _ with_enabled new end) (GrowsBy-none new)))) in
     record { part = all.part; shows = record { l = link_by key key enabled used; by = by; text_is = all.shows }; grew = all.grew }
 
-pub inversion-grows : (Has : Fact → Type 0) (told : Told) (irq : Irq) (a b : ℕ) (enabled used : Bool) (walk : List Arrow) (old headed walked with_used with_enabled held waiting new : List ℕ) →
+pub inversion-grows : (Has : Fact → Type 0) (told : Told) (keys : List ℕ) (irq : Irq) (a b : ℕ) (enabled used : Bool) (walk : List Arrow) (old headed walked with_used with_enabled held waiting come_in new : List ℕ) →
     IsShortestInversion Has irq a b (link_by b a enabled used) walk →
     headed ≡ old ++ (codes "\n" ++ inversion_line told.names irq a b) →
     GrowsBy (InTurn (IsDependencyLine told) walk) headed walked →
     GrowsBy (IsOriginLine told (codes "used in " ++ irq_text irq) (Marked a (UsedIn irq used))) walked with_used →
     GrowsBy (IsOriginLine told (codes "used with " ++ (irq_text irq ++ codes "s on")) (Marked b (Enabled irq enabled))) with_used with_enabled →
-    held ≡ with_enabled ++ holds_line told.names b → waiting ≡ held ++ waits_text told.names 2 walk → new ≡ waiting ++ comes_line told.names irq a →
-    GrowsBy (IsInversionBlock Has told (irq, (a, b))) old new
-inversion-grows Has told irq a b enabled used walk old headed walked with_used with_enabled held waiting new by head walks used_in used_with hold wait come =
-    let end : new ≡ with_enabled ++ (holds_line told.names b ++ (waits_text told.names 2 walk ++ comes_line told.names irq a)) =
+    held ≡ with_enabled ++ holds_line told.names b → waiting ≡ held ++ waits_text told.names 2 walk → come_in ≡ waiting ++ comes_line told.names irq a →
+    GrowsBy (AreNoteLines (AreGateNotes told keys walk)) come_in new →
+    GrowsBy (IsInversionBlock Has told keys (irq, (a, b))) old new
+inversion-grows Has told keys irq a b enabled used walk old headed walked with_used with_enabled held waiting come_in new by head walks used_in used_with hold wait come notes =
+    let end : come_in ≡ with_enabled ++ (holds_line told.names b ++ (waits_text told.names 2 walk ++ comes_line told.names irq a)) =
     come ∙ ap (λ t. t ++ comes_line told.names irq a) wait
     ∙ append_assoc held (waits_text told.names 2 walk) (comes_line told.names irq a)
     ∙ ap (λ t. t ++ (waits_text told.names 2 walk ++ comes_line told.names irq a)) hold
@@ -252,7 +253,8 @@ inversion-grows Has told irq a b enabled used walk old headed walked with_used w
     (GrowsBy-then _ _ headed walked new walks
     (GrowsBy-then _ _ walked with_used new (used_line told irq a b a enabled used walked with_used used_in)
     (GrowsBy-then _ _ with_used with_enabled new (enabled_line told irq b b a enabled used with_used with_enabled used_with)
-    (GrowsBy-then _ _ with_enabled new new (GrowsBy-line _ with_enabled new end) (GrowsBy-none new))))) in
+    (GrowsBy-then _ _ with_enabled come_in new (GrowsBy-line _ with_enabled come_in end)
+    (GrowsBy-then _ _ come_in new new notes (GrowsBy-none new)))))) in
     record { part = all.part; shows = record { walk = walk; l = link_by b a enabled used; by = by; text_is = all.shows }; grew = all.grew }
 
 -- the walk of an inversion is of dependencies

@@ -1,5 +1,5 @@
 -- The text of `explain`: what was found, and the records that it comes from [this project's own].
-use Rattle.std.specs.Prelude.{◌≡◌, ◌⊎◌, ℕ, suc, ◌+◌, List, [], ◌∷◌, ◌++◌, Option, Some, None, Any, Contains, length, flat_map, codes, decimal, slice_get, unwrap_or}
+use Rattle.std.specs.Prelude.{◌≡◌, ◌⊎◌, ℕ, suc, ◌+◌, ◌<◌, ◌≤◌, List, [], ◌∷◌, ◌++◌, Option, Some, None, Any, Contains, length, flat_map, codes, decimal, slice_get, unwrap_or}
 use Rattle.ld_text.specs.Words.{Text}
 use Rattle.ld_trace.specs.Names.{Name}
 use Rattle.ld_trace.specs.declared.event.Event.{Event}
@@ -14,10 +14,11 @@ use Rattle.ld_graph.specs.Walks.{IsShortestFrom}
 use Rattle.ld_facts.specs.declared.fact.Fact.{Fact}
 use Rattle.ld_facts.specs.declared.fact.Fact.TheVariants.{Dependency, Marked}
 use Rattle.ld_facts.specs.TraceFacts.{TracesHave}
+use Rattle.ld_explain.specs.Notes.{IsAloneIn, IsGate}
 use Rattle.ld_explain.specs.Origins.{IsFirst}
 use Rattle.ld_explain.specs.declared.origins.Origin.{Origin}
 use Rattle.ld_text.specs.ChainLines.{taken_text}
-use Rattle.ld_text.specs.Found.{AreFound, FoundParts}
+use Rattle.ld_text.specs.Found.{AreFound, AreThose, FoundParts}
 use Rattle.ld_text.specs.Groups.{InSequence, InTurn}
 use Rattle.ld_text.specs.Order.{IsKeyOrder}
 use Rattle.ld_text.specs.Report.{double_line, inversion_line, member_text, total_line}
@@ -101,6 +102,46 @@ abbrev pub comes_line : List Name → Irq → (key : ℕ) → List ℕ
 comes_line names irq key = codes "  a " ++ (irq_text irq ++ (codes " comes in at task 1 and waits for "
     ++ (key_text (name_at names key) ++ codes "\n")))
 
+-- What speaks against it.
+
+-- dependencies, the first behind these words and each further one behind a comma
+abbrev pub listed_text : List Name → (before : List ℕ) → List Arrow → List ℕ
+listed_text names before [] = []
+listed_text names before (d ∷ ds) = before ++ (dependency_text names d ++ listed_text names (codes ", ") ds)
+
+-- the note that a lock of the key is held round these dependencies
+abbrev pub gate_note : List Name → (gate : ℕ) → List Arrow → Text
+gate_note names gate guarded = codes "always inside " ++ (key_text (name_at names gate) ++ listed_text names (codes ": ") guarded)
+
+-- there is one if the key is a gate of two members of the walk or more, and it names these in turn
+pub record IsGateNote (told : Told) (walk : List Arrow) (gate : ℕ) (notes : List Text) : Type 0 where
+  pub guarded : List Arrow
+  pub are : AreThose (λ d. IsGate told.traces d gate) walk guarded
+  pub notes_are : ((2 ≤ length guarded) × (notes ≡ gate_note told.names gate guarded ∷ [])) ⊎ ((length guarded < 2) × (notes ≡ []))
+
+-- the note that one trace has all occurrences of the dependencies of a walk
+abbrev pub alone_note : List Text → (trace : ℕ) → Text
+alone_note files trace = codes "only in " ++ file_at files trace
+
+abbrev pub IsAloneNote : Told → List Arrow → List Text → Type 0
+IsAloneNote told walk notes =
+    ((trace : ℕ) × IsAloneIn told.traces walk trace × (notes ≡ alone_note told.files trace ∷ []))
+    ⊎ (((trace : ℕ) → ¬ IsAloneIn told.traces walk trace) × (notes ≡ []))
+
+-- the notes of an inversion, one for each of the keys that is a gate, and those of a circle, with that of its trace
+abbrev pub AreGateNotes : Told → (keys : List ℕ) → List Arrow → List Text → Type 0
+AreGateNotes told keys walk = InTurn (IsGateNote told walk) keys
+
+abbrev pub AreCircleNotes : Told → (keys : List ℕ) → List Arrow → List Text → Type 0
+AreCircleNotes told keys walk = InSequence (AreGateNotes told keys walk ∷ IsAloneNote told walk ∷ [])
+
+-- the lines of notes such as these
+abbrev pub note_line : Text → List ℕ
+note_line note = codes "  note: " ++ (note ++ codes "\n")
+
+abbrev pub AreNoteLines : (List Text → Type 0) → List ℕ → Type 0
+AreNoteLines Are text = (notes : List Text) × Are notes × (text ≡ flat_map note_line notes)
+
 -- Blocks, each behind an empty line.
 
 -- the first line of a circle, from the key that its first member starts at
@@ -110,11 +151,12 @@ circle_head names (first ∷ rest) = codes "\ncircle " ++ (key_text (name_at nam
     ++ (flat_map (member_text names) (first ∷ rest) ++ codes "\n"))
 
 -- the block of a circle
-abbrev pub IsCircleBlock : Told → List Arrow → List ℕ → Type 0
-IsCircleBlock told walk = InSequence (
+abbrev pub IsCircleBlock : Told → (keys : List ℕ) → List Arrow → List ℕ → Type 0
+IsCircleBlock told keys walk = InSequence (
     (λ text. text ≡ circle_head told.names walk)
     ∷ InTurn (IsDependencyLine told) walk
     ∷ (λ text. text ≡ waits_text told.names 1 walk)
+    ∷ AreNoteLines (AreCircleNotes told keys walk)
     ∷ [])
 
 -- the block of a double, by a link that makes it one
@@ -129,7 +171,7 @@ pub record IsDoubleBlock (Has : Fact → Type 0) (told : Told) (double : Irq × 
       ∷ []) text
 
 -- the block of an inversion, by a shortest walk and a link that closes it
-pub record IsInversionBlock (Has : Fact → Type 0) (told : Told) (inversion : Irq × (ℕ × ℕ)) (text : List ℕ) : Type 0 where
+pub record IsInversionBlock (Has : Fact → Type 0) (told : Told) (keys : List ℕ) (inversion : Irq × (ℕ × ℕ)) (text : List ℕ) : Type 0 where
   pub walk : List Arrow
   pub l : Arrow
   pub by : IsShortestInversion Has inversion.0 inversion.1.0 inversion.1.1 l walk
@@ -140,6 +182,7 @@ pub record IsInversionBlock (Has : Fact → Type 0) (told : Told) (inversion : I
       ∷ IsEnabledLine told inversion.0 inversion.1.1 l
       ∷ (λ part. part ≡ holds_line told.names inversion.1.1
       ++ (waits_text told.names 2 walk ++ comes_line told.names inversion.0 inversion.1.0))
+      ∷ AreNoteLines (AreGateNotes told keys walk)
       ∷ []) text
 
 -- What is told.
@@ -167,9 +210,9 @@ pub record IsExplanation (Has : Fact → Type 0) (told : Told) (text : List ℕ)
   pub circles_are : AreTold Has [] found.circles circles
   pub text_is : InSequence (
       (λ part. part ≡ total_line (codes "findings") (length circles + length found.doubles + length found.inversions))
-      ∷ InTurn (IsCircleBlock told) circles
+      ∷ InTurn (IsCircleBlock told keys) circles
       ∷ InTurn (IsDoubleBlock Has told) found.doubles
-      ∷ InTurn (IsInversionBlock Has told) found.inversions
+      ∷ InTurn (IsInversionBlock Has told keys) found.inversions
       ∷ []) text
 
 -- the text explains what was found in these traces of these files

@@ -15,7 +15,7 @@ use Rattle.ld_facts.specs.declared.fact.Fact.TheVariants.{Dependency, Marked}
 use Rattle.ld_facts.specs.TraceFacts.{TracesHave}
 use Rattle.ld_explain.specs.Origins.{IsFirst}
 use Rattle.ld_explain.specs.declared.origins.Origin.{Origin}
-use Rattle.ld_text.specs.Explanation.{AreTold, Told, dependency_text, event_of}
+use Rattle.ld_text.specs.Explanation.{AreCircleNotes, AreGateNotes, AreTold, Told, dependency_text, event_of}
 use Rattle.ld_text.specs.Found.{AreFound, FoundParts}
 use Rattle.ld_text.specs.Groups.{InSequence, InTurn}
 use Rattle.ld_text.specs.Order.{IsKeyOrder}
@@ -93,24 +93,26 @@ double_words names irq lock = codes "double " ++ (irq_text irq ++ (codes " " ++ 
 abbrev pub inversion_words : List Name → Irq → (a b : ℕ) → List ℕ
 inversion_words names irq a b = codes "inversion " ++ (irq_text irq ++ (codes " " ++ (key_text (name_at names a) ++ (codes " " ++ key_text (name_at names b)))))
 
--- the notes, of which there are none yet
-abbrev pub notes : List Token
-notes = list_member (codes "notes") []
+-- the notes
+abbrev pub notes_member : List Text → List Token
+notes_member notes = list_member (codes "notes") (map string notes)
 
 -- a circle, with where each of its dependencies first occurs
-abbrev pub circle_object : List Name → List Arrow → (orders : List Token) → List Token
-circle_object names walk orders = object (
+abbrev pub circle_object : List Name → List Arrow → (orders : List Token) → (notes : List Text) → List Token
+circle_object names walk orders notes = object (
     text_member (codes "type") (codes "circle")
     ∷ list_member (codes "keys") (map (λ d. string (key_text (name_at names d.start))) walk)
     ∷ list_member (codes "lines") (map (λ d. string (circle_words names d)) walk)
     ∷ list_member (codes "orders") orders
-    ∷ notes
+    ∷ notes_member notes
     ∷ [])
 
-pub record IsCircleObject (told : Told) (walk : List Arrow) (tokens : List Token) : Type 0 where
+pub record IsCircleObject (told : Told) (keys : List ℕ) (walk : List Arrow) (tokens : List Token) : Type 0 where
   pub orders : List Token
   pub orders_are : InTurn (IsOrder told) walk orders
-  pub tokens_are : tokens ≡ circle_object told.names walk orders
+  pub notes : List Text
+  pub notes_are : AreCircleNotes told keys walk notes
+  pub tokens_are : tokens ≡ circle_object told.names walk orders notes
 
 -- where the lower lock's key is used in the state, and where the upper's is used with it enabled
 abbrev pub use_members : Told → (used enabled : Origin) → List Token
@@ -136,18 +138,18 @@ pub record IsDoubleObject (Has : Fact → Type 0) (told : Told) (double : Irq ×
   pub tokens_are : tokens ≡ double_object told double used enabled
 
 -- an inversion
-abbrev pub inversion_object : Told → Irq × (ℕ × ℕ) → (orders : List Token) → (used enabled : Origin) → List Token
-inversion_object told inversion orders used enabled = object (
+abbrev pub inversion_object : Told → Irq × (ℕ × ℕ) → (orders : List Token) → (used enabled : Origin) → (notes : List Text) → List Token
+inversion_object told inversion orders used enabled notes = object (
     text_member (codes "type") (codes "inversion")
     ∷ text_member (codes "irq") (irq_text inversion.0)
     ∷ list_member (codes "keys") (string (key_text (name_at told.names inversion.1.0)) ∷ string (key_text (name_at told.names inversion.1.1)) ∷ [])
     ∷ list_member (codes "lines") (string (inversion_words told.names inversion.0 inversion.1.0 inversion.1.1) ∷ [])
     ∷ list_member (codes "orders") orders
     ∷ use_members told used enabled
-    ∷ notes
+    ∷ notes_member notes
     ∷ [])
 
-pub record IsInversionObject (Has : Fact → Type 0) (told : Told) (inversion : Irq × (ℕ × ℕ)) (tokens : List Token) : Type 0 where
+pub record IsInversionObject (Has : Fact → Type 0) (told : Told) (keys : List ℕ) (inversion : Irq × (ℕ × ℕ)) (tokens : List Token) : Type 0 where
   pub walk : List Arrow
   pub l : Arrow
   pub by : IsShortestInversion Has inversion.0 inversion.1.0 inversion.1.1 l walk
@@ -157,7 +159,9 @@ pub record IsInversionObject (Has : Fact → Type 0) (told : Told) (inversion : 
   pub used_first : IsFirst told.traces (Marked inversion.1.0 (UsedIn inversion.0 (is_r l.kind))) used
   pub enabled : Origin
   pub enabled_first : IsFirst told.traces (Marked inversion.1.1 (Enabled inversion.0 (is_s l.kind))) enabled
-  pub tokens_are : tokens ≡ inversion_object told inversion orders used enabled
+  pub notes : List Text
+  pub notes_are : AreGateNotes told keys walk notes
+  pub tokens_are : tokens ≡ inversion_object told inversion orders used enabled notes
 
 -- The whole text.
 
@@ -175,9 +179,9 @@ pub record IsJson (Has : Fact → Type 0) (told : Told) (text : List ℕ) : Type
   pub circles_are : AreTold Has [] found.circles circles
   pub lines : List ℕ
   pub lines_are : InSequence (
-      InTurn (λ walk. IsLineOf (IsCircleObject told walk)) circles
+      InTurn (λ walk. IsLineOf (IsCircleObject told keys walk)) circles
       ∷ InTurn (λ double. IsLineOf (IsDoubleObject Has told double)) found.doubles
-      ∷ InTurn (λ inversion. IsLineOf (IsInversionObject Has told inversion)) found.inversions
+      ∷ InTurn (λ inversion. IsLineOf (IsInversionObject Has told keys inversion)) found.inversions
       ∷ []) lines
   -- the first line has no comma before it
   pub text_is : text ≡ codes "{\"lockdep\":1,\"findings\":[" ++ (drop 1 lines ++ codes "\n]}\n")

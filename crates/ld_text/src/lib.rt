@@ -3,12 +3,18 @@
 #![tactic(auto)]
 
 mod because;
+mod blocks;
 mod chains_text;
 mod edges;
 mod explanation;
 mod found;
+mod json_lines;
+mod json_members;
+mod json_objects;
 mod json_text;
 mod key_texts;
+mod lines;
+mod notes;
 mod order;
 mod output;
 mod picture;

@@ -1,23 +1,25 @@
 //! What findings are told from: the facts, where each first occurs, and the circles that are told of.
 
-ghost use Rattle.std.specs.Prelude.{◌≡◌, ◌<◌, ◌⊎◌, ◌↔◌, ℕ, All, Contains, Option, None, Some, length, slice_get};
+ghost use Rattle.std.specs.Prelude.{◌≡◌, ◌<◌, ◌⊎◌, ◌↔◌, ◌∷◌, [], ℕ, All, Contains, IsFalse, IsTrue, Option, None, Some, length, slice_get};
 ghost use Rattle.ld_trace.specs.declared.event.Irq.{Irq};
 ghost use Rattle.ld_facts.specs.Arrows.{Arrow, arrow};
 ghost use Rattle.ld_facts.specs.FactBits.{FactBelow, HasFact};
 ghost use Rattle.ld_facts.specs.Facts.{DependenciesOf};
 ghost use Rattle.ld_graph.specs.Walks.{OnCircle};
 ghost use Rattle.ld_facts.specs.declared.fact.Fact.{Fact};
+ghost use Rattle.ld_explain.specs.Notes.{IsAloneIn, IsGate};
 ghost use Rattle.ld_explain.specs.Origins.{IsFirst};
 ghost use Rattle.ld_task.specs.declared.mark.Mark.{Mark};
 ghost use Rattle.ld_text.specs.Explanation.{event_of};
 ghost use Rattle.ld_text.specs.Inside.Telling.{ChoosesCircle};
 
 use crate::found::Dependency;
-use ld_explain::{Origin, Origins};
-use ld_facts::{Fact, Facts};
+use ld_explain::{Guards, Origin, Origins};
 use ld_graph::{Kind, Mark, Walk};
+use ld_facts::{Fact, Facts};
 use ld_run::Settled;
 use ld_trace::{Event, KeyId, KeyTable, RawTrace};
+use std::alloc::Global;
 use std::marker::Model;
 
 /// The facts, what they mean, and what their origins are told from.
@@ -25,9 +27,13 @@ use std::marker::Model;
 pub(crate) struct Teller<'a> {
     pub settled: &'a Settled,
     pub origins: &'a Origins,
+    pub guards: &'a Guards,
     pub traces: &'a [RawTrace],
     pub names: &'a KeyTable,
+    // In the report's order.
+    pub keys: &'a [KeyId],
     pub files: &'a [&'a str],
+    pub alloc: Global,
 }
 
 impl<'a> Model for Teller<'a> {
@@ -35,6 +41,7 @@ impl<'a> Model for Teller<'a> {
     ghost use Rattle.ld_facts.specs.FactBits.{HasFact};
     ghost use Rattle.ld_facts.specs.Facts.{AreSame};
     ghost use Rattle.ld_facts.specs.TraceFacts.{TracesHave};
+    ghost use Rattle.ld_explain.specs.Notes.{AreGuardsOf};
     ghost use Rattle.ld_explain.specs.Origins.{AreOriginsOf};
     ghost use Rattle.ld_text.specs.Inside.Telling.{TellerParts};
 
@@ -43,10 +50,12 @@ impl<'a> Model for Teller<'a> {
     ghost view = { λ t. record {
       facts = t.settled.now;
       told = record { traces = t.traces.now; names = t.names.now.names; files = map (λ file. file.now) t.files.now };
+      keys = t.keys.now;
     } };
 
     ghost invariant = { λ t. AreOriginsOf t.traces.now t.origins.now
-        × AreSame (HasFact t.settled.now) (TracesHave t.traces.now) };
+        × AreSame (HasFact t.settled.now) (TracesHave t.traces.now)
+        × AreGuardsOf t.traces.now t.settled.now t.guards.now };
 }
 
 impl Teller<'_> {
@@ -77,6 +86,30 @@ impl Teller<'_> {
             unreachable!();
         };
         origin
+    }
+
+    /// Whether the key is a gate of a dependency.
+    pub(crate) fn is_gate(&self, from: KeyId, to: KeyId, kind: Kind, gate: KeyId) -> bool
+        requires { HasFact self.now.facts (Fact.Dependency from to kind) }
+        ensures { IsTrue result ↔ IsGate self.now.told.traces (arrow from to kind) gate }
+    {
+        self.guards.is_gate(from.get(), to.get(), kind, gate.get())
+    }
+
+    /// Whether some key may be a gate of a dependency. If not, none is.
+    pub(crate) fn has_gates(&self, from: KeyId, to: KeyId, kind: Kind) -> bool
+        requires { HasFact self.now.facts (Fact.Dependency from to kind) }
+        ensures { IsFalse result → (gate : ℕ) → ¬ IsGate self.now.told.traces (arrow from to kind) gate }
+    {
+        self.guards.has_gates(from.get(), to.get(), kind)
+    }
+
+    /// The trace that alone has a dependency.
+    pub(crate) fn only_trace(&self, from: KeyId, to: KeyId, kind: Kind) -> Option<u32>
+        requires { HasFact self.now.facts (Fact.Dependency from to kind) }
+        ensures { (trace : ℕ) → (result ≡ Some trace) ↔ IsAloneIn self.now.told.traces (arrow from to kind ∷ []) trace }
+    {
+        self.guards.only_trace(from.get(), to.get(), kind)
     }
 
     /// A shortest circle through a dependency on one, whose members are told from now on; None if the dependency was told.

@@ -1,5 +1,5 @@
 -- How an explanation grows.
-use Rattle.std.specs.Prelude.{◌≡◌, ◌↔◌, ◌⊎◌, ℕ, Contains, List, [], ◌∷◌, ◌++◌, Option, None, Some, length}
+use Rattle.std.specs.Prelude.{◌≡◌, ◌↔◌, ◌⊎◌, ℕ, zero, suc, Contains, List, [], ◌∷◌, ◌++◌, Option, None, Some, codes, length}
 use Rattle.ld_trace.specs.declared.event.Irq.{Irq}
 use Rattle.ld_facts.specs.Arrows.{Arrow}
 use Rattle.ld_facts.specs.FactBits.{FactParts, HasFact}
@@ -9,10 +9,16 @@ use Rattle.ld_text.specs.Explanation.{AreTold, IsTold, Told}
 use Rattle.ld_text.specs.Found.{FoundParts}
 use Rattle.ld_text.specs.Groups.{GrowsBy, InSequence, InTurn}
 
--- what a teller tells from
+-- what a teller tells from, with the keys in the report's order
 pub record TellerParts : Type 0 where
   pub facts : FactParts
   pub told : Told
+  pub keys : List ℕ
+
+-- what stands before the dependency at this place of a list
+abbrev pub mark_at : ℕ → List ℕ
+mark_at zero = codes ": "
+mark_at (suc i) = codes ", "
 
 -- the set has exactly the members of these circles
 abbrev pub HasMembers : FactParts → List (List Arrow) → Type 0

@@ -7,4 +7,4 @@ use Rattle.ld_text.proofs.teller.Teller.add_inversions.Given as goal
 -- the blocks so far
 abbrev pub invariant-loop-inversion : goal.invariant-loop-inversion
 invariant-loop-inversion l =
-    GrowsBy (InTurn (IsInversionBlock (HasFact l.self.facts) l.self.told) (take l.inversion-index l.inversions)) (string_bytes l.initial.text) (string_bytes l.text)
+    GrowsBy (InTurn (IsInversionBlock (HasFact l.self.facts) l.self.told l.self.keys) (take l.inversion-index l.inversions)) (string_bytes l.initial.text) (string_bytes l.text)

@@ -1,0 +1,15 @@
+use Rattle.std.proofs.Common.{◌≤◌, ◌∙◌, arith, length, refl}
+use Rattle.std.proofs.lemmas.Option.{slice_get_read}
+use Rattle.ld_explain.proofs.Passing.{AreGuardsOf-end}
+use Rattle.ld_explain.proofs.guards.Guards.of.Goals as goal
+
+pub loop-i-preserved : goal.loop-i-preserved
+loop-i-preserved c =
+    let was = c.loop-i.invariant in
+    let here = slice_get_read c.args.traces.now (length c.args.traces.now) c.loop-i.i c.index-traces-i.result refl c.loop-i-test.true c.index-traces-i.is in
+    (c.in_ok-add_trace.ensures.keys ∙ was.0, c.in_ok-add_trace.ensures.kept c.args.traces.now here was.1)
+
+pub returns : goal.returns
+returns c =
+    let past : length c.args.traces.now ≤ c.loop-i.i = omega (arith, c.loop-i-test.false) in
+    AreGuardsOf-end c.args.traces.now c.args.asked.now c.loop-i.guards c.loop-i.i past c.loop-i.invariant.1

@@ -1,0 +1,16 @@
+use Rattle.std.proofs.Common.{subst, sym}
+use Rattle.ld_facts.specs.FactBits.{HasFact}
+use Rattle.ld_graph.specs.Links.{IsDouble}
+use Rattle.ld_text.specs.Json.{IsDoubleObject, IsLineOf}
+use Rattle.ld_text.proofs.GroupLemmas.{GrowsBy-more_item, GrowsBy-none}
+use Rattle.ld_text.proofs.json_objects.Objects.tell_doubles.Goals as goal
+
+pub loop-double-init : goal.loop-double-init
+loop-double-init c = GrowsBy-none _
+
+pub loop-double-preserved : goal.loop-double-preserved
+loop-double-preserved c = GrowsBy-more_item (λ x. IsLineOf (IsDoubleObject (HasFact c.args.self.now.facts) c.args.self.now.told x)) _ _ _ _ _ _
+    c.double-item.is c.loop-double-test.true c.loop-double.invariant c.in_ok-add_double_object.ensures
+
+pub add_double_object-requires : goal.add_double_object-requires
+add_double_object-requires c = subst (λ x. IsDouble (HasFact c.args.self.now.facts) x.0 x.1) (sym c.double-item.is) (c.requires _ _ c.loop-double-test.true)
