@@ -19,9 +19,8 @@ ghost use Rattle.ld_explain.specs.Inside.Guarding.{AreGuards, Asked, IsGuardWith
 use crate::guard::{Guard, gates_before};
 use arrayvec::ArrayVec;
 use indexmap::IndexMap;
-use ld_graph::Kind;
 use ld_facts::{Fact, Facts, fact_in_slot, fact_slots, lock_of_slot};
-use ld_task::{Chain, MAX_HELD, PlacedState};
+use ld_task::{Chain, Kind, MAX_HELD, PlacedState};
 use ld_trace::{Event, RawTrace};
 use std::alloc::{AllocError, Global};
 use std::marker::Model;
