@@ -6,4 +6,6 @@ pub mod StoredLemmas
 pub mod TakenLemmas
 mod KnownLemmas
 mod WriteLemmas
+mod LineLemmas
+mod Alike
 mod ReadBack
