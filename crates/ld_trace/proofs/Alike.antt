@@ -1,6 +1,6 @@
 -- A trace reads alike over its own names and over others.
-use Rattle.std.proofs.Common.{◌≡◌, ℕ, zero, suc, ◌+◌, ◌≤◌, ◌<◌, ◌||◌, Bool, true, false, true≢false, List, [], ◌∷◌, ◌++◌, map, length, slice_get, nat_lt, Option, Some, None, Result, Ok, Err, refl, sym, ap, ◌∙◌, arith, append_assoc, if◌then◌else◌}
-use Rattle.std.specs.List.{list_all, list_any}
+use Rattle.std.proofs.Common.{◌≡◌, ℕ, suc, ◌+◌, ◌≤◌, ◌||◌, Bool, true, false, true≢false, List, [], ◌∷◌, ◌++◌, map, length, slice_get, nat_lt, Option, Some, None, Result, Ok, Err, refl, sym, ap, ◌∙◌, arith, append_assoc, if◌then◌else◌}
+use Rattle.std.specs.List.{list_all}
 use Rattle.std.proofs.lemmas.Bool.{and_parts}
 use Rattle.std.proofs.lemmas.Bool.Decides.{nat_tests}
 use Rattle.std.proofs.lemmas.List.{append-nil}
@@ -9,18 +9,19 @@ use Rattle.ld_trace.specs.declared.event.Event.{Event}
 use Rattle.ld_trace.specs.declared.event.Event.TheVariants.{Acquire, Release}
 use Rattle.ld_trace.specs.declared.raw_trace.TheConstants.{MAX_EVENTS}
 use Rattle.ld_trace.specs.declared.trace_fault.TraceFaultKind.{TraceFaultKind}
-use Rattle.ld_trace.specs.declared.trace_fault.TraceFaultKind.TheVariants.{NoHeader, TooManyRecords}
+use Rattle.ld_trace.specs.declared.trace_fault.TraceFaultKind.TheVariants.{TooManyRecords}
 use Rattle.ld_trace.specs.declared.version.Version.{Version}
 use Rattle.ld_trace.specs.Inside.Progress.{AreTaken}
 use Rattle.ld_trace.specs.Laws.{TracesReadAlike, lines_at, with_lines}
-use Rattle.ld_trace.specs.Lines.{Line, Record, takes, gives_back, enters, leaves, turns_on, turns_off, event_of, is_over, line_of_record, version_of, with_line}
+use Rattle.ld_trace.specs.Lines.{Line, Record, takes, gives_back, enters, leaves, turns_on, turns_off, event_of, line_of_record, version_of, with_line}
 use Rattle.ld_trace.specs.Names.{Name, is_known, is_same, place_of, with_name}
-use Rattle.ld_trace.specs.Reading.{ReadsTo, fault_at, header_fault, line_fault, names_after, names_before, record_fault, records_of, version_fault, version_in}
+use Rattle.ld_trace.specs.Reading.{ReadsTo, fault_at, line_fault, names_before, record_fault, records_of, version_fault, version_in}
 use Rattle.ld_trace.specs.TakingIn.{Within, all_moved, with_all}
 use Rattle.ld_trace.specs.Writing.{line_at}
-use Rattle.ld_trace.proofs.KnownLemmas.{is_same-itself}
-use Rattle.ld_trace.proofs.LineLemmas.{Say, events_with, found-there, length-events_with, lines_at-events_with, or-none, same-name, taken-said, with_lines-added, with_name-there}
-use Rattle.ld_trace.proofs.ReadLemmas.{header-says, reads-to, taken-header}
+use Rattle.ld_trace.proofs.KnownLemmas.{is_same-itself, same-name}
+use Rattle.ld_trace.proofs.LineLemmas.{Say, events_with, lines_at-events_with, or-none, taken-said, with_lines-added}
+use Rattle.ld_trace.proofs.ReadLemmas.{reads-to, taken-header}
+use Rattle.ld_trace.proofs.TakenLemmas.{with_name-added}
 
 -- ---- known names stay known, and keep their places
 or-left : (a b : Bool) → a ≡ true → (a || b) ≡ true
@@ -40,13 +41,6 @@ with_name-knows names name = by (is_known names name) refl
     by : (b : Bool) → is_known names name ≡ b → is_known (if b then names else names ++ name ∷ []) name ≡ true
     by true e = e
     by false e = list_any-append (is_same name) names (name ∷ []) ∙ or-right (is_known names name) (is_known (name ∷ []) name) (or-left (is_same name name) false (is_same-itself name))
-
-with_name-added : (names : List Name) (name : Name) → (more : List Name) × (with_name names name ≡ names ++ more)
-with_name-added names name = by (is_known names name)
-  where
-    by : (b : Bool) → (more : List Name) × ((if b then names else names ++ name ∷ []) ≡ names ++ more)
-    by true = ([], sym (append-nil names))
-    by false = (name ∷ [], refl)
 
 pub with_all-added : (names more : List Name) → (added : List Name) × (with_all names more ≡ names ++ added)
 unfolding with_all
@@ -69,7 +63,7 @@ with_all-knows names (x ∷ xs) name h = by (is_same name x) refl (with_all-know
     by true e rest = with_all-keeps (with_name names x) xs name (rw (same-name name x e) (with_name-knows names x))
     by false e rest = rest (rw e at h)
 
-with_all-append : (names a b : List Name) → with_all names (a ++ b) ≡ with_all (with_all names a) b
+pub with_all-append : (names a b : List Name) → with_all names (a ++ b) ≡ with_all (with_all names a) b
 unfolding with_all
 with_all-append names [] b = refl
 with_all-append names (x ∷ a) b = with_all-append (with_name names x) a b
@@ -104,7 +98,7 @@ with_all-lines names own (line ∷ lines) =
     ap (λ now. with_lines now lines) (with_all-line names own line) ∙ with_all-lines names (with_line own line) lines
 
 -- ---- an event's key keeps its number when names are added
-place_of-longer : (names more : List Name) (name : Name) → is_known names name ≡ true → place_of (names ++ more) name ≡ place_of names name
+pub place_of-longer : (names more : List Name) (name : Name) → is_known names name ≡ true → place_of (names ++ more) name ≡ place_of names name
 place_of-longer [] more name h = absurd (true≢false (sym h))
 place_of-longer (x ∷ xs) more name h = by (is_same name x) refl (place_of-longer xs more name)
   where
@@ -116,7 +110,7 @@ place_of-new : (names : List Name) (name : Name) → is_known names name ≡ fal
 place_of-new [] name h = rw (is_same-itself name) refl
 place_of-new (x ∷ xs) name h = let parts = or-none (is_same name x) (is_known xs name) h in rw (parts.0, place_of-new xs name parts.1) refl
 
-place_of-with_name : (names : List Name) (name : Name) → place_of (with_name names name) name ≡ place_of names name
+pub place_of-with_name : (names : List Name) (name : Name) → place_of (with_name names name) name ≡ place_of names name
 place_of-with_name names name = by (is_known names name) refl
   where
     by : (b : Bool) → is_known names name ≡ b → place_of (if b then names else names ++ name ∷ []) name ≡ place_of names name

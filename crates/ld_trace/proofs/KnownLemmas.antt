@@ -1,5 +1,6 @@
 -- A name that stands in a table, and the record that names it.
 use Rattle.std.proofs.Common.{◌≡◌, ℕ, zero, suc, ◌==◌, Bool, true, false, List, [], ◌∷◌, slice_get, nat_le, Option, Some, None, IsSomeAnd, codes, refl, sym, ap, ◌∙◌, arith, true≢false}
+use Rattle.std.specs.Cmp.{IsEquivalence}
 use Rattle.std.specs.List.{AllByRecursion, IsDistinct, list_all}
 use Rattle.std.specs.Str.{bytes_eq}
 use Rattle.std.proofs.lemmas.Bool.{and_from, and_parts}
@@ -21,6 +22,26 @@ pub is_same-back : (a b : Name) → is_same a b ≡ true → is_same b a ≡ tru
 is_same-back a b h =
     let both = and_parts (bytes_eq a.0 b.0) (a.1 == b.1) h in
     and_from (bytes_eq b.0 a.0) (b.1 == a.1) ((bytes_eq-Decides b.0 a.0).1 (sym ((bytes_eq-Decides a.0 b.0).0 both.0))) ((Decides-eqb b.1 a.1).1 (sym ((Decides-eqb a.1 b.1).0 both.1)))
+
+-- names that are the same are equal
+pub same-name : (a b : Name) → is_same a b ≡ true → a ≡ b
+same-name a b h =
+    let parts = and_parts (bytes_eq a.0 b.0) (a.1 == b.1) h in
+    let class = (bytes_eq-Decides a.0 b.0).0 parts.0 in
+    let sub = (Decides-eqb a.1 b.1).0 parts.1 in
+    λ i. (class i, sub i)
+
+pub is_same-laws : IsEquivalence is_same
+is_same-laws = record {
+  refl = is_same-itself;
+  symm = λ a b. both (is_same a b) (is_same b a) (is_same-back a b) (is_same-back b a);
+  congr = λ a b n h. ap (λ x. is_same x n) (same-name a b h);
+}
+  where
+    both : (x y : Bool) → (x ≡ true → y ≡ true) → (y ≡ true → x ≡ true) → x ≡ y
+    both true y there back = sym (there refl)
+    both false true there back = back refl
+    both false false there back = refl
 
 -- the place of a name that stands among distinct ones is where it stands
 pub place_of-there : (names : List Name) (name : Name) (i : ℕ) → IsDistinct is_same names → slice_get names i ≡ Some name → (place_of names name ≡ i) × (is_known names name ≡ true)

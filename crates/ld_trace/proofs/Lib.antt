@@ -9,3 +9,4 @@ mod WriteLemmas
 mod LineLemmas
 mod Alike
 mod ReadBack
+mod TakenIn

@@ -1,24 +1,29 @@
 -- Lines over a table: the names after them, their events, and what these say.
 use Rattle.std.specs.Prelude.{⊤}
-use Rattle.std.proofs.Common.{◌≡◌, ℕ, suc, ◌+◌, ◌≤◌, ◌||◌, ◌&&◌, ◌==◌, not, Bool, true, false, true≢false, List, [], ◌∷◌, ◌++◌, length, slice_get, nat_le, unwrap_or, Some, Ok, refl, sym, ap, ◌∙◌, arith, append_assoc, length-append, if◌then◌else◌}
-use Rattle.std.specs.Str.{bytes_eq}
-use Rattle.std.proofs.lemmas.Bool.{and_parts}
-use Rattle.std.proofs.lemmas.Bool.Decides.{Decides-eqb, nat_tests}
+use Rattle.std.proofs.Common.{◌≡◌, ℕ, suc, ◌+◌, ◌≤◌, ◌||◌, ◌&&◌, not, Bool, true, false, true≢false, List, [], ◌∷◌, ◌++◌, length, slice_get, nat_le, unwrap_or, Some, Ok, refl, sym, ap, ◌∙◌, arith, append_assoc, length-append, if◌then◌else◌}
+use Rattle.std.proofs.lemmas.Bool.Decides.{nat_tests}
 use Rattle.std.proofs.lemmas.List.{append-nil}
-use Rattle.std.proofs.lemmas.Slice.Eq.{bytes_eq-Decides}
 use Rattle.ld_trace.specs.declared.event.Event.{Event}
 use Rattle.ld_trace.specs.declared.raw_trace.TheConstants.{MAX_EVENTS}
 use Rattle.ld_trace.specs.declared.version.Version.{Version}
+use Rattle.ld_trace.specs.Events.{KeyIsBelow, KeysBelow}
 use Rattle.ld_trace.specs.Laws.{lines_at, with_lines}
 use Rattle.ld_trace.specs.Lines.{Line, Record, takes, gives_back, enters, leaves, turns_on, turns_off, event_of, is_over, line_of_record, with_line}
 use Rattle.ld_trace.specs.Names.{Name, is_known, is_one_too_many, is_same, place_of, with_name}
 use Rattle.ld_trace.specs.Inside.Progress.{AreTaken, TakesLine}
 use Rattle.ld_trace.specs.Writing.{line_at, name_at}
+use Rattle.ld_trace.proofs.KnownLemmas.{same-name}
 use Rattle.ld_trace.proofs.TakenLemmas.{place-below, slice_get-front, taken-more, with_line-added}
 
 pub or-none : (a b : Bool) → (a || b) ≡ false → (a ≡ false) × (b ≡ false)
 or-none false b h = (refl, h)
 or-none true b h = absurd (true≢false h)
+
+pub head-below : (n : ℕ) (event : Event) (events : List Event) → KeysBelow n (event ∷ events) → KeyIsBelow n event
+head-below n event events below = below 0 event (omega arith)
+
+pub tail-below : (n : ℕ) (event : Event) (events : List Event) → KeysBelow n (event ∷ events) → KeysBelow n events
+tail-below n event events below = λ k d lt. below (suc k) d (omega (arith, lt))
 
 -- ---- the events of lines
 -- the events that lines stand for over some names
@@ -87,14 +92,6 @@ taken-said room version old rows now before (r ∷ rs) (line ∷ lines) a say fe
     rw (append_assoc rows (r ∷ []) rs, append_assoc before (event ∷ []) (events_with next lines)) at rest
 
 -- ---- what the events say
--- names that are the same are equal
-pub same-name : (a b : Name) → is_same a b ≡ true → a ≡ b
-same-name a b h =
-    let parts = and_parts (bytes_eq a.0 b.0) (a.1 == b.1) h in
-    let class = (bytes_eq-Decides a.0 b.0).0 parts.0 in
-    let sub = (Decides-eqb a.1 b.1).0 parts.1 in
-    λ i. (class i, sub i)
-
 -- a new name stands at the end
 new-there : (names : List Name) (name : Name) → is_known names name ≡ false → slice_get (names ++ name ∷ []) (place_of names name) ≡ Some name
 new-there [] name h = refl

@@ -1,16 +1,13 @@
 -- What is written of a trace reads back.
 use Rattle.std.specs.Prelude.{⊤}
-use Rattle.std.proofs.Common.{◌≡◌, ℕ, zero, suc, ◌+◌, ◌-◌, ◌≤◌, ◌<◌, ◌||◌, ◌&&◌, ◌==◌, not, Bool, true, false, true≢false, List, [], ◌∷◌, ◌++◌, map, length, slice_get, nat_le, unwrap_or, Some, None, Ok, refl, sym, ap, ◌∙◌, subst, arith, append_assoc, length-append, if◌then◌else◌}
+use Rattle.std.proofs.Common.{◌≡◌, ℕ, zero, suc, ◌+◌, ◌-◌, ◌≤◌, ◌<◌, ◌||◌, not, Bool, true, false, true≢false, List, [], ◌∷◌, ◌++◌, map, length, slice_get, nat_le, Some, None, Ok, refl, sym, ap, ◌∙◌, subst, arith, if◌then◌else◌}
 use Rattle.std.specs.List.{IsDistinct, flat_map, list_all, list_any}
-use Rattle.std.specs.Cmp.{IsEquivalence}
-use Rattle.std.specs.Str.{bytes_eq}
 use Rattle.std.proofs.lemmas.Bool.{and_parts}
-use Rattle.std.proofs.lemmas.Bool.Decides.{Decides-eqb, nat_tests}
-use Rattle.std.proofs.lemmas.List.{append-nil, length-map}
+use Rattle.std.proofs.lemmas.Bool.Decides.{nat_tests}
+use Rattle.std.proofs.lemmas.List.{length-map}
 use Rattle.std.proofs.lemmas.List.Folds.{list_any-append}
 use Rattle.std.proofs.lemmas.Map.Keys.{IsDistinct-push}
 use Rattle.std.proofs.lemmas.Map.Made.{length-le_from_is_member}
-use Rattle.std.proofs.lemmas.Slice.Eq.{bytes_eq-Decides}
 use Rattle.csv.specs.Machine.{next_record}
 use Rattle.csv.specs.Reading.{Reached, default_config, strip_bom}
 use Rattle.csv.specs.Writing.{escaped, fields_text, is_blank, read_back}
@@ -27,16 +24,15 @@ use Rattle.ld_trace.specs.declared.version.Version.{Version}
 use Rattle.ld_trace.specs.declared.version.Version.TheVariants.{One, Two}
 use Rattle.ld_trace.specs.Events.{KeyIsBelow, KeysBelow, is_try}
 use Rattle.ld_trace.specs.Laws.{AreOfTable, NewTablesHaveRoom, TextsReadBack, TextsReadThemselves, lines_at, with_lines}
-use Rattle.ld_trace.specs.Lines.{Line, Record, takes, gives_back, enters, leaves, turns_on, turns_off, event_of, is_over, line_of_record, mode_of, sub_of, version_of, with_line}
+use Rattle.ld_trace.specs.Lines.{Line, takes, gives_back, enters, leaves, turns_on, turns_off, event_of, line_of_record, mode_of, sub_of, version_of, with_line}
 use Rattle.ld_trace.specs.Modes.{may_wait}
-use Rattle.ld_trace.specs.Names.{Name, Table, is_class_name, is_known, is_name, is_one_too_many, is_same, place_of, with_name}
-use Rattle.ld_trace.specs.Inside.Progress.{AreTaken, TakesLine}
+use Rattle.ld_trace.specs.Names.{Name, Table, is_class_name, is_known, is_name, is_same, with_name}
 use Rattle.ld_trace.specs.Reading.{ReadsTo, records_of}
 use Rattle.ld_trace.specs.Writing.{event_text, header_of, line_at, mode_word, name_at, record_of, record_text, sub_word, trace_text, version_for}
 use Rattle.ld_trace.proofs.CsvLemmas.{records-all}
-use Rattle.ld_trace.proofs.KnownLemmas.{is_same-back, is_same-itself, named-there, place_of-there}
+use Rattle.ld_trace.proofs.KnownLemmas.{is_same-laws, named-there, place_of-there, same-name}
 use Rattle.ld_trace.proofs.ReadLemmas.{reads-to, taken-header}
-use Rattle.ld_trace.proofs.LineLemmas.{Say, events_with, lines_at-events_with, or-none, same-name, taken-said}
+use Rattle.ld_trace.proofs.LineLemmas.{Say, events_with, head-below, lines_at-events_with, or-none, tail-below, taken-said}
 
 -- ---- a record says what it was written for
 -- the line's name is one, and its mode is one of the version's
@@ -76,7 +72,7 @@ abbrev AreGood : Version → List Line → Type 0
 AreGood version [] = ⊤
 AreGood version (line ∷ lines) = IsGood version line × AreGood version lines
 
-name_at-there : (names : List Name) (key : ℕ) → key < length names → slice_get names key ≡ Some (name_at names key)
+pub name_at-there : (names : List Name) (key : ℕ) → key < length names → slice_get names key ≡ Some (name_at names key)
 name_at-there [] key h = absurd (omega arith)
 name_at-there (x ∷ xs) zero h = refl
 name_at-there (x ∷ xs) (suc key) h = name_at-there xs key (omega arith)
@@ -116,12 +112,6 @@ line-good version names (Enter irq) named below has = tt
 line-good version names Leave named below has = tt
 line-good version names (TurnOn irq) named below has = tt
 line-good version names (TurnOff irq) named below has = tt
-
-head-below : (n : ℕ) (event : Event) (events : List Event) → KeysBelow n (event ∷ events) → KeyIsBelow n event
-head-below n event events below = below 0 event (omega arith)
-
-tail-below : (n : ℕ) (event : Event) (events : List Event) → KeysBelow n (event ∷ events) → KeysBelow n events
-tail-below n event events below = λ k d lt. below (suc k) d (omega (arith, lt))
 
 -- the version has all of these events
 abbrev AllHave : Version → List Event → Type 0
@@ -259,18 +249,6 @@ texts-read-themselves table events are =
     rw (known.0, known.1) at (reads-back table events are table.room table.names fits)
 
 -- ---- a new table has room
-is_same-laws : IsEquivalence is_same
-is_same-laws = record {
-  refl = is_same-itself;
-  symm = λ a b. both (is_same a b) (is_same b a) (is_same-back a b) (is_same-back b a);
-  congr = λ a b n h. ap (λ x. is_same x n) (same-name a b h);
-}
-  where
-    both : (x y : Bool) → (x ≡ true → y ≡ true) → (y ≡ true → x ≡ true) → x ≡ y
-    both true y there back = sym (there refl)
-    both false true there back = back refl
-    both false false there back = refl
-
 -- names of the table, none twice
 record AreAmong (names now : List Name) : Type 0 where
   once : IsDistinct is_same now

@@ -1,6 +1,6 @@
 //! The table that numbers lock keys.
 
-ghost use Rattle.std.specs.Prelude.{◌≡◌, ◌≤◌, ◌<◌, ◌↔◌, [], IsOk, IsOkAnd, IfOk, IfErr, OnErr, IsErrOf, IfSome, length, slice_get, option_map, true, false, ◌⊎◌};
+ghost use Rattle.std.specs.Prelude.{◌≡◌, ◌≤◌, ◌<◌, ◌↔◌, [], IsOk, IsOkAnd, IfOk, IfErr, OnErr, IsErrOf, IfSome, length, slice_get, take, option_map, true, false, ◌⊎◌};
 ghost use Rattle.ld_trace.specs.Names.{AreNumbered, is_class_name, is_known, is_name, is_one_too_many, is_same, place_of, with_name};
 ghost use Rattle.ld_trace.specs.Inside.Stored.{name_of, names_of};
 ghost use Rattle.std.specs.List.{IsDistinct};
@@ -128,6 +128,30 @@ impl KeyTable {
         } else {
             None
         }
+    }
+
+    // The class's name and the subclass at this place. None exactly where there is none.
+    pub(crate) fn name_at(&self, place: usize) -> Option<(&str, u8)>
+        ensures value { option_map (λ name. (name.0.now, name.1)) result ≡ slice_get self.now.names place }
+        ensures named { IfSome result (λ name. is_name (name.0.now, name.1) ≡ true) }
+    {
+        let name = self.names.get_index(place)?;
+        Some((name.text.as_str(), name.sub))
+    }
+
+    // Does nothing. Its clause is what a table keeps, for proofs outside of this file.
+    pub(crate) fn keeps_its_rule(&self)
+        ensures numbered { AreNumbered self.now }
+    {
+        let _names = &self.names;
+    }
+
+    // Takes the names from this place on out again.
+    pub(crate) fn forget_from(&mut self, place: usize)
+        ensures names { self.new.names ≡ take place self.old.names }
+        ensures room { self.new.room ≡ self.old.room }
+    {
+        self.names.truncate(place);
     }
 
     /// The class's name and the subclass of the key of this number. None exactly where no key has it.

@@ -1,6 +1,6 @@
 //! Laws of the definitions, each carried by a function that does nothing.
 
-ghost use Rattle.ld_trace.specs.Laws.{NewTablesHaveRoom, TextsReadBack, TextsReadThemselves, TracesReadAlike};
+ghost use Rattle.ld_trace.specs.Laws.{NewTablesHaveRoom, RenumberingsStay, TextsReadBack, TextsReadThemselves, TracesReadAlike};
 
 /// What `trace_text` writes, `read_trace` reads back: over any table with room for the trace's names it stands for events that
 /// say the same, each key by its name; a new table with as much room has it; and over the table that it was written with it stands for the
@@ -15,4 +15,9 @@ pub fn written_traces_read_back()
 /// room for all: it stands for events that say the same, each key by its name.
 pub fn traces_read_alike()
     ensures alike { TracesReadAlike }
+{}
+
+/// A renumbering stays one when the table that takes in gets more names.
+pub fn renumberings_stay()
+    ensures stay { RenumberingsStay }
 {}
