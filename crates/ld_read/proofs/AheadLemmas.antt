@@ -16,6 +16,11 @@ pub if-some : {X : Type 0} (known : Option X) (P Q : X → Type 0) → ((x : X) 
 if-some None P Q f h = tt
 if-some (Some x) P Q f h = f x h
 
+-- what holds of the bytes that a source has holds of those that it is known to have
+pub held-read : (held known : Option (List ℕ)) (P : List ℕ → Type 0) → IfSome held (λ bytes. known ≡ Some bytes) → IfSome known P → IfSome held P
+held-read None known P is read = tt
+held-read (Some bytes) known P is read = rw is at read
+
 pub all-head : {X : Type 0} (P : X → Type 0) (x : X) (xs : List X) → All P (x ∷ xs) → P x
 all-head P x xs all = all 0 x (omega arith)
 

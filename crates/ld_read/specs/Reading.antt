@@ -20,10 +20,15 @@ AreRead room holds place old new [] = new ≡ old
 AreRead room holds place old new (trace ∷ traces) =
     (next : List Name) × IsRead room (holds place) old next trace × AreRead room holds (suc place) next new traces
 
--- a trace wasn't read: its source can't be opened, or it was refused in reading
-abbrev pub IsNotRead : (room : ℕ) (bytes : Option (List ℕ)) (old new : List Name) → ReadFault → Type 0
-IsNotRead room bytes old new CannotOpen = new ≡ old
-IsNotRead room bytes old new (Trace fault) = IfSome bytes (λ known. StopsAt room old known new fault)
+-- why a trace wasn't read: its source can't be opened, or it was refused in reading
+abbrev pub IsReason : (room : ℕ) (bytes : Option (List ℕ)) (old new : List Name) → ReadFault → Type 0
+IsReason room bytes old new CannotOpen = new ≡ old
+IsReason room bytes old new (Trace fault) = IfSome bytes (λ known. StopsAt room old known new fault)
+
+-- a trace wasn't read over a table with this room
+pub record IsNotRead (room : ℕ) (bytes : Option (List ℕ)) (old new : List Name) (fault : ReadFault) : Type 0 where
+  pub kept : (added : List Name) × (new ≡ old ++ added)
+  pub why : IsReason room bytes old new fault
 
 -- these traces were read in turn, and the one after them, at the place that is told, was not
 pub record StopsAfter (room : ℕ) (holds : ℕ → Option (List ℕ)) (place : ℕ) (old new : List Name) (traces : List (List Event)) (unread : Unread) : Type 0 where

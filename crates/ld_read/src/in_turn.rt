@@ -35,6 +35,8 @@ pub fn read_all<R: Threads + Sync, S: Sources + Sync>(
         × (length added ≡ count) × AreRead keys.old.room (S.holds sources.now) 0 keys.old.names keys.new.names added) }
     ensures refused { IfErr result (λ unread. (added : List (List Event)) × (traces.new.items ≡ traces.old.items ++ added)
         × (unread.place < count) × StopsAfter keys.old.room (S.holds sources.now) 0 keys.old.names keys.new.names added unread) }
+    ensures below { All (KeysBelow (length keys.old.names)) traces.old.items
+        → All (KeysBelow (length keys.new.names)) traces.new.items }
     ensures room { keys.new.room ≡ keys.old.room }
 {
     let first = read_ahead(rt, alloc, threads, sources, count, keys, traces);

@@ -1,6 +1,6 @@
 //! Where traces are read from.
 
-ghost use Rattle.std.specs.Prelude.{◌≡◌, IfSome, ℕ, List, Option};
+ghost use Rattle.std.specs.Prelude.{◌≡◌, IfSome, ℕ, List, Option, Some};
 
 use std::io::Read;
 
@@ -14,9 +14,9 @@ pub trait Sources {
     /// Opens the source at this place while earlier ones may not have been read yet. None says nothing of it: it is opened again
     /// in its turn.
     fn ahead(&self, place: usize) -> Option<Self::Source>
-        ensures { IfSome result (λ source. Self.Source.remaining source ≡ holds self.now place) };
+        ensures { IfSome result (λ source. IfSome (holds self.now place) (λ bytes. Self.Source.remaining source ≡ Some bytes)) };
 
     /// Opens the source at this place in its turn. None if it can't be opened.
     fn open(&self, place: usize) -> Option<Self::Source>
-        ensures { IfSome result (λ source. Self.Source.remaining source ≡ holds self.now place) };
+        ensures { IfSome result (λ source. IfSome (holds self.now place) (λ bytes. Self.Source.remaining source ≡ Some bytes)) };
 }

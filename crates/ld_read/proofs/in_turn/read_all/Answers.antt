@@ -1,6 +1,6 @@
 use Rattle.std.proofs.Common.{◌≡◌, ◌∙◌, ◌+◌, ◌++◌, ap, append_assoc, arith, length, length-append}
 use Rattle.std.proofs.lemmas.Result.{IfErr-weaker, on_ok_weaker}
-use Rattle.ld_read.proofs.AreReadLemmas.{read-append, stops-append}
+use Rattle.ld_read.proofs.AreReadLemmas.{all-below, below-after, read-append, stopped-below, stops-append}
 use Rattle.ld_read.proofs.in_turn.read_all.Goals as goal
 
 pub returns-clause-ok : goal.returns-clause-ok
@@ -26,3 +26,11 @@ returns-clause-refused g c =
       stopped.2,
       stops-append c.args.keys.now.room holds 0 c.args.keys.now.names c.read_ahead-first.new.keys.names c.read_from.new.keys.names ahead.0 stopped.0 unread ahead.3 (rw (c.read_ahead-first.ensures.room, first) at stopped.3),
     )) c.read_from.ensures.refused
+
+pub returns-clause-below : goal.returns-clause-below
+returns-clause-below g c = λ below.
+    let holds = g.S.Sources.holds c.args.sources.now in
+    below-after c.read_from.result _ _ _
+    (λ read. all-below c.args.keys.now.room holds c.args.keys.now.names c.read_from.new.keys.names c.args.traces.now.items c.read_from.new.traces.items read.0 read.1 read.3 below)
+    (λ unread stopped. stopped-below c.args.keys.now.room holds c.args.keys.now.names c.read_from.new.keys.names c.args.traces.now.items c.read_from.new.traces.items stopped.0 unread stopped.1 stopped.3 below)
+    (returns-clause-ok g c) (returns-clause-refused g c)
