@@ -3,10 +3,9 @@
 ghost use Rattle.std.specs.Prelude.{◌≡◌, ◌+◌, ◌<◌, ◌≤◌, ◌∷◌, ◌++◌, [], ℕ, List, All, length, IfOk, IfErr, IfSome, IsErrOf, IsOkAnd, IsTrue, OnOk, ◌↔◌};
 ghost use Rattle.std.specs.Io.KnownBytes.{Appends};
 ghost use Rattle.ld_trace.specs.declared.event.Event.{Event};
-ghost use Rattle.ld_trace.specs.declared.trace_fault.TraceFaultKind.{TraceFaultKind};
-ghost use Rattle.ld_trace.specs.Names.{Name};
 ghost use Rattle.ld_trace.specs.Events.{KeysBelow};
 ghost use Rattle.ld_trace.specs.Reading.{ReadsTo, StopsAt};
+ghost use Rattle.ld_read.specs.Reading.{AreRead, StopsAfter};
 ghost use Rattle.ld_task.specs.WellFormed.{IsWellFormed};
 ghost use Rattle.ld_graph.specs.Links.{IsClean};
 ghost use Rattle.ld_run.specs.Runs.{IsCrew};
@@ -18,11 +17,10 @@ ghost use Rattle.lockdep.specs.Texts.{IsTextOf, view_of};
 use crate::fault::ReportFault;
 use crate::output::{Output, write_output};
 use crate::settled::settled_of;
+use ld_read::{Sources, Unread, read_all, read_into};
 use ld_run::{Gate, MAX_TRACES, MAX_WORKERS, RunFault};
 use ld_text::event_count;
-use ld_trace::{
-    KeyFault, KeyTable, MAX_KEYS, MAX_MANY, RawTrace, TraceFault, TraceFaultKind, read_trace,
-};
+use ld_trace::{KeyFault, KeyTable, MAX_KEYS, MAX_MANY, RawTrace, TraceFault};
 use std::alloc::Global;
 use std::io::{Read, Write};
 use std::marker::Model;
@@ -85,6 +83,25 @@ impl Session {
         ensures room { self.new.room ≡ self.old.room }
     {
         read_into(self.alloc, reader, &mut self.keys, &mut self.traces)
+    }
+
+    /// Reads the traces of the first `count` sources by several threads, and keeps them after the others. The result is that of
+    /// reading them in turn by `add`, whatever the number of threads; see `read_all`.
+    pub fn add_all<R: Threads + Sync, S: Sources + Sync>(
+        &mut self,
+        rt: &R,
+        threads: usize,
+        sources: &S,
+        count: usize,
+    ) -> Result<(), Unread>
+        ensures ok { OnOk result ((added : List (List Event)) × (self.new.traces ≡ self.old.traces ++ added)
+            × (length added ≡ count) × AreRead self.old.room (S.holds sources.now) 0 self.old.names self.new.names added) }
+        ensures refused { IfErr result (λ unread. (added : List (List Event)) × (self.new.traces ≡ self.old.traces ++ added)
+            × (unread.place < count) × StopsAfter self.old.room (S.holds sources.now) 0 self.old.names self.new.names added unread) }
+        ensures below { All (KeysBelow (length self.new.names)) self.new.traces }
+        ensures room { self.new.room ≡ self.old.room }
+    {
+        read_all(rt, self.alloc, threads, sources, count, &mut self.keys, &mut self.traces)
     }
 
     // How many of the workers are worth their threads: one for every 32,768 events, and one at least. A number of workers that a
@@ -159,43 +176,5 @@ impl Session {
             (W.contents w.old) (W.contents w.new)) }
     {
         self.write(rt, alloc, workers, gate, Output::Report, w)
-    }
-}
-
-// Reads one trace and puts it after the others.
-fn read_into<R: Read + Drop>(
-    alloc: Global,
-    reader: R,
-    keys: &mut KeyTable,
-    traces: &mut Vec<RawTrace>,
-) -> Result<(), TraceFault>
-    ensures ok { IfOk result (λ _. (trace : List Event) × (traces.new.items ≡ traces.old.items ++ trace ∷ [])
-        × KeysBelow (length keys.new.names) trace
-        × IfSome (R.remaining reader) (λ bytes. ReadsTo keys.old.room keys.old.names bytes keys.new.names trace)) }
-    ensures refused { IfErr result (λ fault. (traces.new.items ≡ traces.old.items)
-        × IfSome (R.remaining reader) (λ bytes. StopsAt keys.old.room keys.old.names bytes keys.new.names fault)) }
-    ensures kept { (added : List Name) × (keys.new.names ≡ keys.old.names ++ added) }
-    ensures room { keys.new.room ≡ keys.old.room }
-{
-    if traces.reserve(1).is_err() {
-        return Err(no_room());
-    }
-    match read_trace(alloc, reader, keys) {
-        Ok(trace) => {
-            traces.push_reserved(trace);
-            Ok(())
-        }
-        Err(fault) => Err(fault),
-    }
-}
-
-// The fault if memory runs out for the room of a trace.
-fn no_room() -> TraceFault
-    ensures fault { result ≡ record { kind = TraceFaultKind.Memory; at = 1 } }
-    ensures stops { (room : ℕ) (names : List Name) (bytes : List ℕ) → StopsAt room names bytes names result }
-{
-    TraceFault {
-        kind: TraceFaultKind::Memory,
-        at: 1,
     }
 }
