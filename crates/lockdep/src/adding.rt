@@ -10,7 +10,7 @@ ghost use Rattle.lockdep.specs.Program.{IsReadingRefusal, StopsReading};
 use crate::refusal::Refusal;
 use crate::session::Session;
 use crate::source::Source;
-use ld_read::{ReadFault, Sources, Unread};
+use ld_run::{ReadFault, Sources, Unread};
 use ld_run::MAX_WORKERS;
 use std::fs;
 use std::fs::File;

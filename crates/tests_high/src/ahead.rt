@@ -1,6 +1,6 @@
 //! Traces that several threads read ahead.
 
-use ld_read::{ReadFault, Sources, Unread, read_all};
+use ld_run::{ReadFault, Sources, Unread, read_all};
 use ld_trace::{KeyId, KeyTable, RawTrace, TraceFault, TraceFaultKind, trace_text};
 use std::alloc::{AllocError, Global};
 use std::process::Abort;

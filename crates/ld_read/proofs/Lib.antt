@@ -1,2 +1,0 @@
-mod AheadLemmas
-mod AreReadLemmas
