@@ -9,7 +9,7 @@ ghost use Rattle.ld_run.specs.Reading.{AreRead, StopsAfter};
 ghost use Rattle.ld_task.specs.WellFormed.{IsWellFormed};
 ghost use Rattle.ld_graph.specs.Links.{IsClean};
 ghost use Rattle.ld_run.specs.Runs.{IsCrew};
-ghost use Rattle.ld_run.specs.TraceFacts.{TracesHave};
+ghost use Rattle.ld_facts.specs.TraceFacts.{TracesHave};
 ghost use Rattle.ld_text.specs.Report.{IsReportOf};
 ghost use Rattle.lockdep.specs.Faults.{StopsReport, StopsText};
 ghost use Rattle.lockdep.specs.Texts.{IsTextOf, view_of};
