@@ -12,3 +12,5 @@ pub mod SeatLists
 pub mod SeatFacts
 pub mod Working
 pub mod Crews
+pub mod AheadLemmas
+pub mod AreReadLemmas

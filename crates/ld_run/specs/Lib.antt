@@ -9,3 +9,4 @@ pub mod Boards
 pub mod Condensing
 pub mod Work
 pub mod Surveys
+pub mod Reading

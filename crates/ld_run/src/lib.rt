@@ -1,18 +1,23 @@
-//! Runs over many traces: workers that walk them in threads, and the facts of all traces together.
+//! Runs over many traces: threads that read them, workers that walk them in threads, and the facts of all traces together.
 #![tactic(auto)]
 
 mod adding;
+mod ahead;
 mod board;
 mod board_fault;
 mod condense_fault;
 mod condensing;
 mod fault;
 mod gate;
+mod in_turn;
 mod runs;
 mod seat;
 mod settled;
+mod sources;
 mod survey_fault;
 mod surveys;
+mod taking;
+mod unread;
 mod view;
 mod worker;
 
@@ -22,10 +27,13 @@ pub use condense_fault::CondenseFault;
 pub use condensing::condense;
 pub use fault::RunFault;
 pub use gate::{Gate, OpenGate};
+pub use in_turn::{read_all, read_into};
 pub use ld_trace::MAX_TRACES;
 pub use runs::{MAX_WORKERS, run};
 pub use seat::{MAX_CLAIMS, Seat};
 pub use settled::{Settled, settle};
+pub use sources::Sources;
 pub use survey_fault::SurveyFault;
 pub use surveys::survey;
+pub use unread::{ReadFault, Unread};
 pub use worker::{Worked, work};

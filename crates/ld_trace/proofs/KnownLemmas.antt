@@ -1,5 +1,6 @@
--- A name that is in a table, and the record that names it.
+-- A name that stands in a table, and the record that names it.
 use Rattle.std.proofs.Common.{◌≡◌, ℕ, zero, suc, ◌==◌, Bool, true, false, List, [], ◌∷◌, slice_get, nat_le, Option, Some, None, IsSomeAnd, codes, refl, sym, ap, ◌∙◌, arith, true≢false}
+use Rattle.std.specs.Cmp.{IsEquivalence}
 use Rattle.std.specs.List.{AllByRecursion, IsDistinct, list_all}
 use Rattle.std.specs.Str.{bytes_eq}
 use Rattle.std.proofs.lemmas.Bool.{and_from, and_parts}
@@ -22,7 +23,27 @@ is_same-back a b h =
     let both = and_parts (bytes_eq a.0 b.0) (a.1 == b.1) h in
     and_from (bytes_eq b.0 a.0) (b.1 == a.1) ((bytes_eq-Decides b.0 a.0).1 (sym ((bytes_eq-Decides a.0 b.0).0 both.0))) ((Decides-eqb b.1 a.1).1 (sym ((Decides-eqb a.1 b.1).0 both.1)))
 
--- the place of a name among distinct ones is where it is
+-- names that are the same are equal
+pub same-name : (a b : Name) → is_same a b ≡ true → a ≡ b
+same-name a b h =
+    let parts = and_parts (bytes_eq a.0 b.0) (a.1 == b.1) h in
+    let class = (bytes_eq-Decides a.0 b.0).0 parts.0 in
+    let sub = (Decides-eqb a.1 b.1).0 parts.1 in
+    λ i. (class i, sub i)
+
+pub is_same-laws : IsEquivalence is_same
+is_same-laws = record {
+  refl = is_same-itself;
+  symm = λ a b. both (is_same a b) (is_same b a) (is_same-back a b) (is_same-back b a);
+  congr = λ a b n h. ap (λ x. is_same x n) (same-name a b h);
+}
+  where
+    both : (x y : Bool) → (x ≡ true → y ≡ true) → (y ≡ true → x ≡ true) → x ≡ y
+    both true y there back = sym (there refl)
+    both false true there back = back refl
+    both false false there back = refl
+
+-- the place of a name that stands among distinct ones is where it stands
 pub place_of-there : (names : List Name) (name : Name) (i : ℕ) → IsDistinct is_same names → slice_get names i ≡ Some name → (place_of names name ≡ i) × (is_known names name ≡ true)
 unfolding IsDistinct
 place_of-there [] name i d h = absurd (cc)
@@ -57,7 +78,7 @@ module _ (table : Table) (class digits : List ℕ) (sub key : ℕ) (numbered : A
   good : is_class_name class ≡ true
   good = (and_parts (is_class_name class) (nat_le sub MAX_SUB) (named-there table.names (class, sub) key numbered.named here)).0
 
-  -- a record that releases a name of the table
+  -- a record that gives back a name of the table
   pub release-known : (verb : List ℕ) → bytes_eq verb (codes "rel") ≡ true → IsEventOf table.room table.names (release_line verb (name_of_fields class (sub_of digits))) (Release key)
   release-known verb rel = record {
     line = gives_back (class, sub);

@@ -6,4 +6,7 @@ pub mod StoredLemmas
 pub mod TakenLemmas
 mod KnownLemmas
 mod WriteLemmas
+mod LineLemmas
+mod Alike
 mod ReadBack
+mod TakenIn

@@ -1,16 +1,13 @@
 -- What is written of a trace reads back.
 use Rattle.std.specs.Prelude.{⊤}
-use Rattle.std.proofs.Common.{◌≡◌, ℕ, zero, suc, ◌+◌, ◌-◌, ◌≤◌, ◌<◌, ◌||◌, ◌&&◌, ◌==◌, not, Bool, true, false, true≢false, List, [], ◌∷◌, ◌++◌, map, length, slice_get, nat_le, unwrap_or, Some, None, Ok, refl, sym, ap, ◌∙◌, subst, arith, append_assoc, length-append, if◌then◌else◌}
+use Rattle.std.proofs.Common.{◌≡◌, ℕ, zero, suc, ◌+◌, ◌-◌, ◌≤◌, ◌<◌, ◌||◌, not, Bool, true, false, true≢false, List, [], ◌∷◌, ◌++◌, map, length, slice_get, nat_le, Some, None, Ok, refl, sym, ap, ◌∙◌, subst, arith, if◌then◌else◌}
 use Rattle.std.specs.List.{IsDistinct, flat_map, list_all, list_any}
-use Rattle.std.specs.Cmp.{IsEquivalence}
-use Rattle.std.specs.Str.{bytes_eq}
 use Rattle.std.proofs.lemmas.Bool.{and_parts}
-use Rattle.std.proofs.lemmas.Bool.Decides.{Decides-eqb, nat_tests}
-use Rattle.std.proofs.lemmas.List.{append-nil, length-map}
+use Rattle.std.proofs.lemmas.Bool.Decides.{nat_tests}
+use Rattle.std.proofs.lemmas.List.{length-map}
 use Rattle.std.proofs.lemmas.List.Folds.{list_any-append}
 use Rattle.std.proofs.lemmas.Map.Keys.{IsDistinct-push}
 use Rattle.std.proofs.lemmas.Map.Made.{length-le_from_is_member}
-use Rattle.std.proofs.lemmas.Slice.Eq.{bytes_eq-Decides}
 use Rattle.csv.specs.Machine.{next_record}
 use Rattle.csv.specs.Reading.{Reached, default_config, strip_bom}
 use Rattle.csv.specs.Writing.{escaped, fields_text, is_blank, read_back}
@@ -27,16 +24,15 @@ use Rattle.ld_trace.specs.declared.version.Version.{Version}
 use Rattle.ld_trace.specs.declared.version.Version.TheVariants.{One, Two}
 use Rattle.ld_trace.specs.Events.{KeyIsBelow, KeysBelow, is_try}
 use Rattle.ld_trace.specs.Laws.{AreOfTable, NewTablesHaveRoom, TextsReadBack, TextsReadThemselves, lines_at, with_lines}
-use Rattle.ld_trace.specs.Lines.{Line, Record, takes, gives_back, enters, leaves, turns_on, turns_off, event_of, is_over, line_of_record, mode_of, sub_of, version_of, with_line}
+use Rattle.ld_trace.specs.Lines.{Line, takes, gives_back, enters, leaves, turns_on, turns_off, event_of, line_of_record, mode_of, sub_of, version_of, with_line}
 use Rattle.ld_trace.specs.Modes.{may_wait}
-use Rattle.ld_trace.specs.Names.{Name, Table, is_class_name, is_known, is_name, is_one_too_many, is_same, place_of, with_name}
-use Rattle.ld_trace.specs.Inside.Progress.{AreTaken, TakesLine}
+use Rattle.ld_trace.specs.Names.{Name, Table, is_class_name, is_known, is_name, is_same, with_name}
 use Rattle.ld_trace.specs.Reading.{ReadsTo, records_of}
 use Rattle.ld_trace.specs.Writing.{event_text, header_of, line_at, mode_word, name_at, record_of, record_text, sub_word, trace_text, version_for}
 use Rattle.ld_trace.proofs.CsvLemmas.{records-all}
-use Rattle.ld_trace.proofs.KnownLemmas.{is_same-back, is_same-itself, named-there, place_of-there}
+use Rattle.ld_trace.proofs.KnownLemmas.{is_same-laws, named-there, place_of-there, same-name}
 use Rattle.ld_trace.proofs.ReadLemmas.{reads-to, taken-header}
-use Rattle.ld_trace.proofs.TakenLemmas.{place-below, slice_get-front, taken-more, with_line-added}
+use Rattle.ld_trace.proofs.LineLemmas.{Say, events_with, head-below, lines_at-events_with, or-none, tail-below, taken-said}
 
 -- ---- a record says what it was written for
 -- the line's name is one, and its mode is one of the version's
@@ -76,7 +72,7 @@ abbrev AreGood : Version → List Line → Type 0
 AreGood version [] = ⊤
 AreGood version (line ∷ lines) = IsGood version line × AreGood version lines
 
-name_at-there : (names : List Name) (key : ℕ) → key < length names → slice_get names key ≡ Some (name_at names key)
+pub name_at-there : (names : List Name) (key : ℕ) → key < length names → slice_get names key ≡ Some (name_at names key)
 name_at-there [] key h = absurd (omega arith)
 name_at-there (x ∷ xs) zero h = refl
 name_at-there (x ∷ xs) (suc key) h = name_at-there xs key (omega arith)
@@ -117,20 +113,10 @@ line-good version names Leave named below has = tt
 line-good version names (TurnOn irq) named below has = tt
 line-good version names (TurnOff irq) named below has = tt
 
-head-below : (n : ℕ) (event : Event) (events : List Event) → KeysBelow n (event ∷ events) → KeyIsBelow n event
-head-below n event events below = below 0 event (omega arith)
-
-tail-below : (n : ℕ) (event : Event) (events : List Event) → KeysBelow n (event ∷ events) → KeysBelow n events
-tail-below n event events below = λ k d lt. below (suc k) d (omega (arith, lt))
-
 -- the version has all of these events
 abbrev AllHave : Version → List Event → Type 0
 AllHave version [] = ⊤
 AllHave version (event ∷ events) = Has version event × AllHave version events
-
-or-none : (a b : Bool) → (a || b) ≡ false → (a ≡ false) × (b ≡ false)
-or-none false b h = (refl, h)
-or-none true b h = absurd (true≢false h)
 
 all-have-one : (events : List Event) → list_any is_try events ≡ false → AllHave One events
 all-have-one [] h = tt
@@ -200,116 +186,10 @@ records-text names events =
     records-all (trace_text names events) st.StartRecord [] rows
     (subst (λ text. Reached default_config st.StartRecord text rows st.StartRecord []) (sym (no-mark-text names events)) (trace-reached names events)) ended
 
--- ---- the events of the records
--- the events that lines stand for over some names
-abbrev events_with : List Name → List Line → List Event
-events_with now [] = []
-events_with now (line ∷ lines) = event_of now line ∷ events_with (with_line now line) lines
-
-length-events_with : (now : List Name) (lines : List Line) → length (events_with now lines) ≡ length lines
-length-events_with now [] = refl
-length-events_with now (line ∷ lines) = let rest = length-events_with (with_line now line) lines in omega (arith, rest)
-
-with_lines-added : (now : List Name) (lines : List Line) → (more : List Name) × (with_lines now lines ≡ now ++ more)
-unfolding with_lines
-with_lines-added now [] = ([], sym (append-nil now))
-with_lines-added now (line ∷ lines) =
-    let one = with_line-added now line in
-    let rest = with_lines-added (with_line now line) lines in
-    (one.0 ++ rest.0, rest.1 ∙ ap (λ l. l ++ rest.0) one.1 ∙ append_assoc now one.0 rest.0)
-
-length-with_lines : (now : List Name) (lines : List Line) → length now ≤ length (with_lines now lines)
-length-with_lines now lines = let a = with_lines-added now lines in omega (arith, ap length a.1, length-append now a.0)
-
--- a name for which there is room is not one too many
-name-fits : (room : ℕ) (now : List Name) (name : Name) → length (with_name now name) ≤ room → is_one_too_many room now name ≡ false
-name-fits room now name fits = by (is_known now name) fits
-  where
-    by : (b : Bool) → length (if b then now else now ++ name ∷ []) ≤ room → (not b && nat_le room (length now)) ≡ false
-    by true h = refl
-    by false h = let long = length-append now (name ∷ []) in grind (arith, nat_tests)
-
-line-fits : (room : ℕ) (now : List Name) (line : Line) → length (with_line now line) ≤ room → is_over room now line ≡ false
-line-fits room now (takes name mode) fits = name-fits room now name fits
-line-fits room now (gives_back name) fits = name-fits room now name fits
-line-fits room now (enters irq) fits = refl
-line-fits room now leaves fits = refl
-line-fits room now (turns_on irq) fits = refl
-line-fits room now (turns_off irq) fits = refl
-
--- all lines were taken
-taken-lines : (room : ℕ) (version : Version) (old : List Name) (rows : List Record) (now : List Name) (before : List Event) (lines : List Line) → AreTaken room version old rows now before → AreGood version lines → length before + length lines ≤ MAX_EVENTS → length (with_lines now lines) ≤ room → AreTaken room version old (rows ++ map record_of lines) (with_lines now lines) (before ++ events_with now lines)
-unfolding with_lines
-taken-lines room version old rows now before [] a good few fits = rw (append-nil rows, append-nil before) a
-taken-lines room version old rows now before (line ∷ lines) a good few fits =
-    let next = with_line now line in
-    let event = event_of now line in
-    let long = length-append before (event ∷ []) in
-    let more = length-with_lines next lines in
-    let taken : TakesLine room version now next before (before ++ event ∷ []) (record_of line) = record {
-      line = line;
-      says = line_of_record-of version line good.0;
-      fits = line-fits room now line (omega (arith, more, fits));
-      names = refl;
-      events = refl;
-    } in
-    let step = taken-more room version old rows now next before (before ++ event ∷ []) (record_of line) a taken (omega (arith, few)) in
-    let rest = taken-lines room version old (rows ++ record_of line ∷ []) next (before ++ event ∷ []) lines step good.1 (omega (arith, few, long)) fits in
-    rw (append_assoc rows (record_of line ∷ []) (map record_of lines), append_assoc before (event ∷ []) (events_with next lines)) at rest
-
--- ---- what the events say
--- names that are the same are equal
-same-name : (a b : Name) → is_same a b ≡ true → a ≡ b
-same-name a b h =
-    let parts = and_parts (bytes_eq a.0 b.0) (a.1 == b.1) h in
-    let class = (bytes_eq-Decides a.0 b.0).0 parts.0 in
-    let sub = (Decides-eqb a.1 b.1).0 parts.1 in
-    λ i. (class i, sub i)
-
--- a new name is at the end
-new-there : (names : List Name) (name : Name) → is_known names name ≡ false → slice_get (names ++ name ∷ []) (place_of names name) ≡ Some name
-new-there [] name h = refl
-new-there (x ∷ xs) name h =
-    let parts = or-none (is_same name x) (is_known xs name) h in
-    let next : 1 + place_of xs name ≡ suc (place_of xs name) = omega arith in
-    rw (parts.0, next) (new-there xs name parts.1)
-
-found-there : (names : List Name) (name : Name) → is_known names name ≡ true → slice_get names (place_of names name) ≡ Some name
-found-there [] name h = absurd (true≢false (sym h))
-found-there (x ∷ xs) name h = by (is_same name x) refl (found-there xs name)
-  where
-    by : (b : Bool) → is_same name x ≡ b → (is_known xs name ≡ true → slice_get xs (place_of xs name) ≡ Some name) → slice_get (x ∷ xs) (place_of (x ∷ xs) name) ≡ Some name
-    by true e rest = rw e (ap Some (sym (same-name name x e)))
-    by false e rest = let next : 1 + place_of xs name ≡ suc (place_of xs name) = omega arith in rw (e, next) (rest (rw e at h))
-
--- a name is at its place in the names with it
-with_name-there : (names : List Name) (name : Name) → slice_get (with_name names name) (place_of names name) ≡ Some name
-with_name-there names name = by (is_known names name) refl
-  where
-    by : (b : Bool) → is_known names name ≡ b → slice_get (if b then names else names ++ name ∷ []) (place_of names name) ≡ Some name
-    by true e = found-there names name e
-    by false e = new-there names name e
-
--- and so it does in longer ones
-name_at-longer : (names more : List Name) (name : Name) → name_at (with_name names name ++ more) (place_of names name) ≡ name
-name_at-longer names more name =
-    ap (λ found. unwrap_or found ([], 0)) (slice_get-front (with_name names name) more (place_of names name) (place-below names name) ∙ with_name-there names name)
-
-line_at-longer : (now more : List Name) (line : Line) → line_at (with_line now line ++ more) (event_of now line) ≡ line
-line_at-longer now more (takes name mode) = ap (λ n. takes n mode) (name_at-longer now more name)
-line_at-longer now more (gives_back name) = ap gives_back (name_at-longer now more name)
-line_at-longer now more (enters irq) = refl
-line_at-longer now more leaves = refl
-line_at-longer now more (turns_on irq) = refl
-line_at-longer now more (turns_off irq) = refl
-
-lines_at-events_with : (now : List Name) (lines : List Line) → lines_at (with_lines now lines) (events_with now lines) ≡ lines
-unfolding with_lines
-lines_at-events_with now [] = refl
-lines_at-events_with now (line ∷ lines) =
-    let rest = with_lines-added (with_line now line) lines in
-    let first : line_at (with_lines (with_line now line) lines) (event_of now line) ≡ line = rw rest.1 (line_at-longer now rest.0 line) in
-    rw (first, lines_at-events_with (with_line now line) lines) refl
+-- good lines are what their records say
+say-good : (version : Version) (lines : List Line) → AreGood version lines → Say version (map record_of lines) lines
+say-good version [] good = tt
+say-good version (line ∷ lines) good = (line_of_record-of version line good.0, say-good version lines good.1)
 
 -- ---- the laws
 module _ (table : Table) (events : List Event) (are : AreOfTable table events) where
@@ -324,7 +204,7 @@ module _ (table : Table) (events : List Event) (are : AreOfTable table events) w
       let good = lines-good (version_for events) table.names events are.numbered.named are.below (all-have events) in
       let long : length (lines_at table.names events) ≡ length events = length-map events (line_at table.names) in
       let few : 0 + length (lines_at table.names events) ≤ MAX_EVENTS = omega (arith, are.few, long) in
-      let taken = taken-lines room (version_for events) old (header_of (version_for events) ∷ []) old [] (lines_at table.names events) header good few fits in
+      let taken = taken-said room (version_for events) old (header_of (version_for events) ∷ []) old [] (map record_of (lines_at table.names events)) (lines_at table.names events) header (say-good (version_for events) (lines_at table.names events) good) few fits in
       reads-to room (version_for events) old (trace_text table.names events) (header_of (version_for events) ∷ map record_of (lines_at table.names events)) (with_lines old (lines_at table.names events)) (events_with old (lines_at table.names events))
       (records-text table.names events) taken
 
@@ -369,18 +249,6 @@ texts-read-themselves table events are =
     rw (known.0, known.1) at (reads-back table events are table.room table.names fits)
 
 -- ---- a new table has room
-is_same-laws : IsEquivalence is_same
-is_same-laws = record {
-  refl = is_same-itself;
-  symm = λ a b. both (is_same a b) (is_same b a) (is_same-back a b) (is_same-back b a);
-  congr = λ a b n h. ap (λ x. is_same x n) (same-name a b h);
-}
-  where
-    both : (x y : Bool) → (x ≡ true → y ≡ true) → (y ≡ true → x ≡ true) → x ≡ y
-    both true y there back = sym (there refl)
-    both false true there back = back refl
-    both false false there back = refl
-
 -- names of the table, none twice
 record AreAmong (names now : List Name) : Type 0 where
   once : IsDistinct is_same now

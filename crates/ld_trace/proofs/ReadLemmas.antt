@@ -28,7 +28,7 @@ lockdep-says : (irq : Option Irq) → irq_line (codes "lockdep") irq ≡ Err Bad
 lockdep-says None = refl
 lockdep-says (Some irq) = refl
 
-header-says : (version : Version) (h : Record) (named : Version) → version_of h ≡ Some named → line_of_record version h ≡ Err BadRecord
+pub header-says : (version : Version) (h : Record) (named : Version) → version_of h ≡ Some named → line_of_record version h ≡ Err BadRecord
 unfolding version_of line_of_record
 header-says version [] named e = absurd (cc)
 header-says version (w ∷ []) named e = absurd (cc)

@@ -1,4 +1,5 @@
 pub mod Progress
 pub mod ReadLines
+pub mod Renumbered
 pub mod Stored
 pub mod Written

@@ -1,11 +1,12 @@
 -- What holds of all traces: the laws that this crate proves of its definitions.
-use Rattle.std.specs.Prelude.{◌≡◌, ℕ, ◌≤◌, List, [], ◌∷◌, length, map}
+use Rattle.std.specs.Prelude.{◌≡◌, ℕ, ◌≤◌, List, [], ◌∷◌, ◌++◌, length, map}
 use Rattle.ld_trace.specs.declared.event.Event.{Event}
 use Rattle.ld_trace.specs.declared.raw_trace.TheConstants.{MAX_EVENTS}
 use Rattle.ld_trace.specs.Events.{KeysBelow}
 use Rattle.ld_trace.specs.Lines.{Line, with_line}
 use Rattle.ld_trace.specs.Names.{AreNumbered, Name, Table}
 use Rattle.ld_trace.specs.Reading.{ReadsTo}
+use Rattle.ld_trace.specs.TakingIn.{Leads, Within, all_moved, with_all}
 use Rattle.ld_trace.specs.Writing.{line_at, trace_text}
 
 -- what the events say, with their keys' names
@@ -46,3 +47,14 @@ NewTablesHaveRoom = (table : Table) (events : List Event) → AreOfTable table e
 abbrev pub TextsReadThemselves : Type 0
 TextsReadThemselves = (table : Table) (events : List Event) → AreOfTable table events
     → ReadsTo table.room table.names (trace_text table.names events) table.names events
+
+-- a trace that reads over some names reads over any others too that have those, where there is room for all that it adds: it takes
+-- them to the others with its own among them, and stands for events that say the same
+abbrev pub TracesReadAlike : Type 0
+TracesReadAlike = (any room : ℕ) (start own names : List Name) (bytes : List ℕ) (events : List Event)
+    → Within start names → ReadsTo any start bytes own events → length (with_all names own) ≤ room
+    → ReadsTo room names bytes (with_all names own) (all_moved own (with_all names own) events)
+
+-- a renumbering stays one when the table gets more names
+abbrev pub RenumberingsStay : Type 0
+RenumberingsStay = (own names more : List Name) (numbers : List ℕ) → Leads own numbers names → Leads own numbers (names ++ more)

@@ -6,5 +6,6 @@ pub mod Lines
 pub mod Modes
 pub mod Names
 pub mod Reading
+pub mod TakingIn
 pub mod TraceFaults
 pub mod Writing

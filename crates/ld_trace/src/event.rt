@@ -83,8 +83,9 @@ pub enum Event {
 }
 
 impl Event {
-    ghost use Rattle.std.specs.Prelude.{◌≡◌, ◌↔◌, IsTrue};
+    ghost use Rattle.std.specs.Prelude.{◌≡◌, ◌↔◌, IsTrue, length};
     ghost use Rattle.ld_trace.specs.Events.{KeyIsBelow, is_try};
+    ghost use Rattle.ld_trace.specs.Inside.Renumbered.{event_with};
 
     // Whether its key, if it has one, is below `n`.
     pub(crate) fn key_is_below(&self, n: u16) -> bool
@@ -103,6 +104,23 @@ impl Event {
         match self {
             Event::Acquire { mode, .. } => !mode.may_wait(),
             _ => false,
+        }
+    }
+
+    // The event with the key at this place of the list in place of its own, if it has one.
+    pub(crate) fn renumbered(self, numbers: &[KeyId]) -> Event
+        requires { KeyIsBelow (length numbers.now) self }
+        ensures { result ≡ event_with numbers.now self }
+    {
+        match self {
+            Event::Acquire { mode, key } => Event::Acquire {
+                mode,
+                key: numbers[usize::from(key.get())],
+            },
+            Event::Release { key } => Event::Release {
+                key: numbers[usize::from(key.get())],
+            },
+            other => other,
         }
     }
 }

@@ -1,6 +1,6 @@
 //! The table that numbers lock keys.
 
-ghost use Rattle.std.specs.Prelude.{◌≡◌, ◌≤◌, ◌<◌, ◌↔◌, [], IsOk, IsOkAnd, IfOk, IfErr, OnErr, IsErrOf, IfSome, length, slice_get, option_map, true, false, ◌⊎◌};
+ghost use Rattle.std.specs.Prelude.{◌≡◌, ◌≤◌, ◌<◌, ◌↔◌, [], IsOk, IsOkAnd, IfOk, IfErr, OnErr, IsErrOf, IfSome, length, slice_get, take, option_map, true, false, ◌⊎◌};
 ghost use Rattle.ld_trace.specs.Names.{AreNumbered, is_class_name, is_known, is_name, is_one_too_many, is_same, place_of, with_name};
 ghost use Rattle.ld_trace.specs.Inside.Stored.{name_of, names_of};
 ghost use Rattle.std.specs.List.{IsDistinct};
@@ -14,17 +14,16 @@ use std::marker::Model;
 /// The greatest subclass.
 pub const MAX_SUB: u8 = 7;
 
-/// The names of the lock keys, numbered 0, 1, and so on in the order in which they were first seen.
+/// The names of the lock keys, numbered 0, 1, and so on in order of first sight.
 ///
-/// A name is that of a lock class, 1 to 64 bytes of 0x21 to 0x7E, together with a subclass, 0 to 7. A table holds each
-/// name once, and at most as many as it was made for: 256, or another number up to 8,192.
+/// A name is that of a lock class, 1 to 64 bytes of 0x21 to 0x7E, together with a subclass, 0 to 7. A table holds none twice,
+/// and at most as many as it was made for: 256, or another number up to 8,192.
 #[derive(Drop)]
 pub struct KeyTable {
     names: IndexSet<StoredName>,
     // The most names that it takes.
     room: u16,
-    // The place at which a name of each slot was last found. It is only a hint: it may be anything, and is checked
-    // before it is used.
+    // Where a name of each slot was found last. It is a hint: it may be anything, and is looked at before it is believed.
     recent: [u16; SLOTS],
 }
 
@@ -40,16 +39,16 @@ impl Model for KeyTable {
 }
 
 impl KeyTable {
-    /// An empty table, with room for 256 names. It takes no memory yet, and never fails, although its type allows a
-    /// fault.
+    /// A table without names, with room for 256 of them. It takes no memory yet; K4 is the only refusal that its type leaves
+    /// room for.
     pub fn new(alloc: Global) -> Result<KeyTable, KeyFault>
         ensures { IsOkAnd result (λ table. (table.room ≡ MAX_KEYS) × (table.names ≡ [])) }
     {
         KeyTable::with_room(alloc, MAX_KEYS)
     }
 
-    /// An empty table, with room for `room` names, at most `MAX_MANY`. It takes no memory yet, and never fails,
-    /// although its type allows a fault.
+    /// A table without names, with room for `room` of them, at most `MAX_MANY`. It takes no memory yet; K4 is the only refusal
+    /// that its type leaves room for.
     pub fn with_room(alloc: Global, room: u16) -> Result<KeyTable, KeyFault>
         requires { room ≤ MAX_MANY }
         ensures { IsOkAnd result (λ table. (table.room ≡ room) × (table.names ≡ [])) }
@@ -71,10 +70,9 @@ impl KeyTable {
 
     /// The number of the key of this class's name and subclass: the one that it has, or else the next one.
     ///
-    /// Refusals, in this order: K1 if the name isn't 1 to 64 bytes of 0x21 to 0x7E, K2 if the subclass is above 7, K3
-    /// if the key would be one more than there is room for (in a table made by `new`, the 257th), K4 if memory for a
-    /// new key is refused. After a refusal the table is unchanged. The number of a key that the table already has is
-    /// returned without taking memory.
+    /// Refusals, in this order: K1 where the name isn't 1 to 64 bytes of 0x21 to 0x7E, K2 where the subclass is above 7,
+    /// K3 where the key would be one more than there is room for (of a table of `new`, the 257th), K4 where memory for a new
+    /// key was refused. After a refusal the table is unchanged. A key that is there is answered without memory.
     pub fn number(&mut self, name: &str, sub: u8) -> Result<KeyId, KeyFault>
         ensures value { IfOk result (λ key. key ≡ place_of self.old.names (name.now, sub)) }
         ensures names { IfOk result (λ _. self.new.names ≡ with_name self.old.names (name.now, sub)) }
@@ -99,7 +97,7 @@ impl KeyTable {
         self.number_name(name, sub)
     }
 
-    // `number` for a name and a subclass that were already checked, so only K3 and K4 are left.
+    // The same for a name and a subclass that were looked at before, so K3 and K4 alone are answered.
     pub(crate) fn number_name(&mut self, name: &str, sub: u8) -> Result<KeyId, KeyFault>
         requires { is_name (name.now, sub) ≡ true }
         ensures value { IfOk result (λ key. key ≡ place_of self.old.names (name.now, sub)) }
@@ -117,8 +115,8 @@ impl KeyTable {
         Ok(KeyId::from_place(place))
     }
 
-    // The number of the key of this name and subclass, if the table found it recently. It takes a fraction of the time
-    // of `number_name`. None doesn't mean that the table lacks it.
+    // The number of the key of this name and subclass, where the table found it lately. It takes a fraction of the time of
+    // `number_name`. None says nothing.
     pub(crate) fn known(&self, name: &[u8], sub: u8) -> Option<KeyId>
         ensures hit { IfSome result (λ key. slice_get self.now.names key ≡ Some (name.now, sub)) }
         ensures numbered { AreNumbered self.now }
@@ -132,7 +130,31 @@ impl KeyTable {
         }
     }
 
-    /// The class's name and the subclass of the key of this number. None exactly if no key has it.
+    // The class's name and the subclass at this place. None exactly where there is none.
+    pub(crate) fn name_at(&self, place: usize) -> Option<(&str, u8)>
+        ensures value { option_map (λ name. (name.0.now, name.1)) result ≡ slice_get self.now.names place }
+        ensures named { IfSome result (λ name. is_name (name.0.now, name.1) ≡ true) }
+    {
+        let name = self.names.get_index(place)?;
+        Some((name.text.as_str(), name.sub))
+    }
+
+    // Does nothing. Its clause is what a table keeps, for proofs outside of this file.
+    pub(crate) fn keeps_its_rule(&self)
+        ensures numbered { AreNumbered self.now }
+    {
+        let _names = &self.names;
+    }
+
+    // Takes the names from this place on out again.
+    pub(crate) fn forget_from(&mut self, place: usize)
+        ensures names { self.new.names ≡ take place self.old.names }
+        ensures room { self.new.room ≡ self.old.room }
+    {
+        self.names.truncate(place);
+    }
+
+    /// The class's name and the subclass of the key of this number. None exactly where no key has it.
     pub fn name_of(&self, id: KeyId) -> Option<(&str, u8)>
         ensures value { option_map (λ name. (name.0.now, name.1)) result ≡ slice_get self.now.names id }
         ensures short { IfSome result (λ name. length name.0.now ≤ MAX_NAME) }
@@ -143,7 +165,7 @@ impl KeyTable {
     }
 }
 
-// The place of a name among those of a table with this room; a new one goes last.
+// The place of a name among those of a table with this room, where a new one goes last.
 fn place_among(
     names: &mut IndexSet<StoredName>,
     room: u16,

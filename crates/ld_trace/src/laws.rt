@@ -1,6 +1,6 @@
 //! Laws of the definitions, each carried by a function that does nothing.
 
-ghost use Rattle.ld_trace.specs.Laws.{NewTablesHaveRoom, TextsReadBack, TextsReadThemselves};
+ghost use Rattle.ld_trace.specs.Laws.{NewTablesHaveRoom, RenumberingsStay, TextsReadBack, TextsReadThemselves, TracesReadAlike};
 
 /// What `trace_text` writes, `read_trace` reads back: over any table with room for the trace's names, as events that
 /// say the same, each key by its name; a new table with as much room as the trace's own has room for them; and over the
@@ -9,4 +9,15 @@ pub fn written_traces_read_back()
     ensures any { TextsReadBack }
     ensures new { NewTablesHaveRoom }
     ensures same { TextsReadThemselves }
+{}
+
+/// A trace that reads over a table of its own reads over any other table too that has the names which its own began with, and
+/// room for all: it stands for events that say the same, each key by its name.
+pub fn traces_read_alike()
+    ensures alike { TracesReadAlike }
+{}
+
+/// A renumbering stays one when the table that takes in gets more names.
+pub fn renumberings_stay()
+    ensures stay { RenumberingsStay }
 {}

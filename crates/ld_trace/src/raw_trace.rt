@@ -1,9 +1,10 @@
 //! Traces as they were read.
 
-ghost use Rattle.std.specs.Prelude.{◌≡◌, ◌≤◌, ◌↔◌, IsTrue, IsSome, IfSome, length, slice_get};
+ghost use Rattle.std.specs.Prelude.{◌≡◌, ◌≤◌, ◌↔◌, IsTrue, IsSome, IfSome, length, map, slice_get};
 ghost use Rattle.ld_trace.specs.Events.{KeysBelow, has_try};
+ghost use Rattle.ld_trace.specs.Inside.Renumbered.{event_with};
 
-use crate::Event;
+use crate::{Event, KeyId};
 use std::marker::Model;
 
 /// The most events that a trace may have.
@@ -85,5 +86,24 @@ impl RawTrace {
         ensures { result ≡ has_try self.now }
     {
         self.events.iter().any(|event| event.is_try())
+    }
+
+    // The trace with other numbers: for each key the one at its place of the list.
+    pub(crate) fn renumbered(mut self, numbers: &[KeyId]) -> RawTrace
+        requires { KeysBelow (length numbers.now) self }
+        ensures { result ≡ map (event_with numbers.now) self }
+    {
+        renumber(self.events.as_mut_slice(), numbers);
+        self
+    }
+}
+
+// Gives each key of the events the number at its place of the list.
+fn renumber(events: &mut [Event], numbers: &[KeyId])
+    requires { KeysBelow (length numbers.now) events.old }
+    ensures { events.new ≡ map (event_with numbers.now) events.old }
+{
+    for event in events.iter_mut() {
+        *event = event.renumbered(numbers);
     }
 }

@@ -7,6 +7,7 @@ use std::alloc::{AllocError, Global};
 use std::process::ExitCode;
 use std::{env, io};
 
+mod adding;
 mod condensed;
 mod fault;
 mod output;
@@ -19,9 +20,10 @@ mod source;
 #[cfg(test)]
 mod tests;
 
-use program::program;
+use program::program_side_by_side;
 use refusal::{REFUSED, Refusal, refuse};
 use std::io::{Read, Write};
+use std::marker::{Send, Sync};
 use std::rt::{Env, Files};
 use std::sync::Wait;
 use std::thread::Threads;
@@ -51,6 +53,8 @@ fn texts_of<'a>(alloc: Global, words: &'a [String]) -> Result<Vec<&'a str>, Allo
 fn run<R, I, O, E>(rt: &R, input: I, out: &mut O, err: &mut E) -> u8
 where
     R: Files + Env + Threads + Wait + Sync + AllocGlobal,
+    R::File: Send + Sync,
+    R::Dir: Send + Sync,
     I: Read + Drop,
     O: Write,
     E: Write,
@@ -60,7 +64,7 @@ where
         Err(refusal) => return refuse(err, refusal).unwrap_or(REFUSED),
     };
     match texts_of(rt.alloc(), words.as_slice()) {
-        Ok(texts) => program(rt, rt.alloc(), texts.as_slice(), input, out, err),
+        Ok(texts) => program_side_by_side(rt, rt.alloc(), texts.as_slice(), input, out, err),
         Err(_) => refuse(err, Refusal::Memory).unwrap_or(REFUSED),
     }
 }

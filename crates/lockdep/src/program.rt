@@ -18,6 +18,7 @@ ghost use Rattle.lockdep.specs.Program.{AreTracesOf, DoesLine, DoesWords, IsRead
 ghost use Rattle.lockdep.specs.Texts.{view_of};
 ghost use Rattle.lockdep.specs.declared.refusal.Refusal.{Refusal};
 
+use crate::adding::{Adds, InTurn, SideBySide, add_trace};
 use crate::fault::ReportFault;
 use crate::output::Output;
 use crate::refusal::{REFUSED, Refusal, refuse};
@@ -32,6 +33,7 @@ use ld_words::{Line, LineFault, command_line};
 use std::alloc::Global;
 use std::fs::File;
 use std::io::{Read, Write};
+use std::marker::{Send, Sync};
 use std::rt::Files;
 use std::sync::Wait;
 use std::thread::Threads;
@@ -42,17 +44,16 @@ const DONE: u8 = 0;
 /// The status if another output was written of facts that aren't clean.
 const NOT_CLEAN: u8 = 1;
 
-/// The program. The words begin with its name, `input` is standard input, `out` standard output and `err` standard
-/// error. `lockdep check [--workers N] [--many] [FILE...]` writes the report of the traces in these files, `lockdep
-/// explain [--json]` what was found in them and the records that cause it, `lockdep graph [--findings]` a picture of
-/// their facts, `lockdep condense` one trace that has exactly their facts, and `lockdep chains [FILE]` the chains of a
-/// trace. Without a file one trace is read from the input. Each file is opened and read before the next one is.
-/// `lockdep --version` writes the version, and `lockdep help` how to call the program.
+/// The program. The words begin with its name, `input` stands for standard input, `out` for standard output and `err` for
+/// standard error. `lockdep check [--workers N] [--many] [FILE...]` writes the report of the traces in these files, `lockdep
+/// explain [--json]` what was found in them and the records that it comes from, `lockdep graph [--findings]` a picture of their
+/// facts, `lockdep condense` one trace that has exactly their facts, and `lockdep chains [FILE]` the chains of a trace. Without a
+/// file one trace is read from the input. Each file is opened and read before the next one is. `lockdep --version` writes the
+/// version, and `lockdep help` how the program is called.
 ///
-/// The status is 0 if the facts are clean, if the condensed trace or the chains were written, or if help or the version
-/// was asked for; 1 if a report, an explanation or a picture was written of facts that aren't clean; and 2 if the
-/// program refused. Then exactly one line is written to `err`, and otherwise none; if `err` fails, that is ignored.
-/// This project's own.
+/// The status is 0 if the facts are clean, if the condensed trace or the chains were written, or if help or the version was
+/// asked for; 1 if a report, an explanation or a picture was written of facts that aren't clean; and 2 if the program refused.
+/// Then exactly one line is written to `err`, and otherwise none; if `err` fails, that is ignored. This project's own.
 pub fn program<R: Files + Threads + Wait + Sync, I: Read + Drop, O: Write, E: Write>(
     rt: &R,
     alloc: Global,
@@ -70,15 +71,63 @@ pub fn program<R: Files + Threads + Wait + Sync, I: Read + Drop, O: Write, E: Wr
         (O.contents out.old) (O.contents out.new) refusal
         × AppendsBeginning (E.contents err.old) (E.contents err.new) (fault_line refusal) }
 {
-    match answer_or_refuse(rt, alloc, words, input, out, err) {
+    run_program(rt, &InTurn { rt }, alloc, words, input, out, err)
+}
+
+/// The same program, and the same in every word, but with several workers later files may be opened before an earlier one was read
+/// whole: what is written, and the status, are those of reading them in turn.
+pub fn program_side_by_side<R: Files + Threads + Wait + Sync, I: Read + Drop, O: Write, E: Write>(
+    rt: &R,
+    alloc: Global,
+    words: &[&str],
+    input: I,
+    out: &mut O,
+    err: &mut E,
+) -> u8
+where
+    R::File: Send + Sync,
+    R::Dir: Send + Sync,
+    ensures status { result ≤ 2 }
+    ensures done { result < 2 → DoesWords (map (λ word. word.now) words.entry.now) (I.remaining input)
+        (O.contents out.old) (O.contents out.new) result }
+    ensures quiet { result < 2 → err.new ≡ err.old }
+    ensures refused { result ≡ 2 → (refusal : Refusal)
+        × RefusesWords (map (λ word. word.now) words.entry.now) (I.remaining input)
+        (O.contents out.old) (O.contents out.new) refusal
+        × AppendsBeginning (E.contents err.old) (E.contents err.new) (fault_line refusal) }
+{
+    run_program(rt, &SideBySide { rt }, alloc, words, input, out, err)
+}
+
+// The program, with this way to read files.
+fn run_program<R: Files + Threads + Wait + Sync, A: Adds, I: Read + Drop, O: Write, E: Write>(
+    rt: &R,
+    adds: &A,
+    alloc: Global,
+    words: &[&str],
+    input: I,
+    out: &mut O,
+    err: &mut E,
+) -> u8
+    ensures status { result ≤ 2 }
+    ensures done { result < 2 → DoesWords (map (λ word. word.now) words.entry.now) (I.remaining input)
+        (O.contents out.old) (O.contents out.new) result }
+    ensures quiet { result < 2 → err.new ≡ err.old }
+    ensures refused { result ≡ 2 → (refusal : Refusal)
+        × RefusesWords (map (λ word. word.now) words.entry.now) (I.remaining input)
+        (O.contents out.old) (O.contents out.new) refusal
+        × AppendsBeginning (E.contents err.old) (E.contents err.new) (fault_line refusal) }
+{
+    match answer_or_refuse(rt, adds, alloc, words, input, out, err) {
         Ok(status) => status,
         Err(_) => REFUSED,
     }
 }
 
-// Does what the words ask for, or writes why not, and returns the status; if `err` failed, it returns how.
-fn answer_or_refuse<R: Files + Threads + Wait + Sync, I: Read + Drop, O: Write, E: Write>(
+// Does what the words ask for, or writes why not, and returns the status; or how `err` failed, if it did.
+fn answer_or_refuse<R: Files + Threads + Wait + Sync, A: Adds, I: Read + Drop, O: Write, E: Write>(
     rt: &R,
+    adds: &A,
     alloc: Global,
     words: &[&str],
     input: I,
@@ -98,15 +147,16 @@ fn answer_or_refuse<R: Files + Threads + Wait + Sync, I: Read + Drop, O: Write, 
         (O.contents out.old) (O.contents out.new) refusal
         × AppendsBeginning (E.contents err.old) (E.contents err.new) (fault_line refusal)) }
 {
-    match answer(rt, alloc, words, input, out) {
+    match answer(rt, adds, alloc, words, input, out) {
         Ok(status) => Ok(status),
         Err(refusal) => refuse(err, refusal),
     }
 }
 
 // Does what the words ask for, and returns the status.
-fn answer<'a, R: Files + Threads + Wait + Sync, I: Read + Drop, O: Write>(
+fn answer<'a, R: Files + Threads + Wait + Sync, A: Adds, I: Read + Drop, O: Write>(
     rt: &R,
+    adds: &A,
     alloc: Global,
     words: &'a [&'a str],
     input: I,
@@ -119,14 +169,15 @@ fn answer<'a, R: Files + Threads + Wait + Sync, I: Read + Drop, O: Write>(
         (O.contents out.old) (O.contents out.new)) }
 {
     match command_line(alloc, words) {
-        Ok(line) => answer_line(rt, alloc, &line, input, out),
+        Ok(line) => answer_line(rt, adds, alloc, &line, input, out),
         Err(fault) => answer_fault(alloc, &fault, out),
     }
 }
 
 // Does what the line asks for, and returns the status.
-fn answer_line<'a, R: Files + Threads + Wait + Sync, I: Read + Drop, O: Write>(
+fn answer_line<'a, R: Files + Threads + Wait + Sync, A: Adds, I: Read + Drop, O: Write>(
     rt: &R,
+    adds: &A,
     alloc: Global,
     line: &Line<'a>,
     input: I,
@@ -137,7 +188,7 @@ fn answer_line<'a, R: Files + Threads + Wait + Sync, I: Read + Drop, O: Write>(
     ensures err { IfErr result (RefusesLine line.entry.now (I.remaining input) (O.contents out.old) (O.contents out.new)) }
 {
     match request_of(line) {
-        Request::Output(request) => answer_output(rt, alloc, request, input, out),
+        Request::Output(request) => answer_output(rt, adds, alloc, request, input, out),
         Request::Chains(file) => answer_chains(rt, alloc, file, input, out),
     }
 }
@@ -181,8 +232,9 @@ fn answer_help<'a, O: Write>(
 }
 
 // Writes the output for the traces in the files, or for the one on standard input if there are no files.
-fn answer_output<'a, R: Files + Threads + Wait + Sync, I: Read + Drop, O: Write>(
+fn answer_output<'a, R: Files + Threads + Wait + Sync, A: Adds, I: Read + Drop, O: Write>(
     rt: &R,
+    adds: &A,
     alloc: Global,
     request: OutputRequest<'_, 'a>,
     input: I,
@@ -197,7 +249,7 @@ fn answer_output<'a, R: Files + Threads + Wait + Sync, I: Read + Drop, O: Write>
     let Ok(mut session) = Session::with_room(alloc, room_of(request.many)) else {
         return Err(Refusal::Memory);
     };
-    match add_traces(rt, &mut session, request.files, input) {
+    match add_traces::<R, I, A>(adds, &mut session, request.workers, request.files, input) {
         Ok(()) => write_session(rt, alloc, request, session, out),
         Err(refusal) => Err(refusal),
     }
@@ -211,8 +263,8 @@ fn room_of(many: bool) -> u16
     if many { MAX_MANY } else { MAX_KEYS }
 }
 
-// Writes the output for the session's traces, which are those of the files, with as many of the workers as are worth
-// their threads: the text doesn't depend on their number.
+// Writes the output for the session's traces, which are those of the files, by as many of the workers as are worth their threads:
+// the text is the same for each number of them.
 fn write_session<'a, R: Threads + Wait + Sync, O: Write>(
     rt: &R,
     alloc: Global,
@@ -246,9 +298,10 @@ fn status_of(output: Output<'_>, clean: bool) -> u8
 }
 
 // Reads the traces of the files, or that of the input if there are no files, into a session that has none.
-fn add_traces<'a, R: Files, I: Read + Drop>(
-    rt: &R,
+fn add_traces<'a, R: Files, I: Read + Drop, A: Adds>(
+    adds: &A,
     session: &mut Session,
+    workers: u16,
     files: &[&'a str],
     input: I,
 ) -> Result<(), Refusal<'a>>
@@ -261,66 +314,7 @@ fn add_traces<'a, R: Files, I: Read + Drop>(
     if files.is_empty() {
         return add_trace::<I, R::File>(session, STDIN, Source::Input(input));
     }
-    add_files::<R, I>(rt, session, files)
-}
-
-// Opens and reads each file in turn.
-fn add_files<'a, R: Files, I: Read + Drop>(
-    rt: &R,
-    session: &mut Session,
-    files: &[&'a str],
-) -> Result<(), Refusal<'a>>
-    requires { All (KeysBelow (length session.old.names)) session.old.traces }
-    ensures ok { OnOk result (length session.new.traces ≡ length session.old.traces + length files.entry.now) }
-    ensures below { OnOk result (All (KeysBelow (length session.new.names)) session.new.traces) }
-    ensures err { (input : Option (List ℕ)) → IfErr result (StopsReading session.old.room (map (λ file. file.now) files.entry.now) input) }
-
-    // The refused file is the one after those that were read.
-    ensures named { IfErr result (λ refusal. (place : ℕ) × (length session.new.traces ≡ length session.old.traces + place)
-        × NamesFileAt (map (λ file. file.now) files.entry.now) place refusal) }
-{
-    for file in files {
-        add_file::<R, I>(rt, session, file)?;
-    }
-    Ok(())
-}
-
-// Opens a file and reads its trace.
-fn add_file<'a, R: Files, I: Read + Drop>(
-    rt: &R,
-    session: &mut Session,
-    file: &'a str,
-) -> Result<(), Refusal<'a>>
-    ensures ok { OnOk result (length session.new.traces ≡ length session.old.traces + 1) }
-    ensures below { OnOk result (All (KeysBelow (length session.new.names)) session.new.traces) }
-    ensures err { IfErr result (StopsReading session.old.room (file.entry.now ∷ []) None) }
-    ensures named { IfErr result (NamesFileAt (file.entry.now ∷ []) 0) }
-    ensures kept { OnErr result (session.new.traces ≡ session.old.traces) }
-{
-    match File::open(rt, file) {
-        Ok(opened) => add_trace::<I, R::File>(session, file, Source::File(opened)),
-        Err(_) => Err(Refusal::CannotOpen { file }),
-    }
-}
-
-// Reads the trace of a file that is open.
-fn add_trace<'a, I: Read + Drop, F: Read + Drop>(
-    session: &mut Session,
-    file: &'a str,
-    opened: Source<I, F>,
-) -> Result<(), Refusal<'a>>
-    ensures ok { OnOk result ((trace : List Event) × (session.new.traces ≡ session.old.traces ++ trace ∷ [])
-        × IfSome (remaining_in I.remaining F.remaining opened)
-        (λ bytes. ReadsTo session.old.room session.old.names bytes session.new.names trace)) }
-    ensures below { All (KeysBelow (length session.new.names)) session.new.traces }
-    ensures err { IfErr result (IsReadingRefusal file.entry.now session.old.room session.old.names
-        (remaining_in I.remaining F.remaining opened)) }
-    ensures kept { OnErr result (session.new.traces ≡ session.old.traces) }
-{
-    match session.add(opened) {
-        Ok(()) => Ok(()),
-        Err(fault) => Err(Refusal::Reading { file, fault }),
-    }
+    adds.add_files(session, workers, files)
 }
 
 // Writes the chains of the trace in the file, or of that in the input if no file is named.

@@ -1,12 +1,11 @@
-//! A session: traces that are read one after the other, and what is written about all of them together.
+//! A session: traces that are read one after the other, and what is written of all of them together.
 
 ghost use Rattle.std.specs.Prelude.{◌≡◌, ◌+◌, ◌<◌, ◌≤◌, ◌∷◌, ◌++◌, [], ℕ, List, All, length, IfOk, IfErr, IfSome, IsErrOf, IsOkAnd, IsTrue, OnOk, ◌↔◌};
 ghost use Rattle.std.specs.Io.KnownBytes.{Appends};
 ghost use Rattle.ld_trace.specs.declared.event.Event.{Event};
-ghost use Rattle.ld_trace.specs.declared.trace_fault.TraceFaultKind.{TraceFaultKind};
-ghost use Rattle.ld_trace.specs.Names.{Name};
 ghost use Rattle.ld_trace.specs.Events.{KeysBelow};
 ghost use Rattle.ld_trace.specs.Reading.{ReadsTo, StopsAt};
+ghost use Rattle.ld_run.specs.Reading.{AreRead, StopsAfter};
 ghost use Rattle.ld_task.specs.WellFormed.{IsWellFormed};
 ghost use Rattle.ld_graph.specs.Links.{IsClean};
 ghost use Rattle.ld_run.specs.Runs.{IsCrew};
@@ -18,18 +17,17 @@ ghost use Rattle.lockdep.specs.Texts.{IsTextOf, view_of};
 use crate::fault::ReportFault;
 use crate::output::{Output, write_output};
 use crate::settled::settled_of;
+use ld_run::{Sources, Unread, read_all, read_into};
 use ld_run::{Gate, MAX_TRACES, MAX_WORKERS, RunFault};
 use ld_text::event_count;
-use ld_trace::{
-    KeyFault, KeyTable, MAX_KEYS, MAX_MANY, RawTrace, TraceFault, TraceFaultKind, read_trace,
-};
+use ld_trace::{KeyFault, KeyTable, MAX_KEYS, MAX_MANY, RawTrace, TraceFault};
 use std::alloc::Global;
 use std::io::{Read, Write};
 use std::marker::Model;
 use std::sync::Wait;
 use std::thread::Threads;
 
-// How many events one worker walks in about a millisecond. With fewer events each, more workers take as long as one.
+// As many events as one worker walks in about a millisecond. With fewer for each, more workers take as long as one.
 const EVENTS_PER_WORKER: u128 = 32_768;
 
 /// Traces that were read, and the names of their keys.
@@ -53,15 +51,15 @@ impl Model for Session {
 }
 
 impl Session {
-    /// A session without traces, with room for the names of 256 keys. It never fails, although its type allows a fault.
+    /// A session without traces, with room for the names of 256 keys. K4 is the only refusal that its type leaves room for.
     pub fn new(alloc: Global) -> Result<Session, KeyFault>
         ensures { IsOkAnd result (λ session. session ≡ record { room = MAX_KEYS; names = []; traces = [] }) }
     {
         Session::with_room(alloc, MAX_KEYS)
     }
 
-    /// A session without traces, with room for the names of `room` keys, at most `MAX_MANY`. It never fails, although
-    /// its type allows a fault.
+    /// A session without traces, with room for the names of `room` keys, at most `MAX_MANY`. K4 is the only refusal that its
+    /// type leaves room for.
     pub fn with_room(alloc: Global, room: u16) -> Result<Session, KeyFault>
         requires { room ≤ MAX_MANY }
         ensures { IsOkAnd result (λ session. session ≡ record { room = room; names = []; traces = [] }) }
@@ -73,9 +71,9 @@ impl Session {
         })
     }
 
-    /// Reads one trace, and keeps it after the others. Room for it is made before reading: if memory runs out for that,
-    /// the fault is T9 at record 1. Every other fault is that of `read_trace`. After a refusal the traces are
-    /// unchanged, and the keys of the events before the refused record have numbers.
+    /// Reads one trace, and keeps it after the others. Room for it is made before reading: if memory runs out for that, the
+    /// fault is T9 at record 1. Every other fault is that of `read_trace`. After a refusal the traces are unchanged, and
+    /// the keys of the events before the refused record have numbers.
     pub fn add<R: Read + Drop>(&mut self, reader: R) -> Result<(), TraceFault>
         ensures ok { IfOk result (λ _. (trace : List Event) × (self.new.traces ≡ self.old.traces ++ trace ∷ [])
             × IfSome (R.remaining reader) (λ bytes. ReadsTo self.old.room self.old.names bytes self.new.names trace)) }
@@ -85,6 +83,25 @@ impl Session {
         ensures room { self.new.room ≡ self.old.room }
     {
         read_into(self.alloc, reader, &mut self.keys, &mut self.traces)
+    }
+
+    /// Reads the traces of the first `count` sources by several threads, and keeps them after the others. The result is that of
+    /// reading them in turn by `add`, whatever the number of threads; see `read_all`.
+    pub fn add_all<R: Threads + Sync, S: Sources + Sync>(
+        &mut self,
+        rt: &R,
+        threads: usize,
+        sources: &S,
+        count: usize,
+    ) -> Result<(), Unread>
+        ensures ok { OnOk result ((added : List (List Event)) × (self.new.traces ≡ self.old.traces ++ added)
+            × (length added ≡ count) × AreRead self.old.room (S.holds sources.now) 0 self.old.names self.new.names added) }
+        ensures refused { IfErr result (λ unread. (added : List (List Event)) × (self.new.traces ≡ self.old.traces ++ added)
+            × (unread.place < count) × StopsAfter self.old.room (S.holds sources.now) 0 self.old.names self.new.names added unread) }
+        ensures below { All (KeysBelow (length self.new.names)) self.new.traces }
+        ensures room { self.new.room ≡ self.old.room }
+    {
+        read_all(rt, self.alloc, threads, sources, count, &mut self.keys, &mut self.traces)
     }
 
     // How many of the workers are worth their threads: one for every 32,768 events, and at least one. A number of
@@ -100,18 +117,17 @@ impl Session {
         workers.min(shares.max(1).min(u128::from(MAX_WORKERS)) as u16)
     }
 
-    /// Checks all traces with `workers` workers, writes the output for all of them together, and returns whether their
-    /// facts are clean. What is written doesn't depend on the number of workers. Each worker calls the gate just before
-    /// it records a chain. The session is consumed in every case.
+    /// Checks all traces by `workers` workers, writes the output for all of them together, and returns whether their facts are
+    /// clean. What is written doesn't depend on the number of workers. Each worker calls the gate just before it records a
+    /// chain. The session is consumed in every case.
     ///
-    /// Refusals, in this order: `Run` with N1 if `workers` isn't 1 to 64, with N2 if there are more than 4,096 traces,
-    /// and with N4 if the run is out of memory; `Step` with the first trace that isn't well formed, the record of its
-    /// first event that isn't allowed, and why; `Run` with N3 if the workers don't agree on the facts; `Condensing`
-    /// with E2 if memory runs out for a condensed trace, and with E1 if it doesn't have exactly the facts, which no
-    /// test has met; `Out` if writing failed. For more than 256 keys one survey is made instead of a run: then N4 is
-    /// `Survey` with M2, and N3 is `Survey` with M1, if the keys can't be split into parts of at most 256. Nothing was
-    /// written in any of these cases, nor with O3, which means that memory ran out for the text; with O1 and O2 exactly
-    /// a beginning of the text was [this project's own].
+    /// Refusals, in this order: `Run` with N1 if `workers` isn't 1 to 64, with N2 if there are more than 4,096 traces, and with
+    /// N4 if the run is out of memory; `Step` with the first trace that isn't well formed, the record of its first event that
+    /// isn't allowed, and why; `Run` with N3 if the workers don't agree on the facts; `Condensing` with E2 if memory runs out for
+    /// a condensed trace, and with E1 if it doesn't have exactly the facts, which no test has met; `Out` if writing failed. For
+    /// more than 256 keys one survey is made instead of a run: then N4 is `Survey` with M2, and N3 is `Survey` with M1, if the
+    /// keys can't be split into parts of at most 256. Nothing was written in any of these cases, nor with O3, which means that
+    /// memory ran out for the text; with O1 and O2 exactly a beginning of the text was [this project's own].
     pub fn write<R: Threads + Wait + Sync, W: Write, G: Gate + Sync>(
         self,
         rt: &R,
@@ -138,8 +154,8 @@ impl Session {
         Ok(settled.is_clean())
     }
 
-    /// Checks all traces with `workers` workers, writes the report of all of them together, and returns whether their
-    /// facts are clean. Refusals are those of `write`, without E1 and E2.
+    /// Checks all traces by `workers` workers, writes the report of all of them together, and returns whether their facts are
+    /// clean. Refusals are those of `write`, without E1 and E2.
     pub fn report<R: Threads + Wait + Sync, W: Write, G: Gate + Sync>(
         self,
         rt: &R,
@@ -160,43 +176,5 @@ impl Session {
             (W.contents w.old) (W.contents w.new)) }
     {
         self.write(rt, alloc, workers, gate, Output::Report, w)
-    }
-}
-
-// Reads one trace and puts it after the others.
-fn read_into<R: Read + Drop>(
-    alloc: Global,
-    reader: R,
-    keys: &mut KeyTable,
-    traces: &mut Vec<RawTrace>,
-) -> Result<(), TraceFault>
-    ensures ok { IfOk result (λ _. (trace : List Event) × (traces.new.items ≡ traces.old.items ++ trace ∷ [])
-        × KeysBelow (length keys.new.names) trace
-        × IfSome (R.remaining reader) (λ bytes. ReadsTo keys.old.room keys.old.names bytes keys.new.names trace)) }
-    ensures refused { IfErr result (λ fault. (traces.new.items ≡ traces.old.items)
-        × IfSome (R.remaining reader) (λ bytes. StopsAt keys.old.room keys.old.names bytes keys.new.names fault)) }
-    ensures kept { (added : List Name) × (keys.new.names ≡ keys.old.names ++ added) }
-    ensures room { keys.new.room ≡ keys.old.room }
-{
-    if traces.reserve(1).is_err() {
-        return Err(no_room());
-    }
-    match read_trace(alloc, reader, keys) {
-        Ok(trace) => {
-            traces.push_reserved(trace);
-            Ok(())
-        }
-        Err(fault) => Err(fault),
-    }
-}
-
-// The fault if memory runs out for the room of a trace.
-fn no_room() -> TraceFault
-    ensures fault { result ≡ record { kind = TraceFaultKind.Memory; at = 1 } }
-    ensures stops { (room : ℕ) (names : List Name) (bytes : List ℕ) → StopsAt room names bytes names result }
-{
-    TraceFault {
-        kind: TraceFaultKind::Memory,
-        at: 1,
     }
 }

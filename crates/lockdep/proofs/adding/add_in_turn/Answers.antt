@@ -1,5 +1,5 @@
 use Rattle.lockdep.proofs.ProgramLemmas.{IfErr-passed, StopsReading-among, named_at}
-use Rattle.lockdep.proofs.program.add_files.Goals as goal
+use Rattle.lockdep.proofs.adding.add_in_turn.Goals as goal
 
 pub returns-in_err-add_file-clause-err : goal.returns-in_err-add_file-clause-err
 returns-in_err-add_file-clause-err g c = λ input. IfErr-passed c.from_residual.result _ _ c.from_residual.ensures

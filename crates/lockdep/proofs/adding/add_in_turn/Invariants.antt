@@ -1,6 +1,6 @@
 use Rattle.std.proofs.Common.{◌≡◌, ◌+◌, All, length}
 use Rattle.ld_trace.specs.Events.{KeysBelow}
-use Rattle.lockdep.proofs.program.add_files.Given as goal
+use Rattle.lockdep.proofs.adding.add_in_turn.Given as goal
 
 -- one trace of each file so far, and the keys of all are in the table
 abbrev pub invariant-loop-file : goal.invariant-loop-file

@@ -1,6 +1,6 @@
 use Rattle.std.proofs.Common.{refl, arith}
 use Rattle.ld_trace.specs.Reading.{names_after}
-use Rattle.lockdep.proofs.session.no_room.Goals as goal
+use Rattle.ld_run.proofs.in_turn.no_room.Goals as goal
 
 pub returns-clause-stops : goal.returns-clause-stops
 unfolding names_after

@@ -2,7 +2,7 @@ use Rattle.std.proofs.Common.{List, ℕ, [], Option, Some, None, sym, ap}
 use Rattle.std.proofs.lemmas.List.{append-nil}
 use Rattle.std.specs.Io.KnownBytes.{Appends}
 use Rattle.ld_text.specs.Output.{AppendsBeginning}
-use Rattle.lockdep.proofs.program.program.Goals as goal
+use Rattle.lockdep.proofs.program.run_program.Goals as goal
 
 -- a whole text begins itself
 whole-begun : (old new : Option (List ℕ)) (text : List ℕ) → Appends old new text → AppendsBeginning old new text

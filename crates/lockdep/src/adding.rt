@@ -1,0 +1,225 @@
+//! How the traces of the files come into a session: in turn, or read ahead by several threads.
+
+ghost use Rattle.std.specs.Prelude.{◌≡◌, ◌+◌, ◌<◌, ◌∷◌, ◌++◌, [], ℕ, List, Option, None, All, IfErr, IfSome, OnOk, OnErr, length, map};
+ghost use Rattle.ld_trace.specs.Events.{KeysBelow};
+ghost use Rattle.ld_trace.specs.Reading.{ReadsTo};
+ghost use Rattle.ld_trace.specs.declared.event.Event.{Event};
+ghost use Rattle.lockdep.specs.Inside.Sources.{NamesFileAt, remaining_in};
+ghost use Rattle.lockdep.specs.Program.{IsReadingRefusal, StopsReading};
+
+use crate::refusal::Refusal;
+use crate::session::Session;
+use crate::source::Source;
+use ld_run::{ReadFault, Sources, Unread};
+use ld_run::MAX_WORKERS;
+use std::fs;
+use std::fs::File;
+use std::io::Read;
+use std::marker::{Send, Sync};
+use std::rt::Files;
+use std::thread::Threads;
+
+// With fewer bytes for each, more threads take as long as one.
+const BYTES_PER_THREAD: u64 = 262_144;
+
+// Of how many files the size is asked for.
+const SIZES_ASKED: usize = 64;
+
+/// How the traces of files are added to those of a session.
+pub(crate) trait Adds {
+    /// Adds the traces of these files in their order. Of the workers as many read as are worth their threads. The first file that
+    /// can't be opened, or whose trace is refused, is told; those before it were added.
+    fn add_files<'a>(
+        &self,
+        session: &mut Session,
+        workers: u16,
+        files: &[&'a str],
+    ) -> Result<(), Refusal<'a>>
+        requires { All (KeysBelow (length session.old.names)) session.old.traces }
+        ensures ok { OnOk result (length session.new.traces ≡ length session.old.traces + length files.entry.now) }
+        ensures below { OnOk result (All (KeysBelow (length session.new.names)) session.new.traces) }
+        ensures err { (input : Option (List ℕ)) → IfErr result (StopsReading session.old.room (map (λ file. file.now) files.entry.now) input) }
+        ensures named { IfErr result (λ refusal. (place : ℕ) × (length session.new.traces ≡ length session.old.traces + place)
+            × NamesFileAt (map (λ file. file.now) files.entry.now) place refusal) };
+}
+
+/// Each file is read whole before the next one is opened.
+#[derive(Clone, Copy)]
+pub(crate) struct InTurn<'r, R> {
+    pub(crate) rt: &'r R,
+}
+
+impl<R: Files> Adds for InTurn<'_, R> {
+    fn add_files<'a>(
+        &self,
+        session: &mut Session,
+        _workers: u16,
+        files: &[&'a str],
+    ) -> Result<(), Refusal<'a>> {
+        add_in_turn(self.rt, session, files)
+    }
+}
+
+/// With several workers later files may be opened before an earlier one was read whole.
+#[derive(Clone, Copy)]
+pub(crate) struct SideBySide<'r, R> {
+    pub(crate) rt: &'r R,
+}
+
+impl<R: Files + Threads + Sync> Adds for SideBySide<'_, R>
+where
+    R::File: Send + Sync,
+    R::Dir: Send + Sync,
+{
+    fn add_files<'a>(
+        &self,
+        session: &mut Session,
+        workers: u16,
+        files: &[&'a str],
+    ) -> Result<(), Refusal<'a>> {
+        let threads = useful_threads(self.rt, workers, files);
+        let sources = NamedFiles { rt: self.rt, files };
+        match session.add_all(self.rt, threads, &sources, files.len()) {
+            Ok(()) => Ok(()),
+            Err(unread) => Err(unread_refusal(files, unread)),
+        }
+    }
+}
+
+// The files of these names.
+#[derive(Clone, Copy)]
+struct NamedFiles<'r, R> {
+    rt: &'r R,
+    files: &'r [&'r str],
+}
+
+impl<R: Files + Sync> Sources for NamedFiles<'_, R>
+where
+    R::File: Send + Sync,
+    R::Dir: Send + Sync,
+{
+    type Source = R::File;
+
+    // No contract can tell what a file holds.
+    ghost holds = { λ files place. None };
+
+    // A pipe is neither opened early nor twice: opening it may wait, and what was read of it is gone.
+    fn ahead(&self, place: usize) -> Option<R::File> {
+        let file = *self.files.get(place)?;
+        if !is_regular(self.rt, file) {
+            return None;
+        }
+        File::open(self.rt, file).ok()
+    }
+
+    fn open(&self, place: usize) -> Option<R::File> {
+        let file = *self.files.get(place)?;
+        File::open(self.rt, file).ok()
+    }
+}
+
+// Whether the name is that of a regular file.
+fn is_regular<R: Files>(rt: &R, file: &str) -> bool {
+    match fs::metadata(rt, file) {
+        Ok(told) => told.is_file(),
+        Err(_) => false,
+    }
+}
+
+// How many bytes the file has; 0 if that isn't known.
+fn size_of<R: Files>(rt: &R, file: &str) -> u64 {
+    match fs::metadata(rt, file) {
+        Ok(told) => told.len(),
+        Err(_) => 0,
+    }
+}
+
+// How many threads are worth it: one for every 256 KiB of the files, by the sizes of the first ones, and no more than there are
+// workers and files. A number of workers that a run refuses reads in turn.
+fn useful_threads<R: Files>(rt: &R, workers: u16, files: &[&str]) -> usize {
+    if workers < 2 || workers > MAX_WORKERS || files.len() < 2 {
+        return 1;
+    }
+    let mut bytes = 0u64;
+    let mut asked = 0u64;
+    for file in files.iter().take(SIZES_ASKED) {
+        bytes = bytes.saturating_add(size_of(rt, file));
+        asked = asked.saturating_add(1);
+    }
+    let mean = bytes / asked.max(1);
+    let shares = mean.saturating_mul(files.len() as u64) / BYTES_PER_THREAD;
+    let threads = shares.saturating_add(1).min(u64::from(workers)) as usize;
+    threads.min(files.len())
+}
+
+// The refusal of the file at whose place reading stopped.
+fn unread_refusal<'a>(files: &[&'a str], unread: Unread) -> Refusal<'a>
+    requires { unread.place < length files.now }
+    ensures named { NamesFileAt (map (λ file. file.now) files.entry.now) unread.place result }
+    ensures stops { (room : ℕ) (input : Option (List ℕ)) → StopsReading room (map (λ file. file.now) files.entry.now) input result }
+{
+    let file = files[unread.place];
+    match unread.fault {
+        ReadFault::CannotOpen => Refusal::CannotOpen { file },
+        ReadFault::Trace(fault) => Refusal::Reading { file, fault },
+    }
+}
+
+// Opens and reads each file in turn.
+fn add_in_turn<'a, R: Files>(
+    rt: &R,
+    session: &mut Session,
+    files: &[&'a str],
+) -> Result<(), Refusal<'a>>
+    requires { All (KeysBelow (length session.old.names)) session.old.traces }
+    ensures ok { OnOk result (length session.new.traces ≡ length session.old.traces + length files.entry.now) }
+    ensures below { OnOk result (All (KeysBelow (length session.new.names)) session.new.traces) }
+    ensures err { (input : Option (List ℕ)) → IfErr result (StopsReading session.old.room (map (λ file. file.now) files.entry.now) input) }
+
+    // The refused file is the one after those that were read.
+    ensures named { IfErr result (λ refusal. (place : ℕ) × (length session.new.traces ≡ length session.old.traces + place)
+        × NamesFileAt (map (λ file. file.now) files.entry.now) place refusal) }
+{
+    for file in files {
+        add_file(rt, session, file)?;
+    }
+    Ok(())
+}
+
+// Opens a file and reads its trace.
+fn add_file<'a, R: Files>(
+    rt: &R,
+    session: &mut Session,
+    file: &'a str,
+) -> Result<(), Refusal<'a>>
+    ensures ok { OnOk result (length session.new.traces ≡ length session.old.traces + 1) }
+    ensures below { OnOk result (All (KeysBelow (length session.new.names)) session.new.traces) }
+    ensures err { IfErr result (StopsReading session.old.room (file.entry.now ∷ []) None) }
+    ensures named { IfErr result (NamesFileAt (file.entry.now ∷ []) 0) }
+    ensures kept { OnErr result (session.new.traces ≡ session.old.traces) }
+{
+    match File::open(rt, file) {
+        Ok(opened) => add_trace::<R::File, R::File>(session, file, Source::File(opened)),
+        Err(_) => Err(Refusal::CannotOpen { file }),
+    }
+}
+
+/// Reads the trace of a file that is open, or of the input.
+pub(crate) fn add_trace<'a, I: Read + Drop, F: Read + Drop>(
+    session: &mut Session,
+    file: &'a str,
+    opened: Source<I, F>,
+) -> Result<(), Refusal<'a>>
+    ensures ok { OnOk result ((trace : List Event) × (session.new.traces ≡ session.old.traces ++ trace ∷ [])
+        × IfSome (remaining_in I.remaining F.remaining opened)
+        (λ bytes. ReadsTo session.old.room session.old.names bytes session.new.names trace)) }
+    ensures below { All (KeysBelow (length session.new.names)) session.new.traces }
+    ensures err { IfErr result (IsReadingRefusal file.entry.now session.old.room session.old.names
+        (remaining_in I.remaining F.remaining opened)) }
+    ensures kept { OnErr result (session.new.traces ≡ session.old.traces) }
+{
+    match session.add(opened) {
+        Ok(()) => Ok(()),
+        Err(fault) => Err(Refusal::Reading { file, fault }),
+    }
+}

@@ -1,0 +1,164 @@
+//! Traces that several threads read ahead.
+
+use ld_run::{ReadFault, Sources, Unread, read_all};
+use ld_trace::{KeyId, KeyTable, RawTrace, TraceFault, TraceFaultKind, trace_text};
+use std::alloc::{AllocError, Global};
+use std::process::Abort;
+use std::sync::Wait;
+use std::sync::atomic::{AtomicBool, Ordering};
+use std::thread::Threads;
+
+// Texts as sources. If the first one is opened ahead, it waits there until another one is: so two are read at once.
+#[derive(Drop)]
+struct Texts<'t> {
+    texts: &'t [&'t str],
+    others: AtomicBool,
+    met: AtomicBool,
+}
+
+impl<'t> Texts<'t> {
+    fn wait_for_others(&self) {
+        for _ in 0..1_000_000_000 {
+            if self.others.load(Ordering::SeqCst) {
+                self.met.store(true, Ordering::SeqCst);
+                return;
+            }
+        }
+    }
+}
+
+impl<'t> Sources for Texts<'t> {
+    type Source = &'t [u8];
+
+    ghost holds = { λ texts place. None };
+
+    fn ahead(&self, place: usize) -> Option<&'t [u8]> {
+        if place == 0 {
+            self.wait_for_others();
+        }
+        if place > 0 {
+            self.others.store(true, Ordering::SeqCst);
+        }
+        self.open(place)
+    }
+
+    fn open(&self, place: usize) -> Option<&'t [u8]> {
+        let text = *self.texts.get(place)?;
+        Some(text.as_bytes())
+    }
+}
+
+// Traces, of which the first so many can be read; what stops the next one; and the names then.
+type Case<'t> = (&'t [&'t str], usize, Option<TraceFault>, &'t [&'t str]);
+
+static CASES: [Case<'_>; 4] = [
+    (
+        &[
+            "lockdep,1\nacq,B,0,w\nrel,B,0\n",
+            "lockdep,1\nacq,A,0,w\nacq,B,0,r\nrel,B,0\nrel,A,0\n",
+            "lockdep,1\nenter,hardirq\nacq,C,1,rr\nrel,C,1\nacq,A,0,w\n",
+        ],
+        3,
+        None,
+        &["B", "A", "C"],
+    ),
+    (
+        &[
+            "lockdep,1\nacq,A,0,w\n",
+            "lockdep,1\nacq,D,0,w\nacq,E,9,w\n",
+            "lockdep,1\nacq,F,0,w\n",
+        ],
+        1,
+        Some(TraceFault {
+            kind: TraceFaultKind::BadSub,
+            at: 3,
+        }),
+        &["A", "D"],
+    ),
+    (
+        &[
+            "lockdep,1\nacq,A,0,w\n",
+            "lockdep,1\nacq,B,0,w\n",
+            "lockdep,1\nacq,B,0,w\nacq,A,0,w\n",
+            "lockdep,1\nacq,C,0,w\nacq,B,0,w\n",
+            "lockdep,2\nacq,C,0,tw\n",
+        ],
+        5,
+        None,
+        &["A", "B", "C"],
+    ),
+    (
+        &["lockdep\n", "lockdep,1\nacq,A,0,w\n"],
+        0,
+        Some(TraceFault {
+            kind: TraceFaultKind::NoHeader,
+            at: 1,
+        }),
+        &[],
+    ),
+];
+
+// Whether the first texts are what the traces say.
+fn are_written(
+    alloc: Global,
+    texts: &[&str],
+    traces: &[RawTrace],
+    keys: &KeyTable,
+) -> Result<bool, AllocError> {
+    for place in 0..traces.len() {
+        let written = trace_text(alloc, &traces[place], keys)?;
+        if texts.get(place).map(|text| text.as_bytes()) != Some(written.as_slice()) {
+            return Ok(false);
+        }
+    }
+    Ok(true)
+}
+
+// Whether these are the names of the table, in its order.
+fn are_named(names: &[&str], keys: &KeyTable) -> bool {
+    for place in 0..names.len() {
+        let found = KeyId::new(place as u16).and_then(|key| keys.name_of(key));
+        if found.map(|name| name.0) != Some(names[place]) {
+            return false;
+        }
+    }
+    names.len() == keys.len()
+}
+
+// Whether so many threads give what the case says, and whether two of them read at once.
+fn reads<R: Threads + Wait + Sync + Abort>(
+    rt: &R,
+    alloc: Global,
+    threads: usize,
+    case: &Case<'_>,
+) -> Option<(bool, bool)> {
+    let (texts, count, stops, names) = *case;
+    let sources = Texts {
+        texts,
+        others: AtomicBool::new(false),
+        met: AtomicBool::new(false),
+    };
+    let mut keys = KeyTable::new(alloc).ok()?;
+    let mut traces = Vec::new(alloc);
+    let read = read_all(rt, alloc, threads, &sources, texts.len(), &mut keys, &mut traces);
+    let wanted = match stops {
+        Some(fault) => Err(Unread {
+            place: count,
+            fault: ReadFault::Trace(fault),
+        }),
+        None => Ok(()),
+    };
+    let written = are_written(alloc, texts, traces.as_slice(), &keys).ok()?;
+    let right = read == wanted && traces.len() == count && written && are_named(names, &keys);
+    Some((right, sources.met.load(Ordering::SeqCst)))
+}
+
+#[test]
+fn threads_read_as_one(rt: HostRuntime) {
+    for case in &CASES {
+        for threads in [1, 2, 4] {
+            let got = reads(&rt, rt.alloc(), threads, case);
+            assert_eq!(rt; got, Some((true, threads > 1)));
+        }
+    }
+}
