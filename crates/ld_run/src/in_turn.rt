@@ -8,9 +8,9 @@ ghost use Rattle.ld_trace.specs.Names.{Name};
 ghost use Rattle.ld_trace.specs.Reading.{ReadsTo, StopsAt};
 ghost use Rattle.ld_run.specs.Reading.{AreRead, IsNotRead, IsRead, StopsAfter};
 
-use crate::unread::{ReadFault, Unread};
 use crate::sources::Sources;
 use crate::taking::read_ahead;
+use crate::unread::{ReadFault, Unread};
 use ld_trace::{KeyTable, RawTrace, TraceFault, TraceFaultKind, read_trace};
 use std::alloc::Global;
 use std::io::Read;

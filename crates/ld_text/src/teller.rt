@@ -15,8 +15,8 @@ ghost use Rattle.ld_text.specs.Inside.Telling.{ChoosesCircle};
 
 use crate::found::Dependency;
 use ld_explain::{Guards, Origin, Origins};
-use ld_graph::{Kind, Mark, Walk};
 use ld_facts::{Fact, Facts};
+use ld_graph::{Kind, Mark, Walk};
 use ld_run::Settled;
 use ld_trace::{Event, KeyId, KeyTable, RawTrace};
 use std::alloc::Global;

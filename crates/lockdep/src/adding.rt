@@ -10,8 +10,7 @@ ghost use Rattle.lockdep.specs.Program.{IsReadingRefusal, StopsReading};
 use crate::refusal::Refusal;
 use crate::session::Session;
 use crate::source::Source;
-use ld_run::{ReadFault, Sources, Unread};
-use ld_run::MAX_WORKERS;
+use ld_run::{MAX_WORKERS, ReadFault, Sources, Unread};
 use std::fs;
 use std::fs::File;
 use std::io::Read;
@@ -187,11 +186,7 @@ fn add_in_turn<'a, R: Files>(
 }
 
 // Opens a file and reads its trace.
-fn add_file<'a, R: Files>(
-    rt: &R,
-    session: &mut Session,
-    file: &'a str,
-) -> Result<(), Refusal<'a>>
+fn add_file<'a, R: Files>(rt: &R, session: &mut Session, file: &'a str) -> Result<(), Refusal<'a>>
     ensures ok { OnOk result (length session.new.traces ≡ length session.old.traces + 1) }
     ensures below { OnOk result (All (KeysBelow (length session.new.names)) session.new.traces) }
     ensures err { IfErr result (StopsReading session.old.room (file.entry.now ∷ []) None) }

@@ -17,8 +17,7 @@ ghost use Rattle.lockdep.specs.Texts.{IsTextOf, view_of};
 use crate::fault::ReportFault;
 use crate::output::{Output, write_output};
 use crate::settled::settled_of;
-use ld_run::{Sources, Unread, read_all, read_into};
-use ld_run::{Gate, MAX_TRACES, MAX_WORKERS, RunFault};
+use ld_run::{Gate, MAX_TRACES, MAX_WORKERS, RunFault, Sources, Unread, read_all, read_into};
 use ld_text::event_count;
 use ld_trace::{KeyFault, KeyTable, MAX_KEYS, MAX_MANY, RawTrace, TraceFault};
 use std::alloc::Global;
@@ -101,7 +100,15 @@ impl Session {
         ensures below { All (KeysBelow (length self.new.names)) self.new.traces }
         ensures room { self.new.room ≡ self.old.room }
     {
-        read_all(rt, self.alloc, threads, sources, count, &mut self.keys, &mut self.traces)
+        read_all(
+            rt,
+            self.alloc,
+            threads,
+            sources,
+            count,
+            &mut self.keys,
+            &mut self.traces,
+        )
     }
 
     // How many of the workers are worth their threads: one for every 32,768 events, and at least one. A number of

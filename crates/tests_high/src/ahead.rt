@@ -140,7 +140,15 @@ fn reads<R: Threads + Wait + Sync + Abort>(
     };
     let mut keys = KeyTable::new(alloc).ok()?;
     let mut traces = Vec::new(alloc);
-    let read = read_all(rt, alloc, threads, &sources, texts.len(), &mut keys, &mut traces);
+    let read = read_all(
+        rt,
+        alloc,
+        threads,
+        &sources,
+        texts.len(),
+        &mut keys,
+        &mut traces,
+    );
     let wanted = match stops {
         Some(fault) => Err(Unread {
             place: count,

@@ -1,7 +1,7 @@
 //! Ranks: whether an arrow goes down by them, whether facts are parted by them, and those that are found.
 
-use crate::steps::{A, B, C};
 use super::stories::ranks_of;
+use crate::steps::{A, B, C};
 use ld_facts::{Fact, Facts, Kind, Mark};
 use ld_parts::{PartedGraph, PartingFault, Ranks, are_ranked, find_ranks, find_ranks_of};
 use ld_trace::Irq::{Hard, Soft};

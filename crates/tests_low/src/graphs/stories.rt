@@ -1,9 +1,9 @@
 //! What graphs find in small traces. Each story is given to a graph and to a graph in parts, chain by chain, and all
 //! that they find is compared.
 
+use super::finds::Finds;
 use crate::steps::Step::{Enter, Give, Leave, Read, Reread, TurnOff, TurnOn, Write};
 use crate::steps::{A, B, C, D, Step, chains_of};
-use super::finds::Finds;
 use ld_facts::Facts;
 use ld_graph::{Circle, Graph, InversionWalk, Kind, Walk};
 use ld_parts::{PartedGraph, Ranks};

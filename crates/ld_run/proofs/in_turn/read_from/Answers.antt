@@ -12,8 +12,7 @@ loop-place-preserved g c =
     let kept = c.loop-place.invariant in
     let added = kept.0.0 in
     let read = c.in_default.ensures.ok in
-    let one = rw (kept.1, ← kept.0.2) at read.2 in
-    (
+    let one = rw (kept.1, ← kept.0.2) at read.2 in (
       (
         added ++ read.0 ∷ [],
         read.1 ∙ ap (λ l. l ++ read.0 ∷ []) kept.0.1 ∙ append_assoc c.args.traces.now.items added (read.0 ∷ []),
