@@ -1,5 +1,5 @@
 -- Which traces a refusal names.
-use Rattle.std.proofs.Common.{◌≡◌, ◌==◌, true, Result, Ok, Err, IfErr, IsErr, IsErrAnd, ℕ, zero, suc, ◌<◌, List, [], ◌∷◌, Option, None, Bor, Contains, codes, length, map, slice_index_or, refl, sym, subst, arith, inl, inr}
+use Rattle.std.proofs.Common.{◌≡◌, ◌==◌, true, Result, Ok, Err, IfErr, IsErr, IsErrAnd, ℕ, zero, suc, ◌<◌, List, [], ◌∷◌, Option, None, Bor, Contains, codes, length, map, slice_get, slice_index_or, Some, refl, sym, subst, arith, inl, inr}
 use Rattle.ld_text.specs.Words.{Text}
 use Rattle.ld_trace.specs.Names.{Name}
 use Rattle.lockdep.specs.Program.{IsReadingRefusal, StopsReading}
@@ -12,6 +12,12 @@ named_at [] i d within = absurd (omega arith)
 named_at (file ∷ files) zero d within = (0, omega arith, refl)
 named_at (file ∷ files) (suc i) d within =
     let (k, k_within, is) = named_at files i d (omega arith) in (suc k, omega (arith, k_within), is)
+
+-- and stands there at its place
+pub names_at : (files : List (Bor Text)) (i : ℕ) (d : Bor Text) → i < length files → slice_get (map (λ file. file.now) files) i ≡ Some (slice_index_or files i d).now
+names_at [] i d within = absurd (omega arith)
+names_at (file ∷ files) zero d within = refl
+names_at (file ∷ files) (suc i) d within = names_at files i d (omega arith)
 
 -- no files have no names
 pub none_named : (files : List (Bor Text)) → true ≡ (length files == 0) → map (λ file. file.now) files ≡ []

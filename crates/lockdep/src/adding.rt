@@ -76,23 +76,43 @@ where
         workers: u16,
         files: &[&'a str],
     ) -> Result<(), Refusal<'a>> {
-        let threads = useful_threads(self.rt, workers, files);
-        let sources = NamedFiles { rt: self.rt, files };
-        match session.add_all(self.rt, threads, &sources, files.len()) {
-            Ok(()) => Ok(()),
-            Err(unread) => Err(unread_refusal(files, unread)),
-        }
+        add_side_by_side(self.rt, session, workers, files)
+    }
+}
+
+// Adds the traces of the files, of which as many threads read as are worth it.
+fn add_side_by_side<'a, R: Files + Threads + Sync>(
+    rt: &R,
+    session: &mut Session,
+    workers: u16,
+    files: &[&'a str],
+) -> Result<(), Refusal<'a>>
+where
+    R::File: Send + Sync,
+    R::Dir: Send + Sync,
+    requires { All (KeysBelow (length session.old.names)) session.old.traces }
+    ensures ok { OnOk result (length session.new.traces ≡ length session.old.traces + length files.entry.now) }
+    ensures below { OnOk result (All (KeysBelow (length session.new.names)) session.new.traces) }
+    ensures err { (input : Option (List ℕ)) → IfErr result (StopsReading session.old.room (map (λ file. file.now) files.entry.now) input) }
+    ensures named { IfErr result (λ refusal. (place : ℕ) × (length session.new.traces ≡ length session.old.traces + place)
+        × NamesFileAt (map (λ file. file.now) files.entry.now) place refusal) }
+{
+    let threads = useful_threads(rt, workers, files);
+    let sources = NamedFiles { rt, files };
+    match session.add_all(rt, threads, &sources, files.len()) {
+        Ok(()) => Ok(()),
+        Err(unread) => Err(unread_refusal(files, unread)),
     }
 }
 
 // The files of these names.
 #[derive(Clone, Copy)]
-struct NamedFiles<'r, R> {
+struct NamedFiles<'r, 'f, 'a, R> {
     rt: &'r R,
-    files: &'r [&'r str],
+    files: &'f [&'a str],
 }
 
-impl<R: Files + Sync> Sources for NamedFiles<'_, R>
+impl<R: Files + Sync> Sources for NamedFiles<'_, '_, '_, R>
 where
     R::File: Send + Sync,
     R::Dir: Send + Sync,
