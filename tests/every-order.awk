@@ -1,6 +1,6 @@
 # A trace of some keys, of any two of which each is taken under the other, or one of the texts of what is found in it: which one is in
-# `form`. Every two keys are a circle, and no shorter one leads through either of their dependencies. How many keys there are, at most
-# 900, is in `keys`; the trace is read from standard input.
+# `form`. Every two keys are a circle, and no shorter one leads through either of their dependencies, which are all in one trace. How
+# many keys there are, at most 900, is in `keys`; the trace is read from standard input.
 #
 #   awk -v keys=3 -v form=trace|explanation|json|picture -f tests/every-order.awk
 
@@ -20,7 +20,7 @@ function occurrence(a, b) {
 }
 
 function block(a, b) {
-    return sprintf("\ncircle %s EN %s EN %s\n%s\n%s\n  task 1 holds %s and waits for %s\n  task 2 holds %s and waits for %s",
+    return sprintf("\ncircle %s EN %s EN %s\n%s\n%s\n  task 1 holds %s and waits for %s\n  task 2 holds %s and waits for %s\n  note: only in stdin",
         key(a), key(b), key(a), occurrence(a, b), occurrence(b, a), key(a), key(b), key(b), key(a))
 }
 
@@ -30,7 +30,7 @@ function order(a, b) {
 }
 
 function finding(a, b) {
-    return sprintf("{\"type\":\"circle\",\"keys\":[\"%s\",\"%s\"],\"lines\":[\"circle %s EN %s\",\"circle %s EN %s\"],\"orders\":[%s,%s],\"notes\":[]}",
+    return sprintf("{\"type\":\"circle\",\"keys\":[\"%s\",\"%s\"],\"lines\":[\"circle %s EN %s\",\"circle %s EN %s\"],\"orders\":[%s,%s],\"notes\":[\"only in stdin\"]}",
         key(a), key(b), key(a), key(b), key(b), key(a), order(a, b), order(b, a))
 }
 
