@@ -56,6 +56,7 @@ struct thread {
     uint32_t epoch;
     int destructor_rounds;
     uintptr_t failed; /* the lock of the last try that failed */
+    uint32_t failed_under; /* how many of the locks that were held then are held since: the oldest ones */
     uintptr_t loader; /* the loader's lock, if the thread may still be in it */
     struct call loading; /* from where */
     struct thread *next;
@@ -114,6 +115,7 @@ static bool begin_trace(struct thread *t) {
     t->fresh_end = 0;
     t->depth = 0;
     t->failed = 0;
+    t->failed_under = 0;
     t->loader = 0;
     t->destructor_rounds = 0;
     t->epoch = LOAD(&foreign_epoch);
@@ -317,6 +319,7 @@ static uint32_t cached_place(struct thread *t, uintptr_t caller) {
 static void release_at(struct thread *t, uint32_t i, uintptr_t caller) {
     struct held gone = t->entries[i].held;
     bool was_newest = i + 1 == t->depth;
+    t->failed_under -= i < t->failed_under;
     for (; i + 1 < t->depth; i++)
         t->entries[i].held = t->entries[i + 1].held;
     pop_link(t, BY_OBJECTS, gone.object);
@@ -533,6 +536,7 @@ static void withdraw(struct thread *t, uint32_t i, uintptr_t caller) {
     }
     pop_link(t, BY_OBJECTS, h.object);
     pop_link(t, BY_CLASSES, class_of(h.object));
+    t->failed_under -= i < t->failed_under;
     t->depth--;
     t->raw->count = h.record;
     t->fresh_end = h.fresh_before;
@@ -553,14 +557,16 @@ void end_wish(uintptr_t lock, bool is_taken, struct call call) {
     leave();
 }
 
-/* A lock was tried. One that is tried again and again, with others held, is waited for in another way. */
+/* A lock was tried. One that is tried again and again, with others held all the time, is waited for in another way. Who gives those
+   back before the next try doesn't wait with them held. */
 void tried(uintptr_t lock, bool has_failed) {
     struct thread *t = has_failed || (own && own->failed) ? enter() : NULL;
     if (!t)
         return;
-    if (t->failed == lock && t->depth)
+    if (t->failed == lock && t->failed_under)
         t->raw->left_out.retried++;
     t->failed = has_failed ? lock : 0;
+    t->failed_under = has_failed ? t->depth : 0;
     leave();
 }
 
