@@ -266,9 +266,9 @@ EXPORT int sem_destroy(sem_t *lock) {
 }
 
 /* Tries first, as with a mutex. A wait that a signal ends is withdrawn. */
-#define WAITING(name, parameters, arguments)                                                                           \
+#define WAITING(name, is_sound, parameters, arguments)                                                                 \
     EXPORT int name parameters {                                                                                       \
-        if (!SEMAPHORES)                                                                                               \
+        if (!SEMAPHORES || !(is_sound))                                                                                \
             return REAL(name) arguments;                                                                               \
         int saved = errno, answer = REAL(sem_trywait)(lock);                                                           \
         if (answer == 0) {                                                                                             \
@@ -283,9 +283,9 @@ EXPORT int sem_destroy(sem_t *lock) {
         return answer;                                                                                                 \
     }
 
-WAITING(sem_wait, (sem_t * lock), (lock))
-WAITING(sem_timedwait, (sem_t *restrict lock, const struct timespec *restrict until), (lock, until))
-WAITING(sem_clockwait, (sem_t *restrict lock, clockid_t clock, const struct timespec *restrict until), (lock, clock, until))
+WAITING(sem_wait, true, (sem_t * lock), (lock))
+WAITING(sem_timedwait, is_time(until), (sem_t *restrict lock, const struct timespec *restrict until), (lock, until))
+WAITING(sem_clockwait, IS_CLOCK(clock) && is_time(until), (sem_t *restrict lock, clockid_t clock, const struct timespec *restrict until), (lock, clock, until))
 
 EXPORT int sem_trywait(sem_t *lock) {
     bool is_seen = SEMAPHORES;

@@ -376,19 +376,49 @@ static void leave_loader(struct thread *t, uintptr_t frame) {
     release_at(t, i, t->loading.caller);
 }
 
+/* Whether this thread was seen to take the lock. */
+static inline bool release_own(struct thread *t, uintptr_t lock, struct call call) {
+    leave_loader(t, call.frame);
+    uint32_t i = find_held(t, lock);
+    if (i == RAW_HELD)
+        return false;
+    t->raw->calls++;
+    if (t->entries[i].held.depth)
+        t->entries[i].held.depth--;
+    else
+        release_at(t, i, call.caller);
+    return true;
+}
+
 void releasing(uintptr_t lock, struct call call) {
     struct thread *t = enter();
     if (!t)
         return;
-    leave_loader(t, call.frame);
-    t->raw->calls++;
-    uint32_t i = find_held(t, lock);
-    if (i == RAW_HELD)
+    if (!release_own(t, lock, call)) {
+        t->raw->calls++;
         released_foreign(t, lock);
-    else if (t->entries[i].held.depth)
-        t->entries[i].held.depth--;
-    else
-        release_at(t, i, call.caller);
+    }
+    leave();
+}
+
+/* The same of a lock that only the thread that took it can release. False if this thread wasn't seen to take it: nothing is recorded of
+   the call then, since it may well fail. If it doesn't, released_unseen is to follow. */
+bool releasing_own(uintptr_t lock, struct call call) {
+    struct thread *t = enter();
+    if (!t)
+        return true;
+    bool is_seen = release_own(t, lock, call);
+    leave();
+    return is_seen;
+}
+
+/* A lock was released that this thread took, and wasn't seen to take. */
+void released_unseen(void) {
+    struct thread *t = enter();
+    if (!t)
+        return;
+    t->raw->calls++;
+    t->raw->left_out.releases++;
     leave();
 }
 
