@@ -263,6 +263,7 @@ void initialised(uintptr_t lock, struct call call);
 void destroyed(uintptr_t lock);
 void tried(uintptr_t lock, bool has_failed);
 bool is_held_once(uintptr_t lock);
+bool is_any_held(void);
 void enter_loader(uintptr_t loader, struct call call);
 void begin_threads(void);
 

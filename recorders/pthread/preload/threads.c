@@ -620,6 +620,8 @@ bool is_held_once(uintptr_t lock) {
     return i != RAW_HELD && own->entries[i].held.depth == 0;
 }
 
+bool is_any_held(void) { return own && own->depth; }
+
 /* ---- Locks that are initialised, and those that are no more. */
 
 void initialised(uintptr_t lock, struct call call) {
