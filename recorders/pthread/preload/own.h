@@ -17,6 +17,8 @@
 
 #include <stdbool.h>
 #include <stddef.h>
+#include <dlfcn.h>
+#include <pthread.h>
 #include <stdint.h>
 #include <time.h>
 
@@ -49,6 +51,14 @@
 /* A system call. The C library has a function for each of these, but it looks for each one when it is called first, and has it in a page
    that isn't there yet: one for all is cheaper at a program's start. */
 #define SYSTEM(name, ...) syscall(SYS_##name, ##__VA_ARGS__)
+
+/* What a thread's first lock may call of the C library, and nothing before it, is found when this library is loaded. Else the loader would
+   look for it then, and that takes some two kilobytes of a stack that may be small. */
+#define FOUND_AT_START(name) extern __typeof__(name) name __attribute__((noplt))
+FOUND_AT_START(pthread_setspecific);
+#ifdef DLFO_STRUCT_HAS_EH_DBASE /* as of glibc 2.35 */
+FOUND_AT_START(_dl_find_object);
+#endif
 
 /* Of some calls the C library looks at the clock and the time before it does anything, and refuses others than these. It takes no time for
    an endless one, though its header says that there is one, so the compiler isn't to know what this is about. */

@@ -494,7 +494,10 @@ __attribute__((noinline)) static bool add_entries(struct thread *t) {
     struct entry *all = t->room < RAW_HELD ? take_private(RAW_HELD * sizeof *all) : NULL;
     if (!all)
         return false;
-    memcpy(all, t->entries, t->depth * sizeof *all);
+    for (uint32_t i = 0; i < t->depth; i++) {
+        AS_WRITTEN;
+        all[i] = t->entries[i];
+    }
     t->entries = all;
     t->room = RAW_HELD;
     return true;
