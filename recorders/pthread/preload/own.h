@@ -17,8 +17,6 @@
 
 #include <stdbool.h>
 #include <stddef.h>
-#include <dlfcn.h>
-#include <pthread.h>
 #include <stdint.h>
 #include <time.h>
 
@@ -52,13 +50,9 @@
    that isn't there yet: one for all is cheaper at a program's start. */
 #define SYSTEM(name, ...) syscall(SYS_##name, ##__VA_ARGS__)
 
-/* What a thread's first lock may call of the C library, and nothing before it, is found when this library is loaded. Else the loader would
-   look for it then, and that takes some two kilobytes of a stack that may be small. */
-#define FOUND_AT_START(name) extern __typeof__(name) name __attribute__((noplt))
-FOUND_AT_START(pthread_setspecific);
-#ifdef DLFO_STRUCT_HAS_EH_DBASE /* as of glibc 2.35 */
-FOUND_AT_START(_dl_find_object);
-#endif
+/* A function of the C library that a thread's first lock may call, and nothing before it. By a pointer it is found when this library is
+   loaded. Else the loader would look for it then, and that takes some two kilobytes of a stack that may be small. */
+#define FOUND_WHEN_LOADED(pointer, name) static __typeof__(&name) volatile pointer = name
 
 /* Of some calls the C library looks at the clock and the time before it does anything, and refuses others than these. It takes no time for
    an endless one, though its header says that there is one, so the compiler isn't to know what this is about. */

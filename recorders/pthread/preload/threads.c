@@ -77,6 +77,8 @@ static bool has_thread_end;
 
 /* ---- Making a thread, and its end. */
 
+FOUND_WHEN_LOADED(set_value, pthread_setspecific);
+
 static struct thread *threads; /* all that were made, in use or not */
 
 static struct thread *unused_thread(void) {
@@ -133,7 +135,7 @@ static struct thread *make_thread(void) {
     }
     own = t;
     if (has_thread_end)
-        pthread_setspecific(thread_end, t);
+        set_value(thread_end, t);
     return t;
 }
 
@@ -145,7 +147,7 @@ static void at_thread_end(void *value) {
     if (t != own)
         return;
     if (++t->destructor_rounds < PTHREAD_DESTRUCTOR_ITERATIONS) {
-        pthread_setspecific(thread_end, t);
+        set_value(thread_end, t);
         return;
     }
     leave_loader(t, UINTPTR_MAX);
