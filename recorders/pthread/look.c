@@ -3,7 +3,7 @@
    Writes one word a line: `static`, `setuid`, `other-machine`, `other-libc`, `go`, `rust`, `libpython`, `libjvm`; or, if it is none
    of these and the program itself calls no function of a pthread lock, `no-pthread-import`. Of a script the interpreter is
    looked at. With --each it writes lines `WORD<tab>FILE`, for programs and libraries: `go`, `libpython`, `libjvm`, `embed` if there is
-   the code of lockdep_record.h in it, and `pthread` if it calls such a function. */
+   the code of lockdep_record.h in it, `openmp` if it takes a lock of OpenMP, and `pthread` if it calls such a function. */
 #define _GNU_SOURCE
 #include <elf.h>
 #include <fcntl.h>
@@ -146,21 +146,30 @@ static struct symbols read_symbols(const struct file *file, const Elf64_Ehdr *he
 
 static bool begins_with(const char *text, const char *start) { return strncmp(text, start, strlen(start)) == 0; }
 
-static bool is_lock_call(const char *name) {
-    static const char *const starts[] = {"pthread_mutex_", "pthread_rwlock_", "pthread_spin_", "mtx_", "pthread_once"};
-    for (size_t i = 0; i < sizeof starts / sizeof starts[0]; i++)
+#define MOST_STARTS 8
+
+/* How the names begin of functions that take locks: those of pthreads and C11, and those of OpenMP, the last three of which the compilers
+   call for a critical section. */
+static const char *const starts_of_pthreads[MOST_STARTS] = {"pthread_mutex_", "pthread_rwlock_", "pthread_spin_", "mtx_", "pthread_once"};
+static const char *const starts_of_openmp[MOST_STARTS] = {"omp_set_lock", "omp_test_lock", "omp_set_nest_lock", "omp_test_nest_lock",
+                                                          "GOMP_critical_start", "GOMP_critical_name_start", "__kmpc_critical"};
+
+static bool begins_with_any(const char *name, const char *const starts[MOST_STARTS]) {
+    for (size_t i = 0; i < MOST_STARTS && starts[i]; i++)
         if (begins_with(name, starts[i]))
             return true;
     return false;
 }
 
-static bool calls_locks(const struct symbols *symbols) {
+static bool calls_any(const struct symbols *symbols, const char *const starts[MOST_STARTS]) {
     for (size_t i = 0; i < symbols->count; i++)
         if (symbols->list[i].st_shndx == SHN_UNDEF && symbols->list[i].st_name < symbols->names_size &&
-            is_lock_call(symbols->names + symbols->list[i].st_name))
+            begins_with_any(symbols->names + symbols->list[i].st_name, starts))
             return true;
     return false;
 }
+
+static bool calls_locks(const struct symbols *symbols) { return calls_any(symbols, starts_of_pthreads); }
 
 static bool names_any(const struct symbols *symbols, const char *text) {
     return symbols->names && memmem(symbols->names, symbols->names_size, text, strlen(text));
@@ -241,6 +250,7 @@ static void look_at_each(const char *name) {
         say_of(is_python(&symbols), "libpython", name);
         say_of(is_java(&symbols), "libjvm", name);
         say_of(has(&file, "ldr1 lockdep,2\n"), "embed", name);
+        say_of(calls_any(&symbols, starts_of_openmp), "openmp", name);
         say_of(calls_locks(&symbols), "pthread", name);
     }
     munmap((void *)file.bytes, file.size);

@@ -143,7 +143,7 @@ struct raw_left_out {
     uint64_t deep;      /* an acquisition beyond RAW_HELD held locks */
     uint64_t reentered; /* a call from a signal handler that interrupted the recorder */
     uint64_t no_room;   /* an acquisition for which there was no room in the file or in memory */
-    uint64_t retried;   /* a try that failed, of the lock of the last failed try, with locks held */
+    uint64_t retried;   /* a try of the lock of the last failed try, with locks held since that one */
     uint64_t repeated;  /* records that repeated what the thread had done before: nothing is lost by these */
 };
 

@@ -157,9 +157,15 @@ static bool is_wrapper(const char *function, const char *line) {
 /* What separates a function from its caller. */
 #define CALLED_FROM " < "
 
+/* Whether it is FILE:LINE. Without debug information addr2line may still know the file, and has a question mark for the line. */
+static bool is_line(const char *line) {
+    const char *colon = strrchr(line, ':');
+    return line[0] != '?' && colon && isdigit((unsigned char)colon[1]);
+}
+
 /* One function of a place with its line, if either is known. */
 static void add_frame(struct text *text, const char *function, char *line, bool is_code) {
-    bool has_line = line[0] && line[0] != '?', has_function = is_code && function[0] && function[0] != '?';
+    bool has_line = is_line(line), has_function = is_code && function[0] && function[0] != '?';
     char *discriminator = strstr(line, " (discriminator");
     if (discriminator)
         *discriminator = 0;

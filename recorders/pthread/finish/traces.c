@@ -318,15 +318,19 @@ void write_traces(const char *folder, int version) {
 
 static const char *const kind_words[CLASS_KINDS] = {"unknown", "init", "static", "heap", "stack", "thread", "take", "file"};
 
+/* A path in a line of `classes`: one that has a line break or the like is named with a question mark there, and isn't found. */
+static void write_path(FILE *file, const char *path) {
+    for (; *path; path++)
+        putc((unsigned char)*path < ' ' ? '?' : *path, file);
+}
+
 /* Where the class is. Of code it is an address after a call, and so of a function the second one. */
 static void write_class(FILE *file, const struct key *key) {
-    if (key->path) {
-        fprintf(file, "%s\t%s\t%lx\t%s\n", key->name, key->path, (unsigned long)key->at, kind_words[key->kind]);
-        return;
-    }
-    uint64_t offset = key->at == UINT64_MAX ? 0 : raw_word_offset(key->at) + (key->kind == CLASS_STACK);
-    fprintf(file, "%s\t%s\t%lx\t%s\n", key->name, key->at == UINT64_MAX ? "-" : modules[raw_word_module(key->at)].path,
-            (unsigned long)offset, kind_words[key->kind < CLASS_KINDS ? key->kind : 0]);
+    bool is_somewhere = key->path || key->at != UINT64_MAX;
+    uint64_t at = key->path ? key->at : is_somewhere ? raw_word_offset(key->at) + (key->kind == CLASS_STACK) : 0;
+    fprintf(file, "%s\t", key->name);
+    write_path(file, key->path ? key->path : is_somewhere ? modules[raw_word_module(key->at)].path : "-");
+    fprintf(file, "\t%lx\t%s\n", (unsigned long)at, kind_words[key->kind < CLASS_KINDS ? key->kind : 0]);
 }
 
 void write_classes(const char *folder) {

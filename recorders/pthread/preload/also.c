@@ -22,7 +22,8 @@ REALS(KNOWN_REAL)
 FIND_AT_START(REALS)
 
 /* ---- Routines that run once. Who runs one holds the control meanwhile, and who comes then waits for it. Who finds that it has run
-   waits for nobody, and nothing is recorded. */
+   would have waited for it a little earlier, with all locks that it holds: so it takes and releases the control too. With no lock held that
+   is in no order, and nothing is recorded. */
 
 #define IS_DONE 2 /* the bit of glibc's control that says so */
 
@@ -53,12 +54,23 @@ static void end_once(struct once *once) {
     releasing(once->control, once->call);
 }
 
+static inline void found_done(uintptr_t control, struct call call) {
+    if (LIKELY(!is_any_held()))
+        return;
+    acquired(control, MODE_WRITE, true, call);
+    releasing(control, call);
+}
+
 /* The routine may throw. */
 #define ONCE(name, answer, type)                                                                                       \
     EXPORT answer name(type *control, void (*routine)(void)) {                                                         \
         begin_once();                                                                                                  \
-        if (!is_recording() || *(volatile int *)control & IS_DONE)                                                     \
+        if (!is_recording())                                                                                           \
             return REAL(name)(control, routine);                                                                       \
+        if (*(volatile int *)control & IS_DONE) {                                                                      \
+            found_done((uintptr_t)control, HERE);                                                                      \
+            return REAL(name)(control, routine);                                                                       \
+        }                                                                                                              \
         struct once once __attribute__((cleanup(end_once))) = {(uintptr_t)control, HERE, routine, false, running};     \
         once.is_recorded = begin_wish(once.control, MODE_WRITE, once.call);                                            \
         running = &once;                                                                                               \
@@ -137,8 +149,12 @@ static void find_guards(void) {
 
 EXPORT int __cxa_guard_acquire(guard *g) {
     find_guards();
-    if (!is_recording() || LOAD(&g->bytes[0]))
+    if (!is_recording())
         return real_acquire(g);
+    if (LOAD(&g->bytes[0])) {
+        found_done((uintptr_t)g, HERE);
+        return real_acquire(g);
+    }
     bool is_recorded = begin_wish((uintptr_t)g, MODE_WRITE, HERE);
     int is_ours = real_acquire(g);
     if (is_recorded) {
@@ -266,9 +282,9 @@ EXPORT int sem_destroy(sem_t *lock) {
 }
 
 /* Tries first, as with a mutex. A wait that a signal ends is withdrawn. */
-#define WAITING(name, parameters, arguments)                                                                           \
+#define WAITING(name, is_sound, parameters, arguments)                                                                 \
     EXPORT int name parameters {                                                                                       \
-        if (!SEMAPHORES)                                                                                               \
+        if (!SEMAPHORES || !(is_sound))                                                                                \
             return REAL(name) arguments;                                                                               \
         int saved = errno, answer = REAL(sem_trywait)(lock);                                                           \
         if (answer == 0) {                                                                                             \
@@ -283,9 +299,9 @@ EXPORT int sem_destroy(sem_t *lock) {
         return answer;                                                                                                 \
     }
 
-WAITING(sem_wait, (sem_t * lock), (lock))
-WAITING(sem_timedwait, (sem_t *restrict lock, const struct timespec *restrict until), (lock, until))
-WAITING(sem_clockwait, (sem_t *restrict lock, clockid_t clock, const struct timespec *restrict until), (lock, clock, until))
+WAITING(sem_wait, true, (sem_t * lock), (lock))
+WAITING(sem_timedwait, is_time(until), (sem_t *restrict lock, const struct timespec *restrict until), (lock, until))
+WAITING(sem_clockwait, IS_CLOCK(clock) && is_time(until), (sem_t *restrict lock, clockid_t clock, const struct timespec *restrict until), (lock, clock, until))
 
 EXPORT int sem_trywait(sem_t *lock) {
     bool is_seen = SEMAPHORES;

@@ -97,16 +97,41 @@ static inline bool took(int answer) { return answer == 0 || answer == EOWNERDEAD
 
 /* A mutex that its holder takes again is a recursive one, and is taken once. */
 #define IS_EXCLUSIVE(lock) _Generic((lock), pthread_mutex_t *: true, mtx_t *: true, default: false)
-#define IS_CLOCK(clock) ((clock) == CLOCK_REALTIME || (clock) == CLOCK_MONOTONIC)
 
 #define RELEASING(name, type)                                                                                          \
     EXPORT int name(type *lock) {                                                                                      \
         __typeof__(&name) real = READY(name);                                                                          \
         if (!real)                                                                                                     \
             return 0;                                                                                                  \
-        releasing((uintptr_t)lock, HERE);                                                                              \
+        if (KNOWS_OWNER(lock)) {                                                                                       \
+            if (RARELY(!releasing_own((uintptr_t)lock, HERE)))                                                         \
+                return release_unseen((int (*)(void *))real, (void *)lock);                                            \
+        } else {                                                                                                       \
+            releasing((uintptr_t)lock, HERE);                                                                          \
+        }                                                                                                              \
         return real(lock);                                                                                             \
     }
+
+/* A mutex that refuses to be released by a thread that didn't take it: one that is recursive, checked, robust, or lends its holder a
+   priority. */
+#define IS_MUTEX(lock) IS_EXCLUSIVE(lock)
+#define KNOWS_OWNER(lock) (IS_MUTEX(lock) && knows_owner((const pthread_mutex_t *)(lock)))
+
+#define KIND_BITS 3
+#define ROBUST_OR_LENDING (16 | 32)
+
+static inline bool knows_owner(const pthread_mutex_t *lock) {
+    int kind = lock->__data.__kind, basic = kind & KIND_BITS;
+    return basic == PTHREAD_MUTEX_RECURSIVE_NP || basic == PTHREAD_MUTEX_ERRORCHECK_NP || kind & ROBUST_OR_LENDING;
+}
+
+/* Of a mutex that knows its owner, which this thread wasn't seen to be: a call that fails ends nobody's hold. */
+__attribute__((noinline)) static int release_unseen(int (*release)(void *), void *lock) {
+    int answer = release(lock);
+    if (answer == 0)
+        released_unseen();
+    return answer;
+}
 
 #define DESTROYING(name, type)                                                                                         \
     EXPORT int name(type *lock) {                                                                                      \
@@ -149,12 +174,12 @@ INITIALISING(pthread_rwlock_init, pthread_rwlock_t, const pthread_rwlockattr_t *
 DESTROYING(pthread_rwlock_destroy, pthread_rwlock_t)
 TAKING(pthread_rwlock_rdlock, pthread_rwlock_tryrdlock, EBUSY, reads(lock), true, (pthread_rwlock_t * lock), (lock))
 TRYING(pthread_rwlock_tryrdlock, (uint8_t)(reads(lock) + TRIES), (pthread_rwlock_t * lock), (lock))
-TAKING(pthread_rwlock_timedrdlock, pthread_rwlock_tryrdlock, EBUSY, reads(lock), true, (pthread_rwlock_t * lock, deadline until), (lock, until))
-TAKING(pthread_rwlock_clockrdlock, pthread_rwlock_tryrdlock, EBUSY, reads(lock), IS_CLOCK(clock), (pthread_rwlock_t * lock, clockid_t clock, deadline until), (lock, clock, until))
+TAKING(pthread_rwlock_timedrdlock, pthread_rwlock_tryrdlock, EBUSY, reads(lock), is_time(until), (pthread_rwlock_t * lock, deadline until), (lock, until))
+TAKING(pthread_rwlock_clockrdlock, pthread_rwlock_tryrdlock, EBUSY, reads(lock), IS_CLOCK(clock) && is_time(until), (pthread_rwlock_t * lock, clockid_t clock, deadline until), (lock, clock, until))
 TAKING(pthread_rwlock_wrlock, pthread_rwlock_trywrlock, EBUSY, MODE_WRITE, true, (pthread_rwlock_t * lock), (lock))
 TRYING(pthread_rwlock_trywrlock, MODE_TRY_WRITE, (pthread_rwlock_t * lock), (lock))
-TAKING(pthread_rwlock_timedwrlock, pthread_rwlock_trywrlock, EBUSY, MODE_WRITE, true, (pthread_rwlock_t * lock, deadline until), (lock, until))
-TAKING(pthread_rwlock_clockwrlock, pthread_rwlock_trywrlock, EBUSY, MODE_WRITE, IS_CLOCK(clock), (pthread_rwlock_t * lock, clockid_t clock, deadline until), (lock, clock, until))
+TAKING(pthread_rwlock_timedwrlock, pthread_rwlock_trywrlock, EBUSY, MODE_WRITE, is_time(until), (pthread_rwlock_t * lock, deadline until), (lock, until))
+TAKING(pthread_rwlock_clockwrlock, pthread_rwlock_trywrlock, EBUSY, MODE_WRITE, IS_CLOCK(clock) && is_time(until), (pthread_rwlock_t * lock, clockid_t clock, deadline until), (lock, clock, until))
 RELEASING(pthread_rwlock_unlock, pthread_rwlock_t)
 
 INITIALISING(pthread_spin_init, pthread_spinlock_t volatile, int shared, shared)
@@ -185,7 +210,8 @@ TAKING(mtx_timedlock, mtx_trylock, thrd_busy, MODE_WRITE, true, (mtx_t * restric
 TRYING(mtx_trylock, MODE_TRY_WRITE, (mtx_t * lock), (lock))
 RELEASING(mtx_unlock, mtx_t)
 
-/* ---- Waiting on a condition releases the mutex and takes it again, also if the thread is cancelled meanwhile. */
+/* ---- Waiting on a condition releases the mutex and takes it again, also if the thread is cancelled meanwhile. A wait until a time that
+   is none is refused before that. A robust mutex that has become useless meanwhile isn't taken again. */
 
 struct waiting {
     uintptr_t lock;
@@ -193,8 +219,8 @@ struct waiting {
     bool is_released;
 };
 
-static void begin_wait(struct waiting *w) {
-    w->is_released = is_held_once(w->lock);
+static void begin_wait(struct waiting *w, bool is_sound) {
+    w->is_released = is_sound && is_held_once(w->lock);
     if (w->is_released)
         releasing(w->lock, w->call);
 }
@@ -205,24 +231,25 @@ static void end_wait(void *value) {
         acquired(w->lock, MODE_WRITE, true, w->call);
 }
 
-#define WAITING(name, parameters, arguments)                                                                           \
+#define WAITING(name, is_sound, parameters, arguments)                                                                 \
     EXPORT int name parameters {                                                                                       \
         if (!resolved())                                                                                               \
             return 0;                                                                                                  \
         struct waiting w = {(uintptr_t)lock, HERE, false};                                                             \
         int answer;                                                                                                    \
-        begin_wait(&w);                                                                                                \
+        begin_wait(&w, is_sound);                                                                                      \
         pthread_cleanup_push(end_wait, &w);                                                                            \
         answer = REAL(name) arguments;                                                                                 \
+        w.is_released = w.is_released && answer != ENOTRECOVERABLE;                                                    \
         pthread_cleanup_pop(1);                                                                                        \
         return answer;                                                                                                 \
     }
 
-WAITING(pthread_cond_wait, (pthread_cond_t * condition, pthread_mutex_t *lock), (condition, lock))
-WAITING(pthread_cond_timedwait, (pthread_cond_t * condition, pthread_mutex_t *lock, deadline until), (condition, lock, until))
-WAITING(pthread_cond_clockwait, (pthread_cond_t * condition, pthread_mutex_t *lock, clockid_t clock, deadline until), (condition, lock, clock, until))
-WAITING(cnd_wait, (cnd_t * condition, mtx_t *lock), (condition, lock))
-WAITING(cnd_timedwait, (cnd_t *restrict condition, mtx_t *restrict lock, const struct timespec *restrict until), (condition, lock, until))
+WAITING(pthread_cond_wait, true, (pthread_cond_t * condition, pthread_mutex_t *lock), (condition, lock))
+WAITING(pthread_cond_timedwait, is_time(until), (pthread_cond_t * condition, pthread_mutex_t *lock, deadline until), (condition, lock, until))
+WAITING(pthread_cond_clockwait, IS_CLOCK(clock) && is_time(until), (pthread_cond_t * condition, pthread_mutex_t *lock, clockid_t clock, deadline until), (condition, lock, clock, until))
+WAITING(cnd_wait, true, (cnd_t * condition, mtx_t *lock), (condition, lock))
+WAITING(cnd_timedwait, is_time(until), (cnd_t *restrict condition, mtx_t *restrict lock, const struct timespec *restrict until), (condition, lock, until))
 
 /* ---- Threads. Where the frames of their starter are is noted, since locks in them are mostly for the new thread too. */
 

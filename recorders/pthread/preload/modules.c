@@ -200,15 +200,17 @@ bool own_part_word(intptr_t from_pointer, uint64_t *word) {
 
 #ifdef HAS_FIND_OBJECT
 
+FOUND_WHEN_LOADED(find_object, _dl_find_object);
+
 static bool is_mapped(const struct module *m) {
     struct dl_find_object found;
-    return _dl_find_object((void *)m->from, &found) == 0 && found.dlfo_link_map->l_addr == m->bias &&
+    return find_object((void *)m->from, &found) == 0 && found.dlfo_link_map->l_addr == m->bias &&
            (uintptr_t)found.dlfo_map_end >= m->to;
 }
 
 static void look_for_module(uintptr_t address) {
     struct dl_find_object found;
-    if (_dl_find_object((void *)address, &found) != 0)
+    if (find_object((void *)address, &found) != 0)
         return;
     struct module m = {.from = (uintptr_t)found.dlfo_map_start, .to = (uintptr_t)found.dlfo_map_end,
                        .bias = found.dlfo_link_map->l_addr, .unwinding = found.dlfo_eh_frame};

@@ -18,6 +18,7 @@
 #include <stdbool.h>
 #include <stddef.h>
 #include <stdint.h>
+#include <time.h>
 
 #define CALLER ((uintptr_t)__builtin_return_address(0))
 #define FRAME ((uintptr_t)__builtin_frame_address(0))
@@ -48,6 +49,18 @@
 /* A system call. The C library has a function for each of these, but it looks for each one when it is called first, and has it in a page
    that isn't there yet: one for all is cheaper at a program's start. */
 #define SYSTEM(name, ...) syscall(SYS_##name, ##__VA_ARGS__)
+
+/* A function of the C library that a thread's first lock may call, and nothing before it. By a pointer it is found when this library is
+   loaded. Else the loader would look for it then, and that takes some two kilobytes of a stack that may be small. */
+#define FOUND_WHEN_LOADED(pointer, name) static __typeof__(&name) volatile pointer = name
+
+/* Of some calls the C library looks at the clock and the time before it does anything, and refuses others than these. It takes no time for
+   an endless one, though its header says that there is one, so the compiler isn't to know what this is about. */
+#define IS_CLOCK(clock) ((clock) == CLOCK_REALTIME || (clock) == CLOCK_MONOTONIC)
+static inline bool is_time(const struct timespec *until) {
+    __asm__("" : "+r"(until));
+    return !until || (unsigned long)until->tv_nsec < 1000000000;
+}
 
 /* ---- texts.c: of the C library's it is the same. */
 
@@ -248,10 +261,13 @@ void acquired(uintptr_t lock, uint8_t mode, bool exclusive, struct call call);
 bool begin_wish(uintptr_t lock, uint8_t mode, struct call call);
 void end_wish(uintptr_t lock, bool is_taken, struct call call);
 void releasing(uintptr_t lock, struct call call);
+bool releasing_own(uintptr_t lock, struct call call);
+void released_unseen(void);
 void initialised(uintptr_t lock, struct call call);
 void destroyed(uintptr_t lock);
 void tried(uintptr_t lock, bool has_failed);
 bool is_held_once(uintptr_t lock);
+bool is_any_held(void);
 void enter_loader(uintptr_t loader, struct call call);
 void begin_threads(void);
 

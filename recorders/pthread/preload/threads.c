@@ -56,6 +56,7 @@ struct thread {
     uint32_t epoch;
     int destructor_rounds;
     uintptr_t failed; /* the lock of the last try that failed */
+    uint32_t failed_under; /* how many of the locks that were held then are held since: the oldest ones */
     uintptr_t loader; /* the loader's lock, if the thread may still be in it */
     struct call loading; /* from where */
     struct thread *next;
@@ -75,6 +76,8 @@ static pthread_key_t thread_end;
 static bool has_thread_end;
 
 /* ---- Making a thread, and its end. */
+
+FOUND_WHEN_LOADED(set_value, pthread_setspecific);
 
 static struct thread *threads; /* all that were made, in use or not */
 
@@ -114,6 +117,7 @@ static bool begin_trace(struct thread *t) {
     t->fresh_end = 0;
     t->depth = 0;
     t->failed = 0;
+    t->failed_under = 0;
     t->loader = 0;
     t->destructor_rounds = 0;
     t->epoch = LOAD(&foreign_epoch);
@@ -131,7 +135,7 @@ static struct thread *make_thread(void) {
     }
     own = t;
     if (has_thread_end)
-        pthread_setspecific(thread_end, t);
+        set_value(thread_end, t);
     return t;
 }
 
@@ -143,7 +147,7 @@ static void at_thread_end(void *value) {
     if (t != own)
         return;
     if (++t->destructor_rounds < PTHREAD_DESTRUCTOR_ITERATIONS) {
-        pthread_setspecific(thread_end, t);
+        set_value(thread_end, t);
         return;
     }
     leave_loader(t, UINTPTR_MAX);
@@ -317,6 +321,7 @@ static uint32_t cached_place(struct thread *t, uintptr_t caller) {
 static void release_at(struct thread *t, uint32_t i, uintptr_t caller) {
     struct held gone = t->entries[i].held;
     bool was_newest = i + 1 == t->depth;
+    t->failed_under -= i < t->failed_under;
     for (; i + 1 < t->depth; i++)
         t->entries[i].held = t->entries[i + 1].held;
     pop_link(t, BY_OBJECTS, gone.object);
@@ -373,19 +378,49 @@ static void leave_loader(struct thread *t, uintptr_t frame) {
     release_at(t, i, t->loading.caller);
 }
 
+/* Whether this thread was seen to take the lock. */
+static inline bool release_own(struct thread *t, uintptr_t lock, struct call call) {
+    leave_loader(t, call.frame);
+    uint32_t i = find_held(t, lock);
+    if (i == RAW_HELD)
+        return false;
+    t->raw->calls++;
+    if (t->entries[i].held.depth)
+        t->entries[i].held.depth--;
+    else
+        release_at(t, i, call.caller);
+    return true;
+}
+
 void releasing(uintptr_t lock, struct call call) {
     struct thread *t = enter();
     if (!t)
         return;
-    leave_loader(t, call.frame);
-    t->raw->calls++;
-    uint32_t i = find_held(t, lock);
-    if (i == RAW_HELD)
+    if (!release_own(t, lock, call)) {
+        t->raw->calls++;
         released_foreign(t, lock);
-    else if (t->entries[i].held.depth)
-        t->entries[i].held.depth--;
-    else
-        release_at(t, i, call.caller);
+    }
+    leave();
+}
+
+/* The same of a lock that only the thread that took it can release. False if this thread wasn't seen to take it: nothing is recorded of
+   the call then, since it may well fail. If it doesn't, released_unseen is to follow. */
+bool releasing_own(uintptr_t lock, struct call call) {
+    struct thread *t = enter();
+    if (!t)
+        return true;
+    bool is_seen = release_own(t, lock, call);
+    leave();
+    return is_seen;
+}
+
+/* A lock was released that this thread took, and wasn't seen to take. */
+void released_unseen(void) {
+    struct thread *t = enter();
+    if (!t)
+        return;
+    t->raw->calls++;
+    t->raw->left_out.releases++;
     leave();
 }
 
@@ -461,7 +496,10 @@ __attribute__((noinline)) static bool add_entries(struct thread *t) {
     struct entry *all = t->room < RAW_HELD ? take_private(RAW_HELD * sizeof *all) : NULL;
     if (!all)
         return false;
-    memcpy(all, t->entries, t->depth * sizeof *all);
+    for (uint32_t i = 0; i < t->depth; i++) {
+        AS_WRITTEN;
+        all[i] = t->entries[i];
+    }
     t->entries = all;
     t->room = RAW_HELD;
     return true;
@@ -533,6 +571,7 @@ static void withdraw(struct thread *t, uint32_t i, uintptr_t caller) {
     }
     pop_link(t, BY_OBJECTS, h.object);
     pop_link(t, BY_CLASSES, class_of(h.object));
+    t->failed_under -= i < t->failed_under;
     t->depth--;
     t->raw->count = h.record;
     t->fresh_end = h.fresh_before;
@@ -553,14 +592,16 @@ void end_wish(uintptr_t lock, bool is_taken, struct call call) {
     leave();
 }
 
-/* A lock was tried. One that is tried again and again, with others held, is waited for in another way. */
+/* A lock was tried. One that is tried again and again, with others held all the time, is waited for in another way. Who gives those
+   back before the next try doesn't wait with them held. */
 void tried(uintptr_t lock, bool has_failed) {
     struct thread *t = has_failed || (own && own->failed) ? enter() : NULL;
     if (!t)
         return;
-    if (t->failed == lock && t->depth)
+    if (t->failed == lock && t->failed_under)
         t->raw->left_out.retried++;
     t->failed = has_failed ? lock : 0;
+    t->failed_under = has_failed ? t->depth : 0;
     leave();
 }
 
@@ -583,6 +624,8 @@ bool is_held_once(uintptr_t lock) {
     uint32_t i = own ? find_held(own, lock) : RAW_HELD;
     return i != RAW_HELD && own->entries[i].held.depth == 0;
 }
+
+bool is_any_held(void) { return own && own->depth; }
 
 /* ---- Locks that are initialised, and those that are no more. */
 
