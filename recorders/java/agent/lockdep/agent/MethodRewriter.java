@@ -115,6 +115,10 @@ final class MethodRewriter {
         return hook("exit", "(Ljava/lang/Object;)V");
     }
 
+    private static MethodInsnNode starts() {
+        return hook("starts", "(Ljava/lang/Object;)V");
+    }
+
     private AbstractInsnNode site() {
         return number(Site.add(source, method.name, line, 1));
     }
@@ -141,6 +145,9 @@ final class MethodRewriter {
             return;
         }
         if (call.owner.equals("java/util/Collections") && call.name.startsWith("synchronized")) noteMade(call);
+        int depth = Calls.depthOfStart(call);
+        if (depth == 2) before(call, list(new InsnNode(Opcodes.DUP2), new InsnNode(Opcodes.POP), starts()));
+        else if (depth == 1) before(call, list(new InsnNode(Opcodes.DUP), starts()));
         String receiver = Calls.receiver(call, locking);
         if (receiver == null) return;
         if (Calls.hasSite(call)) before(call, list(site()));
