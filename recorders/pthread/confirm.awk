@@ -73,6 +73,7 @@ mode == "traces" {
         note_orders(key, substr(rest, 3))
         held[++depth] = key
         how[depth] = substr(rest, 3)
+        since[depth] = FNR
     } else if (/^rel,/) {
         key = name_of($0) "/" substr(rest, 1, 1)
         give_back(key)
@@ -87,6 +88,7 @@ function give_back(key,    i) {
     for (; i < depth; i++) {
         held[i] = held[i + 1]
         how[i] = how[i + 1]
+        since[i] = since[i + 1]
     }
     depth--
 }
@@ -98,7 +100,11 @@ function note_orders(key, how_taken,    i, order) {
     if (how_taken ~ /^t/) return
     for (i = base + 1; i <= depth; i++) {
         order = held[i] " " (is_writer(how[i]) ? "E" : "S") (how_taken == "rr" ? "R" : "N") " " key
-        if (order in number_of) note_order(number_of[order])
+        if (!(order in number_of)) continue
+        note_order(number_of[order])
+        if (seen[number_of[order]] == 1)
+            origin[number_of[order]] = order ": " FILENAME ": record " FNR " takes " key " " how_taken ", with " held[i] " " how[i] \
+                " held since record " since[i]
     }
 }
 
@@ -193,6 +199,17 @@ function several(circle, length_of,    i) {
     return ""
 }
 
+# A circle as an explanation has it.
+function text_of(circle, length_of,    i, walk, orders, tasks) {
+    walk = "circle " from[circle[1]]
+    for (i = 1; i <= length_of; i++) {
+        walk = walk " " kind[circle[i]] " " to[circle[i]]
+        orders = orders "  " origin[circle[i]] "\n"
+        tasks = tasks "  task " i " holds " from[circle[i]] " and waits for " to[circle[i]] "\n"
+    }
+    return walk "\n" orders tasks
+}
+
 # Keeps the line of a circle for the finding if none that is worse was kept; and of those with single locks alone, the worst one.
 function judge(circle, length_of,    threads, rank, locks, line, passes, rest, is_sure) {
     threads = count_tasks(circle, length_of)
@@ -219,6 +236,7 @@ function judge(circle, length_of,    threads, rank, locks, line, passes, rest, i
         best_rank = rank
         best_length = length_of
         is_best_sure = is_sure
+        best_text = text_of(circle, length_of)
         best_line = "seen between locks: " line
         if (!is_sure) best_line = "perhaps " best_line "; " rest " is several locks"
     }
@@ -393,12 +411,16 @@ function read_walk(line,    words, n, i, order) {
 # ---- Findings.
 
 function begin_finding(b) {
-    walk_length = 0
+    begin_search()
+    read_walk(first[b])
+}
+
+function begin_search() {
+    walk_length = wanted_count = steps = 0
     best_rank = sure_rank = WORST
     best_length = sure_length = 0
     best_line = sure_line = ""
     is_best_sure = 0
-    read_walk(first[b])
 }
 
 # What was seen between single locks is said even if what was perhaps seen is worse.
@@ -474,6 +496,24 @@ function tell_locks(b,    i, is_sure, is_new) {
     end_finding(b)
 }
 
+# Circles of single locks whose orders are on shorter ones through locks that share a name, if they belong to several findings: each such
+# order that isn't told yet is searched from.
+function tell_hidden(    d) {
+    split("", is_wanted)
+    for (d = 1; d <= count; d++) is_wanted[class[d]]
+    choose(1)
+    for (d = 1; d <= count; d++) if (d in is_chosen && !is_surely_told[d]) tell_circle_of(d)
+}
+
+function tell_circle_of(d,    most) {
+    begin_search()
+    wanted[1] = class[d]
+    for (most = 1; most <= count && steps <= MOST_STEPS && best_rank == WORST; most++) search_from(d, most, 0)
+    if (best_rank == WORST) return
+    text[++blocks] = best_text
+    end_finding(blocks)
+}
+
 # What isn't a circle is written as it is.
 function tell(b) {
     if (first[b] !~ /^circle /) {
@@ -493,6 +533,7 @@ function tell(b) {
 
 END {
     for (b = 1; b <= blocks; b++) tell(b)
+    tell_hidden()
     print "findings " findings + 0
     for (rank = CONFIRMED; rank < WORST; rank++)
         for (b = 1; b <= blocks; b++) if (rank_of[b] == rank) {
