@@ -145,7 +145,7 @@ final class MethodRewriter {
             return;
         }
         if (call.owner.equals("java/util/Collections") && call.name.startsWith("synchronized")) noteMade(call);
-        int depth = Calls.depthOfStart(call);
+        int depth = source.isOfJdk ? 0 : Calls.depthOfStart(call);
         if (depth == 2) before(call, list(new InsnNode(Opcodes.DUP2), new InsnNode(Opcodes.POP), starts()));
         else if (depth == 1) before(call, list(new InsnNode(Opcodes.DUP), starts()));
         String receiver = Calls.receiver(call, locking);
