@@ -112,7 +112,7 @@ function tell_record(    verb, trimmed) {
     verb = fields[1]
     trimmed = verb
     gsub(/^[ \t]+|[ \t]+$/, "", trimmed)
-    tell("fields", count)
+    tell("fields", count == 1 ? "1 field" : count " fields")
     tell("verb", shown(verb))
     if (verb == "acq" || verb == "rel" || verb == "leave") tell("case", verb)
     else if (verb == "lockdep") tell("case", "header")

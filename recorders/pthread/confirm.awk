@@ -9,9 +9,9 @@
 #   mode=classes    the explanation by classes
 #   mode=locks      the explanation by single locks
 #
-# With is_strict=1 the status is 1 only if a finding was seen between locks that nothing keeps apart.
+# With is_strict=1 the status is 1 only if a finding was seen between locks that nothing keeps apart, or that isn't known.
 
-# How many steps the search for circles of one finding may take.
+# How many steps one search for circles of a finding may take.
 BEGIN { MOST_STEPS = 20000 }
 
 # What is said of a finding, what to look at first coming first.
@@ -40,6 +40,7 @@ mode == "circles" && $1 == "circle" {
     to[count] = $4
     class[count] = class_of($2) " " $3 " " class_of($4)
     leaving[$2] = leaving[$2] " " count
+    arriving[$4] = arriving[$4] " " count
 }
 
 # The name of a record, which may be between double quotes; what follows it is left in `rest`.
@@ -72,6 +73,7 @@ mode == "traces" {
         note_orders(key, substr(rest, 3))
         held[++depth] = key
         how[depth] = substr(rest, 3)
+        since[depth] = FNR
     } else if (/^rel,/) {
         key = name_of($0) "/" substr(rest, 1, 1)
         give_back(key)
@@ -86,6 +88,7 @@ function give_back(key,    i) {
     for (; i < depth; i++) {
         held[i] = held[i + 1]
         how[i] = how[i + 1]
+        since[i] = since[i + 1]
     }
     depth--
 }
@@ -97,7 +100,11 @@ function note_orders(key, how_taken,    i, order) {
     if (how_taken ~ /^t/) return
     for (i = base + 1; i <= depth; i++) {
         order = held[i] " " (is_writer(how[i]) ? "E" : "S") (how_taken == "rr" ? "R" : "N") " " key
-        if (order in number_of) note_order(number_of[order])
+        if (!(order in number_of)) continue
+        note_order(number_of[order])
+        if (seen[number_of[order]] == 1)
+            origin[number_of[order]] = order ": " FILENAME ": record " FNR " takes " key " " how_taken ", with " held[i] " " how[i] \
+                " held since record " since[i]
     }
 }
 
@@ -192,14 +199,26 @@ function several(circle, length_of,    i) {
     return ""
 }
 
-# Keeps the line of a circle for the finding if none that is worse was kept.
-function judge(circle, length_of,    threads, rank, locks, line, passes, rest) {
+# A circle as an explanation has it.
+function text_of(circle, length_of,    i, walk, orders, tasks) {
+    walk = "circle " from[circle[1]]
+    for (i = 1; i <= length_of; i++) {
+        walk = walk " " kind[circle[i]] " " to[circle[i]]
+        orders = orders "  " origin[circle[i]] "\n"
+        tasks = tasks "  task " i " holds " from[circle[i]] " and waits for " to[circle[i]] "\n"
+    }
+    return walk "\n" orders tasks
+}
+
+# Keeps the line of a circle for the finding if none that is worse was kept; and of those with single locks alone, the worst one.
+function judge(circle, length_of,    threads, rank, locks, line, passes, rest, is_sure) {
     threads = count_tasks(circle, length_of)
     locks = locks_of(circle, length_of, wanted[1])
     passes = gate(circle, length_of)
     rest = several(circle, length_of)
-    rank = rest == "" ? CONFIRMED : PERHAPS
-    if (length_of == 1 && rest == "") {
+    is_sure = rest == ""
+    rank = is_sure ? CONFIRMED : PERHAPS
+    if (length_of == 1 && is_sure) {
         line = locks " under itself, by " threads " thread" (threads == 1 ? "" : "s")
     } else if (passes != "") {
         rank = GATED
@@ -208,12 +227,18 @@ function judge(circle, length_of,    threads, rank, locks, line, passes, rest) {
         rank = ALONE
         line = locks ", by one thread"
     } else line = locks ", by " threads " threads"
-    if (rank < best_rank || (rank == best_rank && length_of < best_length)) {
+    if (is_sure && (rank < sure_rank || (rank == sure_rank && length_of < sure_length))) {
+        sure_rank = rank
+        sure_length = length_of
+        sure_line = line
+    }
+    if (rank < best_rank || (rank == best_rank && (is_sure > is_best_sure || (is_sure == is_best_sure && length_of < best_length)))) {
         best_rank = rank
         best_length = length_of
-        is_best_sure = rest == ""
+        is_best_sure = is_sure
+        best_text = text_of(circle, length_of)
         best_line = "seen between locks: " line
-        if (rest != "") best_line = "perhaps " best_line "; " rest " is several locks"
+        if (!is_sure) best_line = "perhaps " best_line "; " rest " is several locks"
     }
 }
 
@@ -224,35 +249,135 @@ function take(length_of,    i, found, classes) {
         found++
     }
     if (found < wanted_count) return
-    for (i = 1; i <= length_of; i++) is_told[path[i]] = 1
+    tell_path(length_of)
     judge(path, length_of)
 }
 
-# Goes on from the last order of the path through locks that aren't on it, until it is back where it began. A circle is
-# found from the order that has the least number of its orders.
-function search(length_of,    last, next_orders, n, k, d) {
+# The orders of the path are told; those of single locks alone are told as that.
+function tell_path(length_of,    i, is_sure) {
+    is_sure = several(path, length_of) == ""
+    for (i = 1; i <= length_of; i++) {
+        is_told[path[i]] = 1
+        if (is_sure) is_surely_told[path[i]] = 1
+    }
+}
+
+# Goes on from the last order of the path through locks that aren't on it, until it is back where it began, or the path is too long.
+# A circle is found from the order that has the least number of its orders, or else from each of its orders that begins it.
+function search(length_of, most, is_from_least,    last, next_orders, n, k, d) {
     if (++steps > MOST_STEPS) return
     last = path[length_of]
     if (to[last] == from[path[1]]) {
         if (may_follow(last, path[1])) take(length_of)
         return
     }
+    if (length_of == most) return
     n = split(leaving[to[last]], next_orders, " ")
     for (k = 1; k <= n; k++) {
         d = next_orders[k] + 0
-        if (d <= path[1] || !(class[d] in is_wanted) || to[d] in is_on_path || !may_follow(last, d)) continue
+        if (!(d in is_chosen) || (is_from_least && d <= path[1]) || to[d] in is_on_path || !may_follow(last, d)) continue
         path[length_of + 1] = d
         is_on_path[to[d]]
-        search(length_of + 1)
+        search(length_of + 1, most, is_from_least)
         delete is_on_path[to[d]]
     }
 }
 
-function search_from(d) {
+function search_from(d, most, is_from_least) {
     split("", is_on_path)
     path[1] = d
     is_on_path[to[d]]
-    search(1)
+    search(1, most, is_from_least)
+}
+
+# Searches for all circles of the chosen orders. Returns whether all were found.
+function search_all(    d) {
+    steps = 0
+    for (d = 1; d <= count; d++) if (d in is_chosen) search_from(d, count, 1)
+    return steps <= MOST_STEPS
+}
+
+# Searches for the shortest circles until one is as bad as it can be: of single locks, or through those that share a name.
+function search_short(worst,    most, d) {
+    steps = 0
+    for (most = 1; most <= count && steps <= MOST_STEPS && best_rank > worst; most++)
+        for (d = 1; d <= count; d++)
+            if (d in is_chosen && (worst == CONFIRMED || is_several(from[d]))) search_from(d, most, worst == CONFIRMED)
+}
+
+# Whether no circle of the chosen orders can be worse than what was found: if all are under one gate, or by one thread.
+function is_worst(worst,    d, chosen, n) {
+    for (d = 1; d <= count; d++) if (d in is_chosen) chosen[++n] = d
+    if (best_rank == GATED && gate(chosen, n) != "") return 1
+    return best_rank <= worst || (best_rank == ALONE && count_tasks(chosen, n) <= 1)
+}
+
+# ---- Orders that are part of a circle.
+
+# Chooses the finding's orders that are on circles of such orders; with `is_sure`, on circles of single locks alone. If locks are taken
+# in a fixed order, that is none, whatever their number.
+function choose(is_sure,    d) {
+    split("", is_chosen)
+    for (d = 1; d <= count; d++)
+        if (class[d] in is_wanted && !(is_sure && (is_several(from[d]) || is_several(to[d])))) is_chosen[d]
+    drop_ends()
+    drop_between()
+}
+
+# Drops the orders of locks that no order leads to or goes on from, until there is none of these left.
+function drop_ends(    d, key, ends, n, i) {
+    split("", leads_on)
+    split("", leads_there)
+    for (d in is_chosen) {
+        leads_on[from[d]]++
+        leads_there[to[d]]++
+    }
+    for (key in leads_on) if (!(key in leads_there)) ends[++n] = key
+    for (key in leads_there) if (!(key in leads_on)) ends[++n] = key
+    for (i = 1; i <= n; i++) n = drop_orders_of(ends[i], ends, n)
+}
+
+# Drops the orders of one lock, and adds to the list the locks whose last order from or to there was among them.
+function drop_orders_of(key, ends, n,    orders, count_of, k, d) {
+    count_of = split(leaving[key] arriving[key], orders, " ")
+    for (k = 1; k <= count_of; k++) {
+        d = orders[k] + 0
+        if (!(d in is_chosen)) continue
+        delete is_chosen[d]
+        if (--leads_on[from[d]] == 0 && from[d] != key) ends[++n] = from[d]
+        if (--leads_there[to[d]] == 0 && to[d] != key) ends[++n] = to[d]
+    }
+    return n
+}
+
+# Drops the orders between locks of which the second doesn't lead back to the first.
+function drop_between(    d, part_of, parts, after, before, key) {
+    for (d in is_chosen) {
+        if (from[d] in part_of) continue
+        parts++
+        split("", after)
+        split("", before)
+        reach(from[d], 1, after, part_of)
+        reach(from[d], 0, before, part_of)
+        for (key in after) if (key in before) part_of[key] = parts
+    }
+    for (d = 1; d <= count; d++) if (d in is_chosen && part_of[from[d]] != part_of[to[d]]) delete is_chosen[d]
+}
+
+# The locks that the chosen orders lead to from one, or from which they lead there, through such as are in no part yet.
+function reach(start, is_onward, found, part_of,    list, n, i, orders, count_of, k, d, key) {
+    list[n = 1] = start
+    found[start]
+    for (i = 1; i <= n; i++) {
+        count_of = split(is_onward ? leaving[list[i]] : arriving[list[i]], orders, " ")
+        for (k = 1; k <= count_of; k++) {
+            d = orders[k] + 0
+            key = is_onward ? to[d] : from[d]
+            if (!(d in is_chosen) || key in found || key in part_of) continue
+            found[key]
+            list[++n] = key
+        }
+    }
 }
 
 # The circles that the explanation by single locks has: they may pass a lock twice, which the search doesn't.
@@ -286,15 +411,21 @@ function read_walk(line,    words, n, i, order) {
 # ---- Findings.
 
 function begin_finding(b) {
-    walk_length = steps = 0
-    best_rank = WORST
-    best_length = 0
-    best_line = ""
-    is_best_sure = 0
+    begin_search()
     read_walk(first[b])
 }
 
+function begin_search() {
+    walk_length = wanted_count = steps = 0
+    best_rank = sure_rank = WORST
+    best_length = sure_length = 0
+    best_line = sure_line = ""
+    is_best_sure = 0
+}
+
+# What was seen between single locks is said even if what was perhaps seen is worse.
 function end_finding(b) {
+    if (!is_best_sure && sure_line != "") best_line = best_line "; and seen for sure: " sure_line
     rank_of[b] = best_rank
     line_of[b] = best_line
     findings++
@@ -309,43 +440,78 @@ function depth_without(    i, k) {
 }
 
 function note_depth(    least) {
-    least = is_best_sure ? 0 : depth_without()
+    least = sure_line != "" ? 0 : depth_without()
     if (!least) return
     best_rank = WRAPPED
     best_line = best_line ", and not if places are " least " callers deep"
 }
 
 # A finding by classes: the worst circle of locks with just its orders.
-function tell_classes(b,    d) {
+function tell_classes(b) {
     begin_finding(b)
     search_blocks()
-    for (d = 1; d <= count; d++) if (class[d] in is_wanted) search_from(d)
+    choose(1)
+    if (!search_all()) give_up(CONFIRMED)
+    choose(0)
+    if (!search_all()) give_up(PERHAPS)
     if (best_rank == WORST) {
         best_rank = ONLY_CLASSES
         best_line = "seen only between classes; no two locks were taken both ways"
-    }
-    if (steps > MOST_STEPS && best_rank != CONFIRMED) {
-        best_rank = CONFIRMED
-        best_line = "not known whether seen between locks: there are more circles than were looked at"
-        is_best_sure = 0
-        for (d = 1; d <= count; d++) if (class[d] in is_wanted) is_told[d] = 1
     }
     note_depth()
     end_finding(b)
 }
 
-# A finding by locks, if it has an order that no circle of a finding by classes has: its own circle.
-function tell_locks(b,    i, is_new) {
+# There are too many circles of the chosen orders: the shortest ones are looked at. If none of them is as bad as such a circle can be,
+# that is still possible. What goes through locks that share a name is no more than perhaps seen.
+function give_up(worst,    d, rest) {
+    search_short(worst)
+    tell_wanted(is_told)
+    if (worst == CONFIRMED) tell_wanted(is_surely_told)
+    if (is_worst(worst)) return
+    best_rank = worst
+    is_best_sure = 0
+    best_line = "not known whether seen between locks: there are more circles than were looked at"
+    if (worst == CONFIRMED) return
+    for (d = 1; d <= count && rest == ""; d++) if (d in is_chosen && is_several(from[d])) rest = plain(from[d])
+    best_line = "perhaps seen between locks: there are more circles than were looked at; " rest " is several locks"
+}
+
+# All orders of the finding count as told.
+function tell_wanted(told,    d) {
+    for (d = 1; d <= count; d++) if (class[d] in is_wanted) told[d] = 1
+}
+
+# A finding by locks, if it has an order that no circle of a finding by classes has: its own circle. For one of single locks alone, only
+# such circles count.
+function tell_locks(b,    i, is_sure, is_new) {
     begin_finding(b)
-    for (i = 1; i <= walk_length; i++) {
-        path[i] = number_of[wanted[i]]
-        if (!is_told[path[i]]) is_new = 1
-    }
+    for (i = 1; i <= walk_length; i++) path[i] = number_of[wanted[i]]
+    is_sure = several(path, walk_length) == ""
+    for (i = 1; i <= walk_length; i++) if (!(is_sure ? is_surely_told[path[i]] : is_told[path[i]])) is_new = 1
     if (!is_new) return
-    for (i = 1; i <= walk_length; i++) is_told[path[i]] = 1
+    tell_path(walk_length)
     wanted[1] = class[path[1]]
     judge(path, walk_length)
     end_finding(b)
+}
+
+# Circles of single locks whose orders are on shorter ones through locks that share a name, if they belong to several findings: each such
+# order that isn't told yet is searched from.
+function tell_hidden(    d) {
+    split("", is_wanted)
+    for (d = 1; d <= count; d++) is_wanted[class[d]]
+    choose(1)
+    for (d = 1; d <= count; d++) if (d in is_chosen && !is_surely_told[d]) tell_circle_of(d)
+}
+
+function tell_circle_of(d,    most) {
+    begin_search()
+    wanted[1] = class[d]
+    for (most = 1; most <= count && steps <= MOST_STEPS && best_rank == WORST; most++) search_from(d, most, 0)
+    if (best_rank == WORST) return
+    text[++blocks] = best_text
+    end_finding(blocks)
 }
 
 # What isn't a circle is written as it is.
@@ -367,6 +533,7 @@ function tell(b) {
 
 END {
     for (b = 1; b <= blocks; b++) tell(b)
+    tell_hidden()
     print "findings " findings + 0
     for (rank = CONFIRMED; rank < WORST; rank++)
         for (b = 1; b <= blocks; b++) if (rank_of[b] == rank) {

@@ -45,7 +45,7 @@ complete -c lockdep -n '__lockdep_in view' -l waiting -x -d 'Who waited for a lo
 complete -c lockdep -n '__lockdep_in run' -l write-known -r -d 'Write the findings of this run'
 complete -c lockdep -n '__lockdep_in run' -l quiet -d 'Print only if something was found'
 complete -c lockdep -n '__lockdep_in run' -l error-exitcode -x -d 'The status if something was found'
-complete -c lockdep -n '__lockdep_in run' -l confirmed-only -d 'Not for what was seen only between classes'
+complete -c lockdep -n '__lockdep_in run' -l confirmed-only -d 'Only for what was seen between single locks'
 complete -c lockdep -n '__lockdep_in record' -l no-wait -d 'Do not wait for what is left in the background'
 complete -c lockdep -n '__lockdep_in record' -l version-1 -d 'Write version 1 of the format'
 complete -c lockdep -n '__lockdep_in record' -l finish -x -a '(__fish_complete_directories)' -d 'Make the traces of a recording that was killed'

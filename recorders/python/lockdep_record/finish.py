@@ -3,6 +3,8 @@ import os
 import re
 from binascii import crc32
 
+from . import starts
+
 MOST_NAME, MOST_KEYS, MOST_TRACES, MOST_ALIKE = 53, 8192, 4096, 2
 RELEASE = 2
 WORDS = ("w", "tw", None, "r", "tr", "rr", "trr")  # of the modes; None is a release
@@ -12,12 +14,17 @@ NOT_MADE = ("any object of", "the class object of")  # kinds of classes; all oth
 
 LONGEST_COMMAND = 160
 
-# Why a Python wasn't recorded.
+# Why a program wasn't recorded.
 WHY_NOT = {
     "-": "it wrote nothing, as where it ended at once",
     "-E": "it is started with -E, which hides the recorder from it",
     "-I": "it is started with -I, which hides the recorder from it",
     "-S": "it is started with -S, which hides the recorder from it",
+    "java": "it is a Java program",
+    "go": "it is written in Go",
+    "rust": "it is a Rust program with the crate lockdep_record",
+    "embed": "it has lockdep_record.h",
+    "python": "it is a Python program",
     "environment": "it is started without the environment that loads the recorder",
 }
 
@@ -89,9 +96,21 @@ class Process:
         elif kind == "L":
             self.words = [word for word in rest.split("\t") if word]
         elif kind == "X":
-            self.starts.append(Start(*rest.split(" ", 3)))
+            self.add_start(Start(*rest.split(" ", 3)))
         else:
             self.take_record(kind, list(map(int, rest.split())))
+
+    def add_start(self, start):
+        """A program that the process started. What a Java program starts is only named in its file, unless it is Java and recorded too."""
+        if start.kind != STARTED:
+            self.starts.append(start)
+            return
+        for line in starts.from_java([start.path] + start.words):
+            found = Start(*line.rstrip("\n")[2:].split(" ", 3))
+            if found.kind == starts.PYTHON:
+                found.kind, found.reason = OTHER_PYTHON, "python"
+            if found.kind != starts.JAVA or start.reason != "recorded":
+                self.starts.append(found)
 
     def take_record(self, kind, words):
         task = self.tasks.get(words[0])
@@ -134,12 +153,17 @@ class Start:
         return name if len(name) <= LONGEST_COMMAND else name[:LONGEST_COMMAND - 3] + "..."
 
 
+# The kinds of starts of a Java program's: one whose program isn't looked at yet, and one of a Python.
+STARTED, OTHER_PYTHON = "started", "other-python"
+OTHERS = (OTHER_PYTHON,) + starts.OTHERS
+
+
 def unreached(processes):
     """The starts of Pythons that weren't recorded: those that none of the processes is. What is known best comes first."""
     left = [process.words for process in processes if process.words is not None]
-    starts = [start for process in processes for start in process.starts if start.kind == "python"]
+    pythons = [start for process in processes for start in process.starts if start.kind == starts.PYTHON]
     found = []
-    for start in sorted(starts, key=lambda start: -len(start.words)):
+    for start in sorted(pythons, key=lambda start: -len(start.words)):
         own = next((words for words in left if start.is_of(words)), None) if start.reason == "-" else None
         if own is None:
             found.append(start)
@@ -148,10 +172,10 @@ def unreached(processes):
     return found
 
 
-def start_lines(starts, texts):
+def start_lines(of, texts):
     """Starts as lines of SUMMARY, with how often there was each."""
     counts = {}
-    for start in starts:
+    for start in of:
         line = start.text(), texts.get(start.reason)
         counts[line] = counts.get(line, 0) + 1
     return ["    %s, %d time%s%s" % (text, count, "" if count == 1 else "s", ": " + why if why else "")
@@ -270,8 +294,10 @@ def write_lines(path, lines):
         file.write("".join(line + "\n" for line in lines))
 
 
-# In SUMMARY, the line before programs that call locks of pthreads where these aren't what is looked for.
+# In SUMMARY, the lines before programs that call locks of pthreads, and before those in other languages, where these aren't what is looked
+# for.
 PTHREAD_NOTE = "pthread-runs, not counted"
+OTHERS_NOTE = "other-runs, not counted"
 
 
 class Summary:
@@ -279,7 +305,7 @@ class Summary:
 
     def __init__(self):
         self.counts, self.threads, self.events, self.waiting, self.holding = {}, 0, 0, [], []
-        self.unreached, self.pthread = [], []
+        self.unreached, self.pthread, self.others = [], [], []
 
     def add(self, name, count):
         self.counts[name] = self.counts.get(name, 0) + count
@@ -316,6 +342,10 @@ class Summary:
             lines += [PTHREAD_NOTE if is_chosen else "pthread-runs %d" % len(self.pthread),
                       "  runs of programs that call locks of pthreads: these weren't looked at"]
             lines += start_lines(self.pthread, {})
+        if self.others:
+            lines += [OTHERS_NOTE if is_chosen else "other-runs %d" % len(self.others),
+                      "  runs of programs with locks that this recorder doesn't see: these weren't looked at"]
+            lines += start_lines(self.others, WHY_NOT)
         for name, meaning in LOSSES:
             if self.counts.get(name):
                 lines += ["%s %d" % (name, self.counts[name]), "  " + meaning]
@@ -351,7 +381,8 @@ def write_traces(raw, folder, recorder, is_chosen):
     names, processes = read_all(raw)
     summary = Summary()
     summary.unreached = unreached(processes)
-    summary.pthread = [start for process in processes for start in process.starts if start.kind == "pthread"]
+    summary.pthread = [start for process in processes for start in process.starts if start.kind == starts.PTHREAD]
+    summary.others = [start for process in processes for start in process.starts if start.kind in OTHERS]
     for process in processes:
         for name, count in process.counts.items():
             summary.add({"alike": "threads-alike"}.get(name, name), count)

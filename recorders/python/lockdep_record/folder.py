@@ -41,6 +41,7 @@ LISTED = {  # what is said before the lines of SUMMARY under one that begins so
     "waiting ": "waiting for a lock at the end, which is what a deadlock looks like:",
     "held-at-end ": "ended with a lock held:",
     "unreached-runs ": "the recorder isn't loaded into these, so a report of this recording says nothing of them:",
+    "other-runs": "these have locks that this recorder doesn't see, so record them by themselves:",
     "pthread-runs": "locks of pthreads weren't looked at in these: `lockdep run --recorder pthread` sees them:",
 }
 

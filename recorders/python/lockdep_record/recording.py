@@ -263,9 +263,10 @@ class Task:
     when it last did something new."""
 
     __slots__ = ("number", "held", "way", "records", "base", "fresh", "dropped", "wish", "is_busy", "is_over", "operations",
-                 "repeats", "failed")
+                 "repeats", "failed", "aside", "lent")
 
     def __init__(self):
+        self.aside, self.lent = None, 0
         self.number, self.held, self.way, self.records = 0, [], Way(process.common), []
         self.base = self.fresh = self.operations = self.repeats = 0
         self.dropped, self.wish, self.is_busy, self.is_over, self.failed = [], None, False, False, None
@@ -395,7 +396,7 @@ def took_oddly(lock, mode, task):
         begin_again(task)
         took(lock, mode)
     else:
-        process.counts["reentered"] += 1
+        took_aside(lock, mode, task, getframe(2).f_back)
 
 
 def begin_again(task):
@@ -460,13 +461,116 @@ def gave(lock, real):
 
 def gave_oddly(lock, real, task):
     """A lock is released while its task is being examined, or after its trace has ended."""
+    entry = lock.entry
     if task.is_over:
         begin_again(task)
         gave(lock, real)
+    elif entry is not None and entry.task is task.aside and not entry.task.is_busy:
+        gave_aside(lock, entry)
     else:
-        process.counts["reentered"] += 1
-        gave_for_another(lock, lock.entry, real)
+        if entry is not LEFT_OUT:
+            process.counts["reentered"] += 1
+        gave_for_another(lock, entry, real)
         lock.entry = None
+
+
+# What a finaliser or a signal's handler does while its task is being examined is the trace of another task, which begins by taking what
+# is held just then, and ends by giving that back. (The garbage collector may run such a finaliser whenever an object is made, and so often
+# runs it when a record is.)
+
+def took_aside(lock, mode, task, frame):
+    """A lock was taken while its task is being examined. It is one operation, and is lost if it comes in the middle of another such one."""
+    aside = task.aside
+    if aside is None or aside.is_over:
+        aside = task.aside = Task()
+    if aside.is_busy:
+        process.counts["reentered"] += 1
+        return
+    aside.is_busy = True
+    try:
+        if aside.dropped:
+            settle(aside)
+        aside.operations += 1
+        if not aside.held:
+            lend(task, aside, frame)
+        if any(held.lock is lock for held in aside.held):  # an RLock that is being released: its holder takes it again
+            return_lent(aside)
+        else:
+            take_over(aside, lock, 8 * lock.key + mode, (chain_of(frame), None))
+            lock.entry = aside.held[-1]
+    except BaseException:
+        abandon(aside)
+        raise
+    aside.is_busy = False
+
+
+def gave_aside(lock, entry):
+    """Such a lock is given back."""
+    aside = entry.task
+    aside.is_busy = True
+    try:
+        aside.operations += 1
+        lock.entry = None
+        give_back(aside, entry)
+        return_lent(aside)
+    except BaseException:
+        abandon(aside)
+        raise
+    aside.is_busy = False
+
+
+def return_lent(aside):
+    """If only what the examined task holds is left, it is given back."""
+    if len(aside.held) <= aside.lent:
+        while aside.held:
+            give_back(aside, aside.held[-1])
+
+
+def lend(task, aside, frame):
+    """The other task takes what the examined one holds, in its order."""
+    for entry in [entry for entry in task.held if entry is not task.wish]:
+        at = entry.record - task.base
+        take_over(aside, entry.lock, entry.code, task.records[at][1:] if 0 <= at < len(task.records) else (None, None))
+    examined = held_meanwhile(task, frame)
+    if examined is not None:
+        take_over(aside, *examined)
+    aside.lent = len(aside.held)
+
+
+def held_meanwhile(task, frame):
+    """The lock that is examined, which is held while it is noted that it was taken or is given back: with its code and place. None if it
+    is among those that the task holds."""
+    while frame is not None and frame.f_code is not took.__code__ and frame.f_code is not gave.__code__:
+        frame = frame.f_back
+    if frame is None:
+        return None
+    lock, entry = frame.f_locals["lock"], frame.f_locals.get("entry")
+    if any(held.lock is lock for held in task.held):
+        return None
+    if frame.f_code is took.__code__:
+        return lock, 8 * lock.key + frame.f_locals["mode"], (chain_of(frame.f_back.f_back), None)
+    entry = entry or lock.entry
+    if entry is None or entry is LEFT_OUT or entry.task is not task:
+        return None
+    if task.held and task.held[-1].record > entry.record:  # it was no longer the newest, so its place among the others isn't known
+        process.counts["reentered"] += 1
+        return None
+    return lock, entry.code, (None, None)
+
+
+def take_over(aside, lock, code, place):
+    """Adds a lock to what the other task holds."""
+    if aside.held:
+        tell_all_apart(aside.held, aside, lock)
+        code = 8 * lock.key + (code & 7)
+    entry = Held(lock)
+    entry.task, entry.code, entry.before = aside, code, aside.way
+    entry.record = entry.start = aside.base + len(aside.records)
+    aside.records.append((code,) + place)
+    aside.held.append(entry)
+    aside.way = aside.way.to(code)
+    if not aside.way.is_taken:
+        see(aside, aside.way)
 
 
 def gave_for_another(lock, entry, real):
@@ -778,6 +882,8 @@ def count(task):
 
 def end(task):
     """A task has ended. What several tasks have already done in exactly this way isn't written again."""
+    if task.aside is not None and not task.aside.is_over:
+        end(task.aside)
     count(task)
     if task.wish is not None and task.wish in task.held:
         keep_wait(task)  # a task of asyncio that is gone while it waits

@@ -1,6 +1,6 @@
-"""Notes the programs that this process starts, so that those that aren't recorded can be named at the end: other Pythons, and programs
-that call pthread locks. What a shell is told to run by `-c` is looked at too, as far as that is plain. What other programs start isn't
-known here.
+"""Notes the programs that this process starts, so that those that aren't recorded can be named at the end: other Pythons, programs
+that call pthread locks, and those with locks of other kinds. What a shell is told to run by `-c` is looked at too, as far as that is
+plain. What other programs start isn't known here.
 
 `finish` knows whether a Python that was started is among those that were recorded: by the words that both have."""
 import os
@@ -9,7 +9,7 @@ import sys
 from . import recording
 
 NOTED = frozenset(("subprocess.Popen", "os.exec", "os.posix_spawn", "os.system"))
-PYTHON, PTHREAD = "python", "pthread"
+PYTHON, PTHREAD, JAVA = "python", "pthread", "java"
 MOST_WORDS, LONGEST_WORD = 32, 200  # of a command, how many of the last are noted, and how much of each
 MOST_READ = 8000000  # of a program's file: the names of what it calls lie near its beginning
 SYSTEM = ("/bin/", "/sbin/", "/lib", "/usr/bin/", "/usr/sbin/", "/usr/lib", "/usr/libexec/")
@@ -17,9 +17,13 @@ CALLS = tuple(b"\0pthread_%s\0" % name for name in (b"mutex_lock", b"mutex_trylo
 SHELLS = frozenset(("sh", "bash", "dash", "ksh", "zsh"))
 PASSES_ON = frozenset(("env", "exec", "nice", "nohup", "setsid", "stdbuf", "time", "timeout"))  # what starts the program that it names
 NO_PROGRAM = frozenset(("-V", "-VV", "--version", "-h", "-?", "--help", "--help-env", "--help-xoptions", "--help-all"))
+NO_JAVA = frozenset(("-version", "--version", "-help", "--help", "-h", "-?"))
+MARKS = ((b"\xff Go buildinf:", "go"), (b"lockdep_record for LOCKDEP_TRACES", "rust"), (b"ldr1 lockdep,2", "embed"))  # in a program's file
+OTHERS = (JAVA,) + tuple(kind for _, kind in MARKS)
 STOPS = frozenset(("if", "while", "until", "for", "case", "{", "function", "[[", "!"))
 HOOK = os.path.join(recording.own_folder, "hook")
 known = {}
+tell = recording.put
 
 
 def words_of(words):
@@ -53,9 +57,12 @@ def is_python_name(path):
 
 
 def kind_of(path):
-    """What is to be said of a program if it isn't recorded: PYTHON, a script of Python's with its first line, PTHREAD, or nothing."""
+    """What is to be said of a program if it isn't recorded: PYTHON, a script of Python's with its first line, another language, PTHREAD, or
+    nothing."""
     if is_python_name(path):
         return PYTHON, ""
+    if os.path.basename(path) == "java":
+        return JAVA, ""
     with open(path, "rb") as file:
         first = file.read(200)
         if first[:2] == b"#!":
@@ -63,6 +70,9 @@ def kind_of(path):
             return (PYTHON, os.fsdecode(line)) if b"python" in line else (None, "")
         is_noted = first[:4] == b"\x7fELF" and not os.path.realpath(path).startswith(SYSTEM)
         content = first + file.read(MOST_READ) if is_noted else b""
+    for mark, kind in MARKS:
+        if mark in content:
+            return kind, ""
     return (PTHREAD, "") if any(call in content for call in CALLS) else (None, "")
 
 
@@ -109,10 +119,23 @@ def note(name, words, cwd, environment, is_exact=True, is_sure=True):
     if path not in known:
         known[path] = kind_of(path)
     kind, line = known[path]
-    reason = why_not(words, line, environment) if kind is PYTHON else "-"
+    reason = why_not(words, line, environment) if kind is PYTHON else "-" if kind is PTHREAD else kind
+    if kind is JAVA and len(words) > 1 and os.fsdecode(words[1]) in NO_JAVA:
+        return
     if kind is None or reason == "none" or (kind is PYTHON and reason == "-" and not is_sure):
         return
-    recording.put("X %s %d %s %s\t%s\n" % (kind, is_exact, reason, recording.visible(path), words_of(words[1:])))
+    tell("X %s %d %s %s\t%s\n" % (kind, is_exact, reason, recording.visible(path), words_of(words[1:])))
+
+
+def from_java(words):
+    """The lines for a program that a Java program started by these words."""
+    global tell
+    lines, tell = [], lambda line: lines.append(line)
+    try:
+        note(words[0], words, None, None)
+    except Exception:
+        pass
+    return lines
 
 
 def note_passed(words, cwd, environment, is_exact, is_sure):

@@ -125,6 +125,24 @@ public final class Hooks {
         task.leave();
     }
 
+    // ---- Programs that are started.
+
+    /** A program is started by a builder, or by its words. Errors never reach the program. */
+    public static void starts(Object by) {
+        try {
+            if (by instanceof ProcessBuilder) {
+                ProcessBuilder builder = (ProcessBuilder) by;
+                Recording.starts(builder.command().toArray(new String[0]), builder.directory());
+            } else if (by instanceof String[]) {
+                Recording.starts(((String[]) by).clone(), null);
+            } else if (by instanceof String) {
+                Recording.starts(((String) by).trim().split("\\s+"), null);
+            }
+        } catch (Throwable error) {
+            return;
+        }
+    }
+
     // ---- Locks.
 
     public static void lock(Lock lock, int site) {

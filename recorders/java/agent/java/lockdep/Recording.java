@@ -16,6 +16,9 @@ import java.util.HashMap;
 public final class Recording {
     /** How many tasks that do the same from beginning to end are written. */
     private static final int MOST_ALIKE = 32;
+    /** Of a program that is started, how many of the last words are noted, and how much of each. */
+    private static final int MOST_WORDS = 32;
+    private static final int LONGEST_WORD = 4000;
     /** How long the end waits for threads that are being recorded, in milliseconds. */
     private static final int LONGEST_LOOK = 500;
 
@@ -125,6 +128,29 @@ public final class Recording {
         synchronized (it) {
             it.counts[8]++;
         }
+    }
+
+    /** A program is started from a folder. Whether the agent is loaded into it too, if it is Java, is in the environment. */
+    static void starts(String[] words, File folder) {
+        if (words[0].indexOf('/') >= 0) {
+            File program = new File(words[0]);
+            if (folder != null && !program.isAbsolute()) program = new File(folder, words[0]);
+            words[0] = program.getAbsolutePath();
+        }
+        String options = System.getenv("JAVA_TOOL_OPTIONS");
+        StringBuilder text = new StringBuilder("X started 1 ")
+                .append(options != null && options.contains("lockdep-agent") ? "recorded " : "- ");
+        text.append(onOneLine(words[0]));
+        for (int at = Math.max(1, words.length - MOST_WORDS); at < words.length; at++) {
+            text.append('\t').append(onOneLine(words[at]));
+        }
+        synchronized (it) {
+            it.put(text.append('\n').toString());
+        }
+    }
+
+    private static String onOneLine(String word) {
+        return (word.length() <= LONGEST_WORD ? word : word.substring(0, LONGEST_WORD)).replaceAll("\\p{Cntrl}", "?");
     }
 
     // ---- The file.

@@ -85,7 +85,7 @@ public final class Site {
     Made made() {
         Made known = made;
         if (known == null) {
-            String name = source.className + "." + method + ":" + line + (ordinal > 1 ? "." + ordinal : "");
+            String name = source.className + "." + method + ":" + line + suffix(ordinal);
             known = made = Made.of(fitting(name), place(), "made in");
         }
         return known;
@@ -104,10 +104,15 @@ public final class Site {
         return frame.getMethodName().equals("<init>") && frame.getDeclaringClass().isInstance(object);
     }
 
+    /** The end of a name: which of the line's objects it is, unless it is the first. */
+    private static String suffix(int ordinal) {
+        return ordinal > 1 ? "." + ordinal : "";
+    }
+
     /** A place as a name: by its line, or if its class has no lines, by where it is in the code. */
     private static String nameOf(StackWalker.StackFrame frame) {
         int line = frame.getLineNumber();
-        String where = line > 0 ? String.valueOf(line) : "+" + frame.getByteCodeIndex();
+        String where = line > 0 ? line + suffix(OnLine.ordinalOf(frame)) : "+" + frame.getByteCodeIndex();
         return frame.getClassName() + "." + frame.getMethodName() + ":" + where;
     }
 

@@ -15,7 +15,7 @@ public final class Source {
     private static final int MOST_ABOVE = 4;
 
     public final String className;
-    final boolean isOfJdk;
+    public final boolean isOfJdk;
     private final String fileName;
     private final String location;
     private final int firstLine;

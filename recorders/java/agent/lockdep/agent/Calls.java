@@ -81,4 +81,15 @@ final class Calls {
         String object = words[0].getInternalName();
         return Hierarchy.LOCK.contains(object) ? object : null;
     }
+
+    /**
+     * How far down on the stack a call has what it starts a program by: a builder, or words under an environment; 0 if
+     * it starts none, or in a folder that is named.
+     */
+    static int depthOfStart(MethodInsnNode call) {
+        if (call.owner.equals("java/lang/ProcessBuilder")) return call.name.equals("start") ? 1 : 0;
+        if (!call.owner.equals("java/lang/Runtime") || !call.name.equals("exec")) return 0;
+        if (call.desc.contains("Ljava/io/File;")) return 0;
+        return call.desc.contains(";[L") ? 2 : 1;
+    }
 }

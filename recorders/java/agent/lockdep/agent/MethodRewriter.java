@@ -1,9 +1,12 @@
 package lockdep.agent;
 
+import java.lockdep.OnLine;
 import java.lockdep.Site;
 import java.lockdep.Source;
 import java.util.ArrayDeque;
+import java.util.ArrayList;
 import java.util.HashMap;
+import java.util.List;
 import java.util.Map;
 
 import org.objectweb.asm.Handle;
@@ -39,8 +42,22 @@ final class MethodRewriter {
     private final Map<Integer, Integer> madeOnLine = new HashMap<>();
     /** The objects that are being made: the names of their classes, null if they aren't kept. */
     private final ArrayDeque<TypeInsnNode> news = new ArrayDeque<>();
+    private final List<Noted> noted = new ArrayList<>();
     private boolean isChanged;
     private int line;
+
+    /** An object that is noted: its line, its number there, and a label before the call of its constructor, if it has one. */
+    private static final class Noted {
+        final int line;
+        final int ordinal;
+        final LabelNode constructor;
+
+        Noted(int line, int ordinal, LabelNode constructor) {
+            this.line = line;
+            this.ordinal = ordinal;
+            this.constructor = constructor;
+        }
+    }
 
     MethodRewriter(ClassNode type, MethodNode method, Source source, Locking locking) {
         this.type = type;
@@ -98,6 +115,10 @@ final class MethodRewriter {
         return hook("exit", "(Ljava/lang/Object;)V");
     }
 
+    private static MethodInsnNode starts() {
+        return hook("starts", "(Ljava/lang/Object;)V");
+    }
+
     private AbstractInsnNode site() {
         return number(Site.add(source, method.name, line, 1));
     }
@@ -124,6 +145,9 @@ final class MethodRewriter {
             return;
         }
         if (call.owner.equals("java/util/Collections") && call.name.startsWith("synchronized")) noteMade(call);
+        int depth = source.isOfJdk ? 0 : Calls.depthOfStart(call);
+        if (depth == 2) before(call, list(new InsnNode(Opcodes.DUP2), new InsnNode(Opcodes.POP), starts()));
+        else if (depth == 1) before(call, list(new InsnNode(Opcodes.DUP), starts()));
         String receiver = Calls.receiver(call, locking);
         if (receiver == null) return;
         if (Calls.hasSite(call)) before(call, list(site()));
@@ -173,7 +197,19 @@ final class MethodRewriter {
     private void noteMade(AbstractInsnNode made) {
         int ordinal = madeOnLine.merge(line, 1, Integer::sum);
         int site = Site.add(source, method.name, line, ordinal);
+        boolean isConstructor = made.getOpcode() == Opcodes.INVOKESPECIAL;
+        LabelNode constructor = isConstructor ? new LabelNode() : null;
+        if (isConstructor) before(made, list(constructor));
+        noted.add(new Noted(line, ordinal, constructor));
         after(made, list(new InsnNode(Opcodes.DUP), number(site), hook("made", "(Ljava/lang/Object;I)V")));
+    }
+
+    /** Once the class is written: says where in its code the constructors of noted objects are called. */
+    void tellNoted() {
+        for (Noted each : noted) {
+            int at = each.constructor == null ? -1 : each.constructor.getLabel().getOffset();
+            OnLine.note(source, method.name, method.desc, each.line, each.ordinal, at);
+        }
     }
 
     // ---- Synchronized methods.

@@ -8,6 +8,8 @@ import java.lockdep.Source;
 import java.net.URL;
 import java.security.CodeSource;
 import java.security.ProtectionDomain;
+import java.util.ArrayList;
+import java.util.List;
 
 import org.objectweb.asm.ClassReader;
 import org.objectweb.asm.ClassWriter;
@@ -95,15 +97,18 @@ final class Rewriter implements ClassFileTransformer {
         Source source = Source.add(type.name.replace('/', '.'), type.sourceFile, location(domain), firstLine(type),
                 isOfJdk);
         Locking locking = new Locking(type, hierarchy, loader, begins("java/lang/StringBuffer", jdk));
-        boolean isChanged = false;
+        List<MethodRewriter> changed = new ArrayList<>();
         for (MethodNode method : type.methods) {
-            if (method.instructions.size() > 0) isChanged |= new MethodRewriter(type, method, source,
-                    locking).rewrite();
+            if (method.instructions.size() == 0) continue;
+            MethodRewriter rewriter = new MethodRewriter(type, method, source, locking);
+            if (rewriter.rewrite()) changed.add(rewriter);
         }
-        if (!isChanged) return null;
+        if (changed.isEmpty()) return null;
         ClassWriter writer = new ClassWriter(reader, ClassWriter.COMPUTE_MAXS);
         type.accept(writer);
-        return withVersion(writer.toByteArray(), version);
+        byte[] written = writer.toByteArray();
+        for (MethodRewriter rewriter : changed) rewriter.tellNoted();
+        return withVersion(written, version);
     }
 
     private static byte[] withVersion(byte[] file, int version) {
