@@ -1,5 +1,6 @@
 //! How the traces of the files come into a session: in turn, or read ahead by several threads.
 
+ghost use denote.Param.Send.{IsSync};
 ghost use Rattle.std.specs.Prelude.{◌≡◌, ◌+◌, ◌<◌, ◌∷◌, ◌++◌, [], ℕ, List, Option, None, All, IfErr, IfSome, OnOk, OnErr, length, map};
 ghost use Rattle.ld_trace.specs.Events.{KeysBelow};
 ghost use Rattle.ld_trace.specs.Reading.{ReadsTo};
@@ -25,16 +26,18 @@ const BYTES_PER_THREAD: u64 = 262_144;
 const SIZES_ASKED: usize = 64;
 
 /// How the traces of files are added to those of a session.
-pub(crate) trait Adds {
+pub trait Adds {
     /// Adds the traces of these files in their order. Of the workers as many read as are worth their threads. The first file that
     /// can't be opened, or whose trace is refused, is told; those before it were added.
-    fn add_files<'a>(
+    fn add_files<'a, T: Threads + Sync>(
         &self,
+        threads: &T,
         session: &mut Session,
         workers: u16,
         files: &[&'a str],
     ) -> Result<(), Refusal<'a>>
-        requires { All (KeysBelow (length session.old.names)) session.old.traces }
+        requires shared { IsSync T.row }
+        requires below { All (KeysBelow (length session.old.names)) session.old.traces }
         ensures ok { OnOk result (length session.new.traces ≡ length session.old.traces + length files.entry.now) }
         ensures below { OnOk result (All (KeysBelow (length session.new.names)) session.new.traces) }
         ensures err { (input : Option (List ℕ)) → IfErr result (StopsReading session.old.room (map (λ file. file.now) files.entry.now) input) }
@@ -49,8 +52,9 @@ pub(crate) struct InTurn<'r, R> {
 }
 
 impl<R: Files> Adds for InTurn<'_, R> {
-    fn add_files<'a>(
+    fn add_files<'a, T: Threads + Sync>(
         &self,
+        _threads: &T,
         session: &mut Session,
         _workers: u16,
         files: &[&'a str],
@@ -59,29 +63,10 @@ impl<R: Files> Adds for InTurn<'_, R> {
     }
 }
 
-/// With several workers later files may be opened before an earlier one was read whole.
-#[derive(Clone, Copy)]
-pub(crate) struct SideBySide<'r, R> {
-    pub(crate) rt: &'r R,
-}
-
-impl<R: Files + Threads + Sync> Adds for SideBySide<'_, R>
-where
-    R::File: Send + Sync,
-    R::Dir: Send + Sync,
-{
-    fn add_files<'a>(
-        &self,
-        session: &mut Session,
-        workers: u16,
-        files: &[&'a str],
-    ) -> Result<(), Refusal<'a>> {
-        add_side_by_side(self.rt, session, workers, files)
-    }
-}
-
-// Adds the traces of the files, of which as many threads read as are worth it.
-fn add_side_by_side<'a, R: Files + Threads + Sync>(
+/// Adds the traces of the files as `Adds` says, read by as many of the workers as are worth their threads: later files may be opened
+/// before an earlier one was read whole.
+pub(crate) fn add_side_by_side<'a, T: Threads + Sync, R: Files + Sync>(
+    threads: &T,
     rt: &R,
     session: &mut Session,
     workers: u16,
@@ -97,9 +82,9 @@ where
     ensures named { IfErr result (λ refusal. (place : ℕ) × (length session.new.traces ≡ length session.old.traces + place)
         × NamesFileAt (map (λ file. file.now) files.entry.now) place refusal) }
 {
-    let threads = useful_threads(rt, workers, files);
+    let count = useful_threads(rt, workers, files);
     let sources = NamedFiles { rt, files };
-    match session.add_all(rt, threads, &sources, files.len()) {
+    match session.add_all(threads, count, &sources, files.len()) {
         Ok(()) => Ok(()),
         Err(unread) => Err(unread_refusal(files, unread)),
     }

@@ -20,10 +20,11 @@ mod source;
 #[cfg(test)]
 mod tests;
 
+use adding::{Adds, add_side_by_side};
 use program::program_side_by_side;
 use refusal::{REFUSED, Refusal, refuse};
+use session::Session;
 use std::io::{Read, Write};
-use std::marker::{Send, Sync};
 use std::rt::{Env, Files};
 use std::sync::Wait;
 use std::thread::Threads;
@@ -52,9 +53,7 @@ fn texts_of<'a>(alloc: Global, words: &'a [String]) -> Result<Vec<&'a str>, Allo
 // Runs the program over the process's own words, and returns its status.
 fn run<R, I, O, E>(rt: &R, input: I, out: &mut O, err: &mut E) -> u8
 where
-    R: Files + Env + Threads + Wait + Sync + AllocGlobal,
-    R::File: Send + Sync,
-    R::Dir: Send + Sync,
+    R: Files + Adds + Env + Threads + Wait + Sync + AllocGlobal,
     I: Read + Drop,
     O: Write,
     E: Write,
@@ -66,6 +65,19 @@ where
     match texts_of(rt.alloc(), words.as_slice()) {
         Ok(texts) => program_side_by_side(rt, rt.alloc(), texts.as_slice(), input, out, err),
         Err(_) => refuse(err, Refusal::Memory).unwrap_or(REFUSED),
+    }
+}
+
+// The runtime's own files and threads may be shared among threads, which of others isn't known.
+impl Adds for HostRuntime {
+    fn add_files<'a, T: Threads + Sync>(
+        &self,
+        threads: &T,
+        session: &mut Session,
+        workers: u16,
+        files: &[&'a str],
+    ) -> Result<(), Refusal<'a>> {
+        add_side_by_side(threads, self, session, workers, files)
     }
 }
 

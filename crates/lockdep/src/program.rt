@@ -18,7 +18,7 @@ ghost use Rattle.lockdep.specs.Program.{AreTracesOf, DoesLine, DoesWords, IsRead
 ghost use Rattle.lockdep.specs.Texts.{view_of};
 ghost use Rattle.lockdep.specs.declared.refusal.Refusal.{Refusal};
 
-use crate::adding::{Adds, InTurn, SideBySide, add_trace};
+use crate::adding::{Adds, InTurn, add_trace};
 use crate::fault::ReportFault;
 use crate::output::Output;
 use crate::refusal::{REFUSED, Refusal, refuse};
@@ -33,7 +33,6 @@ use ld_words::{Line, LineFault, command_line};
 use std::alloc::Global;
 use std::fs::File;
 use std::io::{Read, Write};
-use std::marker::{Send, Sync};
 use std::rt::Files;
 use std::sync::Wait;
 use std::thread::Threads;
@@ -74,19 +73,14 @@ pub fn program<R: Files + Threads + Wait + Sync, I: Read + Drop, O: Write, E: Wr
     run_program(rt, &InTurn { rt }, alloc, words, input, out, err)
 }
 
-/// The same program, and the same in every word, but with several workers later files may be opened before an earlier one was read
-/// whole: what is written, and the status, are those of reading them in turn.
-pub fn program_side_by_side<R: Files + Threads + Wait + Sync, I: Read + Drop, O: Write, E: Write>(
-    rt: &R,
-    alloc: Global,
-    words: &[&str],
-    input: I,
-    out: &mut O,
-    err: &mut E,
-) -> u8
-where
-    R::File: Send + Sync,
-    R::Dir: Send + Sync,
+/// The same program, and the same in every word, but the runtime reads the files: with several workers later files may be opened
+/// before an earlier one was read whole. What is written, and the status, are those of reading them in turn.
+pub fn program_side_by_side<
+    R: Files + Adds + Threads + Wait + Sync,
+    I: Read + Drop,
+    O: Write,
+    E: Write,
+>(rt: &R, alloc: Global, words: &[&str], input: I, out: &mut O, err: &mut E) -> u8
     ensures status { result ≤ 2 }
     ensures done { result < 2 → DoesWords (map (λ word. word.now) words.entry.now) (I.remaining input)
         (O.contents out.old) (O.contents out.new) result }
@@ -96,7 +90,7 @@ where
         (O.contents out.old) (O.contents out.new) refusal
         × AppendsBeginning (E.contents err.old) (E.contents err.new) (fault_line refusal) }
 {
-    run_program(rt, &SideBySide { rt }, alloc, words, input, out, err)
+    run_program(rt, rt, alloc, words, input, out, err)
 }
 
 // The program, with this way to read files.
@@ -249,7 +243,14 @@ fn answer_output<'a, R: Files + Threads + Wait + Sync, A: Adds, I: Read + Drop, 
     let Ok(mut session) = Session::with_room(alloc, room_of(request.many)) else {
         return Err(Refusal::Memory);
     };
-    match add_traces::<R, I, A>(adds, &mut session, request.workers, request.files, input) {
+    match add_traces(
+        rt,
+        adds,
+        &mut session,
+        request.workers,
+        request.files,
+        input,
+    ) {
         Ok(()) => write_session(rt, alloc, request, session, out),
         Err(refusal) => Err(refusal),
     }
@@ -298,7 +299,8 @@ fn status_of(output: Output<'_>, clean: bool) -> u8
 }
 
 // Reads the traces of the files, or that of the input if there are no files, into a session that has none.
-fn add_traces<'a, R: Files, I: Read + Drop, A: Adds>(
+fn add_traces<'a, R: Files + Threads + Sync, A: Adds, I: Read + Drop>(
+    rt: &R,
     adds: &A,
     session: &mut Session,
     workers: u16,
@@ -314,7 +316,7 @@ fn add_traces<'a, R: Files, I: Read + Drop, A: Adds>(
     if files.is_empty() {
         return add_trace::<I, R::File>(session, STDIN, Source::Input(input));
     }
-    adds.add_files(session, workers, files)
+    adds.add_files(rt, session, workers, files)
 }
 
 // Writes the chains of the trace in the file, or of that in the input if no file is named.
