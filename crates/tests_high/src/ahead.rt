@@ -1,5 +1,7 @@
 //! Traces that several threads read ahead.
 
+ghost use Rattle.std.specs.Prelude.{None};
+
 use ld_run::{ReadFault, Sources, Unread, read_all};
 use ld_trace::{KeyId, KeyTable, RawTrace, TraceFault, TraceFaultKind, trace_text};
 use std::alloc::{AllocError, Global};
@@ -117,7 +119,10 @@ fn are_written(
 // Whether these are the names of the table, in its order.
 fn are_named(names: &[&str], keys: &KeyTable) -> bool {
     for place in 0..names.len() {
-        let found = KeyId::new(place as u16).and_then(|key| keys.name_of(key));
+        let Ok(number) = u16::try_from(place) else {
+            return false;
+        };
+        let found = KeyId::new(number).and_then(|key| keys.name_of(key));
         if found.map(|name| name.0) != Some(names[place]) {
             return false;
         }
