@@ -2,6 +2,7 @@
 
 ghost use Rattle.std.specs.Prelude.{◌≡◌, ◌+◌, ◌∷◌, [], ◌<◌, ◌≤◌, ◌↔◌, ℕ, List, All, IfOk, IfSome, IsFalse, IsNone, IsTrue, OnOk, Some, length, slice_get};
 ghost use Rattle.ld_trace.specs.declared.event.Event.{Event};
+ghost use Rattle.ld_trace.specs.Events.{KeysBelow};
 ghost use Rattle.ld_task.specs.Placed.{IsPlacedAfter};
 ghost use Rattle.ld_task.specs.TraceChains as trace_chains;
 ghost use Rattle.ld_task.specs.WellFormed.{IsWellFormed};

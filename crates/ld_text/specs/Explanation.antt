@@ -104,7 +104,7 @@ comes_line names irq key = codes "  a " ++ (irq_text irq ++ (codes " comes in at
 
 -- What speaks against it.
 
--- dependencies, the first after these words and each further one after a comma
+-- dependencies, the first behind these words and each further one behind a comma
 abbrev pub listed_text : List Name → (before : List ℕ) → List Arrow → List ℕ
 listed_text names before [] = []
 listed_text names before (d ∷ ds) = before ++ (dependency_text names d ++ listed_text names (codes ", ") ds)
