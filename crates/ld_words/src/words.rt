@@ -1,9 +1,9 @@
 //! What a command line asks for.
 
 ghost use Rattle.std.specs.Prelude.{◌≡◌, ◌↔◌, [], false, ℕ, List, IfOk, IfErr, map, unwrap_or, codes};
-ghost use Rattle.clap.specs.Words.{HasKind, all_of, app_of, fault_of as clap_faults, found_of, kind_of, rows_of, rule_of, shape_of, subcommand_rows_of};
+ghost use Rattle.clap.specs.Words.{App, HasKind, Shape, all_of, app_of, fault_of as clap_faults, found_of, kind_of, rows_of, rule_of, shape_of, subcommand_rows_of, with_subcommand};
 ghost use Rattle.clap.specs.declared.builder.command.Command.TheViews.{out-Command};
-ghost use Rattle.ld_words.specs.CommandLine.{IsLineFault, IsLineIn, IsLineOf, ReadsCheck, ReadsLine, chains_shape, check_shape, condense_shape, explain_shape, file_rule, files_rule, findings_rule, graph_shape, json_rule, lockdep_app, many_rule, subcommand_word, workers_rule};
+ghost use Rattle.ld_words.specs.CommandLine.{IsLineFault, IsLineIn, IsLineOf, ReadsCheck, ReadsLine, chains_shape, check_shape, condense_shape, explain_shape, file_rule, files_rule, findings_rule, graph_shape, json_rule, lockdep_app, many_app, many_rule, subcommand_word, workers_rule};
 
 use clap::error::ErrorKind;
 use clap::{Arg, ArgAction, ArgMatches, Command, value_parser};
@@ -124,16 +124,28 @@ fn findings_option<'a>(alloc: Global) -> Arg<'a>
         .help("Show only what is part of a finding")
 }
 
+// The subcommand of this name, with the options of those that may take many keys.
+fn many_command<'a>(alloc: Global, name: &'a str, about: &'a str) -> Result<Command<'a>, AllocError>
+    ensures app { IfOk result (λ command. app_of command ≡ many_app name.now) }
+    ensures local { IfOk result (λ command. (out-Command command).has_globals ≡ false) }
+{
+    Command::new(alloc, name)
+        .about(about)
+        .arg(workers_option(alloc))?
+        .arg(many_option(alloc))
+}
+
 // The command lines of the report.
 fn check_command<'a>(alloc: Global) -> Result<Command<'a>, AllocError>
     ensures shape { IfOk result (λ command. shape_of command ≡ check_shape) }
     ensures local { IfOk result (λ command. (out-Command command).has_globals ≡ false) }
 {
-    Command::new(alloc, "check")
-        .about("Reads traces and writes the report of their lock order")
-        .arg(workers_option(alloc))?
-        .arg(many_option(alloc))?
-        .arg(files_argument(alloc))
+    many_command(
+        alloc,
+        "check",
+        "Reads traces and writes the report of their lock order",
+    )?
+    .arg(files_argument(alloc))
 }
 
 // The command lines of the explanation.
@@ -141,12 +153,13 @@ fn explain_command<'a>(alloc: Global) -> Result<Command<'a>, AllocError>
     ensures shape { IfOk result (λ command. shape_of command ≡ explain_shape) }
     ensures local { IfOk result (λ command. (out-Command command).has_globals ≡ false) }
 {
-    Command::new(alloc, "explain")
-        .about("Reads traces and writes what was found, with the records that it comes from")
-        .arg(workers_option(alloc))?
-        .arg(many_option(alloc))?
-        .arg(json_option(alloc))?
-        .arg(files_argument(alloc))
+    many_command(
+        alloc,
+        "explain",
+        "Reads traces and writes what was found, with the records that it comes from",
+    )?
+    .arg(json_option(alloc))?
+    .arg(files_argument(alloc))
 }
 
 // The command lines of the picture.
@@ -154,12 +167,13 @@ fn graph_command<'a>(alloc: Global) -> Result<Command<'a>, AllocError>
     ensures shape { IfOk result (λ command. shape_of command ≡ graph_shape) }
     ensures local { IfOk result (λ command. (out-Command command).has_globals ≡ false) }
 {
-    Command::new(alloc, "graph")
-        .about("Reads traces and writes their lock order as a graph in the language DOT")
-        .arg(workers_option(alloc))?
-        .arg(many_option(alloc))?
-        .arg(findings_option(alloc))?
-        .arg(files_argument(alloc))
+    many_command(
+        alloc,
+        "graph",
+        "Reads traces and writes their lock order as a graph in the language DOT",
+    )?
+    .arg(findings_option(alloc))?
+    .arg(files_argument(alloc))
 }
 
 // The command lines of the condensed trace.
@@ -183,24 +197,32 @@ fn chains_command<'a>(alloc: Global) -> Result<Command<'a>, AllocError>
         .arg(file_argument(alloc))
 }
 
+// A command with one more subcommand, if that could be made.
+fn with_subcommand<'a>(
+    command: Command<'a>,
+    subcommand: Result<Command<'a>, AllocError>,
+) -> Result<Command<'a>, AllocError>
+    ensures { (app : App) (shape : Shape) → app_of command.entry ≡ app
+        → IfOk subcommand.entry (λ made. shape_of made ≡ shape)
+        → IfOk subcommand.entry (λ made. (out-Command made).has_globals ≡ false)
+        → IfOk result (λ new. app_of new ≡ with_subcommand app shape) }
+{
+    command.subcommand(subcommand?)
+}
+
 // The command lines that the program accepts.
 fn command<'a>(alloc: Global) -> Result<Command<'a>, AllocError>
     ensures { IfOk result (λ command. app_of command ≡ lockdep_app) }
 {
-    let check = check_command(alloc)?;
-    let explain = explain_command(alloc)?;
-    let graph = graph_command(alloc)?;
-    let condense = condense_command(alloc)?;
-    let chains = chains_command(alloc)?;
-    Command::new(alloc, "lockdep")
+    let app = Command::new(alloc, "lockdep")
         .about("Checks recorded traces of tasks for lock orders that can deadlock")
         .version(VERSION)
-        .subcommand_required(true)
-        .subcommand(check)?
-        .subcommand(explain)?
-        .subcommand(graph)?
-        .subcommand(condense)?
-        .subcommand(chains)
+        .subcommand_required(true);
+    let app = with_subcommand(app, check_command(alloc))?;
+    let app = with_subcommand(app, explain_command(alloc))?;
+    let app = with_subcommand(app, graph_command(alloc))?;
+    let app = with_subcommand(app, condense_command(alloc))?;
+    with_subcommand(app, chains_command(alloc))
 }
 
 // The FILE words.
