@@ -13,9 +13,11 @@ mod part;
 mod parted_graph;
 mod parting_fault;
 mod ranks;
+mod settled;
 
 pub use finding::{find_ranks, find_ranks_of};
 pub use laws::{findings_are_those_of_the_places, findings_are_those_of_the_ranks};
 pub use parted_graph::PartedGraph;
 pub use parting_fault::PartingFault;
 pub use ranks::{Ranks, are_ranked};
+pub use settled::Settled;

@@ -2,5 +2,4 @@ pub mod Crews
 pub mod Walks
 pub mod BoardRule
 pub mod Gathered
-pub mod Answering
 pub mod Ahead

@@ -6,10 +6,9 @@ ghost use Rattle.ld_trace.specs.Events.{KeysBelow};
 ghost use Rattle.ld_run.specs.Surveys.{CompletesSurvey, StopsSurvey};
 
 use crate::adding::add_trace;
-use crate::settled::Settled;
 use crate::survey_fault::SurveyFault;
 use ld_facts::Facts;
-use ld_parts::PartedGraph;
+use ld_parts::{PartedGraph, Settled};
 use ld_task::StepAt;
 use ld_trace::RawTrace;
 use std::alloc::Global;

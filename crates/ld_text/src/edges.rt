@@ -12,7 +12,7 @@ use crate::found::{KINDS, has_dependency};
 use crate::picture::{PictureView, add_end};
 use crate::words::kind_word;
 use ld_graph::Kind;
-use ld_run::Settled;
+use ld_parts::Settled;
 use ld_trace::KeyId;
 use std::alloc::{AllocError, Global};
 

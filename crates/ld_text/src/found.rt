@@ -12,7 +12,7 @@ ghost use Rattle.ld_text.specs.Inside.Finding.{AddsThose};
 ghost use Rattle.ld_text.specs.Words.{kinds};
 
 use ld_graph::{Kind, Mark};
-use ld_run::Settled;
+use ld_parts::Settled;
 use ld_trace::{Irq, KeyId};
 use std::alloc::{AllocError, Global};
 use std::marker::Model;

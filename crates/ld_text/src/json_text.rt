@@ -34,7 +34,7 @@ use json::Writer;
 use ld_explain::{Guards, Origin, Origins};
 use ld_facts::Facts;
 use ld_graph::{Kind, Mark, Walk};
-use ld_run::Settled;
+use ld_parts::Settled;
 use ld_trace::{Event, Irq, KeyId, KeyTable, RawTrace};
 use std::alloc::{AllocError, Global};
 use std::io::Write;

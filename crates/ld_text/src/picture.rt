@@ -18,7 +18,7 @@ use crate::output::write_text;
 use crate::report::{FORMS, usage_character};
 use crate::words::{digits_of, irq_word, name_of};
 use crate::write_fault::WriteFault;
-use ld_run::Settled;
+use ld_parts::Settled;
 use ld_trace::{Irq, KeyId, KeyTable};
 use std::alloc::{AllocError, Global};
 use std::io::Write;

@@ -16,7 +16,7 @@ use crate::output::write_text;
 use crate::words::{irq_word, kind_word, name_of};
 use crate::write_fault::WriteFault;
 use ld_graph::Mark;
-use ld_run::Settled;
+use ld_parts::Settled;
 use ld_trace::{Irq, KeyId, KeyTable, RawTrace};
 use std::alloc::{AllocError, Global};
 use std::io::Write;

@@ -17,7 +17,7 @@ use crate::found::Dependency;
 use ld_explain::{Guards, Origin, Origins};
 use ld_facts::{Fact, Facts};
 use ld_graph::{Kind, Mark, Walk};
-use ld_run::Settled;
+use ld_parts::Settled;
 use ld_trace::{Event, KeyId, KeyTable, RawTrace};
 use std::alloc::Global;
 use std::marker::Model;

@@ -1,6 +1,6 @@
-//! The facts of a completed run, if a book has them, and what they mean.
+//! The facts of a completed run, and what they mean.
 
-ghost use Rattle.std.specs.Prelude.{◌≡◌, ◌*◌, ◌≤◌, ◌↔◌, IfErr, IfOk, IfSome, IsNone, IsOk, IsTrue, length};
+ghost use Rattle.std.specs.Prelude.{◌≡◌, ◌*◌, ◌≤◌, ◌↔◌, IfOk, IfSome, IsNone, IsTrue, length};
 ghost use Rattle.ld_facts.specs.Arrows.{Arrow, arrow};
 ghost use Rattle.ld_facts.specs.Counting.{IsNumberOf};
 ghost use Rattle.ld_facts.specs.FactBits.{HasFact};
@@ -8,13 +8,10 @@ ghost use Rattle.ld_facts.specs.Facts.{DependenciesOf};
 ghost use Rattle.ld_graph.specs.Links.{InInversion, IsClean, IsDouble, IsDoubleBy, IsInversion, IsShortestInversion, link_by};
 ghost use Rattle.ld_graph.specs.Walks.{IsShortestCircle, IsShortestFrom, OnCircle};
 ghost use Rattle.ld_facts.specs.declared.fact.Fact.{Fact};
-ghost use Rattle.ld_run.specs.Settling.{Settles};
 
-use crate::fault::RunFault;
-use ld_book::Book;
+use crate::parted_graph::PartedGraph;
 use ld_facts::Facts;
 use ld_graph::{Circle, Graph, InversionWalk, Kind, Mark, Walk};
-use ld_parts::PartedGraph;
 use ld_trace::Irq;
 use std::marker::Model;
 
@@ -34,7 +31,7 @@ pub(crate) enum Answers {
 
 impl Model for Settled {
     ghost use Rattle.ld_facts.specs.FactBits.{FactParts};
-    ghost use Rattle.ld_run.specs.Inside.Answering.{facts_in};
+    ghost use Rattle.ld_parts.specs.Inside.Answering.{facts_in};
 
     ghost Value = { FactParts };
 
@@ -42,8 +39,17 @@ impl Model for Settled {
 }
 
 impl Settled {
-    // The facts of a survey.
-    pub(crate) fn by_rank(graph: PartedGraph) -> Settled
+    /// Those of one graph.
+    pub fn whole(graph: Graph) -> Settled
+        ensures { result ≡ graph.facts }
+    {
+        Settled {
+            answers: Answers::Whole(graph),
+        }
+    }
+
+    /// Those of a graph for each rank of keys.
+    pub fn by_rank(graph: PartedGraph) -> Settled
         ensures { result ≡ graph }
     {
         Settled {
@@ -187,23 +193,5 @@ impl Settled {
             Answers::Whole(graph) => graph.is_clean(),
             Answers::ByRank(graph) => graph.is_clean(),
         }
-    }
-}
-
-/// The facts of the book, if they are those of the tallies. Takes no memory [this project's own].
-///
-/// N3 exactly if the book's keys or facts aren't those of the tallies. The book is consumed in every case.
-pub fn settle(book: Book, tallies: &Facts) -> Result<Settled, RunFault>
-    ensures exact { IsOk result ↔ Settles book tallies.now }
-    ensures facts { IfOk result (λ settled. settled ≡ tallies.now) }
-    ensures refused { IfErr result (λ fault. fault ≡ RunFault.Unsettled) }
-{
-    let graph = book.into_graph();
-    if graph.facts().same(tallies) {
-        Ok(Settled {
-            answers: Answers::Whole(graph),
-        })
-    } else {
-        Err(RunFault::Unsettled)
     }
 }

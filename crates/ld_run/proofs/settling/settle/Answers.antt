@@ -2,7 +2,7 @@ use Rattle.std.proofs.Common.{◌≡◌, sym, subst, refl}
 use Rattle.ld_facts.specs.FactBits.{HasFact}
 use Rattle.ld_facts.specs.Facts.{AreSame}
 use Rattle.ld_run.proofs.Settlements.{settles-same}
-use Rattle.ld_run.proofs.settled.settle.Goals as goal
+use Rattle.ld_run.proofs.settling.settle.Goals as goal
 
 pub returns-then-same-clause-exact : goal.returns-then-same-clause-exact
 returns-then-same-clause-exact c =

@@ -3,8 +3,8 @@ use Rattle.std.specs.Prelude.{◌↔◌, IsNone}
 use Rattle.ld_facts.specs.Arrows.{Arrow}
 use Rattle.ld_facts.specs.FactBits.{FactParts, HasFact}
 use Rattle.ld_graph.specs.Walks.{OnCircle}
-use Rattle.ld_run.specs.Inside.Answering.{facts_in}
-use Rattle.ld_run.proofs.settled.Settled.shortest_circle.Goals as goal
+use Rattle.ld_parts.specs.Inside.Answering.{facts_in}
+use Rattle.ld_parts.proofs.settled.Settled.shortest_circle.Goals as goal
 
 pub returns-in-Whole-clause-none : goal.returns-in-Whole-clause-none
 returns-in-Whole-clause-none c =

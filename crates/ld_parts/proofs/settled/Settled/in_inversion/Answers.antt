@@ -3,8 +3,8 @@ use Rattle.std.specs.Prelude.{◌↔◌, IsTrue}
 use Rattle.ld_facts.specs.Arrows.{arrow}
 use Rattle.ld_facts.specs.FactBits.{FactParts, HasFact}
 use Rattle.ld_graph.specs.Links.{InInversion}
-use Rattle.ld_run.specs.Inside.Answering.{facts_in}
-use Rattle.ld_run.proofs.settled.Settled.in_inversion.Goals as goal
+use Rattle.ld_parts.specs.Inside.Answering.{facts_in}
+use Rattle.ld_parts.proofs.settled.Settled.in_inversion.Goals as goal
 
 pub returns-in-Whole : goal.returns-in-Whole
 returns-in-Whole c =
