@@ -13,7 +13,7 @@ ghost use Rattle.ld_run.specs.Condensing.{IsCondensed};
 
 use crate::adding::add_trace;
 use crate::condense_fault::CondenseFault;
-use crate::settled::Settled;
+use ld_parts::Settled;
 use ld_facts::Facts;
 use ld_graph::{Kind, Mark};
 use ld_trace::{Event, Irq, KeyId, Mode, RawTrace};
