@@ -79,7 +79,7 @@ fn many_option<'a>(alloc: Global) -> Arg<'a>
     Arg::new(alloc, "many")
         .long("many")
         .action(ArgAction::SetTrue)
-        .help("Take up to 8192 lock keys in place of 256")
+        .help("Take up to 8192 lock keys instead of 256")
 }
 
 // The files of traces, in their order.
