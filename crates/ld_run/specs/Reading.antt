@@ -8,7 +8,7 @@ use Rattle.ld_run.specs.declared.unread.ReadFault.{ReadFault}
 use Rattle.ld_run.specs.declared.unread.ReadFault.TheVariants.{CannotOpen, Trace}
 use Rattle.ld_run.specs.declared.unread.Unread.{Unread}
 
--- a trace was read over a table with this room, from these bytes where they are known: it took the names from old to new
+-- a trace was read over a table with this room, from these bytes if they are known: it took the names from old to new
 pub record IsRead (room : ℕ) (bytes : Option (List ℕ)) (old new : List Name) (trace : List Event) : Type 0 where
   pub kept : (added : List Name) × (new ≡ old ++ added)
   pub below : KeysBelow (length new) trace
@@ -30,7 +30,7 @@ pub record IsNotRead (room : ℕ) (bytes : Option (List ℕ)) (old new : List Na
   pub kept : (added : List Name) × (new ≡ old ++ added)
   pub why : IsReason room bytes old new fault
 
--- these traces were read in turn, and the one after them, at the place that is told, was not
+-- these traces were read in turn, and the one after them, at the place that is returned, was not
 pub record StopsAfter (room : ℕ) (holds : ℕ → Option (List ℕ)) (place : ℕ) (old new : List Name) (traces : List (List Event)) (unread : Unread) : Type 0 where
   pub between : List Name
   pub are_read : AreRead room holds place old between traces

@@ -69,7 +69,7 @@ impl Ahead {
         }
     }
 
-    // Reads the trace at this place, and says whether it is there now.
+    // Reads the trace at this place, and returns whether it was read and kept.
     fn read<S: Sources>(&mut self, alloc: Global, sources: &S, place: usize) -> bool
         ensures by { self.new.by ≡ self.old.by }
         ensures parts { AreParts self.old → AreParts self.new }
@@ -99,8 +99,8 @@ impl Ahead {
         }
     }
 
-    // Takes the next of its traces in, if it is the one at this place and was read over the names that were taken in before; and says
-    // whether it was. If not, the table and the traces are unchanged.
+    // Takes the next of its traces in, if it is the one at this place and was read over the names that were taken in before, and
+    // returns whether it was taken in. If not, the table and the traces are unchanged.
     pub(crate) fn take_in(
         &mut self,
         place: usize,

@@ -20,8 +20,8 @@ use std::thread::Threads;
 /// in turn, whatever the number of threads: with more than one, later sources may be opened and read before an earlier one was read
 /// whole, each thread over a table of its own.
 ///
-/// The first source that can't be opened, or whose trace is refused, is told with its place; the traces before it are kept, and the
-/// names are those that reading in turn leaves.
+/// If a source can't be opened, or its trace is refused, the first such source is returned with its place and why it wasn't read; the
+/// traces before it are kept, and the names are those that reading in turn leaves.
 pub fn read_all<R: Threads + Sync, S: Sources + Sync>(
     rt: &R,
     alloc: Global,

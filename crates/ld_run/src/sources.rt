@@ -8,11 +8,11 @@ use std::io::Read;
 pub trait Sources {
     type Source: Read + Drop + Send + Sync;
 
-    // The bytes of the source at each place, where they are known.
+    // The bytes of the source at each place, if they are known.
     ghost holds: { Self → ℕ → Option (List ℕ) };
 
-    /// Opens the source at this place while earlier ones may not have been read yet. None says nothing of it: it is opened again
-    /// in its turn.
+    /// Opens the source at this place before its turn: earlier ones may not have been read yet. If it returns None, nothing is known
+    /// of the source, and it is opened again in its turn.
     fn ahead(&self, place: usize) -> Option<Self::Source>
         ensures { IfSome result (λ source. IfSome (holds self.now place) (λ bytes. Self.Source.remaining source ≡ Some bytes)) };
 

@@ -13,8 +13,8 @@ use std::sync::atomic::AtomicUsize;
 use std::thread;
 use std::thread::Threads;
 
-// Reads the sources by several threads, puts the traces of the first ones after the others, and returns how many these are: with less
-// than two threads, or where memory runs out, none.
+// Reads the sources by several threads, puts the traces of the first ones after the others, and returns how many these are: none with
+// fewer than two threads, or if memory runs out.
 pub(crate) fn read_ahead<R: Threads + Sync, S: Sources + Sync>(
     rt: &R,
     alloc: Global,
@@ -38,7 +38,7 @@ pub(crate) fn read_ahead<R: Threads + Sync, S: Sources + Sync>(
     }
 }
 
-// What so many threads have read of the sources.
+// What this many threads have read of the sources.
 fn read_in_threads<R: Threads + Sync, S: Sources + Sync>(
     rt: &R,
     alloc: Global,
@@ -81,7 +81,7 @@ fn take_in_all(
     count
 }
 
-// Takes in the trace at this place, if one of the threads has read it, and says whether it was taken in.
+// Takes in the trace at this place, if one of the threads has read it, and returns whether it was taken in.
 fn take_in_next(
     aheads: &mut [Ahead],
     place: usize,

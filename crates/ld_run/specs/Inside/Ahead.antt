@@ -13,7 +13,7 @@ pub record IsPart (own : List Name) (part : Part) : Type 0 where
   pub within : part.after ≤ length own
   pub below : KeysBelow part.after part.trace
 
--- it was read from the bytes of its place, where they are known
+-- it was read from the bytes of its place, if they are known
 abbrev pub IsFrom : (holds : ℕ → Option (List ℕ)) → (own : List Name) → Part → Type 0
 IsFrom holds own part = IfSome (holds part.place) (λ bytes. (any : ℕ) × ReadsTo any (take part.before own) bytes (take part.after own) part.trace)
 
