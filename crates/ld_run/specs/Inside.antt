@@ -4,3 +4,4 @@ pub mod BoardRule
 pub mod Gathered
 pub mod Answering
 pub mod Ahead
+pub mod Walked
