@@ -8,6 +8,7 @@ ghost use Rattle.ld_graph.specs.Links.{InInversion, IsClean, IsDouble, IsDoubleB
 ghost use Rattle.ld_parts.specs.Ranks.{IsCrowded, NoneGoesDown};
 ghost use Rattle.ld_graph.specs.Walks.{IsShortestCircle, IsShortestFrom, OnCircle};
 ghost use Rattle.ld_parts.specs.declared.parting_fault.PartingFault.TheVariants.{TooTangled};
+ghost use Rattle.ld_trace.specs.declared.key_id.TheConstants.{MAX_KEYS};
 
 use crate::finding::find_ranks;
 use crate::home::{Home, homes_by_ranks};
@@ -17,8 +18,8 @@ use crate::ranks::{Ranks, are_ranked};
 use ld_facts::Facts;
 use ld_graph::{Circle, InversionWalk, Walk};
 use ld_task::Kind;
-use ld_trace::Irq;
-use std::alloc::Global;
+use ld_trace::{Irq, MAX_KEYS};
+use std::alloc::{AllocError, Global};
 use std::marker::Model;
 
 /// Facts about the keys below a bound of at most `MAX_MANY`, with a graph for each rank of some ranks by which no
@@ -69,8 +70,9 @@ impl PartedGraph {
     /// have the same rank. It fails if more than 256 keys would have to have one rank, or if memory is refused.
     pub fn new(alloc: Global, facts: Facts) -> Result<PartedGraph, PartingFault>
         ensures value { IfOk result (λ graph. graph ≡ facts) }
+        ensures tangled { result ≡ Err TooTangled → MAX_KEYS < facts.keys }
     {
-        let ranks = find_ranks(alloc, &facts)?;
+        let ranks = ranks_for(alloc, &facts)?;
         PartedGraph::by_ranks(alloc, facts, &ranks)
     }
 
@@ -197,5 +199,16 @@ impl PartedGraph {
         let (part, from, to) = self.together(from, to)?;
         let walk = part.graph.circle_through(from, to, kind)?;
         Some(walk.by_keys(&part.keys))
+    }
+}
+
+// Ranks for the facts: one for all keys, if there are at most 256, and otherwise those that a search finds.
+fn ranks_for(alloc: Global, facts: &Facts) -> Result<Ranks, AllocError>
+    ensures { facts.now.keys ≤ MAX_KEYS → IfOk result (λ ranks. (key : ℕ) → slice_index ranks key ≡ 0) }
+{
+    if facts.keys() <= MAX_KEYS {
+        Ranks::new(alloc, 0)
+    } else {
+        find_ranks(alloc, facts)
     }
 }

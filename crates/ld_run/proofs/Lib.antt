@@ -2,7 +2,7 @@ pub mod BeforeFaults
 pub mod Tallies
 pub mod Walking
 pub mod Summing
-pub mod Surveying
+pub mod WalkedLemmas
 pub mod Settlements
 pub mod Counts
 pub mod Gather

@@ -3,3 +3,4 @@ pub mod Walks
 pub mod BoardRule
 pub mod Gathered
 pub mod Ahead
+pub mod Walked

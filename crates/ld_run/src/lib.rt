@@ -13,6 +13,7 @@ mod in_turn;
 mod runs;
 mod seat;
 mod settling;
+mod shares;
 mod sources;
 mod survey_fault;
 mod surveys;

@@ -33,7 +33,7 @@ pub(crate) fn settled_of<R: Threads + Wait + Sync, G: Gate + Sync>(
 {
     let count = keys.len() as u16;
     if count > MAX_KEYS {
-        return surveyed(alloc, workers, traces, count);
+        return surveyed(rt, alloc, workers, traces, count);
     }
     match run(rt, alloc, traces, count, workers, gate) {
         Ok(settled) => Ok(settled),
@@ -41,9 +41,9 @@ pub(crate) fn settled_of<R: Threads + Wait + Sync, G: Gate + Sync>(
     }
 }
 
-// The facts of traces with more than 256 keys, by one survey, whatever the number of workers. N1 and N2 are those of a
-// run.
-fn surveyed(
+// The facts of traces with more than 256 keys, by a survey. N1 and N2 are those of a run.
+fn surveyed<R: Threads + Sync>(
+    rt: &R,
     alloc: Global,
     workers: u16,
     traces: &[RawTrace],
@@ -63,7 +63,7 @@ fn surveyed(
     if traces.len() > MAX_TRACES {
         return Err(ReportFault::Run(RunFault::TooManyTraces));
     }
-    match survey(alloc, traces, count) {
+    match survey(rt, alloc, traces, count, workers) {
         Ok(settled) => Ok(settled),
         Err(fault) => Err(survey_fault(fault, traces)),
     }

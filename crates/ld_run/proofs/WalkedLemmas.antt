@@ -1,0 +1,119 @@
+-- Walking traces, and adding up their facts.
+use Rattle.std.proofs.Common.{◌≡◌, ◌⊎◌, ◌↔◌, ℕ, zero, suc, ◌+◌, ◌<◌, ◌≤◌, List, [], ◌∷◌, ◌++◌, Some, All, Any, drop, take, length, get_or, slice_get, refl, sym, ap, ◌∙◌, subst, inl, inr, arith}
+use Rattle.std.proofs.lemmas.List.{drop-take, get_or-drop, get_or-take, length-drop, length-take, take-append-drop, take_more}
+use Rattle.std.proofs.lemmas.List.Elements.{All-append, All-push, Contains-append_cases, Contains-append_left, Contains-append_right}
+use Rattle.std.proofs.lemmas.Option.{get_or_from_slice_get, slice_get-get_or, slice_get_within}
+use Rattle.ld_trace.specs.declared.event.Event.{Event}
+use Rattle.ld_task.specs.WellFormed.{IsWellFormed}
+use Rattle.ld_task.specs.declared.fault.StepAt.{StepAt}
+use Rattle.ld_facts.specs.FactBits.{FactParts, HasFact}
+use Rattle.ld_facts.specs.ListLaws.{Any-push}
+use Rattle.ld_facts.specs.Facts.{Adds, AreSame, TraceHas}
+use Rattle.ld_facts.specs.declared.fact.Fact.{Fact}
+use Rattle.ld_facts.specs.TraceFacts.{IsFirstRefused, TracesHave}
+use Rattle.ld_run.specs.Inside.Walked.{AreWalked, StopsWalk}
+use Rattle.ld_run.specs.declared.shares.Unwalked.{Unwalked}
+use Rattle.ld_run.specs.declared.shares.Unwalked.TheVariants.{Memory, Refused}
+
+no_traces : (x : Fact) → TracesHave [] x → ⊥
+no_traces x any = let l = any.2 in omega (arith, l)
+
+pub AreWalked-none : (keys : ℕ) (facts : FactParts) → facts.keys ≡ keys → ((x : Fact) → ¬ HasFact facts x) → AreWalked keys [] facts
+AreWalked-none keys facts are none = record {
+  keys_are = are;
+  well_formed = λ k d l. absurd (omega (arith, l));
+  facts_are = λ x. ((λ h. absurd (none x h)), (λ h. absurd (no_traces x h)));
+}
+
+-- one more trace, whose facts were added
+pub AreWalked-next : (keys : ℕ) (old new : FactParts) (traces : List (List Event)) (i : ℕ) (t : List Event) → slice_get traces i ≡ Some t → i < length traces → IsWellFormed t → new.keys ≡ old.keys → Adds (HasFact old) (HasFact new) (TraceHas t) → AreWalked keys (take i traces) old → AreWalked keys (take (i + 1) traces) new
+AreWalked-next keys old new traces i t is within well same adds before =
+    let longer : take (i + 1) traces ≡ take i traces ++ t ∷ [] = take_more traces i t within ∙ ap (λ x. take i traces ++ x ∷ []) (get_or_from_slice_get traces i t t is) in
+    record {
+      keys_are = same ∙ before.keys_are;
+      well_formed = subst (All IsWellFormed) (sym longer) (All-push IsWellFormed (take i traces) t before.well_formed well);
+      facts_are = subst (λ ts. AreSame (HasFact new) (TracesHave ts)) (sym longer) (λ x.
+          let more : TracesHave (take i traces ++ t ∷ []) x ↔ (TracesHave (take i traces) x ⊎ TraceHas t x) = Any-push (λ u. TraceHas u x) (take i traces) t in (
+            (λ h. more.1 (elim ((adds x).0 h) [ inl o ↦ inl ((before.facts_are x).0 o) | inr y ↦ inr y ])),
+            (λ h. (adds x).1 (elim (more.0 h) [ inl b ↦ inl ((before.facts_are x).1 b) | inr y ↦ inr y ])),
+          ));
+    }
+
+-- ---- both parts of the traces
+take_of_take : {X : Type 0} (i n : ℕ) (xs : List X) → i ≤ n → take i (take n xs) ≡ take i xs
+take_of_take zero n xs le = refl
+take_of_take (suc i) zero xs le = absurd (omega (arith, le))
+take_of_take (suc i) (suc n) [] le = refl
+take_of_take (suc i) (suc n) (x ∷ xs) le = ap (λ ys. x ∷ ys) (take_of_take i n xs (omega (arith, le)))
+
+-- the first n members, and m of those after them
+take_further : {X : Type 0} (n m : ℕ) (xs : List X) → take n xs ++ take m (drop n xs) ≡ take (n + m) xs
+take_further n m xs = subst (λ ys. ys ++ take m (drop n xs) ≡ take (n + m) xs) (take_of_take n (n + m) xs (omega arith))
+    (subst (λ ys. take n (take (n + m) xs) ++ ys ≡ take (n + m) xs) (drop-take n m xs) (take-append-drop n (take (n + m) xs)))
+
+slice_get_of_drop : {X : Type 0} (n k : ℕ) (xs : List X) (x : X) → slice_get (drop n xs) k ≡ Some x → slice_get xs (n + k) ≡ Some x
+slice_get_of_drop n k xs x at =
+    let within = slice_get_within (drop n xs) k x at in
+    let long = length-drop n xs in
+    let read : get_or xs (n + k) x ≡ x = sym (get_or-drop n xs k x) ∙ get_or_from_slice_get (drop n xs) k x x at in
+    slice_get-get_or xs (n + k) x (omega (arith, within, long)) ∙ ap Some read
+
+Any-append : {X : Type 0} (P : X → Type 0) (xs ys : List X) → Any P (xs ++ ys) ↔ (Any P xs ⊎ Any P ys)
+Any-append P xs ys = (
+  (λ (k, x, l, e, h). elim (Contains-append_cases xs ys x (k, l, e)) [
+    | inl (i, il, ie) ↦ inl (i, x, il, ie, h)
+    | inr (i, il, ie) ↦ inr (i, x, il, ie, h)
+  ]),
+  (λ any. elim any [
+    | inl (k, x, l, e, h) ↦ (let c = Contains-append_left xs ys x (k, l, e) in (c.0, x, c.1, c.2, h))
+    | inr (k, x, l, e, h) ↦ (let c = Contains-append_right xs ys x (k, l, e) in (c.0, x, c.1, c.2, h))
+  ]),
+)
+
+module _ (traces : List (List Event)) (place : ℕ) where
+  abbrev low : List (List Event)
+  low = take place traces
+
+  abbrev high : List (List Event)
+  high = drop place traces
+
+  -- the facts of both were united
+  pub AreWalked-both : (keys : ℕ) (old others new : FactParts) → new.keys ≡ old.keys → Adds (HasFact old) (HasFact new) (HasFact others) → AreWalked keys low old → AreWalked keys high others → AreWalked keys traces new
+  AreWalked-both keys old others new same adds first second =
+      let whole : low ++ high ≡ traces = take-append-drop place traces in
+      record {
+        keys_are = same ∙ first.keys_are;
+        well_formed = subst (All IsWellFormed) whole (All-append IsWellFormed low high first.well_formed second.well_formed);
+        facts_are = subst (λ ts. AreSame (HasFact new) (TracesHave ts)) whole (λ x.
+            let more = Any-append (λ u. TraceHas u x) low high in (
+              (λ h. more.1 (elim ((adds x).0 h) [ inl o ↦ inl ((first.facts_are x).0 o) | inr y ↦ inr ((second.facts_are x).0 y) ])),
+              (λ h. (adds x).1 (elim (more.0 h) [ inl b ↦ inl ((first.facts_are x).1 b) | inr y ↦ inr ((second.facts_are x).1 y) ])),
+            ));
+      }
+
+  -- the first refused trace of the first ones is the first of all
+  pub refused-low : (trace : ℕ) (found : StepAt) → IsFirstRefused low trace found → IsFirstRefused traces trace found
+  refused-low trace found is =
+      let within = slice_get_within low trace is.refused is.at in
+      let long = length-take place traces in
+      let near : trace < place = omega (arith, within, long) in
+      record {
+        refused = is.refused;
+        at = slice_get-get_or traces trace is.refused (omega (arith, within, long))
+            ∙ ap Some (sym (get_or-take place traces trace is.refused near) ∙ get_or_from_slice_get low trace is.refused is.refused is.at);
+        fault = is.fault;
+        before = subst (All IsWellFormed) (take_of_take trace place traces (omega (arith, near))) is.before;
+      }
+
+  pub stops-low : (unwalked : Unwalked) → StopsWalk low unwalked → StopsWalk traces unwalked
+  stops-low Memory stops = tt
+  stops-low (Refused trace found) stops = refused-low trace found stops
+
+  -- that of the others, if all of the first ones are well formed
+  pub refused-high : (trace : ℕ) (found : StepAt) → All IsWellFormed low → IsFirstRefused high trace found → IsFirstRefused traces (place + trace) found
+  refused-high trace found well is = record {
+    refused = is.refused;
+    at = slice_get_of_drop place trace traces is.refused is.at;
+    fault = is.fault;
+    before = subst (All IsWellFormed) (take_further place trace traces) (All-append IsWellFormed low (take trace high) well is.before);
+  }

@@ -1,0 +1,156 @@
+//! Many traces, of which each of several threads walks a share.
+
+ghost use Rattle.std.specs.Prelude.{◌≡◌, ◌≤◌, ℕ, All, drop, length, take};
+ghost use denote.Param.Send.{IsSync};
+ghost use Rattle.ld_trace.specs.declared.key_id.TheConstants.{MAX_MANY};
+ghost use Rattle.ld_trace.specs.Events.{KeysBelow};
+ghost use Rattle.ld_task.specs.WellFormed.{IsWellFormed};
+ghost use Rattle.ld_run.specs.Inside.Walked.{EndsWalk, StopsWalk};
+
+use crate::adding::add_trace;
+use ld_facts::Facts;
+use ld_task::StepAt;
+use ld_trace::RawTrace;
+use std::alloc::Global;
+use std::thread;
+use std::thread::Threads;
+
+/// Why not all traces were walked.
+#[derive(Clone, Copy, Debug)]
+pub(crate) enum Unwalked {
+    /// Memory was refused.
+    Memory,
+    /// A trace isn't well formed: the place of the first such trace, and its first event that isn't allowed.
+    Refused { trace: usize, first: StepAt },
+}
+
+// The facts of all traces, if they are well formed. Half of the threads walk the first of them, and the others the rest, each into
+// facts of its own; if a thread can't be made, the calling thread does its work.
+#[cycle(halves)]
+pub(crate) fn facts_of_all<R: Threads + Sync>(
+    rt: &R,
+    alloc: Global,
+    traces: &[RawTrace],
+    keys: u16,
+    threads: usize,
+) -> Result<Facts, Unwalked>
+    requires few { keys ≤ MAX_MANY }
+    requires below { All (KeysBelow keys) traces.now }
+    ensures { EndsWalk keys traces.now result }
+{
+    if threads < 2 || traces.len() < 2 {
+        return facts_in_turn(alloc, traces, keys);
+    }
+    let part = threads / 2;
+    let rest = threads - part;
+    let place = place_of_share(traces, threads);
+    let (low, high) = traces.split_at(place);
+    let first = move || -> Result<Facts, Unwalked>
+        requires { IsSync R.row × (keys ≤ MAX_MANY) × All (KeysBelow keys) low.now }
+        ensures { EndsWalk keys low.entry.now result }
+    { facts_of_all(rt, alloc, low, keys, part) };
+    let second = move || -> Result<Facts, Unwalked>
+        requires { IsSync R.row × (keys ≤ MAX_MANY) × All (KeysBelow keys) high.now }
+        ensures { EndsWalk keys high.entry.now result }
+    { facts_of_all(rt, alloc, high, keys, rest) };
+    let (first, second) = thread::join(rt, first, second);
+    united(traces, place, first, second)
+}
+
+// The facts of all traces, if they are well formed, walked one after the other by the calling thread.
+fn facts_in_turn(alloc: Global, traces: &[RawTrace], keys: u16) -> Result<Facts, Unwalked>
+    requires few { keys ≤ MAX_MANY }
+    requires below { All (KeysBelow keys) traces.now }
+    ensures { EndsWalk keys traces.now result }
+{
+    let Ok(mut facts) = Facts::new(alloc, keys) else {
+        return Err(Unwalked::Memory);
+    };
+    for trace in 0..traces.len() {
+        if let Err(first) = add_trace(&mut facts, &traces[trace]) {
+            return Err(Unwalked::Refused { trace, first });
+        }
+    }
+    Ok(facts)
+}
+
+// What both parts of the traces have, of which the first ends before this place. Memory that was refused to one of them comes first.
+fn united(
+    traces: &[RawTrace],
+    place: usize,
+    first: Result<Facts, Unwalked>,
+    second: Result<Facts, Unwalked>,
+) -> Result<Facts, Unwalked>
+    requires place { place ≤ length traces.now }
+    requires parts { (keys : ℕ) × EndsWalk keys (take place traces.now) first
+        × EndsWalk keys (drop place traces.now) second }
+    ensures { (keys : ℕ) → EndsWalk keys (take place traces.now) first
+        → EndsWalk keys (drop place traces.now) second → EndsWalk keys traces.now result }
+{
+    if lacks_memory(&first) || lacks_memory(&second) {
+        return Err(Unwalked::Memory);
+    }
+    let mut facts = first?;
+    match second {
+        Ok(others) => {
+            facts.unite(&others);
+            Ok(facts)
+        }
+        Err(unwalked) => Err(place_among(traces, place, unwalked)),
+    }
+}
+
+// Whether memory was refused.
+fn lacks_memory(part: &Result<Facts, Unwalked>) -> bool {
+    matches!(part, Err(Unwalked::Memory))
+}
+
+// The same for all traces, if only those from this place on were walked.
+fn place_among(traces: &[RawTrace], place: usize, unwalked: Unwalked) -> Unwalked
+    requires place { place ≤ length traces.now }
+    requires stops { StopsWalk (drop place traces.now) unwalked }
+    ensures { All IsWellFormed (take place traces.now) → StopsWalk traces.now result }
+{
+    match unwalked {
+        Unwalked::Memory => Unwalked::Memory,
+        Unwalked::Refused { trace, first } => Unwalked::Refused {
+            trace: place + trace,
+            first,
+        },
+    }
+}
+
+// The place before which the traces have about half of all events; with an odd number of threads, the share of the smaller half of them.
+fn place_of_share(traces: &[RawTrace], threads: usize) -> usize
+    requires { 2 ≤ threads }
+    ensures { result ≤ length traces.now }
+{
+    let share = (event_count(traces) / threads).saturating_mul(threads / 2);
+    let mut before = 0usize;
+    for place in 0..traces.len() {
+        let events = traces[place].len();
+        if share <= before.saturating_add(events / 2) {
+            return place;
+        }
+        before = before.saturating_add(events);
+    }
+    traces.len()
+}
+
+// How many of the workers are worth facts of their own. To make and unite these takes about as long as to walk an event for every
+// sixteen of their words.
+pub(crate) fn useful_threads(traces: &[RawTrace], keys: u16, workers: usize) -> usize
+    ensures { result ≤ workers }
+{
+    let words = usize::from(keys) * usize::from(keys) / 16;
+    workers.min(event_count(traces) / (words / 16 + 1))
+}
+
+// How many events the traces have together.
+fn event_count(traces: &[RawTrace]) -> usize {
+    let mut events = 0usize;
+    for trace in traces {
+        events = events.saturating_add(trace.len());
+    }
+    events
+}
