@@ -3,7 +3,7 @@ use Rattle.std.proofs.Common.{◌≡◌, ℕ, ◌+◌, ◌<◌, ◌≤◌, ◌�
 use Rattle.std.specs.Prelude.{IfSome, OnOk, Result, Ok, Err, slice_get}
 use Rattle.std.specs.declared.alloc.AllocError.{AllocError}
 use Rattle.std.proofs.lemmas.Bool.{cases_eq}
-use Rattle.std.proofs.lemmas.Option.{none-some, same_Some}
+use Rattle.std.proofs.lemmas.Option.{same_Some}
 use Rattle.ld_trace.specs.declared.event.Event.{Event}
 use Rattle.ld_task.specs.Chains.{ChainParts}
 use Rattle.ld_task.specs.Held.{is_held}
@@ -11,11 +11,9 @@ use Rattle.ld_task.specs.Placed.{held_positions}
 use Rattle.ld_task.specs.PositionLaws.{positions_below-ascend}
 use Rattle.ld_task.specs.TraceChains.{chain}
 use Rattle.ld_facts.specs.ChainFacts.{chain_fact, fact_slots, slot_held}
-use Rattle.ld_facts.specs.FactBits.{FactParts, HasFact}
-use Rattle.ld_facts.specs.Facts.{Adds, ChainHas, Holds}
-use Rattle.ld_facts.specs.Laws.{ChainsGiveWhatTheyHave, LaterSlotsAreOfNewerLocks, SlotsHaveWhatIsGiven}
+use Rattle.ld_facts.specs.Laws.{LaterSlotsAreOfNewerLocks, SlotsHaveWhatIsGiven}
 use Rattle.ld_facts.specs.declared.fact.Fact.{Fact}
-use Rattle.ld_explain.specs.Origins.{AsNew, Gives, NoLater, Occurs, OriginParts}
+use Rattle.ld_explain.specs.Origins.{AsNew, Gives, NoLater, Occurs}
 use Rattle.ld_explain.specs.Inside.Firsts.{SeenFrom, SeenTo, slot_origin, slot_position}
 use Rattle.ld_explain.specs.declared.origins.Origin.{Origin}
 use Rattle.ld_explain.proofs.Giving.{giving, nothing_given}
