@@ -21,19 +21,6 @@ module _ (P Q : Fact → Origin → Type 0) where
     all = λ x o seen. firsts.all x o ((same x o).1 seen);
   }
 
-  -- later ones of facts that are known
-  pub AreFirsts-known : (parts : OriginParts) → ((x : Fact) (o : Origin) → P x o → Q x o) →
-      ((x : Fact) (o : Origin) → Q x o → P x o ⊎ (IsKnown parts x × ((before : Origin) → P x before → NoLater before o))) →
-      AreFirsts P parts → AreFirsts Q parts
-  AreFirsts-known parts up down firsts = record {
-    seen = λ x o has. up x o (firsts.seen x o has);
-    first = λ x o other has seen. elim (down x other seen) [
-      | inl p ↦ firsts.first x o other has p
-      | inr new ↦ new.1 o (firsts.seen x o has)
-    ];
-    all = λ x o seen. elim (down x o seen) [ inl p ↦ firsts.all x o p | inr new ↦ new.0 ];
-  }
-
   -- one more, no earlier than those of its fact
   pub AreFirsts-put : (old new : OriginParts) (fact : Fact) (origin : Origin) → PutsOrigin old new fact origin →
       ((x : Fact) (o : Origin) → P x o → Q x o) → Q fact origin →
@@ -60,8 +47,3 @@ module _ (P Q : Fact → Origin → Type 0) where
       | inr is ↦ subst (IsKnown new) (sym is.0) puts.has
     ];
   }
-
--- what is known stays known where its occurrences stay seen
-pub IsKnown-stays : (P Q : Fact → Origin → Type 0) (old new : OriginParts) → AreFirsts P old → AreFirsts Q new →
-    ((x : Fact) (o : Origin) → P x o → Q x o) → (x : Fact) → IsKnown old x → IsKnown new x
-IsKnown-stays P Q old new before after up x (o, has) = after.all x o (up x o (before.seen x o has))

@@ -1,4 +1,4 @@
--- What guards occurrences, slot by slot, event by event and trace by trace.
+-- What is taken in, slot by slot, event by event and trace by trace.
 use Rattle.std.proofs.Common.{◌≡◌, ℕ, zero, suc, ◌+◌, ◌<◌, ◌≤◌, ◌↔◌, Bool, List, [], ◌∷◌, Contains, IsTrue, length, Option, Some, None, refl, sym, ap, ◌∙◌, subst, inl, inr, arith}
 use Rattle.std.specs.Prelude.{slice_get}
 use Rattle.std.specs.Map.{lookup}
@@ -7,89 +7,146 @@ use Rattle.ld_trace.specs.declared.event.Event.{Event}
 use Rattle.ld_task.specs.Chains.{ChainParts}
 use Rattle.ld_task.specs.Dependencies.{IsDependency}
 use Rattle.ld_task.specs.TraceChains.{chain}
+use Rattle.ld_task.specs.declared.mark.Mark.{Mark}
 use Rattle.ld_facts.specs.Arrows.{Arrow}
 use Rattle.ld_facts.specs.ChainFacts.{chain_fact, fact_slots}
 use Rattle.ld_facts.specs.FactBits.{FactParts, HasFact}
 use Rattle.ld_facts.specs.Facts.{DependenciesOf}
-use Rattle.ld_facts.specs.Laws.{SlotsHaveWhatIsGiven}
+use Rattle.ld_facts.specs.Laws.{LaterSlotsAreOfNewerLocks, SlotsHaveWhatIsGiven}
 use Rattle.ld_facts.specs.declared.fact.Fact.{Fact}
-use Rattle.ld_facts.specs.declared.fact.Fact.TheVariants.{Dependency}
+use Rattle.ld_facts.specs.declared.fact.Fact.TheVariants.{Dependency, Marked}
 use Rattle.ld_explain.specs.Notes.{AreGuardsOf, GuardParts, Guarded, HasGuard, IsAloneIn, IsGate}
-use Rattle.ld_explain.specs.Origins.{Gives, Occurs}
-use Rattle.ld_explain.specs.Inside.Firsts.{SeenBefore, SeenFrom, SeenTo, slot_origin}
-use Rattle.ld_explain.specs.Inside.Guarding.{AreGuards, Asked, GuardsAt, PutsGuard, is_among}
+use Rattle.ld_explain.specs.Origins.{AreOriginsOf, Gives, HasOrigin, Occurs, OriginParts}
+use Rattle.ld_explain.specs.Inside.Firsts.{AreFirsts, PutsOrigin, SeenBefore, SeenFrom, SeenTo, slot_origin}
+use Rattle.ld_explain.specs.Inside.Guarding.{Among, AreGuards, AsksOrder, GuardsAt, PutsGuard, is_among}
+use Rattle.ld_explain.specs.Inside.Taking.{AreTakenIn}
 use Rattle.ld_explain.specs.declared.guard.Guard.{Guard}
 use Rattle.ld_explain.specs.declared.origins.Origin.{Origin}
+use Rattle.ld_explain.proofs.Firsts.{AreFirsts-put, AreFirsts-same}
 use Rattle.ld_explain.proofs.Guarding.{AreGuards-put, AreGuards-same}
 use Rattle.ld_explain.proofs.Lists.{is_among-decides}
-use Rattle.ld_explain.proofs.Slots.{From-all, less, more, seen_none}
+use Rattle.ld_explain.proofs.Slots.{From-all, less, more, no_later, seen_none}
 use Rattle.ld_explain.proofs.Traces.{occurs_somewhere, seen_end, seen_start}
 
--- the same occurrences of what is asked about
-asked-same : (asked : FactParts) (P Q : Fact → Origin → Type 0) → ((x : Fact) (o : Origin) → P x o ↔ Q x o) →
-    (x : Fact) (o : Origin) → Asked asked P x o ↔ Asked asked Q x o
-asked-same asked P Q same x o = ((λ (a, p). (a, (same x o).0 p)), (λ (a, q). (a, (same x o).1 q)))
+-- the same occurrences of some facts
+among-same : (In : Fact → Type 0) (P Q : Fact → Origin → Type 0) → ((x : Fact) (o : Origin) → P x o ↔ Q x o) →
+    (x : Fact) (o : Origin) → Among In P x o ↔ Among In Q x o
+among-same In P Q same x o = ((λ (a, p). (a, (same x o).0 p)), (λ (a, q). (a, (same x o).1 q)))
 
+-- what holds of them as it was holds if the same was seen
 module _ (traces : List (List Event)) (asked : FactParts) where
-  along : (P Q : Fact → Origin → Type 0) → ((x : Fact) (o : Origin) → P x o ↔ Q x o) → (parts : GuardParts) →
-      AreGuards traces (Asked asked P) parts → AreGuards traces (Asked asked Q) parts
-  along P Q same parts = AreGuards-same traces (Asked asked P) (Asked asked Q) parts (asked-same asked P Q same)
+  pub along : (P Q : Fact → Origin → Type 0) → ((x : Fact) (o : Origin) → P x o ↔ Q x o) → (origins : OriginParts) (guards : GuardParts) →
+      AreTakenIn traces asked P origins guards → AreTakenIn traces asked Q origins guards
+  along P Q same origins guards are = record {
+    firsts = AreFirsts-same (Among (HasFact asked) P) (Among (HasFact asked) Q) origins (among-same (HasFact asked) P Q same) are.firsts;
+    guarded = AreGuards-same traces (Among (AsksOrder asked) P) (Among (AsksOrder asked) Q) guards (among-same (AsksOrder asked) P Q same) are.guarded;
+  }
+
+  order_asked : (x : Fact) → AsksOrder asked x → HasFact asked x
+  order_asked (Dependency from to kind) h = h
+  order_asked (Marked key mark) h = absurd h
 
   -- ---- slot by slot
   module _ (t : List Event) (trace place : ℕ) (c : ChainParts) where
     abbrev From : ℕ → Fact → Origin → Type 0
     From n = SeenFrom traces t trace place c n
 
-    pub guards_last : (parts : GuardParts) → AreGuards traces (Asked asked (SeenTo traces trace place)) parts → AreGuards traces (Asked asked (From (fact_slots c))) parts
-    guards_last = along (SeenTo traces trace place) (From (fact_slots c))
+    pub taken_last : (origins : OriginParts) (guards : GuardParts) → AreTakenIn traces asked (SeenTo traces trace place) origins guards →
+        AreTakenIn traces asked (From (fact_slots c)) origins guards
+    taken_last = along (SeenTo traces trace place) (From (fact_slots c))
         (λ x o. ((λ seen. inl seen), (λ h. elim h [ inl seen ↦ seen | inr (m, l, within, at, is) ↦ absurd (omega (arith, l, within)) ])))
 
-    -- a slot with nothing that is asked about
-    pub guards_pass : (n : ℕ) → ((x : Fact) → chain_fact c n ≡ Some x → ¬ HasFact asked x) → (parts : GuardParts) →
-        AreGuards traces (Asked asked (From (n + 1))) parts → AreGuards traces (Asked asked (From n)) parts
-    guards_pass n unasked parts = AreGuards-same traces (Asked asked (From (n + 1))) (Asked asked (From n)) parts (λ x o. (
+    -- a slot with none of these facts gives no occurrence of them
+    none_in : (In : Fact → Type 0) (n : ℕ) → ((x : Fact) → chain_fact c n ≡ Some x → ¬ In x) → (x : Fact) (o : Origin) →
+        Among In (From (n + 1)) x o ↔ Among In (From n) x o
+    none_in In n none x o = (
       (λ (a, p). (a, more traces t trace place c n x o p)),
-      (λ (a, q). elim (less traces t trace place c n x o q) [ inl p ↦ (a, p) | inr one ↦ absurd (unasked x one.0 a) ]),
-    ))
+      (λ (a, q). elim (less traces t trace place c n x o q) [ inl p ↦ (a, p) | inr one ↦ absurd (none x one.0 a) ]),
+    )
 
-    -- one with something
-    pub guards_take : (n : ℕ) (fact : Fact) → n < fact_slots c → chain_fact c n ≡ Some fact → HasFact asked fact → (old new : GuardParts) (gates : List ℕ) →
+    pub taken_pass : (n : ℕ) → ((x : Fact) → chain_fact c n ≡ Some x → ¬ HasFact asked x) → (origins : OriginParts) (guards : GuardParts) →
+        AreTakenIn traces asked (From (n + 1)) origins guards → AreTakenIn traces asked (From n) origins guards
+    taken_pass n unasked origins guards are = record {
+      firsts = AreFirsts-same (Among (HasFact asked) (From (n + 1))) (Among (HasFact asked) (From n)) origins (none_in (HasFact asked) n unasked) are.firsts;
+      guarded = AreGuards-same traces (Among (AsksOrder asked) (From (n + 1))) (Among (AsksOrder asked) (From n)) guards
+          (none_in (AsksOrder asked) n (λ x at h. unasked x at (order_asked x h))) are.guarded;
+    }
+
+    -- if no slot has one that is asked about, nothing more is seen of those
+    pub taken_skip : ((n : ℕ) (x : Fact) → chain_fact c n ≡ Some x → ¬ HasFact asked x) → (origins : OriginParts) (guards : GuardParts) →
+        AreTakenIn traces asked (SeenTo traces trace place) origins guards → AreTakenIn traces asked (From 0) origins guards
+    taken_skip unasked origins guards are = down (fact_slots c) (taken_last origins guards are)
+      where
+        down : (n : ℕ) → AreTakenIn traces asked (From n) origins guards → AreTakenIn traces asked (From 0) origins guards
+        down zero from = from
+        down (suc n) from = down n (taken_pass n (unasked n) origins guards
+            (subst (λ k. AreTakenIn traces asked (From k) origins guards) (let e : suc n ≡ n + 1 = omega arith in e) from))
+
+    -- a slot with a dependency
+    pub guards_take : (n : ℕ) (fact : Fact) → n < fact_slots c → chain_fact c n ≡ Some fact → AsksOrder asked fact → (old new : GuardParts) (gates : List ℕ) →
         PutsGuard old new fact trace gates → ((key : ℕ) → Contains gates key ↔ GuardsAt traces key (slot_origin t trace place c n)) →
-        AreGuards traces (Asked asked (From (n + 1))) old → AreGuards traces (Asked asked (From n)) new
+        AreGuards traces (Among (AsksOrder asked) (From (n + 1))) old → AreGuards traces (Among (AsksOrder asked) (From n)) new
     guards_take n fact within at is_asked old new gates puts guard are =
-        AreGuards-put traces (Asked asked (From (n + 1))) (Asked asked (From n)) old new fact (slot_origin t trace place c n) gates puts guard
+        AreGuards-put traces (Among (AsksOrder asked) (From (n + 1))) (Among (AsksOrder asked) (From n)) old new fact (slot_origin t trace place c n) gates puts guard
         (λ x o (a, p). (a, more traces t trace place c n x o p)) (is_asked, inr (n, omega arith, within, at, refl))
         (λ x o (a, q). elim (less traces t trace place c n x o q) [ inl p ↦ inl (a, p) | inr one ↦ inr (same_Some x fact (sym one.0 ∙ at), one.1) ])
         are
 
-    pub guards_chain : slice_get traces trace ≡ Some t → chain t place ≡ Some c → SlotsHaveWhatIsGiven → (parts : GuardParts) →
-        AreGuards traces (Asked asked (From 0)) parts → AreGuards traces (Asked asked (SeenTo traces trace (place + 1))) parts
-    guards_chain here is exact = along (From 0) (SeenTo traces trace (place + 1)) (From-all traces t trace place c here is exact)
+    -- and one with a mark
+    pub guards_mark : (n key : ℕ) (mark : Mark) → chain_fact c n ≡ Some (Marked key mark) → (guards : GuardParts) →
+        AreGuards traces (Among (AsksOrder asked) (From (n + 1))) guards → AreGuards traces (Among (AsksOrder asked) (From n)) guards
+    guards_mark n key mark at guards = AreGuards-same traces (Among (AsksOrder asked) (From (n + 1))) (Among (AsksOrder asked) (From n)) guards
+        (none_in (AsksOrder asked) n (λ x is h. subst (AsksOrder asked) (same_Some x (Marked key mark) (sym is ∙ at)) h))
+
+    -- the origin of a slot's fact
+    pub firsts_take : LaterSlotsAreOfNewerLocks → (n : ℕ) (fact : Fact) → n < fact_slots c → chain_fact c n ≡ Some fact → HasFact asked fact → (old new : OriginParts) →
+        PutsOrigin old new fact (slot_origin t trace place c n) →
+        AreFirsts (Among (HasFact asked) (From (n + 1))) old → AreFirsts (Among (HasFact asked) (From n)) new
+    firsts_take newer n fact within at is_asked old new puts =
+        AreFirsts-put (Among (HasFact asked) (From (n + 1))) (Among (HasFact asked) (From n)) old new fact (slot_origin t trace place c n) puts
+        (λ x o (a, p). (a, more traces t trace place c n x o p)) (is_asked, inr (n, omega arith, within, at, refl))
+        (λ x o (a, q). elim (less traces t trace place c n x o q) [ inl p ↦ inl (a, p) | inr one ↦ inr (same_Some x fact (sym one.0 ∙ at), one.1) ])
+        (λ o (a, was). no_later traces t trace place c newer n fact o was)
+
+    pub taken_chain : slice_get traces trace ≡ Some t → chain t place ≡ Some c → SlotsHaveWhatIsGiven → (origins : OriginParts) (guards : GuardParts) →
+        AreTakenIn traces asked (From 0) origins guards → AreTakenIn traces asked (SeenTo traces trace (place + 1)) origins guards
+    taken_chain here is exact = along (From 0) (SeenTo traces trace (place + 1)) (From-all traces t trace place c here is exact)
 
   -- ---- event by event, and trace by trace
   module _ (t : List Event) (trace : ℕ) (here : slice_get traces trace ≡ Some t) where
-    pub guards_none : (place : ℕ) → chain t place ≡ None → (parts : GuardParts) →
-        AreGuards traces (Asked asked (SeenTo traces trace place)) parts → AreGuards traces (Asked asked (SeenTo traces trace (place + 1))) parts
-    guards_none place none = along (SeenTo traces trace place) (SeenTo traces trace (place + 1)) (seen_none traces t trace place here none)
+    pub taken_none : (place : ℕ) → chain t place ≡ None → (origins : OriginParts) (guards : GuardParts) →
+        AreTakenIn traces asked (SeenTo traces trace place) origins guards → AreTakenIn traces asked (SeenTo traces trace (place + 1)) origins guards
+    taken_none place none = along (SeenTo traces trace place) (SeenTo traces trace (place + 1)) (seen_none traces t trace place here none)
 
-    pub guards_end : (place : ℕ) → length t ≤ place → (parts : GuardParts) →
-        AreGuards traces (Asked asked (SeenTo traces trace place)) parts → AreGuards traces (Asked asked (SeenBefore traces (trace + 1))) parts
-    guards_end place past = along (SeenTo traces trace place) (SeenBefore traces (trace + 1)) (seen_end traces trace t place here past)
+    pub taken_end : (place : ℕ) → length t ≤ place → (origins : OriginParts) (guards : GuardParts) →
+        AreTakenIn traces asked (SeenTo traces trace place) origins guards → AreTakenIn traces asked (SeenBefore traces (trace + 1)) origins guards
+    taken_end place past = along (SeenTo traces trace place) (SeenBefore traces (trace + 1)) (seen_end traces trace t place here past)
 
-  pub guards_start : (trace : ℕ) (parts : GuardParts) →
-      AreGuards traces (Asked asked (SeenBefore traces trace)) parts → AreGuards traces (Asked asked (SeenTo traces trace zero)) parts
-  guards_start trace = along (SeenBefore traces trace) (SeenTo traces trace zero) (seen_start traces trace)
+  pub taken_start : (trace : ℕ) (origins : OriginParts) (guards : GuardParts) →
+      AreTakenIn traces asked (SeenBefore traces trace) origins guards → AreTakenIn traces asked (SeenTo traces trace zero) origins guards
+  taken_start trace = along (SeenBefore traces trace) (SeenTo traces trace zero) (seen_start traces trace)
 
   -- before the first trace there is nothing
-  pub guards_nothing : (parts : GuardParts) → parts.entries ≡ [] → AreGuards traces (Asked asked (SeenBefore traces zero)) parts
-  guards_nothing parts none = record {
-    all = λ x o (a, (occurs, l)). absurd (omega (arith, l));
-    gates = λ x g has. absurd (nowhere x g has);
-    only = λ x g has. absurd (nowhere x g has);
+  pub taken_nothing : (origins : OriginParts) (guards : GuardParts) → origins.entries ≡ [] → guards.entries ≡ [] →
+      AreTakenIn traces asked (SeenBefore traces zero) origins guards
+  taken_nothing origins guards no_origin no_guard = record {
+    firsts = record {
+      seen = λ x o has. absurd (no_first x o has);
+      first = λ x o other has seen. absurd (no_first x o has);
+      all = λ x o (a, (occurs, l)). absurd (omega (arith, l));
+    };
+    guarded = record {
+      all = λ x o (a, (occurs, l)). absurd (omega (arith, l));
+      gates = λ x g has. absurd (nowhere x g has);
+      only = λ x g has. absurd (nowhere x g has);
+    };
   }
     where
-      nowhere : (x : Fact) (g : Guard) → HasGuard parts x g → ⊥
-      nowhere x g (below, is) = none-some g (ap (lookup _) (sym none) ∙ is)
+      no_first : (x : Fact) (o : Origin) → HasOrigin origins x o → ⊥
+      no_first x o (below, is) = none-some o (ap (lookup _) (sym no_origin) ∙ is)
+
+      nowhere : (x : Fact) (g : Guard) → HasGuard guards x g → ⊥
+      nowhere x g (below, is) = none-some g (ap (lookup _) (sym no_guard) ∙ is)
 
   -- ---- after the last trace
   module _ (d : Arrow) where
@@ -156,7 +213,7 @@ module _ (traces : List (List Event)) (asked : FactParts) where
     )
 
   pub AreGuardsOf-end : (parts : GuardParts) (trace : ℕ) → length traces ≤ trace →
-      AreGuards traces (Asked asked (SeenBefore traces trace)) parts → AreGuardsOf traces asked parts
+      AreGuards traces (Among (AsksOrder asked) (SeenBefore traces trace)) parts → AreGuardsOf traces asked parts
   AreGuardsOf-end parts trace past are = record {
     all = λ d is_asked has. let (o, occurs) = occurs_somewhere traces (fact d) has in are.all (fact d) o (is_asked, (occurs, within (fact d) o occurs));
     gates = λ d is_asked g has key. let r = are.gates (fact d) g has key in (
@@ -167,6 +224,19 @@ module _ (traces : List (List Event)) (asked : FactParts) where
       (λ e. (all_alone d n).0 (λ o occurs. r.0 e o (is_asked, (occurs, within (fact d) o occurs)))),
       (λ alone. r.1 (λ o (a, (occurs, l)). (all_alone d n).1 alone o occurs)),
     );
+  }
+    where
+      within : (x : Fact) (o : Origin) → Occurs traces x o → o.trace < trace
+      within x o occurs = omega (arith, past, slice_get_within traces o.trace occurs.t occurs.is_trace)
+
+  pub AreOriginsOf-end : (parts : OriginParts) (trace : ℕ) → length traces ≤ trace →
+      AreFirsts (Among (HasFact asked) (SeenBefore traces trace)) parts → AreOriginsOf traces asked parts
+  AreOriginsOf-end parts trace past firsts = record {
+    first = λ x o has. let (is_asked, (here, l)) = firsts.seen x o has in record {
+      here = here;
+      first = λ other occurs. firsts.first x o other has (is_asked, (occurs, within x other occurs));
+    };
+    all = λ x is_asked has. let (o, occurs) = occurs_somewhere traces x has in firsts.all x o (is_asked, (occurs, within x o occurs));
   }
     where
       within : (x : Fact) (o : Origin) → Occurs traces x o → o.trace < trace

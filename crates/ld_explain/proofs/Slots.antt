@@ -3,7 +3,7 @@ use Rattle.std.proofs.Common.{◌≡◌, ℕ, ◌+◌, ◌<◌, ◌≤◌, ◌�
 use Rattle.std.specs.Prelude.{IfSome, OnOk, Result, Ok, Err, slice_get}
 use Rattle.std.specs.declared.alloc.AllocError.{AllocError}
 use Rattle.std.proofs.lemmas.Bool.{cases_eq}
-use Rattle.std.proofs.lemmas.Option.{none-some, same_Some}
+use Rattle.std.proofs.lemmas.Option.{same_Some}
 use Rattle.ld_trace.specs.declared.event.Event.{Event}
 use Rattle.ld_task.specs.Chains.{ChainParts}
 use Rattle.ld_task.specs.Held.{is_held}
@@ -11,14 +11,11 @@ use Rattle.ld_task.specs.Placed.{held_positions}
 use Rattle.ld_task.specs.PositionLaws.{positions_below-ascend}
 use Rattle.ld_task.specs.TraceChains.{chain}
 use Rattle.ld_facts.specs.ChainFacts.{chain_fact, fact_slots, slot_held}
-use Rattle.ld_facts.specs.FactBits.{FactParts, HasFact}
-use Rattle.ld_facts.specs.Facts.{Adds, ChainHas, Holds}
-use Rattle.ld_facts.specs.Laws.{ChainsGiveWhatTheyHave, LaterSlotsAreOfNewerLocks, SlotsHaveWhatIsGiven}
+use Rattle.ld_facts.specs.Laws.{LaterSlotsAreOfNewerLocks, SlotsHaveWhatIsGiven}
 use Rattle.ld_facts.specs.declared.fact.Fact.{Fact}
-use Rattle.ld_explain.specs.Origins.{AsNew, Gives, NoLater, Occurs, OriginParts}
-use Rattle.ld_explain.specs.Inside.Firsts.{AreFirsts, AreKept, PutsOrigin, SeenFrom, SeenTo, slot_origin, slot_position}
+use Rattle.ld_explain.specs.Origins.{AsNew, Gives, NoLater, Occurs}
+use Rattle.ld_explain.specs.Inside.Firsts.{SeenFrom, SeenTo, slot_origin, slot_position}
 use Rattle.ld_explain.specs.declared.origins.Origin.{Origin}
-use Rattle.ld_explain.proofs.Firsts.{AreFirsts-known, AreFirsts-put, AreFirsts-same, IsKnown-stays}
 use Rattle.ld_explain.proofs.Giving.{giving, nothing_given}
 
 module _ (traces : List (List Event)) (t : List Event) (trace place : ℕ) (c : ChainParts) where
@@ -27,11 +24,6 @@ module _ (traces : List (List Event)) (t : List Event) (trace place : ℕ) (c : 
 
   abbrev To : ℕ → Fact → Origin → Type 0
   To n = SeenTo traces trace n
-
-  -- from behind the last slot on there is nothing
-  pub from_last : (parts : OriginParts) → AreFirsts (To place) parts → AreFirsts (From (fact_slots c)) parts
-  from_last parts firsts = AreFirsts-same (To place) (From (fact_slots c)) parts
-      (λ x o. ((λ seen. inl seen), (λ h. elim h [ inl seen ↦ seen | inr (m, l, within, at, is) ↦ absurd (omega (arith, l, within)) ]))) firsts
 
   -- a slot more
   pub more : (n : ℕ) (x : Fact) (o : Origin) → From (n + 1) x o → From n x o
@@ -44,11 +36,6 @@ module _ (traces : List (List Event)) (t : List Event) (trace place : ℕ) (c : 
     | inl same ↦ inr (subst (λ k. chain_fact c k ≡ Some x) same at, subst (λ k. o ≡ slot_origin t trace place c k) same is)
     | inr ne ↦ inl (inr (m, omega (arith, l, ne), within, at, is))
   ]
-
-  -- one that is empty
-  pub from_empty : (n : ℕ) (parts : OriginParts) → chain_fact c n ≡ None → AreFirsts (From (n + 1)) parts → AreFirsts (From n) parts
-  from_empty n parts none firsts = AreFirsts-same (From (n + 1)) (From n) parts
-      (λ x o. (more n x o, (λ h. elim (less n x o h) [ inl was ↦ was | inr new ↦ absurd (none-some x (sym none ∙ new.0)) ]))) firsts
 
   module _ (newer : LaterSlotsAreOfNewerLocks) where
     AsNew-slots : (m n : ℕ) → n ≤ m → AsNew (slot_position t place c m) (slot_position t place c n)
@@ -72,19 +59,11 @@ module _ (traces : List (List Event)) (t : List Event) (trace place : ℕ) (c : 
         by (Some k) (Some i) em en = rw (em, en) (at k i (ordered k i em en) (slice_get (held_positions t place) k) (slice_get (held_positions t place) i) refl refl)
 
     -- what was seen comes no later than the fact of a slot
-    no_later : (n : ℕ) (x : Fact) (o : Origin) → From (n + 1) x o → NoLater o (slot_origin t trace place c n)
+    pub no_later : (n : ℕ) (x : Fact) (o : Origin) → From (n + 1) x o → NoLater o (slot_origin t trace place c n)
     no_later n x o (inl (occurs, inl earlier)) = inl earlier
     no_later n x o (inl (occurs, inr (same, earlier))) = inr (same, inl earlier)
     no_later n x o (inr (m, l, within, at, is)) =
         subst (λ y. NoLater y (slot_origin t trace place c n)) (sym is) (inr (refl, inr (refl, AsNew-slots m n (omega (arith, l)))))
-
-    -- one with a fact
-    pub from_fact : (n : ℕ) (old new : OriginParts) (fact : Fact) → n < fact_slots c → chain_fact c n ≡ Some fact →
-        PutsOrigin old new fact (slot_origin t trace place c n) → AreFirsts (From (n + 1)) old → AreFirsts (From n) new
-    from_fact n old new fact within at puts firsts = AreFirsts-put (From (n + 1)) (From n) old new fact (slot_origin t trace place c n) puts
-        (more n) (inr (n, omega arith, within, at, refl))
-        (λ x o h. elim (less n x o h) [ inl was ↦ inl was | inr new ↦ inr (same_Some x fact (sym new.0 ∙ at), new.1) ])
-        (λ o was. no_later n fact o was) firsts
 
   -- ---- the whole chain
   module _ (here : slice_get traces trace ≡ Some t) (is : chain t place ≡ Some c) (exact : SlotsHaveWhatIsGiven) where
@@ -126,59 +105,6 @@ module _ (traces : List (List Event)) (t : List Event) (trace place : ℕ) (c : 
       ]),
     )
 
-    -- what the chain has is seen
-    chain_seen : (x : Fact) → ChainsGiveWhatTheyHave → ChainHas c x → (o : Origin) × From 0 x o
-    chain_seen x given has =
-        let (held, by) = (given c x).0 has in
-        let (n, within, at, slot) = (exact c x held).0 by in
-        (slot_origin t trace place c n, inr (n, omega arith, within, at, refl))
-
-    -- what occurs there is the chain's
-    seen_chain : (x : Fact) (o : Origin) → ChainsGiveWhatTheyHave → To (place + 1) x o → To place x o ⊎ (ChainHas c x × ((p : Origin) → To place x p → NoLater p o))
-    seen_chain x o given (occurs, inl earlier) = inl (occurs, inl earlier)
-    seen_chain x o given (occurs, inr (same, to)) = elim (cases_eq o.place place) [
-      | inr ne ↦ inl (occurs, inr (same, omega (arith, to, ne)))
-      | inl at ↦
-          let same_trace : occurs.t ≡ t = same_Some occurs.t t (sym occurs.is_trace ∙ ap (slice_get traces) same ∙ here) in
-          let gives : Gives t x place o.held = subst (λ p. Gives t x p o.held) at (subst (λ s. Gives s x o.place o.held) same_trace occurs.gives) in
-          let (held, by, position) = (giving t place c is).1 x o.held gives in
-          inr (
-            (given c x).1 (held, by),
-            (λ p (was, before). elim before [
-              | inl earlier ↦ inl (omega (arith, earlier, same))
-              | inr (equal, earlier) ↦ inr (equal ∙ sym same, inl (omega (arith, earlier, at)))
-            ]),
-          )
-    ]
-
-    up : (x : Fact) (o : Origin) → To place x o → To (place + 1) x o
-    up x o (occurs, inl earlier) = (occurs, inl earlier)
-    up x o (occurs, inr (same, earlier)) = (occurs, inr (same, omega (arith, earlier)))
-
-    -- a chain that brings something new
-    pub AreKept-fresh : (old new : OriginParts) (before after : FactParts) → ChainsGiveWhatTheyHave → Adds (HasFact before) (HasFact after) (ChainHas c) →
-        AreFirsts (From 0) new → AreKept (To place) old before → AreKept (To (place + 1)) new after
-    AreKept-fresh old new before after given adds from kept =
-        let firsts = AreFirsts-same (From 0) (To (place + 1)) new From-all from in record {
-          firsts = firsts;
-          known = λ x has. elim ((adds x).0 has) [
-            | inl was ↦ IsKnown-stays (To place) (To (place + 1)) old new kept.firsts firsts up x (kept.known x was)
-            | inr new ↦ let (o, seen) = chain_seen x given new in from.all x o seen
-          ];
-        }
-
-    -- and one that doesn't
-    pub AreKept-known : (parts : OriginParts) (before after : FactParts) → ChainsGiveWhatTheyHave → after ≡ before → Holds (HasFact before) (ChainHas c) →
-        AreKept (To place) parts before → AreKept (To (place + 1)) parts after
-    AreKept-known parts before after given same holds kept = record {
-      firsts = AreFirsts-known (To place) (To (place + 1)) parts up
-          (λ x o seen. elim (seen_chain x o given seen) [
-            | inl was ↦ inl was
-            | inr new ↦ inr (kept.known x (holds x new.0), new.1)
-          ]) kept.firsts;
-      known = λ x has. kept.known x (subst (λ f. HasFact f x) same has);
-    }
-
 -- an event that makes no chain
 module _ (traces : List (List Event)) (t : List Event) (trace place : ℕ) (here : slice_get traces trace ≡ Some t) (none : chain t place ≡ None) where
   -- nothing more is seen
@@ -199,13 +125,6 @@ module _ (traces : List (List Event)) (t : List Event) (trace place : ℕ) (here
       ]
     ]),
   )
-
-  pub AreKept-none : (parts : OriginParts) (facts : FactParts) →
-      AreKept (SeenTo traces trace place) parts facts → AreKept (SeenTo traces trace (place + 1)) parts facts
-  AreKept-none parts facts kept = record {
-    firsts = AreFirsts-same (SeenTo traces trace place) (SeenTo traces trace (place + 1)) parts seen_none kept.firsts;
-    known = kept.known;
-  }
 
 -- what follows from what holds of a success holds of it
 pub after_ok : (P Q : Type 0) (r : Result (Unit {0}) AllocError) → (P → Q) → OnOk r P → OnOk r Q

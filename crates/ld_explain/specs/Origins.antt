@@ -4,7 +4,7 @@ use Rattle.std.specs.Map.{lookup}
 use Rattle.ld_trace.specs.declared.event.Event.{Event}
 use Rattle.ld_task.specs.Dependencies.{IsDependency}
 use Rattle.ld_task.specs.Marks.{IsMarkedTaking, IsMarkedOpening}
-use Rattle.ld_facts.specs.FactBits.{FactBelow}
+use Rattle.ld_facts.specs.FactBits.{FactBelow, FactParts, HasFact}
 use Rattle.ld_facts.specs.Numbers.{fact_number}
 use Rattle.ld_facts.specs.declared.fact.Fact.{Fact}
 use Rattle.ld_facts.specs.declared.fact.Fact.TheVariants.{Dependency, Marked}
@@ -58,7 +58,7 @@ abbrev pub HasOrigin : OriginParts → Fact → Origin → Type 0
 HasOrigin parts x origin =
     FactBelow parts.keys x × (lookup (λ n. nat_eq (fact_number parts.keys x) n) parts.entries ≡ Some origin)
 
--- they are the first occurrences of all facts of the traces
-pub record AreOriginsOf (traces : List (List Event)) (parts : OriginParts) : Type 0 where
+-- they are the first occurrences of those of the traces' facts that are asked about
+pub record AreOriginsOf (traces : List (List Event)) (asked : FactParts) (parts : OriginParts) : Type 0 where
   pub first : (x : Fact) (origin : Origin) → HasOrigin parts x origin → IsFirst traces x origin
-  pub all : (x : Fact) → TracesHave traces x → (origin : Origin) × HasOrigin parts x origin
+  pub all : (x : Fact) → HasFact asked x → TracesHave traces x → (origin : Origin) × HasOrigin parts x origin

@@ -1,27 +1,23 @@
 //! What speaks against findings.
 
-ghost use Rattle.std.specs.Prelude.{◌≡◌, ◌+◌, ◌∷◌, [], ◌<◌, ◌≤◌, ◌↔◌, ℕ, List, All, IfOk, IfSome, IsFalse, IsNone, IsTrue, OnOk, Some, length, slice_get};
+ghost use Rattle.std.specs.Prelude.{◌≡◌, ◌+◌, ◌∷◌, [], ◌<◌, ◌≤◌, ◌↔◌, ℕ, List, IfSome, IsFalse, IsNone, IsTrue, OnOk, Some, slice_get};
 ghost use Rattle.ld_trace.specs.declared.event.Event.{Event};
-ghost use Rattle.ld_trace.specs.Events.{KeysBelow};
-ghost use Rattle.ld_task.specs.Placed.{IsPlacedAfter};
+ghost use Rattle.ld_trace.specs.declared.key_id.TheConstants.{MAX_MANY};
 ghost use Rattle.ld_task.specs.TraceChains as trace_chains;
-ghost use Rattle.ld_task.specs.WellFormed.{IsWellFormed};
 ghost use Rattle.ld_facts.specs.Arrows.{arrow};
-ghost use Rattle.ld_facts.specs.ChainFacts.{fact_slots};
+ghost use Rattle.ld_facts.specs.ChainFacts.{chain_fact, fact_slots};
 ghost use Rattle.ld_facts.specs.FactBits.{FactBelow, FactParts, HasFact};
 ghost use Rattle.ld_facts.specs.declared.fact.Fact.{Fact};
 ghost use Rattle.ld_facts.specs.TraceFacts.{TracesHave};
-ghost use Rattle.ld_trace.specs.declared.raw_trace.TheConstants.{MAX_TRACES};
 ghost use Rattle.ld_explain.specs.Notes.{AreGuardsOf, HasGuard, IsAloneIn, IsGate};
-ghost use Rattle.ld_explain.specs.Inside.Firsts.{ComesNext, SeenBefore, SeenFrom, SeenTo};
-ghost use Rattle.ld_explain.specs.Inside.Guarding.{AreGuards, Asked, IsGuardWith, IsKept, PutsGuard};
+ghost use Rattle.ld_explain.specs.Inside.Firsts.{SeenFrom};
+ghost use Rattle.ld_explain.specs.Inside.Guarding.{Among, AreGuards, AsksOrder, IsGuardWith, IsKept, PutsGuard};
 
 use crate::guard::{Guard, gates_before};
 use arrayvec::ArrayVec;
 use indexmap::IndexMap;
-use ld_facts::{Fact, Facts, fact_in_slot, fact_slots, lock_of_slot};
-use ld_task::{Chain, Kind, MAX_HELD, PlacedState};
-use ld_trace::{Event, RawTrace};
+use ld_facts::{Fact, lock_of_slot};
+use ld_task::{Chain, Kind, MAX_HELD};
 use std::alloc::{AllocError, Global};
 use std::marker::Model;
 
@@ -47,21 +43,15 @@ impl Model for Guards {
 }
 
 impl Guards {
-    /// What speaks against the dependencies that are asked about, over all traces, which are well formed and of which there
-    /// are at most 4,096. It fails only if memory is refused.
-    pub fn of(alloc: Global, traces: &[RawTrace], asked: &Facts) -> Result<Guards, AllocError>
-        requires well_formed { All IsWellFormed traces.now }
-        requires traces { length traces.now ≤ MAX_TRACES }
-        ensures { IfOk result (AreGuardsOf traces.now asked.now) }
+    // Nothing that speaks against dependencies between the keys below `keys`.
+    pub(crate) fn none(alloc: Global, keys: u16) -> Guards
+        requires { keys ≤ MAX_MANY }
+        ensures { result ≡ record { keys = keys; entries = [] } }
     {
-        let mut guards = Guards {
-            keys: asked.keys(),
+        Guards {
+            keys,
             guards: IndexMap::new(alloc),
-        };
-        for i in 0..traces.len() {
-            guards.add_trace(asked, i as u32, &traces[i])?;
         }
-        Ok(guards)
     }
 
     /// Whether a lock of the key `gate` is held round the dependency wherever it occurs. The dependency is one that was asked
@@ -115,90 +105,30 @@ impl Guards {
         self.guards.get(&number)
     }
 
-    // Takes in the occurrences in one trace, the next one.
-    fn add_trace(&mut self, asked: &Facts, number: u32, trace: &RawTrace) -> Result<(), AllocError>
-        requires keys { asked.now.keys ≡ self.old.keys }
-        requires well_formed { IsWellFormed trace.now }
-        ensures keys { OnOk result (self.new.keys ≡ self.old.keys) }
-        ensures kept { OnOk result ((traces : List (List Event)) → slice_get traces number ≡ Some trace.now
-            → AreGuards traces (Asked asked.now (SeenBefore traces number)) self.old
-            → AreGuards traces (Asked asked.now (SeenBefore traces (number + 1))) self.new) }
-    {
-        let mut state = PlacedState::new();
-        for place in 0..trace.len() {
-            let Some(event) = trace.event(place) else {
-                unreachable!();
-            };
-            self.add_event(asked, number, place as u32, &mut state, event)?;
-        }
-        Ok(())
-    }
-
-    // Goes on by the event at a place of a well-formed trace, and takes in the occurrences that it gives.
-    fn add_event(
+    // Takes in the occurrence of a fact in a slot of a chain of this trace, if it is a dependency.
+    pub(crate) fn add_fact(
         &mut self,
-        asked: &Facts,
-        trace: u32,
-        place: u32,
-        state: &mut PlacedState,
-        event: Event,
-    ) -> Result<(), AllocError>
-        requires keys { asked.now.keys ≡ self.old.keys }
-        requires next { (t : List Event) × ComesNext t place state.old event }
-        ensures keys { OnOk result (self.new.keys ≡ self.old.keys) }
-        ensures after { (t : List Event) → ComesNext t place state.old event → IsPlacedAfter t (place + 1) state.new }
-        ensures kept { OnOk result ((traces : List (List Event)) (t : List Event) → slice_get traces trace ≡ Some t
-            → ComesNext t place state.old event → AreGuards traces (Asked asked.now (SeenTo traces trace place)) self.old
-            → AreGuards traces (Asked asked.now (SeenTo traces trace (place + 1))) self.new) }
-    {
-        match state.step(place, event) {
-            Ok(Some(chain)) => self.add_chain(asked, trace, &chain),
-            Ok(None) => Ok(()),
-            Err(_) => unreachable!(),
-        }
-    }
-
-    // Takes in the occurrences in a chain, from the newest held lock to the oldest.
-    fn add_chain(&mut self, asked: &Facts, trace: u32, chain: &Chain) -> Result<(), AllocError>
-        requires keys { asked.now.keys ≡ self.old.keys }
-        ensures keys { OnOk result (self.new.keys ≡ self.old.keys) }
-        ensures kept { OnOk result ((traces : List (List Event)) (t : List Event) (place : ℕ) → slice_get traces trace ≡ Some t
-            → trace_chains.chain t place ≡ Some chain.now
-            → AreGuards traces (Asked asked.now (SeenTo traces trace place)) self.old
-            → AreGuards traces (Asked asked.now (SeenTo traces trace (place + 1))) self.new) }
-    {
-        ld_facts::slots_have_what_is_given();
-        let slots = fact_slots(chain);
-        for passed in 0..slots {
-            self.add_slot(asked, trace, chain, slots - 1 - passed)?;
-        }
-        Ok(())
-    }
-
-    // Takes in the occurrence in a slot of a chain, if it is one of a fact that is asked about.
-    fn add_slot(
-        &mut self,
-        asked: &Facts,
         trace: u32,
         chain: &Chain,
         n: usize,
+        fact: Fact,
     ) -> Result<(), AllocError>
-        requires keys { asked.now.keys ≡ self.old.keys }
+        requires below { FactBelow self.old.keys fact }
+        requires slot { chain_fact chain.now n ≡ Some fact }
         requires within { n < fact_slots chain.now }
         ensures keys { OnOk result (self.new.keys ≡ self.old.keys) }
-        ensures kept { OnOk result ((traces : List (List Event)) (t : List Event) (place : ℕ) → slice_get traces trace ≡ Some t
-            → trace_chains.chain t place ≡ Some chain.now
-            → AreGuards traces (Asked asked.now (SeenFrom traces t trace place chain.now (n + 1))) self.old
-            → AreGuards traces (Asked asked.now (SeenFrom traces t trace place chain.now n)) self.new) }
+        ensures kept { OnOk result ((traces : List (List Event)) (asked : FactParts) (t : List Event) (place : ℕ)
+            → slice_get traces trace ≡ Some t → trace_chains.chain t place ≡ Some chain.now → HasFact asked fact
+            → AreGuards traces (Among (AsksOrder asked) (SeenFrom traces t trace place chain.now (n + 1))) self.old
+            → AreGuards traces (Among (AsksOrder asked) (SeenFrom traces t trace place chain.now n)) self.new) }
     {
-        let Some(fact) = fact_in_slot(chain, n) else {
-            return Ok(());
-        };
-        if !asked.has(fact) {
-            return Ok(());
+        match fact {
+            Fact::Dependency { .. } => {
+                let held = lock_of_slot(chain, n).unwrap_or(0);
+                self.put(fact, trace, gates_before(chain, held))
+            }
+            Fact::Marked { .. } => Ok(()),
         }
-        let held = lock_of_slot(chain, n).unwrap_or(0);
-        self.put(fact, trace, gates_before(chain, held))
     }
 
     // Takes in one occurrence of a fact, in this trace and with these gates.

@@ -5,7 +5,6 @@ use Rattle.ld_task.specs.Chains.{ChainParts}
 use Rattle.ld_task.specs.Placed.{IsPlacedAfter, PlacedParts, held_positions}
 use Rattle.ld_task.specs.WellFormed.{IsWellFormed}
 use Rattle.ld_facts.specs.ChainFacts.{chain_fact, fact_slots, slot_held}
-use Rattle.ld_facts.specs.FactBits.{FactParts, HasFact}
 use Rattle.ld_facts.specs.declared.fact.Fact.{Fact}
 use Rattle.ld_explain.specs.Origins.{HasOrigin, NoLater, Occurs, OriginParts}
 use Rattle.ld_explain.specs.declared.origins.Origin.{Origin}
@@ -50,11 +49,6 @@ pub record AreFirsts (Seen : Fact → Origin → Type 0) (parts : OriginParts) :
   pub seen : (x : Fact) (o : Origin) → HasOrigin parts x o → Seen x o
   pub first : (x : Fact) (o other : Origin) → HasOrigin parts x o → Seen x other → NoLater o other
   pub all : (x : Fact) (o : Origin) → Seen x o → IsKnown parts x
-
--- and these facts are known
-pub record AreKept (Seen : Fact → Origin → Type 0) (parts : OriginParts) (facts : FactParts) : Type 0 where
-  pub firsts : AreFirsts Seen parts
-  pub known : (x : Fact) → HasFact facts x → IsKnown parts x
 
 -- the fact has this origin, unless it had one before
 pub record PutsOrigin (old new : OriginParts) (fact : Fact) (origin : Origin) : Type 0 where

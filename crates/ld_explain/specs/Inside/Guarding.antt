@@ -7,6 +7,7 @@ use Rattle.ld_task.specs.Chains.{ChainParts}
 use Rattle.ld_task.specs.declared.lock.Lock.{Lock}
 use Rattle.ld_facts.specs.FactBits.{FactParts, HasFact}
 use Rattle.ld_facts.specs.declared.fact.Fact.{Fact}
+use Rattle.ld_facts.specs.declared.fact.Fact.TheVariants.{Dependency, Marked}
 use Rattle.ld_explain.specs.Notes.{GuardParts, Guarded, HasGuard}
 use Rattle.ld_explain.specs.declared.guard.Guard.{Guard}
 use Rattle.ld_explain.specs.declared.origins.Origin.{Origin}
@@ -32,9 +33,14 @@ pub record GuardsAt (traces : List (List Event)) (key : ℕ) (at : Origin) : Typ
   pub held_is : at.held ≡ Some i
   pub guarded : Guarded t key i at.place
 
--- those of the occurrences that are asked about
-abbrev pub Asked : FactParts → (Fact → Origin → Type 0) → Fact → Origin → Type 0
-Asked asked Seen x o = HasFact asked x × Seen x o
+-- the occurrences of these facts alone
+abbrev pub Among : (Fact → Type 0) → (Fact → Origin → Type 0) → Fact → Origin → Type 0
+Among In Seen x o = In x × Seen x o
+
+-- the dependencies that are asked about
+abbrev pub AsksOrder : FactParts → Fact → Type 0
+AsksOrder asked (Dependency from to kind) = HasFact asked (Dependency from to kind)
+AsksOrder asked (Marked key mark) = ⊥
 
 -- the fact has a guard
 abbrev pub IsKept : GuardParts → Fact → Type 0

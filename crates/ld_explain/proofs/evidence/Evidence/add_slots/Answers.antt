@@ -1,0 +1,38 @@
+use Rattle.std.proofs.Common.{◌≡◌, ℕ, ◌+◌, ◌-◌, ◌∙◌, arith, refl, subst}
+use Rattle.ld_facts.specs.ChainFacts.{fact_slots}
+use Rattle.ld_explain.specs.Notes.{GuardParts}
+use Rattle.ld_explain.specs.Origins.{OriginParts}
+use Rattle.ld_explain.specs.Inside.Firsts.{SeenFrom}
+use Rattle.ld_explain.specs.Inside.Taking.{AreTakenIn}
+use Rattle.ld_explain.proofs.Passing.{taken_last}
+use Rattle.ld_explain.proofs.evidence.Evidence.add_slots.Goals as goal
+
+pub loop-passed-init : goal.loop-passed-init
+loop-passed-init c = (
+  refl,
+  refl,
+  λ traces t here placed is before.
+      let all : fact_slots c.args.chain.now ≡ c.slots-slots.result - 0 = omega (arith, c.slots-slots.ensures.value) in
+      subst (λ n. AreTakenIn traces c.args.asked.now (SeenFrom traces t c.args.trace c.args.place c.args.chain.now n) c.args.self.now.origins c.args.self.now.guards) all
+      (taken_last traces c.args.asked.now t c.args.trace c.args.place c.args.chain.now c.args.self.now.origins c.args.self.now.guards before),
+)
+
+pub loop-passed-preserved : goal.loop-passed-preserved
+loop-passed-preserved c =
+    let n = c.slots-slots.result - 1 - c.loop-passed.passed in
+    let was : c.slots-slots.result - c.loop-passed.passed ≡ n + 1 = omega (arith, c.loop-passed-test.true) in
+    let now : n ≡ c.slots-slots.result - (c.loop-passed.passed + 1) = omega (arith, c.loop-passed-test.true) in (
+      c.in_ok-add_slot.ensures.origins ∙ c.loop-passed.invariant.0,
+      c.in_ok-add_slot.ensures.guards ∙ c.loop-passed.invariant.1,
+      λ traces t here placed is before.
+          let Taken = λ (k : ℕ) (origins : OriginParts) (guards : GuardParts). AreTakenIn traces c.args.asked.now (SeenFrom traces t c.args.trace c.args.place c.args.chain.now k) origins guards in
+          subst (λ k. Taken k c.add_slot.new.self.origins c.add_slot.new.self.guards) now
+          (c.in_ok-add_slot.ensures.taken traces t here placed is
+          (subst (λ k. Taken k c.loop-passed.self.origins c.loop-passed.self.guards) was (c.loop-passed.invariant.2 traces t here placed is before))),
+    )
+
+pub returns-clause-taken : goal.returns-clause-taken
+returns-clause-taken c traces t here placed is before =
+    let none : c.slots-slots.result - c.loop-passed.passed ≡ 0 = omega (arith, c.loop-passed-test.false) in
+    subst (λ n. AreTakenIn traces c.args.asked.now (SeenFrom traces t c.args.trace c.args.place c.args.chain.now n) c.loop-passed.self.origins c.loop-passed.self.guards) none
+    (c.loop-passed.invariant.2 traces t here placed is before)

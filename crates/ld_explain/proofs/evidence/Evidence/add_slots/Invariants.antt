@@ -1,0 +1,16 @@
+use Rattle.std.proofs.Common.{◌≡◌, ◌+◌, ◌-◌, List, Some, slice_get}
+use Rattle.ld_trace.specs.declared.event.Event.{Event}
+use Rattle.ld_task.specs.Placed.{IsPlacedAfter}
+use Rattle.ld_task.specs.TraceChains.{chain}
+use Rattle.ld_explain.specs.Inside.Firsts.{SeenFrom, SeenTo}
+use Rattle.ld_explain.specs.Inside.Taking.{AreTakenIn}
+use Rattle.ld_explain.proofs.evidence.Evidence.add_slots.Given as goal
+
+-- the occurrences in the last slots are taken in
+abbrev pub invariant-loop-passed : goal.invariant-loop-passed
+invariant-loop-passed l =
+    (l.self.origins.keys ≡ l.initial.self.origins.keys)
+    × (l.self.guards.keys ≡ l.initial.self.guards.keys)
+    × ((traces : List (List Event)) (t : List Event) → slice_get traces l.trace ≡ Some t → IsPlacedAfter t (l.place + 1) l.state →
+    chain t l.place ≡ Some l.chain → AreTakenIn traces l.asked (SeenTo traces l.trace l.place) l.initial.self.origins l.initial.self.guards →
+    AreTakenIn traces l.asked (SeenFrom traces t l.trace l.place l.chain (l.slots - l.passed)) l.self.origins l.self.guards)

@@ -1,0 +1,16 @@
+use Rattle.std.proofs.Common.{◌≡◌, List, Some, slice_get}
+use Rattle.ld_trace.specs.declared.event.Event.{Event}
+use Rattle.ld_task.specs.Placed.{IsPlacedAfter}
+use Rattle.ld_explain.specs.Inside.Firsts.{SeenBefore, SeenTo}
+use Rattle.ld_explain.specs.Inside.Taking.{AreTakenIn}
+use Rattle.ld_explain.proofs.evidence.Evidence.add_trace.Given as goal
+
+-- the occurrences that the events so far give are taken in
+abbrev pub invariant-loop-place : goal.invariant-loop-place
+invariant-loop-place l =
+    (l.self.origins.keys ≡ l.initial.self.origins.keys)
+    × (l.self.guards.keys ≡ l.initial.self.guards.keys)
+    × IsPlacedAfter l.trace l.place l.state
+    × ((traces : List (List Event)) → slice_get traces l.number ≡ Some l.trace →
+    AreTakenIn traces l.asked (SeenBefore traces l.number) l.initial.self.origins l.initial.self.guards →
+    AreTakenIn traces l.asked (SeenTo traces l.number l.place) l.self.origins l.self.guards)

@@ -1,0 +1,25 @@
+-- What is taken in of the facts that are asked about. Only private clauses cite these words.
+use Rattle.std.specs.Prelude.{◌≡◌, ℕ, Bool, true, List, Some, length, slice_get}
+use Rattle.ld_trace.specs.declared.event.Event.{Event}
+use Rattle.ld_facts.specs.FactBits.{FactParts, HasFact}
+use Rattle.ld_facts.specs.declared.fact.Fact.{Fact}
+use Rattle.ld_facts.specs.declared.fact.Fact.TheVariants.{Dependency, Marked}
+use Rattle.ld_explain.specs.Notes.{GuardParts}
+use Rattle.ld_explain.specs.Origins.{OriginParts}
+use Rattle.ld_explain.specs.Inside.Firsts.{AreFirsts}
+use Rattle.ld_explain.specs.Inside.Guarding.{Among, AreGuards, AsksOrder}
+use Rattle.ld_explain.specs.declared.origins.Origin.{Origin}
+
+-- the key that a dependency leads to, or that has the mark
+abbrev pub last_key : Fact → ℕ
+last_key (Dependency from to kind) = to
+last_key (Marked key mark) = key
+
+-- of each fact the last key is marked
+abbrev pub AreEnds : FactParts → List Bool → Type 0
+AreEnds facts ends = (length ends ≡ facts.keys) × ((x : Fact) → HasFact facts x → slice_get ends (last_key x) ≡ Some true)
+
+-- of what is asked about, the first of these occurrences are kept, and of its dependencies what guards all of them
+pub record AreTakenIn (traces : List (List Event)) (asked : FactParts) (Seen : Fact → Origin → Type 0) (origins : OriginParts) (guards : GuardParts) : Type 0 where
+  pub firsts : AreFirsts (Among (HasFact asked) Seen) origins
+  pub guarded : AreGuards traces (Among (AsksOrder asked) Seen) guards

@@ -1,0 +1,182 @@
+//! One pass over all traces, for all facts that are asked about.
+
+ghost use Rattle.std.specs.Prelude.{◌≡◌, ◌+◌, ◌<◌, ◌≤◌, ℕ, List, All, IfOk, OnOk, Some, length, slice_get};
+ghost use Rattle.ld_trace.specs.declared.event.Event.{Event};
+ghost use Rattle.ld_trace.specs.declared.raw_trace.TheConstants.{MAX_TRACES};
+ghost use Rattle.ld_task.specs.Placed.{IsPlacedAfter};
+ghost use Rattle.ld_task.specs.TraceChains as trace_chains;
+ghost use Rattle.ld_task.specs.WellFormed.{IsWellFormed};
+ghost use Rattle.ld_facts.specs.ChainFacts.{fact_slots};
+ghost use Rattle.ld_explain.specs.Notes.{AreGuardsOf};
+ghost use Rattle.ld_explain.specs.Origins.{AreOriginsOf};
+ghost use Rattle.ld_explain.specs.Inside.Firsts.{ComesNext, SeenBefore, SeenFrom, SeenTo};
+ghost use Rattle.ld_explain.specs.Inside.Taking.{AreTakenIn};
+
+use crate::asked::Asked;
+use crate::guards::Guards;
+use crate::origins::{Origin, Origins, position_of_slot};
+use ld_facts::{fact_in_slot, fact_slots};
+use ld_task::{Chain, PlacedState};
+use ld_trace::{Event, RawTrace};
+use std::alloc::{AllocError, Global};
+
+/// What traces say about facts that are asked about: where each first occurs, and what speaks against a finding that it is
+/// part of.
+#[derive(Drop)]
+pub struct Evidence {
+    /// The first occurrences.
+    pub origins: Origins,
+    /// What speaks against it, of dependencies alone.
+    pub guards: Guards,
+}
+
+impl Evidence {
+    /// What all traces say about the facts that are asked about. The traces are well formed, and there are at most 4,096. It
+    /// fails only if memory is refused.
+    pub fn of(alloc: Global, traces: &[RawTrace], asked: &Asked) -> Result<Evidence, AllocError>
+        requires well_formed { All IsWellFormed traces.now }
+        requires traces { length traces.now ≤ MAX_TRACES }
+        ensures origins { IfOk result (λ evidence. AreOriginsOf traces.now asked.now evidence.origins) }
+        ensures guards { IfOk result (λ evidence. AreGuardsOf traces.now asked.now evidence.guards) }
+    {
+        let mut evidence = Evidence {
+            origins: Origins::none(alloc, asked.keys()),
+            guards: Guards::none(alloc, asked.keys()),
+        };
+        for i in 0..traces.len() {
+            evidence.add_trace(asked, i as u32, &traces[i])?;
+        }
+        Ok(evidence)
+    }
+
+    // Takes in the occurrences in one trace, the next one.
+    fn add_trace(&mut self, asked: &Asked, number: u32, trace: &RawTrace) -> Result<(), AllocError>
+        requires origins { self.old.origins.keys ≡ asked.now.keys }
+        requires guards { self.old.guards.keys ≡ asked.now.keys }
+        requires well_formed { IsWellFormed trace.now }
+        ensures origins { OnOk result (self.new.origins.keys ≡ self.old.origins.keys) }
+        ensures guards { OnOk result (self.new.guards.keys ≡ self.old.guards.keys) }
+        ensures taken { OnOk result ((traces : List (List Event)) → slice_get traces number ≡ Some trace.now
+            → AreTakenIn traces asked.now (SeenBefore traces number) self.old.origins self.old.guards
+            → AreTakenIn traces asked.now (SeenBefore traces (number + 1)) self.new.origins self.new.guards) }
+    {
+        let mut state = PlacedState::new();
+        for place in 0..trace.len() {
+            let Some(event) = trace.event(place) else {
+                unreachable!();
+            };
+            self.add_event(asked, number, place as u32, &mut state, event)?;
+        }
+        Ok(())
+    }
+
+    // Goes on by the event at a place of a well-formed trace, and takes in the occurrences that it gives.
+    fn add_event(
+        &mut self,
+        asked: &Asked,
+        trace: u32,
+        place: u32,
+        state: &mut PlacedState,
+        event: Event,
+    ) -> Result<(), AllocError>
+        requires origins { self.old.origins.keys ≡ asked.now.keys }
+        requires guards { self.old.guards.keys ≡ asked.now.keys }
+        requires next { (t : List Event) × ComesNext t place state.old event }
+        ensures origins { OnOk result (self.new.origins.keys ≡ self.old.origins.keys) }
+        ensures guards { OnOk result (self.new.guards.keys ≡ self.old.guards.keys) }
+        ensures after { (t : List Event) → ComesNext t place state.old event → IsPlacedAfter t (place + 1) state.new }
+        ensures taken { OnOk result ((traces : List (List Event)) (t : List Event) → slice_get traces trace ≡ Some t
+            → ComesNext t place state.old event
+            → AreTakenIn traces asked.now (SeenTo traces trace place) self.old.origins self.old.guards
+            → AreTakenIn traces asked.now (SeenTo traces trace (place + 1)) self.new.origins self.new.guards) }
+    {
+        match state.step(place, event) {
+            Ok(Some(chain)) => self.add_chain(asked, trace, place, state, &chain),
+            Ok(None) => Ok(()),
+            Err(_) => unreachable!(),
+        }
+    }
+
+    // Takes in the occurrences in the chain at a place of a trace, by the state just after it.
+    fn add_chain(
+        &mut self,
+        asked: &Asked,
+        trace: u32,
+        place: u32,
+        state: &PlacedState,
+        chain: &Chain,
+    ) -> Result<(), AllocError>
+        requires origins { self.old.origins.keys ≡ asked.now.keys }
+        requires guards { self.old.guards.keys ≡ asked.now.keys }
+        ensures origins { OnOk result (self.new.origins.keys ≡ self.old.origins.keys) }
+        ensures guards { OnOk result (self.new.guards.keys ≡ self.old.guards.keys) }
+        ensures taken { OnOk result ((traces : List (List Event)) (t : List Event) → slice_get traces trace ≡ Some t
+            → IsPlacedAfter t (place + 1) state.now → trace_chains.chain t place ≡ Some chain.now
+            → AreTakenIn traces asked.now (SeenTo traces trace place) self.old.origins self.old.guards
+            → AreTakenIn traces asked.now (SeenTo traces trace (place + 1)) self.new.origins self.new.guards) }
+    {
+        ld_facts::slots_have_what_is_given();
+        if asked.may_be_given(chain) {
+            self.add_slots(asked, trace, place, state, chain)
+        } else {
+            Ok(())
+        }
+    }
+
+    // Takes in the occurrences in the slots of a chain, from the newest held lock to the oldest.
+    fn add_slots(
+        &mut self,
+        asked: &Asked,
+        trace: u32,
+        place: u32,
+        state: &PlacedState,
+        chain: &Chain,
+    ) -> Result<(), AllocError>
+        requires origins { self.old.origins.keys ≡ asked.now.keys }
+        requires guards { self.old.guards.keys ≡ asked.now.keys }
+        ensures origins { OnOk result (self.new.origins.keys ≡ self.old.origins.keys) }
+        ensures guards { OnOk result (self.new.guards.keys ≡ self.old.guards.keys) }
+        ensures taken { OnOk result ((traces : List (List Event)) (t : List Event) → slice_get traces trace ≡ Some t
+            → IsPlacedAfter t (place + 1) state.now → trace_chains.chain t place ≡ Some chain.now
+            → AreTakenIn traces asked.now (SeenTo traces trace place) self.old.origins self.old.guards
+            → AreTakenIn traces asked.now (SeenFrom traces t trace place chain.now 0) self.new.origins self.new.guards) }
+    {
+        let slots = fact_slots(chain);
+        for passed in 0..slots {
+            self.add_slot(asked, trace, place, state, chain, slots - 1 - passed)?;
+        }
+        Ok(())
+    }
+
+    // Takes in the occurrence in a slot of a chain, if it is one of a fact that is asked about.
+    fn add_slot(
+        &mut self,
+        asked: &Asked,
+        trace: u32,
+        place: u32,
+        state: &PlacedState,
+        chain: &Chain,
+        n: usize,
+    ) -> Result<(), AllocError>
+        requires origins { self.old.origins.keys ≡ asked.now.keys }
+        requires guards { self.old.guards.keys ≡ asked.now.keys }
+        requires within { n < fact_slots chain.now }
+        ensures origins { OnOk result (self.new.origins.keys ≡ self.old.origins.keys) }
+        ensures guards { OnOk result (self.new.guards.keys ≡ self.old.guards.keys) }
+        ensures taken { OnOk result ((traces : List (List Event)) (t : List Event) → slice_get traces trace ≡ Some t
+            → IsPlacedAfter t (place + 1) state.now → trace_chains.chain t place ≡ Some chain.now
+            → AreTakenIn traces asked.now (SeenFrom traces t trace place chain.now (n + 1)) self.old.origins self.old.guards
+            → AreTakenIn traces asked.now (SeenFrom traces t trace place chain.now n) self.new.origins self.new.guards) }
+    {
+        ld_facts::slots_have_what_is_given();
+        let Some(fact) = fact_in_slot(chain, n) else {
+            return Ok(());
+        };
+        if !asked.has(fact) {
+            return Ok(());
+        }
+        let held = position_of_slot(state, chain, n);
+        self.origins.put(fact, Origin { trace, place, held })?;
+        self.guards.add_fact(trace, chain, n, fact)
+    }
+}
