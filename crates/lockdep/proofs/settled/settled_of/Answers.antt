@@ -2,4 +2,4 @@ use Rattle.lockdep.proofs.settled.settled_of.Goals as goal
 
 pub returns-in-Err-clause-refused : goal.returns-in-Err-clause-refused
 returns-in-Err-clause-refused g c = λ known output.
-    c.run_fault.ensures c.args.workers known c.in-Err.ensures.refused c.args.keys.now.names output
+    c.run_fault.ensures c.args.workers known c.args.keys.now.names output c.in-Err.ensures.refused
