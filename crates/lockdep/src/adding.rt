@@ -16,7 +16,7 @@ use std::fs;
 use std::fs::File;
 use std::io::Read;
 use std::marker::{Send, Sync};
-use std::rt::Files;
+use std::rt::{Files, Stdin};
 use std::thread::Threads;
 
 // With fewer bytes for each, more threads take as long as one.
@@ -27,8 +27,8 @@ const SIZES_ASKED: usize = 64;
 
 /// How the traces of files are added to those of a session.
 pub trait Adds {
-    /// Adds the traces of these files in their order. Of the workers as many read as are worth their threads. The first file that
-    /// can't be opened, or whose trace is refused, is told; those before it were added.
+    /// Adds the traces of these files in their order, read by as many of the workers as are worth their threads. If a file can't be
+    /// opened, or its trace is refused, the refusal names the first such file, and the traces of those before it were added.
     fn add_files<'a, T: Threads + Sync>(
         &self,
         threads: &T,
@@ -102,30 +102,31 @@ where
     R::File: Send + Sync,
     R::Dir: Send + Sync,
 {
-    type Source = R::File;
+    // A file is read by the kind of reader that reads the program's input.
+    type Source = Source<Stdin, R::File>;
 
     // No contract can tell what a file holds.
     ghost holds = { λ files place. None };
 
     // A pipe is neither opened early nor twice: opening it may wait, and what was read of it is gone.
-    fn ahead(&self, place: usize) -> Option<R::File> {
+    fn ahead(&self, place: usize) -> Option<Source<Stdin, R::File>> {
         let file = *self.files.get(place)?;
         if !is_regular(self.rt, file) {
             return None;
         }
-        File::open(self.rt, file).ok()
+        File::open(self.rt, file).ok().map(Source::File)
     }
 
-    fn open(&self, place: usize) -> Option<R::File> {
+    fn open(&self, place: usize) -> Option<Source<Stdin, R::File>> {
         let file = *self.files.get(place)?;
-        File::open(self.rt, file).ok()
+        File::open(self.rt, file).ok().map(Source::File)
     }
 }
 
 // Whether the name is that of a regular file.
 fn is_regular<R: Files>(rt: &R, file: &str) -> bool {
     match fs::metadata(rt, file) {
-        Ok(told) => told.is_file(),
+        Ok(found) => found.is_file(),
         Err(_) => false,
     }
 }
@@ -133,7 +134,7 @@ fn is_regular<R: Files>(rt: &R, file: &str) -> bool {
 // How many bytes the file has; 0 if that isn't known.
 fn size_of<R: Files>(rt: &R, file: &str) -> u64 {
     match fs::metadata(rt, file) {
-        Ok(told) => told.len(),
+        Ok(found) => found.len(),
         Err(_) => 0,
     }
 }

@@ -3,8 +3,8 @@
 use std::io;
 use std::io::Read;
 
-// The program's input, or a file. They are one type so that the program has one kind of reader of records: it is built
-// in place, and not copied for each file.
+// The program's input, or a file. They are one type so that the program has one kind of reader of records, whether files are read in
+// turn or ahead: a reader of records is 16 KB, and with two kinds each would be made elsewhere and then copied into place for each file.
 #[derive(Drop)]
 pub(crate) enum Source<I, F> {
     Input(I),
