@@ -15,3 +15,4 @@ pub mod FindingLemmas
 pub mod KeyTextLemmas
 pub mod WriteFaultLemmas
 pub mod JoinedLemmas
+pub mod ChoosingLemmas

@@ -1,3 +1,4 @@
+pub mod Choosing
 pub mod Finding
 pub mod Joined
 pub mod Telling

@@ -1,44 +1,30 @@
 //! The blocks of an explanation, one for each finding.
 
-ghost use Rattle.std.specs.Prelude.{◌≡◌, ◌++◌, ◌∷◌, [], ◌<◌, ◌≤◌, ◌⊎◌, ◌↔◌, ℕ, List, All, Contains, IfOk, IfErr, OnOk, Some, flat_map, length, map, slice_get, string_bytes, codes};
-ghost use Rattle.std.specs.Io.KnownBytes.{Appends};
-ghost use Rattle.ld_trace.specs.Events.{KeysBelow};
-ghost use Rattle.ld_task.specs.WellFormed.{IsWellFormed};
-ghost use Rattle.ld_facts.specs.Arrows.{Arrow, arrow};
-ghost use Rattle.ld_facts.specs.FactBits.{FactBelow, HasFact};
-ghost use Rattle.ld_facts.specs.Facts.{AreSame, DependenciesOf};
-ghost use Rattle.ld_graph.specs.Links.{IsDouble, IsInversion};
-ghost use Rattle.ld_graph.specs.Walks.{OnCircle};
-ghost use Rattle.ld_facts.specs.declared.fact.Fact.{Fact};
-ghost use Rattle.ld_facts.specs.TraceFacts.{TracesHave};
-ghost use Rattle.ld_trace.specs.declared.raw_trace.TheConstants.{MAX_TRACES};
-ghost use Rattle.ld_text.specs.Explanation.{IsCircleBlock, IsDependencyLine, IsDoubleBlock, IsExplanation, IsInversionBlock, IsOriginLine, circle_head, comes_line, does_text, event_of, holds_line, lock_of, occurrence_text, waits_text, while_text};
-ghost use Rattle.ld_text.specs.WriteFaults.{StopsWriting};
-ghost use Rattle.ld_text.specs.Groups.{GrowsBy, InTurn};
-ghost use Rattle.ld_text.specs.Inside.Telling.{TellsAll, TellsCircles};
-ghost use Rattle.ld_text.specs.Order.{IsKeyOrder};
-ghost use Rattle.ld_text.specs.Report.{double_line, inversion_line, member_text};
-ghost use Rattle.ld_text.specs.Words.{irq_text, key_text, name_at};
-ghost use Rattle.ld_task.specs.declared.mark.Mark.{Mark};
+ghost use Rattle.std.specs.Prelude.{◌≡◌, ◌++◌, ◌∷◌, [], ◌<◌, All, OnOk, codes, length, string_bytes};
+ghost use Rattle.ld_trace.specs.declared.event.Irq.{Irq};
+ghost use Rattle.ld_facts.specs.FactBits.{HasFact};
+ghost use Rattle.ld_facts.specs.Facts.{DependenciesOf};
+ghost use Rattle.ld_graph.specs.Links.{IsDouble};
+ghost use Rattle.ld_text.specs.Explanation.{IsCircleBlock, IsDoubleBlock, IsInversionBlock, circle_head};
+ghost use Rattle.ld_text.specs.Groups.{GrowsBy, InSequence, InTurn};
+ghost use Rattle.ld_text.specs.Inside.Choosing.{AreToldBy, AsksMarks, IsToldCircle, IsToldDouble, IsToldInversion, keys_of};
+ghost use Rattle.ld_text.specs.Report.{double_line, inversion_line};
 
-use crate::found::{Dependency, Found};
-use crate::order::sorted_keys;
-use crate::output::write_text;
-use crate::report::add_total;
-use crate::teller::{Teller, member};
-use crate::words::{file_of, irq_word, kind_word, mode_word, name_of};
-use crate::write_fault::WriteFault;
-use ld_explain::{Guards, Origin, Origins};
-use ld_facts::Facts;
-use ld_graph::{Kind, Mark, Walk};
-use ld_run::Settled;
-use ld_trace::{Event, Irq, KeyId, KeyTable, RawTrace};
-use std::alloc::{AllocError, Global};
-use std::io::Write;
+use crate::chosen::{Chosen, ToldInversion};
+use crate::found::Found;
+use crate::teller::Teller;
+use crate::told_walk::{ToldWalk, member};
+use crate::words::{irq_word, name_of};
+use ld_trace::{Irq, KeyId};
+use std::alloc::AllocError;
 
 impl Teller<'_> {
     // The first line of a circle's block.
-    pub(crate) fn add_circle_head(&self, text: &mut String, walk: &Walk) -> Result<(), AllocError>
+    pub(crate) fn add_circle_head(
+        &self,
+        text: &mut String,
+        walk: &ToldWalk,
+    ) -> Result<(), AllocError>
         requires { 0 < length walk.now }
         ensures { OnOk result (string_bytes text.new
             ≡ string_bytes text.old ++ circle_head self.now.told.names walk.now) }
@@ -50,9 +36,9 @@ impl Teller<'_> {
     }
 
     // The block of a circle.
-    pub(crate) fn add_circle(&self, text: &mut String, walk: &Walk) -> Result<(), AllocError>
+    pub(crate) fn add_circle(&self, text: &mut String, walk: &ToldWalk) -> Result<(), AllocError>
         requires some { 0 < length walk.now }
-        requires are { All (DependenciesOf (HasFact self.now.facts)) walk.now }
+        requires are { All (DependenciesOf (HasFact self.now.asked)) walk.now }
         ensures { OnOk result (GrowsBy (IsCircleBlock self.now.told self.now.keys walk.now)
             (string_bytes text.old) (string_bytes text.new)) }
     {
@@ -63,44 +49,20 @@ impl Teller<'_> {
         self.add_notes(text, &notes)
     }
 
-    // The block of a shortest circle through a dependency on one, unless it is a member of one that was told. Returns how many blocks.
-    pub(crate) fn tell_circle(
+    // The blocks of circles.
+    pub(crate) fn add_circles(
         &self,
         text: &mut String,
-        told: &mut Facts,
-        d: &Dependency,
-    ) -> Result<usize, AllocError>
-        requires bound { told.old.keys ≡ self.now.facts.keys }
-        requires on { OnCircle (HasFact self.now.facts) d.now }
-        ensures tells { IfOk result (TellsCircles self.now.facts (IsCircleBlock self.now.told self.now.keys) (d.now ∷ [])
-            (string_bytes text.old) (string_bytes text.new) told.old told.new) }
-        ensures few { IfOk result (λ count. count ≤ 1) }
+        circles: &[ToldWalk],
+    ) -> Result<(), AllocError>
+        requires { All (IsToldCircle self.now.asked) circles.now }
+        ensures { OnOk result (GrowsBy (InTurn (IsCircleBlock self.now.told self.now.keys) circles.now)
+            (string_bytes text.old) (string_bytes text.new)) }
     {
-        let Some(walk) = self.circle(told, d) else {
-            return Ok(0);
-        };
-        self.add_circle(text, &walk)?;
-        Ok(1)
-    }
-
-    // The blocks of circles. Returns how many there are.
-    pub(crate) fn tell_circles(
-        &self,
-        text: &mut String,
-        told: &mut Facts,
-        circles: &[Dependency],
-    ) -> Result<usize, AllocError>
-        requires bound { told.old.keys ≡ self.now.facts.keys }
-        requires on { All (OnCircle (HasFact self.now.facts)) circles.now }
-        ensures tells { IfOk result (TellsCircles self.now.facts (IsCircleBlock self.now.told self.now.keys) circles.now
-            (string_bytes text.old) (string_bytes text.new) told.old told.new) }
-        ensures few { IfOk result (λ count. count ≤ length circles.now) }
-    {
-        let mut count = 0;
-        for d in circles {
-            count += self.tell_circle(text, told, d)?;
+        for circle in circles {
+            self.add_circle(text, circle)?;
         }
-        Ok(count)
+        Ok(())
     }
 
     // The first line of a double's block.
@@ -125,7 +87,8 @@ impl Teller<'_> {
         irq: Irq,
         key: KeyId,
     ) -> Result<(), AllocError>
-        requires { IsDouble (HasFact self.now.facts) irq key }
+        requires double { IsDouble (HasFact self.now.facts) irq key }
+        requires asked { AsksMarks self.now.facts self.now.asked irq key }
         ensures { OnOk result (GrowsBy (IsDoubleBlock (HasFact self.now.facts) self.now.told (irq, key))
             (string_bytes text.old) (string_bytes text.new)) }
     {
@@ -145,7 +108,7 @@ impl Teller<'_> {
         text: &mut String,
         doubles: &[(Irq, KeyId)],
     ) -> Result<(), AllocError>
-        requires { All (λ x. IsDouble (HasFact self.now.facts) x.0 x.1) doubles.now }
+        requires { All (IsToldDouble self.now.facts self.now.asked) doubles.now }
         ensures { OnOk result (GrowsBy (InTurn (IsDoubleBlock (HasFact self.now.facts) self.now.told) doubles.now)
             (string_bytes text.old) (string_bytes text.new)) }
     {
@@ -191,25 +154,21 @@ impl Teller<'_> {
     pub(crate) fn add_inversion(
         &self,
         text: &mut String,
-        irq: Irq,
-        a: KeyId,
-        b: KeyId,
+        inversion: &ToldInversion,
     ) -> Result<(), AllocError>
-        requires { IsInversion (HasFact self.now.facts) irq a b }
-        ensures { OnOk result (GrowsBy (IsInversionBlock (HasFact self.now.facts) self.now.told self.now.keys (irq, (a, b)))
+        requires { IsToldInversion self.now.facts self.now.asked inversion.now }
+        ensures { OnOk result (GrowsBy (IsInversionBlock (HasFact self.now.facts) self.now.told self.now.keys (keys_of inversion.now))
             (string_bytes text.old) (string_bytes text.new)) }
     {
-        let Some(found) = self.settled.inversion_walk(irq, a.get(), b.get()) else {
-            unreachable!();
-        };
+        let (irq, a, b) = (inversion.irq, inversion.a, inversion.b);
         self.add_inversion_head(text, irq, a, b)?;
-        self.add_dependencies(text, &found.walk)?;
-        self.add_used(text, irq, a, found.used_read)?;
-        self.add_enabled(text, irq, b, found.enabled_read)?;
+        self.add_dependencies(text, &inversion.walk)?;
+        self.add_used(text, irq, a, inversion.used_read)?;
+        self.add_enabled(text, irq, b, inversion.enabled_read)?;
         self.add_holder(text, b)?;
-        self.add_waits(text, 2, &found.walk)?;
+        self.add_waits(text, 2, &inversion.walk)?;
         self.add_interrupt(text, irq, a)?;
-        let notes = self.inversion_notes(&found.walk)?;
+        let notes = self.inversion_notes(&inversion.walk)?;
         self.add_notes(text, &notes)
     }
 
@@ -217,37 +176,33 @@ impl Teller<'_> {
     pub(crate) fn add_inversions(
         &self,
         text: &mut String,
-        inversions: &[(Irq, (KeyId, KeyId))],
+        inversions: &[ToldInversion],
     ) -> Result<(), AllocError>
-        requires { All (λ x. IsInversion (HasFact self.now.facts) x.0 x.1.0 x.1.1) inversions.now }
-        ensures { OnOk result (GrowsBy (InTurn (IsInversionBlock (HasFact self.now.facts) self.now.told self.now.keys) inversions.now)
+        requires { All (IsToldInversion self.now.facts self.now.asked) inversions.now }
+        ensures { OnOk result (GrowsBy (InTurn (λ x. IsInversionBlock (HasFact self.now.facts) self.now.told self.now.keys (keys_of x)) inversions.now)
             (string_bytes text.old) (string_bytes text.new)) }
     {
         for inversion in inversions {
-            let (a, b) = inversion.1;
-            self.add_inversion(text, inversion.0, a, b)?;
+            self.add_inversion(text, inversion)?;
         }
         Ok(())
     }
 
-    // The blocks of all findings. Returns how many there are of circles.
+    // The blocks of all findings.
     pub(crate) fn tell(
         &self,
         text: &mut String,
-        told: &mut Facts,
         found: &Found,
-    ) -> Result<usize, AllocError>
-        requires bound { told.old.keys ≡ self.now.facts.keys }
-        requires none { (x : Fact) → ¬ HasFact told.old x }
-        requires circles { All (OnCircle (HasFact self.now.facts)) found.now.circles }
-        requires doubles { All (λ x. IsDouble (HasFact self.now.facts) x.0 x.1) found.now.doubles }
-        requires inversions { All (λ x. IsInversion (HasFact self.now.facts) x.0 x.1.0 x.1.1) found.now.inversions }
-        ensures { IfOk result (TellsAll self.now.facts (IsCircleBlock self.now.told self.now.keys) (IsDoubleBlock (HasFact self.now.facts) self.now.told)
-            (IsInversionBlock (HasFact self.now.facts) self.now.told self.now.keys) found.now (string_bytes text.old) (string_bytes text.new)) }
+        chosen: &Chosen,
+    ) -> Result<(), AllocError>
+        requires { AreToldBy self.now.facts self.now.asked found.now.doubles chosen.now }
+        ensures { OnOk result (GrowsBy (InSequence (InTurn (IsCircleBlock self.now.told self.now.keys) chosen.now.circles
+            ∷ InTurn (IsDoubleBlock (HasFact self.now.facts) self.now.told) found.now.doubles
+            ∷ InTurn (λ x. IsInversionBlock (HasFact self.now.facts) self.now.told self.now.keys (keys_of x)) chosen.now.inversions
+            ∷ [])) (string_bytes text.old) (string_bytes text.new)) }
     {
-        let circles = self.tell_circles(text, told, found.circles())?;
+        self.add_circles(text, chosen.circles())?;
         self.add_doubles(text, found.doubles())?;
-        self.add_inversions(text, found.inversions())?;
-        Ok(circles)
+        self.add_inversions(text, chosen.inversions())
     }
 }

@@ -1,40 +1,37 @@
 //! The text of what was found, and of the records that it comes from.
 
-ghost use Rattle.std.specs.Prelude.{◌≡◌, ◌++◌, ◌∷◌, [], ◌<◌, ◌≤◌, ◌⊎◌, ◌↔◌, ℕ, List, All, Contains, IfOk, IfErr, OnOk, Some, flat_map, length, map, slice_get, string_bytes, codes};
+ghost use Rattle.std.specs.Prelude.{◌≡◌, ◌+◌, ◌≤◌, ℕ, List, All, IfOk, IfErr, OnOk, length, map, string_bytes};
 ghost use Rattle.std.specs.Io.KnownBytes.{Appends};
 ghost use Rattle.ld_trace.specs.Events.{KeysBelow};
 ghost use Rattle.ld_task.specs.WellFormed.{IsWellFormed};
-ghost use Rattle.ld_facts.specs.Arrows.{Arrow, arrow};
-ghost use Rattle.ld_facts.specs.FactBits.{FactBelow, HasFact};
-ghost use Rattle.ld_facts.specs.Facts.{AreSame, DependenciesOf};
-ghost use Rattle.ld_graph.specs.Links.{IsDouble, IsInversion};
-ghost use Rattle.ld_graph.specs.Walks.{OnCircle};
-ghost use Rattle.ld_facts.specs.declared.fact.Fact.{Fact};
+ghost use Rattle.ld_facts.specs.FactBits.{HasFact};
+ghost use Rattle.ld_facts.specs.Facts.{AreSame};
 ghost use Rattle.ld_facts.specs.TraceFacts.{TracesHave};
 ghost use Rattle.ld_trace.specs.declared.raw_trace.TheConstants.{MAX_TRACES};
-ghost use Rattle.ld_text.specs.Explanation.{IsCircleBlock, IsDependencyLine, IsDoubleBlock, IsExplanation, IsInversionBlock, IsOriginLine, circle_head, comes_line, does_text, event_of, holds_line, lock_of, occurrence_text, waits_text, while_text};
+ghost use Rattle.ld_text.specs.Explanation.{IsExplanation};
 ghost use Rattle.ld_text.specs.WriteFaults.{StopsWriting};
-ghost use Rattle.ld_text.specs.Groups.{GrowsBy, InTurn};
-ghost use Rattle.ld_text.specs.Inside.Telling.{TellsAll, TellsCircles};
 ghost use Rattle.ld_text.specs.Order.{IsKeyOrder};
-ghost use Rattle.ld_text.specs.Report.{double_line, inversion_line, member_text};
-ghost use Rattle.ld_text.specs.Words.{irq_text, key_text, name_at};
-ghost use Rattle.ld_task.specs.declared.mark.Mark.{Mark};
 
-use crate::found::{Dependency, Found};
+use crate::chosen::Chosen;
+use crate::found::Found;
 use crate::order::sorted_keys;
 use crate::output::write_text;
 use crate::report::add_total;
-use crate::teller::{Teller, member};
-use crate::words::{file_of, irq_word, kind_word, mode_word, name_of};
+use crate::teller::Teller;
 use crate::write_fault::WriteFault;
-use ld_explain::{Guards, Origin, Origins};
-use ld_facts::Facts;
-use ld_graph::{Kind, Mark, Walk};
+use ld_explain::{Asked, Evidence};
 use ld_run::Settled;
-use ld_trace::{Event, Irq, KeyId, KeyTable, RawTrace};
+use ld_trace::{KeyId, KeyTable, RawTrace};
 use std::alloc::{AllocError, Global};
 use std::io::Write;
+
+// How many findings there are: a circle counts once, however many of its dependencies are on circles.
+fn count_of(found: &Found, chosen: &Chosen) -> u128
+    ensures { result ≡ length chosen.now.circles + length found.now.doubles + length found.now.inversions }
+{
+    let (circles, doubles) = (chosen.circles().len(), found.doubles().len());
+    circles as u128 + doubles as u128 + found.inversions().len() as u128
+}
 
 // The text if something was found.
 fn text_of_findings(
@@ -55,25 +52,22 @@ fn text_of_findings(
         (string_bytes text)) }
 {
     let found = Found::of(alloc, settled, keys)?;
-    let origins = Origins::of(alloc, traces, names.len() as u16)?;
-    let guards = Guards::of(alloc, traces, settled.facts())?;
-    let mut told = Facts::new(alloc, settled.facts().keys())?;
+    let mut asked = Asked::new(alloc, settled.facts().keys())?;
+    let chosen = Chosen::of(alloc, settled, &mut asked, &found)?;
+    let evidence = Evidence::of(alloc, traces, &asked)?;
     let teller = Teller {
         settled,
-        origins: &origins,
-        guards: &guards,
+        asked: &asked,
+        evidence: &evidence,
         traces,
         names,
         keys,
         files,
         alloc,
     };
-    let mut blocks = String::new(alloc);
-    let circles = teller.tell(&mut blocks, &mut told, &found)?;
-    let count = circles as u128 + found.doubles().len() as u128 + found.inversions().len() as u128;
     let mut text = String::new(alloc);
-    add_total(&mut text, "findings", count)?;
-    text.push_str(blocks.as_str())?;
+    add_total(&mut text, "findings", count_of(&found, &chosen))?;
+    teller.tell(&mut text, &found, &chosen)?;
     Ok(text)
 }
 

@@ -1,44 +1,20 @@
 //! The lines of the findings as JSON.
 
-ghost use Rattle.std.specs.Prelude.{◌≡◌, ◌++◌, ◌∷◌, [], ◌<◌, ◌≤◌, ℕ, List, All, IfOk, IfErr, OnOk, drop, flat_map, length, map, string_bytes, codes};
-ghost use Rattle.std.specs.Io.KnownBytes.{Appends};
-ghost use Rattle.json.specs.Token.{Token, string};
-ghost use Rattle.ld_trace.specs.Events.{KeysBelow};
-ghost use Rattle.ld_task.specs.WellFormed.{IsWellFormed};
-ghost use Rattle.ld_facts.specs.Arrows.{arrow};
-ghost use Rattle.ld_facts.specs.FactBits.{FactBelow, HasFact};
-ghost use Rattle.ld_facts.specs.Facts.{AreSame, DependenciesOf};
-ghost use Rattle.ld_graph.specs.Links.{IsDouble, IsInversion};
-ghost use Rattle.ld_graph.specs.Walks.{OnCircle};
-ghost use Rattle.ld_facts.specs.declared.fact.Fact.{Fact};
-ghost use Rattle.ld_facts.specs.TraceFacts.{TracesHave};
-ghost use Rattle.ld_trace.specs.declared.raw_trace.TheConstants.{MAX_TRACES};
-ghost use Rattle.ld_text.specs.Explanation.{event_of};
-ghost use Rattle.ld_text.specs.Json.{IsCircleObject, IsDoubleObject, IsInversionObject, IsJson, IsLineOf, IsOrder, circle_words, double_words, event_members, held_members, inversion_object, inversion_words, list_member, notes_member, number_member, object_member, occurrence_members, taken_mode, text_member, use_members};
-ghost use Rattle.ld_text.specs.WriteFaults.{StopsWriting};
-ghost use Rattle.ld_text.specs.Groups.{GrowsBy, InTurn};
-ghost use Rattle.ld_text.specs.Inside.Telling.{TellsAll, TellsCircles};
-ghost use Rattle.ld_text.specs.Inside.Tokens.{Adds, Takes};
-ghost use Rattle.ld_text.specs.Order.{IsKeyOrder};
-ghost use Rattle.ld_text.specs.Words.{key_text, name_at};
+ghost use Rattle.std.specs.Prelude.{◌≡◌, ◌++◌, ◌∷◌, [], ◌<◌, All, IfOk, OnOk, length, codes};
+ghost use Rattle.ld_facts.specs.FactBits.{HasFact};
+ghost use Rattle.ld_facts.specs.Facts.{DependenciesOf};
+ghost use Rattle.ld_graph.specs.Links.{IsDouble};
+ghost use Rattle.ld_text.specs.Json.{IsCircleObject, IsDoubleObject, IsInversionObject, IsLineOf};
+ghost use Rattle.ld_text.specs.Groups.{GrowsBy, InSequence, InTurn};
+ghost use Rattle.ld_text.specs.Inside.Choosing.{AreToldBy, AsksMarks, IsToldCircle, IsToldDouble, IsToldInversion, keys_of};
 
-use crate::found::{Dependency, Found};
+use crate::chosen::{Chosen, ToldInversion};
+use crate::found::Found;
 use crate::json_objects::Objects;
-use crate::key_texts::KeyTexts;
-use crate::order::sorted_keys;
-use crate::output::write_text;
-use crate::teller::{Teller, member};
-use crate::words::{file_of, irq_word, kind_word, mode_word};
-use crate::write_fault::WriteFault;
+use crate::told_walk::ToldWalk;
 use json::Writer;
-use ld_explain::{Guards, Origin, Origins};
-use ld_facts::Facts;
-use ld_graph::{Kind, Mark, Walk};
-use ld_run::Settled;
-use ld_trace::{Event, Irq, KeyId, KeyTable, RawTrace};
-use std::alloc::{AllocError, Global};
-use std::io::Write;
-use std::marker::Model;
+use ld_trace::{Irq, KeyId};
+use std::alloc::AllocError;
 use std::mem::replace;
 
 // What stands between two findings.
@@ -49,10 +25,10 @@ impl Objects<'_> {
     pub(crate) fn add_circle_object(
         &self,
         text: &mut Vec<u8>,
-        walk: &Walk,
+        walk: &ToldWalk,
     ) -> Result<(), AllocError>
         requires some { 0 < length walk.now }
-        requires are { All (DependenciesOf (HasFact self.now.facts)) walk.now }
+        requires are { All (DependenciesOf (HasFact self.now.asked)) walk.now }
         ensures { OnOk result (GrowsBy (IsLineOf (IsCircleObject self.now.told self.now.keys walk.now)) text.old.items text.new.items) }
     {
         let mut w = self.begin_line(text)?;
@@ -68,7 +44,8 @@ impl Objects<'_> {
         irq: Irq,
         key: KeyId,
     ) -> Result<(), AllocError>
-        requires { IsDouble (HasFact self.now.facts) irq key }
+        requires double { IsDouble (HasFact self.now.facts) irq key }
+        requires asked { AsksMarks self.now.facts self.now.asked irq key }
         ensures { OnOk result (GrowsBy (IsLineOf (IsDoubleObject (HasFact self.now.facts) self.now.told (irq, key)))
             text.old.items text.new.items) }
     {
@@ -82,16 +59,14 @@ impl Objects<'_> {
     pub(crate) fn add_inversion_object(
         &self,
         text: &mut Vec<u8>,
-        irq: Irq,
-        a: KeyId,
-        b: KeyId,
+        inversion: &ToldInversion,
     ) -> Result<(), AllocError>
-        requires { IsInversion (HasFact self.now.facts) irq a b }
-        ensures { OnOk result (GrowsBy (IsLineOf (IsInversionObject (HasFact self.now.facts) self.now.told self.now.keys (irq, (a, b))))
+        requires { IsToldInversion self.now.facts self.now.asked inversion.now }
+        ensures { OnOk result (GrowsBy (IsLineOf (IsInversionObject (HasFact self.now.facts) self.now.told self.now.keys (keys_of inversion.now)))
             text.old.items text.new.items) }
     {
         let mut w = self.begin_line(text)?;
-        self.add_inversion(&mut w, irq, a, b)?;
+        self.add_inversion(&mut w, inversion)?;
         *text = w.into_inner();
         Ok(())
     }
@@ -104,38 +79,18 @@ impl Objects<'_> {
         Ok(Writer::new(replace(text, Vec::new(self.alloc))))
     }
 
-    // The line of a circle that begins with a dependency on one, unless that is a member of one that was told.
-    pub(crate) fn tell_circle(
-        &self,
-        text: &mut Vec<u8>,
-        told: &mut Facts,
-        d: &Dependency,
-    ) -> Result<(), AllocError>
-        requires bound { told.old.keys ≡ self.now.facts.keys }
-        requires on { OnCircle (HasFact self.now.facts) d.now }
-        ensures { OnOk result ((count : ℕ) × TellsCircles self.now.facts (λ walk. IsLineOf (IsCircleObject self.now.told self.now.keys walk)) (d.now ∷ [])
-            text.old.items text.new.items told.old told.new count) }
-    {
-        match self.teller.circle(told, d) {
-            Some(walk) => self.add_circle_object(text, &walk),
-            None => Ok(()),
-        }
-    }
-
     // The lines of circles.
     pub(crate) fn tell_circles(
         &self,
         text: &mut Vec<u8>,
-        told: &mut Facts,
-        circles: &[Dependency],
+        circles: &[ToldWalk],
     ) -> Result<(), AllocError>
-        requires bound { told.old.keys ≡ self.now.facts.keys }
-        requires on { All (OnCircle (HasFact self.now.facts)) circles.now }
-        ensures { OnOk result ((count : ℕ) × TellsCircles self.now.facts (λ walk. IsLineOf (IsCircleObject self.now.told self.now.keys walk)) circles.now
-            text.old.items text.new.items told.old told.new count) }
+        requires { All (IsToldCircle self.now.asked) circles.now }
+        ensures { OnOk result (GrowsBy (InTurn (λ walk. IsLineOf (IsCircleObject self.now.told self.now.keys walk)) circles.now)
+            text.old.items text.new.items) }
     {
-        for d in circles {
-            self.tell_circle(text, told, d)?;
+        for circle in circles {
+            self.add_circle_object(text, circle)?;
         }
         Ok(())
     }
@@ -146,7 +101,7 @@ impl Objects<'_> {
         text: &mut Vec<u8>,
         doubles: &[(Irq, KeyId)],
     ) -> Result<(), AllocError>
-        requires { All (λ x. IsDouble (HasFact self.now.facts) x.0 x.1) doubles.now }
+        requires { All (IsToldDouble self.now.facts self.now.asked) doubles.now }
         ensures { OnOk result (GrowsBy (InTurn (λ x. IsLineOf (IsDoubleObject (HasFact self.now.facts) self.now.told x)) doubles.now)
             text.old.items text.new.items) }
     {
@@ -160,15 +115,14 @@ impl Objects<'_> {
     pub(crate) fn tell_inversions(
         &self,
         text: &mut Vec<u8>,
-        inversions: &[(Irq, (KeyId, KeyId))],
+        inversions: &[ToldInversion],
     ) -> Result<(), AllocError>
-        requires { All (λ x. IsInversion (HasFact self.now.facts) x.0 x.1.0 x.1.1) inversions.now }
-        ensures { OnOk result (GrowsBy (InTurn (λ x. IsLineOf (IsInversionObject (HasFact self.now.facts) self.now.told self.now.keys x)) inversions.now)
+        requires { All (IsToldInversion self.now.facts self.now.asked) inversions.now }
+        ensures { OnOk result (GrowsBy (InTurn (λ x. IsLineOf (IsInversionObject (HasFact self.now.facts) self.now.told self.now.keys (keys_of x))) inversions.now)
             text.old.items text.new.items) }
     {
         for inversion in inversions {
-            let (a, b) = inversion.1;
-            self.add_inversion_object(text, inversion.0, a, b)?;
+            self.add_inversion_object(text, inversion)?;
         }
         Ok(())
     }
@@ -177,20 +131,17 @@ impl Objects<'_> {
     pub(crate) fn tell(
         &self,
         text: &mut Vec<u8>,
-        told: &mut Facts,
         found: &Found,
+        chosen: &Chosen,
     ) -> Result<(), AllocError>
-        requires bound { told.old.keys ≡ self.now.facts.keys }
-        requires none { (x : Fact) → ¬ HasFact told.old x }
-        requires circles { All (OnCircle (HasFact self.now.facts)) found.now.circles }
-        requires doubles { All (λ x. IsDouble (HasFact self.now.facts) x.0 x.1) found.now.doubles }
-        requires inversions { All (λ x. IsInversion (HasFact self.now.facts) x.0 x.1.0 x.1.1) found.now.inversions }
-        ensures { OnOk result ((count : ℕ) × TellsAll self.now.facts (λ x. IsLineOf (IsCircleObject self.now.told self.now.keys x))
-            (λ x. IsLineOf (IsDoubleObject (HasFact self.now.facts) self.now.told x))
-            (λ x. IsLineOf (IsInversionObject (HasFact self.now.facts) self.now.told self.now.keys x)) found.now text.old.items text.new.items count) }
+        requires { AreToldBy self.now.facts self.now.asked found.now.doubles chosen.now }
+        ensures { OnOk result (GrowsBy (InSequence (InTurn (λ walk. IsLineOf (IsCircleObject self.now.told self.now.keys walk)) chosen.now.circles
+            ∷ InTurn (λ x. IsLineOf (IsDoubleObject (HasFact self.now.facts) self.now.told x)) found.now.doubles
+            ∷ InTurn (λ x. IsLineOf (IsInversionObject (HasFact self.now.facts) self.now.told self.now.keys (keys_of x))) chosen.now.inversions
+            ∷ [])) text.old.items text.new.items) }
     {
-        self.tell_circles(text, told, found.circles())?;
+        self.tell_circles(text, chosen.circles())?;
         self.tell_doubles(text, found.doubles())?;
-        self.tell_inversions(text, found.inversions())
+        self.tell_inversions(text, chosen.inversions())
     }
 }

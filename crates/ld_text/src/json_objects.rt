@@ -1,45 +1,31 @@
 //! The findings as JSON objects.
 
-ghost use Rattle.std.specs.Prelude.{◌≡◌, ◌++◌, ◌∷◌, [], ◌<◌, ◌≤◌, ℕ, List, All, IfOk, IfErr, OnOk, drop, flat_map, length, map, string_bytes, codes};
-ghost use Rattle.std.specs.Io.KnownBytes.{Appends};
+ghost use Rattle.std.specs.Prelude.{◌≡◌, ◌∷◌, [], ◌<◌, ℕ, List, All, OnOk, length, map, string_bytes, codes};
 ghost use Rattle.json.specs.Token.{Token, string};
-ghost use Rattle.ld_trace.specs.Events.{KeysBelow};
-ghost use Rattle.ld_task.specs.WellFormed.{IsWellFormed};
 ghost use Rattle.ld_facts.specs.Arrows.{arrow};
-ghost use Rattle.ld_facts.specs.FactBits.{FactBelow, HasFact};
-ghost use Rattle.ld_facts.specs.Facts.{AreSame, DependenciesOf};
-ghost use Rattle.ld_graph.specs.Links.{IsDouble, IsInversion};
-ghost use Rattle.ld_graph.specs.Walks.{OnCircle};
+ghost use Rattle.ld_facts.specs.FactBits.{HasFact};
+ghost use Rattle.ld_facts.specs.Facts.{DependenciesOf};
+ghost use Rattle.ld_graph.specs.Links.{IsDouble};
 ghost use Rattle.ld_facts.specs.declared.fact.Fact.{Fact};
-ghost use Rattle.ld_facts.specs.TraceFacts.{TracesHave};
-ghost use Rattle.ld_trace.specs.declared.raw_trace.TheConstants.{MAX_TRACES};
 ghost use Rattle.ld_text.specs.Explanation.{event_of};
-ghost use Rattle.ld_text.specs.Json.{IsCircleObject, IsDoubleObject, IsInversionObject, IsJson, IsLineOf, IsOrder, circle_words, double_words, event_members, held_members, inversion_object, inversion_words, list_member, notes_member, number_member, object_member, occurrence_members, taken_mode, text_member, use_members};
-ghost use Rattle.ld_text.specs.WriteFaults.{StopsWriting};
-ghost use Rattle.ld_text.specs.Groups.{GrowsBy, InTurn};
-ghost use Rattle.ld_text.specs.Inside.Telling.{TellsAll, TellsCircles};
+ghost use Rattle.ld_text.specs.Json.{IsCircleObject, IsDoubleObject, IsInversionObject, IsOrder, circle_words, double_words, event_members, held_members, inversion_object, inversion_words, list_member, object_member, occurrence_members, taken_mode, use_members};
+ghost use Rattle.ld_text.specs.Groups.{InTurn};
+ghost use Rattle.ld_text.specs.Inside.Choosing.{AsksMarks, IsToldInversion, keys_of};
 ghost use Rattle.ld_text.specs.Inside.Tokens.{Adds, Takes};
-ghost use Rattle.ld_text.specs.Order.{IsKeyOrder};
 ghost use Rattle.ld_text.specs.Words.{key_text, name_at};
 
-use crate::found::{Dependency, Found};
+use crate::chosen::ToldInversion;
 use crate::json_members::{add_both, add_notes, add_number, add_only, add_text};
 use crate::key_texts::KeyTexts;
-use crate::order::sorted_keys;
-use crate::output::write_text;
-use crate::teller::{Teller, member};
+use crate::teller::Teller;
+use crate::told_walk::{ToldWalk, member};
 use crate::words::{file_of, irq_word, kind_word, mode_word};
-use crate::write_fault::WriteFault;
 use json::Writer;
-use ld_explain::{Guards, Origin, Origins};
-use ld_facts::Facts;
-use ld_graph::{Kind, Mark, Walk};
-use ld_run::Settled;
-use ld_trace::{Event, Irq, KeyId, KeyTable, RawTrace};
+use ld_explain::Origin;
+use ld_graph::{Kind, Mark};
+use ld_trace::{Event, Irq, KeyId};
 use std::alloc::{AllocError, Global};
-use std::io::Write;
 use std::marker::Model;
-use std::mem::replace;
 
 // What findings are told from, with the keys as lines name them.
 #[derive(Drop)]
@@ -126,7 +112,7 @@ impl Objects<'_> {
         to: KeyId,
         kind: Kind,
     ) -> Result<(), AllocError>
-        requires { HasFact self.now.facts (Fact.Dependency from to kind) }
+        requires { HasFact self.now.asked (Fact.Dependency from to kind) }
         ensures { OnOk result (Takes (IsOrder self.now.told (arrow from to kind)) w.old w.new) }
     {
         let origin = self.teller.dependency(from, to, kind);
@@ -139,8 +125,8 @@ impl Objects<'_> {
     }
 
     // Each dependency of a walk, and where it first occurs.
-    pub(crate) fn add_each_order(&self, w: &mut Writer, walk: &Walk) -> Result<(), AllocError>
-        requires { All (DependenciesOf (HasFact self.now.facts)) walk.now }
+    pub(crate) fn add_each_order(&self, w: &mut Writer, walk: &ToldWalk) -> Result<(), AllocError>
+        requires { All (DependenciesOf (HasFact self.now.asked)) walk.now }
         ensures { OnOk result (Takes (InTurn (IsOrder self.now.told) walk.now) w.old w.new) }
     {
         for i in 0..walk.len() {
@@ -151,8 +137,8 @@ impl Objects<'_> {
     }
 
     // The orders of a walk.
-    pub(crate) fn add_orders(&self, w: &mut Writer, walk: &Walk) -> Result<(), AllocError>
-        requires { All (DependenciesOf (HasFact self.now.facts)) walk.now }
+    pub(crate) fn add_orders(&self, w: &mut Writer, walk: &ToldWalk) -> Result<(), AllocError>
+        requires { All (DependenciesOf (HasFact self.now.asked)) walk.now }
         ensures { OnOk result (Takes (λ tokens. (orders : List Token) × InTurn (IsOrder self.now.told) walk.now orders
             × (tokens ≡ list_member (codes "orders") orders)) w.old w.new) }
     {
@@ -163,7 +149,7 @@ impl Objects<'_> {
     }
 
     // The keys that the members of a walk lead from.
-    pub(crate) fn add_each_key(&self, w: &mut Writer, walk: &Walk) -> Result<(), AllocError>
+    pub(crate) fn add_each_key(&self, w: &mut Writer, walk: &ToldWalk) -> Result<(), AllocError>
         ensures { OnOk result (Adds w.old w.new (map (λ d. string (key_text (name_at self.now.told.names d.start))) walk.now)) }
     {
         for i in 0..walk.len() {
@@ -174,7 +160,7 @@ impl Objects<'_> {
     }
 
     // The keys of a circle.
-    pub(crate) fn add_keys(&self, w: &mut Writer, walk: &Walk) -> Result<(), AllocError>
+    pub(crate) fn add_keys(&self, w: &mut Writer, walk: &ToldWalk) -> Result<(), AllocError>
         ensures { OnOk result (Adds w.old w.new (list_member (codes "keys")
             (map (λ d. string (key_text (name_at self.now.told.names d.start))) walk.now))) }
     {
@@ -202,7 +188,7 @@ impl Objects<'_> {
     }
 
     // The report's line of each member of a circle.
-    pub(crate) fn add_each_line(&self, w: &mut Writer, walk: &Walk) -> Result<(), AllocError>
+    pub(crate) fn add_each_line(&self, w: &mut Writer, walk: &ToldWalk) -> Result<(), AllocError>
         ensures { OnOk result (Adds w.old w.new (map (λ d. string (circle_words self.now.told.names d)) walk.now)) }
     {
         let mut line = String::new(self.alloc);
@@ -214,7 +200,7 @@ impl Objects<'_> {
     }
 
     // The report's lines of a circle.
-    pub(crate) fn add_lines(&self, w: &mut Writer, walk: &Walk) -> Result<(), AllocError>
+    pub(crate) fn add_lines(&self, w: &mut Writer, walk: &ToldWalk) -> Result<(), AllocError>
         ensures { OnOk result (Adds w.old w.new (list_member (codes "lines")
             (map (λ d. string (circle_words self.now.told.names d)) walk.now))) }
     {
@@ -225,9 +211,9 @@ impl Objects<'_> {
     }
 
     // A circle.
-    pub(crate) fn add_circle(&self, w: &mut Writer, walk: &Walk) -> Result<(), AllocError>
+    pub(crate) fn add_circle(&self, w: &mut Writer, walk: &ToldWalk) -> Result<(), AllocError>
         requires some { 0 < length walk.now }
-        requires are { All (DependenciesOf (HasFact self.now.facts)) walk.now }
+        requires are { All (DependenciesOf (HasFact self.now.asked)) walk.now }
         ensures { OnOk result (Takes (IsCircleObject self.now.told self.now.keys walk.now) w.old w.new) }
     {
         let notes = self.teller.circle_notes(walk)?;
@@ -286,7 +272,8 @@ impl Objects<'_> {
 
     // A double.
     pub(crate) fn add_double(&self, w: &mut Writer, irq: Irq, key: KeyId) -> Result<(), AllocError>
-        requires { IsDouble (HasFact self.now.facts) irq key }
+        requires double { IsDouble (HasFact self.now.facts) irq key }
+        requires asked { AsksMarks self.now.facts self.now.asked irq key }
         ensures { OnOk result (Takes (IsDoubleObject (HasFact self.now.facts) self.now.told (irq, key)) w.old w.new) }
     {
         let teller = self.teller;
@@ -340,12 +327,12 @@ impl Objects<'_> {
         irq: Irq,
         a: KeyId,
         b: KeyId,
-        walk: &Walk,
+        walk: &ToldWalk,
         used: Origin,
         enabled: Origin,
         notes: &[String],
     ) -> Result<(), AllocError>
-        requires { All (DependenciesOf (HasFact self.now.facts)) walk.now }
+        requires { All (DependenciesOf (HasFact self.now.asked)) walk.now }
         ensures { OnOk result (Takes (λ tokens. (orders : List Token) × InTurn (IsOrder self.now.told) walk.now orders
             × (tokens ≡ inversion_object self.now.told (irq, (a, b)) orders used enabled (map string_bytes notes.now))) w.old w.new) }
     {
@@ -364,32 +351,28 @@ impl Objects<'_> {
     pub(crate) fn add_inversion(
         &self,
         w: &mut Writer,
-        irq: Irq,
-        a: KeyId,
-        b: KeyId,
+        inversion: &ToldInversion,
     ) -> Result<(), AllocError>
-        requires { IsInversion (HasFact self.now.facts) irq a b }
-        ensures { OnOk result (Takes (IsInversionObject (HasFact self.now.facts) self.now.told self.now.keys (irq, (a, b))) w.old w.new) }
+        requires { IsToldInversion self.now.facts self.now.asked inversion.now }
+        ensures { OnOk result (Takes (IsInversionObject (HasFact self.now.facts) self.now.told self.now.keys (keys_of inversion.now)) w.old w.new) }
     {
         let teller = self.teller;
-        let Some(found) = teller.settled.inversion_walk(irq, a.get(), b.get()) else {
-            unreachable!();
-        };
+        let (irq, a, b) = (inversion.irq, inversion.a, inversion.b);
         let used = teller.mark(
             a,
             Mark::UsedIn {
                 irq,
-                read: found.used_read,
+                read: inversion.used_read,
             },
         );
         let enabled = teller.mark(
             b,
             Mark::Enabled {
                 irq,
-                read: found.enabled_read,
+                read: inversion.enabled_read,
             },
         );
-        let notes = teller.inversion_notes(&found.walk)?;
-        self.add_inversion_by(w, irq, a, b, &found.walk, used, enabled, &notes)
+        let notes = teller.inversion_notes(&inversion.walk)?;
+        self.add_inversion_by(w, irq, a, b, &inversion.walk, used, enabled, &notes)
     }
 }

@@ -1,45 +1,30 @@
 //! The findings as JSON, for programs to read: what the explanation says, an object for each finding.
 
-ghost use Rattle.std.specs.Prelude.{◌≡◌, ◌++◌, ◌∷◌, [], ◌<◌, ◌≤◌, ℕ, List, All, IfOk, IfErr, OnOk, drop, flat_map, length, map, string_bytes, codes};
+ghost use Rattle.std.specs.Prelude.{◌≡◌, ◌++◌, ◌≤◌, ℕ, List, All, IfOk, IfErr, OnOk, drop, length, map, codes};
 ghost use Rattle.std.specs.Io.KnownBytes.{Appends};
-ghost use Rattle.json.specs.Token.{Token, string};
 ghost use Rattle.ld_trace.specs.Events.{KeysBelow};
 ghost use Rattle.ld_task.specs.WellFormed.{IsWellFormed};
-ghost use Rattle.ld_facts.specs.Arrows.{arrow};
-ghost use Rattle.ld_facts.specs.FactBits.{FactBelow, HasFact};
-ghost use Rattle.ld_facts.specs.Facts.{AreSame, DependenciesOf};
-ghost use Rattle.ld_graph.specs.Links.{IsDouble, IsInversion};
-ghost use Rattle.ld_graph.specs.Walks.{OnCircle};
-ghost use Rattle.ld_facts.specs.declared.fact.Fact.{Fact};
+ghost use Rattle.ld_facts.specs.FactBits.{HasFact};
+ghost use Rattle.ld_facts.specs.Facts.{AreSame};
 ghost use Rattle.ld_facts.specs.TraceFacts.{TracesHave};
 ghost use Rattle.ld_trace.specs.declared.raw_trace.TheConstants.{MAX_TRACES};
-ghost use Rattle.ld_text.specs.Explanation.{event_of};
-ghost use Rattle.ld_text.specs.Json.{IsCircleObject, IsDoubleObject, IsInversionObject, IsJson, IsLineOf, IsOrder, circle_words, double_words, event_members, held_members, inversion_object, inversion_words, list_member, notes_member, number_member, object_member, occurrence_members, taken_mode, text_member, use_members};
+ghost use Rattle.ld_text.specs.Json.{IsJson};
 ghost use Rattle.ld_text.specs.WriteFaults.{StopsWriting};
-ghost use Rattle.ld_text.specs.Groups.{GrowsBy, InTurn};
-ghost use Rattle.ld_text.specs.Inside.Telling.{TellsAll, TellsCircles};
-ghost use Rattle.ld_text.specs.Inside.Tokens.{Adds, Takes};
 ghost use Rattle.ld_text.specs.Order.{IsKeyOrder};
-ghost use Rattle.ld_text.specs.Words.{key_text, name_at};
 
-use crate::found::{Dependency, Found};
+use crate::chosen::Chosen;
+use crate::found::Found;
 use crate::json_objects::Objects;
 use crate::key_texts::KeyTexts;
 use crate::order::sorted_keys;
 use crate::output::write_text;
-use crate::teller::{Teller, member};
-use crate::words::{file_of, irq_word, kind_word, mode_word};
+use crate::teller::Teller;
 use crate::write_fault::WriteFault;
-use json::Writer;
-use ld_explain::{Guards, Origin, Origins};
-use ld_facts::Facts;
-use ld_graph::{Kind, Mark, Walk};
+use ld_explain::{Asked, Evidence};
 use ld_run::Settled;
-use ld_trace::{Event, Irq, KeyId, KeyTable, RawTrace};
+use ld_trace::{KeyId, KeyTable, RawTrace};
 use std::alloc::{AllocError, Global};
 use std::io::Write;
-use std::marker::Model;
-use std::mem::replace;
 
 // What stands before the findings, and after them.
 const HEAD: &str = "{\"lockdep\":1,\"findings\":[";
@@ -84,14 +69,14 @@ fn text_of_findings(
         text.items) }
 {
     let found = Found::of(alloc, settled, keys)?;
-    let origins = Origins::of(alloc, traces, names.len() as u16)?;
-    let guards = Guards::of(alloc, traces, settled.facts())?;
-    let mut told = Facts::new(alloc, settled.facts().keys())?;
+    let mut asked = Asked::new(alloc, settled.facts().keys())?;
+    let chosen = Chosen::of(alloc, settled, &mut asked, &found)?;
+    let evidence = Evidence::of(alloc, traces, &asked)?;
     let key_texts = KeyTexts::of(alloc, names)?;
     let teller = Teller {
         settled,
-        origins: &origins,
-        guards: &guards,
+        asked: &asked,
+        evidence: &evidence,
         traces,
         names,
         keys,
@@ -104,7 +89,7 @@ fn text_of_findings(
         alloc,
     };
     let mut lines = Vec::new(alloc);
-    objects.tell(&mut lines, &mut told, &found)?;
+    objects.tell(&mut lines, &found, &chosen)?;
     text_with(alloc, lines.as_slice())
 }
 

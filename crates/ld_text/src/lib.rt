@@ -5,6 +5,7 @@
 mod because;
 mod blocks;
 mod chains_text;
+mod chosen;
 mod edges;
 mod explanation;
 mod found;
@@ -20,6 +21,7 @@ mod output;
 mod picture;
 mod report;
 mod teller;
+mod told_walk;
 mod words;
 mod write_fault;
 

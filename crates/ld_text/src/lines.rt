@@ -1,40 +1,23 @@
 //! The lines of an explanation: where facts come from, and who waits for whom.
 
-ghost use Rattle.std.specs.Prelude.{◌≡◌, ◌++◌, ◌∷◌, [], ◌<◌, ◌≤◌, ◌⊎◌, ◌↔◌, ℕ, List, All, Contains, IfOk, IfErr, OnOk, Some, flat_map, length, map, slice_get, string_bytes, codes};
-ghost use Rattle.std.specs.Io.KnownBytes.{Appends};
-ghost use Rattle.ld_trace.specs.Events.{KeysBelow};
-ghost use Rattle.ld_task.specs.WellFormed.{IsWellFormed};
-ghost use Rattle.ld_facts.specs.Arrows.{Arrow, arrow};
-ghost use Rattle.ld_facts.specs.FactBits.{FactBelow, HasFact};
-ghost use Rattle.ld_facts.specs.Facts.{AreSame, DependenciesOf};
-ghost use Rattle.ld_graph.specs.Links.{IsDouble, IsInversion};
-ghost use Rattle.ld_graph.specs.Walks.{OnCircle};
+ghost use Rattle.std.specs.Prelude.{◌≡◌, ◌++◌, ◌≤◌, ℕ, All, OnOk, codes, flat_map, string_bytes};
+ghost use Rattle.ld_facts.specs.Arrows.{arrow};
+ghost use Rattle.ld_facts.specs.FactBits.{HasFact};
+ghost use Rattle.ld_facts.specs.Facts.{DependenciesOf};
 ghost use Rattle.ld_facts.specs.declared.fact.Fact.{Fact};
-ghost use Rattle.ld_facts.specs.TraceFacts.{TracesHave};
-ghost use Rattle.ld_trace.specs.declared.raw_trace.TheConstants.{MAX_TRACES};
-ghost use Rattle.ld_text.specs.Explanation.{IsCircleBlock, IsDependencyLine, IsDoubleBlock, IsExplanation, IsInversionBlock, IsOriginLine, circle_head, comes_line, does_text, event_of, holds_line, lock_of, occurrence_text, waits_text, while_text};
-ghost use Rattle.ld_text.specs.WriteFaults.{StopsWriting};
-ghost use Rattle.ld_text.specs.Groups.{GrowsBy, InTurn};
-ghost use Rattle.ld_text.specs.Inside.Telling.{TellsAll, TellsCircles};
-ghost use Rattle.ld_text.specs.Order.{IsKeyOrder};
-ghost use Rattle.ld_text.specs.Report.{double_line, inversion_line, member_text};
-ghost use Rattle.ld_text.specs.Words.{irq_text, key_text, name_at};
 ghost use Rattle.ld_task.specs.declared.mark.Mark.{Mark};
+ghost use Rattle.ld_text.specs.Explanation.{IsDependencyLine, IsOriginLine, comes_line, does_text, event_of, holds_line, lock_of, occurrence_text, waits_text, while_text};
+ghost use Rattle.ld_text.specs.Groups.{GrowsBy, InTurn};
+ghost use Rattle.ld_text.specs.Report.{member_text};
+ghost use Rattle.ld_text.specs.Words.{irq_text, key_text, name_at};
 
-use crate::found::{Dependency, Found};
-use crate::order::sorted_keys;
-use crate::output::write_text;
-use crate::report::add_total;
-use crate::teller::{Teller, member};
+use crate::teller::Teller;
+use crate::told_walk::{ToldWalk, member};
 use crate::words::{file_of, irq_word, kind_word, mode_word, name_of};
-use crate::write_fault::WriteFault;
-use ld_explain::{Guards, Origin, Origins};
-use ld_facts::Facts;
-use ld_graph::{Kind, Mark, Walk};
-use ld_run::Settled;
-use ld_trace::{Event, Irq, KeyId, KeyTable, RawTrace};
-use std::alloc::{AllocError, Global};
-use std::io::Write;
+use ld_explain::Origin;
+use ld_graph::{Kind, Mark};
+use ld_trace::{Event, Irq, KeyId};
+use std::alloc::AllocError;
 
 impl Teller<'_> {
     // A key.
@@ -145,7 +128,7 @@ impl Teller<'_> {
         to: KeyId,
         kind: Kind,
     ) -> Result<(), AllocError>
-        requires { HasFact self.now.facts (Fact.Dependency from to kind) }
+        requires { HasFact self.now.asked (Fact.Dependency from to kind) }
         ensures { OnOk result (GrowsBy (IsDependencyLine self.now.told (arrow from to kind))
             (string_bytes text.old) (string_bytes text.new)) }
     {
@@ -165,7 +148,7 @@ impl Teller<'_> {
         key: KeyId,
         read: bool,
     ) -> Result<(), AllocError>
-        requires { HasFact self.now.facts (Fact.Marked key (Mark.UsedIn irq read)) }
+        requires { HasFact self.now.asked (Fact.Marked key (Mark.UsedIn irq read)) }
         ensures { OnOk result (GrowsBy (IsOriginLine self.now.told (codes "used in " ++ irq_text irq)
             (Fact.Marked key (Mark.UsedIn irq read))) (string_bytes text.old) (string_bytes text.new)) }
     {
@@ -183,7 +166,7 @@ impl Teller<'_> {
         key: KeyId,
         read: bool,
     ) -> Result<(), AllocError>
-        requires { HasFact self.now.facts (Fact.Marked key (Mark.Enabled irq read)) }
+        requires { HasFact self.now.asked (Fact.Marked key (Mark.Enabled irq read)) }
         ensures { OnOk result (GrowsBy
             (IsOriginLine self.now.told (codes "used with " ++ (irq_text irq ++ codes "s on"))
             (Fact.Marked key (Mark.Enabled irq read))) (string_bytes text.old) (string_bytes text.new)) }
@@ -196,8 +179,12 @@ impl Teller<'_> {
     }
 
     // Where each dependency of a walk comes from.
-    pub(crate) fn add_dependencies(&self, text: &mut String, walk: &Walk) -> Result<(), AllocError>
-        requires { All (DependenciesOf (HasFact self.now.facts)) walk.now }
+    pub(crate) fn add_dependencies(
+        &self,
+        text: &mut String,
+        walk: &ToldWalk,
+    ) -> Result<(), AllocError>
+        requires { All (DependenciesOf (HasFact self.now.asked)) walk.now }
         ensures { OnOk result (GrowsBy (InTurn (IsDependencyLine self.now.told) walk.now)
             (string_bytes text.old) (string_bytes text.new)) }
     {
@@ -213,7 +200,7 @@ impl Teller<'_> {
         &self,
         text: &mut String,
         first: u32,
-        walk: &Walk,
+        walk: &ToldWalk,
     ) -> Result<(), AllocError>
         requires { first ≤ 2 }
         ensures { OnOk result (string_bytes text.new
@@ -233,7 +220,7 @@ impl Teller<'_> {
     }
 
     // The members of a walk, each by its kind and the key that it leads to.
-    pub(crate) fn add_members(&self, text: &mut String, walk: &Walk) -> Result<(), AllocError>
+    pub(crate) fn add_members(&self, text: &mut String, walk: &ToldWalk) -> Result<(), AllocError>
         ensures { OnOk result (string_bytes text.new
             ≡ string_bytes text.old ++ flat_map (member_text self.now.told.names) walk.now) }
     {

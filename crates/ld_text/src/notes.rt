@@ -13,9 +13,10 @@ ghost use Rattle.ld_text.specs.Inside.Finding.{AddsThose};
 ghost use Rattle.ld_text.specs.Inside.Telling.{mark_at};
 
 use crate::found::Dependency;
-use crate::teller::{Teller, member};
+use crate::teller::Teller;
+use crate::told_walk::{ToldWalk, member};
 use crate::words::{file_of, kind_word, name_of};
-use ld_graph::{Kind, Walk};
+use ld_graph::Kind;
 use ld_trace::KeyId;
 use std::alloc::AllocError;
 
@@ -46,7 +47,7 @@ impl Teller<'_> {
         kind: Kind,
         gate: KeyId,
     ) -> Result<(), AllocError>
-        requires { HasFact self.now.facts (Fact.Dependency from to kind) }
+        requires { HasFact self.now.asked (Fact.Dependency from to kind) }
         ensures { OnOk result (AddsThose (λ d. IsGate self.now.told.traces d gate) (arrow from to kind ∷ [])
             guarded.old.items guarded.new.items) }
     {
@@ -57,8 +58,8 @@ impl Teller<'_> {
     }
 
     // Those members of a walk that the key is a gate of.
-    fn guarded(&self, walk: &Walk, gate: KeyId) -> Result<Vec<Dependency>, AllocError>
-        requires { All (DependenciesOf (HasFact self.now.facts)) walk.now }
+    fn guarded(&self, walk: &ToldWalk, gate: KeyId) -> Result<Vec<Dependency>, AllocError>
+        requires { All (DependenciesOf (HasFact self.now.asked)) walk.now }
         ensures { IfOk result (λ guarded. AreThose (λ d. IsGate self.now.told.traces d gate) walk.now guarded.items) }
     {
         let mut guarded = Vec::new(self.alloc);
@@ -98,10 +99,10 @@ impl Teller<'_> {
     fn add_gate_note(
         &self,
         notes: &mut Vec<String>,
-        walk: &Walk,
+        walk: &ToldWalk,
         gate: KeyId,
     ) -> Result<(), AllocError>
-        requires { All (DependenciesOf (HasFact self.now.facts)) walk.now }
+        requires { All (DependenciesOf (HasFact self.now.asked)) walk.now }
         ensures { OnOk result (GrowsBy (IsGateNote self.now.told walk.now gate)
             (map string_bytes notes.old.items) (map string_bytes notes.new.items)) }
     {
@@ -115,8 +116,8 @@ impl Teller<'_> {
     }
 
     // Whether some key may be a gate of a member of a walk. If not, none is a gate of any.
-    fn may_have_gates(&self, walk: &Walk) -> bool
-        requires { All (DependenciesOf (HasFact self.now.facts)) walk.now }
+    fn may_have_gates(&self, walk: &ToldWalk) -> bool
+        requires { All (DependenciesOf (HasFact self.now.asked)) walk.now }
         ensures { IsFalse result → (gate : ℕ) → AreThose (λ d. IsGate self.now.told.traces d gate) walk.now [] }
     {
         for i in 0..walk.len() {
@@ -129,8 +130,8 @@ impl Teller<'_> {
     }
 
     // The notes of the gates of a walk.
-    fn add_gate_notes(&self, notes: &mut Vec<String>, walk: &Walk) -> Result<(), AllocError>
-        requires { All (DependenciesOf (HasFact self.now.facts)) walk.now }
+    fn add_gate_notes(&self, notes: &mut Vec<String>, walk: &ToldWalk) -> Result<(), AllocError>
+        requires { All (DependenciesOf (HasFact self.now.asked)) walk.now }
         ensures { OnOk result (GrowsBy (AreGateNotes self.now.told self.now.keys walk.now)
             (map string_bytes notes.old.items) (map string_bytes notes.new.items)) }
     {
@@ -145,15 +146,15 @@ impl Teller<'_> {
 
     // Whether this trace alone has a dependency.
     fn is_alone(&self, from: KeyId, to: KeyId, kind: Kind, trace: u32) -> bool
-        requires { HasFact self.now.facts (Fact.Dependency from to kind) }
+        requires { HasFact self.now.asked (Fact.Dependency from to kind) }
         ensures { IsTrue result ↔ IsAloneIn self.now.told.traces (arrow from to kind ∷ []) trace }
     {
         is_trace(self.only_trace(from, to, kind), trace)
     }
 
     // Whether this trace alone has all dependencies of a walk.
-    fn are_alone(&self, walk: &Walk, trace: u32) -> bool
-        requires { All (DependenciesOf (HasFact self.now.facts)) walk.now }
+    fn are_alone(&self, walk: &ToldWalk, trace: u32) -> bool
+        requires { All (DependenciesOf (HasFact self.now.asked)) walk.now }
         ensures { IsTrue result ↔ IsAloneIn self.now.told.traces walk.now trace }
     {
         for i in 0..walk.len() {
@@ -166,9 +167,9 @@ impl Teller<'_> {
     }
 
     // The trace that alone has all dependencies of a walk.
-    fn alone_in(&self, walk: &Walk) -> Option<u32>
+    fn alone_in(&self, walk: &ToldWalk) -> Option<u32>
         requires some { 0 < length walk.now }
-        requires are { All (DependenciesOf (HasFact self.now.facts)) walk.now }
+        requires are { All (DependenciesOf (HasFact self.now.asked)) walk.now }
         ensures { (trace : ℕ) → (result ≡ Some trace) ↔ IsAloneIn self.now.told.traces walk.now trace }
     {
         let (from, to, kind) = member(walk, 0);
@@ -179,9 +180,9 @@ impl Teller<'_> {
     }
 
     // The note of the trace that alone has all dependencies of a walk, if one has.
-    fn add_alone_note(&self, notes: &mut Vec<String>, walk: &Walk) -> Result<(), AllocError>
+    fn add_alone_note(&self, notes: &mut Vec<String>, walk: &ToldWalk) -> Result<(), AllocError>
         requires some { 0 < length walk.now }
-        requires are { All (DependenciesOf (HasFact self.now.facts)) walk.now }
+        requires are { All (DependenciesOf (HasFact self.now.asked)) walk.now }
         ensures { OnOk result (GrowsBy (IsAloneNote self.now.told walk.now)
             (map string_bytes notes.old.items) (map string_bytes notes.new.items)) }
     {
@@ -196,9 +197,9 @@ impl Teller<'_> {
     }
 
     // The notes of a circle.
-    pub(crate) fn circle_notes(&self, walk: &Walk) -> Result<Vec<String>, AllocError>
+    pub(crate) fn circle_notes(&self, walk: &ToldWalk) -> Result<Vec<String>, AllocError>
         requires some { 0 < length walk.now }
-        requires are { All (DependenciesOf (HasFact self.now.facts)) walk.now }
+        requires are { All (DependenciesOf (HasFact self.now.asked)) walk.now }
         ensures { IfOk result (λ notes. AreCircleNotes self.now.told self.now.keys walk.now (map string_bytes notes.items)) }
     {
         let mut notes = Vec::new(self.alloc);
@@ -208,8 +209,8 @@ impl Teller<'_> {
     }
 
     // The notes of an inversion.
-    pub(crate) fn inversion_notes(&self, walk: &Walk) -> Result<Vec<String>, AllocError>
-        requires { All (DependenciesOf (HasFact self.now.facts)) walk.now }
+    pub(crate) fn inversion_notes(&self, walk: &ToldWalk) -> Result<Vec<String>, AllocError>
+        requires { All (DependenciesOf (HasFact self.now.asked)) walk.now }
         ensures { IfOk result (λ notes. AreGateNotes self.now.told self.now.keys walk.now (map string_bytes notes.items)) }
     {
         let mut notes = Vec::new(self.alloc);

@@ -2,7 +2,8 @@
 
 mod want_of_memory;
 
-use ld_explain::{Origin, Origins};
+use ld_explain::{Asked, Evidence, Origin, Origins};
+use ld_facts::Fact;
 use ld_graph::Kind::{En, Er, Sn, Sr};
 use ld_graph::{Kind, Mark};
 use ld_run::{OpenGate, run};
@@ -247,15 +248,40 @@ static ROWS: [Row; 8] = [
     },
 ];
 
-// The origins of the facts of traces of three keys, if a run completes them, so that they are well formed.
-fn origins_of<R: Threads + Wait + Sync + Abort>(
+fn fact_of(known: Known) -> Fact {
+    match known {
+        Dependency(from, to, kind, _) => Fact::Dependency { from, to, kind },
+        Marked(key, mark, _) => Fact::Marked { key, mark },
+    }
+}
+
+// Asks about a fact, if its keys are below the bound.
+fn ask(asked: &mut Asked, fact: Fact) {
+    if fact.is_below(asked.keys()) {
+        asked.add(fact);
+    }
+}
+
+// These facts of three keys.
+fn asked_about(alloc: Global, facts: &[Known]) -> Option<Asked> {
+    let mut asked = Asked::new(alloc, 3).ok()?;
+    for known in facts {
+        ask(&mut asked, fact_of(*known));
+    }
+    Some(asked)
+}
+
+// What traces of three keys say about these facts, if a run completes them, so that they are well formed.
+fn evidence_of<R: Threads + Wait + Sync + Abort>(
     rt: &R,
     alloc: Global,
     traces: &[RawTrace],
-) -> Option<Origins> {
+    facts: &[Known],
+) -> Option<Evidence> {
     assert!(rt; traces.iter().all(|trace| trace.keys_below(3)));
     run(rt, alloc, traces, 3, 1, &OpenGate).ok()?;
-    Origins::of(alloc, traces, 3).ok()
+    let asked = asked_about(alloc, facts)?;
+    Evidence::of(alloc, traces, &asked).ok()
 }
 
 fn is_known(origins: &Origins, known: Known) -> bool {
@@ -276,8 +302,8 @@ fn are_known(origins: &Origins, facts: &[Known]) -> bool {
 
 fn is_as_told<R: Threads + Wait + Sync + Abort>(rt: &R, alloc: Global, row: &Row) -> Option<bool> {
     let traces = traces_of(alloc, row.traces, 1)?;
-    let origins = origins_of(rt, alloc, &traces)?;
-    Some(are_known(&origins, row.facts))
+    let evidence = evidence_of(rt, alloc, &traces, row.facts)?;
+    Some(are_known(&evidence.origins, row.facts))
 }
 
 // The first of these whose facts come from elsewhere.

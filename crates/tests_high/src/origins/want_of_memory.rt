@@ -1,7 +1,8 @@
 //! What a refused request for memory leaves. In an ordinary run none is refused: `tests/sweep` runs this test with its
 //! first request refused, its second, and so on, and counts the lines that it prints.
 
-use ld_explain::{Origin, Origins};
+use ld_explain::{Asked, Evidence, Origin};
+use ld_facts::Fact;
 use ld_graph::Kind;
 use ld_run::{OpenGate, run};
 use ld_trace::RawTrace;
@@ -19,6 +20,17 @@ fn traces(alloc: Global) -> Option<Vec<RawTrace>> {
     traces_of(alloc, &[&[Write(A), Write(B), Give(B), Give(A)]], 1)
 }
 
+// The one dependency; None if memory was refused.
+fn order_asked_about(alloc: Global) -> Option<Asked> {
+    let mut asked = Asked::new(alloc, 2).ok()?;
+    asked.add(Fact::Dependency {
+        from: A,
+        to: B,
+        kind: Kind::En,
+    });
+    Some(asked)
+}
+
 // The origin of the one dependency; None if memory was refused.
 fn origin(
     rt: &(impl Threads + Wait + Sync + Abort + AllocGlobal),
@@ -27,8 +39,8 @@ fn origin(
     assert!(rt; traces.iter().all(|trace| trace.keys_below(2)));
     let settled = run(rt, rt.alloc(), traces, 2, 1, &OpenGate).ok()?;
     assert!(rt; settled.dependencies() == 1);
-    let origins = Origins::of(rt.alloc(), traces, 2).ok()?;
-    Some(origins.dependency(A, B, Kind::En))
+    let evidence = Evidence::of(rt.alloc(), traces, &order_asked_about(rt.alloc())?).ok()?;
+    Some(evidence.origins.dependency(A, B, Kind::En))
 }
 
 #[test]

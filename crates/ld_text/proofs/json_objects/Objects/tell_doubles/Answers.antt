@@ -1,6 +1,6 @@
 use Rattle.std.proofs.Common.{subst, sym}
 use Rattle.ld_facts.specs.FactBits.{HasFact}
-use Rattle.ld_graph.specs.Links.{IsDouble}
+use Rattle.ld_text.specs.Inside.Choosing.{IsToldDouble}
 use Rattle.ld_text.specs.Json.{IsDoubleObject, IsLineOf}
 use Rattle.ld_text.proofs.GroupLemmas.{GrowsBy-more_item, GrowsBy-none}
 use Rattle.ld_text.proofs.json_objects.Objects.tell_doubles.Goals as goal
@@ -12,5 +12,8 @@ pub loop-double-preserved : goal.loop-double-preserved
 loop-double-preserved c = GrowsBy-more_item (λ x. IsLineOf (IsDoubleObject (HasFact c.args.self.now.facts) c.args.self.now.told x)) _ _ _ _ _ _
     c.double-item.is c.loop-double-test.true c.loop-double.invariant c.in_ok-add_double_object.ensures
 
-pub add_double_object-requires : goal.add_double_object-requires
-add_double_object-requires c = subst (λ x. IsDouble (HasFact c.args.self.now.facts) x.0 x.1) (sym c.double-item.is) (c.requires _ _ c.loop-double-test.true)
+pub add_double_object-requires-clause-double : goal.add_double_object-requires-clause-double
+add_double_object-requires-clause-double c = (subst (IsToldDouble c.args.self.now.facts c.args.self.now.asked) (sym c.double-item.is) (c.requires _ _ c.loop-double-test.true)).0
+
+pub add_double_object-requires-clause-asked : goal.add_double_object-requires-clause-asked
+add_double_object-requires-clause-asked c = (subst (IsToldDouble c.args.self.now.facts c.args.self.now.asked) (sym c.double-item.is) (c.requires _ _ c.loop-double-test.true)).1

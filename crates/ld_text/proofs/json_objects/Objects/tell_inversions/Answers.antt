@@ -1,6 +1,6 @@
 use Rattle.std.proofs.Common.{subst, sym}
 use Rattle.ld_facts.specs.FactBits.{HasFact}
-use Rattle.ld_graph.specs.Links.{IsInversion}
+use Rattle.ld_text.specs.Inside.Choosing.{IsToldInversion, keys_of}
 use Rattle.ld_text.specs.Json.{IsInversionObject, IsLineOf}
 use Rattle.ld_text.proofs.GroupLemmas.{GrowsBy-more_item, GrowsBy-none}
 use Rattle.ld_text.proofs.json_objects.Objects.tell_inversions.Goals as goal
@@ -9,8 +9,8 @@ pub loop-inversion-init : goal.loop-inversion-init
 loop-inversion-init c = GrowsBy-none _
 
 pub loop-inversion-preserved : goal.loop-inversion-preserved
-loop-inversion-preserved c = GrowsBy-more_item (λ x. IsLineOf (IsInversionObject (HasFact c.args.self.now.facts) c.args.self.now.told c.args.self.now.keys x)) _ _ _ _ _ _
+loop-inversion-preserved c = GrowsBy-more_item (λ x. IsLineOf (IsInversionObject (HasFact c.args.self.now.facts) c.args.self.now.told c.args.self.now.keys (keys_of x))) _ _ _ _ _ _
     c.inversion-item.is c.loop-inversion-test.true c.loop-inversion.invariant c.in_ok-add_inversion_object.ensures
 
 pub add_inversion_object-requires : goal.add_inversion_object-requires
-add_inversion_object-requires c = subst (λ x. IsInversion (HasFact c.args.self.now.facts) x.0 x.1.0 x.1.1) (sym c.inversion-item.is) (c.requires _ _ c.loop-inversion-test.true)
+add_inversion_object-requires c = subst (IsToldInversion c.args.self.now.facts c.args.self.now.asked) (sym c.inversion-item.is) (c.requires _ _ c.loop-inversion-test.true)

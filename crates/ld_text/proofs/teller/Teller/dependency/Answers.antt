@@ -9,12 +9,14 @@ use Rattle.ld_text.proofs.teller.Teller.dependency.Goals as goal
 pub unreachable-requires : goal.unreachable-requires
 unreachable-requires c =
     let x : Fact = Dependency c.args.from c.args.to c.args.kind in
+    let is_asked = subst (λ p. HasFact p.asked x) (sym c.self.view_is) c.requires in
     origin_there c.self.inside.settled.now c.self.inside.traces.now x c.dependency.result c.self.invariant.1
-    (rw (c.get.ensures.value, c.get-2.ensures.value) at (c.dependency.ensures c.self.inside.traces.now c.self.invariant.0))
-    (subst (λ p. HasFact p.facts x) (sym c.self.view_is) c.requires) c.in_default.is
+    ((rw (c.get.ensures.value, c.get-2.ensures.value) at c.dependency.ensures) c.self.inside.traces.now c.self.inside.asked.now c.self.invariant.0 is_asked)
+    (c.self.invariant.3 x is_asked) c.in_default.is
 
 pub returns : goal.returns
 returns c =
     let x : Fact = Dependency c.args.from c.args.to c.args.kind in
+    let is_asked = subst (λ p. HasFact p.asked x) (sym c.self.view_is) c.requires in
     subst (λ p. IsFirst p.told.traces x c.in-Some.origin) c.self.view_is
-    (rw (c.get.ensures.value, c.get-2.ensures.value) at (c.in-Some.ensures c.self.inside.traces.now c.self.invariant.0)).1
+    ((rw (c.get.ensures.value, c.get-2.ensures.value) at c.in-Some.ensures) c.self.inside.traces.now c.self.inside.asked.now c.self.invariant.0 is_asked).1
