@@ -9,20 +9,19 @@ use Rattle.ld_text.proofs.ChoosingLemmas.{told-all}
 use Rattle.ld_text.proofs.FindingLemmas.{AreThose-all}
 use Rattle.ld_text.proofs.explanation.text_of_findings.Goals as goal
 
-pub of-2-requires-clause-circles : goal.of-2-requires-clause-circles
-of-2-requires-clause-circles c = AreThose-all (OnCircle (HasFact c.args.settled.now)) _ _ c.in_ok-found.ensures.circles
+pub of-requires-2-clause-circles : goal.of-requires-2-clause-circles
+of-requires-2-clause-circles c = AreThose-all (OnCircle (HasFact c.args.settled.now)) _ _ c.in_ok-found.ensures.circles
 
-pub of-2-requires-clause-doubles : goal.of-2-requires-clause-doubles
-of-2-requires-clause-doubles c = AreThose-all (λ x. IsDouble (HasFact c.args.settled.now) x.0 x.1) _ _ c.in_ok-found.ensures.doubles
+pub of-requires-2-clause-doubles : goal.of-requires-2-clause-doubles
+of-requires-2-clause-doubles c = AreThose-all (λ x. IsDouble (HasFact c.args.settled.now) x.0 x.1) _ _ c.in_ok-found.ensures.doubles
 
-pub of-2-requires-clause-inversions : goal.of-2-requires-clause-inversions
-of-2-requires-clause-inversions c = AreThose-all (λ x. IsInversion (HasFact c.args.settled.now) x.0 x.1.0 x.1.1) _ _ c.in_ok-found.ensures.inversions
+pub of-requires-2-clause-inversions : goal.of-requires-2-clause-inversions
+of-requires-2-clause-inversions c = AreThose-all (λ x. IsInversion (HasFact c.args.settled.now) x.0 x.1.0 x.1.1) _ _ c.in_ok-found.ensures.inversions
 
 pub returns : goal.returns
 unfolding InSequence
 returns c =
     let Has = HasFact c.args.settled.now in
-    let told = record { traces = c.args.traces.now; names = c.args.names.now.names; files = _ } in
     let keys = c.args.keys.now in
     let found = c.in_ok-found.found in
     let chosen = c.in_ok-chosen.chosen in
@@ -42,7 +41,7 @@ returns c =
         total_line (codes "findings") count,
         grew.part,
         refl,
-        told-all (IsInversionBlock Has told keys) (IsCircleBlock told keys) (IsDoubleBlock Has told) chosen.circles found.doubles chosen.inversions found.inversions grew.part
+        told-all (IsInversionBlock Has _ keys) (IsCircleBlock _ keys) (IsDoubleBlock Has _) chosen.circles found.doubles chosen.inversions found.inversions grew.part
             c.in_ok-chosen.ensures.inversions grew.shows,
         grew.grew ∙ ap (λ t. t ++ grew.part) head,
       );
