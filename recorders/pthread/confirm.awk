@@ -76,6 +76,7 @@ mode == "traces" {
         depth = base = frames = 0
     } else if (/^acq,/) {
         key = name_of($0) "/" substr(rest, 1, 1)
+        note_lock(key)
         note_orders(key, substr(rest, 3))
         held[++depth] = key
         how[depth] = substr(rest, 3)
@@ -87,6 +88,13 @@ mode == "traces" {
         bases[++frames] = base
         base = depth
     } else if (/^leave/) base = bases[frames--]
+}
+
+# Counts the single locks of a class. A name that stands for several counts as two.
+function note_lock(key) {
+    if (key in is_lock) return
+    is_lock[key]
+    locks_in[class_of(key)] += is_several(key) ? 2 : 1
 }
 
 function give_back(key,    i) {
@@ -244,6 +252,8 @@ function judge(circle, length_of,    threads, rank, locks, line, passes, rest, i
         best_length = length_of
         is_best_sure = is_sure
         best_text = text_of(circle, length_of)
+        best_gate = rank == GATED ? passes : ""
+        is_under_itself = length_of == 1 && is_sure
         best_line = "seen between locks: " line
         if (!is_sure) best_line = "perhaps " best_line "; " rest " is several locks"
     }
@@ -440,7 +450,8 @@ function begin_search() {
     best_rank = sure_rank = WORST
     best_length = sure_length = 0
     best_line = sure_line = ""
-    is_best_sure = 0
+    best_gate = ""
+    is_best_sure = is_under_itself = 0
 }
 
 # What was seen between single locks is said even if what was perhaps seen is worse.
@@ -448,7 +459,27 @@ function end_finding(b) {
     if (!is_best_sure && sure_line != "") best_line = best_line "; and seen for sure: " sure_line
     rank_of[b] = best_rank
     line_of[b] = best_line
+    text[b] = with_notes(b)
     findings++
+}
+
+# The text of a finding, in which the notes say it if what was seen between single locks takes from them.
+function with_notes(b,    lines, n, i, words, told) {
+    n = split(text[b], lines, "\n") - 1
+    for (i = 1; i <= n; i++) {
+        split(lines[i], words, " ")
+        if (lines[i] ~ /^  note: always inside /) lines[i] = lines[i] doubt_of_gate(substr(words[4], 1, length(words[4]) - 1), b)
+        else if (lines[i] ~ /^  note: only in / && is_under_itself) lines[i] = lines[i] "; but a lock is taken under itself there"
+        told = told lines[i] "\n"
+    }
+    return told
+}
+
+# The note of a gate speaks of a class, whose locks may be several. If the finding was seen under one of them alone, that is the gate.
+function doubt_of_gate(key, b) {
+    if (is_of_locks[b] ? !is_several(key) : locks_in[key] < 2) return ""
+    if (best_gate != "" && class_of(best_gate) == class_of(key)) return ""
+    return "; but " plain(key) " is several locks"
 }
 
 # The least depth at which the finding is gone, since one of its orders is on no circle any more; 0 if there is none.
@@ -667,8 +698,9 @@ function tell_unknown(d,    length_of) {
 function tell(b) {
     if (first[b] !~ /^circle /) {
         if (!is_of_locks[b]) {
-            rank_of[b] = CONFIRMED
-            findings++
+            begin_search()
+            best_rank = CONFIRMED
+            end_finding(b)
         }
     } else if (is_refused) {
         begin_finding(b)
