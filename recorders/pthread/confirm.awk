@@ -14,8 +14,14 @@
 # How many steps one search for circles of a finding may take.
 BEGIN { MOST_STEPS = 20000 }
 
+# How many steps the search for circles that combine orders of several findings may take: along walks, and along circles.
+BEGIN { MOST_ON_WALKS = 500000; MOST_COMBINED = 5 * MOST_STEPS }
+
 # What is said of a finding, what to look at first coming first.
 BEGIN { CONFIRMED = 1; PERHAPS = 2; GATED = 3; ALONE = 4; ONLY_CLASSES = 5; WRAPPED = 6; WORST = 7 }
+
+# What is said if there are too many circles.
+BEGIN { TOO_MANY = "not known whether seen between locks: there are more circles than were looked at" }
 
 # ---- What is read.
 
@@ -70,6 +76,7 @@ mode == "traces" {
         depth = base = frames = 0
     } else if (/^acq,/) {
         key = name_of($0) "/" substr(rest, 1, 1)
+        note_lock(key)
         note_orders(key, substr(rest, 3))
         held[++depth] = key
         how[depth] = substr(rest, 3)
@@ -81,6 +88,13 @@ mode == "traces" {
         bases[++frames] = base
         base = depth
     } else if (/^leave/) base = bases[frames--]
+}
+
+# Counts the single locks of a class. A name that stands for several counts as two.
+function note_lock(key) {
+    if (key in is_lock) return
+    is_lock[key]
+    locks_in[class_of(key)] += is_several(key) ? 2 : 1
 }
 
 function give_back(key,    i) {
@@ -227,6 +241,7 @@ function judge(circle, length_of,    threads, rank, locks, line, passes, rest, i
         rank = ALONE
         line = locks ", by one thread"
     } else line = locks ", by " threads " threads"
+    if (rank == CONFIRMED) note_first_kind(circle, length_of)
     if (is_sure && (rank < sure_rank || (rank == sure_rank && length_of < sure_length))) {
         sure_rank = rank
         sure_length = length_of
@@ -237,9 +252,16 @@ function judge(circle, length_of,    threads, rank, locks, line, passes, rest, i
         best_length = length_of
         is_best_sure = is_sure
         best_text = text_of(circle, length_of)
+        best_gate = rank == GATED ? passes : ""
+        is_under_itself = length_of == 1 && is_sure
         best_line = "seen between locks: " line
         if (!is_sure) best_line = "perhaps " best_line "; " rest " is several locks"
     }
+}
+
+# The orders of these classes are in a finding of the first kind.
+function note_first_kind(circle, length_of,    i) {
+    for (i = 1; i <= length_of; i++) is_of_first_kind[class[circle[i]]]
 }
 
 # Takes the circle on the path if it has all orders of the finding.
@@ -324,6 +346,13 @@ function choose(is_sure,    d) {
     drop_between()
 }
 
+# Chooses the orders of all findings that are on circles of single locks.
+function choose_all(    d) {
+    split("", is_wanted)
+    for (d = 1; d <= count; d++) is_wanted[class[d]]
+    choose(1)
+}
+
 # Drops the orders of locks that no order leads to or goes on from, until there is none of these left.
 function drop_ends(    d, key, ends, n, i) {
     split("", leads_on)
@@ -350,22 +379,23 @@ function drop_orders_of(key, ends, n,    orders, count_of, k, d) {
     return n
 }
 
-# Drops the orders between locks of which the second doesn't lead back to the first.
-function drop_between(    d, part_of, parts, after, before, key) {
+# Drops the orders between locks of which the second doesn't lead back to the first. The rest of the locks are in parts.
+function drop_between(    d, parts, after, before, key) {
+    split("", part_of)
     for (d in is_chosen) {
         if (from[d] in part_of) continue
         parts++
         split("", after)
         split("", before)
-        reach(from[d], 1, after, part_of)
-        reach(from[d], 0, before, part_of)
+        reach(from[d], 1, after)
+        reach(from[d], 0, before)
         for (key in after) if (key in before) part_of[key] = parts
     }
     for (d = 1; d <= count; d++) if (d in is_chosen && part_of[from[d]] != part_of[to[d]]) delete is_chosen[d]
 }
 
 # The locks that the chosen orders lead to from one, or from which they lead there, through such as are in no part yet.
-function reach(start, is_onward, found, part_of,    list, n, i, orders, count_of, k, d, key) {
+function reach(start, is_onward, found,    list, n, i, orders, count_of, k, d, key) {
     list[n = 1] = start
     found[start]
     for (i = 1; i <= n; i++) {
@@ -420,7 +450,8 @@ function begin_search() {
     best_rank = sure_rank = WORST
     best_length = sure_length = 0
     best_line = sure_line = ""
-    is_best_sure = 0
+    best_gate = ""
+    is_best_sure = is_under_itself = 0
 }
 
 # What was seen between single locks is said even if what was perhaps seen is worse.
@@ -428,7 +459,27 @@ function end_finding(b) {
     if (!is_best_sure && sure_line != "") best_line = best_line "; and seen for sure: " sure_line
     rank_of[b] = best_rank
     line_of[b] = best_line
+    text[b] = with_notes(b)
     findings++
+}
+
+# The text of a finding, in which the notes say it if what was seen between single locks takes from them.
+function with_notes(b,    lines, n, i, words, told) {
+    n = split(text[b], lines, "\n") - 1
+    for (i = 1; i <= n; i++) {
+        split(lines[i], words, " ")
+        if (lines[i] ~ /^  note: always inside /) lines[i] = lines[i] doubt_of_gate(substr(words[4], 1, length(words[4]) - 1), b)
+        else if (lines[i] ~ /^  note: only in / && is_under_itself) lines[i] = lines[i] "; but a lock is taken under itself there"
+        told = told lines[i] "\n"
+    }
+    return told
+}
+
+# The note of a gate speaks of a class, whose locks may be several. If the finding was seen under one of them alone, that is the gate.
+function doubt_of_gate(key, b) {
+    if (is_of_locks[b] ? !is_several(key) : locks_in[key] < 2) return ""
+    if (best_gate != "" && class_of(best_gate) == class_of(key)) return ""
+    return "; but " plain(key) " is several locks"
 }
 
 # The least depth at which the finding is gone, since one of its orders is on no circle any more; 0 if there is none.
@@ -464,15 +515,18 @@ function tell_classes(b) {
 
 # There are too many circles of the chosen orders: the shortest ones are looked at. If none of them is as bad as such a circle can be,
 # that is still possible. What goes through locks that share a name is no more than perhaps seen.
-function give_up(worst,    d, rest) {
+function give_up(worst,    d, rest, order) {
     search_short(worst)
     tell_wanted(is_told)
     if (worst == CONFIRMED) tell_wanted(is_surely_told)
     if (is_worst(worst)) return
     best_rank = worst
     is_best_sure = 0
-    best_line = "not known whether seen between locks: there are more circles than were looked at"
-    if (worst == CONFIRMED) return
+    best_line = TOO_MANY
+    if (worst == CONFIRMED) {
+        for (order in is_wanted) is_of_first_kind[order]
+        return
+    }
     for (d = 1; d <= count && rest == ""; d++) if (d in is_chosen && is_several(from[d])) rest = plain(from[d])
     best_line = "perhaps seen between locks: there are more circles than were looked at; " rest " is several locks"
 }
@@ -499,9 +553,7 @@ function tell_locks(b,    i, is_sure, is_new) {
 # Circles of single locks whose orders are on shorter ones through locks that share a name, if they belong to several findings: each such
 # order that isn't told yet is searched from.
 function tell_hidden(    d) {
-    split("", is_wanted)
-    for (d = 1; d <= count; d++) is_wanted[class[d]]
-    choose(1)
+    choose_all()
     for (d = 1; d <= count; d++) if (d in is_chosen && !is_surely_told[d]) tell_circle_of(d)
 }
 
@@ -514,12 +566,141 @@ function tell_circle_of(d,    most) {
     end_finding(blocks)
 }
 
+# ---- Circles of the first kind that combine orders of several findings.
+
+# Each order of single locks that is on a circle of the first kind is part of a finding of the first kind when this has ended, or of one
+# that says that this isn't known. A circle whose orders all belong to such findings isn't told once more.
+function tell_combined(    d, doubtful, n, i) {
+    choose_all()
+    for (d = 1; d <= count; d++) if (d in is_chosen) {
+        orders_in[part_of[from[d]]]++
+        find_keepers(d)
+    }
+    for (d = 1; d <= count; d++) if (may_be_combined(d) && !tell_walk(d)) doubtful[++n] = d
+    for (i = 1; i <= n; i++) if (may_be_combined(doubtful[i]) && !tell_longer(doubtful[i]) && tell_unknown(doubtful[i])) return
+}
+
+# What keeps an order apart from all others that it keeps too: a lock that it was always taken under, and a thread that alone took it.
+function find_keepers(d,    all, n, k) {
+    n = split(gates_of[d], all, " ")
+    for (k = 1; k <= n; k++) if (!is_several(all[k]) && under[d, all[k]] == seen[d]) add_keeper(d, all[k])
+    if (split(tasks_of[d], all, " ") == 1) add_keeper(d, all[1])
+}
+
+function add_keeper(d, keeper) {
+    keepers_of[d] = keepers_of[d] " " keeper
+    is_kept[d, keeper]
+    kept_in[part_of[from[d]], keeper]++
+}
+
+# Whether an order may be on a circle of the first kind, and in no finding of that kind yet: nothing keeps all apart that it leads to.
+function may_be_combined(d,    keepers, n, k) {
+    if (!(d in is_chosen) || class[d] in is_of_first_kind || from[d] == to[d]) return 0
+    n = split(keepers_of[d], keepers, " ")
+    for (k = 1; k <= n; k++) if (kept_in[part_of[from[d]], keepers[k]] == orders_in[part_of[from[d]]]) return 0
+    return 1
+}
+
+# What of this keeps an order too.
+function shared(keepers, d,    list, n, k, left) {
+    n = split(keepers, list, " ")
+    for (k = 1; k <= n; k++) if ((d, list[k]) in is_kept) left = left " " list[k]
+    return left
+}
+
+# Puts on the path the shortest walk that leads from an order back to it, passes its two locks once, and isn't kept apart by any of
+# these. Returns its length: 0 if there is none, and -1 if that took too many steps.
+function find_walk(d, keepers,    n, i, next_orders, count_of, k, e, left, is_there) {
+    walk_order[n = 1] = d
+    walk_left[1] = keepers
+    for (i = 1; i <= n; i++) {
+        count_of = split(leaving[to[walk_order[i]]], next_orders, " ")
+        for (k = 1; k <= count_of; k++) {
+            e = next_orders[k] + 0
+            if (++walk_steps > MOST_ON_WALKS) return -1
+            if (!(e in is_chosen) || to[e] == to[d] || to[e] == from[e] || !may_follow(walk_order[i], e)) continue
+            left = shared(walk_left[i], e)
+            if ((e, left) in is_there) continue
+            is_there[e, left]
+            if (to[e] == from[d] && (left != "" || !may_follow(e, d))) continue
+            walk_order[++n] = e
+            walk_left[n] = left
+            walk_before[n] = i
+            if (to[e] == from[d]) return take_walk(n)
+        }
+    }
+    return 0
+}
+
+# Puts the walk that ends there on the path.
+function take_walk(end,    length_of, i, k) {
+    for (i = end; i > 1; i = walk_before[i]) length_of++
+    k = ++length_of
+    for (i = end; i > 1; i = walk_before[i]) path[k--] = walk_order[i]
+    path[1] = walk_order[1]
+    return length_of
+}
+
+# Whether the path passes no lock twice.
+function is_simple(length_of,    i, passed) {
+    for (i = 1; i <= length_of; i++) {
+        if (from[path[i]] in passed) return 0
+        passed[from[path[i]]]
+    }
+    return 1
+}
+
+# Tells the shortest walk of an order if it is a circle of the first kind. Returns whether nothing is left to look for.
+function tell_walk(d,    length_of) {
+    length_of = find_walk(d, keepers_of[d])
+    if (length_of == 0) return 1
+    if (length_of < 0 || !is_simple(length_of)) return 0
+    begin_search()
+    wanted[1] = class[d]
+    judge(path, length_of)
+    return end_combined()
+}
+
+# The same of the circles that pass no lock twice, the shortest first.
+function tell_longer(d,    most) {
+    begin_search()
+    wanted[1] = class[d]
+    for (most = 2; most <= count && steps <= MOST_STEPS && best_rank > CONFIRMED; most++) search_from(d, most, 0)
+    combined_steps += steps
+    return end_combined() || (steps <= MOST_STEPS && combined_steps <= MOST_COMBINED)
+}
+
+function end_combined() {
+    if (best_rank > CONFIRMED) return 0
+    text[++blocks] = best_text
+    end_finding(blocks)
+    return 1
+}
+
+# Says that it isn't known whether an order is on such a circle, with the shortest walk. Returns whether it is on a circle at all.
+function tell_unknown(d,    length_of) {
+    walk_steps = 0
+    length_of = find_walk(d, keepers_of[d])
+    if (length_of < 1) {
+        walk_steps = -count * count # so many that it finds one
+        length_of = find_walk(d, "")
+    }
+    if (length_of < 1) return 0
+    begin_search()
+    text[++blocks] = text_of(path, length_of)
+    best_rank = CONFIRMED
+    best_line = TOO_MANY
+    end_finding(blocks)
+    return 1
+}
+
 # What isn't a circle is written as it is.
 function tell(b) {
     if (first[b] !~ /^circle /) {
         if (!is_of_locks[b]) {
-            rank_of[b] = CONFIRMED
-            findings++
+            begin_search()
+            best_rank = CONFIRMED
+            end_finding(b)
         }
     } else if (is_refused) {
         begin_finding(b)
@@ -534,6 +715,7 @@ function tell(b) {
 END {
     for (b = 1; b <= blocks; b++) tell(b)
     tell_hidden()
+    tell_combined()
     print "findings " findings + 0
     for (rank = CONFIRMED; rank < WORST; rank++)
         for (b = 1; b <= blocks; b++) if (rank_of[b] == rank) {
