@@ -9,6 +9,22 @@
 
 # ---- The fields of a record.
 
+# Adds to the field. A long text would be copied for each of its characters, so the last ones are kept by themselves at first.
+function add(c) {
+    last_few = last_few c
+    if (length(last_few) < 100) return
+    last_many = last_many last_few
+    last_few = ""
+    if (length(last_many) < 20000) return
+    field = field last_many
+    last_many = ""
+}
+
+function end_field() {
+    fields[++count] = field last_many last_few
+    field = last_many = last_few = ""
+}
+
 # Reads a line of the file. A field that begins with a double quote goes on until the quote is closed.
 function take(line,    i, n, c) {
     n = length(line)
@@ -16,17 +32,16 @@ function take(line,    i, n, c) {
         c = substr(line, i, 1)
         if (state == "quoted") {
             if (c == "\"") state = "closed"
-            else field = field c
+            else add(c)
         } else if (state == "closed" && c == "\"") {
-            field = field c
+            add(c)
             state = "quoted"
         } else if (c == ",") {
-            fields[++count] = field
-            field = ""
+            end_field()
             state = "start"
         } else if (state == "start" && c == "\"") state = "quoted"
         else {
-            field = field c
+            add(c)
             state = "inside"
         }
     }
@@ -191,7 +206,7 @@ function begin() {
     record++
     split("", fields)
     count = 0
-    field = ""
+    field = last_many = last_few = ""
     state = "start"
     first = NR
     text = line
@@ -217,10 +232,10 @@ function ends_record() {
     take(line)
     is_open = state == "quoted"
     if (is_open) {
-        if (ends_with_cr) field = field "\r"
+        if (ends_with_cr) add("\r")
         return 0
     }
-    fields[++count] = field
+    end_field()
     if (record < number && first == NR) keep()
     return 1
 }
@@ -239,8 +254,8 @@ NR == 1 && substr($0, 1, 3) == "\357\273\277" { $0 = substr($0, 4) }
     if (index(line, "\r") && index(line, "\r") < length(line)) exit
     ends_with_cr = sub(/\r$/, "", line)
     if (is_open) {
-        field = field "\n"
-        text = text "\n" line
+        add("\n")
+        if (length(text) < 1000) text = text "\n" line # more isn't shown
         if (!ends_record()) next
     } else {
         if (line == "") next
