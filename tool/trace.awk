@@ -116,7 +116,7 @@ function tell(name, text) { print name, text }
 function has_space(text) { return text ~ /^ | $/ }
 
 function tell_header() {
-    if (fields[1] == "lockdep" && count == 2 && fields[2] ~ /^[0-9]+$/) tell("case", "newer")
+    if (fields[1] == "lockdep" && count == 2 && fields[2] ~ /^([3-9]|[1-9][0-9]+)$/) tell("case", "newer")
     else if (text ~ /^ *lockdep *, *[12] *$/) tell("case", "space")
     else if (text ~ /^[#;\/]/) tell("case", "comment")
     else if (fields[1] ~ /^(acq|rel|enter|leave|on|off)$/) tell("case", "event")
@@ -181,11 +181,17 @@ function tell_enter() {
     }
 }
 
+# Whether what is wrong comes from a double quote that is still open at the end: it took in the fields behind it, or is in the last one.
+function is_unclosed() {
+    return is_open && (code == "T2" || (code == "T1" && count == 2) || (code == "T4" && count == 3) || (code == "T5" && count == 4))
+}
+
 function tell_all() {
     tell("first", first)
     tell("last", last)
     tell("text", shown(text))
-    if (code == "T1") tell_header()
+    if (is_unclosed()) tell("case", "quote")
+    else if (code == "T1") tell_header()
     else if (code == "T2") tell_record()
     else if (code == "T3") tell_name()
     else if (code == "T4" && has_space(fields[3])) tell("case", "space")
@@ -209,7 +215,7 @@ function begin() {
     field = last_many = last_few = ""
     state = "start"
     first = NR
-    text = line
+    text = first_line = line
 }
 
 # Sets the fields of a record that is just this line and occurred before, which saves examining each of its characters: traces repeat
@@ -273,7 +279,13 @@ NR == 1 && substr($0, 1, 3) == "\357\273\277" { $0 = substr($0, 4) }
     exit
 }
 
-# A trace without any record is refused at record 1.
+# A trace without any record is refused at record 1. In one whose last double quote is never closed, the line with that is shown.
 END {
+    if (!was_told && is_open && record == number) {
+        end_field()
+        last = first
+        text = first_line
+        tell_all()
+    }
     if (!was_told && record == 0 && code == "T1") tell("case", "empty")
 }
