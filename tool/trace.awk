@@ -9,6 +9,22 @@
 
 # ---- The fields of a record.
 
+# Adds to the field. A long text would be copied for each of its characters, so the last ones are kept by themselves at first.
+function add(c) {
+    last_few = last_few c
+    if (length(last_few) < 100) return
+    last_many = last_many last_few
+    last_few = ""
+    if (length(last_many) < 20000) return
+    field = field last_many
+    last_many = ""
+}
+
+function end_field() {
+    fields[++count] = field last_many last_few
+    field = last_many = last_few = ""
+}
+
 # Reads a line of the file. A field that begins with a double quote goes on until the quote is closed.
 function take(line,    i, n, c) {
     n = length(line)
@@ -16,17 +32,16 @@ function take(line,    i, n, c) {
         c = substr(line, i, 1)
         if (state == "quoted") {
             if (c == "\"") state = "closed"
-            else field = field c
+            else add(c)
         } else if (state == "closed" && c == "\"") {
-            field = field c
+            add(c)
             state = "quoted"
         } else if (c == ",") {
-            fields[++count] = field
-            field = ""
+            end_field()
             state = "start"
         } else if (state == "start" && c == "\"") state = "quoted"
         else {
-            field = field c
+            add(c)
             state = "inside"
         }
     }
@@ -101,7 +116,7 @@ function tell(name, text) { print name, text }
 function has_space(text) { return text ~ /^ | $/ }
 
 function tell_header() {
-    if (fields[1] == "lockdep" && count == 2 && fields[2] ~ /^[0-9]+$/) tell("case", "newer")
+    if (fields[1] == "lockdep" && count == 2 && fields[2] ~ /^([3-9]|[1-9][0-9]+)$/) tell("case", "newer")
     else if (text ~ /^ *lockdep *, *[12] *$/) tell("case", "space")
     else if (text ~ /^[#;\/]/) tell("case", "comment")
     else if (fields[1] ~ /^(acq|rel|enter|leave|on|off)$/) tell("case", "event")
@@ -166,11 +181,17 @@ function tell_enter() {
     }
 }
 
+# Whether what is wrong comes from a double quote that is still open at the end: it took in the fields behind it, or is in the last one.
+function is_unclosed() {
+    return is_open && (code == "T2" || (code == "T1" && count == 2) || (code == "T4" && count == 3) || (code == "T5" && count == 4))
+}
+
 function tell_all() {
     tell("first", first)
     tell("last", last)
     tell("text", shown(text))
-    if (code == "T1") tell_header()
+    if (is_unclosed()) tell("case", "quote")
+    else if (code == "T1") tell_header()
     else if (code == "T2") tell_record()
     else if (code == "T3") tell_name()
     else if (code == "T4" && has_space(fields[3])) tell("case", "space")
@@ -191,10 +212,10 @@ function begin() {
     record++
     split("", fields)
     count = 0
-    field = ""
+    field = last_many = last_few = ""
     state = "start"
     first = NR
-    text = line
+    text = first_line = line
 }
 
 # Sets the fields of a record that is just this line and occurred before, which saves examining each of its characters: traces repeat
@@ -217,10 +238,10 @@ function ends_record() {
     take(line)
     is_open = state == "quoted"
     if (is_open) {
-        if (ends_with_cr) field = field "\r"
+        if (ends_with_cr) add("\r")
         return 0
     }
-    fields[++count] = field
+    end_field()
     if (record < number && first == NR) keep()
     return 1
 }
@@ -239,8 +260,8 @@ NR == 1 && substr($0, 1, 3) == "\357\273\277" { $0 = substr($0, 4) }
     if (index(line, "\r") && index(line, "\r") < length(line)) exit
     ends_with_cr = sub(/\r$/, "", line)
     if (is_open) {
-        field = field "\n"
-        text = text "\n" line
+        add("\n")
+        if (length(text) < 1000) text = text "\n" line # more isn't shown
         if (!ends_record()) next
     } else {
         if (line == "") next
@@ -258,7 +279,13 @@ NR == 1 && substr($0, 1, 3) == "\357\273\277" { $0 = substr($0, 4) }
     exit
 }
 
-# A trace without any record is refused at record 1.
+# A trace without any record is refused at record 1. In one whose last double quote is never closed, the line with that is shown.
 END {
+    if (!was_told && is_open && record == number) {
+        end_field()
+        last = first
+        text = first_line
+        tell_all()
+    }
     if (!was_told && record == 0 && code == "T1") tell("case", "empty")
 }
