@@ -7,18 +7,25 @@ use ld_trace::{KeyId, KeyTable, RawTrace, TraceFault, TraceFaultKind, trace_text
 use std::alloc::{AllocError, Global};
 use std::process::Abort;
 use std::sync::Wait;
-use std::sync::atomic::{AtomicBool, Ordering};
+use std::sync::atomic::{AtomicBool, AtomicUsize, Ordering};
 use std::thread::Threads;
 
-// Texts as sources. If the first one is opened ahead, it waits there until another one is: so two are read at once.
+// Texts as sources. If the first one is opened ahead, it waits there until another one is: so two are read at once. Those that are opened
+// in their turn are counted.
 #[derive(Drop)]
 struct Texts<'t> {
     texts: &'t [&'t str],
     others: AtomicBool,
     met: AtomicBool,
+    in_turn: AtomicUsize,
 }
 
 impl<'t> Texts<'t> {
+    fn text(&self, place: usize) -> Option<&'t [u8]> {
+        let text = *self.texts.get(place)?;
+        Some(text.as_bytes())
+    }
+
     fn wait_for_others(&self) {
         for _ in 0..1_000_000_000 {
             if self.others.load(Ordering::SeqCst) {
@@ -41,12 +48,12 @@ impl<'t> Sources for Texts<'t> {
         if place > 0 {
             self.others.store(true, Ordering::SeqCst);
         }
-        self.open(place)
+        self.text(place)
     }
 
     fn open(&self, place: usize) -> Option<&'t [u8]> {
-        let text = *self.texts.get(place)?;
-        Some(text.as_bytes())
+        self.in_turn.fetch_add(1, Ordering::SeqCst);
+        self.text(place)
     }
 }
 
@@ -130,18 +137,19 @@ fn are_named(names: &[&str], keys: &KeyTable) -> bool {
     names.len() == keys.len()
 }
 
-// Whether so many threads give what the case says, and whether two of them read at once.
+// Whether so many threads give what the case says, whether two of them read at once, and how many texts were opened in their turn.
 fn reads<R: Threads + Wait + Sync + Abort>(
     rt: &R,
     alloc: Global,
     threads: usize,
     case: &Case<'_>,
-) -> Option<(bool, bool)> {
+) -> Option<(bool, bool, usize)> {
     let (texts, count, stops, names) = *case;
     let sources = Texts {
         texts,
         others: AtomicBool::new(false),
         met: AtomicBool::new(false),
+        in_turn: AtomicUsize::new(0),
     };
     let mut keys = KeyTable::new(alloc).ok()?;
     let mut traces = Vec::new(alloc);
@@ -163,7 +171,14 @@ fn reads<R: Threads + Wait + Sync + Abort>(
     };
     let written = are_written(alloc, texts, traces.as_slice(), &keys).ok()?;
     let right = read == wanted && traces.len() == count && written && are_named(names, &keys);
-    Some((right, sources.met.load(Ordering::SeqCst)))
+    let met = sources.met.load(Ordering::SeqCst);
+    Some((right, met, sources.in_turn.load(Ordering::SeqCst)))
+}
+
+// How many texts are opened in their turn: all that one thread reads; by several the first that is refused, if there is one.
+fn opened_in_turn(threads: usize, case: &Case<'_>) -> usize {
+    let read = if threads > 1 { 0 } else { case.1 };
+    read.saturating_add(case.2.is_some() as usize)
 }
 
 #[test]
@@ -171,7 +186,8 @@ fn threads_read_as_one(rt: HostRuntime) {
     for case in &CASES {
         for threads in [1, 2, 4] {
             let got = reads(&rt, rt.alloc(), threads, case);
-            assert_eq!(rt; got, Some((true, threads > 1)));
+            let opened = opened_in_turn(threads, case);
+            assert_eq!(rt; got, Some((true, threads > 1, opened)));
         }
     }
 }
