@@ -28,20 +28,20 @@ settles-same book facts tallies keys facts_are = (
 )
 
 -- settling with the tally of all traces ends the run
-pub settled_ends : (traces : List (List Event)) (workers : ℕ) (facts : FactParts) (r : Result FactParts RunFault) → IfOk r (λ settled. settled ≡ facts) → IfErr r (λ fault. fault ≡ Unsettled) → CompletesRun traces workers facts → EndsRun traces workers r
-settled_ends traces workers facts (Ok settled) same none completed = subst (CompletesRun traces workers) (sym same) completed
-settled_ends traces workers facts (Err fault) none is completed =
-    subst (StopsRun traces workers) (sym is) (completed.crew, completed.few, completed.well_formed)
+pub settled_ends : (traces : List (List Event)) (keys workers : ℕ) (facts : FactParts) (r : Result FactParts RunFault) → IfOk r (λ settled. settled ≡ facts) → IfErr r (λ fault. fault ≡ Unsettled) → CompletesRun traces workers facts → EndsRun traces keys workers r
+settled_ends traces keys workers facts (Ok settled) same none completed = subst (CompletesRun traces workers) (sym same) completed
+settled_ends traces keys workers facts (Err fault) none is completed =
+    subst (StopsRun traces keys workers) (sym is) (completed.crew, completed.few, completed.well_formed)
 
 -- a trace that isn't well formed ends the run
-pub refused_ends : (traces : List (List Event)) (workers : ℕ) (trace : ℕ) (first : StepAt) (fault : RunFault) → fault ≡ Refused trace first.place first.fault → IsCrew workers → length traces ≤ MAX_TRACES → IsFirstRefused traces trace first → StopsRun traces workers fault
-refused_ends traces workers trace first fault is crew few refused = subst (StopsRun traces workers) (sym is) (crew, few, refused)
+pub refused_ends : (traces : List (List Event)) (keys workers : ℕ) (trace : ℕ) (first : StepAt) (fault : RunFault) → fault ≡ Refused trace first.place first.fault → IsCrew workers → length traces ≤ MAX_TRACES → IsFirstRefused traces trace first → StopsRun traces keys workers fault
+refused_ends traces keys workers trace first fault is crew few refused = subst (StopsRun traces keys workers) (sym is) (crew, few, refused)
 
 -- what the end says of each outcome
-pub ends_ok : (traces : List (List Event)) (workers : ℕ) (r : Result FactParts RunFault) → EndsRun traces workers r → IfOk r (CompletesRun traces workers)
-ends_ok traces workers (Ok facts) ends = ends
-ends_ok traces workers (Err fault) ends = tt
+pub ends_ok : (traces : List (List Event)) (keys workers : ℕ) (r : Result FactParts RunFault) → EndsRun traces keys workers r → IfOk r (CompletesRun traces workers)
+ends_ok traces keys workers (Ok facts) ends = ends
+ends_ok traces keys workers (Err fault) ends = tt
 
-pub ends_err : (traces : List (List Event)) (workers : ℕ) (r : Result FactParts RunFault) → EndsRun traces workers r → IfErr r (StopsRun traces workers)
-ends_err traces workers (Ok facts) ends = tt
-ends_err traces workers (Err fault) ends = ends
+pub ends_err : (traces : List (List Event)) (keys workers : ℕ) (r : Result FactParts RunFault) → EndsRun traces keys workers r → IfErr r (StopsRun traces keys workers)
+ends_err traces keys workers (Ok facts) ends = tt
+ends_err traces keys workers (Err fault) ends = ends

@@ -4,10 +4,8 @@ use Rattle.ld_run.specs.declared.board_fault.BoardFault.{BoardFault}
 use Rattle.ld_run.specs.declared.board_fault.BoardFault.TheVariants as C
 use Rattle.ld_run.specs.declared.condense_fault.CondenseFault.{CondenseFault}
 use Rattle.ld_run.specs.declared.condense_fault.CondenseFault.TheVariants as D
-use Rattle.ld_run.specs.declared.survey_fault.SurveyFault.{SurveyFault}
-use Rattle.ld_run.specs.declared.survey_fault.SurveyFault.TheVariants as M
 use Rattle.ld_run.specs.declared.fault.RunFault.{RunFault}
-use Rattle.ld_run.specs.declared.fault.RunFault.TheVariants.{BadWorkers, TooManyTraces, Unsettled, Memory, Refused}
+use Rattle.ld_run.specs.declared.fault.RunFault.TheVariants.{BadWorkers, TooManyTraces, Unsettled, Memory, Refused, TooTangled}
 
 -- the fault's number and name
 abbrev pub run_code_of : RunFault → List ℕ
@@ -16,6 +14,7 @@ run_code_of TooManyTraces = codes "N2 TooManyTraces"
 run_code_of Unsettled = codes "N3 Unsettled"
 run_code_of Memory = codes "N4 Memory"
 run_code_of (Refused trace place fault) = codes "N5 Refused"
+run_code_of TooTangled = codes "M1 TooTangled"
 
 -- the number and name of a board's fault
 abbrev pub board_code_of : BoardFault → List ℕ
@@ -26,9 +25,3 @@ board_code_of C.Memory = codes "C2 Memory"
 abbrev pub condense_code_of : CondenseFault → List ℕ
 condense_code_of D.Unequal = codes "E1 Unequal"
 condense_code_of D.Memory = codes "E2 Memory"
-
--- the number and name of why a survey isn't completed
-abbrev pub survey_code_of : SurveyFault → List ℕ
-survey_code_of M.TooTangled = codes "M1 TooTangled"
-survey_code_of M.Memory = codes "M2 Memory"
-survey_code_of (M.Refused trace place fault) = codes "N5 Refused"

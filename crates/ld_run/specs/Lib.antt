@@ -8,5 +8,4 @@ pub mod Seats
 pub mod Boards
 pub mod Condensing
 pub mod Work
-pub mod Surveys
 pub mod Reading

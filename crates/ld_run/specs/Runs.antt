@@ -6,8 +6,9 @@ use Rattle.ld_facts.specs.FactBits.{FactParts, HasFact}
 use Rattle.ld_facts.specs.Facts.{AreSame}
 use Rattle.ld_facts.specs.TraceFacts.{TracesHave, IsFirstRefused}
 use Rattle.ld_run.specs.declared.fault.RunFault.{RunFault}
-use Rattle.ld_run.specs.declared.fault.RunFault.TheVariants.{BadWorkers, TooManyTraces, Unsettled, Memory, Refused}
+use Rattle.ld_run.specs.declared.fault.RunFault.TheVariants.{BadWorkers, TooManyTraces, Unsettled, Memory, Refused, TooTangled}
 use Rattle.ld_run.specs.declared.runs.TheConstants.{MAX_WORKERS}
+use Rattle.ld_trace.specs.declared.key_id.TheConstants.{MAX_KEYS}
 use Rattle.ld_trace.specs.declared.raw_trace.TheConstants.{MAX_TRACES}
 
 -- there can be this many workers
@@ -21,19 +22,22 @@ pub record CompletesRun (traces : List (List Event)) (workers : ℕ) (facts : Fa
   pub well_formed : All IsWellFormed traces
   pub facts_are : AreSame (HasFact facts) (TracesHave traces)
 
--- the run of this many workers over these traces was refused: for the number of workers; for the number of traces; by
--- the first trace that isn't well formed, with its first event that isn't allowed; because memory was refused; or
--- because the facts differ, which they only do if all traces are well formed
-abbrev pub StopsRun : List (List Event) → ℕ → RunFault → Type 0
-StopsRun traces workers BadWorkers = ¬ IsCrew workers
-StopsRun traces workers TooManyTraces = IsCrew workers × (MAX_TRACES < length traces)
-StopsRun traces workers Unsettled = IsCrew workers × (length traces ≤ MAX_TRACES) × All IsWellFormed traces
-StopsRun traces workers Memory = IsCrew workers × (length traces ≤ MAX_TRACES)
-StopsRun traces workers (Refused trace place fault) =
+-- the run of this many workers over these traces of so many keys was refused: for the number of workers; for the number
+-- of traces; by the first trace that isn't well formed, with its first event that isn't allowed; because memory was
+-- refused; because the facts differ; or because the keys are tangled, and more than 256. The last two only happen if all
+-- traces are well formed
+abbrev pub StopsRun : List (List Event) → (keys workers : ℕ) → RunFault → Type 0
+StopsRun traces keys workers BadWorkers = ¬ IsCrew workers
+StopsRun traces keys workers TooManyTraces = IsCrew workers × (MAX_TRACES < length traces)
+StopsRun traces keys workers Unsettled = IsCrew workers × (length traces ≤ MAX_TRACES) × All IsWellFormed traces
+StopsRun traces keys workers Memory = IsCrew workers × (length traces ≤ MAX_TRACES)
+StopsRun traces keys workers (Refused trace place fault) =
     IsCrew workers × (length traces ≤ MAX_TRACES) ×
     IsFirstRefused traces trace (record { fault = fault; place = place })
+StopsRun traces keys workers TooTangled =
+    IsCrew workers × (length traces ≤ MAX_TRACES) × All IsWellFormed traces × (MAX_KEYS < keys)
 
 -- the run ended in this way
-abbrev pub EndsRun : List (List Event) → ℕ → Result FactParts RunFault → Type 0
-EndsRun traces workers (Ok facts) = CompletesRun traces workers facts
-EndsRun traces workers (Err fault) = StopsRun traces workers fault
+abbrev pub EndsRun : List (List Event) → (keys workers : ℕ) → Result FactParts RunFault → Type 0
+EndsRun traces keys workers (Ok facts) = CompletesRun traces workers facts
+EndsRun traces keys workers (Err fault) = StopsRun traces keys workers fault

@@ -3,7 +3,7 @@
 ghost use Rattle.std.specs.Prelude.{◌≡◌};
 ghost use Rattle.ld_run.specs.Faults.{run_code_of};
 
-use ld_task::StepFault;
+use ld_task::{StepAt, StepFault};
 use thiserror::Error;
 
 /// Why a run isn't completed.
@@ -29,6 +29,10 @@ pub enum RunFault {
         place: usize,
         fault: StepFault,
     },
+    /// M1: there are more than 256 keys, and they can't be split into parts of at most 256. As far as a search found,
+    /// more than 256 of them all lead to each other by dependencies and interrupt links.
+    #[error("more than 256 keys are tangled")]
+    TooTangled,
 }
 
 impl RunFault {
@@ -42,6 +46,18 @@ impl RunFault {
             RunFault::Unsettled => "N3 Unsettled",
             RunFault::Memory => "N4 Memory",
             RunFault::Refused { .. } => "N5 Refused",
+            RunFault::TooTangled => "M1 TooTangled",
         }
+    }
+}
+
+// The fault of a trace that isn't well formed.
+pub(crate) fn refused_by(trace: usize, first: StepAt) -> RunFault
+    ensures { result ≡ RunFault.Refused trace first.place first.fault }
+{
+    RunFault::Refused {
+        trace,
+        place: first.place,
+        fault: first.fault,
     }
 }

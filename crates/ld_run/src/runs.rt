@@ -2,6 +2,7 @@
 
 ghost use Rattle.std.specs.Prelude.{◌≡◌, ◌+◌, ◌≤◌, ◌<◌, ◌↔◌, ◌++◌, ℕ, List, All, IfOk, IfErr, IsErrOf, IsFalse, count_by, length, map, sum_by, vec_capacity, vec_len};
 ghost use Rattle.ld_trace.specs.declared.event.Event.{Event};
+ghost use Rattle.ld_trace.specs.declared.key_id.TheConstants.{MAX_MANY};
 ghost use Rattle.ld_trace.specs.Events.{KeysBelow};
 ghost use Rattle.ld_task.specs.Events.{makes_chain};
 ghost use Rattle.ld_run.specs.Runs.{CompletesRun, EndsRun, IsCrew, StopsRun};
@@ -13,10 +14,11 @@ ghost use Rattle.ld_run.specs.Inside.Crews.{HasDrawn, SomeHasDrawn, earlier_refu
 ghost use Rattle.ld_run.specs.Tallies.{IsTally, LeastRefusedIs};
 
 use crate::board::Board;
-use crate::fault::RunFault;
+use crate::fault::{RunFault, refused_by};
 use crate::gate::Gate;
 use crate::seat::Seat;
 use crate::settled::{Settled, settle};
+use crate::surveys::survey;
 use crate::worker::{Lost, Worked, work};
 use ld_book::{Book, LockedBook};
 use ld_facts::Facts;
@@ -46,11 +48,16 @@ struct Crew<'a, R, G> {
 /// traces together, if the book and the board agree on them. If a thread can't be made, the calling thread does its
 /// work; if there are fewer traces than workers, no thread is made for those that would find nothing to do.
 ///
-/// The caller makes sure that all keys of the traces are below `keys`, and that `keys` is at most 256.
+/// With more than 256 keys there is no board, no book and no call of the gate: each worker walks its share of the traces
+/// and adds their facts to some of its own, which take 34 MB for 8,192 keys, and these are united.
+///
+/// The caller makes sure that all keys of the traces are below `keys`, and that `keys` is at most 8,192.
 ///
 /// Refusals, in this order: N1 if `workers` isn't 1 to 64; N2 if there are more than 4,096 traces; N4 if memory is
 /// refused; N5 if a trace isn't well formed, with the first such trace and its first event that isn't allowed; N3 if
-/// the book and the board don't agree. The traces are only borrowed.
+/// the book and the board don't agree. With more than 256 keys M1 comes instead of N3, if they can't be split into parts
+/// of at most 256 such that what is found among all keys is found in the parts, or N4 again if memory is refused for the
+/// parts. The traces are only borrowed.
 pub fn run<R: Threads + Wait + Sync, G: Gate + Sync>(
     rt: &R,
     alloc: Global,
@@ -59,13 +66,13 @@ pub fn run<R: Threads + Wait + Sync, G: Gate + Sync>(
     workers: u16,
     gate: &G,
 ) -> Result<Settled, RunFault>
-    requires few { keys ≤ MAX_KEYS }
+    requires few { keys ≤ MAX_MANY }
     requires below { All (KeysBelow keys) traces.now }
     ensures ok { IfOk result (CompletesRun traces.now workers) }
     ensures keys { IfOk result (λ settled. settled.keys ≡ keys) }
     ensures bad_workers { IsErrOf result RunFault.BadWorkers ↔ (¬ IsCrew workers) }
     ensures too_many { IsErrOf result RunFault.TooManyTraces ↔ (IsCrew workers × (MAX_TRACES < length traces.now)) }
-    ensures refused { IfErr result (StopsRun traces.now workers) }
+    ensures refused { IfErr result (StopsRun traces.now keys workers) }
 {
     if workers == 0 || workers > MAX_WORKERS {
         return Err(RunFault::BadWorkers);
@@ -73,10 +80,14 @@ pub fn run<R: Threads + Wait + Sync, G: Gate + Sync>(
     if traces.len() > MAX_TRACES {
         return Err(RunFault::TooManyTraces);
     }
-    complete(rt, alloc, traces, keys, usize::from(workers), gate)
+    if keys > MAX_KEYS {
+        survey(rt, alloc, traces, keys, usize::from(workers))
+    } else {
+        complete(rt, alloc, traces, keys, usize::from(workers), gate)
+    }
 }
 
-// The run, for numbers of workers and traces that are allowed.
+// The run of at most 256 keys, for numbers of workers and traces that are allowed.
 fn complete<R: Threads + Wait + Sync, G: Gate + Sync>(
     rt: &R,
     alloc: Global,
@@ -92,7 +103,7 @@ fn complete<R: Threads + Wait + Sync, G: Gate + Sync>(
     ensures ok { IfOk result (CompletesRun traces.now workers) }
     ensures keys { IfOk result (λ settled. settled.keys ≡ keys) }
     ensures allowed { ¬ IsErrOf result RunFault.BadWorkers × ¬ IsErrOf result RunFault.TooManyTraces }
-    ensures refused { IfErr result (StopsRun traces.now workers) }
+    ensures refused { IfErr result (StopsRun traces.now keys workers) }
 {
     let Ok(book) = Book::new(alloc, keys, chain_count(traces)) else {
         return Err(RunFault::Memory);
@@ -125,8 +136,8 @@ fn conclude(
     together: &Facts,
     refused: Option<(usize, StepAt)>,
 ) -> Result<Settled, RunFault>
-    ensures ends { (traces : List (List Event)) (workers : ℕ) → IsCrew workers → length traces ≤ MAX_TRACES
-        → IsTally traces together.now refused → EndsRun traces workers result }
+    ensures ends { (traces : List (List Event)) (keys workers : ℕ) → IsCrew workers → length traces ≤ MAX_TRACES
+        → IsTally traces together.now refused → EndsRun traces keys workers result }
     ensures keys { IfOk result (λ settled. settled.keys ≡ together.now.keys) }
     ensures allowed { ¬ IsErrOf result RunFault.BadWorkers × ¬ IsErrOf result RunFault.TooManyTraces }
 {
@@ -135,17 +146,6 @@ fn conclude(
     match refused {
         None => settle(book, together),
         Some((trace, first)) => Err(refused_by(trace, first)),
-    }
-}
-
-// The fault of a trace that isn't well formed.
-fn refused_by(trace: usize, first: StepAt) -> RunFault
-    ensures { result ≡ RunFault.Refused trace first.place first.fault }
-{
-    RunFault::Refused {
-        trace,
-        place: first.place,
-        fault: first.fault,
     }
 }
 

@@ -9,7 +9,7 @@ use Rattle.ld_run.specs.Runs.{IsCrew}
 use Rattle.ld_trace.specs.declared.raw_trace.TheConstants.{MAX_TRACES}
 use Rattle.ld_run.specs.declared.fault.RunFault.TheVariants as run
 use Rattle.lockdep.specs.declared.fault.ReportFault.{ReportFault}
-use Rattle.lockdep.specs.declared.fault.ReportFault.TheVariants.{Step, Run, Survey, Condensing, Out}
+use Rattle.lockdep.specs.declared.fault.ReportFault.TheVariants.{Step, Run, Condensing, Out}
 use Rattle.ld_text.specs.declared.write_fault.WriteFault.{WriteFault}
 use Rattle.lockdep.specs.Faults.{StopsSettled, StopsText}
 use Rattle.ld_text.specs.WriteFaults.{StopsWriting}
@@ -19,7 +19,6 @@ use Rattle.lockdep.specs.Texts.{OutputView, IsTextOf}
 pub StopsSettled-same : (output : OutputView) (A B : List ℕ → Type 0) → ((text : List ℕ) → A text → B text) → (old new : Option (List ℕ)) (fault : ReportFault) → StopsSettled output A old new fault → StopsSettled output B old new fault
 StopsSettled-same output A B same old new (Step trace at fault) stops = absurd stops
 StopsSettled-same output A B same old new (Run fault) stops = absurd stops
-StopsSettled-same output A B same old new (Survey fault) stops = absurd stops
 StopsSettled-same output A B same old new (Condensing fault) stops = stops
 StopsSettled-same output A B same old new (Out fault) stops = StopsWriting-same A B same old new fault stops
 
@@ -42,7 +41,6 @@ module _ (output kind : OutputView) (is : output ≡ kind) (A : List ℕ → Typ
 pub StopsText-settled : (output : OutputView) (traces : List (List Event)) (names : List Name) (workers : ℕ) (old new : Option (List ℕ)) → IsCrew workers → length traces ≤ MAX_TRACES → All IsWellFormed traces → (fault : ReportFault) → StopsSettled output (IsTextOf output traces names) old new fault → StopsText output traces names workers old new fault
 StopsText-settled output traces names workers old new crew few well_formed (Step trace at fault) stops = absurd stops
 StopsText-settled output traces names workers old new crew few well_formed (Run fault) stops = absurd stops
-StopsText-settled output traces names workers old new crew few well_formed (Survey fault) stops = absurd stops
 StopsText-settled output traces names workers old new crew few well_formed (Condensing fault) stops = (crew, few, well_formed, stops.0, stops.1)
 StopsText-settled output traces names workers old new crew few well_formed (Out fault) stops = (crew, few, well_formed, stops)
 
@@ -56,7 +54,7 @@ module _ (output : OutputView) (traces : List (List Event)) (names : List Name) 
   bad_workers_is (Err (Run run.Unsettled)) crew stops = (λ e. absurd (cc), λ no. absurd (no stops.0.0))
   bad_workers_is (Err (Run run.Memory)) crew stops = (λ e. absurd (cc), λ no. absurd (no stops.0.0))
   bad_workers_is (Err (Run (run.Refused trace place fault))) crew stops = absurd stops.0
-  bad_workers_is (Err (Survey fault)) crew stops = (λ e. absurd (cc), λ no. absurd (no stops.0))
+  bad_workers_is (Err (Run run.TooTangled)) crew stops = (λ e. absurd (cc), λ no. absurd (no stops.0.0))
   bad_workers_is (Err (Condensing fault)) crew stops = (λ e. absurd (cc), λ no. absurd (no stops.0))
   bad_workers_is (Err (Out fault)) crew stops = (λ e. absurd (cc), λ no. absurd (no stops.0))
 
@@ -69,7 +67,7 @@ module _ (output : OutputView) (traces : List (List Event)) (names : List Name) 
   too_many_is (Err (Run run.Unsettled)) crew stops = (λ e. absurd (cc), λ more. absurd (omega (arith, stops.0.1, more.1)))
   too_many_is (Err (Run run.Memory)) crew stops = (λ e. absurd (cc), λ more. absurd (omega (arith, stops.0.1, more.1)))
   too_many_is (Err (Run (run.Refused trace place fault))) crew stops = absurd stops.0
-  too_many_is (Err (Survey fault)) crew stops = (λ e. absurd (cc), λ more. absurd (omega (arith, stops.1, more.1)))
+  too_many_is (Err (Run run.TooTangled)) crew stops = (λ e. absurd (cc), λ more. absurd (omega (arith, stops.0.1, more.1)))
   too_many_is (Err (Condensing fault)) crew stops = (λ e. absurd (cc), λ more. absurd (omega (arith, stops.1, more.1)))
   too_many_is (Err (Out fault)) crew stops = (λ e. absurd (cc), λ more. absurd (omega (arith, stops.1, more.1)))
 
@@ -81,6 +79,6 @@ StopsText-crew output traces names some others old new same (Run run.TooManyTrac
 StopsText-crew output traces names some others old new same (Run run.Unsettled) stops = ((same.0 stops.0.0, stops.0.1, stops.0.2), stops.1)
 StopsText-crew output traces names some others old new same (Run run.Memory) stops = ((same.0 stops.0.0, stops.0.1), stops.1)
 StopsText-crew output traces names some others old new same (Run (run.Refused trace place fault)) stops = absurd stops.0
-StopsText-crew output traces names some others old new same (Survey fault) stops = (same.0 stops.0, stops.1, stops.2, stops.3, stops.4)
+StopsText-crew output traces names some others old new same (Run run.TooTangled) stops = ((same.0 stops.0.0, stops.0.1, stops.0.2, stops.0.3), stops.1)
 StopsText-crew output traces names some others old new same (Condensing fault) stops = (same.0 stops.0, stops.1, stops.2, stops.3, stops.4)
 StopsText-crew output traces names some others old new same (Out fault) stops = (same.0 stops.0, stops.1, stops.2, stops.3)

@@ -4,7 +4,7 @@ use Rattle.ld_text.specs.Words.{Text}
 use Rattle.ld_trace.specs.Names.{Name}
 use Rattle.lockdep.specs.Program.{IsReadingRefusal, StopsReading}
 use Rattle.lockdep.specs.declared.refusal.Refusal.{Refusal}
-use Rattle.lockdep.specs.declared.refusal.Refusal.TheVariants.{BadCommandLine, CannotOpen, Output, Memory, Reading, Step, Run, Survey, Condensing}
+use Rattle.lockdep.specs.declared.refusal.Refusal.TheVariants.{BadCommandLine, CannotOpen, Output, Memory, Reading, Step, Run, Condensing}
 
 -- a file of the list is among their names
 pub named_at : (files : List (Bor Text)) (i : ℕ) (d : Bor Text) → i < length files → Contains (map (λ file. file.now) files) (slice_index_or files i d).now
@@ -33,7 +33,6 @@ StopsReading-one file room names bytes Memory h = absurd h
 StopsReading-one file room names bytes (Reading named fault) (is, why) = inl (0, omega arith, sym is)
 StopsReading-one file room names bytes (Step named at fault) h = absurd h
 StopsReading-one file room names bytes (Run fault) h = absurd h
-StopsReading-one file room names bytes (Survey fault) h = absurd h
 StopsReading-one file room names bytes (Condensing fault) h = absurd h
 
 -- the one file is among several, so what is it is among them
@@ -51,7 +50,6 @@ StopsReading-among room file files input (Reading named fault) among (inl h) = i
 StopsReading-among room file files input (Reading named fault) among (inr (none, h)) = absurd (cc)
 StopsReading-among room file files input (Step named at fault) among h = absurd h
 StopsReading-among room file files input (Run fault) among h = absurd h
-StopsReading-among room file files input (Survey fault) among h = absurd h
 StopsReading-among room file files input (Condensing fault) among h = absurd h
 
 -- without files it is standard input
@@ -63,7 +61,6 @@ StopsReading-input room files input Memory none h = tt
 StopsReading-input room files input (Reading named fault) none h = inr (none, h)
 StopsReading-input room files input (Step named at fault) none h = absurd h
 StopsReading-input room files input (Run fault) none h = absurd h
-StopsReading-input room files input (Survey fault) none h = absurd h
 StopsReading-input room files input (Condensing fault) none h = absurd h
 
 -- what holds of the error that is returned

@@ -2,9 +2,9 @@
 use Rattle.std.specs.Prelude.{ℕ, List, ◌++◌, codes, decimal}
 use Rattle.ld_trace.specs.TraceFaults.{code_of as trace_code_of}
 use Rattle.ld_task.specs.Faults.{code_of as step_code_of}
-use Rattle.ld_run.specs.Faults.{condense_code_of, run_code_of, survey_code_of}
+use Rattle.ld_run.specs.Faults.{condense_code_of, run_code_of}
 use Rattle.lockdep.specs.declared.refusal.Refusal.{Refusal}
-use Rattle.lockdep.specs.declared.refusal.Refusal.TheVariants.{BadCommandLine, CannotOpen, Output, Memory, Reading, Step, Run, Survey, Condensing}
+use Rattle.lockdep.specs.declared.refusal.Refusal.TheVariants.{BadCommandLine, CannotOpen, Output, Memory, Reading, Step, Run, Condensing}
 
 -- that of a record of a trace: the trace's file, the record's number and the fault's code
 abbrev pub record_line : (file : List ℕ) (at : ℕ) (code : List ℕ) → List ℕ
@@ -19,5 +19,4 @@ fault_line Memory = codes "lockdep: P4 Memory\n"
 fault_line (Reading file fault) = record_line file.now fault.at (trace_code_of fault.kind)
 fault_line (Step file at fault) = record_line file.now at (step_code_of fault)
 fault_line (Run fault) = codes "lockdep: " ++ (run_code_of fault ++ codes "\n")
-fault_line (Survey fault) = codes "lockdep: " ++ (survey_code_of fault ++ codes "\n")
 fault_line (Condensing fault) = codes "lockdep: " ++ (condense_code_of fault ++ codes "\n")

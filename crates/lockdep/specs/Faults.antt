@@ -11,19 +11,14 @@ use Rattle.ld_run.specs.Runs.{IsCrew, StopsRun}
 use Rattle.ld_trace.specs.declared.raw_trace.TheConstants.{MAX_TRACES}
 use Rattle.ld_run.specs.declared.fault.RunFault.{RunFault}
 use Rattle.lockdep.specs.declared.fault.ReportFault.{ReportFault}
-use Rattle.lockdep.specs.declared.fault.ReportFault.TheVariants.{Step, Run, Survey, Condensing, Out}
+use Rattle.lockdep.specs.declared.fault.ReportFault.TheVariants.{Step, Run, Condensing, Out}
 use Rattle.ld_run.specs.declared.fault.RunFault.TheVariants.{Refused}
-use Rattle.ld_run.specs.Surveys.{StopsSurvey}
-use Rattle.ld_run.specs.declared.survey_fault.SurveyFault.{SurveyFault}
-use Rattle.ld_run.specs.declared.survey_fault.SurveyFault.TheVariants as survey
-use Rattle.ld_trace.specs.declared.key_id.TheConstants.{MAX_KEYS}
 
 -- the output of settled facts was refused in this way: in condensing, if it is the condensed trace, and then nothing
 -- was written; or in writing a text that is as said
 abbrev pub StopsSettled : OutputView → (List ℕ → Type 0) → (old new : Option (List ℕ)) → ReportFault → Type 0
 StopsSettled output IsText old new (Step trace at fault) = ⊥
 StopsSettled output IsText old new (Run fault) = ⊥
-StopsSettled output IsText old new (Survey fault) = ⊥
 StopsSettled output IsText old new (Condensing fault) = (output ≡ condensed) × Keeps old new
 StopsSettled output IsText old new (Out fault) = StopsWriting IsText old new fault
 
@@ -31,29 +26,21 @@ StopsSettled output IsText old new (Out fault) = StopsWriting IsText old new fau
 abbrev pub IsBeforeWriting : ReportFault → Type 0
 IsBeforeWriting (Step trace at fault) = ⊥
 IsBeforeWriting (Run fault) = ⊥
-IsBeforeWriting (Survey fault) = ⊥
 IsBeforeWriting (Condensing fault) = ⊤
 IsBeforeWriting (Out fault) = fault ≡ Memory
 
 -- the run was refused in this way, and not for a trace that isn't well formed
-abbrev pub StopsOtherwise : List (List Event) → ℕ → RunFault → Type 0
-StopsOtherwise traces workers (Refused trace place fault) = ⊥
-StopsOtherwise traces workers fault = StopsRun traces workers fault
-
--- and so was the survey of many keys
-abbrev pub StopsSurveyOtherwise : List (List Event) → SurveyFault → Type 0
-StopsSurveyOtherwise traces (survey.Refused trace place fault) = ⊥
-StopsSurveyOtherwise traces fault = StopsSurvey traces fault
+abbrev pub StopsOtherwise : List (List Event) → (keys workers : ℕ) → RunFault → Type 0
+StopsOtherwise traces keys workers (Refused trace place fault) = ⊥
+StopsOtherwise traces keys workers fault = StopsRun traces keys workers fault
 
 -- the output of these traces, with this number of workers, was refused in this way: by the first trace that isn't well
--- formed, with the record of its first event that isn't allowed; by the run for another reason; by the survey for
--- another reason, if there are more than 256 keys; in condensing, if the output is the condensed trace; or in writing
+-- formed, with the record of its first event that isn't allowed; by the run for another reason; in condensing, if the
+-- output is the condensed trace; or in writing
 abbrev pub StopsText : OutputView → List (List Event) → List Name → (workers : ℕ) → (old new : Option (List ℕ)) → ReportFault → Type 0
 StopsText output traces names workers old new (Step trace at fault) =
-    (place : ℕ) × StopsRun traces workers (Refused trace place fault) × (at ≡ place + 2) × Keeps old new
-StopsText output traces names workers old new (Run fault) = StopsOtherwise traces workers fault × Keeps old new
-StopsText output traces names workers old new (Survey fault) = IsCrew workers × (length traces ≤ MAX_TRACES)
-    × (MAX_KEYS < length names) × StopsSurveyOtherwise traces fault × Keeps old new
+    (place : ℕ) × StopsRun traces (length names) workers (Refused trace place fault) × (at ≡ place + 2) × Keeps old new
+StopsText output traces names workers old new (Run fault) = StopsOtherwise traces (length names) workers fault × Keeps old new
 StopsText output traces names workers old new (Condensing fault) = IsCrew workers × (length traces ≤ MAX_TRACES)
     × All IsWellFormed traces × (output ≡ condensed) × Keeps old new
 StopsText output traces names workers old new (Out fault) = IsCrew workers × (length traces ≤ MAX_TRACES)

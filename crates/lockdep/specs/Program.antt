@@ -25,7 +25,7 @@ use Rattle.lockdep.specs.declared.fault.ReportFault.TheVariants as failed
 use Rattle.ld_text.specs.declared.write_fault.WriteFault.{WriteFault}
 use Rattle.ld_text.specs.declared.write_fault.WriteFault.TheVariants as write
 use Rattle.lockdep.specs.declared.refusal.Refusal.{Refusal}
-use Rattle.lockdep.specs.declared.refusal.Refusal.TheVariants.{BadCommandLine, CannotOpen, Output, Memory, Reading, Step, Run, Survey, Condensing}
+use Rattle.lockdep.specs.declared.refusal.Refusal.TheVariants.{BadCommandLine, CannotOpen, Output, Memory, Reading, Step, Run, Condensing}
 
 -- What is asked for.
 
@@ -172,7 +172,6 @@ IsReportRefusal files (failed.Step trace at fault) (Step named named_at named_fa
     (named.now ≡ file_at files trace) × (named_at ≡ at) × (named_fault ≡ fault)
 IsReportRefusal files (failed.Step trace at fault) _ = ⊥
 IsReportRefusal files (failed.Run fault) refusal = refusal ≡ Run fault
-IsReportRefusal files (failed.Survey fault) refusal = refusal ≡ Survey fault
 IsReportRefusal files (failed.Condensing fault) refusal = refusal ≡ Condensing fault
 IsReportRefusal files (failed.Out fault) refusal = refusal ≡ write_refusal_of fault
 

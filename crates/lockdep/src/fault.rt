@@ -1,6 +1,6 @@
 //! Why an output wasn't written.
 
-use ld_run::{CondenseFault, RunFault, SurveyFault};
+use ld_run::{CondenseFault, RunFault};
 use ld_task::StepFault;
 use ld_text::WriteFault;
 use thiserror::Error;
@@ -19,9 +19,6 @@ pub enum ReportFault {
     /// The run was refused for another reason. Nothing was written.
     #[error("{0}")]
     Run(RunFault),
-    /// The survey of many keys was refused for another reason. Nothing was written.
-    #[error("{0}")]
-    Survey(SurveyFault),
     /// The facts weren't condensed. Nothing was written.
     #[error("{0}")]
     Condensing(CondenseFault),

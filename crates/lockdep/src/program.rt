@@ -416,7 +416,6 @@ fn report_refusal<'a>(files: &[&'a str], fault: ReportFault) -> Refusal<'a>
             fault,
         },
         ReportFault::Run(fault) => Refusal::Run(fault),
-        ReportFault::Survey(fault) => Refusal::Survey(fault),
         ReportFault::Condensing(fault) => Refusal::Condensing(fault),
         ReportFault::Out(fault) => write_refusal(fault),
     }

@@ -6,7 +6,7 @@ ghost use Rattle.std.specs.Io.KnownBytes.{Appends};
 ghost use Rattle.lockdep.specs.FaultLines.{fault_line, record_line};
 ghost use Rattle.ld_text.specs.Output.{AppendsBeginning, PutsBehind};
 
-use ld_run::{CondenseFault, RunFault, SurveyFault};
+use ld_run::{CondenseFault, RunFault};
 use ld_task::StepFault;
 use ld_text::{WriteFault, digits_of, write_texts};
 use ld_trace::TraceFault;
@@ -41,8 +41,6 @@ pub(crate) enum Refusal<'a> {
     },
     /// The run over the traces is refused for another reason.
     Run(RunFault),
-    /// The survey of many keys is refused for another reason.
-    Survey(SurveyFault),
     /// The facts of the traces aren't condensed.
     Condensing(CondenseFault),
 }
@@ -81,7 +79,6 @@ fn tell<W: Write>(w: &mut W, refusal: Refusal<'_>) -> Result<(), WriteFault>
         Refusal::Reading { file, fault } => tell_record(w, file, fault.at, fault.code()),
         Refusal::Step { file, at, fault } => tell_record(w, file, at, fault.code()),
         Refusal::Run(fault) => write_texts(w, &["lockdep: ", fault.code(), "\n"]),
-        Refusal::Survey(fault) => write_texts(w, &["lockdep: ", fault.code(), "\n"]),
         Refusal::Condensing(fault) => write_texts(w, &["lockdep: ", fault.code(), "\n"]),
     }
 }

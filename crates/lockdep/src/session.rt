@@ -131,10 +131,10 @@ impl Session {
     /// Refusals, in this order: `Run` with N1 if `workers` isn't 1 to 64, with N2 if there are more than 4,096 traces, and with
     /// N4 if the run is out of memory; `Step` with the first trace that isn't well formed, the record of its first event that
     /// isn't allowed, and why; `Run` with N3 if the workers don't agree on the facts; `Condensing` with E2 if memory runs out for
-    /// a condensed trace, and with E1 if it doesn't have exactly the facts, which no test has met; `Out` if writing failed. For
-    /// more than 256 keys one survey is made instead of a run: then N4 is `Survey` with M2, and N3 is `Survey` with M1, if the
-    /// keys can't be split into parts of at most 256. Nothing was written in any of these cases, nor with O3, which means that
-    /// memory ran out for the text; with O1 and O2 exactly a beginning of the text was [this project's own].
+    /// a condensed trace, and with E1 if it doesn't have exactly the facts, which no test has met; `Out` if writing failed. With
+    /// more than 256 keys no chain is recorded, and M1 comes instead of N3, if the keys can't be split into parts of at most 256.
+    /// Nothing was written in any of these cases, nor with O3, which means that memory ran out for the text; with O1 and O2 exactly
+    /// a beginning of the text was [this project's own].
     pub fn write<R: Threads + Wait + Sync, W: Write, G: Gate + Sync>(
         self,
         rt: &R,

@@ -4,7 +4,7 @@ use crate::output::Output;
 use crate::refusal::{Refusal, refuse};
 use crate::session::Session;
 use crate::tests::helpers::{assert_text, text_in};
-use ld_run::{CondenseFault, RunFault, SurveyFault};
+use ld_run::{CondenseFault, RunFault};
 use ld_task::StepFault;
 use ld_text::WriteFault;
 use ld_trace::{TraceFault, TraceFaultKind};
@@ -57,7 +57,7 @@ fn traces_refused_in_reading(rt: HostRuntime) -> Result<(), Fail> {
 }
 
 // Refusals, and their lines.
-static LINES: [(Refusal<'_>, &str); 14] = [
+static LINES: [(Refusal<'_>, &str); 13] = [
     (Refusal::BadCommandLine, "lockdep: P1 BadCommandLine\n"),
     (
         Refusal::CannotOpen { file: "a b" },
@@ -94,10 +94,9 @@ static LINES: [(Refusal<'_>, &str); 14] = [
     (Refusal::Run(RunFault::Unsettled), "lockdep: N3 Unsettled\n"),
     (Refusal::Run(RunFault::Memory), "lockdep: N4 Memory\n"),
     (
-        Refusal::Survey(SurveyFault::TooTangled),
+        Refusal::Run(RunFault::TooTangled),
         "lockdep: M1 TooTangled\n",
     ),
-    (Refusal::Survey(SurveyFault::Memory), "lockdep: M2 Memory\n"),
     (
         Refusal::Condensing(CondenseFault::Unequal),
         "lockdep: E1 Unequal\n",

@@ -28,7 +28,7 @@ struct Run {
     used: &'static [u16],
 }
 
-static RUNS: [Run; 7] = [
+static RUNS: [Run; 9] = [
     Run {
         about: "two locks in both orders",
         keys: 2,
@@ -104,6 +104,35 @@ static RUNS: [Run; 7] = [
         traces: &[&[Write(B)], &[Give(A)], &[Leave]],
         times: 1,
         workers: &[1, 2, 8],
+        fault: Some(RunFault::Refused {
+            trace: 1,
+            place: 0,
+            fault: StepFault::NotHeld,
+        }),
+        dependencies: &[],
+        clean: true,
+        used: &[],
+    },
+    Run {
+        about: "more keys than a board takes, with traces enough for several threads",
+        keys: 300,
+        traces: &[
+            &[Write(A), Write(B), Give(B), Give(A)],
+            &[Write(B), Write(A), Give(A), Give(B)],
+        ],
+        times: 800,
+        workers: &[1, 2, 3, 64],
+        fault: None,
+        dependencies: &[(A, B, Kind::En), (B, A, Kind::En)],
+        clean: false,
+        used: &[A, B],
+    },
+    Run {
+        about: "the first of many traces that aren't well formed, of more keys than a board takes",
+        keys: 300,
+        traces: &[&[Write(B), Give(B)], &[Give(A)], &[Leave]],
+        times: 1000,
+        workers: &[1, 2, 3, 64],
         fault: Some(RunFault::Refused {
             trace: 1,
             place: 0,
@@ -252,7 +281,7 @@ fn a_trace_of_a_hundred_thousand_events(rt: HostRuntime) {
     assert_eq!(rt; is_clean_for_long(&rt, rt.alloc()), Some(true));
 }
 
-static CODES: [(RunFault, &str); 5] = [
+static CODES: [(RunFault, &str); 6] = [
     (RunFault::BadWorkers, "N1 BadWorkers"),
     (RunFault::TooManyTraces, "N2 TooManyTraces"),
     (RunFault::Unsettled, "N3 Unsettled"),
@@ -265,6 +294,7 @@ static CODES: [(RunFault, &str); 5] = [
         },
         "N5 Refused",
     ),
+    (RunFault::TooTangled, "M1 TooTangled"),
 ];
 
 fn have_codes(codes: &[(RunFault, &str)]) -> bool {

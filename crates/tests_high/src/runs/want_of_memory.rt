@@ -26,21 +26,23 @@ fn traces(alloc: Global) -> Option<Vec<RawTrace>> {
     )
 }
 
-// Runs two locks that two traces take in both orders. A run that is refused returns N4, and the same run then succeeds.
+// Runs two locks that two traces take in both orders, of so many keys. A run that is refused returns N4, and the same run
+// then succeeds.
 fn runs(
     rt: &(impl Threads + Wait + Sync + Abort + AllocGlobal + Print),
+    keys: u16,
     workers: u16,
 ) -> Result<(), Fail> {
     let both = match traces(rt.alloc()) {
         Some(both) => both,
         None => traces(rt.alloc()).ok_or("no traces")?,
     };
-    let settled = match run_over(rt, rt.alloc(), &both, 2, workers, &OpenGate) {
+    let settled = match run_over(rt, rt.alloc(), &both, keys, workers, &OpenGate) {
         Ok(settled) => settled,
         Err(fault) => {
             println!(rt; "refused: {}", fault.code())?;
             assert_eq!(rt; fault, RunFault::Memory);
-            run_over(rt, rt.alloc(), &both, 2, workers, &OpenGate)?
+            run_over(rt, rt.alloc(), &both, keys, workers, &OpenGate)?
         }
     };
     assert!(rt; settled.dependencies() == 2 && !settled.is_clean());
@@ -49,12 +51,17 @@ fn runs(
 
 #[test]
 fn want_of_memory_in_a_run_of_one_worker(rt: HostRuntime) -> Result<(), Fail> {
-    runs(&rt, 1)
+    runs(&rt, 2, 1)
 }
 
 #[test]
 fn want_of_memory_in_a_run_of_four_workers(rt: HostRuntime) -> Result<(), Fail> {
-    runs(&rt, 4)
+    runs(&rt, 2, 4)
+}
+
+#[test]
+fn want_of_memory_in_a_run_of_many_keys(rt: HostRuntime) -> Result<(), Fail> {
+    runs(&rt, 300, 1)
 }
 
 // What is on a board that is opened and closed.
