@@ -13,9 +13,9 @@ ghost use Rattle.ld_run.specs.Condensing.{IsCondensed};
 
 use crate::adding::add_trace;
 use crate::condense_fault::CondenseFault;
-use ld_parts::Settled;
 use ld_facts::Facts;
 use ld_graph::{Kind, Mark};
+use ld_parts::Settled;
 use ld_trace::{Event, Irq, KeyId, Mode, RawTrace};
 use std::alloc::{AllocError, Global};
 
