@@ -138,12 +138,12 @@ fn place_of_share(traces: &[RawTrace], threads: usize) -> usize
 }
 
 // How many of the workers are worth facts of their own. To make and unite these takes about as long as to walk an event for every
-// sixteen of their words.
+// four of their words.
 pub(crate) fn useful_threads(traces: &[RawTrace], keys: u16, workers: usize) -> usize
     ensures { result ≤ workers }
 {
     let words = usize::from(keys) * usize::from(keys) / 16;
-    workers.min(event_count(traces) / (words / 16 + 1))
+    workers.min(event_count(traces) / (words / 4 + 1))
 }
 
 // How many events the traces have together.
