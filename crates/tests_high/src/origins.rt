@@ -2,6 +2,10 @@
 
 mod want_of_memory;
 
+ghost use Rattle.std.specs.Prelude.{◌≤◌, All, IsTrue, length};
+ghost use Rattle.ld_task.specs.WellFormed.{IsWellFormed};
+ghost use Rattle.ld_trace.specs.declared.raw_trace.TheConstants.{MAX_TRACES};
+
 use ld_explain::{Asked, Evidence, Origin, Origins};
 use ld_facts::Fact;
 use ld_graph::Kind::{En, Er, Sn, Sr};
@@ -271,17 +275,31 @@ fn asked_about(alloc: Global, facts: &[Known]) -> Option<Asked> {
     Some(asked)
 }
 
-// What traces of three keys say about these facts, if a run completes them, so that they are well formed.
+// Whether a run completes traces of three keys, so that they are well formed.
+fn are_run<R: Threads + Wait + Sync + Abort>(rt: &R, alloc: Global, traces: &[RawTrace]) -> bool
+    ensures well_formed { IsTrue result → All IsWellFormed traces.now }
+    ensures few { IsTrue result → length traces.now ≤ MAX_TRACES }
+{
+    assert!(rt; traces.iter().all(|trace| trace.keys_below(3)));
+    match run(rt, alloc, traces, 3, 1, &OpenGate) {
+        Ok(_) => true,
+        Err(_) => false,
+    }
+}
+
+// What traces of three keys say about these facts.
 fn evidence_of<R: Threads + Wait + Sync + Abort>(
     rt: &R,
     alloc: Global,
     traces: &[RawTrace],
     facts: &[Known],
 ) -> Option<Evidence> {
-    assert!(rt; traces.iter().all(|trace| trace.keys_below(3)));
-    run(rt, alloc, traces, 3, 1, &OpenGate).ok()?;
     let asked = asked_about(alloc, facts)?;
-    Evidence::of(alloc, traces, &asked).ok()
+    if are_run(rt, alloc, traces) {
+        Evidence::of(alloc, traces, &asked).ok()
+    } else {
+        None
+    }
 }
 
 fn is_known(origins: &Origins, known: Known) -> bool {
