@@ -257,7 +257,10 @@ NR == 1 && substr($0, 1, 3) == "\357\273\277" { $0 = substr($0, 4) }
 
 {
     line = $0
-    if (index(line, "\r") && index(line, "\r") < length(line)) exit
+    if (index(line, "\r") && index(line, "\r") < length(line)) {
+        has_lone_cr = 1
+        exit
+    }
     ends_with_cr = sub(/\r$/, "", line)
     if (is_open) {
         add("\n")
@@ -281,7 +284,7 @@ NR == 1 && substr($0, 1, 3) == "\357\273\277" { $0 = substr($0, 4) }
 
 # A trace without any record is refused at record 1. In one whose last double quote is never closed, the line with that is shown.
 END {
-    if (!was_told && is_open && record == number) {
+    if (!was_told && !has_lone_cr && is_open && record == number) {
         end_field()
         last = first
         text = first_line
