@@ -1,0 +1,1 @@
+-- Texts that were read as one come apart again.

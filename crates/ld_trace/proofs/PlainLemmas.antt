@@ -1,0 +1,1 @@
+-- Records of traces without fault are plain.
