@@ -2,7 +2,8 @@
 use Rattle.std.specs.Prelude.{◌&&◌}
 use Rattle.std.specs.List.{list_all}
 use Rattle.std.proofs.Common.{◌≡◌, ℕ, zero, suc, ◌+◌, not, Bool, true, false, true≢false, List, [], ◌∷◌, ◌++◌, ◌==◌, All, length, map, slice_get, Some, None, refl, sym, ap, subst, ◌∙◌, arith, append_assoc, if◌then◌else◌}
-use Rattle.std.proofs.lemmas.Bool.{and_parts, eqb-true}
+use Rattle.std.proofs.lemmas.Bool.{and_from, and_parts, eqb-true}
+use Rattle.std.proofs.lemmas.List.{length-map}
 use Rattle.std.proofs.lemmas.List.Elements.{All-head, All-tail}
 use Rattle.std.proofs.lemmas.List.Folds.{list_all-append}
 use Rattle.csv.specs.Machine.{ends_at_end, field_after, fields_after, step}
@@ -190,3 +191,146 @@ parts-same (p ∷ r ∷ a) (q ∷ s ∷ b) ha hb n e =
     let first = first-same p q (joined_records (r ∷ a)) (joined_records (s ∷ b)) (omega arith) (omega arith) e in
     let rest = parts-same (r ∷ a) (s ∷ b) (omega arith) (omega arith) (omega arith) first.1 in
     λ i. first.0 i ∷ rest i
+
+-- plain records have none
+not-point : (b : Bool) → (b ≡ true → ⊥) → one_if b ≡ 0
+unfolding one_if
+not-point true h = absurd (h refl)
+not-point false h = refl
+
+plain-points : (rows : List Record) → All IsPlain rows → points rows ≡ 0
+unfolding points
+plain-points [] plain = refl
+plain-points (row ∷ rows) plain =
+    let head = All-head IsPlain row rows plain in
+    let none = not-point (is_point row) (λ e. head.other (is_point-true row e)) in
+    omega (arith, plain-points rows (All-tail IsPlain row rows plain))
+
+plain-lines : (rows : List Record) → All IsPlain rows → list_all is_one_line rows ≡ true
+plain-lines [] plain = refl
+plain-lines (row ∷ rows) plain = and_from (is_one_line row) (list_all is_one_line rows) (All-head IsPlain row rows plain).one_line (plain-lines rows (All-tail IsPlain row rows plain))
+
+all-plain-points : (parts : List (List Record)) → All ArePlain parts → all_points parts ≡ 0
+unfolding all_points
+all-plain-points [] plain = refl
+all-plain-points (part ∷ parts) plain =
+    let here = plain-points part (All-head ArePlain part parts plain).plain in
+    omega (arith, all-plain-points parts (All-tail ArePlain part parts plain))
+
+all-plain-lines : (parts : List (List Record)) → All ArePlain parts → list_all is_one_line (joined_records parts) ≡ true
+unfolding joined_records
+all-plain-lines [] plain = refl
+all-plain-lines (part ∷ []) plain = plain-lines part (All-head ArePlain part [] plain).plain
+all-plain-lines (part ∷ next ∷ more) plain =
+    list_all-append is_one_line part (point ∷ joined_records (next ∷ more))
+    ∙ and_from (list_all is_one_line part) (list_all is_one_line (joined_records (next ∷ more))) (plain-lines part (All-head ArePlain part (next ∷ more) plain).plain)
+    (all-plain-lines (next ∷ more) (All-tail ArePlain part (next ∷ more) plain))
+
+-- ---- marks of byte order
+-- no mark reaches over a newline
+no-mark : (a : ℕ) → is_bom a 10 46 ≡ false
+no-mark a = by (a == 0xEF)
+  where
+    by : (b : Bool) → (b && false && false) ≡ false
+    by true = refl
+    by false = refl
+
+no-mark-late : (a b : ℕ) → is_bom a b 10 ≡ false
+no-mark-late a b = by (a == 0xEF) (b == 0xBB)
+  where
+    by : (c d : Bool) → (c && d && false) ≡ false
+    by true true = refl
+    by true false = refl
+    by false d = refl
+
+mark-first : (text rest : List ℕ) → strip_bom (text ++ between ++ rest) ≡ strip_bom text ++ between ++ rest
+unfolding strip_bom
+mark-first [] rest = refl
+mark-first (a ∷ []) rest = rw (no-mark a) refl
+mark-first (a ∷ b ∷ []) rest = rw (no-mark-late a b) refl
+mark-first (a ∷ b ∷ c ∷ text) rest = by (is_bom a b c)
+  where
+    by : (m : Bool) → (if m then text ++ between ++ rest else a ∷ b ∷ c ∷ text ++ between ++ rest) ≡ (if m then text else a ∷ b ∷ c ∷ text) ++ between ++ rest
+    by true = refl
+    by false = refl
+
+mark-joined : (text : List ℕ) (more : List (List ℕ)) → strip_bom (joined (text ∷ more)) ≡ joined (strip_bom text ∷ more)
+unfolding joined
+mark-joined text [] = refl
+mark-joined text (next ∷ more) = mark-first text (joined (next ∷ more))
+
+-- a record whose first field begins with a mark's first byte is no header
+abbrev HasMark : Record → Type 0
+HasMark row = (field : List ℕ) × (more : Record) × (row ≡ (0xEF ∷ field) ∷ more)
+
+mark-field-more : (row : Record) → HasMark row → HasMark (row ++ [] ∷ [])
+mark-field-more row has = (has.0, has.1 ++ [] ∷ [], ap (λ fields. fields ++ [] ∷ []) has.2)
+
+mark-byte-more : (fields : Record) (field : List ℕ) (c : ℕ) → HasMark (fields ++ field ∷ []) → HasMark (fields ++ (field ++ c ∷ []) ∷ [])
+mark-byte-more [] field c has =
+    let same : field ≡ 0xEF ∷ has.0 = let e = has.2 in cc in
+    (has.0 ++ c ∷ [], [], ap (λ bytes. (bytes ++ c ∷ []) ∷ []) same)
+mark-byte-more (first ∷ fields) field c has =
+    let same : first ≡ 0xEF ∷ has.0 = let e = has.2 in cc in
+    (has.0, fields ++ (field ++ c ∷ []) ∷ [], ap (λ bytes. bytes ∷ fields ++ (field ++ c ∷ []) ∷ []) same)
+
+mark-blank : ¬ (HasMark ([] ∷ []))
+mark-blank has = let e = has.2 in cc
+
+mark-no-header : (field : List ℕ) (more : Record) → version_of ((0xEF ∷ field) ∷ more) ≡ None
+unfolding version_of
+mark-no-header field [] = refl
+mark-no-header field (version ∷ []) = refl
+mark-no-header field (version ∷ next ∷ more) = refl
+
+marked-first : (b c : ℕ) (text : List ℕ) → ¬ (header_fault (slice_get (rows_of (0xEF ∷ b ∷ c ∷ text)) 0) ≡ None)
+unfolding rows_from
+marked-first b c text e =
+    let first = first-row HasMark mark-field-more mark-byte-more mark-blank st.InField [] (0xEF ∷ []) (b ∷ c ∷ text) (at-within st.InField [] (0xEF ∷ []) refl refl) ([], [], refl) in
+    let head : version_of first.0 ≡ None = rw first.3.2 (mark-no-header first.3.0 first.3.1) in
+    let fault = rw (first.2, head) at e in cc
+
+-- so a text whose first record is a header has none
+unmarked : (text : List ℕ) → header_fault (slice_get (rows_of text) 0) ≡ None → strip_bom text ≡ text
+unfolding strip_bom
+unmarked [] header = refl
+unmarked (a ∷ []) header = refl
+unmarked (a ∷ b ∷ []) header = refl
+unmarked (a ∷ b ∷ c ∷ text) header = by (is_bom a b c) refl
+  where
+    by : (m : Bool) → is_bom a b c ≡ m → (if m then text else a ∷ b ∷ c ∷ text) ≡ a ∷ b ∷ c ∷ text
+    by true e =
+        let same = eqb-true a 0xEF (and_parts (a == 0xEF) (b == 0xBB) (and_parts ((a == 0xEF) && (b == 0xBB)) (c == 0xBF) e).0).0 in
+        absurd (marked-first b c text (rw same at header))
+    by false e = refl
+
+unmarked-all : (texts : List (List ℕ)) → All ArePlain (map rows_of texts) → map records_of texts ≡ map rows_of texts
+unmarked-all [] plain = refl
+unmarked-all (text ∷ more) plain =
+    let first : records_of text ≡ rows_of text = records-rows (strip_bom text) ∙ ap rows_of (unmarked text (All-head ArePlain (rows_of text) (map rows_of more) plain).header) in
+    let rest = unmarked-all more (All-tail ArePlain (rows_of text) (map rows_of more) plain) in
+    λ i. first i ∷ rest i
+
+-- ---- the law
+parts-apart : (a b : List (List Record)) → length a ≡ length b → All ArePlain b → joined_records a ≡ joined_records b → a ≡ b
+parts-apart [] [] same plain all = refl
+parts-apart [] (q ∷ b) same plain all = absurd (omega arith)
+parts-apart (p ∷ a) [] same plain all = absurd (omega arith)
+parts-apart (p ∷ a) (q ∷ b) same plain all =
+    let count = ap points all in
+    let none = all-plain-points (q ∷ b) plain in
+    parts-same (p ∷ a) (q ∷ b) (omega (arith, points-joined p a, points-joined q b)) none same all
+
+pub texts-come-apart : TextsComeApart
+texts-come-apart [] [] same plain all = refl
+texts-come-apart [] (part ∷ parts) same plain all = absurd (omega arith)
+texts-come-apart (text ∷ more) parts same plain all =
+    let own = strip_bom text ∷ more in
+    let rows : rows_of (joined own) ≡ joined_records parts = sym (ap rows_of (mark-joined text more)) ∙ sym (records-rows (strip_bom (joined (text ∷ more)))) ∙ all in
+    let lines : list_all is_one_line (rows_of (joined own)) ≡ true = ap (list_all is_one_line) rows ∙ all-plain-lines parts plain in
+    let long : length (map rows_of more) ≡ length more = length-map more rows_of in
+    let each : map rows_of own ≡ parts = parts-apart (map rows_of own) parts (omega arith) plain (sym (joined-rows own lines) ∙ rows) in
+    let later : All ArePlain (map rows_of more) = All-tail ArePlain (rows_of (strip_bom text)) (map rows_of more) (rw (← each) at plain) in
+    let first : records_of text ≡ rows_of (strip_bom text) = records-rows (strip_bom text) in
+    let rest = unmarked-all more later in
+    (λ i. first i ∷ rest i) ∙ each
