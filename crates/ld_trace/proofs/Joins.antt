@@ -1,21 +1,20 @@
 -- Texts that were read as one come apart again.
 use Rattle.std.specs.Prelude.{◌&&◌}
 use Rattle.std.specs.List.{list_all}
-use Rattle.std.proofs.Common.{◌≡◌, ℕ, zero, suc, ◌+◌, not, Bool, true, false, true≢false, List, [], ◌∷◌, ◌++◌, ◌==◌, All, length, map, slice_get, Some, None, refl, sym, ap, subst, ◌∙◌, arith, append_assoc, if◌then◌else◌}
+use Rattle.std.proofs.Common.{◌≡◌, ℕ, ◌+◌, not, Bool, true, false, true≢false, List, [], ◌∷◌, ◌++◌, ◌==◌, All, length, map, slice_get, None, refl, sym, ap, ◌∙◌, arith, if◌then◌else◌}
 use Rattle.std.proofs.lemmas.Bool.{and_from, and_parts, eqb-true}
 use Rattle.std.proofs.lemmas.List.{length-map}
 use Rattle.std.proofs.lemmas.List.Elements.{All-head, All-tail}
 use Rattle.std.proofs.lemmas.List.Folds.{list_all-append}
-use Rattle.csv.specs.Machine.{ends_at_end, field_after, fields_after, step}
-use Rattle.csv.specs.Reading.{default_config, is_bom, records, strip_bom}
-use Rattle.csv.specs.declared.parser.Action.{Action}
+use Rattle.csv.specs.Machine.{field_after, fields_after, step}
+use Rattle.csv.specs.Reading.{default_config, is_bom, strip_bom}
 use Rattle.csv.specs.declared.parser.Action.TheVariants as act
 use Rattle.csv.specs.declared.parser.State.{State}
 use Rattle.csv.specs.declared.parser.State.TheVariants as st
 use Rattle.ld_trace.specs.Joining.{ArePlain, IsPlain, TextsComeApart, between, is_one_line, joined, joined_records, point}
 use Rattle.ld_trace.specs.Lines.{Record, version_of}
 use Rattle.ld_trace.specs.Reading.{header_fault, records_of}
-use Rattle.ld_trace.proofs.RowLemmas.{Does, ends, goes, skips, IsAt, StartsWith, at-skipped, at-start, at-within, does, first-row, is_between, is_used, records-rows, rows-byte, rows-within, rows_from, rows_of}
+use Rattle.ld_trace.proofs.RowLemmas.{Does, ends, goes, skips, IsAt, at-skipped, at-start, at-within, does, first-row, is_between, records-rows, rows-byte, rows-within, rows_from, rows_of}
 
 -- ---- a newline within quotes
 abbrev HasNewline : Record → Type 0

@@ -1,9 +1,9 @@
 -- The records of a trace without fault are plain.
-use Rattle.std.specs.Prelude.{◌&&◌, ◌||◌}
+use Rattle.std.specs.Prelude.{◌&&◌}
 use Rattle.std.specs.List.{list_all}
 use Rattle.std.specs.Str.{bytes_eq}
-use Rattle.std.proofs.Common.{◌≡◌, ◌≢◌, ℕ, zero, suc, ◌+◌, ◌-◌, ◌≤◌, ◌<◌, not, Bool, true, false, true≢false, List, [], ◌∷◌, ◌==◌, All, codes, length, get_or, slice_get, nat_le, nat_lt, Option, Some, None, Result, Ok, Err, refl, sym, ap, ◌∙◌, arith, if◌then◌else◌}
-use Rattle.std.proofs.lemmas.Bool.{and_from, and_parts, eqb-true}
+use Rattle.std.proofs.Common.{◌≡◌, ℕ, zero, suc, ◌-◌, ◌<◌, not, Bool, true, false, List, [], ◌∷◌, ◌==◌, codes, length, get_or, slice_get, nat_le, nat_lt, Option, Some, None, Result, Ok, Err, refl, ap, ◌∙◌, arith, if◌then◌else◌}
+use Rattle.std.proofs.lemmas.Bool.{and_from, and_parts}
 use Rattle.std.proofs.lemmas.Bool.Decides.{nat_tests}
 use Rattle.std.proofs.lemmas.Option.{slice_get-get_or}
 use Rattle.std.proofs.lemmas.Slice.Eq.{bytes_eq-Decides}
@@ -13,14 +13,14 @@ use Rattle.ld_trace.specs.declared.event.Mode.{Mode}
 use Rattle.ld_trace.specs.declared.raw_trace.TheConstants.{MAX_EVENTS}
 use Rattle.ld_trace.specs.declared.stored_name.TheConstants.{MAX_NAME}
 use Rattle.ld_trace.specs.declared.trace_fault.TraceFaultKind.{TraceFaultKind}
-use Rattle.ld_trace.specs.declared.trace_fault.TraceFaultKind.TheVariants.{BadMode, BadName, BadRecord, BadSub, NoHeader, TooManyRecords}
+use Rattle.ld_trace.specs.declared.trace_fault.TraceFaultKind.TheVariants.{BadName, BadRecord, BadSub, TooManyRecords}
 use Rattle.ld_trace.specs.declared.version.Version.{Version}
 use Rattle.ld_trace.specs.declared.version.Version.TheVariants.{One, Two}
 use Rattle.ld_trace.specs.Inside.Progress.{AreTaken}
-use Rattle.ld_trace.specs.Joining.{ArePlain, IsPlain, is_one_line, point}
-use Rattle.ld_trace.specs.Lines.{Line, Record, acquire_line, irq_line, irq_of, leave_line, line_of_record, mode_of, name_of_fields, release_line, sub_of, taking, giving_back, try_mode_of, version_named, version_of}
+use Rattle.ld_trace.specs.Joining.{ArePlain, IsPlain, is_one_line}
+use Rattle.ld_trace.specs.Lines.{Line, Record, irq_line, irq_of, line_of_record, mode_of, name_of_fields, sub_of, taking, giving_back, try_mode_of, version_named, version_of}
 use Rattle.ld_trace.specs.Names.{Name, are_visible, is_class_name}
-use Rattle.ld_trace.specs.Reading.{fault_at, header_fault, line_fault, names_before, record_fault, version_fault, version_in}
+use Rattle.ld_trace.specs.Reading.{fault_at, header_fault, line_fault, names_before, record_fault, version_fault}
 
 -- bytes without a newline
 abbrev is_line : List ℕ → Bool
@@ -120,7 +120,7 @@ irq-lines verb word line e = by (irq_of word) refl e
     by None none e = cc
     by (Some irq) some e = (
       one-verb verb (codes "enter") _ _ line refl e
-      (λ e. one-verb verb (codes "on") _ _ line refl e (λ e. one-verb verb (codes "off") _ _ line refl e (λ e. cc))),
+          (λ e. one-verb verb (codes "on") _ _ line refl e (λ e. one-verb verb (codes "off") _ _ line refl e (λ e. cc))),
       irq-line word irq some,
     )
 

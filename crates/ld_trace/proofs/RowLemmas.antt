@@ -1,5 +1,4 @@
 -- The records of a text, byte after byte, as the machine of the crate `csv` gives them with its defaults.
-use Rattle.std.specs.Prelude.{◌⊎◌}
 use Rattle.std.proofs.Common.{◌≡◌, inl, inr, ℕ, zero, suc, ◌+◌, ◌<◌, Bool, true, false, true≢false, List, [], ◌∷◌, ◌++◌, ◌==◌, length, Option, Some, None, refl, sym, ap, subst, ◌∙◌, arith, if◌then◌else◌}
 use Rattle.csv.specs.Machine.{Read, after_end, ends_at_end, ends_with, field_after, fields_after, in_field, is_end, next_record, start_field, start_record, step}
 use Rattle.csv.specs.Reading.{default_config, records, records_from, records_next}
@@ -169,34 +168,34 @@ module _ (Has : Record → Type 0)
     (field-more : (row : Record) → Has row → Has (row ++ [] ∷ []))
     (byte-more : (fields : Record) (field : List ℕ) (c : ℕ) → Has (fields ++ field ∷ []) → Has (fields ++ (field ++ c ∷ []) ∷ []))
     (not-blank : ¬ (Has ([] ∷ [])))
-    where
-  -- the first record is one of these
-  abbrev pub StartsWith : List Record → Type 0
-  StartsWith rows = (row : Record) × (rest : List Record) × (rows ≡ row ∷ rest) × Has row
+  where
+    -- the first record is one of these
+    abbrev pub StartsWith : List Record → Type 0
+    StartsWith rows = (row : Record) × (rest : List Record) × (rows ≡ row ∷ rest) × Has row
 
-  within : (s : State) (fields : Record) (field : List ℕ) → IsAt s fields field → Has (fields ++ field ∷ []) → is_between s ≡ false
-  within s fields field at has = by (is_between s) refl
-    where
-      by : (b : Bool) → is_between s ≡ b → b ≡ false
-      by true e = let blank = at.blank e in absurd (not-blank (rw (blank.0, blank.1) at has))
-      by false e = refl
+    within : (s : State) (fields : Record) (field : List ℕ) → IsAt s fields field → Has (fields ++ field ∷ []) → is_between s ≡ false
+    within s fields field at has = by (is_between s) refl
+      where
+        by : (b : Bool) → is_between s ≡ b → b ≡ false
+        by true e = let blank = at.blank e in absurd (not-blank (rw (blank.0, blank.1) at has))
+        by false e = refl
 
-  has-after : (a : Action) (fields : Record) (field : List ℕ) (c : ℕ) → is_end a ≡ false → Has (fields ++ field ∷ []) → Has (fields_after a fields field ++ field_after a c field ∷ [])
-  has-after act.Skip fields field c e has = has
-  has-after act.Copy fields field c e has = byte-more fields field c has
-  has-after act.EndField fields field c e has = field-more (fields ++ field ∷ []) has
-  has-after act.EndRecord fields field c e has = absurd (true≢false e)
+    has-after : (a : Action) (fields : Record) (field : List ℕ) (c : ℕ) → is_end a ≡ false → Has (fields ++ field ∷ []) → Has (fields_after a fields field ++ field_after a c field ∷ [])
+    has-after act.Skip fields field c e has = has
+    has-after act.Copy fields field c e has = byte-more fields field c has
+    has-after act.EndField fields field c e has = field-more (fields ++ field ∷ []) has
+    has-after act.EndRecord fields field c e has = absurd (true≢false e)
 
-  pub first-row : (s : State) (fields : Record) (field xs : List ℕ) → IsAt s fields field → Has (fields ++ field ∷ []) → StartsWith (rows_from s fields field xs)
-  unfolding rows_from
-  first-row s fields field [] at has = (fields ++ field ∷ [], [], rw (within-ends s at.used (within s fields field at has)) refl, has)
-  first-row s fields field (c ∷ xs) at has = by (does s c at.used) (λ t f p. first-row t f p xs)
-    where
-      by : Does (is_between s) (step default_config s c)
-          → ((t : State) (f : Record) (p : List ℕ) → IsAt t f p → Has (f ++ p ∷ []) → StartsWith (rows_from t f p xs))
-          → StartsWith (rows_from s fields field (c ∷ xs))
-      by (ends t e used) more = (fields ++ field ∷ [], rows_from t [] [] xs, rows-byte s t act.EndRecord fields field c xs e, has)
-      by (goes t a e going used inside) more =
-          subst StartsWith (sym (rows-within s t a fields field c xs e going))
-          (more t (fields_after a fields field) (field_after a c field) (at-within t _ _ used inside) (has-after a fields field c going has))
-      by (skips e between) more = absurd (true≢false (sym between ∙ within s fields field at has))
+    pub first-row : (s : State) (fields : Record) (field xs : List ℕ) → IsAt s fields field → Has (fields ++ field ∷ []) → StartsWith (rows_from s fields field xs)
+    unfolding rows_from
+    first-row s fields field [] at has = (fields ++ field ∷ [], [], rw (within-ends s at.used (within s fields field at has)) refl, has)
+    first-row s fields field (c ∷ xs) at has = by (does s c at.used) (λ t f p. first-row t f p xs)
+      where
+        by : Does (is_between s) (step default_config s c)
+            → ((t : State) (f : Record) (p : List ℕ) → IsAt t f p → Has (f ++ p ∷ []) → StartsWith (rows_from t f p xs))
+            → StartsWith (rows_from s fields field (c ∷ xs))
+        by (ends t e used) more = (fields ++ field ∷ [], rows_from t [] [] xs, rows-byte s t act.EndRecord fields field c xs e, has)
+        by (goes t a e going used inside) more =
+            subst StartsWith (sym (rows-within s t a fields field c xs e going))
+            (more t (fields_after a fields field) (field_after a c field) (at-within t _ _ used inside) (has-after a fields field c going has))
+        by (skips e between) more = absurd (true≢false (sym between ∙ within s fields field at has))
