@@ -1,7 +1,7 @@
 -- Texts that were read as one come apart again.
 use Rattle.std.specs.Prelude.{◌&&◌}
 use Rattle.std.specs.List.{list_all}
-use Rattle.std.proofs.Common.{◌≡◌, ℕ, ◌+◌, not, Bool, true, false, true≢false, List, [], ◌∷◌, ◌++◌, ◌==◌, All, length, map, slice_get, None, refl, sym, ap, ◌∙◌, arith, if◌then◌else◌}
+use Rattle.std.proofs.Common.{◌≡◌, ℕ, ◌+◌, not, Bool, true, false, true≢false, List, [], ◌∷◌, ◌++◌, ◌==◌, All, length, map, slice_get, None, refl, sym, ap, ◌∙◌, arith, append_assoc, if◌then◌else◌}
 use Rattle.std.proofs.lemmas.Bool.{and_from, and_parts, eqb-true}
 use Rattle.std.proofs.lemmas.List.{length-map}
 use Rattle.std.proofs.lemmas.List.Elements.{All-head, All-tail}
@@ -14,102 +14,20 @@ use Rattle.csv.specs.declared.parser.State.TheVariants as st
 use Rattle.ld_trace.specs.Joining.{ArePlain, IsPlain, TextsComeApart, between, is_one_line, joined, joined_records, point}
 use Rattle.ld_trace.specs.Lines.{Record, version_of}
 use Rattle.ld_trace.specs.Reading.{header_fault, records_of}
-use Rattle.ld_trace.proofs.RowLemmas.{Does, ends, goes, skips, IsAt, at-skipped, at-start, at-within, does, first-row, is_between, records-rows, rows-byte, rows-within, rows_from, rows_of}
-
--- ---- a newline within quotes
-abbrev HasNewline : Record → Type 0
-HasNewline row = is_one_line row ≡ false
-
--- bytes without a newline
-abbrev is_line : List ℕ → Bool
-is_line field = list_all (λ byte. not (byte == 10)) field
-
-none-and : (a b : Bool) → a ≡ false → (a && b) ≡ false
-none-and true b e = absurd (true≢false e)
-none-and false b e = refl
-
-none-and-last : (a b c : Bool) → (b ≡ false → c ≡ false) → (a && b) ≡ false → (a && c) ≡ false
-none-and-last true b c h e = h e
-none-and-last false b c h e = refl
-
-newline-field-more : (row : Record) → HasNewline row → HasNewline (row ++ [] ∷ [])
-newline-field-more row has = list_all-append is_line row ([] ∷ []) ∙ none-and (is_one_line row) true has
-
-newline-byte-more : (fields : Record) (field : List ℕ) (c : ℕ) → HasNewline (fields ++ field ∷ []) → HasNewline (fields ++ (field ++ c ∷ []) ∷ [])
-newline-byte-more fields field c has =
-    list_all-append is_line fields ((field ++ c ∷ []) ∷ [])
-    ∙ none-and-last (is_one_line fields) (is_line field && true) (is_line (field ++ c ∷ []) && true)
-    (λ e. rw (list_all-append (λ byte. not (byte == 10)) field (c ∷ [])) (longer (is_line field) (not (c == 10) && true) e))
-    (sym (list_all-append is_line fields (field ∷ [])) ∙ has)
-  where
-    longer : (a b : Bool) → (a && true) ≡ false → ((a && b) && true) ≡ false
-    longer true b e = absurd (true≢false e)
-    longer false b e = refl
-
-newline-put : (fields : Record) (field : List ℕ) → HasNewline (fields ++ (field ++ 10 ∷ []) ∷ [])
-newline-put fields field =
-    list_all-append is_line fields ((field ++ 10 ∷ []) ∷ [])
-    ∙ rw (list_all-append (λ byte. not (byte == 10)) field (10 ∷ [])) (none (is_one_line fields) (is_line field))
-  where
-    none : (a b : Bool) → (a && ((b && false) && true)) ≡ false
-    none true true = refl
-    none true false = refl
-    none false b = refl
-
--- so no quote is open if all records are of one line
-quotes-shut : (fields : Record) (field xs : List ℕ) → list_all is_one_line (rows_from st.InQuoted fields (field ++ 10 ∷ []) xs) ≡ true → ⊥
-quotes-shut fields field xs lines =
-    let first = first-row HasNewline newline-field-more newline-byte-more (λ e. true≢false e) st.InQuoted fields (field ++ 10 ∷ []) xs
-    (at-within st.InQuoted fields (field ++ 10 ∷ []) refl refl) (newline-put fields field) in
-    let parts = and_parts (is_one_line first.0) (list_all is_one_line first.1) (rw first.2 at lines) in
-    true≢false (sym parts.0 ∙ first.3)
+use Rattle.ld_trace.proofs.CutLemmas.{cut-rows, lines-left, mark-first}
+use Rattle.ld_trace.proofs.RowLemmas.{IsKept, Does, ends, goes, skips, IsAt, at-skipped, at-start, at-within, does, first-row, is_between, records-rows, rows-byte, rows-within, rows_from, rows_of}
 
 -- ---- one text, the point, and a rest
-lines-left : (a : List Record) (r : Record) (b : List Record) → list_all is_one_line (a ++ r ∷ b) ≡ true → list_all is_one_line b ≡ true
-lines-left a r b lines =
-    let parts = and_parts (list_all is_one_line a) (is_one_line r && list_all is_one_line b) (sym (list_all-append is_one_line a (r ∷ b)) ∙ lines) in
-    (and_parts (is_one_line r) (list_all is_one_line b) parts.1).1
-
--- the text's records, the point, and those of the rest
-abbrev Cut : State → Record → List ℕ → List ℕ → List ℕ → Type 0
-Cut s fields field text rest = list_all is_one_line (rows_from s fields field (text ++ between ++ rest)) ≡ true
-    → rows_from s fields field (text ++ between ++ rest) ≡ rows_from s fields field text ++ point ∷ rows_of rest
-
-cut-end : (s : State) (fields : Record) (field rest : List ℕ) → IsAt s fields field → Cut s fields field [] rest
+point-next : (rest : List ℕ) → rows_of (46 ∷ 10 ∷ rest) ≡ point ∷ rows_of rest
 unfolding rows_from
-cut-end st.StartRecord fields field rest at lines = let blank = at.blank refl in rw (blank.0, blank.1) refl
-cut-end st.AfterCr fields field rest at lines = let blank = at.blank refl in rw (blank.0, blank.1) refl
-cut-end st.StartField fields field rest at lines = refl
-cut-end st.InField fields field rest at lines = refl
-cut-end st.AfterQuote fields field rest at lines = refl
-cut-end st.InQuoted fields field rest at lines = absurd (quotes-shut fields field (46 ∷ 10 ∷ rest) lines)
-cut-end st.InEscape fields field rest at lines = absurd (true≢false (sym at.used))
-cut-end st.InComment fields field rest at lines = absurd (true≢false (sym at.used))
+point-next rest = refl
 
-cut : (s : State) (fields : Record) (field text rest : List ℕ) → IsAt s fields field → Cut s fields field text rest
-cut s fields field [] rest at lines = cut-end s fields field rest at lines
-cut s fields field (c ∷ text) rest at lines = by (does s c at.used) (λ t f p. cut t f p text rest) lines
-  where
-    by : Does (is_between s) (step default_config s c)
-        → ((t : State) (f : Record) (p : List ℕ) → IsAt t f p → Cut t f p text rest)
-        → Cut s fields field (c ∷ text) rest
-    by (ends t e used) more lines =
-        let all = rows-byte s t act.EndRecord fields field c (text ++ between ++ rest) e in
-        let own = rows-byte s t act.EndRecord fields field c text e in
-        let after = and_parts (is_one_line (fields ++ field ∷ [])) (list_all is_one_line (rows_from t [] [] (text ++ between ++ rest))) (rw all at lines) in
-        rw (all, own) (ap (λ rows. (fields ++ field ∷ []) ∷ rows) (more t [] [] (at-start t used) after.1))
-    by (goes t a e going used inside) more lines =
-        let all = rows-within s t a fields field c (text ++ between ++ rest) e going in
-        let own = rows-within s t a fields field c text e going in
-        rw (all, own) (more t (fields_after a fields field) (field_after a c field) (at-within t _ _ used inside) (rw all at lines))
-    by (skips e mid) more lines =
-        let all = rows-within s st.StartRecord act.Skip fields field c (text ++ between ++ rest) e refl in
-        let own = rows-within s st.StartRecord act.Skip fields field c text e refl in
-        rw (all, own) (more st.StartRecord fields field (at-skipped s fields field mid at) (rw all at lines))
-
-cut-rows : (text rest : List ℕ) → list_all is_one_line (rows_of (text ++ between ++ rest)) ≡ true
+cut-text : (text rest : List ℕ) → list_all is_one_line (rows_of (text ++ between ++ rest)) ≡ true
     → rows_of (text ++ between ++ rest) ≡ rows_of text ++ point ∷ rows_of rest
-cut-rows text rest lines = cut st.StartRecord [] [] text rest (at-start st.StartRecord refl) lines
+cut-text text rest lines =
+    let behind = append_assoc text between rest in
+    let rows = cut-rows text (46 ∷ 10 ∷ rest) (46 ∷ 10 ∷ rest) (ap (λ bytes. list_all is_one_line (rows_of bytes)) (sym behind) ∙ lines) in
+    ap rows_of behind ∙ rows ∙ ap (λ more. rows_of text ++ more) (point-next rest)
 
 -- the records of all texts
 joined-rows : (texts : List (List ℕ)) → list_all is_one_line (rows_of (joined texts)) ≡ true → rows_of (joined texts) ≡ joined_records (map rows_of texts)
@@ -117,7 +35,7 @@ unfolding joined joined_records rows_from
 joined-rows [] lines = refl
 joined-rows (text ∷ []) lines = refl
 joined-rows (text ∷ next ∷ more) lines =
-    let first = cut-rows text (joined (next ∷ more)) lines in
+    let first = cut-text text (joined (next ∷ more)) lines in
     first ∙ ap (λ rows. rows_of text ++ point ∷ rows)
     (joined-rows (next ∷ more) (lines-left (rows_of text) point (rows_of (joined (next ∷ more))) (rw first at lines)))
 
@@ -226,37 +144,14 @@ all-plain-lines (part ∷ next ∷ more) plain =
     (all-plain-lines (next ∷ more) (All-tail ArePlain part (next ∷ more) plain))
 
 -- ---- marks of byte order
--- no mark reaches over a newline
-no-mark : (a : ℕ) → is_bom a 10 46 ≡ false
-no-mark a = by (a == 0xEF)
-  where
-    by : (b : Bool) → (b && false && false) ≡ false
-    by true = refl
-    by false = refl
-
-no-mark-late : (a b : ℕ) → is_bom a b 10 ≡ false
-no-mark-late a b = by (a == 0xEF) (b == 0xBB)
-  where
-    by : (c d : Bool) → (c && d && false) ≡ false
-    by true true = refl
-    by true false = refl
-    by false d = refl
-
-mark-first : (text rest : List ℕ) → strip_bom (text ++ between ++ rest) ≡ strip_bom text ++ between ++ rest
-unfolding strip_bom
-mark-first [] rest = refl
-mark-first (a ∷ []) rest = rw (no-mark a) refl
-mark-first (a ∷ b ∷ []) rest = rw (no-mark-late a b) refl
-mark-first (a ∷ b ∷ c ∷ text) rest = by (is_bom a b c)
-  where
-    by : (m : Bool) → (if m then text ++ between ++ rest else a ∷ b ∷ c ∷ text ++ between ++ rest) ≡ (if m then text else a ∷ b ∷ c ∷ text) ++ between ++ rest
-    by true = refl
-    by false = refl
-
+-- the first text's mark is that of all
 mark-joined : (text : List ℕ) (more : List (List ℕ)) → strip_bom (joined (text ∷ more)) ≡ joined (strip_bom text ∷ more)
 unfolding joined
 mark-joined text [] = refl
-mark-joined text (next ∷ more) = mark-first text (joined (next ∷ more))
+mark-joined text (next ∷ more) =
+    ap strip_bom (append_assoc text between (joined (next ∷ more)))
+    ∙ mark-first text (46 ∷ 10 ∷ joined (next ∷ more))
+    ∙ sym (append_assoc (strip_bom text) between (joined (next ∷ more)))
 
 -- a record whose first field begins with a mark's first byte is no header
 abbrev HasMark : Record → Type 0
@@ -276,6 +171,9 @@ mark-byte-more (first ∷ fields) field c has =
 mark-blank : ¬ (HasMark ([] ∷ []))
 mark-blank has = let e = has.2 in cc
 
+mark-kept : IsKept HasMark
+mark-kept = record { field_more = mark-field-more; byte_more = mark-byte-more; not_blank = mark-blank }
+
 mark-no-header : (field : List ℕ) (more : Record) → version_of ((0xEF ∷ field) ∷ more) ≡ None
 unfolding version_of
 mark-no-header field [] = refl
@@ -285,7 +183,7 @@ mark-no-header field (version ∷ next ∷ more) = refl
 marked-first : (b c : ℕ) (text : List ℕ) → ¬ (header_fault (slice_get (rows_of (0xEF ∷ b ∷ c ∷ text)) 0) ≡ None)
 unfolding rows_from
 marked-first b c text e =
-    let first = first-row HasMark mark-field-more mark-byte-more mark-blank st.InField [] (0xEF ∷ []) (b ∷ c ∷ text) (at-within st.InField [] (0xEF ∷ []) refl refl) ([], [], refl) in
+    let first = first-row HasMark mark-kept st.InField [] (0xEF ∷ []) (b ∷ c ∷ text) (at-within st.InField [] (0xEF ∷ []) refl refl) ([], [], refl) in
     let head : version_of first.0 ≡ None = rw first.3.2 (mark-no-header first.3.0 first.3.1) in
     let fault = rw (first.2, head) at e in cc
 

@@ -6,7 +6,9 @@ pub mod StoredLemmas
 pub mod TakenLemmas
 pub mod PlainLemmas
 mod RowLemmas
+mod CutLemmas
 mod Joins
+mod Pieces
 mod KnownLemmas
 mod WriteLemmas
 mod LineLemmas

@@ -124,7 +124,7 @@ irq-lines verb word line e = by (irq_of word) refl e
       irq-line word irq some,
     )
 
-says-lines : (version : Version) (row : Record) (line : Line) → line_of_record version row ≡ Ok line → is_one_line row ≡ true
+pub says-lines : (version : Version) (row : Record) (line : Line) → line_of_record version row ≡ Ok line → is_one_line row ≡ true
 unfolding line_of_record
 says-lines version [] line e = cc
 says-lines version (verb ∷ []) line e =
@@ -146,7 +146,7 @@ says-lines version (verb ∷ class ∷ sub ∷ mode ∷ []) line e =
     rw (own, rest.0, rest.1, last) refl
 says-lines version (verb ∷ class ∷ sub ∷ mode ∷ more ∷ rest) line e = cc
 
-says-plain : (version : Version) (row : Record) (line : Line) → line_of_record version row ≡ Ok line → IsPlain row
+pub says-plain : (version : Version) (row : Record) (line : Line) → line_of_record version row ≡ Ok line → IsPlain row
 unfolding line_of_record
 says-plain version row line e = record {
   one_line = says-lines version row line e;
@@ -167,7 +167,7 @@ header-lines (word ∷ named ∷ []) version e = by (bytes_eq word (codes "lockd
     by false same e = cc
 header-lines (word ∷ named ∷ more ∷ rest) version e = cc
 
-header-plain : (row : Record) (version : Version) → version_of row ≡ Some version → IsPlain row
+pub header-plain : (row : Record) (version : Version) → version_of row ≡ Some version → IsPlain row
 unfolding version_of
 header-plain row version e = record {
   one_line = header-lines row version e;

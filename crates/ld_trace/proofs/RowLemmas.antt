@@ -164,38 +164,40 @@ within-ends st.AfterQuote u b = refl
 within-ends st.InEscape u b = refl
 within-ends st.InComment u b = refl
 
-module _ (Has : Record → Type 0)
-    (field-more : (row : Record) → Has row → Has (row ++ [] ∷ []))
-    (byte-more : (fields : Record) (field : List ℕ) (c : ℕ) → Has (fields ++ field ∷ []) → Has (fields ++ (field ++ c ∷ []) ∷ []))
-    (not-blank : ¬ (Has ([] ∷ [])))
-  where
-    -- the first record is one of these
-    abbrev pub StartsWith : List Record → Type 0
-    StartsWith rows = (row : Record) × (rest : List Record) × (rows ≡ row ∷ rest) × Has row
+-- what a record has by its fields so far, more bytes and more fields don't take from it, and a record of no byte hasn't it
+pub record IsKept (Has : Record → Type 0) : Type 0 where
+  pub field_more : (row : Record) → Has row → Has (row ++ [] ∷ [])
+  pub byte_more : (fields : Record) (field : List ℕ) (c : ℕ) → Has (fields ++ field ∷ []) → Has (fields ++ (field ++ c ∷ []) ∷ [])
+  pub not_blank : ¬ (Has ([] ∷ []))
 
-    within : (s : State) (fields : Record) (field : List ℕ) → IsAt s fields field → Has (fields ++ field ∷ []) → is_between s ≡ false
-    within s fields field at has = by (is_between s) refl
-      where
-        by : (b : Bool) → is_between s ≡ b → b ≡ false
-        by true e = let blank = at.blank e in absurd (not-blank (rw (blank.0, blank.1) at has))
-        by false e = refl
+module _ (Has : Record → Type 0) (kept : IsKept Has) where
+  -- the first record is one of these
+  abbrev pub StartsWith : List Record → Type 0
+  StartsWith rows = (row : Record) × (rest : List Record) × (rows ≡ row ∷ rest) × Has row
 
-    has-after : (a : Action) (fields : Record) (field : List ℕ) (c : ℕ) → is_end a ≡ false → Has (fields ++ field ∷ []) → Has (fields_after a fields field ++ field_after a c field ∷ [])
-    has-after act.Skip fields field c e has = has
-    has-after act.Copy fields field c e has = byte-more fields field c has
-    has-after act.EndField fields field c e has = field-more (fields ++ field ∷ []) has
-    has-after act.EndRecord fields field c e has = absurd (true≢false e)
+  within : (s : State) (fields : Record) (field : List ℕ) → IsAt s fields field → Has (fields ++ field ∷ []) → is_between s ≡ false
+  within s fields field at has = by (is_between s) refl
+    where
+      by : (b : Bool) → is_between s ≡ b → b ≡ false
+      by true e = let blank = at.blank e in absurd (kept.not_blank (rw (blank.0, blank.1) at has))
+      by false e = refl
 
-    pub first-row : (s : State) (fields : Record) (field xs : List ℕ) → IsAt s fields field → Has (fields ++ field ∷ []) → StartsWith (rows_from s fields field xs)
-    unfolding rows_from
-    first-row s fields field [] at has = (fields ++ field ∷ [], [], rw (within-ends s at.used (within s fields field at has)) refl, has)
-    first-row s fields field (c ∷ xs) at has = by (does s c at.used) (λ t f p. first-row t f p xs)
-      where
-        by : Does (is_between s) (step default_config s c)
-            → ((t : State) (f : Record) (p : List ℕ) → IsAt t f p → Has (f ++ p ∷ []) → StartsWith (rows_from t f p xs))
-            → StartsWith (rows_from s fields field (c ∷ xs))
-        by (ends t e used) more = (fields ++ field ∷ [], rows_from t [] [] xs, rows-byte s t act.EndRecord fields field c xs e, has)
-        by (goes t a e going used inside) more =
-            subst StartsWith (sym (rows-within s t a fields field c xs e going))
-            (more t (fields_after a fields field) (field_after a c field) (at-within t _ _ used inside) (has-after a fields field c going has))
-        by (skips e between) more = absurd (true≢false (sym between ∙ within s fields field at has))
+  has-after : (a : Action) (fields : Record) (field : List ℕ) (c : ℕ) → is_end a ≡ false → Has (fields ++ field ∷ []) → Has (fields_after a fields field ++ field_after a c field ∷ [])
+  has-after act.Skip fields field c e has = has
+  has-after act.Copy fields field c e has = kept.byte_more fields field c has
+  has-after act.EndField fields field c e has = kept.field_more (fields ++ field ∷ []) has
+  has-after act.EndRecord fields field c e has = absurd (true≢false e)
+
+  pub first-row : (s : State) (fields : Record) (field xs : List ℕ) → IsAt s fields field → Has (fields ++ field ∷ []) → StartsWith (rows_from s fields field xs)
+  unfolding rows_from
+  first-row s fields field [] at has = (fields ++ field ∷ [], [], rw (within-ends s at.used (within s fields field at has)) refl, has)
+  first-row s fields field (c ∷ xs) at has = by (does s c at.used) (λ t f p. first-row t f p xs)
+    where
+      by : Does (is_between s) (step default_config s c)
+          → ((t : State) (f : Record) (p : List ℕ) → IsAt t f p → Has (f ++ p ∷ []) → StartsWith (rows_from t f p xs))
+          → StartsWith (rows_from s fields field (c ∷ xs))
+      by (ends t e used) more = (fields ++ field ∷ [], rows_from t [] [] xs, rows-byte s t act.EndRecord fields field c xs e, has)
+      by (goes t a e going used inside) more =
+          subst StartsWith (sym (rows-within s t a fields field c xs e going))
+          (more t (fields_after a fields field) (field_after a c field) (at-within t _ _ used inside) (has-after a fields field c going has))
+      by (skips e between) more = absurd (true≢false (sym between ∙ within s fields field at has))

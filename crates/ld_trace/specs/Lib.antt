@@ -6,6 +6,7 @@ pub mod Laws
 pub mod Lines
 pub mod Modes
 pub mod Names
+pub mod Pieces
 pub mod Reading
 pub mod TakingIn
 pub mod TraceFaults
