@@ -1,28 +1,21 @@
 -- A text may be cut at a newline if its records have no newline in a field: a quote that is open there shows in a record.
 use Rattle.std.specs.Prelude.{◌&&◌}
 use Rattle.std.specs.List.{list_all}
-use Rattle.std.proofs.Common.{◌≡◌, ℕ, ◌+◌, not, Bool, true, false, true≢false, List, [], ◌∷◌, ◌++◌, ◌==◌, All, length, map, slice_get, None, refl, sym, ap, ◌∙◌, arith, if◌then◌else◌}
-use Rattle.std.proofs.lemmas.Bool.{and_from, and_parts, eqb-true}
-use Rattle.std.proofs.lemmas.List.{length-map}
-use Rattle.std.proofs.lemmas.List.Elements.{All-head, All-tail}
+use Rattle.std.proofs.Common.{◌≡◌, ℕ, not, Bool, true, false, true≢false, List, [], ◌∷◌, ◌++◌, ◌==◌, refl, sym, ap, ◌∙◌, if◌then◌else◌}
+use Rattle.std.proofs.lemmas.Bool.{and_parts}
 use Rattle.std.proofs.lemmas.List.Folds.{list_all-append}
 use Rattle.csv.specs.Machine.{field_after, fields_after, step}
 use Rattle.csv.specs.Reading.{default_config, is_bom, strip_bom}
 use Rattle.csv.specs.declared.parser.Action.TheVariants as act
 use Rattle.csv.specs.declared.parser.State.{State}
 use Rattle.csv.specs.declared.parser.State.TheVariants as st
-use Rattle.ld_trace.specs.Joining.{ArePlain, IsPlain, TextsComeApart, between, is_one_line, joined, joined_records, point}
-use Rattle.ld_trace.specs.Lines.{Record, version_of}
-use Rattle.ld_trace.specs.Reading.{header_fault, records_of}
-use Rattle.ld_trace.proofs.RowLemmas.{IsKept, Does, ends, goes, skips, IsAt, at-skipped, at-start, at-within, does, first-row, is_between, records-rows, rows-byte, rows-within, rows_from, rows_of}
+use Rattle.ld_trace.specs.Joining.{is_line, is_one_line}
+use Rattle.ld_trace.specs.Lines.{Record}
+use Rattle.ld_trace.proofs.RowLemmas.{IsKept, Does, ends, goes, skips, IsAt, at-skipped, at-start, at-within, does, first-row, is_between, rows-byte, rows-within, rows_from, rows_of}
 
 -- ---- a newline within quotes
 abbrev HasNewline : Record → Type 0
 HasNewline row = is_one_line row ≡ false
-
--- bytes without a newline
-abbrev is_line : List ℕ → Bool
-is_line field = list_all (λ byte. not (byte == 10)) field
 
 none-and : (a b : Bool) → a ≡ false → (a && b) ≡ false
 none-and true b e = absurd (true≢false e)

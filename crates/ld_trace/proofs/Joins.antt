@@ -1,21 +1,18 @@
 -- Texts that were read as one come apart again.
 use Rattle.std.specs.Prelude.{◌&&◌}
 use Rattle.std.specs.List.{list_all}
-use Rattle.std.proofs.Common.{◌≡◌, ℕ, ◌+◌, not, Bool, true, false, true≢false, List, [], ◌∷◌, ◌++◌, ◌==◌, All, length, map, slice_get, None, refl, sym, ap, ◌∙◌, arith, append_assoc, if◌then◌else◌}
+use Rattle.std.proofs.Common.{◌≡◌, ℕ, ◌+◌, Bool, true, false, true≢false, List, [], ◌∷◌, ◌++◌, ◌==◌, All, length, map, slice_get, None, refl, sym, ap, ◌∙◌, arith, append_assoc, if◌then◌else◌}
 use Rattle.std.proofs.lemmas.Bool.{and_from, and_parts, eqb-true}
 use Rattle.std.proofs.lemmas.List.{length-map}
 use Rattle.std.proofs.lemmas.List.Elements.{All-head, All-tail}
 use Rattle.std.proofs.lemmas.List.Folds.{list_all-append}
-use Rattle.csv.specs.Machine.{field_after, fields_after, step}
-use Rattle.csv.specs.Reading.{default_config, is_bom, strip_bom}
-use Rattle.csv.specs.declared.parser.Action.TheVariants as act
-use Rattle.csv.specs.declared.parser.State.{State}
+use Rattle.csv.specs.Reading.{is_bom, strip_bom}
 use Rattle.csv.specs.declared.parser.State.TheVariants as st
 use Rattle.ld_trace.specs.Joining.{ArePlain, IsPlain, TextsComeApart, between, is_one_line, joined, joined_records, point}
 use Rattle.ld_trace.specs.Lines.{Record, version_of}
 use Rattle.ld_trace.specs.Reading.{header_fault, records_of}
 use Rattle.ld_trace.proofs.CutLemmas.{cut-rows, lines-left, mark-first}
-use Rattle.ld_trace.proofs.RowLemmas.{IsKept, Does, ends, goes, skips, IsAt, at-skipped, at-start, at-within, does, first-row, is_between, records-rows, rows-byte, rows-within, rows_from, rows_of}
+use Rattle.ld_trace.proofs.RowLemmas.{IsKept, at-within, first-row, records-rows, rows_from, rows_of}
 
 -- ---- one text, the point, and a rest
 point-next : (rest : List ℕ) → rows_of (46 ∷ 10 ∷ rest) ≡ point ∷ rows_of rest
@@ -123,7 +120,8 @@ plain-points (row ∷ rows) plain =
     let none = not-point (is_point row) (λ e. head.other (is_point-true row e)) in
     omega (arith, plain-points rows (All-tail IsPlain row rows plain))
 
-plain-lines : (rows : List Record) → All IsPlain rows → list_all is_one_line rows ≡ true
+-- and no newline in a field
+pub plain-lines : (rows : List Record) → All IsPlain rows → list_all is_one_line rows ≡ true
 plain-lines [] plain = refl
 plain-lines (row ∷ rows) plain = and_from (is_one_line row) (list_all is_one_line rows) (All-head IsPlain row rows plain).one_line (plain-lines rows (All-tail IsPlain row rows plain))
 

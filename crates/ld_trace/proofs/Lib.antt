@@ -7,7 +7,7 @@ pub mod TakenLemmas
 pub mod PlainLemmas
 mod RowLemmas
 mod CutLemmas
-mod Joins
+pub mod Joins
 mod Pieces
 mod KnownLemmas
 mod WriteLemmas

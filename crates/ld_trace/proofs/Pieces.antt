@@ -1,21 +1,15 @@
 -- A text that was cut after newlines has the records of its pieces.
 use Rattle.std.specs.Prelude.{◌⊎◌}
 use Rattle.std.specs.List.{concat, flat_map, list_all}
-use Rattle.std.proofs.Common.{◌≡◌, inl, inr, ℕ, Bool, true, false, true≢false, List, [], ◌∷◌, ◌++◌, ◌==◌, ◌&&◌, All, refl, sym, ap, subst, ◌∙◌, append_assoc, if◌then◌else◌}
-use Rattle.std.proofs.lemmas.Bool.{and_parts}
+use Rattle.std.proofs.Common.{◌≡◌, inl, inr, ℕ, true, List, [], ◌∷◌, ◌++◌, refl, sym, ap, ◌∙◌, append_assoc}
 use Rattle.std.proofs.lemmas.List.{append-nil}
 use Rattle.std.proofs.lemmas.List.Elements.{All-head, All-tail}
-use Rattle.csv.specs.Machine.{field_after, fields_after, step}
-use Rattle.csv.specs.Reading.{default_config, is_bom, strip_bom}
-use Rattle.csv.specs.declared.parser.Action.TheVariants as act
-use Rattle.csv.specs.declared.parser.State.{State}
-use Rattle.csv.specs.declared.parser.State.TheVariants as st
+use Rattle.csv.specs.Reading.{strip_bom}
 use Rattle.ld_trace.specs.Joining.{is_one_line}
-use Rattle.ld_trace.specs.Lines.{Record}
-use Rattle.ld_trace.specs.Pieces.{EndsLine, IsWhole, PiecesReadAlone, TextsCutAtLines, later_records}
+use Rattle.ld_trace.specs.Pieces.{IsWhole, PiecesReadAlone, TextsCutAtLines, later_records}
 use Rattle.ld_trace.specs.Reading.{records_of}
 use Rattle.ld_trace.proofs.CutLemmas.{cut-rows, mark-first}
-use Rattle.ld_trace.proofs.RowLemmas.{Does, ends, goes, skips, IsAt, at-skipped, at-start, at-within, does, is_between, records-rows, rows-byte, rows-within, rows_from, rows_of}
+use Rattle.ld_trace.proofs.RowLemmas.{records-rows, rows_from, rows_of}
 
 -- the records up to the newline are those of the piece that ends with it
 cut-line : (front any rest : List ℕ) → list_all is_one_line (rows_of (front ++ 10 ∷ any)) ≡ true → rows_of (front ++ 10 ∷ rest) ≡ rows_of (front ++ 10 ∷ []) ++ rows_of rest

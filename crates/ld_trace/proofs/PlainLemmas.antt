@@ -1,6 +1,5 @@
 -- The records of a trace without fault are plain.
 use Rattle.std.specs.Prelude.{◌&&◌}
-use Rattle.std.specs.List.{list_all}
 use Rattle.std.specs.Str.{bytes_eq}
 use Rattle.std.proofs.Common.{◌≡◌, ℕ, zero, suc, ◌-◌, ◌<◌, not, Bool, true, false, List, [], ◌∷◌, ◌==◌, codes, length, get_or, slice_get, nat_le, nat_lt, Option, Some, None, Result, Ok, Err, refl, ap, ◌∙◌, arith, if◌then◌else◌}
 use Rattle.std.proofs.lemmas.Bool.{and_from, and_parts}
@@ -17,16 +16,12 @@ use Rattle.ld_trace.specs.declared.trace_fault.TraceFaultKind.TheVariants.{BadNa
 use Rattle.ld_trace.specs.declared.version.Version.{Version}
 use Rattle.ld_trace.specs.declared.version.Version.TheVariants.{One, Two}
 use Rattle.ld_trace.specs.Inside.Progress.{AreTaken}
-use Rattle.ld_trace.specs.Joining.{ArePlain, IsPlain, is_one_line}
+use Rattle.ld_trace.specs.Joining.{ArePlain, IsPlain, is_line, is_one_line}
 use Rattle.ld_trace.specs.Lines.{Line, Record, irq_line, irq_of, line_of_record, mode_of, name_of_fields, sub_of, taking, giving_back, try_mode_of, version_named, version_of}
 use Rattle.ld_trace.specs.Names.{Name, are_visible, is_class_name}
 use Rattle.ld_trace.specs.Reading.{fault_at, header_fault, line_fault, names_before, record_fault, version_fault}
 
--- bytes without a newline
-abbrev is_line : List ℕ → Bool
-is_line field = list_all (λ byte. not (byte == 10)) field
-
--- a word of the format has none
+-- a word of the format has no newline
 word-line : (field word : List ℕ) → bytes_eq field word ≡ true → is_line word ≡ true → is_line field ≡ true
 word-line field word same line = ap is_line ((bytes_eq-Decides field word).0 same) ∙ line
 

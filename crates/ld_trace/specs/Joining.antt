@@ -24,9 +24,13 @@ joined_records [] = []
 joined_records (part ∷ []) = part
 joined_records (part ∷ next ∷ more) = part ++ point ∷ joined_records (next ∷ more)
 
--- whether no field of a record has a newline
+-- whether bytes have no newline
+abbrev pub is_line : List ℕ → Bool
+is_line bytes = list_all (λ byte. not (byte == 10)) bytes
+
+-- whether no field of a record has one
 abbrev pub is_one_line : Record → Bool
-is_one_line row = list_all (list_all (λ byte. not (byte == 10))) row
+is_one_line row = list_all is_line row
 
 -- a record that has no newline in a field, and isn't the point
 pub record IsPlain (row : Record) : Type 0 where
@@ -38,7 +42,7 @@ pub record ArePlain (rows : List Record) : Type 0 where
   pub header : header_fault (slice_get rows 0) ≡ None
   pub plain : All IsPlain rows
 
--- if the records of texts that are read as one come in as many parts as there are texts, and the parts are like traces without
+-- if the records of texts that are read as one come in as many parts as there are texts, each like those of a trace without
 -- fault, then each part is the records of its own text
 abbrev pub TextsComeApart : Type 0
 TextsComeApart = (texts : List (List ℕ)) (parts : List (List Record)) → length parts ≡ length texts → All ArePlain parts

@@ -20,7 +20,7 @@ pub fn traces_read_alike()
 {}
 
 /// Texts that are read as one, with a record `.` between each two, come apart again: if the records come in as many parts as
-/// there are texts, each like a trace without fault, then each part is the records of its own text. A quote that a text
+/// there are texts, each like those of a trace without fault, then each part is the records of its own text. A quote that a text
 /// leaves open shows as a newline in a field.
 pub fn texts_come_apart()
     ensures apart { TextsComeApart }
