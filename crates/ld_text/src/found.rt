@@ -164,22 +164,6 @@ impl Search<'_> {
         Ok(())
     }
 
-    // Those of the dependencies of each kind.
-    fn add_circles_of_kinds(
-        self,
-        circles: &mut Vec<Dependency>,
-        from: KeyId,
-        to: KeyId,
-    ) -> Result<(), AllocError>
-        ensures { OnOk result (AddsThose (OnCircle (HasFact self.entry.settled.now)) (map (arrow from to) kinds)
-            circles.old.items circles.new.items) }
-    {
-        for kind in KINDS {
-            self.add_circle(circles, from, to, kind)?;
-        }
-        Ok(())
-    }
-
     // Those of the dependencies from the one key to the other.
     fn add_circles_to(
         self,
@@ -190,11 +174,13 @@ impl Search<'_> {
         ensures { OnOk result (AddsThose (OnCircle (HasFact self.entry.settled.now)) (map (arrow from to) kinds)
             circles.old.items circles.new.items) }
     {
-        if has_dependency(self.settled, from, to) {
-            self.add_circles_of_kinds(circles, from, to)
-        } else {
-            Ok(())
+        if !has_dependency(self.settled, from, to) {
+            return Ok(());
         }
+        for kind in KINDS {
+            self.add_circle(circles, from, to, kind)?;
+        }
+        Ok(())
     }
 
     // Those of the dependencies from the key.
@@ -274,23 +260,7 @@ impl Search<'_> {
         Ok(())
     }
 
-    // The inversions of one state that the key is the first of.
-    fn add_inversions_with(
-        self,
-        inversions: &mut Vec<(Irq, (KeyId, KeyId))>,
-        irq: Irq,
-        a: KeyId,
-    ) -> Result<(), AllocError>
-        ensures { OnOk result (AddsThose (λ x. IsInversion (HasFact self.entry.settled.now) x.0 x.1.0 x.1.1)
-            (map (λ b. (irq, (a, b))) self.entry.keys.now) inversions.old.items inversions.new.items) }
-    {
-        for b in self.keys {
-            self.add_inversion(inversions, irq, a, *b)?;
-        }
-        Ok(())
-    }
-
-    // The same, and nothing is asked of a key that isn't used in the state.
+    // The inversions of one state that the key is the first of. Nothing is asked of a key that isn't used in the state.
     fn add_inversions_from(
         self,
         inversions: &mut Vec<(Irq, (KeyId, KeyId))>,
@@ -300,11 +270,13 @@ impl Search<'_> {
         ensures { OnOk result (AddsThose (λ x. IsInversion (HasFact self.entry.settled.now) x.0 x.1.0 x.1.1)
             (map (λ b. (irq, (a, b))) self.entry.keys.now) inversions.old.items inversions.new.items) }
     {
-        if is_used_in(self.settled, irq, a) {
-            self.add_inversions_with(inversions, irq, a)
-        } else {
-            Ok(())
+        if !is_used_in(self.settled, irq, a) {
+            return Ok(());
         }
+        for b in self.keys {
+            self.add_inversion(inversions, irq, a, *b)?;
+        }
+        Ok(())
     }
 
     // The inversions of one state.

@@ -9,7 +9,7 @@ use Rattle.ld_facts.specs.Facts.{Holds, DependenciesOf}
 use Rattle.ld_facts.specs.FactBits.{FactBelow, HasFact}
 use Rattle.ld_graph.specs.Links.{IsLink, link_by}
 use Rattle.ld_graph.specs.Inside.Searching.{LeadsRound, LeastRound}
-use Rattle.ld_graph.specs.declared.graph.InversionWalk.{InversionWalk}
+use Rattle.ld_graph.specs.declared.shortest_walks.InversionWalk.{InversionWalk}
 use Rattle.ld_graph.proofs.GraphSteps.{facts_within}
 use Rattle.ld_graph.proofs.Inversions.{LeastLinks, LeastLinks-more, IsShortestInversion-round, no_inversion, some_inversion}
 use Rattle.ld_facts.specs.NumberLaws.{kind_number-lt}
