@@ -31,18 +31,10 @@ use Rattle.ld_explain.specs.Origins.{Gives}
 
 -- the new lock of an acquisition's chain
 new_is : (a b : Lock) (f g : Frame) → (let x : Lock × Frame = (a, f) in let y : Lock × Frame = (b, g) in Some x ≡ Some y) → a ≡ b
-new_is a b f g e = ap (λ (o : Option (Lock × Frame)). first o) e
-  where
-    first : Option (Lock × Frame) → Lock
-    first None = a
-    first (Some x) = x.0
+new_is a b f g e = cc
 
 frame_is : (a b : Lock) (f g : Frame) → (let x : Lock × Frame = (a, f) in let y : Lock × Frame = (b, g) in Some x ≡ Some y) → f ≡ g
-frame_is a b f g e = ap (λ (o : Option (Lock × Frame)). second o) e
-  where
-    second : Option (Lock × Frame) → Frame
-    second None = f
-    second (Some x) = x.1
+frame_is a b f g e = cc
 
 abbrev acquisition_at : List Event → ℕ → ℕ → Mode → ChainParts
 acquisition_at t j key mode = record { held_locks = held_locks_at t j; new_lock = Some (record { key = key; mode = mode }, kind t j); flags = flags_at t j }

@@ -53,21 +53,6 @@ pub FactBelow-slot : (keys : ℕ) (c : ChainParts) (n : ℕ) (fact : Option Fact
 FactBelow-slot keys c n fact below at = λ x e. FactBelow-chain keys c x below (chain_fact-sound c n x (at ∙ e))
 
 -- ---- one slot after the other
-pub Gathered-start : (keys : ℕ) (c : ChainParts) → Gathered keys c [] 0
-Gathered-start keys c = record {
-  words = record {
-    few = omega arith;
-    once = λ i j d l m. absurd (omega arith);
-    some = λ i d l. absurd (omega arith);
-    fits = λ i d l. absurd (omega arith);
-  };
-  few = omega arith;
-  bits = λ n. (
-    (λ h. absurd (omega (arith, bit_at-zero (n % 64)))),
-    (λ (x, s, is). absurd (let l = s.1 in omega arith)),
-  );
-}
-
 pub Gathered-more : (keys : ℕ) (c : ChainParts) (pairs new : List (ℕ × ℕ)) (n : ℕ) (fact : Option Fact) →
     Gathered keys c pairs n → chain_fact c n ≡ fact → TakesFact keys pairs new fact → Gathered keys c new (n + 1)
 Gathered-more keys c pairs new n fact was at takes = record {

@@ -1,5 +1,5 @@
 -- One more row of those that are chosen.
-use Rattle.std.proofs.Common.{◌≡◌, ◌≢◌, ℕ, ◌+◌, ◌-◌, ◌*◌, ◌/◌, ◌<◌, ◌≤◌, ◌⊎◌, ◌↔◌, ◌||◌, ◌&&◌, List, [], ◌∷◌, length, get_or, replicate, set, refl, ap, sym, ◌∙◌, subst, inl, inr, arith, Bool, true, false, get_or-set_same, get_or-set_other}
+use Rattle.std.proofs.Common.{◌≡◌, ◌≢◌, ℕ, ◌-◌, ◌<◌, ◌||◌, ◌&&◌, List, [], length, get_or, replicate, set, refl, ap, sym, ◌∙◌, inl, inr, Bool, true, false, get_or-set_same, get_or-set_other}
 use Rattle.std.specs.Cmp.{both_ways}
 use Rattle.std.proofs.lemmas.Bool.{cases_eq}
 use Rattle.ld_facts.specs.declared.places.TheConstants.{ROW_WORDS}

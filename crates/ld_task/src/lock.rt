@@ -37,7 +37,7 @@ impl Default for Lock {
 }
 
 impl Lock {
-    ghost use Rattle.std.specs.Prelude.{◌≡◌, ◌<◌};
+    ghost use Rattle.std.specs.Prelude.{◌≡◌};
     ghost use Rattle.ld_task.specs.Locks.{mode_number};
 
     // The lock of this key, taken in this mode.

@@ -11,7 +11,7 @@ use Rattle.ld_text.proofs.FindingLemmas.{AreFound-same}
 use Rattle.ld_text.proofs.ReportLemmas.{InTurn-same}
 
 module _ (P Q : Fact → Type 0) (same : AreSame P Q) where
-  -- the circles that are told of equal facts
+  -- the circles that are reported of equal facts
   pub told-same : (before : List (List Arrow)) (ds : List Arrow) (circles : List (List Arrow)) → AreTold P before ds circles → AreTold Q before ds circles
   told-same before [] circles none = none
   told-same before (d ∷ ds) circles (inl (left, (circle, rest, shortest, is, more))) = inl (

@@ -1,8 +1,7 @@
 -- What is written of JSON, token by token.
-use Rattle.std.proofs.Common.{◌≡◌, Bool, ℕ, ◌+◌, ◌<◌, List, [], ◌∷◌, ◌++◌, Result, Ok, Err, OnOk, codes, length, map, slice_index_or, take, refl, sym, ap, ◌∙◌, subst}
+use Rattle.std.proofs.Common.{◌≡◌, Bool, ℕ, ◌+◌, ◌<◌, List, [], ◌∷◌, ◌++◌, Result, Ok, Err, OnOk, length, map, slice_index_or, take, refl, sym, ap, ◌∙◌, subst}
 use Rattle.std.proofs.lemmas.List.{append_assoc, append-nil, map-append, take_more}
 use Rattle.json.specs.Token.{Token}
-use Rattle.json.specs.Print.{print}
 use Rattle.json.specs.Written.{Writes, Written}
 use Rattle.ld_trace.specs.declared.event.Irq.{Irq}
 use Rattle.ld_task.specs.Kinds.{is_r-kind_of_letters, is_s-kind_of_letters}
@@ -17,7 +16,7 @@ use Rattle.ld_explain.specs.Origins.{IsFirst}
 use Rattle.ld_explain.specs.declared.origins.Origin.{Origin}
 use Rattle.ld_text.specs.Explanation.{AreGateNotes, Told}
 use Rattle.ld_text.specs.Words.{Text}
-use Rattle.ld_text.specs.Groups.{GrowsBy, InSequence, InTurn}
+use Rattle.ld_text.specs.Groups.{InSequence, InTurn}
 use Rattle.ld_text.specs.Json.{IsDoubleObject, IsInversionObject, IsJson, IsLineOf, IsOrder, double_object, inversion_object}
 use Rattle.ld_text.specs.Inside.Tokens.{Adds, Takes}
 use Rattle.ld_text.proofs.ExplanationLemmas.{told-same}

@@ -1,13 +1,11 @@
 -- Reports of equal facts.
-use Rattle.std.proofs.Common.{ℕ, Bool, List, [], ◌∷◌, IsTrue, ◌↔◌, inl, inr, length, subst}
+use Rattle.std.proofs.Common.{ℕ, Bool, List, [], ◌∷◌, IsTrue, ◌↔◌, inl, inr, length}
 use Rattle.ld_trace.specs.Names.{Name}
 use Rattle.ld_trace.specs.declared.event.Irq.{Irq}
 use Rattle.ld_task.specs.declared.mark.Mark.TheVariants.{UsedIn, Enabled}
-use Rattle.ld_facts.specs.Arrows.{Arrow}
 use Rattle.ld_facts.specs.Facts.{AreSame, DependenciesOf}
-use Rattle.ld_graph.specs.FactLaws.{IsClean-same, IsShortestCircle-same, OnCircle-same, StrongWalk-members}
+use Rattle.ld_graph.specs.FactLaws.{IsClean-same, IsShortestCircle-same, OnCircle-same}
 use Rattle.ld_facts.specs.CountingLaws.{IsNumberOf-same}
-use Rattle.ld_graph.specs.Walks.{OnCircle}
 use Rattle.ld_graph.specs.Links.{IsClean}
 use Rattle.ld_facts.specs.declared.fact.Fact.{Fact}
 use Rattle.ld_facts.specs.declared.fact.Fact.TheVariants.{Dependency, Marked}
@@ -98,8 +96,3 @@ module _ (P Q : Fact → Type 0) (same : AreSame P Q) where
           e1,
         );
       }
-
--- what is on a circle is a dependency
-pub OnCircle-dependency : (Has : Fact → Type 0) (d : Arrow) → OnCircle Has d → DependenciesOf Has d
-OnCircle-dependency Has d (a, rest, closed, (k, within, is)) =
-    subst (DependenciesOf Has) is (StrongWalk-members (DependenciesOf Has) a rest closed.0 k d within)

@@ -3,7 +3,7 @@
 ghost use Rattle.std.specs.Prelude.{◌≡◌, [], ◌∷◌, ℕ, IfOk, IsFalse, OnOk, flat_map, map};
 ghost use Rattle.ld_facts.specs.Arrows.{arrow};
 ghost use Rattle.ld_facts.specs.FactBits.{HasFact};
-ghost use Rattle.ld_graph.specs.Links.{IsClean, IsDouble, IsInversion};
+ghost use Rattle.ld_graph.specs.Links.{IsDouble, IsInversion};
 ghost use Rattle.ld_graph.specs.Walks.{OnCircle};
 ghost use Rattle.ld_facts.specs.declared.fact.Fact.{Fact};
 ghost use Rattle.ld_task.specs.declared.kind.Kind.{Kind};
@@ -39,7 +39,7 @@ impl Model for Dependency {
     ghost view = { λ d. arrow d.from d.to d.kind };
 }
 
-// The findings of facts. Where there are none the lists take no memory.
+// The findings of facts. If there are none the lists take no memory.
 #[derive(Drop)]
 pub(crate) struct Found {
     circles: Vec<Dependency>,
@@ -56,7 +56,7 @@ impl Model for Found {
 }
 
 impl Found {
-    // All findings among the keys, in their order. Of clean facts no dependency and no key is asked for.
+    // All findings among the keys, in their order. If the facts are clean no dependency and no key is looked at.
     pub(crate) fn of(alloc: Global, settled: &Settled, keys: &[KeyId]) -> Result<Found, AllocError>
         ensures { IfOk result (AreFound (HasFact settled.now) keys.now) }
     {

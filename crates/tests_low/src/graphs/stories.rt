@@ -222,8 +222,8 @@ fn nothing(keys: u16) -> Story {
     Story { keys, ..NOTHING }
 }
 
-// Gives the graph the chains, and returns after how many of them nothing is found. None if its flag disagrees with its
-// answers, or a key is out of range.
+// Gives the graph the chains, and returns after how many of them nothing is found. None if its flag disagrees with
+// what it finds, or a key is out of range.
 fn tell(graph: &mut Graph, chains: &[Chain]) -> Option<usize> {
     let nothing = nothing(graph.keys());
     let mut clean = 0usize;

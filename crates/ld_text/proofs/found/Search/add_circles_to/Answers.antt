@@ -1,15 +1,15 @@
 use Rattle.ld_facts.specs.Arrows.{arrow}
 use Rattle.ld_text.specs.Words.{kinds}
 use Rattle.ld_facts.specs.FactBits.{HasFact}
-use Rattle.ld_text.proofs.ReportLemmas.{OnCircle-dependency}
 use Rattle.ld_text.proofs.FindingLemmas.{AddsThose-none, AddsThose-map_never, AddsThose-map_next}
 use Rattle.ld_text.proofs.found.Search.add_circles_to.Goals as goal
+use Rattle.ld_graph.specs.FactLaws.{OnCircle-member}
 
 pub returns-then-not-has_dependency : goal.returns-then-not-has_dependency
 returns-then-not-has_dependency c =
     let facts = HasFact c.args.self.settled.now in
     AddsThose-map_never _ (arrow c.args.from c.args.to)
-    (λ kind on. c.has_dependency.ensures (let no_one = c.if-not-has_dependency.true in cc) kind (OnCircle-dependency facts (arrow c.args.from c.args.to kind) on))
+    (λ kind on. c.has_dependency.ensures (let no_one = c.if-not-has_dependency.true in cc) kind (OnCircle-member facts (arrow c.args.from c.args.to kind) on))
     kinds _
 
 pub loop-kind-init : goal.loop-kind-init
