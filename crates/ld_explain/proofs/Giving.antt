@@ -18,7 +18,7 @@ use Rattle.ld_task.specs.Held.{is_held, is_kept}
 use Rattle.ld_task.specs.Kinds.{kind_between}
 use Rattle.ld_task.specs.Marks.{IsMarkedOpening, IsMarkedTaking, marks_opened, marks_taken}
 use Rattle.ld_task.specs.Placed.{held_positions}
-use Rattle.ld_task.specs.PositionLaws.{positions_below-has, positions_below-pass}
+use Rattle.ld_task.specs.Laws.Positions.{positions_below-has, positions_below-pass}
 use Rattle.ld_task.specs.TraceChains.{chain, chain_of, held_locks_at, lock_at}
 use Rattle.ld_task.specs.declared.frame.Frame.{Frame}
 use Rattle.ld_task.specs.declared.kind.Kind.{Kind}

@@ -12,9 +12,9 @@ use Rattle.std.proofs.Math.Pow.{pow-lt}
 use Rattle.std.proofs.lemmas.Slice.Zip.{length-zip, get_or-zip}
 use Rattle.ld_facts.specs.Inside.Bits.{has_bit}
 use Rattle.ld_facts.specs.Inside.WordTable.{IsAmong, IsTable, HasWord, StandsAt, AreWords, UnitesPair, HasBit, TakesRun}
-use Rattle.ld_facts.specs.WordLaws.{bits_if, bits_if-same, bits_if-other, bits_of-append, or_zero, or_assoc, bit_or-bits}
+use Rattle.ld_facts.specs.Laws.Words.{bits_if, bits_if-same, bits_if-other, bits_of-append, or_zero, or_assoc, bit_or-bits}
 use Rattle.ld_facts.specs.WordPairs.{bits_of}
-use Rattle.ld_facts.specs.BitLaws.{has_bit-zeros, zeros_at}
+use Rattle.ld_facts.specs.Laws.Bits.{has_bit-zeros, zeros_at}
 use Rattle.ld_facts.specs.declared.chain_words.TheConstants.{MAX_WORDS, SEEN_WORDS}
 
 -- the pairs of the first n places

@@ -5,7 +5,7 @@ use Rattle.std.proofs.lemmas.Bool.{cases_eq}
 use Rattle.ld_facts.specs.declared.places.TheConstants.{ROW_WORDS}
 use Rattle.ld_facts.specs.Inside.Bits.{has_bit}
 use Rattle.ld_graph.specs.Inside.Tables.{reaches}
-use Rattle.ld_facts.specs.BitLaws.{has_bit-zeros, zeros_at}
+use Rattle.ld_facts.specs.Laws.Bits.{has_bit-zeros, zeros_at}
 
 abbrev pub zero_row : List ℕ
 zero_row = replicate ROW_WORDS 0

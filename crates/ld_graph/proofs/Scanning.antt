@@ -17,7 +17,7 @@ use Rattle.ld_facts.specs.Inside.Rows.{row_place, IsNextFrom}
 use Rattle.ld_facts.specs.declared.fact.Fact.TheVariants.{Dependency as Depends}
 use Rattle.ld_facts.specs.declared.dependency.Dependency.{Dependency}
 use Rattle.ld_graph.specs.declared.search.Step.{Step}
-use Rattle.ld_facts.specs.NumberLaws.{kind_of, kind_of-number, kind_number-lt}
+use Rattle.ld_facts.specs.Laws.Numbers.{kind_of, kind_of-number, kind_number-lt}
 use Rattle.ld_graph.proofs.Paths.{place_parts}
 
 -- ---- one more element

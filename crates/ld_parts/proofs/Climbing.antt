@@ -12,7 +12,7 @@ use Rattle.ld_facts.specs.Numbers.{dependency_total, fact_number}
 use Rattle.ld_parts.specs.Ranks.{DependenciesClimb, LinksClimb, NoneGoesDown}
 use Rattle.ld_facts.specs.declared.fact.Fact.{Fact}
 use Rattle.ld_facts.specs.declared.fact.Fact.TheVariants.{Dependency, Marked}
-use Rattle.ld_facts.specs.NumberLaws.{dependency-lt, dependency_of, dependency_of-is, fact_number-same}
+use Rattle.ld_facts.specs.Laws.Numbers.{dependency-lt, dependency_of, dependency_of-is, fact_number-same}
 
 -- ---- the greatest and the least
 module _ (P : ℕ → Type 0) (rank : ℕ → ℕ) where

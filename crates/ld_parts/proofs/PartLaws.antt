@@ -6,14 +6,14 @@ use Rattle.ld_trace.specs.declared.event.Irq.{Irq}
 use Rattle.ld_task.specs.declared.kind.Kind.{Kind}
 use Rattle.ld_facts.specs.Arrows.{Arrow, arrow}
 use Rattle.ld_facts.specs.FactBits.{FactParts, HasFact}
-use Rattle.ld_graph.specs.FactLaws.{OnCircle-same, IsShortestCircle-same, IsShortestFrom-same, IsDouble-same, IsDoubleBy-same, IsInversion-same, InInversion-same, IsShortestInversion-same, IsClean-same}
+use Rattle.ld_graph.specs.Laws.Facts.{OnCircle-same, IsShortestCircle-same, IsShortestFrom-same, IsDouble-same, IsDoubleBy-same, IsInversion-same, InInversion-same, IsShortestInversion-same, IsClean-same}
 use Rattle.ld_facts.specs.Facts.{AreSame}
 use Rattle.ld_graph.specs.Links.{IsDouble, IsDoubleBy, IsInversion, InInversion, IsShortestInversion, IsClean, link_by}
-use Rattle.ld_parts.specs.RankLaws.{are_found_by_rank}
+use Rattle.ld_parts.specs.Laws.Ranks.{are_found_by_rank}
 use Rattle.ld_parts.specs.Ranks.{AmongRank, AreFoundByRank, NoneGoesDown}
 use Rattle.ld_facts.specs.Renumbered.{AmongKeys, HasKeys, Renumbered, arrow_at}
 use Rattle.ld_parts.specs.FoundByPlace.{AreFoundByPlace}
-use Rattle.ld_parts.specs.RenumberedLaws.{are_found_by_place, AmongRank-listed}
+use Rattle.ld_parts.specs.Laws.Renumbered.{are_found_by_place, AmongRank-listed}
 use Rattle.ld_graph.specs.Walks.{OnCircle, IsShortestCircle, IsShortestFrom}
 use Rattle.ld_parts.specs.Inside.Parts.{AreTogether, IsAtPlace, IsPart}
 use Rattle.ld_facts.specs.declared.fact.Fact.{Fact}

@@ -8,7 +8,7 @@ use Rattle.ld_trace.specs.declared.event.Event.{Event}
 use Rattle.ld_task.specs.declared.fault.StepAt.{StepAt}
 use Rattle.ld_facts.specs.FactBits.{FactParts, HasFact}
 use Rattle.ld_facts.specs.Facts.{AreSame, Holds}
-use Rattle.ld_facts.specs.ListLaws.{Any-push, Contains-head}
+use Rattle.ld_facts.specs.Laws.Lists.{Any-push, Contains-head}
 use Rattle.ld_facts.specs.declared.fact.Fact.{Fact}
 use Rattle.ld_run.specs.Seats.{view, claims_of}
 use Rattle.ld_run.specs.Views.{newcomer, times, once_below, PutHas, SeenHas, KnowsFact}

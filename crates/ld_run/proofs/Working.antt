@@ -6,7 +6,7 @@ use Rattle.ld_task.specs.declared.fault.StepAt.{StepAt}
 use Rattle.ld_task.specs.WellFormed.{IsWellFormed}
 use Rattle.ld_facts.specs.Facts.{Holds}
 use Rattle.ld_facts.specs.declared.fact.Fact.{Fact}
-use Rattle.ld_facts.specs.ListLaws.{Contains-head}
+use Rattle.ld_facts.specs.Laws.Lists.{Contains-head}
 use Rattle.ld_run.specs.Views.{KnowsFact, with_claim}
 use Rattle.ld_run.specs.Tallies.{HasBeforeFault, IsRefused, LeastRefusedIs, OfSome}
 use Rattle.ld_run.specs.Work.{DrawnHave, HasFinished, PutsOnly}

@@ -17,7 +17,7 @@ pub struct Lock {
 
 impl Model for Lock {
     ghost use Rattle.ld_task.specs.Locks.{IsLockWord, LockParts, lock_of_word, lock_word};
-    ghost use Rattle.ld_task.specs.LockLaws.{lock_word-of_word};
+    ghost use Rattle.ld_task.specs.Laws.Locks.{lock_word-of_word};
 
     ghost Value = { LockParts };
 

@@ -10,7 +10,7 @@ use Rattle.ld_task.specs.declared.mark.Mark.TheVariants.{UsedIn, Enabled}
 use Rattle.ld_facts.specs.Arrows.{Arrow, arrow}
 use Rattle.ld_facts.specs.FactBits.{FactParts, HasFact}
 use Rattle.ld_facts.specs.Facts.{Adds, DependenciesOf}
-use Rattle.ld_facts.specs.ListLaws.{Any-push, Contains-cases}
+use Rattle.ld_facts.specs.Laws.Lists.{Any-push, Contains-cases}
 use Rattle.ld_facts.specs.declared.fact.Fact.{Fact}
 use Rattle.ld_facts.specs.declared.fact.Fact.TheVariants.{Dependency, Marked}
 use Rattle.ld_graph.specs.Links.{IsDoubleBy, IsShortestInversion, link_by}

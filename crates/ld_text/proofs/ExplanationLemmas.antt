@@ -3,7 +3,7 @@ use Rattle.std.proofs.Common.{◌++◌, ℕ, List, [], ◌∷◌, inl, inr}
 use Rattle.ld_trace.specs.declared.event.Irq.{Irq}
 use Rattle.ld_facts.specs.Arrows.{Arrow}
 use Rattle.ld_facts.specs.Facts.{AreSame}
-use Rattle.ld_graph.specs.FactLaws.{IsDoubleBy-same, IsShortestFrom-same, IsShortestInversion-same}
+use Rattle.ld_graph.specs.Laws.Facts.{IsDoubleBy-same, IsShortestFrom-same, IsShortestInversion-same}
 use Rattle.ld_facts.specs.declared.fact.Fact.{Fact}
 use Rattle.ld_text.specs.Explanation.{AreTold, IsDoubleBlock, IsExplanation, IsInversionBlock, Told}
 use Rattle.ld_text.specs.Groups.{InSequence}

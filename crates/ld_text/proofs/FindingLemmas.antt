@@ -4,7 +4,7 @@ use Rattle.std.specs.List.{flat_map}
 use Rattle.std.proofs.lemmas.List.{append_assoc, append-nil, map-append, take_more}
 use Rattle.std.proofs.lemmas.List.Elements.{All-cons, All-nil}
 use Rattle.ld_facts.specs.Facts.{AreSame}
-use Rattle.ld_graph.specs.FactLaws.{IsDouble-same, IsInversion-same, OnCircle-same}
+use Rattle.ld_graph.specs.Laws.Facts.{IsDouble-same, IsInversion-same, OnCircle-same}
 use Rattle.ld_graph.specs.Links.{IsClean, IsDouble, IsInversion}
 use Rattle.ld_graph.specs.Walks.{OnCircle}
 use Rattle.ld_facts.specs.declared.fact.Fact.{Fact}

@@ -5,8 +5,8 @@ use native.Mathlib.Decide.{ℕ_discrete}
 use Rattle.std.proofs.lemmas.List.{get_or-replicate, get_or-set_other, get_or-set_same, get_or_default, take_all, take_more}
 use Rattle.ld_facts.specs.Arrows.{Arrow, arrow}
 use Rattle.ld_facts.specs.Facts.{DependenciesOf}
-use Rattle.ld_graph.specs.FactLaws.{StrongWalk-members, OnCircle-member}
-use Rattle.ld_facts.specs.ListLaws.{Any-push}
+use Rattle.ld_graph.specs.Laws.Facts.{StrongWalk-members, OnCircle-member}
+use Rattle.ld_facts.specs.Laws.Lists.{Any-push}
 use Rattle.ld_facts.specs.declared.fact.Fact.{Fact}
 use Rattle.ld_text.specs.Inside.Joined.{Leads}
 use Rattle.ld_text.specs.Picture.{AreJoined, IsFoundArrow}

@@ -7,7 +7,7 @@ use Rattle.ld_trace.specs.declared.event.Irq.{Irq}
 use Rattle.ld_task.specs.Kinds.{is_r-kind_of_letters, is_s-kind_of_letters}
 use Rattle.ld_task.specs.declared.mark.Mark.TheVariants.{UsedIn, Enabled}
 use Rattle.ld_facts.specs.Arrows.{Arrow}
-use Rattle.ld_graph.specs.FactLaws.{IsDoubleBy-same, IsShortestInversion-same}
+use Rattle.ld_graph.specs.Laws.Facts.{IsDoubleBy-same, IsShortestInversion-same}
 use Rattle.ld_facts.specs.Facts.{AreSame}
 use Rattle.ld_graph.specs.Links.{IsDoubleBy, IsShortestInversion, link_by}
 use Rattle.ld_facts.specs.declared.fact.Fact.{Fact}

@@ -1,7 +1,7 @@
 -- What grows a picture, and what is found by going through lists.
 use Rattle.std.proofs.Common.{◌≡◌, ◌↔◌, ◌⊎◌, ℕ, ◌+◌, ◌<◌, Any, Bool, true, false, IsTrue, IsFalse, List, [], ◌++◌, length, not, ◌||◌, slice_index_or, take, refl, sym, ap, ◌∙◌, subst, inl, inr, arith}
 use Rattle.std.proofs.lemmas.List.{append-nil, append_assoc, take_more}
-use Rattle.ld_facts.specs.ListLaws.{Any-push}
+use Rattle.ld_facts.specs.Laws.Lists.{Any-push}
 use Rattle.ld_text.specs.Groups.{GrowsBy}
 use Rattle.ld_text.specs.Picture.{ShowsColoured}
 

@@ -3,7 +3,7 @@ use Rattle.std.proofs.Common.{◌≡◌, ◌↔◌, ◌⊎◌, ℕ, Bool, true, 
 use Rattle.ld_trace.specs.Names.{Name}
 use Rattle.ld_facts.specs.Arrows.{Arrow, arrow}
 use Rattle.ld_facts.specs.Facts.{AreSame}
-use Rattle.ld_graph.specs.FactLaws.{InInversion-same, IsDouble-same, IsInversion-same, OnCircle-same}
+use Rattle.ld_graph.specs.Laws.Facts.{InInversion-same, IsDouble-same, IsInversion-same, OnCircle-same}
 use Rattle.ld_facts.specs.declared.fact.Fact.{Fact}
 use Rattle.ld_facts.specs.declared.fact.Fact.TheVariants.{Dependency}
 use Rattle.ld_text.specs.Groups.{InSequence}

@@ -4,8 +4,8 @@ use Rattle.ld_trace.specs.Names.{Name}
 use Rattle.ld_trace.specs.declared.event.Irq.{Irq}
 use Rattle.ld_task.specs.declared.mark.Mark.TheVariants.{UsedIn, Enabled}
 use Rattle.ld_facts.specs.Facts.{AreSame, DependenciesOf}
-use Rattle.ld_graph.specs.FactLaws.{IsClean-same, IsShortestCircle-same, OnCircle-same}
-use Rattle.ld_facts.specs.CountingLaws.{IsNumberOf-same}
+use Rattle.ld_graph.specs.Laws.Facts.{IsClean-same, IsShortestCircle-same, OnCircle-same}
+use Rattle.ld_facts.specs.Laws.Counting.{IsNumberOf-same}
 use Rattle.ld_graph.specs.Links.{IsClean}
 use Rattle.ld_facts.specs.declared.fact.Fact.{Fact}
 use Rattle.ld_facts.specs.declared.fact.Fact.TheVariants.{Dependency, Marked}

@@ -7,7 +7,7 @@ use Rattle.ld_task.specs.Kinds.{is_r-kind_of_letters, is_s-kind_of_letters}
 use Rattle.ld_task.specs.declared.mark.Mark.TheVariants.{UsedIn, Enabled}
 use Rattle.ld_facts.specs.Arrows.{Arrow, arrow}
 use Rattle.ld_facts.specs.FactBits.{FactParts, HasFact}
-use Rattle.ld_graph.specs.FactLaws.{StrongWalk-members}
+use Rattle.ld_graph.specs.Laws.Facts.{StrongWalk-members}
 use Rattle.ld_facts.specs.Facts.{Adds, DependenciesOf}
 use Rattle.ld_graph.specs.Links.{IsDoubleBy, IsShortestInversion, link_by}
 use Rattle.ld_graph.specs.Walks.{IsShortestFrom}

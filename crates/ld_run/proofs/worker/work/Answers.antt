@@ -5,7 +5,7 @@ use Rattle.ld_run.specs.Seats.{view}
 use Rattle.ld_run.specs.declared.view.View.{View}
 use Rattle.ld_run.proofs.Working.{IsWorking, IsWorking-none, IsWorking-next, found_among, finishes, puts_among, walked_puts}
 use Rattle.ld_run.proofs.worker.work.Goals as goal
-use Rattle.ld_facts.specs.ListLaws.{Contains-head}
+use Rattle.ld_facts.specs.Laws.Lists.{Contains-head}
 
 pub loop-number-init : goal.loop-number-init
 loop-number-init g c =

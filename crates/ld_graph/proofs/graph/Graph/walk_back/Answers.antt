@@ -8,7 +8,7 @@ use Rattle.ld_facts.specs.Inside.Places.{arrival, Leaves, LeavesFrom}
 use Rattle.ld_graph.specs.Inside.Searching.{GoesTo, NoGoalBy, LeadsRound, LeastRound}
 use Rattle.ld_graph.specs.Inside.Tables.{IsSource}
 use Rattle.ld_facts.specs.declared.places.TheConstants.{ROW_WORDS}
-use Rattle.ld_facts.specs.BitLaws.{has_bit-zeros, zeros_at}
+use Rattle.ld_facts.specs.Laws.Bits.{has_bit-zeros, zeros_at}
 use Rattle.ld_graph.proofs.Joining.{zero_row}
 use Rattle.ld_graph.proofs.Rounds.{LeastRound-searched}
 use Rattle.ld_graph.proofs.graph.Graph.walk_back.Goals as goal

@@ -3,7 +3,7 @@ use Rattle.ld_text.specs.Words.{kinds}
 use Rattle.ld_facts.specs.FactBits.{HasFact}
 use Rattle.ld_text.proofs.FindingLemmas.{AddsThose-none, AddsThose-map_never, AddsThose-map_next}
 use Rattle.ld_text.proofs.found.Search.add_circles_to.Goals as goal
-use Rattle.ld_graph.specs.FactLaws.{OnCircle-member}
+use Rattle.ld_graph.specs.Laws.Facts.{OnCircle-member}
 
 pub returns-then-not-has_dependency : goal.returns-then-not-has_dependency
 returns-then-not-has_dependency c =

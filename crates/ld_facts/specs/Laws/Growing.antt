@@ -7,7 +7,7 @@ use Rattle.ld_facts.specs.Facts.{ChainHas, Holds, Adds}
 use Rattle.ld_facts.specs.FactBits.{FactParts, HasFact}
 use Rattle.ld_facts.specs.ChainFacts.{chain_fact, fact_slots, StandsIn}
 use Rattle.ld_facts.specs.declared.fact.Fact.{Fact}
-use Rattle.ld_facts.specs.ChainLaws.{chain_fact-sound, chain_fact-complete}
+use Rattle.ld_facts.specs.Laws.Chains.{chain_fact-sound, chain_fact-complete}
 
 -- the facts at the chain's first n slots have been added, and `fresh` says whether one was new
 pub record Grown (first now : FactParts) (c : ChainParts) (n : ℕ) (fresh : Bool) : Type 0 where
