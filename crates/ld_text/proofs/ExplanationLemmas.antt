@@ -6,9 +6,8 @@ use Rattle.ld_facts.specs.Facts.{AreSame}
 use Rattle.ld_graph.specs.Laws.Facts.{IsDoubleBy-same, IsShortestFrom-same, IsShortestInversion-same}
 use Rattle.ld_facts.specs.declared.fact.Fact.{Fact}
 use Rattle.ld_text.specs.Explanation.{AreTold, IsDoubleBlock, IsExplanation, IsInversionBlock, Told}
-use Rattle.ld_text.specs.Groups.{InSequence}
 use Rattle.ld_text.proofs.FindingLemmas.{AreFound-same}
-use Rattle.ld_text.proofs.ReportLemmas.{InTurn-same}
+use Rattle.ld_text.proofs.ReportLemmas.{InTurn-same, then-same}
 
 module _ (P Q : Fact → Type 0) (same : AreSame P Q) where
   -- the circles that are reported of equal facts
@@ -37,33 +36,13 @@ module _ (P Q : Fact → Type 0) (same : AreSame P Q) where
 
   -- the explanation of equal facts
   pub IsExplanation-same : (told : Told) (text : List ℕ) → IsExplanation P told text → IsExplanation Q told text
-  unfolding InSequence
-  IsExplanation-same told text e =
-      let (total, after_total, total_is, (circles, after_circles, circles_are, (doubles, after_doubles, doubles_are, (inversions, end, inversions_are, at_end, e4), e3), e2), e1) = e.text_is in
-      record {
-        keys = e.keys;
-        keys_are = e.keys_are;
-        found = e.found;
-        found_are = AreFound-same P Q same e.keys e.found e.found_are;
-        circles = e.circles;
-        circles_are = told-same [] e.found.circles e.circles e.circles_are;
-        text_is = (
-          total,
-          after_total,
-          total_is,
-          (
-            circles,
-            after_circles,
-            circles_are,
-            (
-              doubles,
-              after_doubles,
-              InTurn-same _ _ (double-same told) e.found.doubles doubles doubles_are,
-              (inversions, end, InTurn-same _ _ (inversion-same told e.keys) e.found.inversions inversions inversions_are, at_end, e4),
-              e3,
-            ),
-            e2,
-          ),
-          e1,
-        );
-      }
+  IsExplanation-same told text e = record {
+    keys = e.keys;
+    keys_are = e.keys_are;
+    found = e.found;
+    found_are = AreFound-same P Q same e.keys e.found e.found_are;
+    circles = e.circles;
+    circles_are = told-same [] e.found.circles e.circles e.circles_are;
+    text_is = then-same (λ _ h. h) (then-same (λ _ h. h) (then-same (InTurn-same _ _ (double-same told) e.found.doubles)
+        (then-same (InTurn-same _ _ (inversion-same told e.keys) e.found.inversions) (λ _ h. h)))) text e.text_is;
+  }

@@ -24,7 +24,7 @@ use Rattle.ld_text.specs.Order.{IsKeyOrder}
 use Rattle.ld_text.specs.Report.{double_line, inversion_line, member_text, total_line}
 use Rattle.ld_text.specs.Words.{file_at, irq_text, key_text, name_at}
 
--- what is explained: the traces, the names of their keys, and the files that they were read from
+-- what an explanation is made from: the traces, the names of their keys, and the files that they were read from
 pub record Told : Type 0 where
   pub traces : List (List Event)
   pub names : List Name
@@ -97,7 +97,7 @@ waits_text names task (d ∷ walk) = waits_line names task d ++ waits_text names
 abbrev pub holds_line : List Name → (key : ℕ) → List ℕ
 holds_line names key = codes "  task 1 holds " ++ (key_text (name_at names key) ++ codes "\n")
 
--- an interrupt comes in at it and needs a lock
+-- an interrupt comes in at it and waits for a lock
 abbrev pub comes_line : List Name → Irq → (key : ℕ) → List ℕ
 comes_line names irq key = codes "  a " ++ (irq_text irq ++ (codes " comes in at task 1 and waits for "
     ++ (key_text (name_at names key) ++ codes "\n")))
@@ -191,8 +191,8 @@ pub record IsInversionBlock (Has : Fact → Type 0) (told : Told) (keys : List �
 abbrev pub IsTold : List (List Arrow) → Arrow → Type 0
 IsTold circles d = Any (λ circle. Contains circle d) circles
 
--- the circles that are reported for these dependencies in turn, if some were before: of each one that isn't a member of any yet, a
--- shortest of those that begin with it
+-- the circles that are reported for these dependencies in turn, if some were before: for each one that isn't a member of
+-- any yet, a shortest of those that begin with it
 abbrev pub AreTold : (Fact → Type 0) → (before : List (List Arrow)) → List Arrow → List (List Arrow) → Type 0
 AreTold Has before [] circles = circles ≡ []
 AreTold Has before (d ∷ ds) circles =

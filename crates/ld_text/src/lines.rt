@@ -244,7 +244,7 @@ impl Teller<'_> {
         Ok(())
     }
 
-    // An interrupt comes in and needs a lock.
+    // An interrupt comes in and waits for a lock.
     pub(crate) fn add_interrupt(
         &self,
         text: &mut String,

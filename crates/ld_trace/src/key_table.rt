@@ -72,7 +72,8 @@ impl KeyTable {
     ///
     /// Refusals, in this order: K1 if the name isn't 1 to 64 bytes of 0x21 to 0x7E, K2 if the subclass is above 7,
     /// K3 if the key would be one more than there is room for (of a table of `new`, the 257th), K4 if memory for a new
-    /// key was refused. After a refusal the table is unchanged. The number of a key that is there is returned without taking memory.
+    /// key was refused. After a refusal the table is unchanged. The number of a key that is there is returned without
+    /// taking memory.
     pub fn number(&mut self, name: &str, sub: u8) -> Result<KeyId, KeyFault>
         ensures value { IfOk result (λ key. key ≡ place_of self.old.names (name.now, sub)) }
         ensures names { IfOk result (λ _. self.new.names ≡ with_name self.old.names (name.now, sub)) }
