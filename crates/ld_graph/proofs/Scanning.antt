@@ -42,8 +42,6 @@ slice_get_push_cases (z ∷ xs) x (suc j) y h =
     ]
 
 -- ---- one more step
-}
-
 module _ (facts : FactParts) (within goal : List ℕ) (i : ℕ) (step : Step) (old mid new : SearchParts) (hit : Bool)
     (pushes : Pushes within goal step mid new hit) where
   pub seen_pushed : (q : ℕ) → has_bit mid.seen q ≡ true → has_bit new.seen q ≡ true

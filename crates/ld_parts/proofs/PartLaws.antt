@@ -66,7 +66,7 @@ module _ (facts : FactParts) (part : Part) (rank : ℕ → ℕ) (r : ℕ) (is : 
         let at_i = rank_at (slice_index keys i) i (li, refl) in
         let at_j = rank_at (slice_index keys j) j (lj, refl) in
         let placed = by_places (OnCircle-same (AmongRank Has rank r) (AmongKeys Has keys) listed d) (by_place.on_circle (arrow i j kind) li lj)
-            (OnCircle-same Among (Renumbered Has keys) is.same (arrow i j kind)) in (
+        (OnCircle-same Among (Renumbered Has keys) is.same (arrow i j kind)) in (
           (λ on. placed.0 (subst (λ s. OnCircle (AmongRank Has rank s) d) at_i ((found.on_circle d).0 on).1)),
           (λ on. (found.on_circle d).1 (at_i ∙ sym at_j, subst (λ s. OnCircle (AmongRank Has rank s) d) (sym at_i) (placed.1 on))),
         )
@@ -76,7 +76,7 @@ module _ (facts : FactParts) (part : Part) (rank : ℕ → ℕ) (r : ℕ) (is : 
         let a = slice_index keys i in
         let at_i = rank_at a i (l, refl) in
         let placed = by_places (IsDouble-same (AmongRank Has rank r) (AmongKeys Has keys) listed irq a) (by_place.double irq i l)
-            (IsDouble-same Among (Renumbered Has keys) is.same irq i) in (
+        (IsDouble-same Among (Renumbered Has keys) is.same irq i) in (
           (λ is_double. placed.0 (subst (λ s. IsDouble (AmongRank Has rank s) irq a) at_i ((found.double irq a).0 is_double))),
           (λ is_double. (found.double irq a).1 (subst (λ s. IsDouble (AmongRank Has rank s) irq a) (sym at_i) (placed.1 is_double))),
         )
@@ -98,7 +98,7 @@ module _ (facts : FactParts) (part : Part) (rank : ℕ → ℕ) (r : ℕ) (is : 
         let at_i = rank_at a i (li, refl) in
         let at_j = rank_at b j (lj, refl) in
         let placed = by_places (IsInversion-same (AmongRank Has rank r) (AmongKeys Has keys) listed irq a b) (by_place.inversion irq i j li lj)
-            (IsInversion-same Among (Renumbered Has keys) is.same irq i j) in (
+        (IsInversion-same Among (Renumbered Has keys) is.same irq i j) in (
           (λ is_one. placed.0 (subst (λ s. IsInversion (AmongRank Has rank s) irq a b) at_i ((found.inversion irq a b).0 is_one).1)),
           (λ is_one. (found.inversion irq a b).1 (at_i ∙ sym at_j, subst (λ s. IsInversion (AmongRank Has rank s) irq a b) (sym at_i) (placed.1 is_one))),
         )
@@ -110,7 +110,7 @@ module _ (facts : FactParts) (part : Part) (rank : ℕ → ℕ) (r : ℕ) (is : 
         let at_i = rank_at (slice_index keys i) i (li, refl) in
         let at_j = rank_at (slice_index keys j) j (lj, refl) in
         let placed = by_places (InInversion-same (AmongRank Has rank r) (AmongKeys Has keys) listed d) (by_place.in_inversion (arrow i j kind) li lj)
-            (InInversion-same Among (Renumbered Has keys) is.same (arrow i j kind)) in (
+        (InInversion-same Among (Renumbered Has keys) is.same (arrow i j kind)) in (
           (λ in_one. placed.0 (subst (λ s. InInversion (AmongRank Has rank s) d) at_i ((found.in_inversion d).0 in_one).1)),
           (λ in_one. (found.in_inversion d).1 (at_i ∙ sym at_j, subst (λ s. InInversion (AmongRank Has rank s) d) (sym at_i) (placed.1 in_one))),
         )

@@ -3,7 +3,7 @@
 ghost use Rattle.std.specs.Prelude.{◌≡◌, ◌↔◌, [], false, ℕ, List, IfOk, IfErr, map, unwrap_or, codes};
 ghost use Rattle.clap.specs.Words.{App, HasKind, Shape, all_of, app_of, fault_of as clap_faults, found_of, kind_of, rows_of, rule_of, shape_of, subcommand_rows_of, with_subcommand};
 ghost use Rattle.clap.specs.declared.builder.command.Command.TheViews.{out-Command};
-ghost use Rattle.ld_words.specs.CommandLine.{IsLineFault, IsLineIn, IsLineOf, ReadsCheck, ReadsLine, chains_shape, check_shape, condense_shape, explain_shape, file_rule, files_rule, findings_rule, graph_shape, json_rule, lockdep_app, many_app, many_rule, subcommand_word, workers_rule};
+ghost use Rattle.ld_words.specs.CommandLine.{IsLineFault, IsLineIn, IsLineOf, ReadsCheck, ReadsFlag, chains_shape, check_shape, condense_shape, explain_shape, file_rule, files_rule, findings_rule, graph_shape, json_rule, lockdep_app, many_app, many_rule, workers_rule};
 
 use clap::error::ErrorKind;
 use clap::{Arg, ArgAction, ArgMatches, Command, value_parser};

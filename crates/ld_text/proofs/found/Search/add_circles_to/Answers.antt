@@ -1,7 +1,7 @@
 use Rattle.ld_facts.specs.Arrows.{arrow}
 use Rattle.ld_text.specs.Words.{kinds}
 use Rattle.ld_facts.specs.FactBits.{HasFact}
-use Rattle.ld_text.proofs.FindingLemmas.{AddsThose-none, AddsThose-map_never, AddsThose-map_next}
+use Rattle.ld_text.proofs.FindingLemmas.{AddsThose-map_never, AddsThose-map_next}
 use Rattle.ld_text.proofs.found.Search.add_circles_to.Goals as goal
 use Rattle.ld_graph.specs.Laws.Facts.{OnCircle-member}
 
@@ -11,9 +11,6 @@ returns-then-not-has_dependency c =
     AddsThose-map_never _ (arrow c.args.from c.args.to)
     (λ kind on. c.has_dependency.ensures (let no_one = c.if-not-has_dependency.true in cc) kind (OnCircle-member facts (arrow c.args.from c.args.to kind) on))
     kinds _
-
-pub loop-kind-init : goal.loop-kind-init
-loop-kind-init c = AddsThose-none _ _
 
 pub loop-kind-preserved : goal.loop-kind-preserved
 loop-kind-preserved c = AddsThose-map_next _ _ _ _ _ _ _ _ c.loop-kind-test.true c.loop-kind.invariant c.in_ok-add_circle.ensures
