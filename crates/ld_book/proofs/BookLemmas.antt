@@ -5,7 +5,7 @@ use Rattle.std.specs.Int.{from_bool}
 use Rattle.std.proofs.lemmas.List.Sums.{sum_by_push, sum_by-cons}
 use Rattle.ld_task.specs.Chains.{ChainParts}
 use Rattle.ld_facts.specs.FactBits.{FactParts, HasFact}
-use Rattle.ld_facts.specs.ListLaws.{Any-push}
+use Rattle.ld_facts.specs.Laws.Lists.{Any-push}
 use Rattle.ld_facts.specs.Facts.{Adds, AreSame, ChainHas, Holds}
 use Rattle.ld_facts.specs.declared.fact.Fact.{Fact}
 use Rattle.ld_book.specs.Books.{JournalHas, IsLawful, acquisition_count, opening_count}

@@ -11,7 +11,7 @@ use Rattle.ld_task.specs.Chains.{ChainParts}
 use Rattle.ld_task.specs.ChainEquality.{chain_eq}
 use Rattle.ld_task.specs.Inside.ChainEqualityLaws.{chain_eq-decides, chain_eq-equivalence}
 use Rattle.ld_facts.specs.Counting.{IsNumberOf}
-use Rattle.ld_facts.specs.ListLaws.{Any-push}
+use Rattle.ld_facts.specs.Laws.Lists.{Any-push}
 use Rattle.ld_book.specs.Books.{StandsIn}
 use Rattle.ld_book.specs.Inside.Journals.{EntryParts, no_chain, entry_of, journal_of, IsJournal, PutsChain}
 

@@ -1,6 +1,6 @@
 //! A journal of chains, with what belongs to it.
 
-ghost use Rattle.std.specs.Prelude.{◌≡◌, ℕ, ◌≤◌, ◌++◌, ◌↔◌, [], ◌∷◌, length, option_map, slice_get, IfOk, OnOk, OnErr, IfErr, IsErrOf, IsTrue, IsFalse};
+ghost use Rattle.std.specs.Prelude.{◌≡◌, ◌≤◌, ◌++◌, ◌↔◌, [], ◌∷◌, length, option_map, slice_get, IfOk, OnOk, OnErr, IfErr, IsErrOf, IsTrue, IsFalse};
 ghost use Rattle.ld_task.specs.Chains.{ChainKeysBelow};
 ghost use Rattle.ld_facts.specs.Counting.{IsNumberOf};
 ghost use Rattle.ld_facts.specs.FactBits.{HasFact};

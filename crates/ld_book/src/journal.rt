@@ -1,6 +1,6 @@
 //! Entries in order, with each distinct chain kept once.
 
-ghost use Rattle.std.specs.Prelude.{◌≡◌, ◌<◌, ◌++◌, [], ◌∷◌, length, option_map, slice_get, OnOk, OnErr, IsTrue, IsFalse, Some};
+ghost use Rattle.std.specs.Prelude.{◌≡◌, ◌++◌, [], ◌∷◌, length, option_map, slice_get, OnOk, OnErr, IsTrue, IsFalse};
 ghost use Rattle.ld_facts.specs.Counting.{IsNumberOf};
 ghost use Rattle.ld_book.specs.Books.{StandsIn};
 ghost use Rattle.ld_book.specs.Inside.Journals.{HasRoom, HasRoomForNew};

@@ -8,7 +8,7 @@ use Rattle.ld_trace.specs.Modes.{is_read}
 use Rattle.ld_task.specs.Chains.{ChainParts}
 use Rattle.ld_task.specs.Held.{is_held}
 use Rattle.ld_task.specs.Placed.{held_positions}
-use Rattle.ld_task.specs.PositionLaws.{positions_below-ascend, positions_below-pass}
+use Rattle.ld_task.specs.Laws.Positions.{positions_below-ascend, positions_below-pass}
 use Rattle.ld_task.specs.Positions.{positions_below}
 use Rattle.ld_task.specs.TraceChains.{chain, lock_at}
 use Rattle.ld_task.specs.declared.lock.Lock.{Lock}

@@ -3,7 +3,7 @@ use Rattle.std.proofs.Common.{◌≡◌, ℕ, suc, ◌<◌, true, false, ◌&&�
 use Rattle.std.specs.Prelude.{slice_get}
 use Rattle.std.proofs.lemmas.Bool.{and_parts, cases_lt, le-ltb, ltb-true, true≢false}
 use Rattle.std.proofs.lemmas.List.{length-map}
-use Rattle.std.proofs.lemmas.Option.{get_or_from_slice_get, slice_get-map, slice_get_within}
+use Rattle.std.proofs.lemmas.Option.{get_or_from_slice_get, slice_get-map, slice_get_within, same_Some}
 use Rattle.ld_trace.specs.declared.event.Event.{Event}
 use Rattle.ld_trace.specs.declared.event.Event.TheVariants.{Acquire, Release, Enter, Leave, TurnOn, TurnOff}
 use Rattle.ld_trace.specs.declared.event.Irq.{Irq}
@@ -18,7 +18,7 @@ use Rattle.ld_task.specs.Held.{is_held, is_kept}
 use Rattle.ld_task.specs.Kinds.{kind_between}
 use Rattle.ld_task.specs.Marks.{IsMarkedOpening, IsMarkedTaking, marks_opened, marks_taken}
 use Rattle.ld_task.specs.Placed.{held_positions}
-use Rattle.ld_task.specs.PositionLaws.{positions_below-has, positions_below-pass}
+use Rattle.ld_task.specs.Laws.Positions.{positions_below-has, positions_below-pass}
 use Rattle.ld_task.specs.TraceChains.{chain, chain_of, held_locks_at, lock_at}
 use Rattle.ld_task.specs.declared.frame.Frame.{Frame}
 use Rattle.ld_task.specs.declared.kind.Kind.{Kind}
@@ -31,18 +31,10 @@ use Rattle.ld_explain.specs.Origins.{Gives}
 
 -- the new lock of an acquisition's chain
 new_is : (a b : Lock) (f g : Frame) → (let x : Lock × Frame = (a, f) in let y : Lock × Frame = (b, g) in Some x ≡ Some y) → a ≡ b
-new_is a b f g e = ap (λ (o : Option (Lock × Frame)). first o) e
-  where
-    first : Option (Lock × Frame) → Lock
-    first None = a
-    first (Some x) = x.0
+new_is a b f g e = ap (λ (p : Lock × Frame). p.0) (same_Some (a, f) (b, g) e)
 
 frame_is : (a b : Lock) (f g : Frame) → (let x : Lock × Frame = (a, f) in let y : Lock × Frame = (b, g) in Some x ≡ Some y) → f ≡ g
-frame_is a b f g e = ap (λ (o : Option (Lock × Frame)). second o) e
-  where
-    second : Option (Lock × Frame) → Frame
-    second None = f
-    second (Some x) = x.1
+frame_is a b f g e = ap (λ (p : Lock × Frame). p.1) (same_Some (a, f) (b, g) e)
 
 abbrev acquisition_at : List Event → ℕ → ℕ → Mode → ChainParts
 acquisition_at t j key mode = record { held_locks = held_locks_at t j; new_lock = Some (record { key = key; mode = mode }, kind t j); flags = flags_at t j }

@@ -1,8 +1,7 @@
 -- What is taken in, slot by slot, event by event and trace by trace.
 use Rattle.std.proofs.Common.{◌≡◌, ℕ, zero, suc, ◌+◌, ◌<◌, ◌≤◌, ◌↔◌, Bool, List, [], ◌∷◌, Contains, IsTrue, length, Option, Some, None, refl, sym, ap, ◌∙◌, subst, inl, inr, arith}
 use Rattle.std.specs.Prelude.{slice_get}
-use Rattle.std.specs.Map.{lookup}
-use Rattle.std.proofs.lemmas.Option.{none-some, same_Some, slice_get_within}
+use Rattle.std.proofs.lemmas.Option.{same_Some, slice_get_within}
 use Rattle.ld_trace.specs.declared.event.Event.{Event}
 use Rattle.ld_task.specs.Chains.{ChainParts}
 use Rattle.ld_task.specs.Dependencies.{IsDependency}
@@ -16,7 +15,7 @@ use Rattle.ld_facts.specs.Laws.{LaterSlotsAreOfNewerLocks, SlotsHaveWhatIsGiven}
 use Rattle.ld_facts.specs.declared.fact.Fact.{Fact}
 use Rattle.ld_facts.specs.declared.fact.Fact.TheVariants.{Dependency, Marked}
 use Rattle.ld_explain.specs.Notes.{AreGuardsOf, GuardParts, Guarded, HasGuard, IsAloneIn, IsGate}
-use Rattle.ld_explain.specs.Origins.{AreOriginsOf, Gives, HasOrigin, Occurs, OriginParts}
+use Rattle.ld_explain.specs.Origins.{AreOriginsOf, Gives, Occurs, OriginParts}
 use Rattle.ld_explain.specs.Inside.Firsts.{AreFirsts, PutsOrigin, SeenBefore, SeenFrom, SeenTo, slot_origin}
 use Rattle.ld_explain.specs.Inside.Guarding.{Among, AreGuards, AsksOrder, GuardsAt, PutsGuard, is_among}
 use Rattle.ld_explain.specs.Inside.Taking.{AreTakenIn}
@@ -126,28 +125,6 @@ module _ (traces : List (List Event)) (asked : FactParts) where
       AreTakenIn traces asked (SeenBefore traces trace) origins guards → AreTakenIn traces asked (SeenTo traces trace zero) origins guards
   taken_start trace = along (SeenBefore traces trace) (SeenTo traces trace zero) (seen_start traces trace)
 
-  -- before the first trace there is nothing
-  pub taken_nothing : (origins : OriginParts) (guards : GuardParts) → origins.entries ≡ [] → guards.entries ≡ [] →
-      AreTakenIn traces asked (SeenBefore traces zero) origins guards
-  taken_nothing origins guards no_origin no_guard = record {
-    firsts = record {
-      seen = λ x o has. absurd (no_first x o has);
-      first = λ x o other has seen. absurd (no_first x o has);
-      all = λ x o (a, (occurs, l)). absurd (omega (arith, l));
-    };
-    guarded = record {
-      all = λ x o (a, (occurs, l)). absurd (omega (arith, l));
-      gates = λ x g has. absurd (nowhere x g has);
-      only = λ x g has. absurd (nowhere x g has);
-    };
-  }
-    where
-      no_first : (x : Fact) (o : Origin) → HasOrigin origins x o → ⊥
-      no_first x o (below, is) = none-some o (ap (lookup _) (sym no_origin) ∙ is)
-
-      nowhere : (x : Fact) (g : Guard) → HasGuard guards x g → ⊥
-      nowhere x g (below, is) = none-some g (ap (lookup _) (sym no_guard) ∙ is)
-
   -- ---- after the last trace
   module _ (d : Arrow) where
     abbrev fact : Fact
@@ -242,7 +219,7 @@ module _ (traces : List (List Event)) (asked : FactParts) where
       within : (x : Fact) (o : Origin) → Occurs traces x o → o.trace < trace
       within x o occurs = omega (arith, past, slice_get_within traces o.trace occurs.t occurs.is_trace)
 
-  -- ---- what is told of a dependency
+  -- ---- what is returned of a dependency
   module _ (parts : GuardParts) (are : AreGuardsOf traces asked parts) (d : Arrow) (is_asked : DependenciesOf (HasFact asked) d) where
     pub tells_gate : (g : Guard) → HasGuard parts (Dependency d.start d.end d.kind) g → (key : ℕ) (b : Bool) → b ≡ is_among g.gates.items key →
         IsTrue b ↔ IsGate traces d key

@@ -8,7 +8,7 @@ use Rattle.ld_trace.specs.declared.event.Event.{Event}
 use Rattle.ld_task.specs.Chains.{ChainParts}
 use Rattle.ld_task.specs.Held.{is_held}
 use Rattle.ld_task.specs.Placed.{held_positions}
-use Rattle.ld_task.specs.PositionLaws.{positions_below-ascend}
+use Rattle.ld_task.specs.Laws.Positions.{positions_below-ascend}
 use Rattle.ld_task.specs.TraceChains.{chain}
 use Rattle.ld_facts.specs.ChainFacts.{chain_fact, fact_slots, slot_held}
 use Rattle.ld_facts.specs.Laws.{LaterSlotsAreOfNewerLocks, SlotsHaveWhatIsGiven}

@@ -1,4 +1,4 @@
--- First occurrences, trace by trace, and what is told of them at the end.
+-- First occurrences, trace by trace, and what is returned of them at the end.
 use Rattle.std.proofs.Common.{◌≡◌, ℕ, zero, ◌+◌, ◌≤◌, ◌↔◌, List, length, Option, Some, None, refl, sym, ap, ◌∙◌, subst, inl, inr, arith}
 use Rattle.std.specs.Prelude.{IfSome, IsNone, slice_get}
 use Rattle.std.proofs.lemmas.Bool.{cases_eq}
@@ -58,7 +58,7 @@ module _ (traces : List (List Event)) (x : Fact) where
       let l = slice_get_within traces o.trace occurs.t occurs.is_trace in
       (o.trace, occurs.t, l, get_or_from_slice_get traces o.trace occurs.t occurs.t occurs.is_trace, place_has occurs.t x o.place o.held occurs.gives)
 
--- what is told of a fact
+-- what is returned of a fact
 pub tells : (traces : List (List Event)) (asked : FactParts) (parts : OriginParts) → AreOriginsOf traces asked parts → (x : Fact) → HasFact asked x → (r : Option Origin) →
     IfSome r (HasOrigin parts x) → (IsNone r → ¬ IsKnown parts x) → IsOriginOf traces x r
 tells traces asked parts are x is_asked None some none = (

@@ -1,6 +1,6 @@
 //! One pass over all traces, for all facts that are asked about.
 
-ghost use Rattle.std.specs.Prelude.{◌≡◌, ◌+◌, ◌<◌, ◌≤◌, ℕ, List, All, IfOk, OnOk, Some, length, slice_get};
+ghost use Rattle.std.specs.Prelude.{◌≡◌, ◌+◌, ◌<◌, ◌≤◌, List, All, IfOk, OnOk, Some, length, slice_get};
 ghost use Rattle.ld_trace.specs.declared.event.Event.{Event};
 ghost use Rattle.ld_trace.specs.declared.raw_trace.TheConstants.{MAX_TRACES};
 ghost use Rattle.ld_task.specs.Placed.{IsPlacedAfter};
@@ -97,7 +97,8 @@ impl Evidence {
         }
     }
 
-    // Takes in the occurrences in the chain at a place of a trace, by the state just after it.
+    // Takes in the occurrences in the chain at a place of a trace, by the state just after it: from the newest held lock
+    // to the oldest.
     fn add_chain(
         &mut self,
         asked: &Asked,
@@ -116,31 +117,9 @@ impl Evidence {
             → AreTakenIn traces asked.now (SeenTo traces trace (place + 1)) self.new.origins self.new.guards) }
     {
         ld_facts::slots_have_what_is_given();
-        if asked.may_be_given(chain) {
-            self.add_slots(asked, trace, place, state, chain)
-        } else {
-            Ok(())
+        if !asked.may_be_given(chain) {
+            return Ok(());
         }
-    }
-
-    // Takes in the occurrences in the slots of a chain, from the newest held lock to the oldest.
-    fn add_slots(
-        &mut self,
-        asked: &Asked,
-        trace: u32,
-        place: u32,
-        state: &PlacedState,
-        chain: &Chain,
-    ) -> Result<(), AllocError>
-        requires origins { self.old.origins.keys ≡ asked.now.keys }
-        requires guards { self.old.guards.keys ≡ asked.now.keys }
-        ensures origins { OnOk result (self.new.origins.keys ≡ self.old.origins.keys) }
-        ensures guards { OnOk result (self.new.guards.keys ≡ self.old.guards.keys) }
-        ensures taken { OnOk result ((traces : List (List Event)) (t : List Event) → slice_get traces trace ≡ Some t
-            → IsPlacedAfter t (place + 1) state.now → trace_chains.chain t place ≡ Some chain.now
-            → AreTakenIn traces asked.now (SeenTo traces trace place) self.old.origins self.old.guards
-            → AreTakenIn traces asked.now (SeenFrom traces t trace place chain.now 0) self.new.origins self.new.guards) }
-    {
         let slots = fact_slots(chain);
         for passed in 0..slots {
             self.add_slot(asked, trace, place, state, chain, slots - 1 - passed)?;

@@ -77,7 +77,7 @@ fn gate_at(chain: &Chain, i: usize) -> Option<u16>
     }
 }
 
-// The keys of the held locks of a chain that keep all others out, among so many of the oldest.
+// The keys of the held locks of a chain that keep all others out, among this number of the oldest.
 pub(crate) fn gates_before(chain: &Chain, held: usize) -> ArrayVec<u16, MAX_HELD>
     ensures { (key : ℕ) → Contains result.items key ↔ IsGateBefore chain.now held key }
 {

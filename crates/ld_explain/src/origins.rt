@@ -30,8 +30,8 @@ pub struct Origin {
     pub held: Option<u32>,
 }
 
-/// For each fact that is asked about its first occurrence in a list of traces: in the least trace that has it, there at the least place that
-/// gives it, and of several held locks by which it is given there, by the newest.
+/// For each fact that is asked about, its first occurrence in a list of traces: in the least trace that has it, there at
+/// the least place that gives it, and if several held locks give it there, by the newest.
 #[derive(Drop)]
 pub struct Origins {
     keys: u16,
@@ -109,7 +109,8 @@ impl Origins {
     }
 }
 
-// The position of the held lock by which the fact in a slot of a chain is given, by the state just after the chain's event.
+// The position of the held lock by which the fact in a slot of a chain is given, by the state just after the chain's
+// event.
 pub(crate) fn position_of_slot(state: &PlacedState, chain: &Chain, n: usize) -> Option<u32>
     ensures { (t : List Event) (place : ℕ) → IsPlacedAfter t (place + 1) state.now → trace_chains.chain t place ≡ Some chain.now
         → n < fact_slots chain.now → result ≡ slot_position t place chain.now n }

@@ -9,8 +9,8 @@ use Rattle.ld_facts.specs.FactBits.{FactParts, FactBelow, HasFact, AreFacts, Are
 use Rattle.ld_facts.specs.declared.fact.Fact.{Fact}
 use Rattle.ld_facts.specs.declared.fact.Fact.TheVariants.{Dependency, Marked}
 use Rattle.ld_facts.proofs.BitLemmas.{count_below-set}
-use Rattle.ld_facts.specs.BitLaws.{count_below-same}
-use Rattle.ld_facts.specs.NumberLaws.{dependency-lt, mark-lt, fact_number-same}
+use Rattle.ld_facts.specs.Laws.Bits.{count_below-same}
+use Rattle.ld_facts.specs.Laws.Numbers.{dependency-lt, mark-lt, fact_number-same}
 
 -- ---- the counts when a bit is set
 module _ (old new : FactParts) (n : ℕ) (sets : SetsBit old new n) where

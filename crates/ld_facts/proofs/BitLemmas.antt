@@ -8,7 +8,7 @@ use Rattle.std.proofs.Math.Pow.{pow_mono}
 use Rattle.std.proofs.lemmas.Nat.Bits.{bit_at_set_same, bit_at_set_other, bit_at_or, bit_at_and, bit_at_not, bit_at-lt, bit_at-trailing_zeros, bit_at-zero, bit_at_above}
 use Rattle.std.specs.Int.{bit_at, bit_not, trailing_zeros}
 use Rattle.ld_facts.specs.Inside.Bits.{has_bit, count_below}
-use Rattle.ld_facts.specs.BitLaws.{count_below-same, count_below-one_more}
+use Rattle.ld_facts.specs.Laws.Bits.{count_below-same, count_below-one_more}
 
 -- the word of bit n with bit n set
 abbrev pub with_bit : List ℕ → ℕ → ℕ

@@ -12,10 +12,10 @@ use Rattle.ld_facts.specs.FactBits.{FactParts, HasFact, dependency_count, mark_c
 use Rattle.ld_facts.specs.Counting.{IsNumberOf}
 use Rattle.ld_facts.specs.declared.fact.Fact.{Fact}
 use Rattle.ld_facts.specs.declared.fact.Fact.TheVariants.{Dependency, Marked}
-use Rattle.ld_facts.specs.CountingLaws.{listed, listed-length, listed-from, listed-has, listed-once}
-use Rattle.ld_facts.specs.NumberLaws.{kind_of, mark_of, dependency_of, marked_of, dependency_of-is, marked_of-is, dependency-lt, mark-lt, fact_number-same}
+use Rattle.ld_facts.specs.Laws.Counting.{listed, listed-length, listed-from, listed-has, listed-once}
+use Rattle.ld_facts.specs.Laws.Numbers.{kind_of, mark_of, dependency_of, marked_of, dependency_of-is, marked_of-is, dependency-lt, mark-lt, fact_number-same}
 
--- each number below n is a thing's and each member of the set has one, which passes: so many members as pass
+-- each number below n is a thing's and each member of the set has one, which passes: as many members as pass
 IsNumberOf-numbered : {A : Type 0} (In : A → Type 0) (n : ℕ) (test : ℕ → Bool) (read : ℕ → A) (number : A → ℕ) →
     ((k : ℕ) → k < n → number (read k) ≡ k) → ((k : ℕ) → k < n → test k ≡ true → In (read k)) →
     ((x : A) → In x → (number x < n) × (test (number x) ≡ true) × (read (number x) ≡ x)) → IsNumberOf In (count_below test n)

@@ -6,7 +6,7 @@ use Rattle.ld_facts.specs.Inside.Bits.{has_bit}
 use Rattle.ld_facts.specs.Numbers.{dependency_total, bit_total}
 use Rattle.ld_facts.specs.FactBits.{FactParts, AreCounted, dependency_count, mark_count}
 use Rattle.ld_facts.proofs.BitLemmas.{count_below-none}
-use Rattle.ld_facts.specs.BitLaws.{has_bit-zeros, zeros_at}
+use Rattle.ld_facts.specs.Laws.Bits.{has_bit-zeros, zeros_at}
 
 module _ (facts : FactParts) (n : ℕ) (zeros : facts.words ≡ replicate n 0) where
   pub none_set : (k : ℕ) → has_bit facts.words k ≡ false

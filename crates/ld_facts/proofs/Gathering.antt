@@ -18,14 +18,14 @@ use Rattle.ld_facts.specs.FactBits.{FactBelow}
 use Rattle.ld_facts.specs.ChainFacts.{chain_fact, fact_slots, dependency_from, mark_if, mark_of_held, mark_by_taking, mark_by_opening}
 use Rattle.ld_facts.specs.Inside.WordTable.{HasBit, TakesFact, TakesRun, TakesMarkBit, IsRunOf, Gathered}
 use Rattle.ld_facts.specs.Numbers.{dependency_total, bit_total, fact_number, mark_index}
-use Rattle.ld_facts.specs.WordLaws.{bits_if, bits_if-same, bit_or-bits}
+use Rattle.ld_facts.specs.Laws.Words.{bits_if, bits_if-same, bit_or-bits}
 use Rattle.ld_facts.specs.WordPairs.{bits_of, word_total, AreWordsOf}
 use Rattle.ld_task.specs.declared.mark.Mark.{Mark}
 use Rattle.ld_facts.specs.declared.fact.Fact.{Fact}
 use Rattle.ld_facts.specs.declared.fact.Fact.TheVariants.{Marked}
-use Rattle.ld_facts.specs.ChainLaws.{mark_if-some, FactBelow-chain, chain_fact-sound, chain_fact-complete}
-use Rattle.ld_facts.specs.GrowingLaws.{StandsIn-later, StandsIn-cases}
-use Rattle.ld_facts.specs.NumberLaws.{fact_number-lt, fact_number-same}
+use Rattle.ld_facts.specs.Laws.Chains.{mark_if-some, FactBelow-chain, chain_fact-sound, chain_fact-complete}
+use Rattle.ld_facts.specs.Laws.Growing.{StandsIn-later, StandsIn-cases}
+use Rattle.ld_facts.specs.Laws.Numbers.{fact_number-lt, fact_number-same}
 
 -- ---- the facts in the slots
 pub chain_fact-dependency : (c : ChainParts) (lock : Lock) (frame : Frame) (i : ℕ) → c.new_lock ≡ Some (lock, frame) →
@@ -53,21 +53,6 @@ pub FactBelow-slot : (keys : ℕ) (c : ChainParts) (n : ℕ) (fact : Option Fact
 FactBelow-slot keys c n fact below at = λ x e. FactBelow-chain keys c x below (chain_fact-sound c n x (at ∙ e))
 
 -- ---- one slot after the other
-pub Gathered-start : (keys : ℕ) (c : ChainParts) → Gathered keys c [] 0
-Gathered-start keys c = record {
-  words = record {
-    few = omega arith;
-    once = λ i j d l m. absurd (omega arith);
-    some = λ i d l. absurd (omega arith);
-    fits = λ i d l. absurd (omega arith);
-  };
-  few = omega arith;
-  bits = λ n. (
-    (λ h. absurd (omega (arith, bit_at-zero (n % 64)))),
-    (λ (x, s, is). absurd (let l = s.1 in omega arith)),
-  );
-}
-
 pub Gathered-more : (keys : ℕ) (c : ChainParts) (pairs new : List (ℕ × ℕ)) (n : ℕ) (fact : Option Fact) →
     Gathered keys c pairs n → chain_fact c n ≡ fact → TakesFact keys pairs new fact → Gathered keys c new (n + 1)
 Gathered-more keys c pairs new n fact was at takes = record {

@@ -9,9 +9,9 @@ use Rattle.ld_facts.specs.Inside.Bits.{has_bit}
 use Rattle.ld_facts.specs.Numbers.{fact_number, bit_total}
 use Rattle.ld_facts.specs.Facts.{AreSame, Adds}
 use Rattle.ld_facts.specs.FactBits.{FactParts, FactBelow, HasFact, AreFacts, SetsBit, UnitesWord}
-use Rattle.ld_facts.specs.WordLaws.{bits_if, bits_if-same, bits_if-other, or_zero}
+use Rattle.ld_facts.specs.Laws.Words.{bits_if, bits_if-same, bits_if-other, or_zero}
 use Rattle.ld_facts.specs.WordPairs.{bits_of, PairsHave}
-use Rattle.ld_facts.specs.NumberLaws.{fact_of}
+use Rattle.ld_facts.specs.Laws.Numbers.{fact_of}
 
 -- a bit of a word
 pub has_bit-at : (words : List ℕ) (i k : ℕ) → k < 64 → has_bit words (i * 64 + k) ≡ eqb (bit_at (get_or words i 0) k) 1

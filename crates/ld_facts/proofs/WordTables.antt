@@ -4,7 +4,7 @@ use Rattle.std.specs.Prelude.{IsTrue}
 use Rattle.std.specs.Int.{bit_at}
 use Rattle.std.specs.List.{zip}
 use Rattle.std.proofs.lemmas.Bool.{cases_eq, cases_lt}
-use Rattle.std.proofs.lemmas.List.{length-take-le, get_or-take, take_more, take_more_same, get_or_default}
+use Rattle.std.proofs.lemmas.List.{length-take-le, get_or-take, take_more, get_or_default}
 use Rattle.std.proofs.lemmas.Nat.{le_or_l, or_comm, or_lt, pow_pos, div-add-mod'}
 use Rattle.std.proofs.lemmas.Nat.Bits.{bit_at-zero, bit_at-pow_same, bit_at-pow_other, bit_at_above, bit_at_cat_low, bit_at_cat_high}
 use Rattle.std.proofs.Math.Nat.{mod-lt, mod-eq_of_lt}
@@ -12,9 +12,9 @@ use Rattle.std.proofs.Math.Pow.{pow-lt}
 use Rattle.std.proofs.lemmas.Slice.Zip.{length-zip, get_or-zip}
 use Rattle.ld_facts.specs.Inside.Bits.{has_bit}
 use Rattle.ld_facts.specs.Inside.WordTable.{IsAmong, IsTable, HasWord, StandsAt, AreWords, UnitesPair, HasBit, TakesRun}
-use Rattle.ld_facts.specs.WordLaws.{bits_if, bits_if-same, bits_if-other, bits_of-append, or_zero, or_assoc, bit_or-bits}
+use Rattle.ld_facts.specs.Laws.Words.{bits_if, bits_if-same, bits_if-other, bits_of-append, or_zero, or_assoc, bit_or-bits}
 use Rattle.ld_facts.specs.WordPairs.{bits_of}
-use Rattle.ld_facts.specs.BitLaws.{has_bit-zeros, zeros_at}
+use Rattle.ld_facts.specs.Laws.Bits.{has_bit-zeros, zeros_at}
 use Rattle.ld_facts.specs.declared.chain_words.TheConstants.{MAX_WORDS, SEEN_WORDS}
 
 -- the pairs of the first n places

@@ -1,4 +1,11 @@
 -- What holds of all facts: the laws that this crate proves of its definitions.
+pub mod Bits
+pub mod Chains
+pub mod Counting
+pub mod Growing
+pub mod Lists
+pub mod Numbers
+pub mod Words
 use Rattle.std.specs.Prelude.{◌≡◌, ℕ, ◌<◌, ◌≤◌, ◌↔◌, Option, IfSome, List, [], ◌∷◌, Any}
 use Rattle.ld_trace.specs.declared.event.Event.{Event}
 use Rattle.ld_task.specs.Chains.{ChainParts}

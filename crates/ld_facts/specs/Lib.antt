@@ -9,10 +9,3 @@ pub mod FactBits
 pub mod WordPairs
 pub mod Renumbered
 pub mod Laws
-pub mod ListLaws
-pub mod NumberLaws
-pub mod BitLaws
-pub mod CountingLaws
-pub mod ChainLaws
-pub mod GrowingLaws
-pub mod WordLaws

@@ -1,6 +1,6 @@
 //! Bits in words of 64, as slices of words.
 
-ghost use Rattle.std.specs.Prelude.{◌≡◌, ℕ, ◌+◌, ◌*◌, ◌/◌, ◌%◌, ◌^◌, ◌<◌, ◌≤◌, ◌≢◌, ◌||◌, ◌&&◌, ◌==◌, not, length, IsTrue, IsFalse, IsNone, IfSome, slice_index, bit_or};
+ghost use Rattle.std.specs.Prelude.{◌≡◌, ℕ, ◌+◌, ◌*◌, ◌^◌, ◌<◌, ◌≤◌, ◌≢◌, ◌||◌, ◌&&◌, ◌==◌, not, length, IsTrue, IsFalse, IsNone, IfSome};
 ghost use Rattle.std.specs.Int.{bit_at};
 ghost use Rattle.ld_facts.specs.Inside.Bits.{has_bit};
 

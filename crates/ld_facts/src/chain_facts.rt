@@ -1,9 +1,9 @@
 //! The facts of a chain, one after the other.
 
-ghost use Rattle.std.specs.Prelude.{◌≡◌, ◌+◌, ◌-◌, ◌*◌, ◌/◌, ◌%◌, ◌<◌, ◌≤◌, slice_get, if◌then◌else◌, length};
-ghost use Rattle.ld_task.specs.Marks.{marks_taken, marks_opened};
+ghost use Rattle.std.specs.Prelude.{◌≡◌, ◌≤◌, slice_get, if◌then◌else◌};
+ghost use Rattle.ld_task.specs.Marks.{marks_taken};
 ghost use Rattle.ld_trace.specs.Modes.{is_read};
-ghost use Rattle.ld_facts.specs.ChainFacts.{chain_fact, dependency_from, fact_slots, slot_held, mark_if, mark_of_held, mark_by_taking, mark_by_opening};
+ghost use Rattle.ld_facts.specs.ChainFacts.{chain_fact, dependency_from, fact_slots, slot_held, mark_if, mark_of_held, mark_by_taking};
 
 use crate::fact::Fact;
 use ld_task::{Chain, Frame, Kind, Mark};

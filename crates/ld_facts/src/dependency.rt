@@ -1,6 +1,6 @@
 //! Single dependencies.
 
-ghost use Rattle.std.specs.Prelude.{◌≡◌, ℕ, ◌*◌, ◌<◌, ◌↔◌, EachIndex, IsTrue, length, slice_index};
+ghost use Rattle.std.specs.Prelude.{◌≡◌, ◌*◌, ◌<◌, ◌↔◌, EachIndex, IsTrue, slice_index};
 ghost use Rattle.ld_task.specs.Kinds.{is_s};
 ghost use Rattle.ld_trace.specs.declared.key_id.TheConstants.{MAX_KEYS};
 ghost use Rattle.ld_trace.specs.declared.key_id.TheConstants.{MAX_MANY};

@@ -1,6 +1,6 @@
 //! Facts about lock keys, as bits in words of 64.
 
-ghost use Rattle.std.specs.Prelude.{◌≡◌, ℕ, ◌+◌, ◌*◌, ◌/◌, ◌<◌, ◌≤◌, ◌↔◌, ◌⊎◌, IsTrue, IsFalse, IsNone, IfOk, IfSome, not, [], ◌∷◌, length, slice_get};
+ghost use Rattle.std.specs.Prelude.{◌≡◌, ℕ, ◌+◌, ◌*◌, ◌<◌, ◌≤◌, ◌↔◌, IsTrue, IsFalse, IsNone, IfOk, IfSome, not, [], ◌∷◌, length, slice_get};
 ghost use Rattle.ld_task.specs.Chains.{ChainKeysBelow};
 ghost use Rattle.ld_facts.specs.Inside.Bits.{has_bit};
 ghost use Rattle.ld_facts.specs.Numbers.{bit_total, dependency_total};

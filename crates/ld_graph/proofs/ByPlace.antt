@@ -7,7 +7,7 @@ use Rattle.ld_facts.specs.Facts.{AreSame, Adds}
 use Rattle.ld_facts.specs.Numbers.{fact_number, bit_total}
 use Rattle.ld_facts.specs.Renumbered.{Renumbered, fact_by}
 use Rattle.ld_facts.specs.declared.fact.Fact.{Fact}
-use Rattle.ld_facts.specs.NumberLaws.{fact_number-lt, fact_number-same}
+use Rattle.ld_facts.specs.Laws.Numbers.{fact_number-lt, fact_number-same}
 
 -- the facts with numbers below n have been taken over
 pub record TakenOver (facts now : FactParts) (listed : List ℕ) (n : ℕ) : Type 0 where

@@ -10,7 +10,7 @@ use Rattle.ld_trace.specs.declared.key_id.TheConstants.{MAX_KEYS}
 use Rattle.ld_facts.specs.Arrows.{Arrow, MayFollow, arrow}
 use Rattle.ld_facts.specs.Facts.{Holds, Adds, DependenciesOf}
 use Rattle.ld_facts.specs.FactBits.{FactBelow}
-use Rattle.ld_graph.specs.FactLaws.{StrongWalk-more}
+use Rattle.ld_graph.specs.Laws.Facts.{StrongWalk-more}
 use Rattle.ld_graph.specs.Walks.{OnCircle}
 use Rattle.ld_graph.specs.Links.{IsLink, IsClean}
 use Rattle.ld_facts.specs.Inside.Places.{place, arrival, Leaves, LeavesFrom, Leads, Path, none, Way, LinkArrives, LinkLeaves}

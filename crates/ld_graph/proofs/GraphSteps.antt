@@ -9,7 +9,7 @@ use Rattle.ld_facts.specs.Arrows.{Arrow}
 use Rattle.ld_facts.specs.Inside.Bits.{has_bit}
 use Rattle.ld_facts.specs.Facts.{Holds, Adds, DependenciesOf}
 use Rattle.ld_facts.specs.FactBits.{FactParts, FactBelow, HasFact, rows_allowed}
-use Rattle.ld_graph.specs.FactLaws.{IsClean-fewer}
+use Rattle.ld_graph.specs.Laws.Facts.{IsClean-fewer}
 use Rattle.ld_graph.specs.Walks.{OnCircle}
 use Rattle.ld_graph.specs.Links.{IsClean}
 use Rattle.ld_facts.specs.Inside.Places.{arrival, Leads, Leaves, Path, Way}
@@ -18,7 +18,7 @@ use Rattle.ld_graph.specs.Inside.Kept.{IsGraph, AreEnds, TakesMark, JoinsLinks, 
 use Rattle.ld_graph.specs.declared.ends.Ends.{Ends}
 use Rattle.ld_facts.specs.declared.fact.Fact.{Fact}
 use Rattle.ld_facts.specs.declared.fact.Fact.TheVariants.{Dependency, Marked}
-use Rattle.ld_graph.specs.FactLaws.{OnCircle-member}
+use Rattle.ld_graph.specs.Laws.Facts.{OnCircle-member}
 use Rattle.ld_graph.proofs.Paths.{OnCircle-iff, Path-more}
 use Rattle.ld_graph.proofs.Ways.{Comes-path, Path-append, Path-from_way, Way-through, ways_taken}
 use Rattle.ld_graph.proofs.CleanPlaces.{CleanPlaces-from, IsClean-from_places, CleanPlaces-dependency, CleanPlaces-mark, ComesBack, Joins, TurnsBackBy, arrows_within, arrows_added, Leads-kept, LinkArrives-adds, LinkLeaves-adds, LinkArrives-kept, LinkLeaves-kept}

@@ -7,7 +7,7 @@ use Rattle.ld_trace.specs.declared.key_id.TheConstants.{MAX_KEYS}
 use Rattle.ld_facts.specs.Arrows.{Arrow, MayFollow}
 use Rattle.ld_facts.specs.Facts.{DependenciesOf}
 use Rattle.ld_facts.specs.FactBits.{FactParts, HasFact}
-use Rattle.ld_graph.specs.FactLaws.{StrongWalk-more}
+use Rattle.ld_graph.specs.Laws.Facts.{StrongWalk-more}
 use Rattle.ld_facts.specs.Inside.Bits.{has_bit}
 use Rattle.ld_task.specs.Kinds.{is_r}
 use Rattle.ld_facts.specs.declared.places.TheConstants.{PLACES}
@@ -16,7 +16,7 @@ use Rattle.ld_graph.specs.Inside.Searching.{Edge, Reached, GoesTo, NoGoalBy, Avo
 use Rattle.ld_graph.specs.Inside.Tables.{reaches}
 use Rattle.ld_graph.specs.Walks.{last, StrongWalk, ClosedWalk, IsCircle}
 use Rattle.ld_graph.proofs.Circles.{StrongWalk-head, ClosedWalk-turn_to}
-use Rattle.ld_facts.specs.ListLaws.{Contains-head, Contains-later}
+use Rattle.ld_facts.specs.Laws.Lists.{Contains-head, Contains-later}
 use Rattle.ld_graph.proofs.Paths.{IsWithin, Leaves-from_MayFollow, MayFollow-from_Leaves, Path-from_walk}
 use Rattle.ld_graph.proofs.Ways.{Path-cases, Way-then_path}
 

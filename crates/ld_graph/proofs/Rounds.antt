@@ -15,8 +15,8 @@ use Rattle.ld_graph.specs.Inside.Tables.{reaches, IsSource}
 use Rattle.ld_graph.specs.Walks.{last, StrongWalk, ClosedWalk, OnCircle, IsShortestFrom}
 use Rattle.ld_facts.specs.declared.fact.Fact.{Fact}
 use Rattle.ld_graph.proofs.Circles.{ClosedWalk-from_circle}
-use Rattle.ld_facts.specs.ListLaws.{Contains-cases}
-use Rattle.ld_facts.specs.CountingLaws.{distinct-few}
+use Rattle.ld_facts.specs.Laws.Lists.{Contains-cases}
+use Rattle.ld_facts.specs.Laws.Counting.{distinct-few}
 use Rattle.ld_graph.proofs.Nearest.{GoesTo-walk}
 use Rattle.ld_graph.proofs.Paths.{IsWithin, Leaves-from_MayFollow, MayFollow-from_Leaves, StrongWalk-last}
 use Rattle.ld_graph.proofs.Ways.{Comes-path, Path-first}

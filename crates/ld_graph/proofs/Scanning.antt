@@ -1,7 +1,7 @@
 -- Steps of a search: what is added from one step, a dependency at a time.
 use Rattle.std.proofs.Common.{◌≡◌, ℕ, suc, zero, ◌+◌, ◌*◌, ◌-◌, ◌<◌, ◌≤◌, ◌⊎◌, List, [], ◌∷◌, ◌++◌, length, Some, slice_get, get_or, refl, ap, sym, ◌∙◌, subst, inl, inr, arith, Bool, true, false, length-append}
 use Rattle.std.proofs.lemmas.Bool.{cases_eq, cases_lt}
-use Rattle.std.proofs.lemmas.Option.{slice_get_within, slice_get-get_or, same_Some}
+use Rattle.std.proofs.lemmas.Option.{slice_get-get_or, same_Some}
 use Rattle.std.proofs.lemmas.Nat.{same_from_place}
 use Rattle.ld_task.specs.declared.kind.Kind.{Kind}
 use Rattle.ld_task.specs.declared.kind.Kind.TheVariants.{Er}
@@ -17,7 +17,7 @@ use Rattle.ld_facts.specs.Inside.Rows.{row_place, IsNextFrom}
 use Rattle.ld_facts.specs.declared.fact.Fact.TheVariants.{Dependency as Depends}
 use Rattle.ld_facts.specs.declared.dependency.Dependency.{Dependency}
 use Rattle.ld_graph.specs.declared.search.Step.{Step}
-use Rattle.ld_facts.specs.NumberLaws.{kind_of, kind_of-number, kind_number-lt}
+use Rattle.ld_facts.specs.Laws.Numbers.{kind_of, kind_of-number, kind_number-lt}
 use Rattle.ld_graph.proofs.Paths.{place_parts}
 
 -- ---- one more element
@@ -42,15 +42,6 @@ slice_get_push_cases (z ∷ xs) x (suc j) y h =
     ]
 
 -- ---- one more step
-pub Takes-none : (facts : FactParts) (i : ℕ) (found : SearchParts) → Takes facts i found found
-Takes-none facts i found = record {
-  kept = λ j step h. h;
-  longer = omega arith;
-  fresh = λ j step l h. absurd (let w = slice_get_within found.steps j step h in omega arith);
-  seen_kept = λ q h. h;
-  listed = λ q h. inl h;
-}
-
 module _ (facts : FactParts) (within goal : List ℕ) (i : ℕ) (step : Step) (old mid new : SearchParts) (hit : Bool)
     (pushes : Pushes within goal step mid new hit) where
   pub seen_pushed : (q : ℕ) → has_bit mid.seen q ≡ true → has_bit new.seen q ≡ true
@@ -91,13 +82,6 @@ pub record Scans (facts : FactParts) (within goal : List ℕ) (i : ℕ) (from : 
   pub sees : (to : ℕ) (kind : Kind) → row_place to kind < n → HasFact facts (Depends from.to to kind) →
       LeavesFrom from.to (is_s kind) (arrival (arrow_of from)) → has_bit within (place to (is_r kind)) ≡ true →
       has_bit new.seen (place to (is_r kind)) ≡ true
-
-pub Scans-start : (facts : FactParts) (within goal : List ℕ) (i : ℕ) (from : Dependency) (found : SearchParts) → Scans facts within goal i from 0 found found
-Scans-start facts within goal i from found = record {
-  takes = Takes-none facts i found;
-  missed = λ q h g. h;
-  sees = λ to kind l. absurd (omega arith);
-}
 
 row_place-same : (a b : ℕ) (k m : Kind) → row_place a k ≡ row_place b m → (a ≡ b) × (k ≡ m)
 row_place-same a b k m e =

@@ -169,9 +169,3 @@ GoesBack-step facts steps left i q way step is (m, (s, at, stands, has, (before,
     let same : s ≡ step = same_Some s step (sym at ∙ is) in
     subst (λ x. GoesBack facts steps left x.before (arrow_of x.dependency ∷ way) q) same
     (before, back, (has, leaves, subst (λ k. GoesTo (DependenciesOf (HasFact facts)) k way q) (sym stands) goes))
-
-pub GoesTo-back : (facts : FactParts) (steps : List Step) (i p q : ℕ) (way : List Arrow) → StandsAt steps 0 p →
-    GoesBack facts steps 0 i way q → GoesTo (DependenciesOf (HasFact facts)) p way q
-GoesTo-back facts steps i p q way root (m, (e, at), goes) =
-    let same : m ≡ p = StandsAt-same steps 0 m p (subst (λ k. StandsAt steps k m) e at) root in
-    subst (λ k. GoesTo (DependenciesOf (HasFact facts)) k way q) same goes

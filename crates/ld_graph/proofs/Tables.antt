@@ -9,7 +9,7 @@ use Rattle.ld_facts.specs.Arrows.{Arrow}
 use Rattle.ld_facts.specs.Inside.Bits.{has_bit}
 use Rattle.ld_facts.specs.Inside.Places.{place, arrival, Leaves}
 use Rattle.ld_graph.specs.Inside.Tables.{reaches, Comes, IsSource, IsTarget, AreSpan, IsTransitive, TakesArrow, AreTables}
-use Rattle.ld_facts.specs.BitLaws.{has_bit-zeros, zeros_at}
+use Rattle.ld_facts.specs.Laws.Bits.{has_bit-zeros, zeros_at}
 use Rattle.ld_graph.proofs.Joining.{zero_row}
 
 -- ---- a table of zeros

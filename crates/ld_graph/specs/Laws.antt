@@ -1,4 +1,5 @@
 -- What holds of all facts: the laws that this crate proves of its definitions. A set of facts is a test in some of them.
+pub mod Facts
 use Rattle.std.specs.Prelude.{◌≡◌, ℕ, ◌⊎◌, Bool, IsTrue, IsFalse, List, ◌∷◌, ◌++◌}
 use Rattle.ld_trace.specs.declared.event.Irq.{Irq}
 use Rattle.ld_task.specs.declared.mark.Mark.TheVariants.{UsedIn, Enabled}

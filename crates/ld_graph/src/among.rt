@@ -1,11 +1,11 @@
 //! The graph of the facts among some keys, each key by its place in a list of them.
 
-ghost use Rattle.std.specs.Prelude.{◌≡◌, ◌<◌, ◌≤◌, IfOk, length, slice_index};
-ghost use Rattle.ld_facts.specs.FactBits.{FactBelow, HasFact};
+ghost use Rattle.std.specs.Prelude.{◌≡◌, ◌≤◌, IfOk, length};
+ghost use Rattle.ld_facts.specs.FactBits.{HasFact};
 ghost use Rattle.ld_facts.specs.Facts.{AreSame};
-ghost use Rattle.ld_facts.specs.Numbers.{bit_total, fact_number, mark_index};
-ghost use Rattle.ld_facts.specs.Renumbered.{Renumbered, fact_by};
-ghost use Rattle.ld_trace.specs.declared.key_id.TheConstants.{MAX_KEYS, MAX_MANY};
+ghost use Rattle.ld_facts.specs.Numbers.{bit_total};
+ghost use Rattle.ld_facts.specs.Renumbered.{Renumbered};
+ghost use Rattle.ld_trace.specs.declared.key_id.TheConstants.{MAX_KEYS};
 
 use crate::graph::Graph;
 use ld_facts::{Fact, Facts};

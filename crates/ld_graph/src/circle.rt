@@ -1,6 +1,6 @@
 //! Circles: closed strong walks of no more members than there can be keys.
 
-ghost use Rattle.std.specs.Prelude.{◌≡◌, ℕ, ◌<◌, ◌≤◌, EachIndex, IfSome, length, map, option_map, slice_get, slice_index};
+ghost use Rattle.std.specs.Prelude.{◌≡◌, ◌<◌, ◌≤◌, EachIndex, IfSome, length, map, option_map, slice_get, slice_index};
 ghost use Rattle.ld_trace.specs.declared.key_id.TheConstants.{MAX_MANY};
 ghost use Rattle.ld_facts.specs.Renumbered.{arrow_at};
 ghost use Rattle.ld_graph.specs.Circles.{arrow_parts};

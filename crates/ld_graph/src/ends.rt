@@ -1,9 +1,8 @@
 //! Where the links of each state arrive, and what they leave.
 
-ghost use Rattle.std.specs.Prelude.{◌≡◌, ℕ, ◌<◌, ◌↔◌, ◌⊎◌, IsTrue, IsFalse};
+ghost use Rattle.std.specs.Prelude.{ℕ, ◌<◌, ◌↔◌, ◌⊎◌, IsTrue, IsFalse};
 ghost use Rattle.ld_trace.specs.declared.event.Irq.{Irq};
 ghost use Rattle.ld_facts.specs.Inside.Bits.{has_bit};
-ghost use Rattle.ld_facts.specs.Numbers.{irq_number};
 ghost use Rattle.ld_facts.specs.Inside.Places.{LeavesFrom};
 ghost use Rattle.ld_graph.specs.Inside.Kept.{arrives_at, departs_from, TakesMark, JoinsLinks, MarkTurnsBack};
 ghost use Rattle.ld_trace.specs.declared.key_id.TheConstants.{MAX_KEYS};

@@ -1,9 +1,9 @@
 //! Which places are reached from which, and from which places a place is reached.
 
-ghost use Rattle.std.specs.Prelude.{◌≡◌, ℕ, ◌+◌, ◌*◌, ◌<◌, ◌≤◌, ◌↔◌, ◌⊎◌, ◌||◌, ◌&&◌, length, IsTrue, IsFalse, IfOk};
+ghost use Rattle.std.specs.Prelude.{◌≡◌, ℕ, ◌*◌, ◌<◌, ◌≤◌, ◌↔◌, ◌||◌, ◌&&◌, length, IsTrue, IsFalse, IfOk};
 ghost use Rattle.ld_facts.specs.Arrows.{arrow};
 ghost use Rattle.ld_facts.specs.Inside.Bits.{has_bit};
-ghost use Rattle.ld_facts.specs.Inside.Places.{place, arrival, Leaves, LeavesFrom};
+ghost use Rattle.ld_facts.specs.Inside.Places.{arrival, Leaves, LeavesFrom};
 ghost use Rattle.ld_graph.specs.Inside.Tables.{reaches, IsSource, IsTarget, AreSpan, IsTransitive, TakesArrow};
 ghost use Rattle.ld_trace.specs.declared.key_id.TheConstants.{MAX_KEYS};
 

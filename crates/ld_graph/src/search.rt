@@ -1,12 +1,11 @@
 //! A search over places, breadth first, for a shortest way from a start to a goal.
 
-ghost use Rattle.std.specs.Prelude.{◌≡◌, ℕ, suc, ◌+◌, ◌-◌, ◌<◌, ◌≤◌, ◌⊎◌, ◌↔◌, [], ◌∷◌, ◌++◌, length, IsTrue, IsFalse, IsNone, IfSome};
-ghost use Rattle.ld_task.specs.Kinds.{is_r, is_s};
+ghost use Rattle.std.specs.Prelude.{◌≡◌, ℕ, suc, ◌-◌, ◌<◌, ◌≤◌, [], ◌∷◌, length, IsTrue, IsFalse, IsNone, IfSome};
 ghost use Rattle.ld_facts.specs.Inside.Rows.{arrow_of};
 ghost use Rattle.ld_facts.specs.FactBits.{FactParts, HasFact};
 ghost use Rattle.ld_facts.specs.Facts.{DependenciesOf};
 ghost use Rattle.ld_facts.specs.Inside.Bits.{has_bit};
-ghost use Rattle.ld_facts.specs.Inside.Places.{arrival, Leaves};
+ghost use Rattle.ld_facts.specs.Inside.Places.{arrival};
 ghost use Rattle.ld_graph.specs.Inside.Searching.{AreSteps, FindsGoal, GoesTo, Hits, LeadsBack, Misses, NoGoalBy, SeesAllFrom, StandsAt, Takes, Visits};
 ghost use Rattle.ld_facts.specs.Inside.Rows.{IsOfKeys};
 ghost use Rattle.ld_graph.specs.declared.walk.TheConstants.{MAX_WALK};
@@ -14,9 +13,8 @@ ghost use Rattle.ld_trace.specs.declared.key_id.TheConstants.{MAX_KEYS};
 
 use crate::steps::Steps;
 use crate::walk::Walk;
-use ld_facts::places::{ROW_WORDS, Row, place_of};
+use ld_facts::places::{ROW_WORDS, Row};
 use ld_facts::{Dependency, Facts, bits};
-use ld_task::Kind;
 use std::marker::Model;
 
 // A dependency, and the number of the step that it was taken from.

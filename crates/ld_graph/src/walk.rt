@@ -1,6 +1,6 @@
 //! Strong walks, as they are returned.
 
-ghost use Rattle.std.specs.Prelude.{◌≡◌, ℕ, ◌<◌, ◌≤◌, [], ◌∷◌, EachIndex, IfSome, length, map, option_map, slice_get, slice_index};
+ghost use Rattle.std.specs.Prelude.{◌≡◌, ◌<◌, ◌≤◌, [], ◌∷◌, EachIndex, IfSome, length, map, option_map, slice_get, slice_index};
 ghost use Rattle.ld_trace.specs.declared.key_id.TheConstants.{MAX_MANY};
 ghost use Rattle.ld_graph.specs.Circles.{arrow_parts};
 ghost use Rattle.ld_facts.specs.Inside.Rows.{arrow_of};

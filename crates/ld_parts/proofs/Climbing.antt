@@ -1,7 +1,6 @@
 -- What is checked of ranks: the greatest and the least rank of the keys with a property, and arrows by their bits.
-use Rattle.std.proofs.Common.{◌≡◌, ℕ, ◌+◌, ◌/◌, ◌%◌, ◌<◌, ◌≤◌, ◌⊎◌, Bool, true, false, refl, sym, ap, ◌∙◌, subst, inl, inr, arith}
+use Rattle.std.proofs.Common.{◌≡◌, ℕ, ◌/◌, ◌%◌, ◌<◌, ◌≤◌, ◌⊎◌, Bool, true, false, refl, sym, ap, ◌∙◌, subst, inl, inr, arith}
 use Rattle.std.specs.Prelude.{◌↔◌}
-use Rattle.std.proofs.lemmas.Bool.{cases_eq}
 use Rattle.ld_trace.specs.declared.event.Irq.{Irq}
 use Rattle.ld_trace.specs.declared.event.Irq.TheVariants.{Hard, Soft}
 use Rattle.ld_task.specs.declared.mark.Mark.TheVariants.{UsedIn, Enabled}
@@ -13,7 +12,7 @@ use Rattle.ld_facts.specs.Numbers.{dependency_total, fact_number}
 use Rattle.ld_parts.specs.Ranks.{DependenciesClimb, LinksClimb, NoneGoesDown}
 use Rattle.ld_facts.specs.declared.fact.Fact.{Fact}
 use Rattle.ld_facts.specs.declared.fact.Fact.TheVariants.{Dependency, Marked}
-use Rattle.ld_facts.specs.NumberLaws.{dependency-lt, dependency_of, dependency_of-is, fact_number-same}
+use Rattle.ld_facts.specs.Laws.Numbers.{dependency-lt, dependency_of, dependency_of-is, fact_number-same}
 
 -- ---- the greatest and the least
 module _ (P : ℕ → Type 0) (rank : ℕ → ℕ) where
@@ -22,52 +21,10 @@ module _ (P : ℕ → Type 0) (rank : ℕ → ℕ) where
     pub bound : (key : ℕ) → key < n → P key → rank key ≤ greatest
     pub met : (greatest ≡ 0) ⊎ ((key : ℕ) × P key × (rank key ≡ greatest))
 
-  pub IsGreatest-start : IsGreatest 0 0
-  IsGreatest-start = record { bound = λ key l p. absurd (omega arith); met = inl refl }
-
-  pub IsGreatest-raised : (n greatest : ℕ) → IsGreatest n greatest → P n → greatest < rank n → IsGreatest (n + 1) (rank n)
-  IsGreatest-raised n greatest was p more = record {
-    bound = λ key l q. elim (cases_eq key n) [
-      | inl e ↦ omega (arith, ap rank e)
-      | inr ne ↦ omega (arith, was.bound key (omega arith) q)
-    ];
-    met = inr (n, p, refl);
-  }
-
-  pub IsGreatest-kept : (n greatest : ℕ) → IsGreatest n greatest → (P n → rank n ≤ greatest) → IsGreatest (n + 1) greatest
-  IsGreatest-kept n greatest was within = record {
-    bound = λ key l q. elim (cases_eq key n) [
-      | inl e ↦ omega (arith, ap rank e, within (subst P e q))
-      | inr ne ↦ was.bound key (omega arith) q
-    ];
-    met = was.met;
-  }
-
   -- the least rank, or the greatest that there can be
   pub record IsLeast (n least : ℕ) : Type 0 where
     pub bound : (key : ℕ) → key < n → P key → least ≤ rank key
     pub met : (least ≡ 65535) ⊎ ((key : ℕ) × P key × (rank key ≡ least))
-
-  pub IsLeast-start : IsLeast 0 65535
-  IsLeast-start = record { bound = λ key l p. absurd (omega arith); met = inl refl }
-
-  pub IsLeast-lowered : (n least : ℕ) → IsLeast n least → P n → rank n < least → IsLeast (n + 1) (rank n)
-  IsLeast-lowered n least was p less = record {
-    bound = λ key l q. elim (cases_eq key n) [
-      | inl e ↦ omega (arith, ap rank e)
-      | inr ne ↦ omega (arith, was.bound key (omega arith) q)
-    ];
-    met = inr (n, p, refl);
-  }
-
-  pub IsLeast-kept : (n least : ℕ) → IsLeast n least → (P n → least ≤ rank n) → IsLeast (n + 1) least
-  IsLeast-kept n least was within = record {
-    bound = λ key l q. elim (cases_eq key n) [
-      | inl e ↦ omega (arith, ap rank e, within (subst P e q))
-      | inr ne ↦ was.bound key (omega arith) q
-    ];
-    met = was.met;
-  }
 
 -- ---- links
 -- a key has the mark in some form

@@ -2,7 +2,7 @@
 use Rattle.std.proofs.Common.{◌≡◌, ◌⊎◌, ℕ, ◌<◌, ◌≤◌, arith, inl, inr}
 use Rattle.std.proofs.lemmas.List.Elements.{All-contains}
 use Rattle.ld_trace.specs.declared.key_id.TheConstants.{MAX_KEYS}
-use Rattle.ld_facts.specs.CountingLaws.{distinct-few}
+use Rattle.ld_facts.specs.Laws.Counting.{distinct-few}
 use Rattle.ld_facts.specs.declared.fact.Fact.{Fact}
 use Rattle.ld_parts.specs.Ranks.{IsCrowded, NoneGoesDown}
 

@@ -6,19 +6,23 @@ use Rattle.ld_trace.specs.declared.event.Irq.{Irq}
 use Rattle.ld_task.specs.declared.kind.Kind.{Kind}
 use Rattle.ld_facts.specs.Arrows.{Arrow, arrow}
 use Rattle.ld_facts.specs.FactBits.{FactParts, HasFact}
-use Rattle.ld_graph.specs.FactLaws.{OnCircle-same, IsShortestCircle-same, IsShortestFrom-same, IsDouble-same, IsDoubleBy-same, IsInversion-same, InInversion-same, IsShortestInversion-same, IsClean-same}
+use Rattle.ld_graph.specs.Laws.Facts.{OnCircle-same, IsShortestCircle-same, IsShortestFrom-same, IsDouble-same, IsDoubleBy-same, IsInversion-same, InInversion-same, IsShortestInversion-same, IsClean-same}
 use Rattle.ld_facts.specs.Facts.{AreSame}
 use Rattle.ld_graph.specs.Links.{IsDouble, IsDoubleBy, IsInversion, InInversion, IsShortestInversion, IsClean, link_by}
-use Rattle.ld_parts.specs.RankLaws.{are_found_by_rank}
+use Rattle.ld_parts.specs.Laws.Ranks.{are_found_by_rank}
 use Rattle.ld_parts.specs.Ranks.{AmongRank, AreFoundByRank, NoneGoesDown}
 use Rattle.ld_facts.specs.Renumbered.{AmongKeys, HasKeys, Renumbered, arrow_at}
 use Rattle.ld_parts.specs.FoundByPlace.{AreFoundByPlace}
-use Rattle.ld_parts.specs.RenumberedLaws.{are_found_by_place, AmongRank-listed}
+use Rattle.ld_parts.specs.Laws.Renumbered.{are_found_by_place, AmongRank-listed}
 use Rattle.ld_graph.specs.Walks.{OnCircle, IsShortestCircle, IsShortestFrom}
 use Rattle.ld_parts.specs.Inside.Parts.{AreTogether, IsAtPlace, IsPart}
 use Rattle.ld_facts.specs.declared.fact.Fact.{Fact}
 use Rattle.ld_facts.specs.declared.fact.Fact.TheVariants.{Dependency, Marked}
 use Rattle.ld_parts.specs.declared.part.Part.{Part}
+
+-- what is said of a rank's facts, of those of its keys, of these by their places and of a part's
+by_places : {A B C D : Type 0} → A ↔ B → C ↔ B → D ↔ C → A ↔ D
+by_places of_keys by_place same = ((λ a. same.1 (by_place.1 (of_keys.0 a))), (λ d. of_keys.1 (by_place.0 (same.0 d))))
 
 -- ---- what is found in a part
 module _ (facts : FactParts) (part : Part) (rank : ℕ → ℕ) (r : ℕ) (is : IsPart facts rank r part) where
@@ -60,30 +64,21 @@ module _ (facts : FactParts) (part : Part) (rank : ℕ → ℕ) (r : ℕ) (is : 
     on_circle i j kind li lj =
         let d = arrow_at keys (arrow i j kind) in
         let at_i = rank_at (slice_index keys i) i (li, refl) in
-        let at_j = rank_at (slice_index keys j) j (lj, refl) in (
-          (λ on.
-              let of_rank = subst (λ s. OnCircle (AmongRank Has rank s) d) at_i ((found.on_circle d).0 on).1 in
-              let of_keys = (OnCircle-same (AmongRank Has rank r) (AmongKeys Has keys) listed d).0 of_rank in
-              (OnCircle-same Among (Renumbered Has keys) is.same (arrow i j kind)).1 ((by_place.on_circle (arrow i j kind) li lj).1 of_keys)),
-          (λ on.
-              let by_places = (OnCircle-same Among (Renumbered Has keys) is.same (arrow i j kind)).0 on in
-              let of_keys = (by_place.on_circle (arrow i j kind) li lj).0 by_places in
-              let of_rank = (OnCircle-same (AmongRank Has rank r) (AmongKeys Has keys) listed d).1 of_keys in
-              (found.on_circle d).1 (at_i ∙ sym at_j, subst (λ s. OnCircle (AmongRank Has rank s) d) (sym at_i) of_rank)),
+        let at_j = rank_at (slice_index keys j) j (lj, refl) in
+        let placed = by_places (OnCircle-same (AmongRank Has rank r) (AmongKeys Has keys) listed d) (by_place.on_circle (arrow i j kind) li lj)
+        (OnCircle-same Among (Renumbered Has keys) is.same (arrow i j kind)) in (
+          (λ on. placed.0 (subst (λ s. OnCircle (AmongRank Has rank s) d) at_i ((found.on_circle d).0 on).1)),
+          (λ on. (found.on_circle d).1 (at_i ∙ sym at_j, subst (λ s. OnCircle (AmongRank Has rank s) d) (sym at_i) (placed.1 on))),
         )
 
     pub double : (irq : Irq) (i : ℕ) → i < length keys → IsDouble Has irq (slice_index keys i) ↔ IsDouble Among irq i
     double irq i l =
         let a = slice_index keys i in
-        let at_i = rank_at a i (l, refl) in (
-          (λ is_double.
-              let of_rank = subst (λ s. IsDouble (AmongRank Has rank s) irq a) at_i ((found.double irq a).0 is_double) in
-              let of_keys = (IsDouble-same (AmongRank Has rank r) (AmongKeys Has keys) listed irq a).0 of_rank in
-              (IsDouble-same Among (Renumbered Has keys) is.same irq i).1 ((by_place.double irq i l).1 of_keys)),
-          (λ is_double.
-              let of_keys = (by_place.double irq i l).0 ((IsDouble-same Among (Renumbered Has keys) is.same irq i).0 is_double) in
-              let of_rank = (IsDouble-same (AmongRank Has rank r) (AmongKeys Has keys) listed irq a).1 of_keys in
-              (found.double irq a).1 (subst (λ s. IsDouble (AmongRank Has rank s) irq a) (sym at_i) of_rank)),
+        let at_i = rank_at a i (l, refl) in
+        let placed = by_places (IsDouble-same (AmongRank Has rank r) (AmongKeys Has keys) listed irq a) (by_place.double irq i l)
+        (IsDouble-same Among (Renumbered Has keys) is.same irq i) in (
+          (λ is_double. placed.0 (subst (λ s. IsDouble (AmongRank Has rank s) irq a) at_i ((found.double irq a).0 is_double))),
+          (λ is_double. (found.double irq a).1 (subst (λ s. IsDouble (AmongRank Has rank s) irq a) (sym at_i) (placed.1 is_double))),
         )
 
     pub double_by : (irq : Irq) (i : ℕ) (l : Arrow) → i < length keys → IsDoubleBy Among irq i l →
@@ -101,16 +96,11 @@ module _ (facts : FactParts) (part : Part) (rank : ℕ → ℕ) (r : ℕ) (is : 
         let a = slice_index keys i in
         let b = slice_index keys j in
         let at_i = rank_at a i (li, refl) in
-        let at_j = rank_at b j (lj, refl) in (
-          (λ is_one.
-              let of_rank = subst (λ s. IsInversion (AmongRank Has rank s) irq a b) at_i ((found.inversion irq a b).0 is_one).1 in
-              let of_keys = (IsInversion-same (AmongRank Has rank r) (AmongKeys Has keys) listed irq a b).0 of_rank in
-              (IsInversion-same Among (Renumbered Has keys) is.same irq i j).1 ((by_place.inversion irq i j li lj).1 of_keys)),
-          (λ is_one.
-              let of_keys = (by_place.inversion irq i j li lj).0 ((IsInversion-same Among (Renumbered Has keys) is.same irq i j).0 is_one) in
-              let of_rank = (IsInversion-same (AmongRank Has rank r) (AmongKeys Has keys) listed irq a b).1 of_keys in
-              (found.inversion irq a b).1
-              (at_i ∙ sym at_j, subst (λ s. IsInversion (AmongRank Has rank s) irq a b) (sym at_i) of_rank)),
+        let at_j = rank_at b j (lj, refl) in
+        let placed = by_places (IsInversion-same (AmongRank Has rank r) (AmongKeys Has keys) listed irq a b) (by_place.inversion irq i j li lj)
+        (IsInversion-same Among (Renumbered Has keys) is.same irq i j) in (
+          (λ is_one. placed.0 (subst (λ s. IsInversion (AmongRank Has rank s) irq a b) at_i ((found.inversion irq a b).0 is_one).1)),
+          (λ is_one. (found.inversion irq a b).1 (at_i ∙ sym at_j, subst (λ s. IsInversion (AmongRank Has rank s) irq a b) (sym at_i) (placed.1 is_one))),
         )
 
     pub in_inversion : (i j : ℕ) (kind : Kind) → i < length keys → j < length keys →
@@ -118,16 +108,11 @@ module _ (facts : FactParts) (part : Part) (rank : ℕ → ℕ) (r : ℕ) (is : 
     in_inversion i j kind li lj =
         let d = arrow_at keys (arrow i j kind) in
         let at_i = rank_at (slice_index keys i) i (li, refl) in
-        let at_j = rank_at (slice_index keys j) j (lj, refl) in (
-          (λ in_one.
-              let of_rank = subst (λ s. InInversion (AmongRank Has rank s) d) at_i ((found.in_inversion d).0 in_one).1 in
-              let of_keys = (InInversion-same (AmongRank Has rank r) (AmongKeys Has keys) listed d).0 of_rank in
-              (InInversion-same Among (Renumbered Has keys) is.same (arrow i j kind)).1 ((by_place.in_inversion (arrow i j kind) li lj).1 of_keys)),
-          (λ in_one.
-              let by_places = (InInversion-same Among (Renumbered Has keys) is.same (arrow i j kind)).0 in_one in
-              let of_keys = (by_place.in_inversion (arrow i j kind) li lj).0 by_places in
-              let of_rank = (InInversion-same (AmongRank Has rank r) (AmongKeys Has keys) listed d).1 of_keys in
-              (found.in_inversion d).1 (at_i ∙ sym at_j, subst (λ s. InInversion (AmongRank Has rank s) d) (sym at_i) of_rank)),
+        let at_j = rank_at (slice_index keys j) j (lj, refl) in
+        let placed = by_places (InInversion-same (AmongRank Has rank r) (AmongKeys Has keys) listed d) (by_place.in_inversion (arrow i j kind) li lj)
+        (InInversion-same Among (Renumbered Has keys) is.same (arrow i j kind)) in (
+          (λ in_one. placed.0 (subst (λ s. InInversion (AmongRank Has rank s) d) at_i ((found.in_inversion d).0 in_one).1)),
+          (λ in_one. (found.in_inversion d).1 (at_i ∙ sym at_j, subst (λ s. InInversion (AmongRank Has rank s) d) (sym at_i) (placed.1 in_one))),
         )
 
     pub shortest_from : (i j : ℕ) (kind : Kind) (walk : List Arrow) → i < length keys → j < length keys →
@@ -167,61 +152,55 @@ module _ (facts : FactParts) (part : Part) (rank : ℕ → ℕ) (r : ℕ) (is : 
       (by_place.shortest_circle circle (IsShortestCircle-same Among (Renumbered Has keys) is.same circle shortest))
 
   pub clean_rank : IsClean Among ↔ IsClean (AmongRank Has rank r)
-  clean_rank = (
-    (λ clean. (IsClean-same (AmongRank Has rank r) (AmongKeys Has keys) listed).1
-        (by_place.clean.0 ((IsClean-same Among (Renumbered Has keys) is.same).0 clean))),
-    (λ clean. (IsClean-same Among (Renumbered Has keys) is.same).1
-        (by_place.clean.1 ((IsClean-same (AmongRank Has rank r) (AmongKeys Has keys) listed).0 clean))),
-  )
+  clean_rank =
+      let clean = by_places (IsClean-same (AmongRank Has rank r) (AmongKeys Has keys) listed) by_place.clean (IsClean-same Among (Renumbered Has keys) is.same) in
+      (clean.1, clean.0)
 
 -- ---- what a part's graph says of two keys at places of it
 module _ (facts : FactParts) (part : Part) (a b i j : ℕ) (by : AreTogether facts part a b i j) where
+  -- what holds of the keys at the places holds of the two
+  at_places : (P : ℕ → ℕ → Type 0) → P (slice_index part.keys.items i) (slice_index part.keys.items j) → P a b
+  at_places P p = subst (λ y. P a y) by.at_b.1 (subst (λ x. P x (slice_index part.keys.items j)) by.at_a.1 p)
+
   pub on_circle_at : (kind : Kind) →
       OnCircle (HasFact facts) (arrow a b kind) ↔ OnCircle (HasFact part.graph.facts) (arrow i j kind)
   on_circle_at kind =
-      subst (λ y. OnCircle (HasFact facts) (arrow a y kind) ↔ OnCircle (HasFact part.graph.facts) (arrow i j kind)) by.at_b.1
-      (subst (λ x. OnCircle (HasFact facts) (arrow x (slice_index part.keys.items j) kind) ↔ OnCircle (HasFact part.graph.facts) (arrow i j kind)) by.at_a.1
-      (on_circle facts part by.of.0 by.of.1 by.of.3 by.of.2 i j kind by.at_a.0 by.at_b.0))
+      at_places (λ x y. OnCircle (HasFact facts) (arrow x y kind) ↔ OnCircle (HasFact part.graph.facts) (arrow i j kind))
+      (on_circle facts part by.of.0 by.of.1 by.of.3 by.of.2 i j kind by.at_a.0 by.at_b.0)
 
   pub inversion_at : (irq : Irq) →
       IsInversion (HasFact facts) irq a b ↔ IsInversion (HasFact part.graph.facts) irq i j
   inversion_at irq =
-      subst (λ y. IsInversion (HasFact facts) irq a y ↔ IsInversion (HasFact part.graph.facts) irq i j) by.at_b.1
-      (subst (λ x. IsInversion (HasFact facts) irq x (slice_index part.keys.items j) ↔ IsInversion (HasFact part.graph.facts) irq i j) by.at_a.1
-      (inversion facts part by.of.0 by.of.1 by.of.3 by.of.2 irq i j by.at_a.0 by.at_b.0))
+      at_places (λ x y. IsInversion (HasFact facts) irq x y ↔ IsInversion (HasFact part.graph.facts) irq i j)
+      (inversion facts part by.of.0 by.of.1 by.of.3 by.of.2 irq i j by.at_a.0 by.at_b.0)
 
   pub in_inversion_at : (kind : Kind) →
       InInversion (HasFact facts) (arrow a b kind) ↔ InInversion (HasFact part.graph.facts) (arrow i j kind)
   in_inversion_at kind =
-      subst (λ y. InInversion (HasFact facts) (arrow a y kind) ↔ InInversion (HasFact part.graph.facts) (arrow i j kind)) by.at_b.1
-      (subst (λ x. InInversion (HasFact facts) (arrow x (slice_index part.keys.items j) kind) ↔ InInversion (HasFact part.graph.facts) (arrow i j kind)) by.at_a.1
-      (in_inversion facts part by.of.0 by.of.1 by.of.3 by.of.2 i j kind by.at_a.0 by.at_b.0))
+      at_places (λ x y. InInversion (HasFact facts) (arrow x y kind) ↔ InInversion (HasFact part.graph.facts) (arrow i j kind))
+      (in_inversion facts part by.of.0 by.of.1 by.of.3 by.of.2 i j kind by.at_a.0 by.at_b.0)
 
   pub shortest_from_at : (kind : Kind) (walk : List Arrow) → IsShortestFrom (HasFact part.graph.facts) (arrow i j kind) walk →
       IsShortestFrom (HasFact facts) (arrow a b kind) (map (arrow_at part.keys.items) walk)
   shortest_from_at kind walk shortest =
-      subst (λ y. IsShortestFrom (HasFact facts) (arrow a y kind) (map (arrow_at part.keys.items) walk)) by.at_b.1
-      (subst (λ x. IsShortestFrom (HasFact facts) (arrow x (slice_index part.keys.items j) kind) (map (arrow_at part.keys.items) walk)) by.at_a.1
-      (shortest_from facts part by.of.0 by.of.1 by.of.3 by.of.2 i j kind walk by.at_a.0 by.at_b.0 shortest))
+      at_places (λ x y. IsShortestFrom (HasFact facts) (arrow x y kind) (map (arrow_at part.keys.items) walk))
+      (shortest_from facts part by.of.0 by.of.1 by.of.3 by.of.2 i j kind walk by.at_a.0 by.at_b.0 shortest)
 
   pub shortest_inversion_at : (irq : Irq) (enabled_read used_read : Bool) (walk : List Arrow) →
       IsShortestInversion (HasFact part.graph.facts) irq i j (link_by j i enabled_read used_read) walk →
       IsShortestInversion (HasFact facts) irq a b (link_by b a enabled_read used_read) (map (arrow_at part.keys.items) walk)
   shortest_inversion_at irq enabled_read used_read walk shortest =
-      subst (λ y. IsShortestInversion (HasFact facts) irq a y (link_by y a enabled_read used_read) (map (arrow_at part.keys.items) walk)) by.at_b.1
-      (subst (λ x. IsShortestInversion (HasFact facts) irq x (slice_index part.keys.items j) (link_by (slice_index part.keys.items j) x enabled_read used_read) (map (arrow_at part.keys.items) walk)) by.at_a.1
-      (shortest_inversion facts part by.of.0 by.of.1 by.of.3 by.of.2 irq i j (link_by j i enabled_read used_read) walk by.at_a.0 by.at_b.0 shortest))
+      at_places (λ x y. IsShortestInversion (HasFact facts) irq x y (link_by y x enabled_read used_read) (map (arrow_at part.keys.items) walk))
+      (shortest_inversion facts part by.of.0 by.of.1 by.of.3 by.of.2 irq i j (link_by j i enabled_read used_read) walk by.at_a.0 by.at_b.0 shortest)
 
--- ---- and of one
-module _ (facts : FactParts) (part : Part) (a b i j : ℕ) (by : AreTogether facts part a b i j) where
   pub double_at : (irq : Irq) → IsDouble (HasFact facts) irq a ↔ IsDouble (HasFact part.graph.facts) irq i
   double_at irq =
-      subst (λ x. IsDouble (HasFact facts) irq x ↔ IsDouble (HasFact part.graph.facts) irq i) by.at_a.1
+      at_places (λ x y. IsDouble (HasFact facts) irq x ↔ IsDouble (HasFact part.graph.facts) irq i)
       (double facts part by.of.0 by.of.1 by.of.3 by.of.2 irq i by.at_a.0)
 
   pub double_by_at : (irq : Irq) (enabled_read used_read : Bool) →
       IsDoubleBy (HasFact part.graph.facts) irq i (link_by i i enabled_read used_read) →
       IsDoubleBy (HasFact facts) irq a (link_by a a enabled_read used_read)
   double_by_at irq enabled_read used_read link =
-      subst (λ x. IsDoubleBy (HasFact facts) irq x (link_by x x enabled_read used_read)) by.at_a.1
+      at_places (λ x y. IsDoubleBy (HasFact facts) irq x (link_by x x enabled_read used_read))
       (double_by facts part by.of.0 by.of.1 by.of.3 by.of.2 irq i (link_by i i enabled_read used_read) by.at_a.0 link)

@@ -12,8 +12,8 @@ use Rattle.ld_parts.specs.Inside.Parts.{AreHomes, AreHoused, AreKeysOf, AreParts
 use Rattle.ld_parts.specs.Ranks.{IsCrowded}
 use Rattle.ld_facts.specs.Renumbered.{arrow_at}
 use Rattle.ld_graph.specs.Walks.{IsCircle, OnCircle}
-use Rattle.ld_facts.specs.ListLaws.{Contains-head}
-use Rattle.ld_facts.specs.CountingLaws.{no_longer}
+use Rattle.ld_facts.specs.Laws.Lists.{Contains-head}
+use Rattle.ld_facts.specs.Laws.Counting.{no_longer}
 use Rattle.ld_parts.proofs.Parts.{no_circle, some_part}
 use Rattle.ld_parts.specs.declared.home.Home.{Home}
 use Rattle.ld_parts.specs.declared.part.Part.{Part}

@@ -9,18 +9,18 @@ use Rattle.ld_task.specs.declared.mark.Mark.TheVariants.{Enabled}
 use Rattle.ld_task.specs.Kinds.{is_s}
 use Rattle.ld_facts.specs.Arrows.{Arrow, arrow}
 use Rattle.ld_facts.specs.FactBits.{FactParts, HasFact}
-use Rattle.ld_graph.specs.FactLaws.{StrongWalk-members, IsCircle-more}
+use Rattle.ld_graph.specs.Laws.Facts.{StrongWalk-members, IsCircle-more}
 use Rattle.ld_facts.specs.Facts.{DependenciesOf}
 use Rattle.ld_graph.specs.Links.{IsDouble, IsInversion, InInversion, IsClean}
-use Rattle.ld_parts.specs.RankLaws.{are_found_by_rank}
+use Rattle.ld_parts.specs.Laws.Ranks.{are_found_by_rank}
 use Rattle.ld_parts.specs.Ranks.{AmongRank}
 use Rattle.ld_facts.specs.Renumbered.{AmongKeys, Renumbered, arrow_at}
-use Rattle.ld_parts.specs.RenumberedLaws.{IsCircle-placed}
+use Rattle.ld_parts.specs.Laws.Renumbered.{IsCircle-placed}
 use Rattle.ld_graph.specs.Walks.{IsCircle, OnCircle, IsShortestCircle}
 use Rattle.ld_parts.specs.Inside.Parts.{AreApart, IsParted, IsAtPlace, IsHome, IsPart, IsPartOf, IsShortestOfFirst}
 use Rattle.ld_parts.proofs.PartLaws.{clean_rank, listed, on_circle_at, shortest_of_rank}
-use Rattle.ld_graph.specs.FactLaws.{OnCircle-member}
-use Rattle.ld_facts.specs.ListLaws.{Contains-head}
+use Rattle.ld_graph.specs.Laws.Facts.{OnCircle-member}
+use Rattle.ld_facts.specs.Laws.Lists.{Contains-head}
 use Rattle.ld_facts.specs.declared.fact.Fact.{Fact}
 use Rattle.ld_facts.specs.declared.fact.Fact.TheVariants.{Dependency, Marked}
 use Rattle.ld_parts.specs.declared.home.Home.{Home}

@@ -1,4 +1,6 @@
 -- What holds of all facts: the laws of ranks and of keys by their places. A set of facts is a test in them.
+pub mod Ranks
+pub mod Renumbered
 use Rattle.std.specs.Prelude.{ℕ, Bool, List}
 use Rattle.ld_parts.specs.Ranks.{NoneGoesDown, AreFoundByRank}
 use Rattle.ld_facts.specs.Renumbered.{HasEachOnce}

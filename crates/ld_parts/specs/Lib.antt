@@ -2,5 +2,3 @@ pub mod Inside
 pub mod Ranks
 pub mod FoundByPlace
 pub mod Laws
-pub mod RankLaws
-pub mod RenumberedLaws

@@ -8,7 +8,6 @@ ghost use Rattle.ld_graph.specs.Links.{IsClean};
 ghost use Rattle.ld_parts.specs.Ranks.{IsCrowded};
 ghost use Rattle.ld_graph.specs.Walks.{OnCircle};
 ghost use Rattle.ld_parts.specs.declared.parting_fault.PartingFault.TheVariants.{TooTangled};
-ghost use Rattle.ld_trace.specs.declared.key_id.TheConstants.{MAX_MANY};
 
 use crate::parting_fault::PartingFault;
 use crate::ranks::Ranks;

@@ -1,6 +1,6 @@
 //! Facts about more keys than a graph takes, with a graph for each rank of keys.
 
-ghost use Rattle.std.specs.Prelude.{◌≡◌, ℕ, ◌+◌, ◌*◌, ◌<◌, ◌≤◌, ◌⊎◌, ◌↔◌, IsTrue, IsNone, Err, IfOk, IfSome, length, slice_index};
+ghost use Rattle.std.specs.Prelude.{◌≡◌, ℕ, ◌*◌, ◌<◌, ◌≤◌, ◌⊎◌, ◌↔◌, IsTrue, IsNone, Err, IfOk, IfSome, length, slice_index};
 ghost use Rattle.ld_facts.specs.Arrows.{Arrow, arrow};
 ghost use Rattle.ld_facts.specs.FactBits.{HasFact};
 ghost use Rattle.ld_parts.specs.Inside.Parts.{AreApart, AreTogether};

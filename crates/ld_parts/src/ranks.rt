@@ -1,9 +1,7 @@
 //! Ranks of keys, and whether no arrow of some facts goes down by them.
 
-ghost use Rattle.std.specs.Prelude.{◌≡◌, ℕ, ◌*◌, ◌<◌, ◌≤◌, ◌⊎◌, ◌↔◌, Bool, IsTrue, IfOk, length, slice_index};
-ghost use Rattle.ld_facts.specs.Arrows.{Arrow};
+ghost use Rattle.std.specs.Prelude.{◌≡◌, ℕ, ◌<◌, ◌≤◌, ◌⊎◌, ◌↔◌, Bool, IsTrue, IfOk, length, slice_index};
 ghost use Rattle.ld_facts.specs.FactBits.{HasFact};
-ghost use Rattle.ld_graph.specs.Links.{IsLink};
 ghost use Rattle.ld_parts.specs.Ranks.{DependenciesClimb, LinksClimb, NoneGoesDown};
 ghost use Rattle.ld_facts.specs.declared.fact.Fact.{Fact};
 ghost use Rattle.ld_task.specs.declared.mark.Mark.{Mark};

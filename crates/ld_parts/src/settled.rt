@@ -1,6 +1,6 @@
 //! The facts of a completed run, and what they mean.
 
-ghost use Rattle.std.specs.Prelude.{◌≡◌, ◌*◌, ◌≤◌, ◌↔◌, IfOk, IfSome, IsNone, IsTrue, length};
+ghost use Rattle.std.specs.Prelude.{◌≡◌, ◌*◌, ◌≤◌, ◌↔◌, IfSome, IsNone, IsTrue, length};
 ghost use Rattle.ld_facts.specs.Arrows.{Arrow, arrow};
 ghost use Rattle.ld_facts.specs.Counting.{IsNumberOf};
 ghost use Rattle.ld_facts.specs.FactBits.{HasFact};
@@ -22,7 +22,7 @@ pub struct Settled {
     answers: Answers,
 }
 
-// What answers the questions: one graph of all keys, or one for each rank of many.
+// What the questions are asked of: one graph of all keys, or one for each rank of many.
 #[derive(Drop)]
 pub(crate) enum Answers {
     Whole(Graph),

@@ -8,7 +8,7 @@ use Rattle.ld_trace.specs.declared.event.Event.{Event}
 use Rattle.ld_task.specs.declared.fault.StepAt.{StepAt}
 use Rattle.ld_facts.specs.FactBits.{FactParts, HasFact}
 use Rattle.ld_facts.specs.Facts.{AreSame, Holds}
-use Rattle.ld_facts.specs.ListLaws.{Any-push}
+use Rattle.ld_facts.specs.Laws.Lists.{Any-push, Contains-head}
 use Rattle.ld_facts.specs.declared.fact.Fact.{Fact}
 use Rattle.ld_run.specs.Seats.{view, claims_of}
 use Rattle.ld_run.specs.Views.{newcomer, times, once_below, PutHas, SeenHas, KnowsFact}
@@ -20,7 +20,7 @@ use Rattle.ld_run.specs.declared.seat.Seat.{Seat}
 use Rattle.ld_run.specs.declared.worker.Worked.{Worked}
 use Rattle.ld_run.proofs.SeatFacts.{Any-cases, Any-here, Any-later, none_has}
 use Rattle.ld_run.proofs.WordLists.{times_append}
-use Rattle.ld_run.proofs.Working.{Contains-cases, Contains-here, Contains-later, least-same, no_member}
+use Rattle.ld_run.proofs.Working.{Contains-cases, Contains-later, least-same, no_member}
 
 -- ---- the first refused of two parts of the traces
 module _ (traces : List (List Event)) (IsMine IsOther : ℕ → Type 0) where
@@ -65,7 +65,7 @@ least-push traces ws w refused so_far its =
 Contains-from_times : (x : ℕ) (xs : List ℕ) → 0 < times x xs → Contains xs x
 Contains-from_times x [] h = absurd (omega (arith, h))
 Contains-from_times x (y ∷ ys) h = elim (cases_eq x y) [
-  | inl e ↦ subst (λ z. Contains (y ∷ ys) z) (sym e) (Contains-here y ys)
+  | inl e ↦ subst (λ z. Contains (y ∷ ys) z) (sym e) (Contains-head y ys)
   | inr ne ↦ Contains-later y x ys (Contains-from_times x ys (let t = ap (λ (b : Bool). cond b 1 0 + times x ys) (ne_eqb x y ne) in omega (arith, t, h)))
 ]
 
@@ -127,7 +127,7 @@ HasPast traces w = (last : ℕ) × HasDrawn w last × (length traces ≤ last)
 has_past : (keys : ℕ) (traces : List (List Event)) (w : Worked) → IsDone keys traces w → HasPast traces w
 has_past keys traces w (h, f) =
     let fin = h.finished f in
-    (fin.last, subst (λ xs. Contains xs fin.last) (sym (claims_are keys traces w h ∙ fin.drawn_are)) (Contains-here fin.last fin.before), fin.past)
+    (fin.last, subst (λ xs. Contains xs fin.last) (sym (claims_are keys traces w h ∙ fin.drawn_are)) (Contains-head fin.last fin.before), fin.past)
 
 first_has_past : (keys : ℕ) (traces : List (List Event)) (ws : List Worked) → 0 < length ws → All (IsDone keys traces) ws → Any (HasPast traces) ws
 first_has_past keys traces [] some all = absurd (omega (arith, some))

@@ -16,7 +16,7 @@ use Rattle.ld_facts.specs.WordPairs.{bits_of, Within, NonePast, word_total}
 use Rattle.ld_run.specs.Views.{times, once_below, with_claim}
 use Rattle.ld_run.specs.Inside.BoardRule.{plus, total, union, Fits, Kept, first_view, left_view, right_view, joined, spent_view, Seated, with_put, with_look, Claimed, Put, Looked, Knows}
 use Rattle.ld_run.proofs.Gather.{gains, stays, moves, comes, plus_unit, plus_comm, plus_assoc, part_of, bounded, alone}
-use Rattle.ld_facts.specs.WordLaws.{or_zero, or_assoc, bits_of-append}
+use Rattle.ld_facts.specs.Laws.Words.{or_zero, or_assoc, bits_of-append}
 use Rattle.ld_run.proofs.WordLists.{or_unit, or_self, within_more, within_both, past_none, past_with, past_append, times_append, once_more, all_below, part_in}
 
 -- each view fits if one is changed and the words are others

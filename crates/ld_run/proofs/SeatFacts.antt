@@ -9,7 +9,7 @@ use Rattle.ld_facts.specs.FactBits.{FactParts, FactBelow, HasFact}
 use Rattle.ld_facts.specs.Facts.{Adds, AreSame, ChainHas, Holds}
 use Rattle.ld_facts.specs.Laws.{EachBitIsAFacts}
 use Rattle.ld_facts.specs.Numbers.{fact_number}
-use Rattle.ld_facts.specs.WordLaws.{PairsHave-append, PairsHave-within, Within-bit, Within-facts, bit_or-bits, bits_of-bit}
+use Rattle.ld_facts.specs.Laws.Words.{PairsHave-append, PairsHave-within, Within-bit, Within-facts, bit_or-bits, bits_of-bit}
 use Rattle.ld_facts.specs.WordPairs.{bits_of, Within, PairsHave, AreWordsOf}
 use Rattle.ld_facts.specs.declared.fact.Fact.{Fact}
 use Rattle.ld_run.specs.Views.{newcomer, times, once_below, PutHas, SeenHas, ShareWord}

@@ -10,7 +10,7 @@ use Rattle.ld_task.specs.Steps.{GoesOn, IsStateAfter}
 use Rattle.ld_task.specs.TraceChains.{chains}
 use Rattle.ld_task.specs.WellFormed.{IsWellFormed}
 use Rattle.ld_facts.specs.FactBits.{FactParts, HasFact}
-use Rattle.ld_facts.specs.ListLaws.{Any-push}
+use Rattle.ld_facts.specs.Laws.Lists.{Any-push}
 use Rattle.ld_facts.specs.Facts.{Adds, ChainHas, ChainsHave, TraceHas}
 use Rattle.ld_facts.specs.Laws.{TraceFactsAreTheChains}
 use Rattle.ld_facts.specs.declared.fact.Fact.{Fact}

@@ -10,7 +10,7 @@ use Rattle.std.proofs.lemmas.Bool.Decides.{nat_tests}
 use mathlib.Core.Option.{some, some-injective, some-ne-none}
 use lib.ListN.{get_elem?}
 use Rattle.ld_run.specs.declared.view.View.{View}
-use Rattle.ld_facts.specs.WordLaws.{or_zero, or_assoc, bits_of-append}
+use Rattle.ld_facts.specs.Laws.Words.{or_zero, or_assoc, bits_of-append}
 use Rattle.ld_facts.specs.WordPairs.{bits_of, Within, NonePast}
 use Rattle.ld_run.specs.Views.{times, once_below}
 use Rattle.ld_run.specs.Inside.BoardRule.{union}

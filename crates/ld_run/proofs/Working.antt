@@ -6,6 +6,7 @@ use Rattle.ld_task.specs.declared.fault.StepAt.{StepAt}
 use Rattle.ld_task.specs.WellFormed.{IsWellFormed}
 use Rattle.ld_facts.specs.Facts.{Holds}
 use Rattle.ld_facts.specs.declared.fact.Fact.{Fact}
+use Rattle.ld_facts.specs.Laws.Lists.{Contains-head}
 use Rattle.ld_run.specs.Views.{KnowsFact, with_claim}
 use Rattle.ld_run.specs.Tallies.{HasBeforeFault, IsRefused, LeastRefusedIs, OfSome}
 use Rattle.ld_run.specs.Work.{DrawnHave, HasFinished, PutsOnly}
@@ -14,9 +15,6 @@ use Rattle.ld_run.specs.declared.view.View.{View}
 use Rattle.ld_run.proofs.Walking.{PutsOnly-more, PutsOnly-then}
 
 -- ---- members of a longer list
-pub Contains-here : {X : Type 0} (x : X) (xs : List X) → Contains (x ∷ xs) x
-Contains-here x xs = (0, omega arith, refl)
-
 pub Contains-later : {X : Type 0} (x y : X) (xs : List X) → Contains xs y → Contains (x ∷ xs) y
 Contains-later x y xs (k, l, e) = (suc k, omega (arith, l), e)
 
@@ -75,7 +73,7 @@ module _ (traces : List (List Event)) (drawn : List ℕ) (n : ℕ) (t : List Eve
   drawn-more P = (
     (λ h. elim h [
       | inl (i, u, mine, at, has) ↦ (i, u, Contains-later n i drawn mine, at, has)
-      | inr has ↦ (n, t, Contains-here n drawn, here, has)
+      | inr has ↦ (n, t, Contains-head n drawn, here, has)
     ]),
     (λ (i, u, mine, at, has). elim (Contains-cases n i drawn mine) [
       | inr m ↦ inl (i, u, m, at, has)
@@ -92,7 +90,7 @@ module _ (traces : List (List Event)) (drawn : List ℕ) (n : ℕ) (t : List Eve
     ]),
   )
   least-more behind None (Some first) well fault = (
-    record { refused = t; is_mine = Contains-here n drawn; at = here; fault = fault },
+    record { refused = t; is_mine = Contains-head n drawn; at = here; fault = fault },
     (λ i u (mine, less) at. elim (Contains-cases n i drawn mine) [ inr m ↦ well i u m at | inl is ↦ absurd (omega (arith, is, less)) ]),
   )
   least-more behind None None well whole = λ i u mine at. elim (Contains-cases n i drawn mine) [ inr m ↦ well i u m at | inl is ↦ subst IsWellFormed (this_one u i is at) whole ]
@@ -143,7 +141,7 @@ module _ (keys : ℕ) (traces : List (List Event)) (before now : View) (drawn : 
     where
       among : (xs ys : List ℕ) (i : ℕ) → Contains xs i → Contains (xs ++ ys) i
       among [] ys i m = absurd (no_member i m)
-      among (x ∷ xs) ys i m = elim (Contains-cases x i xs m) [ inl e ↦ subst (λ y. Contains (x ∷ (xs ++ ys)) y) e (Contains-here x (xs ++ ys)) | inr r ↦ Contains-later x i (xs ++ ys) (among xs ys i r) ]
+      among (x ∷ xs) ys i m = elim (Contains-cases x i xs m) [ inl e ↦ subst (λ y. Contains (x ∷ (xs ++ ys)) y) e (Contains-head x (xs ++ ys)) | inr r ↦ Contains-later x i (xs ++ ys) (among xs ys i r) ]
 
       below_next : (i : ℕ) → All (λ x. x < next) (number ∷ (drawn ++ before.claimed)) → Contains (number ∷ drawn) i → i < next
       below_next i all m =

@@ -22,10 +22,10 @@ pub record CompletesRun (traces : List (List Event)) (workers : ℕ) (facts : Fa
   pub well_formed : All IsWellFormed traces
   pub facts_are : AreSame (HasFact facts) (TracesHave traces)
 
--- the run of this many workers over these traces of so many keys was refused: for the number of workers; for the number
--- of traces; by the first trace that isn't well formed, with its first event that isn't allowed; because memory was
--- refused; because the facts differ; or because the keys are tangled, and more than 256. The last two only happen if all
--- traces are well formed
+-- the run of this many workers over these traces of this many keys was refused: because of the number of workers;
+-- because of the number of traces; at the first trace that isn't well formed, with its first event that isn't allowed;
+-- because memory was refused; because the facts differ; or because the keys are tangled, and more than 256. The last two
+-- only happen if all traces are well formed
 abbrev pub StopsRun : List (List Event) → (keys workers : ℕ) → RunFault → Type 0
 StopsRun traces keys workers BadWorkers = ¬ IsCrew workers
 StopsRun traces keys workers TooManyTraces = IsCrew workers × (MAX_TRACES < length traces)

@@ -5,6 +5,7 @@ mod adding;
 mod ahead;
 mod board;
 mod board_fault;
+mod board_words;
 mod condense_fault;
 mod condensing;
 mod fault;

@@ -1,6 +1,6 @@
 //! Many traces, of which each of several threads walks a share.
 
-ghost use Rattle.std.specs.Prelude.{◌≡◌, ◌≤◌, ℕ, All, drop, length, take};
+ghost use Rattle.std.specs.Prelude.{◌≤◌, ℕ, All, drop, length, take};
 ghost use denote.Param.Send.{IsSync};
 ghost use Rattle.ld_trace.specs.declared.key_id.TheConstants.{MAX_MANY};
 ghost use Rattle.ld_trace.specs.Events.{KeysBelow};

@@ -2,6 +2,7 @@
 use Rattle.std.proofs.Common.{◌≡◌, ℕ, suc, true, List, Contains, ◌⊎◌, Option, Some, None, refl, sym, ap, ◌∙◌, subst, inl, inr, IsTrue}
 use Rattle.std.specs.List.{Any}
 use Rattle.std.proofs.lemmas.Bool.{true≢false}
+use Rattle.std.proofs.lemmas.Option.{same_Some}
 use Rattle.ld_trace.specs.declared.event.Event.{Event}
 use Rattle.ld_trace.specs.declared.event.Event.TheVariants.{Acquire, Release, Enter, Leave, TurnOn, TurnOff}
 use Rattle.ld_trace.specs.declared.event.Mode.{Mode}
@@ -27,18 +28,10 @@ use Rattle.ld_task.proofs.ChainLists.{Any-chains, chains-Any, acquisition_at, op
 
 -- the new lock of an acquisition's chain
 new_is : (a b : Lock) (f g : Frame) → (let x : Lock × Frame = (a, f) in let y : Lock × Frame = (b, g) in Some x ≡ Some y) → a ≡ b
-new_is a b f g e = ap (λ (o : Option (Lock × Frame)). first o) e
-  where
-    first : Option (Lock × Frame) → Lock
-    first None = a
-    first (Some x) = x.0
+new_is a b f g e = ap (λ (p : Lock × Frame). p.0) (same_Some (a, f) (b, g) e)
 
 frame_is : (a b : Lock) (f g : Frame) → (let x : Lock × Frame = (a, f) in let y : Lock × Frame = (b, g) in Some x ≡ Some y) → f ≡ g
-frame_is a b f g e = ap (λ (o : Option (Lock × Frame)). second o) e
-  where
-    second : Option (Lock × Frame) → Frame
-    second None = f
-    second (Some x) = x.1
+frame_is a b f g e = ap (λ (p : Lock × Frame). p.1) (same_Some (a, f) (b, g) e)
 
 module _ (t : List Event) where
   -- what is held at a position is among its held locks

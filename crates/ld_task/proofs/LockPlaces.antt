@@ -62,10 +62,6 @@ module _ (level : ℕ) (locks : List KeptLock) (places : List ℕ) (i : ℕ) (k 
       slice_get (places_at level (drop i locks) (drop i places)) (suc left) ≡ slice_get (places_at level (drop (i + 1) locks) (drop (i + 1) places)) left
   slice_get-count left hit = rw next (ap (λ xs. slice_get xs (suc left)) (taken 0 hit))
 
-  -- and number 0 is found if one of the level is
-  pub slice_get-found : (d : ℕ) → is_at level k ≡ true → slice_get (places_at level (drop i locks) (drop i places)) 0 ≡ Some (get_or places i d)
-  slice_get-found d hit = ap (λ xs. slice_get xs 0) (taken d hit)
-
 -- positions, each for what it maps to
 places_at-mapped : (level : ℕ) (f : ℕ → KeptLock) (xs : List ℕ) → places_at level (map f xs) xs ≡ filter (λ i. is_at level (f i)) xs
 places_at-mapped level f [] = refl

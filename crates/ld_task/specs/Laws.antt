@@ -1,4 +1,6 @@
 -- What holds of every trace: the laws that this crate proves of its definitions.
+pub mod Locks
+pub mod Positions
 use Rattle.std.specs.Prelude.{◌≡◌, ◌≢◌, ◌↔◌, ℕ, suc, ◌<◌, ◌≤◌, true, List, [], ◌∷◌, ◌++◌, length, All, Any, Contains, Some, take}
 use Rattle.std.specs.Option.{option_to_list}
 use Rattle.ld_trace.specs.declared.event.Event.{Event}

@@ -17,7 +17,7 @@ pub struct Lock {
 
 impl Model for Lock {
     ghost use Rattle.ld_task.specs.Locks.{IsLockWord, LockParts, lock_of_word, lock_word};
-    ghost use Rattle.ld_task.specs.LockLaws.{lock_word-of_word};
+    ghost use Rattle.ld_task.specs.Laws.Locks.{lock_word-of_word};
 
     ghost Value = { LockParts };
 
@@ -37,7 +37,7 @@ impl Default for Lock {
 }
 
 impl Lock {
-    ghost use Rattle.std.specs.Prelude.{◌≡◌, ◌<◌};
+    ghost use Rattle.std.specs.Prelude.{◌≡◌};
     ghost use Rattle.ld_task.specs.Locks.{mode_number};
 
     // The lock of this key, taken in this mode.

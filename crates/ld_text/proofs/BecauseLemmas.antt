@@ -8,12 +8,13 @@ use Rattle.std.proofs.lemmas.List.{append_assoc, get_or-drop, take_all, take-app
 use Rattle.std.proofs.lemmas.List.Elements.{Contains-append_cases, Contains-append_left, Contains-append_right}
 use Rattle.std.proofs.lemmas.List.MinMax.{ranks_by}
 use Rattle.std.proofs.lemmas.Option.{get_or_from_slice_get}
+use Rattle.std.proofs.lemmas.List.Concat.{flat_map-append}
 use Rattle.ld_trace.specs.Names.{Name}
 use Rattle.ld_facts.specs.Arrows.{Arrow}
 use Rattle.ld_text.specs.Inside.Turning.{TellsTurned, starts_before}
 use Rattle.ld_text.specs.Report.{member_text}
 use Rattle.ld_text.specs.Words.{key_text, name_at}
-use Rattle.ld_text.proofs.GroupLemmas.{flat_map-append, flat_map-next}
+use Rattle.ld_text.proofs.GroupLemmas.{flat_map-next}
 use Rattle.ld_text.proofs.OrderLemmas.{name_cmp_total}
 
 pub starts_before_ranks : (names : List Name) → IsStrictWeakOrder (starts_before names)
@@ -30,7 +31,7 @@ members_next names circle start i d onwards is within =
     ∙ ap (λ x. flat_map (member_text names) (take (i - start) (drop start circle)) ++ member_text names x)
     (get_or-drop start circle (i - start) d ∙ ap (λ k. get_or circle k d) at ∙ get_or_from_slice_get circle i d d is)
 
--- four texts, one behind the other
+-- four texts, one after the other
 appended : (old t1 t2 t3 new a b c d : List ℕ) → t1 ≡ old ++ a → t2 ≡ t1 ++ b → t3 ≡ t2 ++ c → new ≡ t3 ++ d → new ≡ old ++ (a ++ (b ++ c) ++ d)
 appended old t1 t2 t3 new a b c d p q r s =
     s ∙ ap (λ x. x ++ d) (r ∙ ap (λ x. x ++ c) (q ∙ ap (λ x. x ++ b) p)) ∙ (simp append_assoc)

@@ -4,6 +4,7 @@ use Rattle.std.specs.List.{flat_map}
 use Rattle.std.specs.Option.{option_to_list}
 use Rattle.std.proofs.lemmas.Bool.{cases_lt}
 use Rattle.std.proofs.lemmas.List.{append-nil, append_assoc, take_all, take_more}
+use Rattle.std.proofs.lemmas.List.Concat.{flat_map-append}
 use Rattle.ld_trace.specs.Names.{Name}
 use Rattle.ld_trace.specs.declared.event.Event.{Event}
 use Rattle.ld_trace.specs.declared.event.Event.TheVariants.{Leave}
@@ -17,7 +18,7 @@ use Rattle.ld_task.specs.Steps.{GoesOn, IsStateAfter}
 use Rattle.ld_task.specs.TraceChains.{chain, chains}
 use Rattle.ld_text.specs.ChainLines.{chain_line, chains_text, lines_before, lock_text, taken_text}
 use Rattle.ld_text.specs.Output.{AppendsBeginning, PutsBehind}
-use Rattle.ld_text.proofs.GroupLemmas.{flat_map-append, flat_map-next}
+use Rattle.ld_text.proofs.GroupLemmas.{flat_map-next}
 use Rattle.ld_text.proofs.OutputLemmas.{AppendsBeginning-append, AppendsBeginning-more, PutsBehind-append}
 
 -- the text of a held lock that was looked up

@@ -1,5 +1,5 @@
 -- How walks are chosen, one finding after the other, and what is asked about for them.
-use Rattle.std.proofs.Common.{◌≡◌, ◌↔◌, ◌⊎◌, ℕ, Bool, true, false, ◌<◌, List, [], ◌∷◌, ◌++◌, All, Any, Contains, length, map, slice_index_or, take, ◌+◌, refl, sym, ap, ◌∙◌, subst, inl, inr, arith}
+use Rattle.std.proofs.Common.{◌≡◌, ◌↔◌, ◌⊎◌, ℕ, Bool, true, false, ◌<◌, List, [], ◌∷◌, ◌++◌, All, Contains, length, map, slice_index_or, take, ◌+◌, refl, sym, ap, ◌∙◌, subst, inl, inr, arith}
 use Rattle.std.proofs.lemmas.List.{append_assoc, append-nil, take_more}
 use Rattle.std.proofs.lemmas.List.Elements.{All-contains, All-contains_itself, All-weaker}
 use Rattle.ld_trace.specs.declared.event.Irq.{Irq}
@@ -10,14 +10,14 @@ use Rattle.ld_task.specs.declared.mark.Mark.TheVariants.{UsedIn, Enabled}
 use Rattle.ld_facts.specs.Arrows.{Arrow, arrow}
 use Rattle.ld_facts.specs.FactBits.{FactParts, HasFact}
 use Rattle.ld_facts.specs.Facts.{Adds, DependenciesOf}
-use Rattle.ld_facts.specs.ListLaws.{Any-push, Contains-cases}
+use Rattle.ld_facts.specs.Laws.Lists.{Any-push, Contains-cases}
 use Rattle.ld_facts.specs.declared.fact.Fact.{Fact}
 use Rattle.ld_facts.specs.declared.fact.Fact.TheVariants.{Dependency, Marked}
 use Rattle.ld_graph.specs.Links.{IsDoubleBy, IsShortestInversion, link_by}
 use Rattle.ld_graph.specs.Walks.{IsShortestFrom}
-use Rattle.ld_text.specs.Explanation.{AreTold, IsTold}
+use Rattle.ld_text.specs.Explanation.{AreTold}
 use Rattle.ld_text.specs.Groups.{InSequence, InTurn}
-use Rattle.ld_text.specs.Inside.Choosing.{AreChosen, Asks, AsksMarks, HasMembers, IsToldCircle, IsToldDouble, IsToldInversion, keys_of}
+use Rattle.ld_text.specs.Inside.Choosing.{AreChosen, Asks, AsksMarks, IsToldCircle, IsToldDouble, IsToldInversion, keys_of}
 use Rattle.ld_text.specs.declared.chosen.ToldInversion.{ToldInversion}
 use Rattle.ld_text.proofs.TellingLemmas.{shortest-some}
 
@@ -83,7 +83,7 @@ told-some Has before (d ∷ ds) circles (inl (left, (circle, rest, shortest, is,
     ]
 told-some Has before (d ∷ ds) circles (inr (isnt, told)) c has = told-some Has before ds circles told c has
 
--- what is told of them is asked about
+-- what is reported of them is asked about
 pub chosen-circles : (facts : FactParts) (ds : List Arrow) (circles : List (List Arrow)) (set : FactParts) → AreChosen facts ds circles set → All (IsToldCircle set) circles
 chosen-circles facts ds circles set chosen = All-weaker (Contains circles) (IsToldCircle set)
     (λ c has. (

@@ -3,15 +3,14 @@ use Rattle.std.proofs.Common.{◌++◌, ℕ, List, [], ◌∷◌, inl, inr}
 use Rattle.ld_trace.specs.declared.event.Irq.{Irq}
 use Rattle.ld_facts.specs.Arrows.{Arrow}
 use Rattle.ld_facts.specs.Facts.{AreSame}
-use Rattle.ld_graph.specs.FactLaws.{IsDoubleBy-same, IsShortestFrom-same, IsShortestInversion-same}
+use Rattle.ld_graph.specs.Laws.Facts.{IsDoubleBy-same, IsShortestFrom-same, IsShortestInversion-same}
 use Rattle.ld_facts.specs.declared.fact.Fact.{Fact}
 use Rattle.ld_text.specs.Explanation.{AreTold, IsDoubleBlock, IsExplanation, IsInversionBlock, Told}
-use Rattle.ld_text.specs.Groups.{InSequence}
 use Rattle.ld_text.proofs.FindingLemmas.{AreFound-same}
-use Rattle.ld_text.proofs.ReportLemmas.{InTurn-same}
+use Rattle.ld_text.proofs.ReportLemmas.{InTurn-same, then-same}
 
 module _ (P Q : Fact → Type 0) (same : AreSame P Q) where
-  -- the circles that are told of equal facts
+  -- the circles that are reported of equal facts
   pub told-same : (before : List (List Arrow)) (ds : List Arrow) (circles : List (List Arrow)) → AreTold P before ds circles → AreTold Q before ds circles
   told-same before [] circles none = none
   told-same before (d ∷ ds) circles (inl (left, (circle, rest, shortest, is, more))) = inl (
@@ -21,49 +20,20 @@ module _ (P Q : Fact → Type 0) (same : AreSame P Q) where
   told-same before (d ∷ ds) circles (inr (was, more)) = inr (was, told-same before ds circles more)
 
   double-same : (told : Told) (x : Irq × ℕ) (text : List ℕ) → IsDoubleBlock P told x text → IsDoubleBlock Q told x text
-  double-same told x text b = record {
-    l = b.l;
-    by = (IsDoubleBy-same P Q same x.0 x.1 b.l).0 b.by;
-    text_is = b.text_is;
-  }
+  double-same told x text b = record b { by = (IsDoubleBy-same P Q same x.0 x.1 b.l).0 b.by }
 
   inversion-same : (told : Told) (keys : List ℕ) (x : Irq × (ℕ × ℕ)) (text : List ℕ) → IsInversionBlock P told keys x text → IsInversionBlock Q told keys x text
-  inversion-same told keys x text b = record {
-    walk = b.walk;
-    l = b.l;
-    by = IsShortestInversion-same P Q same x.0 x.1.0 x.1.1 b.l b.walk b.by;
-    text_is = b.text_is;
-  }
+  inversion-same told keys x text b = record b { by = IsShortestInversion-same P Q same x.0 x.1.0 x.1.1 b.l b.walk b.by }
 
   -- the explanation of equal facts
   pub IsExplanation-same : (told : Told) (text : List ℕ) → IsExplanation P told text → IsExplanation Q told text
-  unfolding InSequence
-  IsExplanation-same told text e =
-      let (total, after_total, total_is, (circles, after_circles, circles_are, (doubles, after_doubles, doubles_are, (inversions, end, inversions_are, at_end, e4), e3), e2), e1) = e.text_is in
-      record {
-        keys = e.keys;
-        keys_are = e.keys_are;
-        found = e.found;
-        found_are = AreFound-same P Q same e.keys e.found e.found_are;
-        circles = e.circles;
-        circles_are = told-same [] e.found.circles e.circles e.circles_are;
-        text_is = (
-          total,
-          after_total,
-          total_is,
-          (
-            circles,
-            after_circles,
-            circles_are,
-            (
-              doubles,
-              after_doubles,
-              InTurn-same _ _ (double-same told) e.found.doubles doubles doubles_are,
-              (inversions, end, InTurn-same _ _ (inversion-same told e.keys) e.found.inversions inversions inversions_are, at_end, e4),
-              e3,
-            ),
-            e2,
-          ),
-          e1,
-        );
-      }
+  IsExplanation-same told text e = record {
+    keys = e.keys;
+    keys_are = e.keys_are;
+    found = e.found;
+    found_are = AreFound-same P Q same e.keys e.found e.found_are;
+    circles = e.circles;
+    circles_are = told-same [] e.found.circles e.circles e.circles_are;
+    text_is = then-same (λ _ h. h) (then-same (λ _ h. h) (then-same (InTurn-same _ _ (double-same told) e.found.doubles)
+        (then-same (InTurn-same _ _ (inversion-same told e.keys) e.found.inversions) (λ _ h. h)))) text e.text_is;
+  }

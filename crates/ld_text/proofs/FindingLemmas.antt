@@ -4,7 +4,7 @@ use Rattle.std.specs.List.{flat_map}
 use Rattle.std.proofs.lemmas.List.{append_assoc, append-nil, map-append, take_more}
 use Rattle.std.proofs.lemmas.List.Elements.{All-cons, All-nil}
 use Rattle.ld_facts.specs.Facts.{AreSame}
-use Rattle.ld_graph.specs.FactLaws.{IsDouble-same, IsInversion-same, OnCircle-same}
+use Rattle.ld_graph.specs.Laws.Facts.{IsDouble-same, IsInversion-same, OnCircle-same}
 use Rattle.ld_graph.specs.Links.{IsClean, IsDouble, IsInversion}
 use Rattle.ld_graph.specs.Walks.{OnCircle}
 use Rattle.ld_facts.specs.declared.fact.Fact.{Fact}
@@ -63,7 +63,7 @@ module _ {X : Type 0} (P : X → Type 0) where
     grew = more.grew ∙ ap (λ t. t ++ more.those) first.grew ∙ append_assoc old first.those more.those;
   }
 
-  -- behind those that the things of a list so far lead to, those of one thing more
+  -- after those that the things of a list so far lead to, those of one thing more
   pub AddsThose-next : {Y : Type 0} (f : Y → List X) (keys : List Y) (i : ℕ) (d : Y) (old mid new : List X) → i < length keys →
       AddsThose P (flat_map f (take i keys)) old mid → AddsThose P (f (slice_index_or keys i d)) mid new → AddsThose P (flat_map f (take (i + 1) keys)) old new
   AddsThose-next f keys i d old mid new within first more =

@@ -5,18 +5,17 @@ use native.Mathlib.Decide.{ℕ_discrete}
 use Rattle.std.proofs.lemmas.List.{get_or-replicate, get_or-set_other, get_or-set_same, get_or_default, take_all, take_more}
 use Rattle.ld_facts.specs.Arrows.{Arrow, arrow}
 use Rattle.ld_facts.specs.Facts.{DependenciesOf}
-use Rattle.ld_graph.specs.FactLaws.{StrongWalk-members}
-use Rattle.ld_facts.specs.ListLaws.{Any-push}
+use Rattle.ld_graph.specs.Laws.Facts.{StrongWalk-members, OnCircle-member}
+use Rattle.ld_facts.specs.Laws.Lists.{Any-push}
 use Rattle.ld_facts.specs.declared.fact.Fact.{Fact}
 use Rattle.ld_text.specs.Inside.Joined.{Leads}
 use Rattle.ld_text.specs.Picture.{AreJoined, IsFoundArrow}
 use Rattle.ld_text.specs.Words.{kinds}
 use Rattle.ld_text.proofs.PictureGrowing.{none-yet}
-use Rattle.ld_text.proofs.ReportLemmas.{OnCircle-dependency}
 
 -- what is part of a finding is a dependency
 pub IsFoundArrow-dependency : (Has : Fact → Type 0) (d : Arrow) → IsFoundArrow Has d → DependenciesOf Has d
-IsFoundArrow-dependency Has d (inl on) = OnCircle-dependency Has d on
+IsFoundArrow-dependency Has d (inl on) = OnCircle-member Has d on
 IsFoundArrow-dependency Has d (inr (irq, a, b, first, rest, l, with, (k, within, is))) =
     subst (DependenciesOf Has) is (StrongWalk-members (DependenciesOf Has) first rest with.0.0 k d within)
 

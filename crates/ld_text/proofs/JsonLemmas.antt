@@ -1,14 +1,13 @@
 -- What is written of JSON, token by token.
-use Rattle.std.proofs.Common.{◌≡◌, Bool, ℕ, ◌+◌, ◌<◌, List, [], ◌∷◌, ◌++◌, Result, Ok, Err, OnOk, codes, length, map, slice_index_or, take, refl, sym, ap, ◌∙◌, subst}
+use Rattle.std.proofs.Common.{◌≡◌, Bool, ℕ, ◌+◌, ◌<◌, List, [], ◌∷◌, ◌++◌, Result, Ok, Err, OnOk, length, map, slice_index_or, take, refl, sym, ap, ◌∙◌, subst}
 use Rattle.std.proofs.lemmas.List.{append_assoc, append-nil, map-append, take_more}
 use Rattle.json.specs.Token.{Token}
-use Rattle.json.specs.Print.{print}
 use Rattle.json.specs.Written.{Writes, Written}
 use Rattle.ld_trace.specs.declared.event.Irq.{Irq}
 use Rattle.ld_task.specs.Kinds.{is_r-kind_of_letters, is_s-kind_of_letters}
 use Rattle.ld_task.specs.declared.mark.Mark.TheVariants.{UsedIn, Enabled}
 use Rattle.ld_facts.specs.Arrows.{Arrow}
-use Rattle.ld_graph.specs.FactLaws.{IsDoubleBy-same, IsShortestInversion-same}
+use Rattle.ld_graph.specs.Laws.Facts.{IsDoubleBy-same, IsShortestInversion-same}
 use Rattle.ld_facts.specs.Facts.{AreSame}
 use Rattle.ld_graph.specs.Links.{IsDoubleBy, IsShortestInversion, link_by}
 use Rattle.ld_facts.specs.declared.fact.Fact.{Fact}
@@ -17,12 +16,12 @@ use Rattle.ld_explain.specs.Origins.{IsFirst}
 use Rattle.ld_explain.specs.declared.origins.Origin.{Origin}
 use Rattle.ld_text.specs.Explanation.{AreGateNotes, Told}
 use Rattle.ld_text.specs.Words.{Text}
-use Rattle.ld_text.specs.Groups.{GrowsBy, InSequence, InTurn}
+use Rattle.ld_text.specs.Groups.{InTurn}
 use Rattle.ld_text.specs.Json.{IsDoubleObject, IsInversionObject, IsJson, IsLineOf, IsOrder, double_object, inversion_object}
 use Rattle.ld_text.specs.Inside.Tokens.{Adds, Takes}
 use Rattle.ld_text.proofs.ExplanationLemmas.{told-same}
 use Rattle.ld_text.proofs.FindingLemmas.{AreFound-same}
-use Rattle.ld_text.proofs.ReportLemmas.{InTurn-same}
+use Rattle.ld_text.proofs.ReportLemmas.{InTurn-same, then-same}
 use Rattle.ld_text.proofs.GroupLemmas.{GrowsBy-more_item, GrowsBy-none}
 
 -- nothing was written
@@ -153,29 +152,15 @@ module _ (P Q : Fact → Type 0) (same : AreSame P Q) where
   )
 
   pub IsJson-same : (told : Told) (text : List ℕ) → IsJson P told text → IsJson Q told text
-  unfolding InSequence
-  IsJson-same told text e =
-      let (circles, after_circles, circles_are, (doubles, after_doubles, doubles_are, (inversions, end, inversions_are, at_end, e3), e2), e1) = e.lines_are in
-      record {
-        keys = e.keys;
-        keys_are = e.keys_are;
-        found = e.found;
-        found_are = AreFound-same P Q same e.keys e.found e.found_are;
-        circles = e.circles;
-        circles_are = told-same P Q same [] e.found.circles e.circles e.circles_are;
-        lines = e.lines;
-        lines_are = (
-          circles,
-          after_circles,
-          circles_are,
-          (
-            doubles,
-            after_doubles,
-            InTurn-same _ _ (double-same told) e.found.doubles doubles doubles_are,
-            (inversions, end, InTurn-same _ _ (inversion-same told e.keys) e.found.inversions inversions inversions_are, at_end, e3),
-            e2,
-          ),
-          e1,
-        );
-        text_is = e.text_is;
-      }
+  IsJson-same told text e = record {
+    keys = e.keys;
+    keys_are = e.keys_are;
+    found = e.found;
+    found_are = AreFound-same P Q same e.keys e.found e.found_are;
+    circles = e.circles;
+    circles_are = told-same P Q same [] e.found.circles e.circles e.circles_are;
+    lines = e.lines;
+    lines_are = then-same (λ _ h. h) (then-same (InTurn-same _ _ (double-same told) e.found.doubles)
+        (then-same (InTurn-same _ _ (inversion-same told e.keys) e.found.inversions) (λ _ h. h))) e.lines e.lines_are;
+    text_is = e.text_is;
+  }

@@ -1,13 +1,9 @@
 -- The keys as lines name them.
-use Rattle.std.proofs.Common.{◌≡◌, ℕ, ◌+◌, ◌<◌, List, [], ◌∷◌, ◌++◌, Option, Some, None, get_or, length, map, option_map, take, unwrap_or, refl, sym, ap, ◌∙◌}
+use Rattle.std.proofs.Common.{◌≡◌, ℕ, ◌+◌, ◌<◌, List, [], ◌∷◌, ◌++◌, get_or, length, map, take, sym, ap, ◌∙◌}
 use Rattle.std.proofs.lemmas.List.{map-append, take_more}
 use Rattle.std.proofs.lemmas.Option.{unwrap_or-slice_get}
 use Rattle.ld_trace.specs.Names.{Name}
 use Rattle.ld_text.specs.Words.{key_text, name_at}
-
-text_of : (found : Option Name) → unwrap_or (option_map key_text found) (key_text ([], 0)) ≡ key_text (unwrap_or found ([], 0))
-text_of None = refl
-text_of (Some name) = refl
 
 -- the texts for one key more
 pub texts_more : (names : List Name) (n : ℕ) (texts : List (List ℕ)) (text : List ℕ) → n < length names → texts ≡ map key_text (take n names) → text ≡ key_text (name_at names n) →

@@ -1,8 +1,9 @@
 -- The lines of an explanation's blocks.
-use Rattle.std.proofs.Common.{◌≡◌, ℕ, zero, suc, ◌+◌, ◌<◌, List, [], ◌∷◌, ◌++◌, Option, Some, None, codes, length, slice_get, take, refl, sym, ap, ◌∙◌, arith}
+use Rattle.std.proofs.Common.{◌≡◌, ℕ, suc, ◌+◌, ◌<◌, List, [], ◌∷◌, ◌++◌, Option, Some, None, codes, length, slice_get, take, refl, sym, ap, ◌∙◌, arith}
 use Rattle.std.specs.List.{flat_map}
-use Rattle.std.proofs.lemmas.List.{append_assoc, append-nil, length-append, take_more, length-take-le}
+use Rattle.std.proofs.lemmas.List.{append_assoc, append-nil, take_more, length-take-le}
 use Rattle.std.proofs.lemmas.Option.{get_or_from_slice_get}
+use Rattle.std.proofs.lemmas.List.Concat.{flat_map-append}
 use Rattle.ld_trace.specs.Names.{Name}
 use Rattle.ld_trace.specs.declared.event.Event.{Event}
 use Rattle.ld_facts.specs.Arrows.{Arrow}
@@ -14,9 +15,7 @@ use Rattle.ld_explain.specs.Origins.{IsFirst, IsOriginOf}
 use Rattle.ld_explain.specs.declared.origins.Origin.{Origin}
 use Rattle.ld_text.specs.Explanation.{IsOriginLine, Told, occurrence_text, waits_line, waits_text}
 use Rattle.ld_text.specs.Groups.{GrowsBy}
-use Rattle.ld_text.specs.Order.{numbers_below}
 use Rattle.ld_text.specs.Report.{member_text}
-use Rattle.ld_text.proofs.GroupLemmas.{flat_map-append}
 
 -- a fact of the traces has an origin
 pub origin_there : (facts : FactParts) (traces : List (List Event)) (x : Fact) (r : Option Origin) → AreSame (HasFact facts) (TracesHave traces) →
@@ -40,15 +39,15 @@ pub GrowsBy-is : (t old new : List ℕ) → new ≡ old ++ t → GrowsBy (λ tex
 GrowsBy-is t old new grew = record { part = t; shows = refl; grew = grew }
 
 -- one thing more of a list
-next_of : {X : Type 0} (xs : List X) (i : ℕ) (d : X) → slice_get xs i ≡ Some d → i < length xs → take (i + 1) xs ≡ take i xs ++ d ∷ []
-next_of xs i d is within = take_more xs i d within ∙ ap (λ x. take i xs ++ x ∷ []) (get_or_from_slice_get xs i d d is)
+pub take-next : {X : Type 0} (xs : List X) (i : ℕ) (d : X) → slice_get xs i ≡ Some d → i < length xs → take (i + 1) xs ≡ take i xs ++ d ∷ []
+take-next xs i d is within = take_more xs i d within ∙ ap (λ x. take i xs ++ x ∷ []) (get_or_from_slice_get xs i d d is)
 
 -- one member more
 pub members_more : (names : List Name) (walk : List Arrow) (i : ℕ) (d : Arrow) (old mid new : List ℕ) → slice_get walk i ≡ Some d → i < length walk →
     mid ≡ old ++ flat_map (member_text names) (take i walk) → new ≡ mid ++ member_text names d → new ≡ old ++ flat_map (member_text names) (take (i + 1) walk)
 members_more names walk i d old mid new is within before more =
     more ∙ ap (λ t. t ++ member_text names d) before ∙ append_assoc old (flat_map (member_text names) (take i walk)) (member_text names d)
-    ∙ ap (λ t. old ++ t) (sym (ap (flat_map (member_text names)) (next_of walk i d is within)
+    ∙ ap (λ t. old ++ t) (sym (ap (flat_map (member_text names)) (take-next walk i d is within)
     ∙ flat_map-append (member_text names) (take i walk) (d ∷ []) ∙ ap (λ t. flat_map (member_text names) (take i walk) ++ t) (append-nil (member_text names d))))
 
 waits_of_next : (names : List Name) (task : ℕ) (walk : List Arrow) (d : Arrow) →
@@ -66,11 +65,4 @@ waits_more names task walk i d old mid new is within before more =
     let count : length (take i walk) ≡ i = length-take-le i walk (omega (arith, within)) in
     more ∙ ap (λ t. t ++ waits_line names (task + i) d) before ∙ append_assoc old (waits_text names task (take i walk)) (waits_line names (task + i) d)
     ∙ ap (λ t. old ++ t) (ap (λ k. waits_text names task (take i walk) ++ waits_line names (task + k) d) (sym count)
-    ∙ sym (ap (waits_text names task) (next_of walk i d is within) ∙ waits_of_next names task (take i walk) d))
-
--- there are as many numbers below n as n
-pub numbers_below-length : (n : ℕ) → length (numbers_below n) ≡ n
-unfolding numbers_below
-numbers_below-length zero = refl
-numbers_below-length (suc n) =
-    length-append (numbers_below n) (n ∷ []) ∙ ap (λ k. k + 1) (numbers_below-length n) ∙ (let e : n + 1 ≡ suc n = omega arith in e)
+    ∙ sym (ap (waits_text names task) (take-next walk i d is within) ∙ waits_of_next names task (take i walk) d))

@@ -16,3 +16,4 @@ pub mod KeyTextLemmas
 pub mod WriteFaultLemmas
 pub mod JoinedLemmas
 pub mod ChoosingLemmas
+pub mod Starts

@@ -1,25 +1,17 @@
--- Texts that are written or put onto a page, one behind the other.
+-- Texts that are written or put onto a page, one after the other.
 use Rattle.std.proofs.Common.{◌≡◌, ℕ, ◌+◌, ◌<◌, List, [], ◌∷◌, ◌++◌, Option, Some, None, take, drop, length, slice_index_or, sym, ap, ◌∙◌, subst, Result, Ok, Err, OnErr}
 use Rattle.std.specs.List.{flat_map}
 use Rattle.std.specs.Io.KnownBytes.{Appends}
 use Rattle.std.proofs.lemmas.List.{append_assoc, append-nil, take-append-drop, drop_more}
+use Rattle.std.proofs.KnownBytes.{Appends-trans, Appends-nil}
+use Rattle.std.proofs.lemmas.List.Concat.{flat_map-append}
 use Rattle.ld_text.specs.Output.{AppendsBeginning, PutsBehind}
-use Rattle.ld_text.proofs.GroupLemmas.{flat_map-append, flat_map-next}
+use Rattle.ld_text.proofs.GroupLemmas.{flat_map-next}
 
 -- what holds anyway holds of an error
 pub OnErr-anyway : {T E P : Type 0} (r : Result T E) → P → OnErr r P
 OnErr-anyway (Ok x) p = tt
 OnErr-anyway (Err e) p = p
-
-pub Appends-nothing : (known : Option (List ℕ)) → Appends known known []
-Appends-nothing None = tt
-Appends-nothing (Some xs) = sym (append-nil xs)
-
-pub Appends-append : (old mid new : Option (List ℕ)) (a b : List ℕ) → Appends old mid a → Appends mid new b → Appends old new (a ++ b)
-Appends-append None mid new a b wrote more = tt
-Appends-append (Some xs) None new a b wrote more = absurd wrote
-Appends-append (Some xs) (Some ys) None a b wrote more = absurd more
-Appends-append (Some xs) (Some ys) (Some zs) a b wrote more = more ∙ ap (λ l. l ++ b) wrote ∙ append_assoc xs a b
 
 -- a beginning of a text begins a longer one
 pub AppendsBeginning-more : (old new : Option (List ℕ)) (text more : List ℕ) → AppendsBeginning old new text → AppendsBeginning old new (text ++ more)
@@ -35,18 +27,18 @@ AppendsBeginning-after (Some xs) (Some ys) new part rest h (begun, left, split, 
 
 -- nothing was put
 pub PutsBehind-nothing : (known : Option (List ℕ)) (page : List ℕ) → PutsBehind known known page page []
-PutsBehind-nothing known page = record { part = []; wrote = Appends-nothing known; split = append-nil page }
+PutsBehind-nothing known page = record { part = []; wrote = Appends-nil known; split = append-nil page }
 
 -- page and text were written
 pub PutsBehind-written : (old mid new : Option (List ℕ)) (page text : List ℕ) → Appends old mid page → Appends mid new text → PutsBehind old new page [] text
 PutsBehind-written old mid new page text first then_text =
-    record { part = page ++ text; wrote = Appends-append old mid new page text first then_text; split = sym (append-nil (page ++ text)) }
+    record { part = page ++ text; wrote = Appends-trans old mid new page text first then_text; split = sym (append-nil (page ++ text)) }
 
 -- of a text that is written itself, one more piece
 pub PutsBehind-more : (old mid new : Option (List ℕ)) (text rest : List ℕ) (n : ℕ) → PutsBehind old mid [] rest text → Appends mid new (take n rest) → PutsBehind old new [] (drop n rest) text
 PutsBehind-more old mid new text rest n before more = record {
   part = before.part ++ take n rest;
-  wrote = Appends-append old mid new before.part (take n rest) before.wrote more;
+  wrote = Appends-trans old mid new before.part (take n rest) before.wrote more;
   split = before.split ∙ ap (λ l. before.part ++ l) (sym (take-append-drop n rest)) ∙ sym (append_assoc before.part (take n rest) (drop n rest));
 }
 
@@ -55,7 +47,7 @@ module _ (old mid new : Option (List ℕ)) (p q a : List ℕ) (first : PutsBehin
   pub PutsBehind-append : (r b : List ℕ) → PutsBehind mid new q r b → PutsBehind old new p r (a ++ b)
   PutsBehind-append r b more = record {
     part = first.part ++ more.part;
-    wrote = Appends-append old mid new first.part more.part first.wrote more.wrote;
+    wrote = Appends-trans old mid new first.part more.part first.wrote more.wrote;
     split = sym (append_assoc p a b) ∙ ap (λ t. t ++ b) first.split ∙ append_assoc first.part q b ∙ ap (λ t. first.part ++ t) more.split ∙ sym (append_assoc first.part more.part r);
   }
 

@@ -1,15 +1,15 @@
 -- What grows a picture, and what is found by going through lists.
 use Rattle.std.proofs.Common.{◌≡◌, ◌↔◌, ◌⊎◌, ℕ, ◌+◌, ◌<◌, Any, Bool, true, false, IsTrue, IsFalse, List, [], ◌++◌, length, not, ◌||◌, slice_index_or, take, refl, sym, ap, ◌∙◌, subst, inl, inr, arith}
 use Rattle.std.proofs.lemmas.List.{append-nil, append_assoc, take_more}
-use Rattle.ld_facts.specs.ListLaws.{Any-push}
+use Rattle.ld_facts.specs.Laws.Lists.{Any-push}
 use Rattle.ld_text.specs.Groups.{GrowsBy}
 use Rattle.ld_text.specs.Picture.{ShowsColoured}
 
--- one text behind another
+-- one text after another
 pub behind : (old mid new a b : List ℕ) → mid ≡ old ++ a → new ≡ mid ++ b → new ≡ old ++ (a ++ b)
 behind old mid new a b first more = more ∙ ap (λ t. t ++ b) first ∙ append_assoc old a b
 
--- seven texts, one behind the other
+-- seven texts, one after the other
 pub seven_behind : (old t1 t2 t3 t4 t5 t6 new a b c d e f g : List ℕ) → t1 ≡ old ++ a → t2 ≡ t1 ++ b → t3 ≡ t2 ++ c → t4 ≡ t3 ++ d → t5 ≡ t4 ++ e → t6 ≡ t5 ++ f → new ≡ t6 ++ g → new ≡ old ++ (a ++ (b ++ (c ++ (d ++ (e ++ (f ++ g))))))
 seven_behind old t1 t2 t3 t4 t5 t6 new a b c d e f g is1 is2 is3 is4 is5 is6 is7 =
     behind old t1 new a (b ++ (c ++ (d ++ (e ++ (f ++ g))))) is1

@@ -3,14 +3,13 @@ use Rattle.std.proofs.Common.{◌≡◌, ◌↔◌, ◌⊎◌, ℕ, Bool, true, 
 use Rattle.ld_trace.specs.Names.{Name}
 use Rattle.ld_facts.specs.Arrows.{Arrow, arrow}
 use Rattle.ld_facts.specs.Facts.{AreSame}
-use Rattle.ld_graph.specs.FactLaws.{InInversion-same, IsDouble-same, IsInversion-same, OnCircle-same}
+use Rattle.ld_graph.specs.Laws.Facts.{InInversion-same, IsDouble-same, IsInversion-same, OnCircle-same}
 use Rattle.ld_facts.specs.declared.fact.Fact.{Fact}
 use Rattle.ld_facts.specs.declared.fact.Fact.TheVariants.{Dependency}
-use Rattle.ld_text.specs.Groups.{InSequence}
 use Rattle.ld_text.specs.Picture.{AreJoined, IsFoundArrow, IsFoundKey, IsNode, IsPicture, ShowsColoured, ShowsEdge, ShowsKey, edge_line, link_line}
 use Rattle.ld_text.specs.Report.{forms}
 use Rattle.ld_text.specs.Words.{kinds, states}
-use Rattle.ld_text.proofs.ReportLemmas.{InTurn-same, ShowsWhere-same, character-same}
+use Rattle.ld_text.proofs.ReportLemmas.{InTurn-same, ShowsWhere-same, character-same, then-same}
 
 Any-more : {X : Type 0} (P Q : X → Type 0) → ((x : X) → P x → Q x) → (xs : List X) → Any P xs → Any Q xs
 Any-more P Q more xs (k, x, within, is, holds) = (k, x, within, is, more x holds)
@@ -66,42 +65,14 @@ module _ (P Q : Fact → Type 0) (same : AreSame P Q) where
 
   -- the picture of equal facts
   pub IsPicture-same : (only : Bool) (names : List Name) (text : List ℕ) → IsPicture P only names text → IsPicture Q only names text
-  unfolding InSequence
   IsPicture-same only names text p =
-      let (head, after_head, head_is, (nodes, after_nodes, nodes_are, (edges, after_edges, edges_are, (doubles, after_doubles, doubles_are, (inversions, after_inversions, inversions_are, foot, e5), e4), e3), e2), e1) = p.text_is in
       let keys = p.keys in
       record {
         keys = keys;
         keys_are = p.keys_are;
-        text_is = (
-          head,
-          after_head,
-          head_is,
-          (
-            nodes,
-            after_nodes,
-            InTurn-same _ _ (key-same names keys only) keys nodes nodes_are,
-            (
-              edges,
-              after_edges,
-              InTurn-same _ _ (λ from. InTurn-same _ _ (λ to. InTurn-same _ _ (λ kind. edge-same names only (arrow from to kind)) kinds) keys) keys edges edges_are,
-              (
-                doubles,
-                after_doubles,
-                InTurn-same _ _ (λ irq. InTurn-same _ _ (λ key. ShowsWhere-same _ _ (link_line names irq key key) (IsDouble-same P Q same irq key)) keys) states doubles doubles_are,
-                (
-                  inversions,
-                  after_inversions,
-                  InTurn-same _ _ (λ irq. InTurn-same _ _ (λ a. InTurn-same _ _ (λ b. ShowsWhere-same _ _ (link_line names irq b a) (IsInversion-same P Q same irq a b)) keys) keys) states inversions inversions_are,
-                  foot,
-                  e5,
-                ),
-                e4,
-              ),
-              e3,
-            ),
-            e2,
-          ),
-          e1,
-        );
+        text_is = then-same (λ _ h. h) (then-same (InTurn-same _ _ (key-same names keys only) keys)
+            (then-same (InTurn-same _ _ (λ from. InTurn-same _ _ (λ to. InTurn-same _ _ (λ kind. edge-same names only (arrow from to kind)) kinds) keys) keys)
+            (then-same (InTurn-same _ _ (λ irq. InTurn-same _ _ (λ key. ShowsWhere-same _ _ (link_line names irq key key) (IsDouble-same P Q same irq key)) keys) states)
+            (then-same (InTurn-same _ _ (λ irq. InTurn-same _ _ (λ a. InTurn-same _ _ (λ b. ShowsWhere-same _ _ (link_line names irq b a) (IsInversion-same P Q same irq a b)) keys) keys) states)
+            (λ _ h. h))))) text p.text_is;
       }

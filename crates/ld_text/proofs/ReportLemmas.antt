@@ -1,13 +1,11 @@
 -- Reports of equal facts.
-use Rattle.std.proofs.Common.{ℕ, Bool, List, [], ◌∷◌, IsTrue, ◌↔◌, inl, inr, length, subst}
+use Rattle.std.proofs.Common.{ℕ, Bool, List, [], ◌∷◌, IsTrue, ◌↔◌, inl, inr, length}
 use Rattle.ld_trace.specs.Names.{Name}
 use Rattle.ld_trace.specs.declared.event.Irq.{Irq}
 use Rattle.ld_task.specs.declared.mark.Mark.TheVariants.{UsedIn, Enabled}
-use Rattle.ld_facts.specs.Arrows.{Arrow}
 use Rattle.ld_facts.specs.Facts.{AreSame, DependenciesOf}
-use Rattle.ld_graph.specs.FactLaws.{IsClean-same, IsShortestCircle-same, OnCircle-same, StrongWalk-members}
-use Rattle.ld_facts.specs.CountingLaws.{IsNumberOf-same}
-use Rattle.ld_graph.specs.Walks.{OnCircle}
+use Rattle.ld_graph.specs.Laws.Facts.{IsClean-same, IsShortestCircle-same, OnCircle-same}
+use Rattle.ld_facts.specs.Laws.Counting.{IsNumberOf-same}
 use Rattle.ld_graph.specs.Links.{IsClean}
 use Rattle.ld_facts.specs.declared.fact.Fact.{Fact}
 use Rattle.ld_facts.specs.declared.fact.Fact.TheVariants.{Dependency, Marked}
@@ -20,6 +18,12 @@ pub InTurn-same : {X : Type 0} (R S : X → List ℕ → Type 0) → ((x : X) (t
 unfolding InSequence
 InTurn-same R S same [] text none = none
 InTurn-same R S same (x ∷ xs) text (first, rest, shows, others, is) = (first, rest, same x first shows, InTurn-same R S same xs rest others, is)
+
+-- a sequence of which the first part means the same, and the others
+pub then-same : {P Q : List ℕ → Type 0} {Ps Qs : List (List ℕ → Type 0)} → ((text : List ℕ) → P text → Q text) → ((text : List ℕ) → InSequence Ps text → InSequence Qs text) →
+    (text : List ℕ) → InSequence (P ∷ Ps) text → InSequence (Q ∷ Qs) text
+unfolding InSequence
+then-same one more text (first, rest, shows, others, is) = (first, rest, one first shows, more rest others, is)
 
 pub ShowsWhere-same : (P Q : Type 0) (line : List ℕ) → P ↔ Q → (text : List ℕ) → ShowsWhere P line text → ShowsWhere Q line text
 ShowsWhere-same P Q line same text (inl (holds, is)) = inl (same.0 holds, is)
@@ -70,36 +74,11 @@ module _ (P Q : Fact → Type 0) (same : AreSame P Q) where
 
   -- the report of equal facts
   pub IsReport-same : (traces events : ℕ) (names : List Name) (text : List ℕ) → IsReport P traces events names text → IsReport Q traces events names text
-  unfolding InSequence
-  IsReport-same traces events names text r =
-      let (totals, after_totals, totals_are, (usage, after_usage, usage_is, (circles, after_circles, circles_are, (because, after_because, because_is, (doubles, after_doubles, doubles_are, inversions_are, e5), e4), e3), e2), e1) = r.text_is in
-      record {
-        keys = r.keys;
-        keys_are = r.keys_are;
-        found = r.found;
-        found_are = AreFound-same P Q same r.keys r.found r.found_are;
-        text_is = (
-          totals,
-          after_totals,
-          totals-same traces events (length names) totals totals_are,
-          (
-            usage,
-            after_usage,
-            InTurn-same _ _ (line-same names) r.keys usage usage_is,
-            (
-              circles,
-              after_circles,
-              circles_are,
-              (because, after_because, because-same names because because_is, (doubles, after_doubles, doubles_are, inversions_are, e5), e4),
-              e3,
-            ),
-            e2,
-          ),
-          e1,
-        );
-      }
-
--- what is on a circle is a dependency
-pub OnCircle-dependency : (Has : Fact → Type 0) (d : Arrow) → OnCircle Has d → DependenciesOf Has d
-OnCircle-dependency Has d (a, rest, closed, (k, within, is)) =
-    subst (DependenciesOf Has) is (StrongWalk-members (DependenciesOf Has) a rest closed.0 k d within)
+  IsReport-same traces events names text r = record {
+    keys = r.keys;
+    keys_are = r.keys_are;
+    found = r.found;
+    found_are = AreFound-same P Q same r.keys r.found r.found_are;
+    text_is = then-same (totals-same traces events (length names)) (then-same (InTurn-same _ _ (line-same names) r.keys)
+        (then-same (λ _ h. h) (then-same (because-same names) (λ _ h. h)))) text r.text_is;
+  }

@@ -1,29 +1,24 @@
 -- How an explanation grows, block by block.
-use Rattle.std.proofs.Common.{◌≡◌, ◌↔◌, ◌⊎◌, ℕ, Bool, suc, ◌+◌, ◌<◌, List, [], ◌∷◌, ◌++◌, All, Any, Contains, Some, codes, length, slice_get, slice_index_or, take, refl, sym, ap, ◌∙◌, subst, inl, inr, arith}
-use Rattle.std.proofs.lemmas.List.{append_assoc, append-nil, length-append, take_more}
+use Rattle.std.proofs.Common.{◌≡◌, ◌↔◌, ◌⊎◌, ℕ, Bool, ◌+◌, ◌<◌, List, [], ◌∷◌, ◌++◌, All, Contains, Some, codes, length, slice_get, take, refl, sym, ap, ◌∙◌, subst, inl, inr, arith}
+use Rattle.std.proofs.lemmas.List.{append_assoc}
 use Rattle.std.proofs.lemmas.List.Elements.{Contains-push_cases, Contains-append_left, Contains-push}
-use Rattle.std.proofs.lemmas.Option.{get_or_from_slice_get}
-use Rattle.ld_trace.specs.Names.{Name}
 use Rattle.ld_trace.specs.declared.event.Irq.{Irq}
 use Rattle.ld_task.specs.Kinds.{is_r-kind_of_letters, is_s-kind_of_letters}
 use Rattle.ld_task.specs.declared.mark.Mark.TheVariants.{UsedIn, Enabled}
 use Rattle.ld_facts.specs.Arrows.{Arrow, arrow}
 use Rattle.ld_facts.specs.FactBits.{FactParts, HasFact}
-use Rattle.ld_graph.specs.FactLaws.{StrongWalk-members}
-use Rattle.ld_facts.specs.ListLaws.{Any-push}
+use Rattle.ld_graph.specs.Laws.Facts.{StrongWalk-members}
 use Rattle.ld_facts.specs.Facts.{Adds, DependenciesOf}
-use Rattle.ld_graph.specs.Links.{IsDoubleBy, IsLink, IsShortestInversion, link_by}
+use Rattle.ld_graph.specs.Links.{IsDoubleBy, IsShortestInversion, link_by}
 use Rattle.ld_graph.specs.Walks.{IsShortestFrom}
 use Rattle.ld_facts.specs.declared.fact.Fact.{Fact}
 use Rattle.ld_facts.specs.declared.fact.Fact.TheVariants.{Dependency, Marked}
-use Rattle.ld_text.specs.Explanation.{AreGateNotes, AreNoteLines, AreTold, IsDependencyLine, IsDoubleBlock, IsEnabledLine, IsInversionBlock, IsOriginLine, IsTold, IsUsedLine, Told, comes_line, holds_line, waits_line, waits_text}
-use Rattle.ld_text.specs.Groups.{GrowsBy, InSequence, InTurn}
+use Rattle.ld_text.specs.Explanation.{AreGateNotes, AreNoteLines, IsDependencyLine, IsDoubleBlock, IsEnabledLine, IsInversionBlock, IsOriginLine, IsUsedLine, Told, comes_line, holds_line, waits_text}
+use Rattle.ld_text.specs.Groups.{GrowsBy, InTurn}
 use Rattle.ld_text.specs.Report.{double_line, inversion_line}
 use Rattle.ld_text.specs.Words.{irq_text}
 use Rattle.ld_text.proofs.GroupLemmas.{GrowsBy-none, GrowsBy-then}
-
-pub take-next : {X : Type 0} (xs : List X) (i : ℕ) (d : X) → slice_get xs i ≡ Some d → i < length xs → take (i + 1) xs ≡ take i xs ++ d ∷ []
-take-next xs i d is within = take_more xs i d within ∙ ap (λ x. take i xs ++ x ∷ []) (get_or_from_slice_get xs i d d is)
+use Rattle.ld_text.proofs.LeafLemmas.{take-next}
 
 -- Circles.
 
@@ -140,13 +135,3 @@ inversion-grows Has told keys irq a b enabled used walk old headed walked with_u
 pub inversion-are : (Has : Fact → Type 0) (irq : Irq) (a b : ℕ) (l : Arrow) (walk : List Arrow) → IsShortestInversion Has irq a b l walk → All (DependenciesOf Has) walk
 inversion-are Has irq a b l walk shortest = subst (All (DependenciesOf Has)) (sym shortest.walk_is)
     (StrongWalk-members (DependenciesOf Has) shortest.first shortest.rest shortest.closed.0.0)
-
--- Tasks that wait.
-
-pub waits_text-next : (names : List Name) (task : ℕ) (walk : List Arrow) (d : Arrow) →
-    waits_text names task (walk ++ d ∷ []) ≡ waits_text names task walk ++ waits_line names (task + length walk) d
-waits_text-next names task [] d = append-nil (waits_line names task d) ∙ ap (λ k. waits_line names k d) (let e : task ≡ task + 0 = omega arith in e)
-waits_text-next names task (x ∷ walk) d =
-    ap (λ t. waits_line names task x ++ t) (waits_text-next names (suc task) walk d)
-    ∙ ap (λ k. waits_line names task x ++ (waits_text names (suc task) walk ++ waits_line names k d)) (let e : suc task + length walk ≡ task + suc (length walk) = omega arith in e)
-    ∙ sym (append_assoc (waits_line names task x) (waits_text names (suc task) walk) (waits_line names (task + suc (length walk)) d))

@@ -24,7 +24,7 @@ use Rattle.ld_text.specs.Order.{IsKeyOrder}
 use Rattle.ld_text.specs.Report.{double_line, inversion_line, member_text, total_line}
 use Rattle.ld_text.specs.Words.{file_at, irq_text, key_text, name_at}
 
--- what is told of: the traces, the names of their keys, and the files that they were read from
+-- what an explanation is made from: the traces, the names of their keys, and the files that they were read from
 pub record Told : Type 0 where
   pub traces : List (List Event)
   pub names : List Name
@@ -58,7 +58,7 @@ abbrev pub occurrence_text : Told → Origin → List ℕ
 occurrence_text told origin = file_at told.files origin.trace ++ (codes ": record " ++ (decimal (origin.place + 2)
     ++ (does_text told.names (event_of told.traces origin.trace origin.place) ++ while_text told origin.trace origin.held)))
 
--- the line tells where the fact first occurs, behind these words
+-- the line says where the fact first occurs, after these words
 pub record IsOriginLine (told : Told) (words : List ℕ) (x : Fact) (line : List ℕ) : Type 0 where
   pub origin : Origin
   pub first : IsFirst told.traces x origin
@@ -97,14 +97,14 @@ waits_text names task (d ∷ walk) = waits_line names task d ++ waits_text names
 abbrev pub holds_line : List Name → (key : ℕ) → List ℕ
 holds_line names key = codes "  task 1 holds " ++ (key_text (name_at names key) ++ codes "\n")
 
--- an interrupt comes in at it and wants a lock
+-- an interrupt comes in at it and waits for a lock
 abbrev pub comes_line : List Name → Irq → (key : ℕ) → List ℕ
 comes_line names irq key = codes "  a " ++ (irq_text irq ++ (codes " comes in at task 1 and waits for "
     ++ (key_text (name_at names key) ++ codes "\n")))
 
 -- What speaks against it.
 
--- dependencies, the first behind these words and each further one behind a comma
+-- dependencies, the first after these words and each further one after a comma
 abbrev pub listed_text : List Name → (before : List ℕ) → List Arrow → List ℕ
 listed_text names before [] = []
 listed_text names before (d ∷ ds) = before ++ (dependency_text names d ++ listed_text names (codes ", ") ds)
@@ -142,7 +142,7 @@ note_line note = codes "  note: " ++ (note ++ codes "\n")
 abbrev pub AreNoteLines : (List Text → Type 0) → List ℕ → Type 0
 AreNoteLines Are text = (notes : List Text) × Are notes × (text ≡ flat_map note_line notes)
 
--- Blocks, each behind an empty line.
+-- Blocks, each after an empty line.
 
 -- the first line of a circle, from the key that its first member starts at
 abbrev pub circle_head : List Name → List Arrow → List ℕ
@@ -185,14 +185,14 @@ pub record IsInversionBlock (Has : Fact → Type 0) (told : Told) (keys : List �
       ∷ AreNoteLines (AreGateNotes told keys walk)
       ∷ []) text
 
--- What is told.
+-- What is reported.
 
 -- the dependency is a member of one of these circles
 abbrev pub IsTold : List (List Arrow) → Arrow → Type 0
 IsTold circles d = Any (λ circle. Contains circle d) circles
 
--- the circles that are told of these dependencies in turn, if some were told before: of each one that isn't a member of any yet, a
--- shortest of those that begin with it
+-- the circles that are reported for these dependencies in turn, if some were before: for each one that isn't a member of
+-- any yet, a shortest of those that begin with it
 abbrev pub AreTold : (Fact → Type 0) → (before : List (List Arrow)) → List Arrow → List (List Arrow) → Type 0
 AreTold Has before [] circles = circles ≡ []
 AreTold Has before (d ∷ ds) circles =
@@ -200,7 +200,7 @@ AreTold Has before (d ∷ ds) circles =
     × (circles ≡ circle ∷ rest) × AreTold Has (before ++ circle ∷ []) ds rest))
     ⊎ (IsTold before d × AreTold Has before ds circles)
 
--- the text explains these facts of what is told of
+-- the text explains these facts by these traces
 pub record IsExplanation (Has : Fact → Type 0) (told : Told) (text : List ℕ) : Type 0 where
   pub keys : List ℕ
   pub keys_are : IsKeyOrder told.names keys

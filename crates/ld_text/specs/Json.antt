@@ -169,7 +169,8 @@ pub record IsInversionObject (Has : Fact → Type 0) (told : Told) (keys : List 
 abbrev pub IsLineOf : (List Token → Type 0) → List ℕ → Type 0
 IsLineOf IsObject text = (tokens : List Token) × IsObject tokens × (text ≡ codes ",\n" ++ print tokens)
 
--- the text is one object with all that was found in these facts, of what is told of: the same findings as the explanation, in its order
+-- the text is one object with all that was found in these facts, by these traces: the same findings as the explanation, in
+-- its order
 pub record IsJson (Has : Fact → Type 0) (told : Told) (text : List ℕ) : Type 0 where
   pub keys : List ℕ
   pub keys_are : IsKeyOrder told.names keys

@@ -7,7 +7,7 @@ abbrev pub AppendsBeginning : Option (List ℕ) → Option (List ℕ) → List �
 AppendsBeginning old new text =
     IfSome old (λ bytes. (begun rest : List ℕ) × (text ≡ begun ++ rest) × (new ≡ Some (bytes ++ begun)))
 
--- a text was put behind what a page held, and a part of all that was written out
+-- a text was put after what a page held, and a part of all that was written out
 pub record PutsBehind (old new : Option (List ℕ)) (page_old page_new text : List ℕ) : Type 0 where
   pub part : List ℕ
   pub wrote : Appends old new part

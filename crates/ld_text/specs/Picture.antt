@@ -14,7 +14,7 @@ use Rattle.ld_text.specs.Order.{IsKeyOrder}
 use Rattle.ld_text.specs.Report.{IsUsageCharacter, forms}
 use Rattle.ld_text.specs.Words.{irq_text, kind_text, kinds, name_at, states}
 
--- Names. In a text between double quotes a double quote and a backslash stand behind a backslash.
+-- Names. In a text between double quotes, a double quote and a backslash come after a backslash.
 
 abbrev pub escaped : ℕ → List ℕ
 escaped byte = if byte == 34 then codes "\\\"" else (if byte == 92 then codes "\\\\" else byte ∷ [])

@@ -30,7 +30,7 @@ abbrev pub clean_line : Bool → List ℕ
 clean_line true = codes "clean yes\n"
 clean_line false = codes "clean no\n"
 
--- the five lines that every report begins with, of so many traces, events and keys
+-- the five lines that every report begins with, for this number of traces, events and keys
 pub record AreTotals (Has : Fact → Type 0) (traces events keys : ℕ) (text : List ℕ) : Type 0 where
   pub dependencies : ℕ
   pub dependencies_are : IsNumberOf (DependenciesOf Has) dependencies
@@ -125,7 +125,7 @@ findings Has names found =
 
 -- The whole text.
 
--- the text is the report of these facts, of so many traces and events, for the keys with these names
+-- the text is the report of these facts, of this number of traces and events, for the keys with these names
 pub record IsReport (Has : Fact → Type 0) (traces events : ℕ) (names : List Name) (text : List ℕ) : Type 0 where
   pub keys : List ℕ
   pub keys_are : IsKeyOrder names keys

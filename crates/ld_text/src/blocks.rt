@@ -1,7 +1,6 @@
 //! The blocks of an explanation, one for each finding.
 
 ghost use Rattle.std.specs.Prelude.{◌≡◌, ◌++◌, ◌∷◌, [], ◌<◌, All, OnOk, codes, length, string_bytes};
-ghost use Rattle.ld_trace.specs.declared.event.Irq.{Irq};
 ghost use Rattle.ld_facts.specs.FactBits.{HasFact};
 ghost use Rattle.ld_facts.specs.Facts.{DependenciesOf};
 ghost use Rattle.ld_graph.specs.Links.{IsDouble};

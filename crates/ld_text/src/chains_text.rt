@@ -33,7 +33,7 @@ fn add_key(line: &mut Line, names: &KeyTable, key: KeyId)
     line.push_str(digits_of(sub as usize).as_str());
 }
 
-// A held lock: its key and mode behind a space.
+// A held lock: its key and mode after a space.
 fn add_lock(line: &mut Line, names: &KeyTable, lock: (KeyId, Mode))
     requires { length line.old.bytes + 73 ≤ LINE_BYTES }
     ensures text { line.new.bytes ≡ line.old.bytes ++ (codes " " ++ taken_text names.now.names lock.0 lock.1) }
@@ -96,7 +96,7 @@ fn add_line(line: &mut Line, names: &KeyTable, chain: &Chain)
 /// Writes a line for each chain of the trace, in order: an acquisition with its mode, frame and flags, or an opening with
 /// the flags just after it, and the locks held then in the frame, oldest first.
 ///
-/// Refusals: O1 where the writer answers an error, O2 where it takes nothing. Exactly a beginning of the text was written
+/// Refusals: O1 if the writer returns an error, O2 if it takes nothing. Exactly a beginning of the text was written
 /// then. Takes no memory.
 pub fn write_chains<W: Write>(w: &mut W, trace: &Trace, names: &KeyTable) -> Result<(), WriteFault>
     ensures ok { OnOk result (Appends (W.contents w.old) (W.contents w.new) (chains_text names.now.names trace.now)) }

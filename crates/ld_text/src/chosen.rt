@@ -1,5 +1,5 @@
-//! The walks by which findings are told. They are chosen before anything is written, so that the traces are asked only about
-//! what is told.
+//! The walks that findings are reported with. They are chosen before anything is written, so that the traces are asked
+//! only about what is reported.
 
 ghost use Rattle.std.specs.Prelude.{◌≡◌, ◌++◌, ◌∷◌, [], ◌⊎◌, ◌↔◌, ℕ, List, All, Contains, IfOk, OnOk, map};
 ghost use Rattle.ld_facts.specs.Arrows.{Arrow};
@@ -22,7 +22,7 @@ use ld_trace::{Irq, KeyId};
 use std::alloc::{AllocError, Global};
 use std::marker::Model;
 
-/// An inversion with the walk that it is told by, and the forms of the marks that the walk's link is made of.
+/// An inversion with the walk that it is reported with, and the forms of the marks that the walk's link is made of.
 #[derive(Drop)]
 pub(crate) struct ToldInversion {
     pub irq: Irq,
@@ -33,7 +33,7 @@ pub(crate) struct ToldInversion {
     pub used_read: bool,
 }
 
-/// The circles that are told, and the inversions.
+/// The circles that are reported, and the inversions.
 #[derive(Drop)]
 pub(crate) struct Chosen {
     circles: Vec<ToldWalk>,
@@ -49,7 +49,7 @@ impl Model for Chosen {
 }
 
 impl Chosen {
-    /// Chooses the walks for all findings, and asks about what is told of these.
+    /// Chooses the walks for all findings, and asks about all that is reported of these.
     pub(crate) fn of(
         alloc: Global,
         settled: &Settled,
@@ -108,7 +108,7 @@ fn ask_walk(asked: &mut Asked, walk: &ToldWalk)
     }
 }
 
-// A shortest circle through a dependency on one; None if that is a member of a circle that was chosen.
+// A shortest circle through a dependency that is on one; None if that is a member of a circle that was chosen.
 fn circle(settled: &Settled, asked: &Asked, d: &Dependency) -> Option<Walk>
     requires { OnCircle (HasFact settled.now) d.now }
     ensures { IsCircleFor settled.now asked.now d.now result }
@@ -145,7 +145,7 @@ fn choose_circle(
     Ok(())
 }
 
-// Chooses circles for the dependencies on some.
+// Chooses circles for dependencies that are on some.
 fn choose_circles(
     alloc: Global,
     settled: &Settled,

@@ -99,8 +99,8 @@ fn explanation_text(
 /// Writes what was found in the traces of these files, and for each dependency and mark that a finding is made of the
 /// record where it first occurs, with the names of the keys that are in the table.
 ///
-/// Refusals: O3 where memory for the text or for the origins is refused, before its first byte; O1 where the writer
-/// answers an error and O2 where it takes nothing, after exactly a beginning of the text. This project's own.
+/// Refusals: O3 if memory for the text or for the origins is refused, before its first byte; O1 if the writer returns
+/// an error and O2 if it takes nothing, after exactly a beginning of the text. This project's own.
 pub fn write_explanation<W: Write>(
     alloc: Global,
     w: &mut W,

@@ -3,7 +3,7 @@
 ghost use Rattle.std.specs.Prelude.{◌≡◌, [], ◌∷◌, ℕ, IfOk, IsFalse, OnOk, flat_map, map};
 ghost use Rattle.ld_facts.specs.Arrows.{arrow};
 ghost use Rattle.ld_facts.specs.FactBits.{HasFact};
-ghost use Rattle.ld_graph.specs.Links.{IsClean, IsDouble, IsInversion};
+ghost use Rattle.ld_graph.specs.Links.{IsDouble, IsInversion};
 ghost use Rattle.ld_graph.specs.Walks.{OnCircle};
 ghost use Rattle.ld_facts.specs.declared.fact.Fact.{Fact};
 ghost use Rattle.ld_task.specs.declared.kind.Kind.{Kind};
@@ -39,7 +39,7 @@ impl Model for Dependency {
     ghost view = { λ d. arrow d.from d.to d.kind };
 }
 
-// The findings of facts. Where there are none the lists take no memory.
+// The findings of facts. If there are none the lists take no memory.
 #[derive(Drop)]
 pub(crate) struct Found {
     circles: Vec<Dependency>,
@@ -56,7 +56,7 @@ impl Model for Found {
 }
 
 impl Found {
-    // All findings among the keys, in their order. Of clean facts no dependency and no key is asked for.
+    // All findings among the keys, in their order. If the facts are clean no dependency and no key is looked at.
     pub(crate) fn of(alloc: Global, settled: &Settled, keys: &[KeyId]) -> Result<Found, AllocError>
         ensures { IfOk result (AreFound (HasFact settled.now) keys.now) }
     {
@@ -164,22 +164,6 @@ impl Search<'_> {
         Ok(())
     }
 
-    // Those of the dependencies of each kind.
-    fn add_circles_of_kinds(
-        self,
-        circles: &mut Vec<Dependency>,
-        from: KeyId,
-        to: KeyId,
-    ) -> Result<(), AllocError>
-        ensures { OnOk result (AddsThose (OnCircle (HasFact self.entry.settled.now)) (map (arrow from to) kinds)
-            circles.old.items circles.new.items) }
-    {
-        for kind in KINDS {
-            self.add_circle(circles, from, to, kind)?;
-        }
-        Ok(())
-    }
-
     // Those of the dependencies from the one key to the other.
     fn add_circles_to(
         self,
@@ -190,11 +174,13 @@ impl Search<'_> {
         ensures { OnOk result (AddsThose (OnCircle (HasFact self.entry.settled.now)) (map (arrow from to) kinds)
             circles.old.items circles.new.items) }
     {
-        if has_dependency(self.settled, from, to) {
-            self.add_circles_of_kinds(circles, from, to)
-        } else {
-            Ok(())
+        if !has_dependency(self.settled, from, to) {
+            return Ok(());
         }
+        for kind in KINDS {
+            self.add_circle(circles, from, to, kind)?;
+        }
+        Ok(())
     }
 
     // Those of the dependencies from the key.
@@ -274,23 +260,7 @@ impl Search<'_> {
         Ok(())
     }
 
-    // The inversions of one state that the key is the first of.
-    fn add_inversions_with(
-        self,
-        inversions: &mut Vec<(Irq, (KeyId, KeyId))>,
-        irq: Irq,
-        a: KeyId,
-    ) -> Result<(), AllocError>
-        ensures { OnOk result (AddsThose (λ x. IsInversion (HasFact self.entry.settled.now) x.0 x.1.0 x.1.1)
-            (map (λ b. (irq, (a, b))) self.entry.keys.now) inversions.old.items inversions.new.items) }
-    {
-        for b in self.keys {
-            self.add_inversion(inversions, irq, a, *b)?;
-        }
-        Ok(())
-    }
-
-    // The same, and nothing is asked of a key that isn't used in the state.
+    // The inversions of one state that the key is the first of. Nothing is asked of a key that isn't used in the state.
     fn add_inversions_from(
         self,
         inversions: &mut Vec<(Irq, (KeyId, KeyId))>,
@@ -300,11 +270,13 @@ impl Search<'_> {
         ensures { OnOk result (AddsThose (λ x. IsInversion (HasFact self.entry.settled.now) x.0 x.1.0 x.1.1)
             (map (λ b. (irq, (a, b))) self.entry.keys.now) inversions.old.items inversions.new.items) }
     {
-        if is_used_in(self.settled, irq, a) {
-            self.add_inversions_with(inversions, irq, a)
-        } else {
-            Ok(())
+        if !is_used_in(self.settled, irq, a) {
+            return Ok(());
         }
+        for b in self.keys {
+            self.add_inversion(inversions, irq, a, *b)?;
+        }
+        Ok(())
     }
 
     // The inversions of one state.

@@ -1,6 +1,6 @@
 //! The findings as JSON objects.
 
-ghost use Rattle.std.specs.Prelude.{◌≡◌, ◌∷◌, [], ◌<◌, ℕ, List, All, OnOk, length, map, string_bytes, codes};
+ghost use Rattle.std.specs.Prelude.{◌≡◌, ◌∷◌, [], ◌<◌, List, All, OnOk, length, map, string_bytes, codes};
 ghost use Rattle.json.specs.Token.{Token, string};
 ghost use Rattle.ld_facts.specs.Arrows.{arrow};
 ghost use Rattle.ld_facts.specs.FactBits.{HasFact};
@@ -27,7 +27,7 @@ use ld_trace::{Event, Irq, KeyId};
 use std::alloc::{AllocError, Global};
 use std::marker::Model;
 
-// What findings are told from, with the keys as lines name them.
+// What findings are explained from, with the keys as lines name them.
 #[derive(Drop)]
 pub(crate) struct Objects<'a> {
     pub teller: &'a Teller<'a>,

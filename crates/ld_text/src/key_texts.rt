@@ -1,6 +1,6 @@
 //! The keys as lines name them.
 
-ghost use Rattle.std.specs.Prelude.{◌≡◌, ◌<◌, ◌++◌, [], IfOk, OnOk, length, map, slice_get, string_bytes, unwrap_or};
+ghost use Rattle.std.specs.Prelude.{◌≡◌, ◌++◌, [], IfOk, OnOk, map, slice_get, string_bytes, unwrap_or};
 ghost use Rattle.ld_text.specs.Words.{key_text, name_at};
 
 use crate::words::name_of;

@@ -1,6 +1,6 @@
 //! The lines of an explanation: where facts come from, and who waits for whom.
 
-ghost use Rattle.std.specs.Prelude.{◌≡◌, ◌++◌, ◌≤◌, ℕ, All, OnOk, codes, flat_map, string_bytes};
+ghost use Rattle.std.specs.Prelude.{◌≡◌, ◌++◌, ◌≤◌, All, OnOk, codes, flat_map, string_bytes};
 ghost use Rattle.ld_facts.specs.Arrows.{arrow};
 ghost use Rattle.ld_facts.specs.FactBits.{HasFact};
 ghost use Rattle.ld_facts.specs.Facts.{DependenciesOf};
@@ -244,7 +244,7 @@ impl Teller<'_> {
         Ok(())
     }
 
-    // An interrupt comes in and wants a lock.
+    // An interrupt comes in and waits for a lock.
     pub(crate) fn add_interrupt(
         &self,
         text: &mut String,

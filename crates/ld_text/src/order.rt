@@ -1,6 +1,6 @@
 //! The order of keys in a report.
 
-ghost use Rattle.std.specs.Prelude.{◌≡◌, IfOk, OnOk, length};
+ghost use Rattle.std.specs.Prelude.{◌≡◌, IfOk, length};
 ghost use Rattle.ld_text.specs.Order.{IsKeyOrder, name_cmp, numbers_below};
 ghost use Rattle.ld_text.specs.Words.{name_at};
 

@@ -17,7 +17,7 @@ pub(crate) type Page = ArrayString<PAGE_BYTES>;
 
 /// Writes the whole text, piece by piece as the writer takes it.
 ///
-/// A refusal comes where the writer answers an error (`Failed`) or takes nothing (`Stuck`). Exactly a beginning of the
+/// It is refused if the writer returns an error (`Failed`) or takes nothing (`Stuck`). Exactly a beginning of the
 /// text was written then.
 pub fn write_text<W: Write>(w: &mut W, text: &[u8]) -> Result<(), WriteFault>
     ensures ok { OnOk result (Appends (W.contents w.old) (W.contents w.new) text.now) }
@@ -47,7 +47,7 @@ pub(crate) fn write_out<W: Write>(w: &mut W, page: &mut Page) -> Result<(), Writ
     Ok(())
 }
 
-/// Puts a text onto the page. Where there is no room for it, the page is written out, and the text behind it.
+/// Puts a text onto the page. If there is no room for it, the page is written out, and the text after it.
 pub(crate) fn put<W: Write>(w: &mut W, page: &mut Page, text: &str) -> Result<(), WriteFault>
     ensures ok { OnOk result (PutsBehind (W.contents w.old) (W.contents w.new) page.old.bytes page.new.bytes
         text.now) }

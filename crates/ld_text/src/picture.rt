@@ -2,15 +2,14 @@
 
 ghost use Rattle.std.specs.Prelude.{◌≡◌, ◌++◌, ◌↔◌, List, ℕ, Any, IfErr, IfOk, IsTrue, OnOk, flat_map};
 ghost use Rattle.std.specs.Io.KnownBytes.{Appends};
-ghost use Rattle.ld_facts.specs.Arrows.{arrow};
 ghost use Rattle.ld_facts.specs.FactBits.{HasFact};
 ghost use Rattle.ld_graph.specs.Links.{IsDouble};
 ghost use Rattle.ld_text.specs.WriteFaults.{StopsWriting};
 ghost use Rattle.ld_text.specs.Groups.{GrowsBy, InTurn};
 ghost use Rattle.ld_text.specs.Inside.Joined.{AreJoinedKeys};
-ghost use Rattle.ld_text.specs.Picture.{AreJoined, IsFoundKey, IsNode, IsPicture, ShowsDoubleLink, ShowsEdge, ShowsInversionLink, ShowsKey, arrow_text, end_text, escaped, quoted_key};
+ghost use Rattle.ld_text.specs.Picture.{AreJoined, IsFoundKey, IsNode, IsPicture, ShowsDoubleLink, ShowsInversionLink, ShowsKey, arrow_text, end_text, escaped, quoted_key};
 ghost use Rattle.ld_text.specs.Report.{IsUsageCharacter, forms};
-ghost use Rattle.ld_text.specs.Words.{kinds, name_at, states};
+ghost use Rattle.ld_text.specs.Words.{name_at, states};
 
 use crate::found::{STATES, is_used_in};
 use crate::order::sorted_keys;
@@ -23,7 +22,7 @@ use ld_trace::{Irq, KeyId, KeyTable};
 use std::alloc::{AllocError, Global};
 use std::io::Write;
 
-// How the line of a double or an inversion ends, behind its label.
+// How the line of a double or an inversion ends, after its label.
 const LINK_END: &str = ", style=dashed, color=red, fontcolor=red];\n";
 
 // What a picture is written from.
@@ -333,8 +332,8 @@ fn picture_text(
 /// Writes the picture of settled facts, with the names of the keys that are in the table: all of them, or where
 /// `findings` is set, only what is part of a circle, a double or an inversion.
 ///
-/// Refusals: O3 where memory for the text is refused, before its first byte; O1 where the writer answers an error and O2
-/// where it takes nothing, after exactly a beginning of the text. This project's own.
+/// Refusals: O3 if memory for the text is refused, before its first byte; O1 if the writer returns an error and O2
+/// if it takes nothing, after exactly a beginning of the text. This project's own.
 pub fn write_picture<W: Write>(
     alloc: Global,
     w: &mut W,

@@ -215,7 +215,7 @@ impl ReportView<'_> {
     }
 }
 
-// The text of the report of the settled facts, from so many traces and events.
+// The text of the report of the settled facts, from this number of traces and events.
 fn report_text(
     alloc: Global,
     settled: &Settled,
@@ -280,8 +280,8 @@ fn character_of(enabled: bool, used_in: bool) -> &'static str
 
 /// Writes the report of settled facts that come from these traces, with the names of the keys that are in the table.
 ///
-/// Refusals: O3 where memory for the text is refused, before its first byte; O1 where the writer answers an error and O2
-/// where it takes nothing, after exactly a beginning of the text. This project's own.
+/// Refusals: O3 if memory for the text is refused, before its first byte; O1 if the writer returns an error and O2
+/// if it takes nothing, after exactly a beginning of the text. This project's own.
 pub fn write_report<W: Write>(
     alloc: Global,
     w: &mut W,

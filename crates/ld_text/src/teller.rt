@@ -1,4 +1,4 @@
-//! What findings are told from: the facts, and what the traces say about those that are asked about.
+//! What findings are explained from: the facts, and what the traces say about those that are asked about.
 
 ghost use Rattle.std.specs.Prelude.{◌≡◌, ◌↔◌, ◌∷◌, [], ℕ, IsFalse, IsTrue, Some};
 ghost use Rattle.ld_facts.specs.Arrows.{arrow};
@@ -15,7 +15,7 @@ use ld_trace::{Event, KeyId, KeyTable, RawTrace};
 use std::alloc::Global;
 use std::marker::Model;
 
-/// The facts, what they mean, those that are asked about, and what their origins are told from.
+/// The facts, what they mean, those that are asked about, and what their origins are read from.
 #[derive(Drop)]
 pub(crate) struct Teller<'a> {
     pub settled: &'a Settled,

@@ -1,4 +1,4 @@
-//! Walks that are told, in as many words as they have dependencies.
+//! Walks that findings are reported with, in as many words as they have dependencies.
 
 ghost use Rattle.std.specs.Prelude.{◌≡◌, ◌<◌, ◌^◌, IfOk, Some, length, slice_get};
 ghost use Rattle.ld_facts.specs.Arrows.{arrow};
@@ -9,7 +9,7 @@ use ld_trace::KeyId;
 use std::alloc::{AllocError, Global};
 use std::marker::Model;
 
-/// A walk that is told.
+/// A walk that a finding is reported with.
 #[derive(Drop)]
 pub(crate) struct ToldWalk {
     members: Vec<Dependency>,

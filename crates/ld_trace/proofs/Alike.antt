@@ -1,7 +1,7 @@
 -- A trace reads alike over its own names and over others.
-use Rattle.std.proofs.Common.{◌≡◌, ℕ, suc, ◌+◌, ◌≤◌, ◌||◌, Bool, true, false, true≢false, List, [], ◌∷◌, ◌++◌, map, length, slice_get, nat_lt, Option, Some, None, Result, Ok, Err, refl, sym, ap, ◌∙◌, arith, append_assoc, if◌then◌else◌}
+use Rattle.std.proofs.Common.{◌≡◌, ℕ, suc, ◌+◌, ◌≤◌, Bool, true, false, true≢false, List, [], ◌∷◌, ◌++◌, map, length, slice_get, nat_lt, Option, Some, None, Result, Ok, Err, refl, sym, ap, ◌∙◌, arith, append_assoc, if◌then◌else◌}
 use Rattle.std.specs.List.{list_all}
-use Rattle.std.proofs.lemmas.Bool.{and_parts}
+use Rattle.std.proofs.lemmas.Bool.{and_parts, or_parts, or_left, or_right}
 use Rattle.std.proofs.lemmas.Bool.Decides.{nat_tests}
 use Rattle.std.proofs.lemmas.List.{append-nil}
 use Rattle.std.proofs.lemmas.List.Folds.{list_any-append}
@@ -19,28 +19,20 @@ use Rattle.ld_trace.specs.Reading.{ReadsTo, fault_at, line_fault, names_before, 
 use Rattle.ld_trace.specs.TakingIn.{Within, all_moved, with_all}
 use Rattle.ld_trace.specs.Writing.{line_at}
 use Rattle.ld_trace.proofs.KnownLemmas.{is_same-itself, same-name}
-use Rattle.ld_trace.proofs.LineLemmas.{Say, events_with, lines_at-events_with, or-none, taken-said, with_lines-added}
+use Rattle.ld_trace.proofs.LineLemmas.{Say, events_with, lines_at-events_with, taken-said, with_lines-added}
 use Rattle.ld_trace.proofs.ReadLemmas.{reads-to, taken-header}
 use Rattle.ld_trace.proofs.TakenLemmas.{with_name-added}
 
 -- ---- known names stay known, and keep their places
-or-left : (a b : Bool) → a ≡ true → (a || b) ≡ true
-or-left true b h = refl
-or-left false b h = absurd (true≢false (sym h))
-
-or-right : (a b : Bool) → b ≡ true → (a || b) ≡ true
-or-right true b h = refl
-or-right false b h = h
-
 pub known-longer : (names more : List Name) (name : Name) → is_known names name ≡ true → is_known (names ++ more) name ≡ true
-known-longer names more name h = list_any-append (is_same name) names more ∙ or-left (is_known names name) (is_known more name) h
+known-longer names more name h = list_any-append (is_same name) names more ∙ or_left (is_known names name) (is_known more name) h
 
 pub with_name-knows : (names : List Name) (name : Name) → is_known (with_name names name) name ≡ true
 with_name-knows names name = by (is_known names name) refl
   where
     by : (b : Bool) → is_known names name ≡ b → is_known (if b then names else names ++ name ∷ []) name ≡ true
     by true e = e
-    by false e = list_any-append (is_same name) names (name ∷ []) ∙ or-right (is_known names name) (is_known (name ∷ []) name) (or-left (is_same name name) false (is_same-itself name))
+    by false e = list_any-append (is_same name) names (name ∷ []) ∙ or_right (is_known names name) (is_known (name ∷ []) name) (or_left (is_same name name) false (is_same-itself name))
 
 pub with_all-added : (names more : List Name) → (added : List Name) × (with_all names more ≡ names ++ added)
 unfolding with_all
@@ -108,7 +100,7 @@ place_of-longer (x ∷ xs) more name h = by (is_same name x) refl (place_of-long
 
 place_of-new : (names : List Name) (name : Name) → is_known names name ≡ false → place_of (names ++ name ∷ []) name ≡ place_of names name
 place_of-new [] name h = rw (is_same-itself name) refl
-place_of-new (x ∷ xs) name h = let parts = or-none (is_same name x) (is_known xs name) h in rw (parts.0, place_of-new xs name parts.1) refl
+place_of-new (x ∷ xs) name h = let parts = or_parts (is_same name x) (is_known xs name) h in rw (parts.0, place_of-new xs name parts.1) refl
 
 pub place_of-with_name : (names : List Name) (name : Name) → place_of (with_name names name) name ≡ place_of names name
 place_of-with_name names name = by (is_known names name) refl

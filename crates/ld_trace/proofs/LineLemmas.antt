@@ -1,8 +1,9 @@
 -- Lines over a table: the names after them, their events, and what these say.
 use Rattle.std.specs.Prelude.{⊤}
-use Rattle.std.proofs.Common.{◌≡◌, ℕ, suc, ◌+◌, ◌≤◌, ◌||◌, ◌&&◌, not, Bool, true, false, true≢false, List, [], ◌∷◌, ◌++◌, length, slice_get, nat_le, unwrap_or, Some, Ok, refl, sym, ap, ◌∙◌, arith, append_assoc, length-append, if◌then◌else◌}
+use Rattle.std.proofs.Common.{◌≡◌, ℕ, suc, ◌+◌, ◌≤◌, ◌&&◌, not, Bool, true, false, true≢false, List, [], ◌∷◌, ◌++◌, length, slice_get, nat_le, unwrap_or, Some, Ok, refl, sym, ap, ◌∙◌, arith, append_assoc, length-append, if◌then◌else◌}
 use Rattle.std.proofs.lemmas.Bool.Decides.{nat_tests}
 use Rattle.std.proofs.lemmas.List.{append-nil}
+use Rattle.std.proofs.lemmas.Bool.{or_parts}
 use Rattle.ld_trace.specs.declared.event.Event.{Event}
 use Rattle.ld_trace.specs.declared.raw_trace.TheConstants.{MAX_EVENTS}
 use Rattle.ld_trace.specs.declared.version.Version.{Version}
@@ -15,10 +16,6 @@ use Rattle.ld_trace.specs.Writing.{line_at, name_at}
 use Rattle.ld_trace.proofs.KnownLemmas.{same-name}
 use Rattle.ld_trace.proofs.TakenLemmas.{place-below, slice_get-front, taken-more, with_line-added}
 
-pub or-none : (a b : Bool) → (a || b) ≡ false → (a ≡ false) × (b ≡ false)
-or-none false b h = (refl, h)
-or-none true b h = absurd (true≢false h)
-
 pub head-below : (n : ℕ) (event : Event) (events : List Event) → KeysBelow n (event ∷ events) → KeyIsBelow n event
 head-below n event events below = below 0 event (omega arith)
 
@@ -30,10 +27,6 @@ tail-below n event events below = λ k d lt. below (suc k) d (omega (arith, lt))
 abbrev pub events_with : List Name → List Line → List Event
 events_with now [] = []
 events_with now (line ∷ lines) = event_of now line ∷ events_with (with_line now line) lines
-
-pub length-events_with : (now : List Name) (lines : List Line) → length (events_with now lines) ≡ length lines
-length-events_with now [] = refl
-length-events_with now (line ∷ lines) = let rest = length-events_with (with_line now line) lines in omega (arith, rest)
 
 pub with_lines-added : (now : List Name) (lines : List Line) → (more : List Name) × (with_lines now lines ≡ now ++ more)
 unfolding with_lines
@@ -96,7 +89,7 @@ taken-said room version old rows now before (r ∷ rs) (line ∷ lines) a say fe
 new-there : (names : List Name) (name : Name) → is_known names name ≡ false → slice_get (names ++ name ∷ []) (place_of names name) ≡ Some name
 new-there [] name h = refl
 new-there (x ∷ xs) name h =
-    let parts = or-none (is_same name x) (is_known xs name) h in
+    let parts = or_parts (is_same name x) (is_known xs name) h in
     let next : 1 + place_of xs name ≡ suc (place_of xs name) = omega arith in
     rw (parts.0, next) (new-there xs name parts.1)
 

@@ -2,7 +2,7 @@
 use Rattle.std.specs.Prelude.{⊤}
 use Rattle.std.proofs.Common.{◌≡◌, ℕ, zero, suc, ◌+◌, ◌-◌, ◌≤◌, ◌<◌, ◌||◌, not, Bool, true, false, true≢false, List, [], ◌∷◌, ◌++◌, map, length, slice_get, nat_le, Some, None, Ok, refl, sym, ap, ◌∙◌, subst, arith, if◌then◌else◌}
 use Rattle.std.specs.List.{IsDistinct, flat_map, list_all, list_any}
-use Rattle.std.proofs.lemmas.Bool.{and_parts}
+use Rattle.std.proofs.lemmas.Bool.{and_parts, or_parts}
 use Rattle.std.proofs.lemmas.Bool.Decides.{nat_tests}
 use Rattle.std.proofs.lemmas.List.{length-map}
 use Rattle.std.proofs.lemmas.List.Folds.{list_any-append}
@@ -32,7 +32,7 @@ use Rattle.ld_trace.specs.Writing.{event_text, header_of, line_at, mode_word, na
 use Rattle.ld_trace.proofs.CsvLemmas.{records-all}
 use Rattle.ld_trace.proofs.KnownLemmas.{is_same-laws, named-there, place_of-there, same-name}
 use Rattle.ld_trace.proofs.ReadLemmas.{reads-to, taken-header}
-use Rattle.ld_trace.proofs.LineLemmas.{Say, events_with, head-below, lines_at-events_with, or-none, tail-below, taken-said}
+use Rattle.ld_trace.proofs.LineLemmas.{Say, events_with, head-below, lines_at-events_with, tail-below, taken-said}
 
 -- ---- a record says what it was written for
 -- the line's name is one, and its mode is one of the version's
@@ -120,7 +120,7 @@ AllHave version (event ∷ events) = Has version event × AllHave version events
 
 all-have-one : (events : List Event) → list_any is_try events ≡ false → AllHave One events
 all-have-one [] h = tt
-all-have-one (event ∷ events) h = let parts = or-none (is_try event) (list_any is_try events) h in (parts.0, all-have-one events parts.1)
+all-have-one (event ∷ events) h = let parts = or_parts (is_try event) (list_any is_try events) h in (parts.0, all-have-one events parts.1)
 
 all-have-two : (events : List Event) → AllHave Two events
 all-have-two [] = tt

@@ -180,7 +180,7 @@ length-first own zero few = refl
 length-first [] (suc count) few = absurd (omega arith)
 length-first (x ∷ own) (suc count) few = let rest = length-first own count (omega (arith, few)) in omega (arith, rest)
 
--- what a renumbering of so many names makes of events
+-- what a renumbering of this many names makes of events
 pub moved-by-numbers : (own : List Name) (by numbers : List ℕ) (names : List Name) (count : ℕ) (events : List Event) → numbers ≡ by → length by ≡ count → Leads own by names → KeysBelow count events
     → map (event_with numbers) events ≡ all_moved (take count own) names events
 moved-by-numbers own by numbers names count events are long leads below =

@@ -1,9 +1,6 @@
 -- Texts of records that are written one after the other.
-use Rattle.std.proofs.Common.{◌≡◌, ℕ, ◌+◌, ◌<◌, true, List, [], ◌∷◌, ◌++◌, Option, Some, None, take, length, slice_index_or, refl, sym, ap, ◌∙◌, subst, append_assoc}
+use Rattle.std.proofs.Common.{◌≡◌, ℕ, true, List, [], ◌∷◌, ◌++◌, refl}
 use Rattle.std.specs.List.{flat_map}
-use Rattle.std.specs.Io.KnownBytes.{Appends}
-use Rattle.std.proofs.lemmas.List.{append-nil, take_more}
-use Rattle.std.proofs.lemmas.List.Concat.{flat_map-append}
 use Rattle.csv.specs.Writing.{default_writer, escaped, field_text, fields_text, is_blank, row_text, with_flexible}
 use Rattle.csv.specs.declared.writer.WriterBuilder.{WriterBuilder}
 use Rattle.ld_trace.specs.declared.event.Event.{Event}
@@ -39,26 +36,6 @@ row_text-flexible [] = rw (is_blank-flexible []) refl
 row_text-flexible (field ∷ rest) = rw (field_text-flexible field, fields_text-flexible rest, is_blank-flexible (field ∷ rest)) refl
 
 -- ---- what is appended
-pub Appends-nothing : (known : Option (List ℕ)) → Appends known known []
-Appends-nothing None = tt
-Appends-nothing (Some xs) = sym (append-nil xs)
-
-pub Appends-append : (old mid new : Option (List ℕ)) (a b : List ℕ) → Appends old mid a → Appends mid new b → Appends old new (a ++ b)
-Appends-append None mid new a b wrote more = tt
-Appends-append (Some xs) None new a b wrote more = absurd wrote
-Appends-append (Some xs) (Some ys) None a b wrote more = absurd more
-Appends-append (Some xs) (Some ys) (Some zs) a b wrote more = more ∙ ap (λ l. l ++ b) wrote ∙ append_assoc xs a b
-
--- the next of several texts
-flat_map-next : {X : Type 0} (f : X → List ℕ) (xs : List X) (i : ℕ) (d : X) → i < length xs → flat_map f (take (i + 1) xs) ≡ flat_map f (take i xs) ++ f (slice_index_or xs i d)
-flat_map-next f xs i d within =
-    ap (flat_map f) (take_more xs i d within) ∙ flat_map-append f (take i xs) (slice_index_or xs i d ∷ [])
-    ∙ ap (λ l. flat_map f (take i xs) ++ l) (append-nil (f (slice_index_or xs i d)))
-
-pub Appends-next : {X : Type 0} (f : X → List ℕ) (xs : List X) (i : ℕ) (d : X) (old mid new : Option (List ℕ)) → i < length xs → Appends old mid (flat_map f (take i xs)) → Appends mid new (f (slice_index_or xs i d)) → Appends old new (flat_map f (take (i + 1) xs))
-Appends-next f xs i d old mid new within before more =
-    subst (Appends old new) (sym (flat_map-next f xs i d within)) (Appends-append old mid new (flat_map f (take i xs)) (f (slice_index_or xs i d)) before more)
-
 -- the parts of a trace's text
 pub trace_text-parts : (names : List Name) (events : List Event) → trace_text names events ≡ record_text (header_of (version_for events)) ++ flat_map (event_text names) events
 unfolding trace_text

@@ -107,7 +107,7 @@ impl Event {
         }
     }
 
-    // The event with the key at this place of the list in place of its own, if it has one.
+    // The event with the key at this place of the list instead of its own, if it has one.
     pub(crate) fn renumbered(self, numbers: &[KeyId]) -> Event
         requires { KeyIsBelow (length numbers.now) self }
         ensures { result ≡ event_with numbers.now self }

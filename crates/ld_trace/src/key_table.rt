@@ -70,9 +70,10 @@ impl KeyTable {
 
     /// The number of the key of this class's name and subclass: the one that it has, or else the next one.
     ///
-    /// Refusals, in this order: K1 where the name isn't 1 to 64 bytes of 0x21 to 0x7E, K2 where the subclass is above 7,
-    /// K3 where the key would be one more than there is room for (of a table of `new`, the 257th), K4 where memory for a new
-    /// key was refused. After a refusal the table is unchanged. A key that is there is answered without memory.
+    /// Refusals, in this order: K1 if the name isn't 1 to 64 bytes of 0x21 to 0x7E, K2 if the subclass is above 7,
+    /// K3 if the key would be one more than there is room for (of a table of `new`, the 257th), K4 if memory for a new
+    /// key was refused. After a refusal the table is unchanged. The number of a key that is there is returned without
+    /// taking memory.
     pub fn number(&mut self, name: &str, sub: u8) -> Result<KeyId, KeyFault>
         ensures value { IfOk result (λ key. key ≡ place_of self.old.names (name.now, sub)) }
         ensures names { IfOk result (λ _. self.new.names ≡ with_name self.old.names (name.now, sub)) }
@@ -97,7 +98,7 @@ impl KeyTable {
         self.number_name(name, sub)
     }
 
-    // The same for a name and a subclass that were looked at before, so K3 and K4 alone are answered.
+    // The same for a name and a subclass that were looked at before, so only K3 and K4 are returned.
     pub(crate) fn number_name(&mut self, name: &str, sub: u8) -> Result<KeyId, KeyFault>
         requires { is_name (name.now, sub) ≡ true }
         ensures value { IfOk result (λ key. key ≡ place_of self.old.names (name.now, sub)) }
@@ -115,7 +116,7 @@ impl KeyTable {
         Ok(KeyId::from_place(place))
     }
 
-    // The number of the key of this name and subclass, where the table found it lately. It takes a fraction of the time of
+    // The number of the key of this name and subclass, if the table found it lately. It takes a fraction of the time of
     // `number_name`. None says nothing.
     pub(crate) fn known(&self, name: &[u8], sub: u8) -> Option<KeyId>
         ensures hit { IfSome result (λ key. slice_get self.now.names key ≡ Some (name.now, sub)) }
@@ -130,7 +131,7 @@ impl KeyTable {
         }
     }
 
-    // The class's name and the subclass at this place. None exactly where there is none.
+    // The class's name and the subclass at this place. None exactly if there is none.
     pub(crate) fn name_at(&self, place: usize) -> Option<(&str, u8)>
         ensures value { option_map (λ name. (name.0.now, name.1)) result ≡ slice_get self.now.names place }
         ensures named { IfSome result (λ name. is_name (name.0.now, name.1) ≡ true) }
@@ -146,7 +147,7 @@ impl KeyTable {
         let _names = &self.names;
     }
 
-    // Takes the names from this place on out again.
+    // Removes the names from this place on.
     pub(crate) fn forget_from(&mut self, place: usize)
         ensures names { self.new.names ≡ take place self.old.names }
         ensures room { self.new.room ≡ self.old.room }
@@ -154,7 +155,7 @@ impl KeyTable {
         self.names.truncate(place);
     }
 
-    /// The class's name and the subclass of the key of this number. None exactly where no key has it.
+    /// The class's name and the subclass of the key of this number. None exactly if no key has it.
     pub fn name_of(&self, id: KeyId) -> Option<(&str, u8)>
         ensures value { option_map (λ name. (name.0.now, name.1)) result ≡ slice_get self.now.names id }
         ensures short { IfSome result (λ name. length name.0.now ≤ MAX_NAME) }
@@ -165,7 +166,7 @@ impl KeyTable {
     }
 }
 
-// The place of a name among those of a table with this room, where a new one goes last.
+// The place of a name among those of a table with this room, in which a new one goes last.
 fn place_among(
     names: &mut IndexSet<StoredName>,
     room: u16,

@@ -1,6 +1,6 @@
 //! Reading one record of a trace.
 
-ghost use Rattle.std.specs.Prelude.{◌≡◌, ◌<◌, codes, length, true, Ok, Err, IfErr, Some, option_map, if◌then◌else◌};
+ghost use Rattle.std.specs.Prelude.{◌≡◌, ◌<◌, codes, length, true, IfErr, Some, option_map, if◌then◌else◌};
 ghost use Rattle.std.specs.Str.{bytes_eq};
 ghost use Rattle.csv.specs.Records.{field_at, fields_of};
 ghost use Rattle.ld_trace.specs.Lines.{acquire_line, irq_of, leave_line, mode_of, name_of_fields, release_line, line_of_record, irq_line, sub_of, try_mode_of, version_named, version_of};

@@ -4,7 +4,7 @@ ghost use Rattle.std.specs.Prelude.{◌≡◌, ◌≤◌, ◌∷◌, [], IfOk, O
 ghost use Rattle.std.specs.Io.KnownBytes.{Appends};
 ghost use Rattle.std.specs.List.{flat_map};
 ghost use Rattle.csv.specs.Writing.{text_written};
-ghost use Rattle.ld_trace.specs.Writing.{event_text, header_of, irq_word, mode_word, name_at, record_text, sub_word, trace_text, version_for};
+ghost use Rattle.ld_trace.specs.Writing.{event_text, header_of, irq_word, mode_word, name_at, record_text, trace_text, version_for};
 ghost use Rattle.ld_trace.specs.Inside.Written.{IsBetween};
 ghost use Rattle.ld_trace.specs.declared.key_table.TheConstants.{MAX_SUB};
 

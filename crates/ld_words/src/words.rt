@@ -3,7 +3,7 @@
 ghost use Rattle.std.specs.Prelude.{◌≡◌, ◌↔◌, [], false, ℕ, List, IfOk, IfErr, map, unwrap_or, codes};
 ghost use Rattle.clap.specs.Words.{App, HasKind, Shape, all_of, app_of, fault_of as clap_faults, found_of, kind_of, rows_of, rule_of, shape_of, subcommand_rows_of, with_subcommand};
 ghost use Rattle.clap.specs.declared.builder.command.Command.TheViews.{out-Command};
-ghost use Rattle.ld_words.specs.CommandLine.{IsLineFault, IsLineIn, IsLineOf, ReadsCheck, ReadsLine, chains_shape, check_shape, condense_shape, explain_shape, file_rule, files_rule, findings_rule, graph_shape, json_rule, lockdep_app, many_app, many_rule, subcommand_word, workers_rule};
+ghost use Rattle.ld_words.specs.CommandLine.{IsLineFault, IsLineIn, IsLineOf, ReadsCheck, ReadsFlag, chains_shape, check_shape, condense_shape, explain_shape, file_rule, files_rule, findings_rule, graph_shape, json_rule, lockdep_app, many_app, many_rule, workers_rule};
 
 use clap::error::ErrorKind;
 use clap::{Arg, ArgAction, ArgMatches, Command, value_parser};
@@ -255,63 +255,19 @@ fn workers_and_files<'a>(
     }
 }
 
-// What the words of `check` ask for.
-fn check_line<'a>(alloc: Global, found: &ArgMatches<'a>) -> Result<Line<'a>, LineFault>
-    ensures ok { IfOk result (λ line. (subcommand_word line ≡ codes "check")
-        × ReadsLine (rows_of (found_of found.now)) line) }
+// What the words of a subcommand give that may take many keys: the number of workers, whether there may be many keys,
+// and the files.
+fn many_words<'a>(
+    alloc: Global,
+    found: &ArgMatches<'a>,
+) -> Result<(u16, bool, Vec<&'a str>), LineFault>
+    ensures check { IfOk result (λ read. ReadsCheck (rows_of (found_of found.now)) read.0
+        (map (λ file. file.now) read.2.items)) }
+    ensures many { IfOk result (λ read. ReadsFlag (codes "many") (rows_of (found_of found.now)) read.1) }
     ensures no_help { IfErr result (λ fault. (words : List (List ℕ)) → IsLineFault words fault) }
 {
     let (workers, files) = workers_and_files(alloc, found)?;
-    let many = found.get_flag("many");
-    Ok(Line::Check {
-        workers,
-        many,
-        files,
-    })
-}
-
-// What the words of `explain` ask for.
-fn explain_line<'a>(alloc: Global, found: &ArgMatches<'a>) -> Result<Line<'a>, LineFault>
-    ensures ok { IfOk result (λ line. (subcommand_word line ≡ codes "explain")
-        × ReadsLine (rows_of (found_of found.now)) line) }
-    ensures no_help { IfErr result (λ fault. (words : List (List ℕ)) → IsLineFault words fault) }
-{
-    let (workers, files) = workers_and_files(alloc, found)?;
-    let many = found.get_flag("many");
-    let json = found.get_flag("json");
-    Ok(Line::Explain {
-        workers,
-        many,
-        json,
-        files,
-    })
-}
-
-// What the words of `graph` ask for.
-fn graph_line<'a>(alloc: Global, found: &ArgMatches<'a>) -> Result<Line<'a>, LineFault>
-    ensures ok { IfOk result (λ line. (subcommand_word line ≡ codes "graph")
-        × ReadsLine (rows_of (found_of found.now)) line) }
-    ensures no_help { IfErr result (λ fault. (words : List (List ℕ)) → IsLineFault words fault) }
-{
-    let (workers, files) = workers_and_files(alloc, found)?;
-    let many = found.get_flag("many");
-    let findings = found.get_flag("findings");
-    Ok(Line::Graph {
-        workers,
-        many,
-        findings,
-        files,
-    })
-}
-
-// What the words of `condense` ask for.
-fn condense_line<'a>(alloc: Global, found: &ArgMatches<'a>) -> Result<Line<'a>, LineFault>
-    ensures ok { IfOk result (λ line. (subcommand_word line ≡ codes "condense")
-        × ReadsLine (rows_of (found_of found.now)) line) }
-    ensures no_help { IfErr result (λ fault. (words : List (List ℕ)) → IsLineFault words fault) }
-{
-    let (workers, files) = workers_and_files(alloc, found)?;
-    Ok(Line::Condense { workers, files })
+    Ok((workers, found.get_flag("many"), files))
 }
 
 // What the words of a subcommand ask for.
@@ -320,23 +276,42 @@ fn line_of<'a>(alloc: Global, matches: &ArgMatches<'a>) -> Result<Line<'a>, Line
     ensures no_help { IfErr result (λ fault. (words : List (List ℕ)) → IsLineFault words fault) }
 {
     if let Some(found) = matches.subcommand_matches("check") {
-        return check_line(alloc, found);
+        let (workers, many, files) = many_words(alloc, found)?;
+        return Ok(Line::Check {
+            workers,
+            many,
+            files,
+        });
     }
     if let Some(found) = matches.subcommand_matches("explain") {
-        return explain_line(alloc, found);
+        let (workers, many, files) = many_words(alloc, found)?;
+        let json = found.get_flag("json");
+        return Ok(Line::Explain {
+            workers,
+            many,
+            json,
+            files,
+        });
     }
     if let Some(found) = matches.subcommand_matches("graph") {
-        return graph_line(alloc, found);
+        let (workers, many, files) = many_words(alloc, found)?;
+        let findings = found.get_flag("findings");
+        return Ok(Line::Graph {
+            workers,
+            many,
+            findings,
+            files,
+        });
     }
     if let Some(found) = matches.subcommand_matches("condense") {
-        return condense_line(alloc, found);
+        let (workers, files) = workers_and_files(alloc, found)?;
+        return Ok(Line::Condense { workers, files });
     }
-    match matches.subcommand_matches("chains") {
-        Some(found) => Ok(Line::Chains {
-            file: found.get_str("FILE"),
-        }),
-        None => Err(LineFault::Refused),
-    }
+    let Some(found) = matches.subcommand_matches("chains") else {
+        return Err(LineFault::Refused);
+    };
+    let file = found.get_str("FILE");
+    Ok(Line::Chains { file })
 }
 
 // The fault for an error of clap.

@@ -8,6 +8,7 @@ use std::process::ExitCode;
 use std::{env, io};
 
 mod adding;
+mod chains;
 mod condensed;
 mod fault;
 mod output;

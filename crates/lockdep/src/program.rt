@@ -1,24 +1,18 @@
 //! The program: a command line, the traces that it names, and what is written for them.
 
-ghost use Rattle.std.specs.Prelude.{◌≡◌, ◌<◌, ◌≤◌, ◌+◌, ◌∷◌, ◌++◌, [], ℕ, List, Option, None, All, IfOk, IfErr, IfSome, OnOk, OnErr, length, map, option_map};
+ghost use Rattle.std.specs.Prelude.{◌≡◌, ◌<◌, ◌≤◌, [], ℕ, List, IfOk, IfErr, OnOk, OnErr, map};
 ghost use Rattle.std.specs.Io.KnownBytes.{Appends};
-ghost use Rattle.ld_trace.specs.Events.{KeysBelow};
-ghost use Rattle.ld_trace.specs.Reading.{ReadsTo};
-ghost use Rattle.ld_trace.specs.declared.event.Event.{Event};
-ghost use Rattle.ld_task.specs.WellFormed.{IsFirstFault, IsWellFormed};
-ghost use Rattle.ld_trace.specs.declared.key_id.TheConstants.{MAX_KEYS, MAX_MANY};
-ghost use Rattle.ld_trace.specs.declared.raw_trace.TheConstants.{MAX_EVENTS};
+ghost use Rattle.ld_trace.specs.declared.key_id.TheConstants.{MAX_MANY};
 ghost use Rattle.lockdep.specs.Inside.Requests.{output_asked};
-ghost use Rattle.lockdep.specs.Inside.Sources.{NamesFileAt, remaining_in};
-ghost use Rattle.ld_text.specs.ChainLines.{chains_text};
 ghost use Rattle.ld_words.specs.CommandLine.{IsLineFault};
 ghost use Rattle.lockdep.specs.FaultLines.{fault_line};
 ghost use Rattle.ld_text.specs.Output.{AppendsBeginning};
-ghost use Rattle.lockdep.specs.Program.{AreTracesOf, DoesLine, DoesWords, IsReadingRefusal, IsReportRefusal, IsStepRefusal, RefusesChains, RefusesHelp, RefusesLine, RefusesNoLine, RefusesOpened, RefusesOutput, RefusesTrace, RefusesTraces, RefusesWords, StopsReading, WritesChains, WritesHelp, WritesOutput, WritesText, known_of, room_of, status_of, write_refusal_of};
+ghost use Rattle.lockdep.specs.Program.{AreTracesOf, DoesLine, DoesWords, IsReportRefusal, RefusesHelp, RefusesLine, RefusesNoLine, RefusesOutput, RefusesTraces, RefusesWords, StopsReading, WritesHelp, WritesOutput, WritesText, room_of, status_of, write_refusal_of};
 ghost use Rattle.lockdep.specs.Texts.{view_of};
 ghost use Rattle.lockdep.specs.declared.refusal.Refusal.{Refusal};
 
 use crate::adding::{Adds, InTurn, add_trace};
+use crate::chains::answer_chains;
 use crate::fault::ReportFault;
 use crate::output::Output;
 use crate::refusal::{REFUSED, Refusal, refuse};
@@ -26,19 +20,17 @@ use crate::request::{OutputRequest, Request, request_of};
 use crate::session::Session;
 use crate::source::Source;
 use ld_run::OpenGate;
-use ld_task::{StepAt, check};
-use ld_text::{STDIN, WriteFault, file_of, write_chains, write_text};
-use ld_trace::{KeyTable, MAX_KEYS, MAX_MANY, RawTrace, read_trace};
+use ld_text::{STDIN, WriteFault, file_of, write_text};
+use ld_trace::{MAX_KEYS, MAX_MANY};
 use ld_words::{Line, LineFault, command_line};
 use std::alloc::Global;
-use std::fs::File;
 use std::io::{Read, Write};
 use std::rt::Files;
 use std::sync::Wait;
 use std::thread::Threads;
 
 /// The status if the facts are clean, or if the condensed trace, the chains or help was written.
-const DONE: u8 = 0;
+pub(crate) const DONE: u8 = 0;
 
 /// The status if another output was written of facts that aren't clean.
 const NOT_CLEAN: u8 = 1;
@@ -317,82 +309,6 @@ fn add_traces<'a, R: Files + Threads + Sync, A: Adds, I: Read + Drop>(
         return add_trace::<I, R::File>(session, STDIN, Source::Input(input));
     }
     adds.add_files(rt, session, workers, files)
-}
-
-// Writes the chains of the trace in the file, or of that in the input if no file is named.
-fn answer_chains<'a, R: Files, I: Read + Drop, O: Write>(
-    rt: &R,
-    alloc: Global,
-    file: Option<&'a str>,
-    input: I,
-    out: &mut O,
-) -> Result<u8, Refusal<'a>>
-    ensures ok { IfOk result (WritesChains (known_of (option_map (λ word. word.now) file.entry) (I.remaining input))
-        (O.contents out.old) (O.contents out.new)) }
-    ensures err { IfErr result (RefusesChains (option_map (λ word. word.now) file.entry) (I.remaining input)
-        (O.contents out.old) (O.contents out.new)) }
-{
-    let Some(file) = file else {
-        return answer_chains_of::<I, R::File, O>(alloc, STDIN, Source::Input(input), out);
-    };
-    match File::open(rt, file) {
-        Ok(opened) => answer_chains_of::<I, R::File, O>(alloc, file, Source::File(opened), out),
-        Err(_) => Err(Refusal::CannotOpen { file }),
-    }
-}
-
-// Writes the chains of the trace of a file that is open.
-fn answer_chains_of<'a, I: Read + Drop, F: Read + Drop, O: Write>(
-    alloc: Global,
-    file: &'a str,
-    opened: Source<I, F>,
-    out: &mut O,
-) -> Result<u8, Refusal<'a>>
-    ensures ok { IfOk result (WritesChains (remaining_in I.remaining F.remaining opened)
-        (O.contents out.old) (O.contents out.new)) }
-    ensures err { IfErr result (RefusesOpened file.entry.now (remaining_in I.remaining F.remaining opened)
-        (O.contents out.old) (O.contents out.new)) }
-{
-    let Ok(mut keys) = KeyTable::new(alloc) else {
-        return Err(Refusal::Memory);
-    };
-    match read_trace(alloc, opened, &mut keys) {
-        Ok(read) => answer_trace(file, read, &keys, out),
-        Err(fault) => Err(Refusal::Reading { file, fault }),
-    }
-}
-
-// Writes the chains of a trace that was read.
-fn answer_trace<'a, O: Write>(
-    file: &'a str,
-    read: RawTrace,
-    keys: &KeyTable,
-    out: &mut O,
-) -> Result<u8, Refusal<'a>>
-    ensures ok { IfOk result (λ status. IsWellFormed read × (status ≡ 0)
-        × Appends (O.contents out.old) (O.contents out.new) (chains_text keys.now.names read)) }
-    ensures err { IfErr result (RefusesTrace file.entry.now keys.now.names read (O.contents out.old) (O.contents out.new)) }
-{
-    let trace = match check(read) {
-        Ok(trace) => trace,
-        Err(found) => return Err(step_refusal(file, found)),
-    };
-    match write_chains(out, &trace, keys) {
-        Ok(()) => Ok(DONE),
-        Err(_) => Err(Refusal::Output),
-    }
-}
-
-// The refusal of a trace that isn't well formed. The record of an event is counted from 1 with the header.
-fn step_refusal<'a>(file: &'a str, found: StepAt) -> Refusal<'a>
-    requires { (trace : List Event) × IsFirstFault trace found × (length trace ≤ MAX_EVENTS) }
-    ensures { (trace : List Event) → IsFirstFault trace found → IsStepRefusal file.entry.now trace result }
-{
-    Refusal::Step {
-        file,
-        at: found.place + 2,
-        fault: found.fault,
-    }
 }
 
 // The refusal of an output that wasn't written whole.

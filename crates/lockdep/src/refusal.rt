@@ -1,10 +1,9 @@
 //! Why the program refused, and the one line that says so.
 
-ghost use Rattle.std.specs.Prelude.{◌≡◌, ◌+◌, ◌++◌, IfOk, OnOk, OnErr, List, codes, decimal};
-ghost use Rattle.std.specs.List.{flat_map};
+ghost use Rattle.std.specs.Prelude.{◌≡◌, IfOk, OnOk, OnErr};
 ghost use Rattle.std.specs.Io.KnownBytes.{Appends};
 ghost use Rattle.lockdep.specs.FaultLines.{fault_line, record_line};
-ghost use Rattle.ld_text.specs.Output.{AppendsBeginning, PutsBehind};
+ghost use Rattle.ld_text.specs.Output.{AppendsBeginning};
 
 use ld_run::{CondenseFault, RunFault};
 use ld_task::StepFault;

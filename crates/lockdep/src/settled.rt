@@ -1,6 +1,6 @@
 //! What is settled about the traces of a session.
 
-ghost use Rattle.std.specs.Prelude.{◌≡◌, ◌+◌, ◌<◌, ◌≤◌, ℕ, List, Option, All, length, slice_get, IfOk, IfErr, IsSomeAnd};
+ghost use Rattle.std.specs.Prelude.{◌≡◌, ◌+◌, ◌<◌, ℕ, List, Option, All, length, slice_get, IfOk, IfErr, IsSomeAnd};
 ghost use Rattle.ld_trace.specs.Names.{Name};
 ghost use Rattle.ld_trace.specs.Events.{KeysBelow};
 ghost use Rattle.ld_run.specs.Runs.{CompletesRun, StopsRun};

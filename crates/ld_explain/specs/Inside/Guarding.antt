@@ -17,7 +17,7 @@ abbrev pub gate_in : Option Lock → Option ℕ
 gate_in None = None
 gate_in (Some lock) = if is_read lock.mode then None else Some lock.key
 
--- the key is that of such a lock in the chain, among so many of the oldest
+-- the key is that of such a lock in the chain, among this number of the oldest
 abbrev pub IsGateBefore : ChainParts → (held key : ℕ) → Type 0
 IsGateBefore c held key = (m : ℕ) × (m < held) × (gate_in (slice_get c.held_locks m) ≡ Some key)
 

@@ -14,7 +14,7 @@ use Rattle.ld_task.specs.contracts.frame.FramePartialEq.TheImpl as frame
 use Rattle.ld_task.specs.contracts.frame.FlagsPartialEq.TheImpl as flags
 use Rattle.ld_task.specs.ChainEquality.{chain_eq, lock_eq, new_lock_eq}
 use Rattle.ld_task.specs.Chains.{ChainParts}
-use Rattle.ld_task.specs.LockLaws.{lock_of_word-word}
+use Rattle.ld_task.specs.Laws.Locks.{lock_of_word-word}
 use Rattle.ld_task.specs.Locks.{LockParts, lock_of_word, lock_word}
 
 lock_eq-decides : (a b : LockParts) → Decides (lock_eq a b) (a ≡ b)

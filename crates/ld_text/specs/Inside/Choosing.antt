@@ -1,5 +1,5 @@
--- How the walks that are told are chosen, and what is asked about for them.
-use Rattle.std.specs.Prelude.{◌≡◌, ◌⊎◌, ◌↔◌, ℕ, ◌<◌, ◌++◌, ◌∷◌, [], All, Bool, List, Option, None, Some, length}
+-- How the walks that findings are reported with are chosen, and what is asked about for them.
+use Rattle.std.specs.Prelude.{◌≡◌, ◌⊎◌, ◌↔◌, ℕ, ◌<◌, [], All, Bool, List, Option, None, Some, length}
 use Rattle.ld_trace.specs.declared.event.Irq.{Irq}
 use Rattle.ld_task.specs.declared.mark.Mark.TheVariants.{UsedIn, Enabled}
 use Rattle.ld_facts.specs.Arrows.{Arrow}
@@ -52,7 +52,7 @@ pub record IsToldInversion (facts asked : FactParts) (x : ToldInversion) : Type 
   pub used : HasFact asked (Marked x.a (UsedIn x.irq x.used_read))
   pub enabled : HasFact asked (Marked x.b (Enabled x.irq x.enabled_read))
 
--- what is told by these is asked about
+-- what is reported with these is asked about
 pub record AreToldBy (facts asked : FactParts) (doubles : List (Irq × ℕ)) (chosen : ChosenParts) : Type 0 where
   pub circles : All (IsToldCircle asked) chosen.circles
   pub doubles_are : All (IsToldDouble facts asked) doubles
@@ -68,7 +68,7 @@ abbrev pub IsCircleFor : (facts asked : FactParts) → Arrow → Option (List Ar
 IsCircleFor facts asked d None = DependenciesOf (HasFact asked) d
 IsCircleFor facts asked d (Some circle) = ¬ DependenciesOf (HasFact asked) d × IsShortestFrom (HasFact facts) d circle
 
--- these circles are told of the dependencies, and exactly their members are asked about
+-- these circles are chosen for the dependencies, and exactly their members are asked about
 pub record AreChosen (facts : FactParts) (ds : List Arrow) (circles : List (List Arrow)) (asked : FactParts) : Type 0 where
   pub told : AreTold (HasFact facts) [] ds circles
   pub members : HasMembers asked circles

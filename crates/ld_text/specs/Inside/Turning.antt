@@ -12,7 +12,7 @@ use Rattle.ld_text.specs.Words.{name_at}
 abbrev pub starts_before : List Name → Arrow → Arrow → Bool
 starts_before names a b = is_lt (name_cmp (name_at names a.start) (name_at names b.start))
 
--- the text grew by the line of the circle, whose front is put behind its back, so that it begins at the least key
+-- the text grew by the line of the circle, whose front is put after its back, so that it begins at the least key
 pub record TellsTurned (names : List Name) (circle : List Arrow) (old new : List ℕ) : Type 0 where
   pub front : List Arrow
   pub back : List Arrow

@@ -26,7 +26,7 @@ fn traces(alloc: Global) -> Option<Vec<RawTrace>> {
     )
 }
 
-// Runs two locks that two traces take in both orders, of so many keys. A run that is refused returns N4, and the same run
+// Runs two locks that two traces take in both orders, of this number of keys. A run that is refused returns N4, and the same run
 // then succeeds.
 fn runs(
     rt: &(impl Threads + Wait + Sync + Abort + AllocGlobal + Print),

@@ -7,7 +7,6 @@ use Rattle.ld_facts.specs.Numbers.{mark_index}
 use Rattle.ld_facts.specs.declared.fact.Fact.TheVariants.{Marked}
 use Rattle.ld_facts.proofs.WordTables.{one_shl, bit_or-pow}
 use Rattle.ld_facts.proofs.chain_words.with_mark.Goals as goal
-use Rattle.ld_facts.proofs.chain_words.with_mark.Goals.{After-mark_index}
 
 pub returns-in-Some-Marked-clause-short : goal.returns-in-Some-Marked-clause-short
 returns-in-Some-Marked-clause-short c =

@@ -1,6 +1,6 @@
 use Rattle.std.specs.Prelude.{Any}
 use Rattle.ld_facts.specs.Facts.{TraceHas, DependenciesOf}
-use Rattle.ld_facts.specs.CountingLaws.{IsNumberOf-unique}
+use Rattle.ld_facts.specs.Laws.Counting.{IsNumberOf-unique}
 use Rattle.ld_facts.proofs.laws.dependencies_have_one_number.Goals as goal
 
 pub returns : goal.returns

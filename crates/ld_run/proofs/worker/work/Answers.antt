@@ -3,8 +3,9 @@ use Rattle.std.proofs.lemmas.Option.{slice_get_read}
 use Rattle.ld_run.specs.Boards.{keys_of}
 use Rattle.ld_run.specs.Seats.{view}
 use Rattle.ld_run.specs.declared.view.View.{View}
-use Rattle.ld_run.proofs.Working.{IsWorking, IsWorking-none, IsWorking-next, Contains-here, found_among, finishes, puts_among, walked_puts}
+use Rattle.ld_run.proofs.Working.{IsWorking, IsWorking-none, IsWorking-next, found_among, finishes, puts_among, walked_puts}
 use Rattle.ld_run.proofs.worker.work.Goals as goal
+use Rattle.ld_facts.specs.Laws.Lists.{Contains-head}
 
 pub loop-number-init : goal.loop-number-init
 loop-number-init g c =
@@ -21,7 +22,7 @@ loop-number-preserved g c =
     let drawn : List ℕ = i.1.0 in
     let here = slice_get_read c.args.traces.now (length c.args.traces.now) c.loop-number.number c.index-traces-trace.result refl c.loop-number-test.true c.index-traces-trace.is in
     let next = IsWorking-next keys c.args.traces.now (view c.args.seat) (view c.loop-number.seat) drawn c.loop-number.number c.loop-number.refused i.1.1 c.index-traces-trace.result (view c.walk_trace.new.seat) (view c.claim-number-in-loop-number.new.seat) c.in-Ok.found c.claim-number-in-loop-number.result here w.claimed w.puts w.knows w.found e.claimed e.rises in
-    let higher = next.rises c.loop-number.number (Contains-here c.loop-number.number drawn) in
+    let higher = next.rises c.loop-number.number (Contains-head c.loop-number.number drawn) in
     let len = ap (λ (v : View). length v.claimed) e.claimed in
     let was = ap (λ (l : List ℕ). length l) w.claimed in
     let before = i.2 in (

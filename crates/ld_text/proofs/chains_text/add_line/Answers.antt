@@ -5,7 +5,7 @@ use Rattle.ld_text.specs.ChainLines.{chain_line, head_text, held_text, lock_text
 use Rattle.ld_text.proofs.ChainLemmas.{locks_text-next, held-none}
 use Rattle.ld_text.proofs.chains_text.add_line.Goals as goal
 
--- one more text behind three
+-- one more text after three
 longer : (line new a b c x y xy : List ℕ) → line ≡ a ++ (b ++ (c ++ x)) → new ≡ line ++ y → xy ≡ x ++ y → new ≡ a ++ (b ++ (c ++ xy))
 longer line new a b c x y xy is more both =
     more ∙ ap (λ t. t ++ y) is ∙ append_assoc a (b ++ (c ++ x)) y

@@ -2,12 +2,13 @@ use Rattle.std.proofs.Common.{◌<◌, ◌∙◌, ◌++◌, List, ℕ, [], Some,
 use Rattle.std.proofs.lemmas.List.{append-nil}
 use Rattle.std.proofs.lemmas.Result.{on_ok_weaker, on_err_weaker}
 use Rattle.std.specs.Io.KnownBytes.{Appends}
+use Rattle.std.proofs.KnownBytes.{Appends-trans}
 use Rattle.ld_task.specs.Chains.{ChainParts}
 use Rattle.ld_task.specs.Steps.{GoesOn}
 use Rattle.ld_task.specs.declared.fault.StepFault.{StepFault}
 use Rattle.ld_text.specs.ChainLines.{chain_line}
 use Rattle.ld_text.specs.Output.{AppendsBeginning, PutsBehind}
-use Rattle.ld_text.proofs.OutputLemmas.{Appends-append, AppendsBeginning-page, OnErr-anyway, PutsBehind-nothing}
+use Rattle.ld_text.proofs.OutputLemmas.{AppendsBeginning-page, OnErr-anyway, PutsBehind-nothing}
 use Rattle.ld_text.proofs.ChainLemmas.{PutsLines-next, PutsLines-stopped, event-none, lines_before-all, lines_before-none}
 use Rattle.ld_text.proofs.chains_text.write_chains.Goals.{in-Some-chain+in_ok-put, in_default-chain}
 use Rattle.ld_text.proofs.chains_text.write_chains.Goals as goal
@@ -56,7 +57,7 @@ returns-clause-ok g c =
     let puts = c.loop-place.invariant.puts in
     on_ok_weaker c.write_out.result
     (λ wrote. subst (λ (text : List ℕ). Appends (g.W.Write.contents c.args.w.now) (g.W.Write.contents c.write_out.new.w) text) (sym puts.split ∙ all)
-    (Appends-append (g.W.Write.contents c.args.w.now) (g.W.Write.contents c.loop-place.w) (g.W.Write.contents c.write_out.new.w) puts.part c.loop-place.page.bytes puts.wrote wrote))
+    (Appends-trans (g.W.Write.contents c.args.w.now) (g.W.Write.contents c.loop-place.w) (g.W.Write.contents c.write_out.new.w) puts.part c.loop-place.page.bytes puts.wrote wrote))
     c.write_out.ensures.ok
 
 pub returns-clause-err : goal.returns-clause-err

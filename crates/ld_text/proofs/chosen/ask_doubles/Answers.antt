@@ -1,4 +1,4 @@
-use Rattle.std.proofs.Common.{◌∙◌, All, take, arith, subst, sym}
+use Rattle.std.proofs.Common.{◌∙◌, All, arith, subst, sym}
 use Rattle.std.proofs.lemmas.List.{take_all}
 use Rattle.std.proofs.lemmas.List.Elements.{All-nil, All-push}
 use Rattle.ld_facts.specs.FactBits.{HasFact}

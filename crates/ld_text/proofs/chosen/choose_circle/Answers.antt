@@ -1,5 +1,5 @@
 use Rattle.std.proofs.Common.{All, ◌++◌, ◌∷◌, [], subst, sym}
-use Rattle.ld_facts.specs.FactBits.{FactBelow, HasFact}
+use Rattle.ld_facts.specs.FactBits.{HasFact}
 use Rattle.ld_facts.specs.Facts.{DependenciesOf}
 use Rattle.ld_graph.specs.Walks.{IsShortestFrom}
 use Rattle.ld_text.specs.Inside.Choosing.{AreChosen}

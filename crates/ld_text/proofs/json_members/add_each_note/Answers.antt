@@ -2,11 +2,8 @@ use Rattle.std.proofs.Common.{◌∷◌, [], ◌∙◌, ap, arith, map, string_b
 use Rattle.std.proofs.lemmas.List.{take_all}
 use Rattle.json.specs.Token.{string}
 use Rattle.ld_text.specs.Inside.Tokens.{Adds}
-use Rattle.ld_text.proofs.JsonLemmas.{Adds-next, Adds-none, Adds-ok, map-twice}
+use Rattle.ld_text.proofs.JsonLemmas.{Adds-next, Adds-ok, map-twice}
 use Rattle.ld_text.proofs.json_members.add_each_note.Goals as goal
-
-pub loop-i-init : goal.loop-i-init
-loop-i-init c = Adds-none _
 
 pub loop-i-preserved : goal.loop-i-preserved
 loop-i-preserved c =

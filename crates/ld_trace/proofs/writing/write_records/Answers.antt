@@ -1,8 +1,9 @@
 use Rattle.std.proofs.lemmas.Result.{on_ok_weaker}
 use Rattle.std.specs.List.{flat_map}
+use Rattle.std.proofs.KnownBytes.{Appends-trans}
 use Rattle.csv.specs.Writing.{text_written}
 use Rattle.ld_trace.specs.Writing.{event_text, header_of, record_text, version_for}
-use Rattle.ld_trace.proofs.WriteLemmas.{Appends-append, trace_text-parts}
+use Rattle.ld_trace.proofs.WriteLemmas.{trace_text-parts}
 use Rattle.ld_trace.proofs.writing.write_records.Goals as goal
 
 pub returns : goal.returns
@@ -15,5 +16,5 @@ returns g c =
     let header = rw c.version_for.ensures at c.in_ok-write_header.ensures.text in
     on_ok_weaker c.write_events.result
     (λ wrote. rw (trace_text-parts names events)
-    (Appends-append old mid new (record_text (header_of (version_for events))) (flat_map (event_text names) events) header wrote))
+    (Appends-trans old mid new (record_text (header_of (version_for events))) (flat_map (event_text names) events) header wrote))
     (rw c.as_slice.ensures at c.write_events.ensures)

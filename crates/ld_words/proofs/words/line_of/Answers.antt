@@ -1,14 +1,34 @@
 use Rattle.std.proofs.Common.{◌∙◌, refl, codes}
 use Rattle.clap.specs.Words.{found_of, rows_of}
 use Rattle.clap.proofs.WalkLemmas.{first_value-rows}
-use Rattle.ld_words.proofs.LineLemmas.{subcommand_met}
+use Rattle.ld_words.proofs.LineLemmas.{flag-read, subcommand_met}
 use Rattle.ld_words.proofs.words.line_of.Goals as goal
 
-pub returns-in-Some-subcommand_matches-4-clause-ok : goal.returns-in-Some-subcommand_matches-4-clause-ok
-returns-in-Some-subcommand_matches-4-clause-ok c =
+pub returns-in-Some-subcommand_matches-clause-ok : goal.returns-in-Some-subcommand_matches-clause-ok
+returns-in-Some-subcommand_matches-clause-ok c =
+    let found = c.in-Some-subcommand_matches.found in
+    let met = c.in-Some-subcommand_matches.ensures in
+    let read = c.in_ok-workers-2.ensures in (
+      rows_of (found_of found.now),
+      subcommand_met _ (codes "explain") (rows_of (found_of found.now)) (met.found.0 refl) met.rows,
+      (read.check, read.many, flag-read (found_of found.now) (codes "json") c.get_flag-json.result c.get_flag-json.ensures.value c.get_flag-json.ensures.other),
+    )
+
+pub returns-in-Some-subcommand_matches-2-clause-ok : goal.returns-in-Some-subcommand_matches-2-clause-ok
+returns-in-Some-subcommand_matches-2-clause-ok c =
+    let found = c.in-Some-subcommand_matches-2.found in
+    let met = c.in-Some-subcommand_matches-2.ensures in
+    let read = c.in_ok-workers-3.ensures in (
+      rows_of (found_of found.now),
+      subcommand_met _ (codes "graph") (rows_of (found_of found.now)) (met.found.0 refl) met.rows,
+      (read.check, read.many, flag-read (found_of found.now) (codes "findings") c.get_flag-findings.result c.get_flag-findings.ensures.value c.get_flag-findings.ensures.other),
+    )
+
+pub returns-clause-ok : goal.returns-clause-ok
+returns-clause-ok c =
     let found = c.in-Some-subcommand_matches-4.found in
     let met = c.in-Some-subcommand_matches-4.ensures in (
       rows_of (found_of found.now),
       subcommand_met _ (codes "chains") (rows_of (found_of found.now)) (met.found.0 refl) met.rows,
-      c.get_str.ensures ∙ first_value-rows (found_of found.now) (codes "FILE"),
+      c.get_str-file.ensures ∙ first_value-rows (found_of found.now) (codes "FILE"),
     )

@@ -1,7 +1,7 @@
 use Rattle.std.proofs.Common.{◌≡◌, ◌-◌, ◌∙◌, ap, length, sym, subst, arith}
 use Rattle.ld_facts.specs.Counting.{IsNumberOf}
 use Rattle.ld_facts.specs.FactBits.{HasFact}
-use Rattle.ld_facts.specs.CountingLaws.{IsNumberOf-same}
+use Rattle.ld_facts.specs.Laws.Counting.{IsNumberOf-same}
 use Rattle.ld_facts.specs.Facts.{DependenciesOf}
 use Rattle.ld_facts.specs.declared.fact.Fact.TheVariants.{Dependency}
 use Rattle.ld_book.specs.Books.{BookParts, JournalHas, opening_count}

@@ -1,33 +1,46 @@
-use Rattle.std.proofs.Common.{◌≡◌, ◌+◌, List, Some, slice_get}
-use Rattle.ld_trace.specs.declared.event.Event.{Event}
-use Rattle.ld_task.specs.Placed.{IsPlacedAfter}
-use Rattle.ld_task.specs.TraceChains.{chain}
-use Rattle.ld_explain.specs.Inside.Firsts.{SeenFrom, SeenTo}
+use Rattle.std.proofs.Common.{◌≡◌, ℕ, ◌+◌, ◌-◌, ◌∙◌, arith, refl, subst}
+use Rattle.ld_facts.specs.ChainFacts.{fact_slots}
+use Rattle.ld_explain.specs.Notes.{GuardParts}
+use Rattle.ld_explain.specs.Origins.{OriginParts}
+use Rattle.ld_explain.specs.Inside.Firsts.{SeenFrom}
 use Rattle.ld_explain.specs.Inside.Taking.{AreTakenIn}
-use Rattle.ld_explain.proofs.Passing.{taken_chain, taken_skip}
-use Rattle.ld_explain.proofs.Slots.{after_ok}
+use Rattle.ld_explain.proofs.Passing.{taken_chain, taken_last, taken_skip}
 use Rattle.ld_explain.proofs.evidence.Evidence.add_chain.Goals as goal
 
-pub returns-then-may_be_given-clause-taken : goal.returns-then-may_be_given-clause-taken
-returns-then-may_be_given-clause-taken c =
-    let asked = c.args.asked.now in
-    let new = c.add_slots.new.self in
-    let follows :
-    ((traces : List (List Event)) (t : List Event) → slice_get traces c.args.trace ≡ Some t → IsPlacedAfter t (c.args.place + 1) c.args.state.now →
-    chain t c.args.place ≡ Some c.args.chain.now →
-    AreTakenIn traces asked (SeenTo traces c.args.trace c.args.place) c.args.self.now.origins c.args.self.now.guards →
-    AreTakenIn traces asked (SeenFrom traces t c.args.trace c.args.place c.args.chain.now 0) new.origins new.guards) →
-    ((traces : List (List Event)) (t : List Event) → slice_get traces c.args.trace ≡ Some t → IsPlacedAfter t (c.args.place + 1) c.args.state.now →
-    chain t c.args.place ≡ Some c.args.chain.now →
-    AreTakenIn traces asked (SeenTo traces c.args.trace c.args.place) c.args.self.now.origins c.args.self.now.guards →
-    AreTakenIn traces asked (SeenTo traces c.args.trace (c.args.place + 1)) new.origins new.guards) =
-    λ taken traces t here placed is before.
-    taken_chain traces asked t c.args.trace c.args.place c.args.chain.now here is c.slots_have_what_is_given.ensures.exact new.origins new.guards
-    (taken traces t here placed is before) in
-    after_ok _ _ c.add_slots.result follows c.add_slots.ensures.taken
-
-pub returns-else-may_be_given-clause-taken : goal.returns-else-may_be_given-clause-taken
-returns-else-may_be_given-clause-taken c traces t here placed is before =
+pub returns-then-not-may_be_given-clause-taken : goal.returns-then-not-may_be_given-clause-taken
+returns-then-not-may_be_given-clause-taken c traces t here placed is before =
     let asked = c.args.asked.now in
     taken_chain traces asked t c.args.trace c.args.place c.args.chain.now here is c.slots_have_what_is_given.ensures.exact c.args.self.now.origins c.args.self.now.guards
-    (taken_skip traces asked t c.args.trace c.args.place c.args.chain.now (c.may_be_given.ensures c.if-may_be_given.false) c.args.self.now.origins c.args.self.now.guards before)
+    (taken_skip traces asked t c.args.trace c.args.place c.args.chain.now (c.may_be_given.ensures (let none = c.if-not-may_be_given.true in cc)) c.args.self.now.origins c.args.self.now.guards before)
+
+pub loop-passed-init : goal.loop-passed-init
+loop-passed-init c = (
+  refl,
+  refl,
+  λ traces t here placed is before.
+      let all : fact_slots c.args.chain.now ≡ c.slots-slots.result - 0 = omega (arith, c.slots-slots.ensures.value) in
+      subst (λ n. AreTakenIn traces c.args.asked.now (SeenFrom traces t c.args.trace c.args.place c.args.chain.now n) c.args.self.now.origins c.args.self.now.guards) all
+      (taken_last traces c.args.asked.now t c.args.trace c.args.place c.args.chain.now c.args.self.now.origins c.args.self.now.guards before),
+)
+
+pub loop-passed-preserved : goal.loop-passed-preserved
+loop-passed-preserved c =
+    let n = c.slots-slots.result - 1 - c.loop-passed.passed in
+    let was : c.slots-slots.result - c.loop-passed.passed ≡ n + 1 = omega (arith, c.loop-passed-test.true) in
+    let now : n ≡ c.slots-slots.result - (c.loop-passed.passed + 1) = omega (arith, c.loop-passed-test.true) in (
+      c.in_ok-add_slot.ensures.origins ∙ c.loop-passed.invariant.0,
+      c.in_ok-add_slot.ensures.guards ∙ c.loop-passed.invariant.1,
+      λ traces t here placed is before.
+          let Taken = λ (k : ℕ) (origins : OriginParts) (guards : GuardParts). AreTakenIn traces c.args.asked.now (SeenFrom traces t c.args.trace c.args.place c.args.chain.now k) origins guards in
+          subst (λ k. Taken k c.add_slot.new.self.origins c.add_slot.new.self.guards) now
+          (c.in_ok-add_slot.ensures.taken traces t here placed is
+          (subst (λ k. Taken k c.loop-passed.self.origins c.loop-passed.self.guards) was (c.loop-passed.invariant.2 traces t here placed is before))),
+    )
+
+pub returns-clause-taken : goal.returns-clause-taken
+returns-clause-taken c traces t here placed is before =
+    let (origins, guards) = (c.loop-passed.self.origins, c.loop-passed.self.guards) in
+    let none : c.slots-slots.result - c.loop-passed.passed ≡ 0 = omega (arith, c.loop-passed-test.false) in
+    taken_chain traces c.args.asked.now t c.args.trace c.args.place c.args.chain.now here is c.slots_have_what_is_given.ensures.exact origins guards
+    (subst (λ n. AreTakenIn traces c.args.asked.now (SeenFrom traces t c.args.trace c.args.place c.args.chain.now n) origins guards) none
+    (c.loop-passed.invariant.2 traces t here placed is before))

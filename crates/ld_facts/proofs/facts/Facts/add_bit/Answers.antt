@@ -6,7 +6,7 @@ use Rattle.ld_facts.specs.Numbers.{dependency_total, bit_total}
 use Rattle.ld_facts.specs.FactBits.{FactParts, SetsBit}
 use Rattle.ld_trace.specs.declared.key_id.TheConstants.{MAX_MANY}
 use Rattle.ld_facts.proofs.Adding.{AreCounted-dependency, AreCounted-mark}
-use Rattle.ld_facts.specs.CountingLaws.{dependency_count-le, mark_count-le}
+use Rattle.ld_facts.specs.Laws.Counting.{dependency_count-le, mark_count-le}
 use Rattle.ld_facts.proofs.facts.Facts.add_bit.Goals as goal
 use Rattle.ld_facts.proofs.facts.Facts.add_bit.Goals.{After-insert}
 

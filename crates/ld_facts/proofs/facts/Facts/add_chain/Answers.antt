@@ -2,8 +2,8 @@ use Rattle.std.proofs.Common.{◌≡◌, ◌∙◌, sym, subst, arith}
 use Rattle.std.proofs.lemmas.Option.{none-some}
 use Rattle.ld_facts.specs.ChainFacts.{fact_slots}
 use Rattle.ld_facts.specs.FactBits.{FactBelow}
-use Rattle.ld_facts.specs.ChainLaws.{FactBelow-chain, chain_fact-sound}
-use Rattle.ld_facts.specs.GrowingLaws.{Grown-start, Grown-same, Grown-add, Adds-grown, Holds-grown}
+use Rattle.ld_facts.specs.Laws.Chains.{FactBelow-chain, chain_fact-sound}
+use Rattle.ld_facts.specs.Laws.Growing.{Grown-start, Grown-same, Grown-add, Adds-grown, Holds-grown}
 use Rattle.ld_facts.proofs.facts.Facts.add_chain.Goals as goal
 use Rattle.ld_facts.proofs.facts.Facts.add_chain.Goals.{After-loop-n, in-Some, in_default}
 

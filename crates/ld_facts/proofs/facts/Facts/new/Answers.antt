@@ -1,10 +1,7 @@
-use Rattle.std.proofs.Common.{rules, ◌≡◌, ℕ, ◌+◌, ◌*◌, ◌/◌, ap, replicate}
+use Rattle.std.proofs.Common.{rules, ◌≡◌, ◌+◌, ◌*◌, ◌/◌, ap, replicate}
 use Rattle.ld_facts.proofs.Empty.{AreCounted-zeros, dependency_count-zeros, mark_count-zeros}
 use Rattle.ld_facts.proofs.facts.Facts.new.Goals as goal
 use Rattle.ld_facts.proofs.facts.Facts.new.Goals.{In_ok-bits}
-
-size : In_ok-bits → ℕ
-size c = (c.from-n.result * c.from-n.result * 4 + c.from-n.result * 9 + 63) / 64
 
 zeros : (c : In_ok-bits) → c.in_ok-bits.bits.items ≡ replicate ((c.from-n.result * c.from-n.result * 4 + c.from-n.result * 9 + 63) / 64) 0
 zeros c = c.in_ok-bits.ensures.items_if_clones_equal (λ y h. search rules)

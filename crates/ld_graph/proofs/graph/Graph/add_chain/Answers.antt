@@ -1,11 +1,12 @@
 use Rattle.std.proofs.Common.{◌≡◌, ◌∙◌, sym, ap, subst, refl, arith, inl}
 use Rattle.std.proofs.lemmas.Option.{none-some}
+use Rattle.std.proofs.lemmas.Bool.{or_parts}
 use Rattle.ld_facts.specs.ChainFacts.{fact_slots}
 use Rattle.ld_facts.specs.FactBits.{FactBelow, HasFact}
-use Rattle.ld_graph.specs.FactLaws.{IsClean-fewer}
+use Rattle.ld_graph.specs.Laws.Facts.{IsClean-fewer}
 use Rattle.ld_graph.specs.Links.{IsClean}
-use Rattle.ld_facts.specs.ChainLaws.{FactBelow-chain, chain_fact-sound}
-use Rattle.ld_facts.specs.GrowingLaws.{Grown-start, Grown-same, Grown-add, neither, Adds-grown, Holds-grown}
+use Rattle.ld_facts.specs.Laws.Chains.{FactBelow-chain, chain_fact-sound}
+use Rattle.ld_facts.specs.Laws.Growing.{Grown-start, Grown-same, Grown-add, Adds-grown, Holds-grown}
 use Rattle.ld_graph.proofs.graph.Graph.add_chain.Goals as goal
 use Rattle.ld_graph.proofs.graph.Graph.add_chain.Goals.{After-loop-n, Joined-fact_at, in-Some, in_default}
 
@@ -32,7 +33,7 @@ loop-n-preserved c = elim c.match-fact_at.branch [
     grown = rw (w.self-is, w.fresh-is)
         (Grown-add c.args.self.now.facts c.loop-n.self.facts c.args.chain.now c.loop-n.n c.loop-n.fresh c.loop-n.invariant.grown w.add-fresh.new.self.facts w.in-Some.fact
         w.add-fresh.result (sym c.fact_at.ensures ∙ w.in-Some.is) w.add-fresh.ensures.keys w.add-fresh.ensures.adds w.add-fresh.ensures.fresh (λ h. ap (λ g. g.facts) (w.add-fresh.ensures.known h)));
-    known = λ h. let (before, here) = neither c.loop-n.fresh w.add-fresh.result (sym w.fresh-is ∙ h) in
+    known = λ h. let (before, here) = or_parts c.loop-n.fresh w.add-fresh.result (sym w.fresh-is ∙ h) in
         w.self-is ∙ w.add-fresh.ensures.known here ∙ c.loop-n.invariant.known before;
     not_clean = λ h. ap (λ g. g.searched) w.self-is ∙ w.add-fresh.ensures.not_clean (dirty (goal.at.loop-n-preserved c).Joined-fact_at h) ∙ c.loop-n.invariant.not_clean h;
   }

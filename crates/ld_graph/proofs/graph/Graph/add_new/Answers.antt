@@ -9,7 +9,7 @@ use Rattle.ld_facts.specs.Inside.Places.{Leads}
 use Rattle.ld_graph.specs.Inside.Tables.{IsSource, IsTarget, AreSpan}
 use Rattle.ld_graph.specs.Inside.Kept.{IsGraph, StaysClean, MarkTurnsBack}
 use Rattle.ld_graph.specs.Graphs.{GraphParts}
-use Rattle.ld_facts.specs.CountingLaws.{rows_allowed-le}
+use Rattle.ld_facts.specs.Laws.Counting.{rows_allowed-le}
 use Rattle.ld_graph.proofs.Ways.{IsTransitive-ways}
 use Rattle.ld_graph.proofs.GraphSteps.{IsGraph-dependency, IsGraph-led, IsGraph-mark}
 use Rattle.ld_graph.proofs.graph.Graph.add_new.Goals as goal

@@ -9,7 +9,7 @@ use Rattle.ld_graph.specs.Inside.Searching.{GoesTo, NoGoalBy, LeastThrough}
 use Rattle.ld_graph.specs.Inside.Tables.{reaches}
 use Rattle.ld_graph.specs.Walks.{IsCircle}
 use Rattle.ld_facts.specs.declared.places.TheConstants.{ROW_WORDS}
-use Rattle.ld_facts.specs.BitLaws.{has_bit-zeros, zeros_at}
+use Rattle.ld_facts.specs.Laws.Bits.{has_bit-zeros, zeros_at}
 use Rattle.ld_graph.proofs.Joining.{zero_row}
 use Rattle.ld_graph.proofs.Nearest.{IsCircle-from_way, LeastThrough-outside, LeastThrough-searched, arrows_below}
 use Rattle.ld_graph.proofs.graph.Graph.circle_at.Goals as goal

@@ -5,7 +5,7 @@ use Rattle.ld_facts.specs.Facts.{DependenciesOf}
 use Rattle.ld_facts.specs.FactBits.{HasFact}
 use Rattle.ld_graph.specs.Inside.Searching.{LeastRound}
 use Rattle.ld_graph.specs.Walks.{IsShortestFrom}
-use Rattle.ld_graph.specs.FactLaws.{OnCircle-member}
+use Rattle.ld_graph.specs.Laws.Facts.{OnCircle-member}
 use Rattle.ld_graph.proofs.Nearest.{arrows_below}
 use Rattle.ld_graph.proofs.Rounds.{Closes, Closes-few, IsShortestFrom-closes, no_circle_through, no_round}
 use Rattle.ld_graph.proofs.graph.Graph.circle_through.Goals as goal

@@ -9,11 +9,11 @@ use Rattle.ld_facts.specs.Facts.{Holds, DependenciesOf}
 use Rattle.ld_facts.specs.FactBits.{FactBelow, HasFact}
 use Rattle.ld_graph.specs.Links.{IsLink, link_by}
 use Rattle.ld_graph.specs.Inside.Searching.{LeadsRound, LeastRound}
-use Rattle.ld_graph.specs.declared.graph.InversionWalk.{InversionWalk}
+use Rattle.ld_graph.specs.declared.shortest_walks.InversionWalk.{InversionWalk}
 use Rattle.ld_graph.proofs.GraphSteps.{facts_within}
 use Rattle.ld_graph.proofs.Inversions.{LeastLinks, LeastLinks-more, IsShortestInversion-round, no_inversion, some_inversion}
-use Rattle.ld_facts.specs.NumberLaws.{kind_number-lt}
-use Rattle.ld_facts.specs.ListLaws.{none_of}
+use Rattle.ld_facts.specs.Laws.Numbers.{kind_number-lt}
+use Rattle.ld_facts.specs.Laws.Lists.{none_of}
 use Rattle.ld_graph.proofs.Rounds.{no_round}
 use Rattle.ld_graph.proofs.graph.Graph.inversion_walk.Goals as goal
 use Rattle.ld_graph.proofs.graph.Graph.inversion_walk.Goals.{Start, After-loop-n, in-Some, in_default}

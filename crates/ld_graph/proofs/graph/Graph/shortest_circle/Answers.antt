@@ -5,9 +5,9 @@ use Rattle.ld_trace.specs.declared.key_id.TheConstants.{MAX_KEYS}
 use Rattle.ld_facts.specs.Arrows.{Arrow}
 use Rattle.ld_facts.specs.FactBits.{HasFact}
 use Rattle.ld_graph.specs.Walks.{IsCircle, IsShortestCircle, OnCircle}
-use Rattle.ld_facts.specs.ListLaws.{Contains-head}
+use Rattle.ld_facts.specs.Laws.Lists.{Contains-head}
 use Rattle.ld_graph.proofs.Nearest.{LeastDone, LeastDone-more, LeastDone-all, done_more}
-use Rattle.ld_facts.specs.ListLaws.{none_of}
+use Rattle.ld_facts.specs.Laws.Lists.{none_of}
 use Rattle.ld_graph.proofs.Shortest.{IsShortestCircle-least, no_circle}
 use Rattle.ld_graph.proofs.graph.Graph.shortest_circle.Goals as goal
 use Rattle.ld_graph.proofs.graph.Graph.shortest_circle.Goals.{After-loop-place, in-Some, in_default}

@@ -5,7 +5,7 @@ use Rattle.ld_facts.specs.Inside.Rows.{row_place}
 use Rattle.ld_facts.specs.declared.dependency.Dependency.{Dependency}
 use Rattle.ld_graph.proofs.Scanning.{Scans, Scans-skip, Scans-visit, Takes-hit, SeesAll-scanned, blank, step_read, row_place-lt}
 use Rattle.ld_graph.proofs.search.Search.expand.Goals as goal
-use Rattle.ld_graph.proofs.search.Search.expand.Goals.{After-visit, Joined-else-may_go_on, else-may_go_on-via-then-may_go_on+else-visit, else-may_go_on-via-else-may_go_on}
+use Rattle.ld_graph.proofs.search.Search.expand.Goals.{After-visit, else-may_go_on-via-then-may_go_on+else-visit, else-may_go_on-via-else-may_go_on}
 
 hit : (c : After-visit) → c.may_go_on.result ≡ true → c.visit.result ≡ true →
     Takes c.args.facts.now c.args.i c.args.self.now c.visit.new.self × Hits c.args.goal.now c.args.self.now c.visit.new.self

@@ -5,7 +5,7 @@ use Rattle.ld_facts.specs.Arrows.{Arrow}
 use Rattle.ld_facts.specs.FactBits.{FactParts, HasFact}
 use Rattle.ld_parts.specs.Inside.Parts.{IsShortestOfFirst}
 use Rattle.ld_graph.specs.Walks.{IsShortestCircle, OnCircle}
-use Rattle.ld_facts.specs.ListLaws.{none_of}
+use Rattle.ld_facts.specs.Laws.Lists.{none_of}
 use Rattle.ld_parts.proofs.Parts.{no_circle, on_circle_parts, shortest_few, shortest_of_parts}
 use Rattle.ld_parts.proofs.parted_graph.PartedGraph.shortest_circle.Goals as goal
 

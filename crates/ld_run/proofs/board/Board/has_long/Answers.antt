@@ -3,7 +3,7 @@ use mathlib.Core.Logic.{dite}
 use native.Mathlib.Decide.{ℕ_discrete}
 use Rattle.std.proofs.lemmas.Option.{none-some}
 use Rattle.ld_facts.specs.ChainFacts.{chain_fact}
-use Rattle.ld_facts.specs.WordLaws.{PairsHave-within}
+use Rattle.ld_facts.specs.Laws.Words.{PairsHave-within}
 use Rattle.ld_facts.specs.declared.fact.Fact.{Fact}
 use Rattle.ld_run.specs.Boards.{keys_of}
 use Rattle.ld_run.specs.Seats.{view}

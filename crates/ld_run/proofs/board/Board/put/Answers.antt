@@ -1,4 +1,4 @@
-use Rattle.ld_facts.specs.WordLaws.{PairsHave-within}
+use Rattle.ld_facts.specs.Laws.Words.{PairsHave-within}
 use Rattle.ld_run.specs.Boards.{keys_of}
 use Rattle.ld_run.specs.Seats.{view}
 use Rattle.ld_run.proofs.SeatFacts.{puts_chain}

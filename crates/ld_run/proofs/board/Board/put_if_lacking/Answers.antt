@@ -4,7 +4,7 @@ use Rattle.ld_run.specs.Seats.{view}
 use Rattle.ld_run.specs.Inside.BoardRule.{with_look, with_put}
 use Rattle.ld_run.specs.declared.view.View.{View}
 use Rattle.ld_run.proofs.WordLists.{or_self, within_cons, within_here, within_left, within_right}
-use Rattle.ld_run.proofs.board.Board.put_if_lacking.Goals.{Then-wanted-found, After-put_word}
+use Rattle.ld_run.proofs.board.Board.put_if_lacking.Goals.{After-put_word}
 use Rattle.ld_run.proofs.board.Board.put_if_lacking.Goals as goal
 
 -- the word is only loaded

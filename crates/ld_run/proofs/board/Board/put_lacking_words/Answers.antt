@@ -1,4 +1,5 @@
-use Rattle.std.proofs.Common.{◌≡◌, ◌∷◌, ◌++◌, ◌<◌, ◌||◌, ℕ, List, get_or, length, refl, sym, ◌∙◌, subst, arith, Bool, true, false}
+use Rattle.std.proofs.Common.{◌∷◌, ◌++◌, ◌<◌, ℕ, List, get_or, length, refl, sym, ◌∙◌, subst, arith, false}
+use Rattle.std.proofs.lemmas.Bool.{or_parts}
 use Rattle.ld_facts.specs.WordPairs.{bits_of, Within, NonePast, word_total}
 use Rattle.ld_run.specs.Boards.{keys_of}
 use Rattle.ld_run.specs.Seats.{view}
@@ -7,10 +8,6 @@ use Rattle.ld_run.proofs.SeatFacts.{pair_at}
 use Rattle.ld_run.proofs.WordLists.{or_self, all_from_pairs, each_next, only_step, within_appended, within_right, within_through}
 use Rattle.ld_run.proofs.board.Board.put_lacking_words.Goals.{After-loop-n}
 use Rattle.ld_run.proofs.board.Board.put_lacking_words.Goals as goal
-
-neither : (a b : Bool) → (a || b) ≡ false → (a ≡ false) × (b ≡ false)
-neither true b h = absurd (let e : true ≡ false = h in cc)
-neither false b h = (refl, h)
 
 pub loop-n-init : goal.loop-n-init
 loop-n-init c = (
@@ -54,7 +51,7 @@ loop-n-preserved c =
           (subst (λ (p : ℕ × ℕ). Within p.1 (bits_of p.0 (new.put ++ new.seen))) (sym at.1) e.knows)
           (λ k d l. let p : ℕ × ℕ = get_or words k d in within_appended p.0 p.1 mid.put new.put mid.seen new.seen (e.keeps p.0) (e.seen p.0) (i.6 k d l)),
       (λ off.
-          let (before, here) = neither c.loop-n.any c.put_if_lacking-any.result off in
+          let (before, here) = or_parts c.loop-n.any c.put_if_lacking-any.result off in
           let found = e.covered here in
           let others = i.7 before in (
             found.0 ∙ others.0,

@@ -1,5 +1,5 @@
 use Rattle.std.proofs.Common.{◌≡◌, ◌++◌, ◌∙◌, ℕ, List, inl, inr, sym, subst}
-use Rattle.ld_facts.specs.WordLaws.{PairsHave-append, PairsHave-within}
+use Rattle.ld_facts.specs.Laws.Words.{PairsHave-append, PairsHave-within}
 use Rattle.ld_facts.specs.WordPairs.{bits_of, PairsHave, Within}
 use Rattle.ld_facts.specs.declared.fact.Fact.{Fact}
 use Rattle.ld_run.specs.Boards.{keys_of}

@@ -1,10 +1,5 @@
 use Rattle.std.proofs.Common.{◌∙◌, inl, inr}
-use Rattle.ld_facts.specs.FactBits.{HasFact}
-use Rattle.ld_graph.specs.Links.{IsDouble, IsInversion}
-use Rattle.ld_graph.specs.Walks.{OnCircle}
-use Rattle.ld_text.specs.Explanation.{AreTold}
-use Rattle.ld_text.specs.Inside.Choosing.{Asks, IsToldDouble}
-use Rattle.ld_text.proofs.ChoosingLemmas.{asks-then, circles-stay, doubles-stay}
+use Rattle.ld_text.proofs.ChoosingLemmas.{circles-stay, doubles-stay}
 use Rattle.ld_text.proofs.chosen.Chosen.of.Goals as goal
 
 pub ask_doubles-requires-clause-bound : goal.ask_doubles-requires-clause-bound

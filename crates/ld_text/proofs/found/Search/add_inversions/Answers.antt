@@ -4,11 +4,8 @@ use Rattle.ld_facts.specs.FactBits.{HasFact}
 use Rattle.ld_graph.specs.Links.{IsInversion}
 use Rattle.ld_text.specs.Inside.Finding.{AddsThose}
 use Rattle.ld_text.specs.Words.{states}
-use Rattle.ld_text.proofs.FindingLemmas.{AddsThose-none, AddsThose-next}
+use Rattle.ld_text.proofs.FindingLemmas.{AddsThose-next}
 use Rattle.ld_text.proofs.found.Search.add_inversions.Goals as goal
-
-pub loop-irq-init : goal.loop-irq-init
-loop-irq-init c = AddsThose-none _ _
 
 pub loop-irq-preserved : goal.loop-irq-preserved
 loop-irq-preserved c = AddsThose-next _ (λ irq. flat_map (λ a. map (λ b. (irq, (a, b))) c.args.self.keys.now) c.args.self.keys.now) _ _ _ _ _ _ c.loop-irq-test.true c.loop-irq.invariant c.in_ok-add_inversions_of.ensures

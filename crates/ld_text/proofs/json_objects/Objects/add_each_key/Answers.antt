@@ -5,11 +5,8 @@ use Rattle.json.specs.Token.{string}
 use Rattle.ld_facts.specs.Arrows.{Arrow, arrow}
 use Rattle.ld_text.specs.Inside.Tokens.{Adds}
 use Rattle.ld_text.specs.Words.{key_text, name_at}
-use Rattle.ld_text.proofs.JsonLemmas.{Adds-next, Adds-none, Adds-ok}
+use Rattle.ld_text.proofs.JsonLemmas.{Adds-next, Adds-ok}
 use Rattle.ld_text.proofs.json_objects.Objects.add_each_key.Goals as goal
-
-pub loop-i-init : goal.loop-i-init
-loop-i-init c = Adds-none _
 
 pub loop-i-preserved : goal.loop-i-preserved
 loop-i-preserved c =

@@ -1,11 +1,8 @@
 use Rattle.std.proofs.Common.{subst, sym}
 use Rattle.ld_text.specs.Inside.Choosing.{IsToldCircle}
 use Rattle.ld_text.specs.Json.{IsCircleObject, IsLineOf}
-use Rattle.ld_text.proofs.GroupLemmas.{GrowsBy-more_item, GrowsBy-none}
+use Rattle.ld_text.proofs.GroupLemmas.{GrowsBy-more_item}
 use Rattle.ld_text.proofs.json_objects.Objects.tell_circles.Goals as goal
-
-pub loop-circle-init : goal.loop-circle-init
-loop-circle-init c = GrowsBy-none _
 
 pub loop-circle-preserved : goal.loop-circle-preserved
 loop-circle-preserved c = GrowsBy-more_item (λ walk. IsLineOf (IsCircleObject c.args.self.now.told c.args.self.now.keys walk)) _ _ _ _ _ _

@@ -2,11 +2,8 @@ use Rattle.std.proofs.Common.{subst, sym}
 use Rattle.ld_facts.specs.FactBits.{HasFact}
 use Rattle.ld_text.specs.Inside.Choosing.{IsToldDouble}
 use Rattle.ld_text.specs.Json.{IsDoubleObject, IsLineOf}
-use Rattle.ld_text.proofs.GroupLemmas.{GrowsBy-more_item, GrowsBy-none}
+use Rattle.ld_text.proofs.GroupLemmas.{GrowsBy-more_item}
 use Rattle.ld_text.proofs.json_objects.Objects.tell_doubles.Goals as goal
-
-pub loop-double-init : goal.loop-double-init
-loop-double-init c = GrowsBy-none _
 
 pub loop-double-preserved : goal.loop-double-preserved
 loop-double-preserved c = GrowsBy-more_item (λ x. IsLineOf (IsDoubleObject (HasFact c.args.self.now.facts) c.args.self.now.told x)) _ _ _ _ _ _

@@ -2,11 +2,8 @@ use Rattle.std.proofs.Common.{subst, sym}
 use Rattle.ld_facts.specs.FactBits.{HasFact}
 use Rattle.ld_text.specs.Inside.Choosing.{IsToldInversion, keys_of}
 use Rattle.ld_text.specs.Json.{IsInversionObject, IsLineOf}
-use Rattle.ld_text.proofs.GroupLemmas.{GrowsBy-more_item, GrowsBy-none}
+use Rattle.ld_text.proofs.GroupLemmas.{GrowsBy-more_item}
 use Rattle.ld_text.proofs.json_objects.Objects.tell_inversions.Goals as goal
-
-pub loop-inversion-init : goal.loop-inversion-init
-loop-inversion-init c = GrowsBy-none _
 
 pub loop-inversion-preserved : goal.loop-inversion-preserved
 loop-inversion-preserved c = GrowsBy-more_item (λ x. IsLineOf (IsInversionObject (HasFact c.args.self.now.facts) c.args.self.now.told c.args.self.now.keys (keys_of x))) _ _ _ _ _ _

@@ -1,8 +1,5 @@
-use Rattle.ld_text.proofs.GroupLemmas.{GrowsBy-more, GrowsBy-none}
+use Rattle.ld_text.proofs.GroupLemmas.{GrowsBy-more}
 use Rattle.ld_text.proofs.picture.PictureView.add_characters.Goals as goal
-
-pub loop-form-init : goal.loop-form-init
-loop-form-init c = GrowsBy-none _
 
 pub loop-form-preserved : goal.loop-form-preserved
 loop-form-preserved c = GrowsBy-more _ _ _ _ _ _ _ c.loop-form-test.true c.loop-form.invariant record {

@@ -4,7 +4,7 @@ use Rattle.std.proofs.lemmas.Result.{on_ok_weaker}
 use Rattle.ld_text.specs.Report.{clean_line, total_line}
 use Rattle.ld_text.proofs.report.ReportView.add_totals.Goals as goal
 
--- five texts, one behind the other
+-- five texts, one after the other
 appended : (old t1 t2 t3 t4 new a b c d e : List ℕ) → t1 ≡ old ++ a → t2 ≡ t1 ++ b → t3 ≡ t2 ++ c → t4 ≡ t3 ++ d → new ≡ t4 ++ e → new ≡ old ++ (a ++ b ++ c ++ d ++ e)
 appended old t1 t2 t3 t4 new a b c d e p q r s t =
     t ∙ ap (λ x. x ++ e) (s ∙ ap (λ x. x ++ d) (r ∙ ap (λ x. x ++ c) (q ∙ ap (λ x. x ++ b) p)))

@@ -5,7 +5,7 @@ use Rattle.ld_text.specs.Words.{key_text, name_at}
 use Rattle.ld_text.specs.Report.{usage_line}
 use Rattle.ld_text.proofs.report.ReportView.add_usage_line.Goals as goal
 
--- three texts, one behind the other
+-- three texts, one after the other
 appended : (old t1 t2 new a b c : List ℕ) → t1 ≡ old ++ a → t2 ≡ t1 ++ b → new ≡ t2 ++ c → new ≡ old ++ (a ++ b ++ c)
 appended old t1 t2 new a b c p q r =
     r ∙ ap (λ t. t ++ c) (q ∙ ap (λ t. t ++ b) p ∙ append_assoc old a b) ∙ append_assoc old (a ++ b) c

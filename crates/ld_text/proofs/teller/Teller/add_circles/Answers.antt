@@ -1,10 +1,7 @@
 use Rattle.std.proofs.Common.{subst, sym}
 use Rattle.ld_text.specs.Inside.Choosing.{IsToldCircle}
-use Rattle.ld_text.proofs.GroupLemmas.{GrowsBy-more_item, GrowsBy-none}
+use Rattle.ld_text.proofs.GroupLemmas.{GrowsBy-more_item}
 use Rattle.ld_text.proofs.teller.Teller.add_circles.Goals as goal
-
-pub loop-circle-init : goal.loop-circle-init
-loop-circle-init c = GrowsBy-none _
 
 pub loop-circle-preserved : goal.loop-circle-preserved
 loop-circle-preserved c = GrowsBy-more_item _ _ _ _ _ _ _ c.circle-item.is c.loop-circle-test.true c.loop-circle.invariant c.in_ok-add_circle.ensures

@@ -4,11 +4,8 @@ use Rattle.std.proofs.lemmas.Option.{get_or_from_slice_get}
 use Rattle.ld_facts.specs.Arrows.{Arrow, arrow}
 use Rattle.ld_text.specs.Explanation.{IsDependencyLine}
 use Rattle.ld_text.specs.Groups.{GrowsBy, InTurn}
-use Rattle.ld_text.proofs.GroupLemmas.{GrowsBy-more_item, GrowsBy-none}
+use Rattle.ld_text.proofs.GroupLemmas.{GrowsBy-more_item}
 use Rattle.ld_text.proofs.teller.Teller.add_dependencies.Goals as goal
-
-pub loop-i-init : goal.loop-i-init
-loop-i-init c = GrowsBy-none _
 
 pub loop-i-preserved : goal.loop-i-preserved
 loop-i-preserved c =

@@ -1,10 +1,7 @@
 use Rattle.std.proofs.Common.{subst, sym}
 use Rattle.ld_text.specs.Inside.Choosing.{IsToldDouble}
-use Rattle.ld_text.proofs.GroupLemmas.{GrowsBy-more_item, GrowsBy-none}
+use Rattle.ld_text.proofs.GroupLemmas.{GrowsBy-more_item}
 use Rattle.ld_text.proofs.teller.Teller.add_doubles.Goals as goal
-
-pub loop-double-init : goal.loop-double-init
-loop-double-init c = GrowsBy-none _
 
 pub loop-double-preserved : goal.loop-double-preserved
 loop-double-preserved c = GrowsBy-more_item _ _ _ _ _ _ _ c.double-item.is c.loop-double-test.true c.loop-double.invariant c.in_ok-add_double.ensures

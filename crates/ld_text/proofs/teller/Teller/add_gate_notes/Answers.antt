@@ -1,7 +1,7 @@
 use Rattle.std.proofs.Common.{◌≡◌, ◌<◌, [], ap, arith, inr, length, map, refl, slice_index_or, string_bytes, subst, sym}
 use Rattle.ld_text.specs.Explanation.{IsGateNote}
 use Rattle.ld_text.specs.Groups.{GrowsBy}
-use Rattle.ld_text.proofs.GroupLemmas.{GrowsBy-more_item, GrowsBy-none}
+use Rattle.ld_text.proofs.GroupLemmas.{GrowsBy-more_item}
 use Rattle.ld_text.proofs.NoteLemmas.{notes-none, notes-nowhere}
 use Rattle.ld_text.proofs.teller.Teller.add_gate_notes.Goals as goal
 
@@ -10,9 +10,6 @@ returns-then-not-may_have_gates c =
     let none = c.may_have_gates.ensures c.if-not-may_have_gates.true in
     notes-none _ _ (notes-nowhere (IsGateNote c.args.self.now.told c.args.walk.now)
     (λ gate. record { guarded = []; are = none gate; notes_are = inr (omega arith, refl) }) c.args.self.now.keys)
-
-pub loop-i-init : goal.loop-i-init
-loop-i-init c = GrowsBy-none _
 
 pub loop-i-preserved : goal.loop-i-preserved
 loop-i-preserved c =

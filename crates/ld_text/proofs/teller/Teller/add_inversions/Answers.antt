@@ -1,10 +1,7 @@
 use Rattle.std.proofs.Common.{subst, sym}
 use Rattle.ld_text.specs.Inside.Choosing.{IsToldInversion}
-use Rattle.ld_text.proofs.GroupLemmas.{GrowsBy-more_item, GrowsBy-none}
+use Rattle.ld_text.proofs.GroupLemmas.{GrowsBy-more_item}
 use Rattle.ld_text.proofs.teller.Teller.add_inversions.Goals as goal
-
-pub loop-inversion-init : goal.loop-inversion-init
-loop-inversion-init c = GrowsBy-none _
 
 pub loop-inversion-preserved : goal.loop-inversion-preserved
 loop-inversion-preserved c = GrowsBy-more_item _ _ _ _ _ _ _ c.inversion-item.is c.loop-inversion-test.true c.loop-inversion.invariant c.in_ok-add_inversion.ensures

@@ -1,13 +1,13 @@
 -- The facts of a chain are added one after the other.
 use Rattle.std.proofs.Common.{◌≡◌, ℕ, ◌+◌, ◌⊎◌, ◌↔◌, refl, ap, sym, ◌∙◌, subst, inl, inr, arith, Bool, true, false, ◌||◌, Some}
-use Rattle.std.proofs.lemmas.Bool.{cases_eq, cases_Bool, or_cases}
+use Rattle.std.proofs.lemmas.Bool.{cases_eq, cases_Bool, or_cases, or_parts}
 use Rattle.std.proofs.lemmas.Option.{same_Some}
 use Rattle.ld_task.specs.Chains.{ChainParts}
 use Rattle.ld_facts.specs.Facts.{ChainHas, Holds, Adds}
 use Rattle.ld_facts.specs.FactBits.{FactParts, HasFact}
 use Rattle.ld_facts.specs.ChainFacts.{chain_fact, fact_slots, StandsIn}
 use Rattle.ld_facts.specs.declared.fact.Fact.{Fact}
-use Rattle.ld_facts.specs.ChainLaws.{chain_fact-sound, chain_fact-complete}
+use Rattle.ld_facts.specs.Laws.Chains.{chain_fact-sound, chain_fact-complete}
 
 -- the facts at the chain's first n slots have been added, and `fresh` says whether one was new
 pub record Grown (first now : FactParts) (c : ChainParts) (n : ℕ) (fresh : Bool) : Type 0 where
@@ -23,10 +23,6 @@ Grown-start first c = record {
   known = λ h. refl;
   news = λ h. absurd (let e : false ≡ true = h in cc);
 }
-
-pub neither : (a b : Bool) → (a || b) ≡ false → (a ≡ false) × (b ≡ false)
-neither false b h = (refl, h)
-neither true b h = absurd (let e : true ≡ false = h in cc)
 
 -- one more slot
 pub StandsIn-later : (c : ChainParts) (x : Fact) (n : ℕ) → StandsIn c x n → StandsIn c x (n + 1)
@@ -74,7 +70,7 @@ module _ (first now : FactParts) (c : ChainParts) (n : ℕ) (fresh : Bool) (was 
       (λ h. elim ((adds y).0 h) [ inl m ↦ inl m | inr e ↦ inr (at ∙ ap Some (sym e)) ]),
       (λ h. (adds y).1 (elim h [ inl m ↦ inl m | inr e ↦ inr (sym (same_Some x y (sym at ∙ e))) ])),
     ));
-    known = λ h. let (before, here) = neither fresh added h in unchanged here ∙ was.known before;
+    known = λ h. let (before, here) = or_parts fresh added h in unchanged here ∙ was.known before;
     news = λ h. elim (or_cases fresh added h) [
       | inl before ↦ later before
       | inr here ↦ (x, (n, omega arith, at), λ o. let off = known.1 ((was.facts x).1 (inl o)) in cc)

@@ -8,7 +8,7 @@ use Rattle.ld_trace.specs.declared.event.Irq.{Irq}
 use Rattle.ld_task.specs.declared.mark.Mark.TheVariants.{UsedIn, Enabled}
 use Rattle.ld_task.specs.Kinds.{is_s, is_r}
 use Rattle.ld_facts.specs.Arrows.{Arrow, MayFollow}
-use Rattle.ld_graph.specs.FactLaws.{StrongWalk-members}
+use Rattle.ld_graph.specs.Laws.Facts.{StrongWalk-members}
 use Rattle.ld_facts.specs.Facts.{AreSame, DependenciesOf}
 use Rattle.ld_graph.specs.Links.{IsLink, IsDouble, IsDoubleBy, IsInversion, IsInversionWith, InInversion, IsShortestInversion, IsClean}
 use Rattle.ld_parts.specs.Ranks.{AmongRank}

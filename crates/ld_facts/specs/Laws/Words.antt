@@ -1,14 +1,13 @@
 -- Laws of words of facts that the proofs of the crates above cite.
-use Rattle.std.specs.Prelude.{◌≡◌, ◌≢◌, ℕ, suc, ◌+◌, ◌*◌, ◌/◌, ◌%◌, ◌^◌, ◌<◌, ◌⊎◌, ◌↔◌, Bool, ◌==◌, if◌then◌else◌, List, [], ◌∷◌, ◌++◌, length, slice_index, All, bit_or}
+use Rattle.std.specs.Prelude.{◌≡◌, ◌≢◌, ℕ, suc, ◌+◌, ◌*◌, ◌/◌, ◌%◌, ◌^◌, ◌<◌, ◌⊎◌, ◌↔◌, Bool, ◌==◌, if◌then◌else◌, List, [], ◌∷◌, ◌++◌, length, All, bit_or}
 use Rattle.std.specs.Int.{bit_at}
-use Rattle.std.proofs.Common.{◌∙◌, refl, ap, sym, subst, inl, inr, arith, max, get_or, eq-eqb, eqb-true}
+use Rattle.std.proofs.Common.{◌∙◌, refl, ap, sym, subst, inl, inr, arith, max, get_or, eq-eqb}
 use Rattle.std.proofs.lemmas.Bool.{cases_eq, cases_lt, ne_eqb}
 use Rattle.std.proofs.lemmas.Nat.Bits.{bit_at_or, bit_at-zero, bit_at-lt, bit_at_above, same_from_bits}
-use Rattle.ld_facts.specs.FactBits.{FactParts, HasFact}
-use Rattle.ld_facts.specs.Facts.{AreSame, Holds}
-use Rattle.ld_facts.specs.Laws.{EachBitIsAFacts, FactsHaveBits}
+use Rattle.ld_facts.specs.Facts.{Holds}
+use Rattle.ld_facts.specs.Laws.{EachBitIsAFacts}
 use Rattle.ld_facts.specs.Numbers.{bit_total, fact_number}
-use Rattle.ld_facts.specs.WordPairs.{bits_of, Within, PairsHave, NonePast, word_total}
+use Rattle.ld_facts.specs.WordPairs.{bits_of, Within, PairsHave, NonePast}
 use Rattle.ld_facts.specs.declared.fact.Fact.{Fact}
 
 -- ---- unions of bits
@@ -118,20 +117,3 @@ Within-facts each keys p q fits none_past holds n = Within-from_bits (bits_of n 
               subst (λ m. bit_at (bits_of m q) k ≡ 1) word (subst (λ j. bit_at (bits_of (fact_number keys x / 64) q) j ≡ 1) place
               (holds x (below, subst (λ m. bit_at (bits_of m p) (fact_number keys x % 64) ≡ 1) (sym word) (subst (λ j. bit_at (bits_of n p) j ≡ 1) (sym place) on))).1)
         ]
-
--- facts whose words are those of the pairs are the pairs' facts
-pub HasFact-words : FactsHaveBits → (facts : FactParts) (pairs : List (ℕ × ℕ)) →
-    ((n : ℕ) → n < word_total facts.keys → slice_index facts.words n ≡ bits_of n pairs) →
-    AreSame (HasFact facts) (PairsHave facts.keys pairs)
-HasFact-words number facts pairs words x =
-    let n : ℕ = fact_number facts.keys x in (
-      (λ (below, on). (below, sym (at below) ∙ eqb-true (bit_at (slice_index facts.words (n / 64)) (n % 64)) 1 on)),
-      (λ (below, on). (below, eq-eqb (bit_at (slice_index facts.words (n / 64)) (n % 64)) 1 (at below ∙ on))),
-    )
-  where
-    at : Rattle.ld_facts.specs.FactBits.FactBelow facts.keys x →
-        bit_at (slice_index facts.words (fact_number facts.keys x / 64)) (fact_number facts.keys x % 64) ≡
-        bit_at (bits_of (fact_number facts.keys x / 64) pairs) (fact_number facts.keys x % 64)
-    at below =
-        let l : fact_number facts.keys x < bit_total facts.keys = number facts.keys x below in
-        ap (λ w. bit_at w (fact_number facts.keys x % 64)) (words (fact_number facts.keys x / 64) (omega arith))

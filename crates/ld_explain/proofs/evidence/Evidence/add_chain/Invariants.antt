@@ -4,7 +4,7 @@ use Rattle.ld_task.specs.Placed.{IsPlacedAfter}
 use Rattle.ld_task.specs.TraceChains.{chain}
 use Rattle.ld_explain.specs.Inside.Firsts.{SeenFrom, SeenTo}
 use Rattle.ld_explain.specs.Inside.Taking.{AreTakenIn}
-use Rattle.ld_explain.proofs.evidence.Evidence.add_slots.Given as goal
+use Rattle.ld_explain.proofs.evidence.Evidence.add_chain.Given as goal
 
 -- the occurrences in the last slots are taken in
 abbrev pub invariant-loop-passed : goal.invariant-loop-passed

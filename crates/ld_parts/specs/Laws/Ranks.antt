@@ -3,7 +3,7 @@ use Rattle.std.specs.Prelude.{◌≡◌, ℕ, ◌≤◌, ◌↔◌, List, [], �
 use Rattle.std.proofs.Common.{refl, ap, sym, ◌∙◌, subst, arith}
 use Rattle.ld_trace.specs.declared.event.Irq.{Irq}
 use Rattle.ld_facts.specs.Arrows.{Arrow}
-use Rattle.ld_graph.specs.FactLaws.{StrongWalk-members, IsCircle-more, OnCircle-more, IsDouble-more, IsDoubleBy-more, IsInversion-more, IsInversionWith-more, InInversion-more, IsClean-fewer}
+use Rattle.ld_graph.specs.Laws.Facts.{StrongWalk-members, IsCircle-more, OnCircle-more, IsDouble-more, IsDoubleBy-more, IsInversion-more, IsInversionWith-more, InInversion-more, IsClean-fewer}
 use Rattle.ld_facts.specs.Facts.{Holds, DependenciesOf}
 use Rattle.ld_graph.specs.Links.{IsDouble, IsDoubleBy, IsInversion, IsInversionWith, InInversion, IsShortestInversion, IsClean}
 use Rattle.ld_parts.specs.Ranks.{NoneGoesDown, AmongRank, IsShortestOfRanks, AreFoundByRank}

@@ -10,7 +10,7 @@ use Rattle.ld_facts.specs.Inside.Bits.{has_bit, count_below}
 use Rattle.ld_facts.specs.Numbers.{dependency_total, mark_total}
 use Rattle.ld_facts.specs.FactBits.{FactParts, dependency_count, mark_count, rows_allowed}
 use Rattle.ld_facts.specs.Counting.{IsNumberOf}
-use Rattle.ld_facts.specs.BitLaws.{count_below-le}
+use Rattle.ld_facts.specs.Laws.Bits.{count_below-le}
 use Rattle.std.proofs.lemmas.Nat.{mul-le}
 use Rattle.ld_trace.specs.declared.key_id.TheConstants.{MAX_KEYS}
 use Rattle.ld_facts.specs.declared.places.TheConstants.{PLACES}

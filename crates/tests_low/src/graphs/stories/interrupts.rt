@@ -1,0 +1,345 @@
+//! Stories of doubles and inversions.
+
+use super::{Double, Inversion, NOTHING, Story, misfit};
+use crate::steps::Step::{Enter, Give, Leave, Read, Reread, TurnOff, TurnOn, Write};
+use crate::steps::{A, B, C, D};
+use ld_task::Kind::{En, Sn};
+use ld_trace::Irq::{Hard, Soft};
+
+// What is wrong with interrupts.
+static INTERRUPTS: [Story; 18] = [
+    Story {
+        about: "a double of a writer, and none of readers alone",
+        traces: &[
+            &[Enter(Hard), Read(A), Give(A), Leave],
+            &[Read(A), Give(A)],
+            &[Enter(Hard), Write(B), Give(B), Leave],
+            &[Write(B), Give(B)],
+        ],
+        clean: 3,
+        doubles: &[Double {
+            irq: Hard,
+            key: B,
+            forms: (false, false),
+        }],
+        ..NOTHING
+    },
+    Story {
+        about: "a double of two writers",
+        keys: 1,
+        traces: &[
+            &[Enter(Hard), Write(A), Give(A), Leave],
+            &[Write(A), Give(A)],
+        ],
+        clean: 1,
+        doubles: &[Double {
+            irq: Hard,
+            key: A,
+            forms: (false, false),
+        }],
+        ..NOTHING
+    },
+    Story {
+        about: "a double that is used by a reader",
+        keys: 1,
+        traces: &[
+            &[Enter(Hard), Read(A), Give(A), Leave],
+            &[Write(A), Give(A)],
+        ],
+        clean: 1,
+        doubles: &[Double {
+            irq: Hard,
+            key: A,
+            forms: (false, true),
+        }],
+        ..NOTHING
+    },
+    Story {
+        about: "a double that is enabled by a reader",
+        keys: 1,
+        traces: &[
+            &[Enter(Hard), Write(A), Give(A), Leave],
+            &[Read(A), Give(A)],
+        ],
+        clean: 1,
+        doubles: &[Double {
+            irq: Hard,
+            key: A,
+            forms: (true, false),
+        }],
+        ..NOTHING
+    },
+    Story {
+        about: "two readers make no double",
+        keys: 1,
+        traces: &[&[Enter(Hard), Read(A), Give(A), Leave], &[Read(A), Give(A)]],
+        clean: 2,
+        ..NOTHING
+    },
+    Story {
+        about: "a double in a later rank",
+        ranks: &[3, 5],
+        traces: &[
+            &[Enter(Hard), Write(B), Give(B), Leave],
+            &[TurnOff(Hard), Write(A), Write(B), Give(B), Give(A)],
+            &[Write(B), Give(B)],
+        ],
+        dependencies: 1,
+        clean: 3,
+        doubles: &[Double {
+            irq: Hard,
+            key: B,
+            forms: (false, false),
+        }],
+        ..NOTHING
+    },
+    Story {
+        about: "an inversion in the order used, under, enabled",
+        traces: &[
+            &[Enter(Soft), Write(A), Give(A), Leave],
+            &[
+                TurnOff(Soft),
+                Write(A),
+                Write(B),
+                Give(B),
+                Give(A),
+                TurnOn(Soft),
+            ],
+            &[Write(B), Give(B)],
+        ],
+        dependencies: 1,
+        clean: 4,
+        inversions: &[Inversion {
+            irq: Soft,
+            ends: (A, B),
+            forms: (false, false),
+            walk: &[(A, B, En)],
+        }],
+        inverted: &[(A, B, En)],
+        ..NOTHING
+    },
+    Story {
+        about: "an inversion in the order enabled, under, used",
+        traces: &[
+            &[Write(B), Give(B)],
+            &[
+                TurnOff(Soft),
+                Write(A),
+                Write(B),
+                Give(B),
+                Give(A),
+                TurnOn(Soft),
+            ],
+            &[Enter(Soft), Write(A), Give(A), Leave],
+        ],
+        dependencies: 1,
+        clean: 4,
+        inversions: &[Inversion {
+            irq: Soft,
+            ends: (A, B),
+            forms: (false, false),
+            walk: &[(A, B, En)],
+        }],
+        inverted: &[(A, B, En)],
+        ..NOTHING
+    },
+    Story {
+        about: "an inversion in the order used, enabled, under",
+        traces: &[
+            &[Enter(Soft), Write(A), Give(A), Leave],
+            &[Write(B), Give(B)],
+            &[
+                TurnOff(Soft),
+                Write(A),
+                Write(B),
+                Give(B),
+                Give(A),
+                TurnOn(Soft),
+            ],
+        ],
+        dependencies: 1,
+        clean: 3,
+        inversions: &[Inversion {
+            irq: Soft,
+            ends: (A, B),
+            forms: (false, false),
+            walk: &[(A, B, En)],
+        }],
+        inverted: &[(A, B, En)],
+        ..NOTHING
+    },
+    Story {
+        about: "an inversion is tested where its walk begins: a reader",
+        traces: &[
+            &[Enter(Hard), Read(A), Give(A), Leave],
+            &[TurnOff(Hard), Read(A), Write(B), Give(B), Give(A)],
+            &[Write(B), Give(B)],
+        ],
+        dependencies: 1,
+        clean: 4,
+        ..NOTHING
+    },
+    Story {
+        about: "an inversion is tested where its walk begins: a writer",
+        traces: &[
+            &[Enter(Hard), Read(A), Give(A), Leave],
+            &[TurnOff(Hard), Write(A), Write(B), Give(B), Give(A)],
+            &[Write(B), Give(B)],
+        ],
+        dependencies: 1,
+        clean: 3,
+        inversions: &[Inversion {
+            irq: Hard,
+            ends: (A, B),
+            forms: (false, true),
+            walk: &[(A, B, En)],
+        }],
+        inverted: &[(A, B, En)],
+        ..NOTHING
+    },
+    Story {
+        about: "an inversion is tested where its walk ends: a recursive reader",
+        traces: &[
+            &[Enter(Hard), Write(A), Give(A), Leave],
+            &[TurnOff(Hard), Write(A), Reread(B), Give(B), Give(A)],
+            &[Reread(B), Give(B)],
+        ],
+        dependencies: 1,
+        clean: 4,
+        ..NOTHING
+    },
+    Story {
+        about: "an inversion is tested where its walk ends: a writer",
+        traces: &[
+            &[Enter(Hard), Write(A), Give(A), Leave],
+            &[TurnOff(Hard), Write(A), Write(B), Give(B), Give(A)],
+            &[Reread(B), Give(B)],
+        ],
+        dependencies: 1,
+        clean: 3,
+        inversions: &[Inversion {
+            irq: Hard,
+            ends: (A, B),
+            forms: (true, false),
+            walk: &[(A, B, En)],
+        }],
+        inverted: &[(A, B, En)],
+        ..NOTHING
+    },
+    Story {
+        about: "an inversion of hardirqs",
+        traces: &[
+            &[Enter(Hard), Write(A), Give(A), Leave],
+            &[TurnOff(Hard), Write(A), Write(B), Give(B), Give(A)],
+            &[Write(B), Give(B)],
+        ],
+        dependencies: 1,
+        clean: 3,
+        inversions: &[Inversion {
+            irq: Hard,
+            ends: (A, B),
+            forms: (false, false),
+            walk: &[(A, B, En)],
+        }],
+        inverted: &[(A, B, En)],
+        ..NOTHING
+    },
+    Story {
+        about: "an inversion of three dependencies, and one of four",
+        keys: 5,
+        traces: &[
+            &[Enter(Soft), Write(A), Give(A), Leave],
+            &[TurnOff(Soft), Write(A), Write(C)],
+            &[TurnOff(Soft), Write(C), Write(D)],
+            &[TurnOff(Soft), Write(D), Write(B)],
+            &[Write(B), Write(4)],
+        ],
+        dependencies: 4,
+        clean: 7,
+        inversions: &[
+            Inversion {
+                irq: Soft,
+                ends: (A, B),
+                forms: (false, false),
+                walk: &[(A, C, En), (C, D, En), (D, B, En)],
+            },
+            Inversion {
+                irq: Soft,
+                ends: (A, 4),
+                forms: (false, false),
+                walk: &[(A, C, En), (C, D, En), (D, B, En), (B, 4, En)],
+            },
+        ],
+        inverted: &[(A, C, En), (C, D, En), (D, B, En), (B, 4, En)],
+        ..NOTHING
+    },
+    Story {
+        about: "a dependency beside an inversion is in none",
+        keys: 4,
+        traces: &[
+            &[Enter(Hard), Write(A), Give(A), Leave],
+            &[TurnOff(Hard), Write(A), Write(B)],
+            &[TurnOff(Hard), Write(A), Write(C)],
+            &[TurnOff(Hard), Write(D), Write(B)],
+            &[Write(B), Give(B)],
+        ],
+        dependencies: 3,
+        clean: 7,
+        inversions: &[Inversion {
+            irq: Hard,
+            ends: (A, B),
+            forms: (false, false),
+            walk: &[(A, B, En)],
+        }],
+        inverted: &[(A, B, En)],
+        ..NOTHING
+    },
+    Story {
+        about: "the shorter of two links' walks",
+        keys: 3,
+        traces: &[
+            &[Enter(Hard), Read(A), Give(A), Leave],
+            &[Enter(Hard), Write(A), Give(A), Leave],
+            &[TurnOff(Hard), Read(A), Write(B), Give(B), Give(A)],
+            &[TurnOff(Hard), Write(A), Write(C)],
+            &[TurnOff(Hard), Write(C), Write(B)],
+            &[Write(B), Give(B)],
+        ],
+        dependencies: 3,
+        clean: 8,
+        inversions: &[Inversion {
+            irq: Hard,
+            ends: (A, B),
+            forms: (false, false),
+            walk: &[(A, B, Sn)],
+        }],
+        inverted: &[(A, B, Sn), (A, C, En), (C, B, En)],
+        ..NOTHING
+    },
+    Story {
+        about: "an inversion in a later rank",
+        keys: 4,
+        ranks: &[0, 1, 1, 1],
+        traces: &[
+            &[Enter(Hard), Write(B), Give(B), Leave],
+            &[Enter(Hard), Write(C), Give(C), Leave],
+            &[TurnOff(Hard), Write(C), Write(D)],
+            &[Write(D), Give(D)],
+        ],
+        dependencies: 1,
+        clean: 4,
+        inversions: &[Inversion {
+            irq: Hard,
+            ends: (C, D),
+            forms: (false, false),
+            walk: &[(C, D, En)],
+        }],
+        inverted: &[(C, D, En)],
+        ..NOTHING
+    },
+];
+
+#[test]
+fn doubles_and_inversions_are_found(rt: HostRuntime) {
+    assert_eq!(rt; misfit(rt.alloc(), &INTERRUPTS), None);
+}
