@@ -10,16 +10,15 @@ use Rattle.ld_facts.specs.FactBits.{FactParts, HasFact}
 use Rattle.ld_facts.specs.Facts.{AreSame, Holds}
 use Rattle.ld_facts.specs.Laws.Lists.{Any-push, Contains-head}
 use Rattle.ld_facts.specs.declared.fact.Fact.{Fact}
-use Rattle.ld_run.specs.Seats.{view, claims_of}
-use Rattle.ld_run.specs.Views.{newcomer, times, once_below, PutHas, SeenHas, KnowsFact}
+use Rattle.ld_board.specs.Seats.{view, claims_of}
+use Rattle.ld_board.specs.Views.{newcomer, times, once_below, PutHas, SeenHas, KnowsFact}
 use Rattle.ld_run.specs.Tallies.{Every, HasBeforeFault, IsRefused, IsTally, LeastRefusedIs, OfSome}
 use Rattle.ld_run.specs.Work.{HasWorked}
 use Rattle.ld_run.specs.Inside.Crews.{HasDrawn, SomeHasDrawn, earlier_refused}
-use Rattle.ld_run.specs.declared.view.View.{View}
-use Rattle.ld_run.specs.declared.seat.Seat.{Seat}
+use Rattle.ld_board.specs.declared.view.View.{View}
+use Rattle.ld_board.specs.declared.seat.Seat.{Seat}
 use Rattle.ld_run.specs.declared.worker.Worked.{Worked}
-use Rattle.ld_run.proofs.SeatFacts.{Any-cases, Any-here, Any-later, none_has}
-use Rattle.ld_run.proofs.WordLists.{times_append}
+use Rattle.ld_board.specs.Laws.Seats.{Any-cases, Any-here, Any-later, none_has, times_append}
 use Rattle.ld_run.proofs.Working.{Contains-cases, Contains-later, least-same, no_member}
 
 -- ---- the first refused of two parts of the traces

@@ -5,11 +5,6 @@ pub mod Summing
 pub mod WalkedLemmas
 pub mod Settlements
 pub mod Counts
-pub mod Gather
-pub mod WordLists
-pub mod Moves
-pub mod SeatLists
-pub mod SeatFacts
 pub mod Working
 pub mod Crews
 pub mod AheadLemmas

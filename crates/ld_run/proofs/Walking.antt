@@ -14,10 +14,9 @@ use Rattle.ld_task.specs.TraceChains.{chains}
 use Rattle.ld_facts.specs.Laws.Lists.{Any-push}
 use Rattle.ld_facts.specs.Facts.{AreSame, ChainHas, ChainsHave, Holds}
 use Rattle.ld_facts.specs.declared.fact.Fact.{Fact}
-use Rattle.ld_run.specs.Views.{KnowsFact}
-use Rattle.ld_run.specs.Work.{PutsOnly}
+use Rattle.ld_board.specs.Views.{KnowsFact, PutsOnly}
 use Rattle.ld_run.specs.Inside.Walks.{ComesNext, HasGathered, WalksOn, fault_in}
-use Rattle.ld_run.specs.declared.view.View.{View}
+use Rattle.ld_board.specs.declared.view.View.{View}
 use Rattle.ld_run.specs.declared.worker.Lost.{Lost}
 
 -- the chain of an event of a trace has the trace's keys

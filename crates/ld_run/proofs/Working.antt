@@ -7,11 +7,11 @@ use Rattle.ld_task.specs.WellFormed.{IsWellFormed}
 use Rattle.ld_facts.specs.Facts.{Holds}
 use Rattle.ld_facts.specs.declared.fact.Fact.{Fact}
 use Rattle.ld_facts.specs.Laws.Lists.{Contains-head}
-use Rattle.ld_run.specs.Views.{KnowsFact, with_claim}
+use Rattle.ld_board.specs.Views.{KnowsFact, with_claim, PutsOnly}
 use Rattle.ld_run.specs.Tallies.{HasBeforeFault, IsRefused, LeastRefusedIs, OfSome}
-use Rattle.ld_run.specs.Work.{DrawnHave, HasFinished, PutsOnly}
+use Rattle.ld_run.specs.Work.{DrawnHave, HasFinished}
 use Rattle.ld_run.specs.Inside.Walks.{FirstFaultIs, first_refused_of}
-use Rattle.ld_run.specs.declared.view.View.{View}
+use Rattle.ld_board.specs.declared.view.View.{View}
 use Rattle.ld_run.proofs.Walking.{PutsOnly-more, PutsOnly-then}
 
 -- ---- members of a longer list

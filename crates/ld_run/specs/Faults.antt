@@ -1,7 +1,5 @@
 -- The codes of refused runs [this project's own].
 use Rattle.std.specs.Prelude.{ℕ, List, codes}
-use Rattle.ld_run.specs.declared.board_fault.BoardFault.{BoardFault}
-use Rattle.ld_run.specs.declared.board_fault.BoardFault.TheVariants as C
 use Rattle.ld_run.specs.declared.condense_fault.CondenseFault.{CondenseFault}
 use Rattle.ld_run.specs.declared.condense_fault.CondenseFault.TheVariants as D
 use Rattle.ld_run.specs.declared.fault.RunFault.{RunFault}
@@ -15,11 +13,6 @@ run_code_of Unsettled = codes "N3 Unsettled"
 run_code_of Memory = codes "N4 Memory"
 run_code_of (Refused trace place fault) = codes "N5 Refused"
 run_code_of TooTangled = codes "M1 TooTangled"
-
--- the number and name of a board's fault
-abbrev pub board_code_of : BoardFault → List ℕ
-board_code_of C.Seats = codes "C1 Seats"
-board_code_of C.Memory = codes "C2 Memory"
 
 -- the number and name of why facts aren't condensed
 abbrev pub condense_code_of : CondenseFault → List ℕ

@@ -1,6 +1,4 @@
 pub mod Crews
 pub mod Walks
-pub mod BoardRule
-pub mod Gathered
 pub mod Ahead
 pub mod Walked

@@ -3,9 +3,6 @@ pub mod Faults
 pub mod Runs
 pub mod Settling
 pub mod Tallies
-pub mod Views
-pub mod Seats
-pub mod Boards
 pub mod Condensing
 pub mod Work
 pub mod Reading

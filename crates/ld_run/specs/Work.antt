@@ -4,17 +4,11 @@ use Rattle.ld_trace.specs.declared.event.Event.{Event}
 use Rattle.ld_task.specs.declared.fault.StepAt.{StepAt}
 use Rattle.ld_facts.specs.Facts.{Holds}
 use Rattle.ld_facts.specs.declared.fact.Fact.{Fact}
-use Rattle.ld_run.specs.Views.{PutHas, KnowsFact}
-use Rattle.ld_run.specs.Seats.{view}
+use Rattle.ld_board.specs.Views.{KnowsFact, PutsOnly}
+use Rattle.ld_board.specs.Seats.{view}
 use Rattle.ld_run.specs.Tallies.{HasBeforeFault, IsRefused, LeastRefusedIs, OfSome}
-use Rattle.ld_run.specs.declared.view.View.{View}
+use Rattle.ld_board.specs.declared.view.View.{View}
 use Rattle.ld_run.specs.declared.worker.Worked.{Worked}
-
--- what was put before is still put, and beyond it only facts of P; what was put or seen before still is
-pub record PutsOnly (keys : ℕ) (old new : View) (P : Fact → Type 0) : Type 0 where
-  pub keeps : Holds (PutHas keys new) (PutHas keys old)
-  pub only : (x : Fact) → PutHas keys new x → PutHas keys old x ⊎ P x
-  pub knows : Holds (KnowsFact keys new) (KnowsFact keys old)
 
 -- some trace whose place was drawn has the fact before its first event that isn't allowed
 abbrev pub DrawnHave : List (List Event) → (drawn : List ℕ) → Fact → Type 0

@@ -4,18 +4,17 @@ ghost use Rattle.std.specs.Prelude.{◌≡◌, ◌<◌, ◌≤◌, ◌+◌, ℕ,
 ghost use Rattle.ld_trace.specs.declared.event.Event.{Event};
 ghost use Rattle.ld_trace.specs.Events.{KeysBelow};
 ghost use Rattle.ld_facts.specs.Facts.{Holds};
-ghost use Rattle.ld_run.specs.Boards.{keys_of, IsSeatOf};
-ghost use Rattle.ld_run.specs.Seats.{view};
-ghost use Rattle.ld_run.specs.Views.{KnowsFact};
+ghost use Rattle.ld_board.specs.Boards.{keys_of, IsSeatOf};
+ghost use Rattle.ld_board.specs.Seats.{view};
+ghost use Rattle.ld_board.specs.Views.{KnowsFact, PutsOnly};
 ghost use Rattle.ld_run.specs.Tallies.{HasBeforeFault};
-ghost use Rattle.ld_run.specs.Work.{HasWorked, PutsOnly};
+ghost use Rattle.ld_run.specs.Work.{HasWorked};
 ghost use Rattle.ld_run.specs.Inside.Walks.{ComesNext, FirstFaultIs, WalksOn, fault_in, first_refused_of};
-ghost use Rattle.ld_run.specs.declared.seat.TheConstants.{MAX_CLAIMS};
-ghost use Rattle.ld_run.specs.declared.view.View.{View};
+ghost use Rattle.ld_board.specs.declared.seat.TheConstants.{MAX_CLAIMS};
+ghost use Rattle.ld_board.specs.declared.view.View.{View};
 
-use crate::board::Board;
 use crate::gate::Gate;
-use crate::seat::Seat;
+use ld_board::{Board, Seat};
 use ld_book::{BookFault, LockedBook};
 use ld_task::{Chain, StepAt, StepFault, TaskState};
 use ld_trace::{Event, MAX_EVENTS, RawTrace};

@@ -2,9 +2,9 @@
 
 ghost use Rattle.std.specs.Prelude.{◌≡◌, ◌≤◌, All, IfOk, IsTrue, length};
 ghost use Rattle.ld_trace.specs.Events.{KeysBelow};
-ghost use Rattle.ld_run.specs.Boards.{keys_of, IsSeatOf};
-ghost use Rattle.ld_run.specs.Seats.{view};
-ghost use Rattle.ld_run.specs.Views.{newcomer};
+ghost use Rattle.ld_board.specs.Boards.{keys_of, IsSeatOf};
+ghost use Rattle.ld_board.specs.Seats.{view};
+ghost use Rattle.ld_board.specs.Views.{newcomer};
 
 use crate::runs::gates::{Meeting, one_lock_each};
 use ld_book::{Book, LockedBook};

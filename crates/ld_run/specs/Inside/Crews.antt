@@ -1,7 +1,7 @@
 -- What the workers of a run return together [this project's own].
 use Rattle.std.specs.Prelude.{ℕ, List, Option, Some, None, Any, Contains, if◌then◌else◌, nat_lt}
 use Rattle.ld_task.specs.declared.fault.StepAt.{StepAt}
-use Rattle.ld_run.specs.Seats.{view}
+use Rattle.ld_board.specs.Seats.{view}
 use Rattle.ld_run.specs.declared.worker.Worked.{Worked}
 
 -- the worker claimed the number

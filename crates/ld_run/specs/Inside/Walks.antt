@@ -9,9 +9,8 @@ use Rattle.ld_task.specs.Steps.{IsStateAfter}
 use Rattle.ld_task.specs.TraceChains.{chains}
 use Rattle.ld_task.specs.WellFormed.{IsWellFormed, IsFirstFault}
 use Rattle.ld_facts.specs.Facts.{ChainsHave, Holds}
-use Rattle.ld_run.specs.Views.{KnowsFact}
-use Rattle.ld_run.specs.Work.{PutsOnly}
-use Rattle.ld_run.specs.declared.view.View.{View}
+use Rattle.ld_board.specs.Views.{KnowsFact, PutsOnly}
+use Rattle.ld_board.specs.declared.view.View.{View}
 use Rattle.ld_run.specs.declared.worker.Lost.{Lost}
 
 -- nothing but the facts of the chains of the trace's first n events was put, and all of them are put or seen

@@ -1,8 +1,8 @@
 use Rattle.std.proofs.Common.{◌∙◌, ◌+◌, sym, subst, take, arith}
 use Rattle.ld_task.specs.TraceChains.{chains}
 use Rattle.ld_facts.specs.Facts.{ChainsHave}
-use Rattle.ld_run.specs.Boards.{keys_of}
-use Rattle.ld_run.specs.Seats.{view}
+use Rattle.ld_board.specs.Boards.{keys_of}
+use Rattle.ld_board.specs.Seats.{view}
 use Rattle.ld_run.specs.Tallies.{HasBeforeFault}
 use Rattle.ld_run.specs.Inside.Walks.{WalksOn}
 use Rattle.ld_run.proofs.BeforeFaults.{before_fault-refused, before_fault-whole, beginning_has}

@@ -1,6 +1,6 @@
 use Rattle.std.proofs.Common.{◌-◌, ◌≤◌, ◌+◌, ℕ, List, length}
-use Rattle.ld_run.specs.Boards.{keys_of, IsSeatOf}
-use Rattle.ld_run.specs.Seats.{view}
+use Rattle.ld_board.specs.Boards.{keys_of, IsSeatOf}
+use Rattle.ld_board.specs.Seats.{view}
 use Rattle.ld_run.proofs.Working.{IsWorking}
 use Rattle.ld_run.proofs.worker.work.Given as goal
 

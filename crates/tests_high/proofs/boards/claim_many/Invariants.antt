@@ -1,6 +1,6 @@
 use Rattle.std.proofs.Common.{◌≡◌, length}
-use Rattle.ld_run.specs.Boards.{IsSeatOf}
-use Rattle.ld_run.specs.Seats.{view}
+use Rattle.ld_board.specs.Boards.{IsSeatOf}
+use Rattle.ld_board.specs.Seats.{view}
 use Rattle.tests_high.proofs.boards.claim_many.Given as goal
 
 -- as many numbers were claimed

@@ -1,7 +1,7 @@
 use Rattle.std.proofs.Common.{◌∷◌, ◌++◌, [], List, All, ap, ◌∙◌, sym, subst}
 use Rattle.std.proofs.lemmas.List.Elements.{All-cons, All-nil}
-use Rattle.ld_run.specs.Boards.{IsSeatOf}
-use Rattle.ld_run.specs.declared.seat.Seat.{Seat}
+use Rattle.ld_board.specs.Boards.{IsSeatOf}
+use Rattle.ld_board.specs.declared.seat.Seat.{Seat}
 use Rattle.tests_high.proofs.boards.close_two.Goals as goal
 
 pub close-requires : goal.close-requires

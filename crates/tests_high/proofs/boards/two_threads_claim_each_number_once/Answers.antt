@@ -1,6 +1,6 @@
-use Rattle.ld_run.specs.Boards.{IsSeatOf}
+use Rattle.ld_board.specs.Boards.{IsSeatOf}
 use Rattle.tests_high.specs.declared.boards.Claimed.{Claimed}
-use Rattle.ld_run.proofs.SeatLists.{all_last}
+use Rattle.ld_board.specs.Laws.Seats.{all_last}
 use Rattle.tests_high.proofs.boards.two_threads_claim_each_number_once.Goals as goal
 
 pub close_two-requires : goal.close_two-requires

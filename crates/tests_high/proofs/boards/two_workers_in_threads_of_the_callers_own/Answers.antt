@@ -1,8 +1,8 @@
 use Rattle.std.proofs.Common.{rules, All, sym, subst, ◌∙◌}
 use Rattle.ld_trace.specs.Events.{KeysBelow}
-use Rattle.ld_run.specs.Boards.{IsSeatOf}
+use Rattle.ld_board.specs.Boards.{IsSeatOf}
 use Rattle.ld_run.specs.declared.worker.Worked.{Worked}
-use Rattle.ld_run.proofs.SeatLists.{all_last}
+use Rattle.ld_board.specs.Laws.Seats.{all_last}
 use Rattle.tests_high.proofs.boards.two_workers_in_threads_of_the_callers_own.Goals as goal
 
 pub close_two-requires : goal.close_two-requires

@@ -1,0 +1,5 @@
+pub mod Gather
+pub mod WordLists
+pub mod Moves
+pub mod SeatLists
+pub mod SeatFacts

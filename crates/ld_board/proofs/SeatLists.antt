@@ -1,0 +1,26 @@
+-- The last seat of a list.
+use Rattle.std.proofs.Common.{◌≡◌, ℕ, List, [], ◌∷◌, ◌++◌, length, get_or, All, refl, sym, ap, ◌∙◌, subst, arith, length-append, zero-add, zero, suc}
+use Rattle.std.proofs.lemmas.List.{get_or_append_left, get_or_push}
+use mathlib.Core.Option.{some, some-injective, some-ne-none}
+use lib.ListN.{get_elem?}
+use Rattle.ld_board.specs.declared.view.View.{View}
+use Rattle.ld_board.specs.declared.seat.Seat.{Seat}
+use Rattle.ld_board.specs.Inside.BoardRule.{joined}
+use Rattle.ld_board.specs.Views.{newcomer}
+use Rattle.ld_board.specs.Seats.{view}
+use Rattle.ld_board.specs.Inside.Gathered.{joined_onto, gathered}
+
+pub joined_onto_last : (v : View) (ss : List Seat) (s : Seat) → joined_onto v (ss ++ s ∷ []) ≡ joined_onto (joined v (view s)) ss
+joined_onto_last v [] s = refl
+joined_onto_last v (t ∷ ts) s = ap (λ (u : View). joined u (view t)) (joined_onto_last v ts s)
+
+pub gathered_is : (ss : List Seat) (s : Seat) (all : List Seat) → all ≡ ss ++ s ∷ [] → joined_onto (view s) ss ≡ gathered all
+gathered_is ss s all e =
+    let v : View = view s in
+    let same : joined (newcomer 0) v ≡ v = λ i. record { parts = zero-add v.parts i; claimed = v.claimed; put = v.put; seen = v.seen } in
+    sym (ap gathered e ∙ joined_onto_last (newcomer 0) ss s ∙ ap (λ (u : View). joined_onto u ss) same)
+
+pub read_is : (xs : List ℕ) (i a : ℕ) → get_elem? xs i ≡ some a → get_or xs i 0 ≡ a
+read_is [] i a e = absurd (some-ne-none a (sym e))
+read_is (x ∷ xs) zero a e = some-injective x a e
+read_is (x ∷ xs) (suc i) a e = read_is xs i a e
