@@ -4,6 +4,7 @@ pub mod NameLemmas
 pub mod ReadLemmas
 pub mod StoredLemmas
 pub mod TakenLemmas
+mod JoinedLemmas
 mod KnownLemmas
 mod WriteLemmas
 mod LineLemmas

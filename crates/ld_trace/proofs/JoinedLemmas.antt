@@ -1,0 +1,101 @@
+-- The traces of several texts that were read as one.
+use Rattle.std.proofs.Common.{◌≡◌, ℕ, suc, ◌+◌, ◌≤◌, Bool, true, false, List, [], ◌∷◌, ◌++◌, All, length, take, map, refl, sym, ap, ◌∙◌, arith, append_assoc, length-append}
+use Rattle.std.proofs.Math.Seq.{take-append_seam, take-length}
+use Rattle.std.proofs.lemmas.List.{append-nil, take-append-le}
+use Rattle.std.proofs.lemmas.List.Elements.{All-cons, All-nil}
+use Rattle.ld_trace.specs.declared.joining.NumberedTrace.{NumberedTrace}
+use Rattle.ld_trace.specs.declared.version.Version.{Version}
+use Rattle.ld_trace.specs.Events.{KeysBelow}
+use Rattle.ld_trace.specs.Joining.{joined_records, point}
+use Rattle.ld_trace.specs.JoinedTraces.{AreInTurn, AreReadTo, IsNumbered}
+use Rattle.ld_trace.specs.Lines.{Record}
+use Rattle.ld_trace.specs.Names.{Name}
+use Rattle.ld_trace.specs.Inside.Joined.{AreTakenInTurn, ended_records}
+use Rattle.ld_trace.specs.Inside.Progress.{AreTaken}
+use Rattle.ld_trace.specs.Reading.{ReadsTo, records_of}
+use Rattle.ld_trace.proofs.ReadLemmas.{reads-to}
+
+-- ---- one more part
+pub ended-more : (parts : List (List Record)) (rows : List Record) → ended_records (parts ++ rows ∷ []) ≡ ended_records parts ++ (rows ++ point ∷ [])
+unfolding ended_records
+ended-more [] rows = refl
+ended-more (part ∷ parts) rows =
+    rw (ended-more parts rows) (sym (append_assoc part (point ∷ ended_records parts) (rows ++ point ∷ [])))
+
+pub joined-last : (parts : List (List Record)) (rows : List Record) → joined_records (parts ++ rows ∷ []) ≡ ended_records parts ++ rows
+unfolding ended_records joined_records
+joined-last [] rows = refl
+joined-last (part ∷ []) rows = sym (append_assoc part (point ∷ []) rows)
+joined-last (part ∷ next ∷ parts) rows =
+    rw (joined-last (next ∷ parts) rows) (sym (append_assoc part (point ∷ ended_records (next ∷ parts)) rows))
+
+pub turn-none : (room : ℕ) (names : List Name) → AreTakenInTurn room names names [] []
+unfolding AreTakenInTurn
+turn-none room names = refl
+
+pub turn-more : (room : ℕ) (version : Version) (old mid now : List Name) (parts : List (List Record)) (rows : List Record) (traces : List NumberedTrace) (one : NumberedTrace)
+    → AreTakenInTurn room old mid parts traces → AreTaken room version mid rows now one.trace → one.before ≡ length mid → one.after ≡ length now
+    → AreTakenInTurn room old now (parts ++ rows ∷ []) (traces ++ one ∷ [])
+unfolding AreTakenInTurn
+turn-more room version old mid now [] rows [] one turn taken before after = (now, version, rw turn at taken, rw turn at before, after, refl)
+turn-more room version old mid now (part ∷ parts) rows (other ∷ more) one turn taken before after =
+    (turn.0, turn.1, turn.2, turn.3, turn.4, turn-more room version turn.0 mid now parts rows more one turn.5 taken before after)
+turn-more room version old mid now [] rows (other ∷ more) one turn taken before after = absurd turn
+turn-more room version old mid now (part ∷ parts) rows [] one turn taken before after = absurd turn
+
+-- ---- what the traces say, taken in turn
+pub turn-added : (room : ℕ) (old now : List Name) (parts : List (List Record)) (traces : List NumberedTrace) → AreTakenInTurn room old now parts traces → (added : List Name) × (now ≡ old ++ added)
+unfolding AreTakenInTurn
+turn-added room old now [] [] turn = ([], turn ∙ sym (append-nil old))
+turn-added room old now (rows ∷ parts) (one ∷ more) turn =
+    let first = turn.2.added in
+    let rest = turn-added room turn.0 now parts more turn.5 in
+    (first.0 ++ rest.0, rest.1 ∙ ap (λ names. names ++ rest.0) first.1 ∙ append_assoc old first.0 rest.0)
+turn-added room old now [] (one ∷ more) turn = absurd turn
+turn-added room old now (rows ∷ parts) [] turn = absurd turn
+
+pub turn-length : (room : ℕ) (old now : List Name) (parts : List (List Record)) (traces : List NumberedTrace) → AreTakenInTurn room old now parts traces → length parts ≡ length traces
+unfolding AreTakenInTurn
+turn-length room old now [] [] turn = refl
+turn-length room old now (rows ∷ parts) (one ∷ more) turn = ap suc (turn-length room turn.0 now parts more turn.5)
+turn-length room old now [] (one ∷ more) turn = absurd turn
+turn-length room old now (rows ∷ parts) [] turn = absurd turn
+
+pub turn-in_turn : (room : ℕ) (old now : List Name) (parts : List (List Record)) (traces : List NumberedTrace) → AreTakenInTurn room old now parts traces → AreInTurn (length old) (length now) traces
+unfolding AreTakenInTurn AreInTurn
+turn-in_turn room old now [] [] turn = ap length (sym turn)
+turn-in_turn room old now (rows ∷ parts) (one ∷ more) turn = (turn.3, rw turn.4 (turn-in_turn room turn.0 now parts more turn.5))
+turn-in_turn room old now [] (one ∷ more) turn = absurd turn
+turn-in_turn room old now (rows ∷ parts) [] turn = absurd turn
+
+pub turn-numbered : (room : ℕ) (old now : List Name) (parts : List (List Record)) (traces : List NumberedTrace) → AreTakenInTurn room old now parts traces → All (IsNumbered now) traces
+unfolding AreTakenInTurn
+turn-numbered room old now [] [] turn = All-nil (IsNumbered now)
+turn-numbered room old now (rows ∷ parts) (one ∷ more) turn =
+    let first = turn.2.added in
+    let rest = turn-added room turn.0 now parts more turn.5 in
+    All-cons (IsNumbered now) one more (record {
+      more = omega (arith, turn.3, turn.4, ap length first.1, length-append old first.0);
+      within = omega (arith, turn.4, ap length rest.1, length-append turn.0 rest.0);
+      below = rw turn.4 turn.2.below;
+    }) (turn-numbered room turn.0 now parts more turn.5)
+turn-numbered room old now [] (one ∷ more) turn = absurd turn
+turn-numbered room old now (rows ∷ parts) [] turn = absurd turn
+
+-- each stands for the text that has its records
+pub turn-reads : (room : ℕ) (old now : List Name) (texts : List (List ℕ)) (parts : List (List Record)) (traces : List NumberedTrace) → map records_of texts ≡ parts → AreTakenInTurn room old now parts traces
+    → AreReadTo room now texts traces
+unfolding AreTakenInTurn AreReadTo
+turn-reads room old now [] [] [] are turn = tt
+turn-reads room old now (text ∷ texts) (rows ∷ parts) (one ∷ more) are turn =
+    let here : records_of text ≡ rows = cc in
+    let others : map records_of texts ≡ parts = cc in
+    let first = turn.2.added in
+    let rest = turn-added room turn.0 now parts more turn.5 in
+    let before : take one.before now ≡ old = rw (turn.3, rest.1, first.1, append_assoc old first.0 rest.0) (take-append_seam old (first.0 ++ rest.0)) in
+    let after : take one.after now ≡ turn.0 = rw (turn.4, rest.1) (take-append_seam turn.0 rest.0) in
+    (rw (before, after) (reads-to room turn.1 old text rows turn.0 one.trace here turn.2), turn-reads room turn.0 now texts parts more others turn.5)
+turn-reads room old now [] (rows ∷ parts) traces are turn = absurd (cc)
+turn-reads room old now (text ∷ texts) [] traces are turn = absurd (cc)
+turn-reads room old now [] [] (one ∷ more) are turn = absurd turn
+turn-reads room old now (text ∷ texts) (rows ∷ parts) [] are turn = absurd turn
