@@ -13,4 +13,5 @@ pub mod SeatFacts
 pub mod Working
 pub mod Crews
 pub mod AheadLemmas
+pub mod JoinedTexts
 pub mod AreReadLemmas

@@ -10,6 +10,7 @@ mod condensing;
 mod fault;
 mod gate;
 mod in_turn;
+mod joined;
 mod runs;
 mod seat;
 mod settling;

@@ -1,18 +1,21 @@
 -- The traces of several texts that were read as one.
-use Rattle.std.proofs.Common.{◌≡◌, ℕ, suc, ◌+◌, ◌≤◌, Bool, true, false, List, [], ◌∷◌, ◌++◌, All, length, take, map, refl, sym, ap, ◌∙◌, arith, append_assoc, length-append}
+use Rattle.std.proofs.Common.{◌≡◌, ℕ, suc, ◌+◌, ◌≤◌, Bool, Option, true, false, List, [], ◌∷◌, ◌++◌, All, length, take, map, refl, sym, ap, ◌∙◌, arith, append_assoc, length-append}
 use Rattle.std.proofs.Math.Seq.{take-append_seam, take-length}
 use Rattle.std.proofs.lemmas.List.{append-nil, take-append-le}
 use Rattle.std.proofs.lemmas.List.Elements.{All-cons, All-nil}
 use Rattle.ld_trace.specs.declared.joining.NumberedTrace.{NumberedTrace}
 use Rattle.ld_trace.specs.declared.version.Version.{Version}
 use Rattle.ld_trace.specs.Events.{KeysBelow}
-use Rattle.ld_trace.specs.Joining.{joined_records, point}
+use Rattle.csv.specs.declared.reader.Reader.{Reader}
+use Rattle.ld_trace.specs.Joining.{ArePlain, joined, joined_records, point}
 use Rattle.ld_trace.specs.JoinedTraces.{AreInTurn, AreReadTo, IsNumbered}
 use Rattle.ld_trace.specs.Lines.{Record}
 use Rattle.ld_trace.specs.Names.{Name}
 use Rattle.ld_trace.specs.Inside.Joined.{AreTakenInTurn, ended_records}
-use Rattle.ld_trace.specs.Inside.Progress.{AreTaken}
+use Rattle.ld_trace.specs.Inside.Progress.{AreTaken, Returns}
 use Rattle.ld_trace.specs.Reading.{ReadsTo, records_of}
+use Rattle.ld_trace.proofs.Joins.{texts-come-apart}
+use Rattle.ld_trace.proofs.PlainLemmas.{taken-plain}
 use Rattle.ld_trace.proofs.ReadLemmas.{reads-to}
 
 -- ---- one more part
@@ -82,6 +85,9 @@ turn-numbered room old now (rows ∷ parts) (one ∷ more) turn =
 turn-numbered room old now [] (one ∷ more) turn = absurd turn
 turn-numbered room old now (rows ∷ parts) [] turn = absurd turn
 
+take-first : (n : ℕ) (now old added : List Name) → n ≡ length old → now ≡ old ++ added → take n now ≡ old
+take-first n now old added long are = rw (long, are) (take-append_seam old added)
+
 -- each stands for the text that has its records
 pub turn-reads : (room : ℕ) (old now : List Name) (texts : List (List ℕ)) (parts : List (List Record)) (traces : List NumberedTrace) → map records_of texts ≡ parts → AreTakenInTurn room old now parts traces
     → AreReadTo room now texts traces
@@ -92,10 +98,45 @@ turn-reads room old now (text ∷ texts) (rows ∷ parts) (one ∷ more) are tur
     let others : map records_of texts ≡ parts = cc in
     let first = turn.2.added in
     let rest = turn-added room turn.0 now parts more turn.5 in
-    let before : take one.before now ≡ old = rw (turn.3, rest.1, first.1, append_assoc old first.0 rest.0) (take-append_seam old (first.0 ++ rest.0)) in
-    let after : take one.after now ≡ turn.0 = rw (turn.4, rest.1) (take-append_seam turn.0 rest.0) in
+    let before : take one.before now ≡ old = take-first one.before now old (first.0 ++ rest.0) turn.3 (rest.1 ∙ ap (λ names. names ++ rest.0) first.1 ∙ append_assoc old first.0 rest.0) in
+    let after : take one.after now ≡ turn.0 = take-first one.after now turn.0 rest.0 turn.4 rest.1 in
     (rw (before, after) (reads-to room turn.1 old text rows turn.0 one.trace here turn.2), turn-reads room turn.0 now texts parts more others turn.5)
 turn-reads room old now [] (rows ∷ parts) traces are turn = absurd (cc)
 turn-reads room old now (text ∷ texts) [] traces are turn = absurd (cc)
 turn-reads room old now [] [] (one ∷ more) are turn = absurd turn
 turn-reads room old now (text ∷ texts) (rows ∷ parts) [] are turn = absurd turn
+
+pub turn-plain : (room : ℕ) (old now : List Name) (parts : List (List Record)) (traces : List NumberedTrace) → AreTakenInTurn room old now parts traces → All ArePlain parts
+unfolding AreTakenInTurn
+turn-plain room old now [] [] turn = All-nil ArePlain
+turn-plain room old now (rows ∷ parts) (one ∷ more) turn =
+    All-cons ArePlain rows parts (taken-plain room turn.1 old rows turn.0 one.trace turn.2) (turn-plain room turn.0 now parts more turn.5)
+turn-plain room old now [] (one ∷ more) turn = absurd turn
+turn-plain room old now (rows ∷ parts) [] turn = absurd turn
+
+-- so if their records are those of the texts as one, each trace is that of its text
+pub joined-reads : (room : ℕ) (old now : List Name) (texts : List (List ℕ)) (parts : List (List Record)) (traces : List NumberedTrace) → length texts ≡ length traces
+    → records_of (joined texts) ≡ joined_records parts → AreTakenInTurn room old now parts traces → AreReadTo room now texts traces
+joined-reads room old now texts parts traces long are turn =
+    turn-reads room old now texts parts traces (texts-come-apart texts parts (turn-length room old now parts traces turn ∙ sym long) (turn-plain room old now parts traces turn) are) turn
+
+-- ---- no trace
+pub in_turn-none : (n : ℕ) → AreInTurn n n []
+unfolding AreInTurn
+in_turn-none n = refl
+
+pub read-none : (room : ℕ) (names : List Name) (texts : List (List ℕ)) → length texts ≡ 0 → AreReadTo room names texts []
+unfolding AreReadTo
+read-none room names [] e = tt
+read-none room names (text ∷ texts) e = absurd (omega arith)
+
+-- ---- what the reader returned
+module _ {R : Type 0} (rem : R → Option (List ℕ)) where
+  pub returns-none : (a : Reader R) → Returns rem a a (ended_records [])
+  unfolding ended_records
+  returns-none a = λ known before given. rw (append-nil before) given
+
+  pub returns-more : (a b d : Reader R) (parts : List (List Record)) (rows : List Record) → Returns rem a b (ended_records parts) → Returns rem b d (rows ++ point ∷ [])
+      → Returns rem a d (ended_records (parts ++ rows ∷ []))
+  returns-more a b d parts rows first second = λ known before given.
+      rw (ended-more parts rows) (rw (append_assoc before (ended_records parts) (rows ++ point ∷ [])) at (second known (before ++ ended_records parts) (first known before given)))
