@@ -1,15 +1,20 @@
-use Rattle.std.proofs.Common.{◌≡◌, ◌∙◌, ◌∷◌, ◌++◌, [], ap, append_assoc, arith, length-append, refl, sym}
+use Rattle.std.proofs.Common.{◌∙◌, ◌∷◌, ◌++◌, [], ap, append_assoc, arith, length-append, refl, sym}
 use Rattle.std.proofs.lemmas.List.{append-nil}
 use Rattle.ld_trace.proofs.JoinedLemmas.{returns-more, returns-none, turn-more, turn-none}
 use Rattle.ld_trace.proofs.joining.read_ended.Goals as goal
 
 pub loop-init : goal.loop-init
-loop-init g c =
-    (c.requires.plain, rw c.requires.none refl, rw c.requires.none (record {
-      parts = [];
-      in_turn = turn-none c.args.keys.now.room c.args.keys.now.names;
-      returns = returns-none g.R.Read.remaining c.args.source.now;
-    }), ([], sym (append-nil c.args.keys.now.names)), refl)
+loop-init g c = (
+  c.requires.plain,
+  rw c.requires.none refl,
+  rw c.requires.none (record {
+    parts = [];
+    in_turn = turn-none c.args.keys.now.room c.args.keys.now.names;
+    returns = returns-none g.R.Read.remaining c.args.source.now;
+  }),
+  ([], sym (append-nil c.args.keys.now.names)),
+  refl,
+)
 
 pub loop-preserved : goal.loop-preserved
 loop-preserved g c =

@@ -1,7 +1,5 @@
-use Rattle.std.proofs.Common.{◌≡◌, ◌∙◌, ◌∷◌, ◌++◌, [], length, ap, arith, length-append, refl, sym}
-use Rattle.ld_trace.specs.Joining.{joined, joined_records}
-use Rattle.ld_trace.specs.Reading.{records_of}
-use Rattle.ld_trace.specs.Inside.Joined.{AreTakenInTurn, ended_records}
+use Rattle.std.proofs.Common.{◌∙◌, ◌∷◌, ◌++◌, [], length, ap, arith, length-append, refl, sym}
+use Rattle.ld_trace.specs.Inside.Joined.{ended_records}
 use Rattle.ld_trace.proofs.JoinedLemmas.{in_turn-none, joined-last, joined-reads, read-none, turn-in_turn, turn-more, turn-numbered}
 use Rattle.ld_trace.proofs.joining.read_joined.Goals as goal
 

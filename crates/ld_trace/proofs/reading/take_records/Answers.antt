@@ -56,11 +56,13 @@ returns-in-Err-take_event-clause-before g c = λ e.
     let taken = kept.2 in
     let read = c.in-Err-take_event.ensures.read (rw e refl) in
     let same = c.in-Err-take_event.ensures.kept in
-    let row = fields_of c.take_event.new.row in
-    (read.0, rw (same.0, same.1) (record {
-      rows = taken.0;
-      version = c.in-Ok.version;
-      are_taken = taken.1;
-      returns = λ known before given.
-          rw (append_assoc before taken.0 (row ∷ [])) at (given-more g.R.Read.remaining known c.records.source c.take_event.new.source (before ++ taken.0) row kept.0 (taken.2 known before given) read.1);
-    }))
+    let row = fields_of c.take_event.new.row in (
+      read.0,
+      rw (same.0, same.1) (record {
+        rows = taken.0;
+        version = c.in-Ok.version;
+        are_taken = taken.1;
+        returns = λ known before given.
+            rw (append_assoc before taken.0 (row ∷ [])) at (given-more g.R.Read.remaining known c.records.source c.take_event.new.source (before ++ taken.0) row kept.0 (taken.2 known before given) read.1);
+      }),
+    )
