@@ -10,7 +10,9 @@ unfolding joined
 joined-more [] text some = absurd (omega arith)
 joined-more (one ∷ []) text some = refl
 joined-more (one ∷ next ∷ more) text some =
-    rw (joined-more (next ∷ more) text (omega arith)) (sym (append_assoc one (between ++ joined (next ∷ more)) (between ++ text)))
+    let rest = joined (next ∷ more) in
+    rw (joined-more (next ∷ more) text (omega arith))
+    (sym (append_assoc (one ++ between) (rest ++ between) text) ∙ ap (λ l. l ++ text) (sym (append_assoc (one ++ between) rest between)))
 
 held-more : (holds : ℕ → Option (List ℕ)) (place : ℕ) (texts : List (List ℕ)) (text : List ℕ) → AreHeld holds place texts → IfSome (holds (place + length texts)) (λ known. known ≡ text)
     → AreHeld holds place (texts ++ text ∷ [])
@@ -33,7 +35,7 @@ pub next-joined : (holds : ℕ → Option (List ℕ)) (first place end : ℕ) (b
     → IfSome (holds place) (λ known. known ≡ text) → AreJoined holds first end new
 next-joined holds first place end bytes mid new text are some point is e held = record {
   texts = are.texts ++ text ∷ [];
-  as_one = is ∙ ap (λ l. l ++ text) (point ∙ ap (λ l. l ++ between) are.as_one) ∙ append_assoc (joined are.texts) between text ∙ sym (joined-more are.texts text (omega (arith, are.count)));
+  as_one = is ∙ ap (λ l. l ++ text) (point ∙ ap (λ l. l ++ between) are.as_one) ∙ sym (joined-more are.texts text (omega (arith, are.count)));
   count = omega (arith, are.count, length-append are.texts (text ∷ []));
   held = held-more holds first are.texts text are.held (rw are.count held);
 }

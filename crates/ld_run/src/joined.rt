@@ -52,7 +52,7 @@ fn append_text<S: Sources>(sources: &S, place: usize, bytes: &mut Vec<u8>) -> bo
         return false;
     };
     match source.take(LONG_TEXT).read_to_end(bytes) {
-        Ok(count) => (count as u64) < LONG_TEXT,
-        Err(_) => false,
+        Ok(count) if (count as u64) < LONG_TEXT => true,
+        _ => false,
     }
 }
