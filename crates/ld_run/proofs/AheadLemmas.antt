@@ -1,16 +1,18 @@
 -- What a thread has read ahead, when its table has more names, and when a part of it goes.
-use Rattle.std.proofs.Common.{◌≡◌, Bool, true, false, if◌then◌else◌, ℕ, suc, List, [], ◌∷◌, ◌++◌, All, IfSome, length, take, get_or, Option, Some, None, ap, arith, length-append}
+use Rattle.std.proofs.Common.{◌≡◌, Bool, true, false, if◌then◌else◌, ℕ, suc, ◌+◌, List, [], ◌∷◌, ◌++◌, All, IfSome, length, take, get_or, Option, Some, None, ap, arith, length-append}
 use Rattle.std.proofs.Math.Seq.{take-append_seam, take-length}
 use Rattle.std.proofs.lemmas.List.{take-append-le}
 use Rattle.std.proofs.lemmas.List.Elements.{All-push}
 use Rattle.ld_trace.specs.declared.event.Event.{Event}
+use Rattle.ld_trace.specs.declared.joining.NumberedTrace.{NumberedTrace}
 use Rattle.ld_trace.specs.Events.{KeysBelow}
+use Rattle.ld_trace.specs.JoinedTraces.{AreReadTo, IsNumbered}
 use Rattle.ld_trace.specs.Names.{Name}
 use Rattle.ld_trace.specs.Reading.{ReadsTo}
 use Rattle.ld_trace.specs.Laws.{RenumberingsStay}
 use Rattle.ld_run.specs.declared.ahead.Ahead.{Ahead}
 use Rattle.ld_run.specs.declared.ahead.Part.{Part}
-use Rattle.ld_run.specs.Inside.Ahead.{AreFrom, IsAhead, IsFrom, IsPart}
+use Rattle.ld_run.specs.Inside.Ahead.{AreFrom, AreHeld, IsAhead, IsFrom, IsPart}
 
 pub if-some : {X : Type 0} (known : Option X) (P Q : X → Type 0) → ((x : X) → P x → Q x) → IfSome known P → IfSome known Q
 if-some None P Q f h = tt
@@ -70,3 +72,16 @@ all-ahead-longer stay names added aheads all = λ k d lt.
 
 pub none-known : (aheads : List Ahead) → All (AreFrom (λ place. None)) aheads
 none-known aheads = λ k d lt i e l. tt
+
+-- ---- traces that were read as one
+pub numbered-part : (own : List Name) (one : NumberedTrace) (place : ℕ) → IsNumbered own one → IsPart own (record { place = place; before = one.before; after = one.after; trace = one.trace })
+numbered-part own one place is = record { more = is.more; within = is.within; below = is.below }
+
+-- the first of them is from its source, and the others are those of the places after it
+pub next-read : (holds : ℕ → Option (List ℕ)) (place next room : ℕ) (own : List Name) (texts : List (List ℕ)) (one : NumberedTrace) (more : List NumberedTrace) → next ≡ place + 1 → AreHeld holds place texts → AreReadTo room own texts (one ∷ more)
+    → (rest : List (List ℕ)) × AreHeld holds next rest × AreReadTo room own rest more × IsFrom holds own (record { place = place; before = one.before; after = one.after; trace = one.trace })
+unfolding AreHeld AreReadTo
+next-read holds place next room own [] one more e held read = absurd read
+next-read holds place next room own (text ∷ texts) one more e held read =
+    let here : next ≡ suc place = omega arith in
+    (texts, rw here held.1, read.1, if-some (holds place) _ _ (λ known is. (room, rw is read.0)) held.0)

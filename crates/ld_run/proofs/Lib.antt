@@ -8,4 +8,5 @@ pub mod Counts
 pub mod Working
 pub mod Crews
 pub mod AheadLemmas
+pub mod JoinedTexts
 pub mod AreReadLemmas

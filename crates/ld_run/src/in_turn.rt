@@ -17,8 +17,8 @@ use std::io::Read;
 use std::thread::Threads;
 
 /// Reads the traces of the first `count` sources over one table, and puts them after the others. The result is that of reading them
-/// in turn, whatever the number of threads: with more than one, later sources may be opened and read before an earlier one was read
-/// whole, each thread over a table of its own.
+/// in turn, whatever the number of threads and the size of the groups: with more than one, later sources may be opened and read before
+/// an earlier one was read whole, each thread over a table of its own. A thread reads a group of short sources by one CSV reader.
 ///
 /// If a source can't be opened, or its trace is refused, the first such source is returned with its place and why it wasn't read; the
 /// traces before it are kept, and the names are those that reading in turn leaves.
@@ -26,6 +26,7 @@ pub fn read_all<R: Threads + Sync, S: Sources + Sync>(
     rt: &R,
     alloc: Global,
     threads: usize,
+    group: usize,
     sources: &S,
     count: usize,
     keys: &mut KeyTable,
@@ -39,7 +40,7 @@ pub fn read_all<R: Threads + Sync, S: Sources + Sync>(
         → All (KeysBelow (length keys.new.names)) traces.new.items }
     ensures room { keys.new.room ≡ keys.old.room }
 {
-    let first = read_ahead(rt, alloc, threads, sources, count, keys, traces);
+    let first = read_ahead(rt, alloc, threads, group, sources, count, keys, traces);
     read_from(alloc, sources, first, count, keys, traces)
 }
 

@@ -8,6 +8,7 @@ mod condensing;
 mod fault;
 mod gate;
 mod in_turn;
+mod joined;
 mod runs;
 mod settling;
 mod shares;

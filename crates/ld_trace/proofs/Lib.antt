@@ -9,6 +9,7 @@ mod RowLemmas
 mod CutLemmas
 pub mod Joins
 mod Pieces
+mod JoinedLemmas
 mod KnownLemmas
 mod WriteLemmas
 mod LineLemmas

@@ -91,7 +91,7 @@ stops-first room old bytes rows kind e here = record {
   names = sym (names_before-all (version_in (records_of bytes)) old [] (records_of bytes));
 }
 
-if-some : {X : Type 0} (known : Option X) (P Q : X → Type 0) → ((x : X) → P x → Q x) → IfSome known P → IfSome known Q
+pub if-some : {X : Type 0} (known : Option X) (P Q : X → Type 0) → ((x : X) → P x → Q x) → IfSome known P → IfSome known Q
 if-some None P Q f h = tt
 if-some (Some x) P Q f h = f x h
 

@@ -1,3 +1,4 @@
+pub mod Joined
 pub mod Progress
 pub mod ReadLines
 pub mod Renumbered

@@ -1,6 +1,7 @@
 pub mod Inside
 pub mod Events
 pub mod Joining
+pub mod JoinedTraces
 pub mod KeyFaults
 pub mod Laws
 pub mod Lines

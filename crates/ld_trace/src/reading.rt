@@ -1,12 +1,12 @@
 //! Reading a trace.
 
-ghost use Rattle.std.specs.Prelude.{◌≡◌, ◌≤◌, ◌+◌, ◌++◌, ℕ, suc, [], List, Option, length, true, false, IfOk, IfErr, IfSome, OnOk, OnErr, Some, ◌⊎◌};
+ghost use Rattle.std.specs.Prelude.{◌≡◌, ◌≤◌, ◌<◌, ◌+◌, ◌++◌, ℕ, suc, [], List, Option, length, true, false, IfOk, IfErr, IfSome, OnOk, OnErr, Some, ◌⊎◌, ◌≢◌};
 ghost use Rattle.csv.specs.Reading.{ReadRecord, error_kind};
 ghost use Rattle.csv.specs.Records.{fields_of};
 ghost use Rattle.ld_trace.specs.Events.{KeysBelow};
-ghost use Rattle.ld_trace.specs.Lines.{line_of_record};
+ghost use Rattle.ld_trace.specs.Lines.{Record, line_of_record, version_of};
 ghost use Rattle.ld_trace.specs.Names.{Name};
-ghost use Rattle.ld_trace.specs.Inside.Progress.{AreRead, AreRefused, HasGiven, HasTaken, ReadsPlain, TakesLine, read_fault};
+ghost use Rattle.ld_trace.specs.Inside.Progress.{AreRead, AreRefused, HasGiven, HasTaken, ReadsPlain, TakesBefore, TakesLast, TakesLine, read_fault};
 ghost use Rattle.ld_trace.specs.Reading.{ReadsTo, StopsAt, line_fault};
 ghost use Rattle.ld_trace.specs.TraceFaults.{is_of_text};
 
@@ -44,11 +44,19 @@ pub fn read_trace<R: Read + Drop>(
     ensures kept { (added : List Name) × (keys.new.names ≡ keys.old.names ++ added) }
     ensures room { keys.new.room ≡ keys.old.room }
 {
-    let mut source = ReaderBuilder::new()
+    let mut source = plain_reader(alloc, reader);
+    read_records(alloc, &mut source, keys)
+}
+
+// A reader of records as the format has them, which has returned none yet.
+pub(crate) fn plain_reader<R: Read>(alloc: Global, reader: R) -> Reader<R>
+    ensures plain { ReadsPlain result }
+    ensures none { HasGiven R.remaining (R.remaining reader) result [] }
+{
+    ReaderBuilder::new()
         .has_headers(false)
         .flexible(true)
-        .from_reader(alloc, reader);
-    read_records(alloc, &mut source, keys)
+        .from_reader(alloc, reader)
 }
 
 // Reads all records of the source.
@@ -68,15 +76,40 @@ fn read_records<R: Read>(
     ensures room { keys.new.room ≡ keys.old.room }
 {
     let mut row = ByteRecord::new(alloc);
-    let version = match take_header(source, &mut row) {
+    let mut events = Vec::new(alloc);
+    match take_records(source, &mut row, &mut events, keys) {
+        Ok(()) => Ok(RawTrace::of_few(events)),
+        Err(fault) => Err(fault),
+    }
+}
+
+// Takes records as those of a trace, up to the end or to one that is refused, which then stands in the row.
+pub(crate) fn take_records<R: Read>(
+    source: &mut Reader<R>,
+    row: &mut ByteRecord,
+    events: &mut Vec<Event>,
+    keys: &mut KeyTable,
+) -> Result<(), TraceFault>
+    requires plain { ReadsPlain source.old }
+    requires none { events.old.items ≡ [] }
+    ensures few { length events.new.items ≤ MAX_EVENTS }
+    ensures ok { OnOk result (TakesLast R.remaining source.old keys.old.room keys.old.names keys.new.names events.new.items) }
+    ensures refused { IfErr result (λ fault. (known : Option (List ℕ))
+        → HasGiven R.remaining known source.old []
+        → AreRefused keys.old.room known keys.old.names keys.new.names fault.kind fault.at) }
+    ensures before { IfErr result (λ fault. fault.kind ≡ TraceFaultKind.BadRecord → ReadsPlain source.new
+        × TakesBefore R.remaining source.old source.new keys.old.room keys.old.names keys.new.names events.new.items (fields_of row.new)) }
+    ensures kept { (added : List Name) × (keys.new.names ≡ keys.old.names ++ added) }
+    ensures room { keys.new.room ≡ keys.old.room }
+{
+    let version = match take_header(source, row) {
         Ok(version) => version,
         Err(kind) => return Err(TraceFault { kind, at: 1 }),
     };
-    let mut events = Vec::new(alloc);
     'records: loop {
-        match take_event(version, source, &mut row, &mut events, keys) {
+        match take_event(version, source, row, events, keys) {
             Ok(true) => {}
-            Ok(false) => return Ok(RawTrace::of_few(events)),
+            Ok(false) => return Ok(()),
             Err(kind) => {
                 let at = events.len() + 2;
                 return Err(TraceFault { kind, at });
@@ -92,12 +125,12 @@ fn take_header<R: Read>(
 ) -> Result<Version, TraceFaultKind>
     requires { ReadsPlain source.old }
     ensures plain { OnOk result (ReadsPlain source.new) }
-    ensures taken { IfOk result (λ version. (known : Option (List ℕ)) (room : ℕ) (old : List Name)
-        → HasGiven R.remaining known source.old []
-        → HasTaken R.remaining known source.new room version old old []) }
+    ensures taken { IfOk result (λ version. (header : Record)
+        × ReadRecord R.remaining source.old source.new true header × (version_of header ≡ Some version)) }
     ensures refused { IfErr result (λ kind. (known : Option (List ℕ)) (room : ℕ) (old : List Name)
         → HasGiven R.remaining known source.old []
         → AreRefused room known old old kind 1) }
+    ensures other { IfErr result (λ kind. kind ≢ TraceFaultKind.BadRecord) }
 {
     if !get_record(source, row)? {
         return Err(TraceFaultKind::NoHeader);
@@ -122,22 +155,22 @@ fn take_event<R: Read>(
     ensures more { IfOk result (λ found. found ≡ true
         → (length events.new.items ≡ suc (length events.old.items))
         × (length events.new.items ≤ MAX_EVENTS)) }
-    ensures no_more { IfOk result (λ found. found ≡ false → events.new.items ≡ events.old.items) }
-    ensures kept_events { OnErr result (events.new.items ≡ events.old.items) }
+    ensures no_more { IfOk result (λ found. found ≡ false
+        → (keys.new ≡ keys.old) × (events.new.items ≡ events.old.items)) }
+    ensures kept { OnErr result ((keys.new ≡ keys.old) × (events.new.items ≡ events.old.items)) }
     ensures kept_names { (added : List Name) × (keys.new.names ≡ keys.old.names ++ added) }
     ensures room { keys.new.room ≡ keys.old.room }
 
-    ensures taken { IfOk result (λ found. found ≡ true → (known : Option (List ℕ)) (old : List Name)
-        → HasTaken R.remaining known source.old keys.old.room version old keys.old.names events.old.items
-        → HasTaken R.remaining known source.new keys.old.room version old keys.new.names events.new.items) }
+    ensures taken { IfOk result (λ found. found ≡ true → (length events.old.items < MAX_EVENTS) × (next : Record)
+        × ReadRecord R.remaining source.old source.new true next
+        × TakesLine keys.old.room version keys.old.names keys.new.names events.old.items events.new.items next) }
     ensures ended { IfOk result (λ found. found ≡ false
-        → (known : Option (List ℕ)) (old : List Name)
-        → HasTaken R.remaining known source.old keys.old.room version old keys.old.names events.old.items
-        → AreRead keys.old.room known old keys.new.names events.new.items
-        × KeysBelow (length keys.new.names) events.new.items) }
+        → ReadRecord R.remaining source.old source.new false (fields_of row.new)) }
     ensures refused { IfErr result (λ kind. (known : Option (List ℕ)) (old : List Name)
         → HasTaken R.remaining known source.old keys.old.room version old keys.old.names events.old.items
         → AreRefused keys.old.room known old keys.new.names kind (length events.old.items + 2)) }
+    ensures read { IfErr result (λ kind. is_of_text kind ≡ true → ReadsPlain source.new
+        × ReadRecord R.remaining source.old source.new true (fields_of row.new)) }
 {
     if !get_record(source, row)? {
         return Ok(false);

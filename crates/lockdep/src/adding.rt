@@ -25,6 +25,15 @@ const BYTES_PER_THREAD: u64 = 262_144;
 // Of how many files the size is asked for.
 const SIZES_ASKED: usize = 64;
 
+// Beside reading a larger file, making a CSV reader for it costs little.
+const SMALL_FILE: u64 = 16_384;
+
+// About how many bytes the files of a group have together.
+const BYTES_PER_GROUP: u64 = 65_536;
+
+// The most files of a group.
+const FILES_PER_GROUP: u64 = 64;
+
 /// How the traces of files are added to those of a session.
 pub trait Adds {
     /// Adds the traces of these files in their order, read by as many of the workers as are worth their threads. If a file can't be
@@ -64,7 +73,7 @@ impl<R: Files> Adds for InTurn<'_, R> {
 }
 
 /// Adds the traces of the files as `Adds` says, read by as many of the workers as are worth their threads: later files may be opened
-/// before an earlier one was read whole.
+/// before an earlier one was read whole. Small files are read in groups, by one worker too.
 pub(crate) fn add_side_by_side<'a, T: Threads + Sync, R: Files + Sync>(
     threads: &T,
     rt: &R,
@@ -82,9 +91,11 @@ where
     ensures named { IfErr result (λ refusal. (place : ℕ) × (length session.new.traces ≡ length session.old.traces + place)
         × NamesFileAt (map (λ file. file.now) files.entry.now) place refusal) }
 {
-    let count = useful_threads(rt, workers, files);
+    let mean = mean_size(rt, files);
+    let count = useful_threads(mean, workers, files.len());
+    let group = useful_group(mean, count, files.len());
     let sources = NamedFiles { rt, files };
-    match session.add_all(threads, count, &sources, files.len()) {
+    match session.add_all(threads, count, group, &sources, files.len()) {
         Ok(()) => Ok(()),
         Err(unread) => Err(unread_refusal(files, unread)),
     }
@@ -139,22 +150,37 @@ fn size_of<R: Files>(rt: &R, file: &str) -> u64 {
     }
 }
 
-// How many threads are worth it: one for every 256 KiB of the files, by the sizes of the first ones, and no more than there are
-// workers and files. A number of workers that a run refuses reads in turn.
-fn useful_threads<R: Files>(rt: &R, workers: u16, files: &[&str]) -> usize {
-    if workers < 2 || workers > MAX_WORKERS || files.len() < 2 {
-        return 1;
-    }
+// How many bytes the files have in the mean, by the sizes of the first ones.
+fn mean_size<R: Files>(rt: &R, files: &[&str]) -> u64 {
     let mut bytes = 0u64;
     let mut asked = 0u64;
     for file in files.iter().take(SIZES_ASKED) {
         bytes = bytes.saturating_add(size_of(rt, file));
         asked = asked.saturating_add(1);
     }
-    let mean = bytes / asked.max(1);
-    let shares = mean.saturating_mul(files.len() as u64) / BYTES_PER_THREAD;
+    bytes / asked.max(1)
+}
+
+// How many threads are worth it for so many files of this mean size: one for every 256 KiB, and no more than there are workers and
+// files. For a number of workers that a run refuses it is one.
+fn useful_threads(mean: u64, workers: u16, files: usize) -> usize {
+    if workers < 2 || workers > MAX_WORKERS || files < 2 {
+        return 1;
+    }
+    let shares = mean.saturating_mul(files as u64) / BYTES_PER_THREAD;
     let threads = shares.saturating_add(1).min(u64::from(workers)) as usize;
-    threads.min(files.len())
+    threads.min(files)
+}
+
+// How many files a thread claims at a time, and reads by one CSV reader: so many as have 64 KiB together, at most 64, and so few that
+// each thread claims four times. One, unless the files are small.
+fn useful_group(mean: u64, threads: usize, files: usize) -> usize {
+    if mean > SMALL_FILE {
+        return 1;
+    }
+    let fitting = (BYTES_PER_GROUP / mean.max(1)).min(FILES_PER_GROUP) as usize;
+    let fair = files / threads.saturating_mul(4).max(1);
+    fitting.min(fair).max(1)
 }
 
 // The refusal of the file at whose place reading stopped.

@@ -84,12 +84,13 @@ impl Session {
         read_into(self.alloc, reader, &mut self.keys, &mut self.traces)
     }
 
-    /// Reads the traces of the first `count` sources by several threads, and keeps them after the others. The result is that of
-    /// reading them in turn by `add`, whatever the number of threads; see `read_all`.
+    /// Reads the traces of the first `count` sources by several threads, in groups of `group`, and keeps them after the others. The
+    /// result is that of reading them in turn by `add`, whatever the number of threads and the size of the groups; see `read_all`.
     pub fn add_all<R: Threads + Sync, S: Sources + Sync>(
         &mut self,
         rt: &R,
         threads: usize,
+        group: usize,
         sources: &S,
         count: usize,
     ) -> Result<(), Unread>
@@ -104,6 +105,7 @@ impl Session {
             rt,
             self.alloc,
             threads,
+            group,
             sources,
             count,
             &mut self.keys,

@@ -108,7 +108,7 @@ static CASES: [Case<'_>; 4] = [
 ];
 
 // Whether the first texts are what the traces say.
-fn are_written(
+pub(crate) fn are_written(
     alloc: Global,
     texts: &[&str],
     traces: &[RawTrace],
@@ -124,7 +124,7 @@ fn are_written(
 }
 
 // Whether these are the names of the table, in its order.
-fn are_named(names: &[&str], keys: &KeyTable) -> bool {
+pub(crate) fn are_named(names: &[&str], keys: &KeyTable) -> bool {
     for place in 0..names.len() {
         let Ok(number) = u16::try_from(place) else {
             return false;
@@ -157,6 +157,7 @@ fn reads<R: Threads + Wait + Sync + Abort>(
         rt,
         alloc,
         threads,
+        1,
         &sources,
         texts.len(),
         &mut keys,

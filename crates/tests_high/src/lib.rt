@@ -6,6 +6,8 @@ mod ahead;
 #[cfg(test)]
 mod boards;
 #[cfg(test)]
+mod grouped;
+#[cfg(test)]
 mod lines;
 #[cfg(test)]
 mod origins;

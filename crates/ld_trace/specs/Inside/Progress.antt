@@ -12,7 +12,7 @@ use Rattle.ld_trace.specs.declared.trace_fault.TraceFaultKind.{TraceFaultKind}
 use Rattle.ld_trace.specs.declared.trace_fault.TraceFaultKind.TheVariants.{Source, Memory}
 use Rattle.ld_trace.specs.Lines.{Line, Record, event_of, is_over, line_of_record, with_line}
 use Rattle.ld_trace.specs.Names.{Name}
-use Rattle.ld_trace.specs.Reading.{ReadsTo, StopsAt, event_at, fault_at, names_after, version_in}
+use Rattle.ld_trace.specs.Reading.{ReadsTo, StopsAt, event_at, fault_at, names_after, records_of, version_in}
 use Rattle.ld_trace.specs.declared.version.Version.{Version}
 
 -- a reader of records as the format has them: no field is trimmed, and the next read is of one record
@@ -43,6 +43,29 @@ abbrev pub HasTaken : {R : Type 0} → (R → Option (List ℕ)) → Option (Lis
     → ℕ → Version → List Name → List Name → List Event → Type 0
 HasTaken rem known source room version old now events =
     (rows : List Record) × HasGiven rem known source rows × AreTaken room version old rows now events
+
+-- from one state to another the reader returned these records
+abbrev pub Returns : {R : Type 0} → (R → Option (List ℕ)) → Reader R → Reader R → List Record → Type 0
+Returns rem from to rows = (known : Option (List ℕ)) (before : List Record) → HasGiven rem known from before → HasGiven rem known to (before ++ rows)
+
+-- from one state on, these were the last records
+abbrev pub ReturnsLast : {R : Type 0} → (R → Option (List ℕ)) → Reader R → List Record → Type 0
+ReturnsLast rem from rows = (known : Option (List ℕ)) (before : List Record) → HasGiven rem known from before
+    → IfSome known (λ bytes. records_of bytes ≡ before ++ rows)
+
+-- the last records were taken as a trace
+pub record TakesLast {R : Type 0} (rem : R → Option (List ℕ)) (from : Reader R) (room : ℕ) (old now : List Name) (events : List Event) : Type 0 where
+  pub rows : List Record
+  pub version : Version
+  pub are_taken : AreTaken room version old rows now events
+  pub last : ReturnsLast rem from rows
+
+-- records were taken as a trace, and one more was returned
+pub record TakesBefore {R : Type 0} (rem : R → Option (List ℕ)) (from to : Reader R) (room : ℕ) (old now : List Name) (events : List Event) (more : Record) : Type 0 where
+  pub rows : List Record
+  pub version : Version
+  pub are_taken : AreTaken room version old rows now events
+  pub returns : Returns rem from to (rows ++ more ∷ [])
 
 -- what a record says is no fault, its name is known to the table, and this is its event
 pub record IsEventOf (room : ℕ) (names : List Name) (what : Result Line TraceFaultKind) (event : Event) : Type 0 where

@@ -3,8 +3,8 @@ use Rattle.std.proofs.lemmas.List.{append-nil}
 use Rattle.ld_run.proofs.AreReadLemmas.{read-none}
 use Rattle.ld_run.proofs.taking.read_ahead.Goals as goal
 
-pub returns-then-threads-lt2-clause-read : goal.returns-then-threads-lt2-clause-read
-returns-then-threads-lt2-clause-read g c =
+pub returns-then-group-lt2-clause-read : goal.returns-then-group-lt2-clause-read
+returns-then-group-lt2-clause-read g c =
     ([], sym (append-nil c.args.traces.now.items), refl, read-none c.args.keys.now.room (g.S.Sources.holds c.args.sources.now) 0 c.args.keys.now.names)
 
 pub returns-in-Err-clause-read : goal.returns-in-Err-clause-read

@@ -1,7 +1,7 @@
 use Rattle.std.proofs.Common.{◌∙◌, sym}
 use Rattle.std.proofs.lemmas.Result.{err_from_is_err_and}
 use Rattle.csv.specs.Records.{fields_of}
-use Rattle.ld_trace.proofs.ReadLemmas.{header-failed, header-missing, header-refused, header-taken}
+use Rattle.ld_trace.proofs.ReadLemmas.{header-failed, header-missing, header-refused}
 use Rattle.ld_trace.proofs.reading.take_header.Goals as goal
 
 pub returns-in_err-get_record-clause-refused : goal.returns-in_err-get_record-clause-refused
@@ -20,5 +20,4 @@ returns-in-None-clause-refused g c =
 
 pub returns-in-Some-clause-taken : goal.returns-in-Some-clause-taken
 returns-in-Some-clause-taken g c =
-    λ known room old given. header-taken g.R.Read.remaining known room old c.args.source.now c.in-Some.version c.get_record.new.source (fields_of c.get_record.new.row) c.requires given (rw c.if-not-branch.false at c.in_ok-get_record.ensures.reads)
-    (sym c.version_of.ensures ∙ c.in-Some.is)
+    (fields_of c.get_record.new.row, rw c.if-not-branch.false at c.in_ok-get_record.ensures.reads, sym c.version_of.ensures ∙ c.in-Some.is)

@@ -1,12 +1,13 @@
-use Rattle.std.proofs.Common.{◌≡◌, ◌≤◌, ◌+◌, ◌-◌, ◌++◌, ℕ, Option, List, [], length}
+use Rattle.std.proofs.Common.{◌≡◌, ◌≤◌, ◌+◌, ◌-◌, ◌++◌, List, length}
 use Rattle.ld_trace.specs.declared.raw_trace.TheConstants.{MAX_EVENTS}
+use Rattle.ld_trace.specs.Lines.{Record}
 use Rattle.ld_trace.specs.Names.{Name}
-use Rattle.ld_trace.specs.Inside.Progress.{HasGiven, HasTaken, ReadsPlain}
-use Rattle.ld_trace.proofs.reading.read_records.Given as goal
+use Rattle.ld_trace.specs.Inside.Progress.{AreTaken, ReadsPlain, Returns}
+use Rattle.ld_trace.proofs.reading.take_records.Given as goal
 
 abbrev pub invariant-records : goal.invariant-records
 invariant-records g l = ReadsPlain l.source × (length l.events.items ≤ MAX_EVENTS)
-    × ((known : Option (List ℕ)) → HasGiven g.R.Read.remaining known l.fn.source [] → HasTaken g.R.Read.remaining known l.source l.fn.keys.room l.version l.fn.keys.names l.keys.names l.events.items)
+    × ((rows : List Record) × AreTaken l.fn.keys.room l.version l.fn.keys.names rows l.keys.names l.events.items × Returns g.R.Read.remaining l.fn.source l.source rows)
     × ((added : List Name) × (l.keys.names ≡ l.fn.keys.names ++ added))
     × (l.keys.room ≡ l.fn.keys.room)
 
