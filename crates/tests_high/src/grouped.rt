@@ -101,7 +101,11 @@ static CASES: [Case<'_>; 9] = [
     // The last line needs no newline.
     (
         &["lockdep,1\nacq,A,0,w", "lockdep,1", "lockdep,1\nacq,B,0,w"],
-        &["lockdep,1\nacq,A,0,w\n", "lockdep,1\n", "lockdep,1\nacq,B,0,w\n"],
+        &[
+            "lockdep,1\nacq,A,0,w\n",
+            "lockdep,1\n",
+            "lockdep,1\nacq,B,0,w\n",
+        ],
         None,
         &["A", "B"],
         0,
@@ -113,7 +117,11 @@ static CASES: [Case<'_>; 9] = [
             "lockdep,1\racq,B,0,w\r",
             "\r\n\nlockdep,1\n\n",
         ],
-        &["lockdep,1\nacq,A,0,w\n", "lockdep,1\nacq,B,0,w\n", "lockdep,1\n"],
+        &[
+            "lockdep,1\nacq,A,0,w\n",
+            "lockdep,1\nacq,B,0,w\n",
+            "lockdep,1\n",
+        ],
         None,
         &["A", "B"],
         0,
@@ -175,7 +183,10 @@ fn reads<R: Threads + Wait + Sync + Abort>(
     };
     let same = are_written(alloc, written, traces.as_slice(), &keys).ok()?;
     let all = traces.len() == written.len() && same && are_named(names, &keys);
-    Some((read == wanted && all, sources.in_turn.load(Ordering::SeqCst)))
+    Some((
+        read == wanted && all,
+        sources.in_turn.load(Ordering::SeqCst),
+    ))
 }
 
 #[test]

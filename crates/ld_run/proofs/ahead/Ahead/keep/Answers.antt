@@ -1,5 +1,5 @@
-use Rattle.std.proofs.Common.{◌≡◌, ◌∙◌, ◌+◌, is_ok, refl}
-use Rattle.ld_trace.specs.JoinedTraces.{AreReadTo, IsNumbered}
+use Rattle.std.proofs.Common.{◌+◌, is_ok, refl}
+use Rattle.ld_trace.specs.JoinedTraces.{IsNumbered}
 use Rattle.ld_run.specs.Inside.Ahead.{IsFrom, IsPart}
 use Rattle.ld_run.proofs.AheadLemmas.{all-head, all-pushed, all-tail, next-read, numbered-part}
 use Rattle.ld_run.proofs.ahead.Ahead.keep.Goals as goal
