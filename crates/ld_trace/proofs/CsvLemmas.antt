@@ -13,7 +13,7 @@ use Rattle.ld_trace.specs.Inside.Progress.{HasGiven, ReadsPlain}
 use Rattle.ld_trace.specs.Reading.{records_of}
 
 -- a record takes a byte, or it is the one that the end of the text ended
-abbrev Shortens : List ℕ → Read → Type 0
+abbrev pub Shortens : List ℕ → Read → Type 0
 Shortens xs p = (length p.2 < length xs) ⊎ ((p.1 ≡ st.StartRecord) × (p.2 ≡ []))
 
 longer : (c : ℕ) (rest : List ℕ) (p : Read) → Shortens rest p → Shortens (c ∷ rest) p
@@ -32,7 +32,7 @@ ended-by-byte true fields s c rest more p h e =
     inl (omega (arith, ap length r))
 ended-by-byte false fields s c rest more p h e = longer c rest p (h e)
 
-next-shortens : (cfg : Config) (s : State) (fields : Record) (field xs : List ℕ) (p : Read) → next_record cfg s fields field xs ≡ Some p → Shortens xs p
+pub next-shortens : (cfg : Config) (s : State) (fields : Record) (field xs : List ℕ) (p : Read) → next_record cfg s fields field xs ≡ Some p → Shortens xs p
 unfolding next_record
 next-shortens cfg s fields field [] p e = ended-at-end (ends_at_end s) _ p e
 next-shortens cfg s fields field (c ∷ rest) p e =
@@ -65,7 +65,7 @@ records-reached cfg n s s2 xs ys (r ∷ rs) h =
     rw (z, h.1, h.2, records-reached cfg n h.0.1 s2 h.0.2 ys rs h.3)
 
 -- if no record follows, there is none
-records-none : (cfg : Config) (n : ℕ) (s : State) (ys : List ℕ) → next_record cfg s [] [] ys ≡ None → records_from cfg n s ys ≡ []
+pub records-none : (cfg : Config) (n : ℕ) (s : State) (ys : List ℕ) → next_record cfg s [] [] ys ≡ None → records_from cfg n s ys ≡ []
 unfolding records_from
 records-none cfg zero s ys e = refl
 records-none cfg (suc n) s ys e = rw e refl

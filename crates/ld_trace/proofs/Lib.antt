@@ -10,3 +10,4 @@ mod LineLemmas
 mod Alike
 mod ReadBack
 mod TakenIn
+mod Cuts

@@ -5,6 +5,7 @@ pub mod Laws
 pub mod Lines
 pub mod Modes
 pub mod Names
+pub mod Pieces
 pub mod Reading
 pub mod TakingIn
 pub mod TraceFaults
