@@ -1,5 +1,6 @@
 -- A text that is cut behind a newline has the records of both parts.
-use Rattle.std.proofs.Common.{◌≡◌, ◌⊎◌, inl, inr, ℕ, zero, suc, ◌+◌, ◌≤◌, ◌<◌, ◌==◌, ◌&&◌, ◌||◌, not, ⊤, Bool, true, false, true≢false, List, [], ◌∷◌, ◌++◌, length, Option, Some, None, refl, sym, ap, ◌∙◌, arith, append_assoc, if◌then◌else◌}
+use Rattle.std.proofs.Common.{◌≡◌, ◌⊎◌, inl, inr, ℕ, zero, suc, ◌+◌, ◌≤◌, ◌<◌, ◌==◌, ◌&&◌, ◌||◌, not, Bool, true, false, true≢false, List, [], ◌∷◌, ◌++◌, length, Option, Some, None, refl, sym, ap, ◌∙◌, arith, append_assoc, if◌then◌else◌}
+use Rattle.std.specs.Bool.{⊤}
 use Rattle.std.specs.List.{list_all}
 use Rattle.csv.specs.Machine.{Read, ends_at_end, field_after, fields_after, is_end, next_record, step}
 use Rattle.csv.specs.Reading.{AreRecords, Reached, default_config, records, records_from, strip_bom}
@@ -22,18 +23,20 @@ none-at-start = refl
 all-records : (n : ℕ) (s : State) (xs : List ℕ) → length xs < n → AreRecords default_config s xs (records_from default_config n s xs)
 unfolding records_from Reached
 all-records zero s xs lt = absurd (omega arith)
-all-records (suc n) s xs lt = by (next_record default_config s [] [] xs) refl
+all-records (suc n) s xs lt = by (next_record default_config s [] [] xs) refl (λ t ys shorter. all-records n t ys shorter)
   where
-    more : (p : Read) → next_record default_config s [] [] xs ≡ Some p → Shortens xs p → AreRecords default_config p.1 p.2 (records_from default_config n p.1 p.2)
-    more p e (inl shorter) = all-records n p.1 p.2 (omega arith)
-    more p e (inr ends) =
+    more : (p : Read) → ((t : State) (ys : List ℕ) → length ys < n → AreRecords default_config t ys (records_from default_config n t ys)) → Shortens xs p
+        → AreRecords default_config p.1 p.2 (records_from default_config n p.1 p.2)
+    more p on (inl shorter) = on p.1 p.2 (omega arith)
+    more p on (inr ends) =
         rw (ends.0, ends.1, records-none default_config n st.StartRecord [] none-at-start)
         (st.StartRecord, [], (refl, refl), none-at-start)
 
-    by : (found : Option Read) → next_record default_config s [] [] xs ≡ found → AreRecords default_config s xs (records_from default_config (suc n) s xs)
-    by None e = rw e (s, xs, (refl, refl), e)
-    by (Some p) e =
-        let rest = more p e (next-shortens default_config s [] [] xs p e) in
+    by : (found : Option Read) → next_record default_config s [] [] xs ≡ found → ((t : State) (ys : List ℕ) → length ys < n → AreRecords default_config t ys (records_from default_config n t ys))
+        → AreRecords default_config s xs (records_from default_config (suc n) s xs)
+    by None e on = rw e (s, xs, (refl, refl), e)
+    by (Some p) e on =
+        let rest = more p on (next-shortens default_config s [] [] xs p e) in
         rw e (rest.0, rest.1, (p, e, refl, rest.2), rest.3)
 
 -- ---- the start of a record
@@ -87,15 +90,21 @@ blank-return : (is_feed is_first is_quote is_comma is_last : Bool) (after : Stat
 blank-return true is_first is_quote is_comma is_last after c fields field blank = λ e. blank
 blank-return false is_first is_quote is_comma is_last after c fields field blank = blank-record is_first is_quote is_comma is_last after c fields field blank
 
+abbrev ends_line : ℕ → Bool
+ends_line c = (c == 13) || (c == 10)
+
+abbrev after_line : ℕ → State
+after_line c = if c == 13 then st.AfterCr else st.StartRecord
+
 blank-step : (s : State) (c : ℕ) (fields : Record) (field : List ℕ) → Blank s fields field → StaysBlank c fields field (step default_config s c)
-blank-step st.StartRecord c fields field blank = blank-record _ _ _ _ _ c fields field blank
-blank-step st.StartField c fields field blank = blank-quote _ _ _ _ c fields field
-blank-step st.InField c fields field blank = blank-field _ _ _ c fields field
-blank-step st.InQuoted c fields field blank = blank-quoted _ c fields field
+blank-step st.StartRecord c fields field blank = blank-record (ends_line c) (c == 34) (c == 44) (ends_line c) (after_line c) c fields field blank
+blank-step st.StartField c fields field blank = blank-quote (c == 34) (c == 44) (ends_line c) (after_line c) c fields field
+blank-step st.InField c fields field blank = blank-field (c == 44) (ends_line c) (after_line c) c fields field
+blank-step st.InQuoted c fields field blank = blank-quoted (c == 34) c fields field
 blank-step st.InEscape c fields field blank = λ e. tt
-blank-step st.AfterQuote c fields field blank = blank-doubled _ _ _ _ c fields field
-blank-step st.InComment c fields field blank = blank-comment _ c fields field blank
-blank-step st.AfterCr c fields field blank = blank-return _ _ _ _ _ _ c fields field blank
+blank-step st.AfterQuote c fields field blank = blank-doubled (c == 34) (c == 44) (ends_line c) (after_line c) c fields field
+blank-step st.InComment c fields field blank = blank-comment (c == 10) c fields field blank
+blank-step st.AfterCr c fields field blank = blank-return (c == 10) (ends_line c) (c == 34) (c == 44) (ends_line c) (after_line c) c fields field blank
 
 -- ---- a read of a text that ends in a newline, and a read that goes on behind it
 -- the rest of such a text: none at the start of a record, or it ends in a newline itself
@@ -185,7 +194,8 @@ cut-rows [] s xs ys more (inr line) all one later = by (cut-next line.0 s [] [] 
     by (behind first second) = rw line.1 (begins-alike s ((line.0 ++ 10 ∷ []) ++ ys) ys more second later)
     by (quoted p first second) = absurd (let e : None ≡ Some p = sym none ∙ first in cc)
 cut-rows (r ∷ rows) s xs ys more (inl start) all one later = absurd (let e : None ≡ Some all.2.0 = sym none-at-start ∙ rw (start.0, start.1) at all.2.1 in cc)
-cut-rows (r ∷ rows) s xs ys more (inr line) all one later = by (cut-next line.0 s [] [] ys (blank-start s))
+cut-rows (r ∷ rows) s xs ys more (inr line) all one later =
+    by (cut-next line.0 s [] [] ys (blank-start s)) (λ at. cut-rows rows all.2.0.1 all.2.0.2 ys more at (all.0, all.1, all.2.3, all.3) ones.1 later)
   where
     found : next_record default_config s [] [] (line.0 ++ 10 ∷ []) ≡ Some all.2.0
     found = let e : xs ≡ line.0 ++ 10 ∷ [] = line.1 in rw e at all.2.1
@@ -193,14 +203,13 @@ cut-rows (r ∷ rows) s xs ys more (inr line) all one later = by (cut-next line.
     ones : (is_one_line r ≡ true) × (list_all is_one_line rows ≡ true)
     ones = and-parts (is_one_line r) (list_all is_one_line rows) one
 
-    by : Cut s [] [] (line.0 ++ 10 ∷ []) ys → AreRecords default_config s (xs ++ ys) (r ∷ rows ++ more)
-    by (within p first second at) =
+    by : Cut s [] [] (line.0 ++ 10 ∷ []) ys → (AtLine all.2.0.1 all.2.0.2 → AreRecords default_config all.2.0.1 (all.2.0.2 ++ ys) (rows ++ more)) → AreRecords default_config s (xs ++ ys) (r ∷ rows ++ more)
+    by (within p first second at) on =
         let same : p ≡ all.2.0 = (let e : Some p ≡ Some all.2.0 = sym first ∙ found in cc) in
-        let at2 : AtLine all.2.0.1 all.2.0.2 = rw (← same) at in
-        let rest = cut-rows rows all.2.0.1 all.2.0.2 ys more at2 (all.0, all.1, all.2.3, all.3) ones.1 later in
+        let rest = on (rw (← same) at) in
         (rest.0, rest.1, ((all.2.0.0, all.2.0.1, all.2.0.2 ++ ys), rw line.1 (second ∙ rw same refl), all.2.2, rest.2), rest.3)
-    by (behind first second) = absurd (let e : None ≡ Some all.2.0 = sym first ∙ found in cc)
-    by (quoted p first second) =
+    by (behind first second) on = absurd (let e : None ≡ Some all.2.0 = sym first ∙ found in cc)
+    by (quoted p first second) on =
         let same : p ≡ all.2.0 = (let e : Some p ≡ Some all.2.0 = sym first ∙ found in cc) in
         absurd (true≢false (sym ones.0 ∙ ap is_one_line (all.2.2 ∙ ap (λ (q : Read). q.0) (sym same)) ∙ second))
 

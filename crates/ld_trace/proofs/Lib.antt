@@ -11,3 +11,4 @@ mod Alike
 mod ReadBack
 mod TakenIn
 mod Cuts
+mod Pieces

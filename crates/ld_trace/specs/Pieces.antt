@@ -1,16 +1,20 @@
 -- A trace that is read in pieces, each cut behind a newline [this project's own].
-use Rattle.std.specs.Prelude.{◌≡◌, ◌==◌, ℕ, Bool, not, List, [], ◌∷◌, ◌++◌, codes}
+use Rattle.std.specs.Prelude.{◌≡◌, ◌≤◌, ◌+◌, ◌==◌, ℕ, Bool, not, List, [], ◌∷◌, ◌++◌, codes, length}
 use Rattle.std.specs.List.{list_all}
+use Rattle.ld_trace.specs.declared.event.Event.{Event}
+use Rattle.ld_trace.specs.declared.raw_trace.TheConstants.{MAX_EVENTS}
 use Rattle.ld_trace.specs.declared.version.Version.{Version}
 use Rattle.ld_trace.specs.declared.version.Version.TheVariants.{One, Two}
 use Rattle.ld_trace.specs.Lines.{Record}
+use Rattle.ld_trace.specs.Names.{Name}
+use Rattle.ld_trace.specs.Reading.{ReadsTo}
 
 -- the line with the header of a version
 abbrev pub header_line : Version → List ℕ
 header_line One = codes "lockdep,1" ++ 10 ∷ []
 header_line Two = codes "lockdep,2" ++ 10 ∷ []
 
--- these bytes are whole lines, the first with the header of this version
+-- these bytes are whole lines, and the first is the header of this version
 pub record AreLines (version : Version) (bytes : List ℕ) : Type 0 where
   pub more : List ℕ
   pub begin : bytes ≡ header_line version ++ more
@@ -19,4 +23,11 @@ pub record AreLines (version : Version) (bytes : List ℕ) : Type 0 where
 
 -- whether no field of a record has a newline
 abbrev pub is_one_line : Record → Bool
-is_one_line record = list_all (list_all (λ byte. not (byte == 10))) record
+is_one_line row = list_all (list_all (λ byte. not (byte == 10))) row
+
+-- a trace of whole lines reads on as one of these: with the header before it, what follows is a trace of its own, which begins with
+-- the names that the first one left. Together they are the trace of the first one's events and then the other's
+abbrev pub PiecesJoin : Type 0
+PiecesJoin = (any room : ℕ) (version : Version) (old names new : List Name) (done piece : List ℕ) (events more : List Event)
+    → AreLines version done → ReadsTo room old done names events → ReadsTo any names (header_line version ++ piece) new more
+    → length new ≤ room → length events + length more ≤ MAX_EVENTS → ReadsTo room old (done ++ piece) new (events ++ more)

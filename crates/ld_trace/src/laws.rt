@@ -1,6 +1,7 @@
 //! Laws of the definitions, each carried by a function that does nothing.
 
 ghost use Rattle.ld_trace.specs.Laws.{NewTablesHaveRoom, RenumberingsStay, TextsReadBack, TextsReadThemselves, TracesReadAlike};
+ghost use Rattle.ld_trace.specs.Pieces.{PiecesJoin};
 
 /// What `trace_text` writes, `read_trace` reads back: over any table with room for the trace's names, as events that
 /// say the same, each key by its name; a new table with as much room as the trace's own has room for them; and over the
@@ -20,4 +21,10 @@ pub fn traces_read_alike()
 /// A renumbering stays one when the table that takes in gets more names.
 pub fn renumberings_stay()
     ensures stay { RenumberingsStay }
+{}
+
+/// A trace that is cut behind a newline is two: what follows, with the header before it, is a trace of its own, and the events of both
+/// are those of the whole.
+pub fn pieces_join()
+    ensures join { PiecesJoin }
 {}
