@@ -6,7 +6,7 @@ ghost use Rattle.csv.specs.Records.{fields_of};
 ghost use Rattle.ld_trace.specs.Events.{KeysBelow};
 ghost use Rattle.ld_trace.specs.Lines.{line_of_record};
 ghost use Rattle.ld_trace.specs.Names.{Name};
-ghost use Rattle.ld_trace.specs.Inside.Progress.{AreRead, AreRefused, HasGiven, HasTaken, ReadsPlain, TakesLine, read_fault};
+ghost use Rattle.ld_trace.specs.Inside.Progress.{AreRead, AreRefused, HasGiven, HasTaken, IsFresh, ReadsPlain, TakesLine, read_fault};
 ghost use Rattle.ld_trace.specs.Reading.{ReadsTo, StopsAt, line_fault};
 ghost use Rattle.ld_trace.specs.TraceFaults.{is_of_text};
 
@@ -44,11 +44,19 @@ pub fn read_trace<R: Read + Drop>(
     ensures kept { (added : List Name) × (keys.new.names ≡ keys.old.names ++ added) }
     ensures room { keys.new.room ≡ keys.old.room }
 {
-    let mut source = ReaderBuilder::new()
+    let mut source = plain_reader(alloc, reader);
+    read_records(alloc, &mut source, keys)
+}
+
+// The records of a reader, as the format has them.
+pub(crate) fn plain_reader<R: Read + Drop>(alloc: Global, reader: R) -> Reader<R>
+    ensures plain { ReadsPlain result }
+    ensures fresh { IsFresh R.remaining reader result }
+{
+    ReaderBuilder::new()
         .has_headers(false)
         .flexible(true)
-        .from_reader(alloc, reader);
-    read_records(alloc, &mut source, keys)
+        .from_reader(alloc, reader)
 }
 
 // Reads all records of the source.
@@ -72,9 +80,30 @@ fn read_records<R: Read>(
         Ok(version) => version,
         Err(kind) => return Err(TraceFault { kind, at: 1 }),
     };
-    let mut events = Vec::new(alloc);
+    read_events(version, source, &mut row, Vec::new(alloc), keys)
+}
+
+// Reads the rest of the records of the source, if these events are of those that were taken.
+pub(crate) fn read_events<R: Read>(
+    version: Version,
+    source: &mut Reader<R>,
+    row: &mut ByteRecord,
+    mut events: Vec<Event>,
+    keys: &mut KeyTable,
+) -> Result<RawTrace, TraceFault>
+    requires plain { ReadsPlain source.old }
+    requires few { length events.items ≤ MAX_EVENTS }
+    ensures ok { IfOk result (λ trace. (known : Option (List ℕ)) (old : List Name)
+        → HasTaken R.remaining known source.old keys.old.room version old keys.old.names events.items
+        → AreRead keys.old.room known old keys.new.names trace × KeysBelow (length keys.new.names) trace) }
+    ensures refused { IfErr result (λ fault. (known : Option (List ℕ)) (old : List Name)
+        → HasTaken R.remaining known source.old keys.old.room version old keys.old.names events.items
+        → AreRefused keys.old.room known old keys.new.names fault.kind fault.at) }
+    ensures kept { (added : List Name) × (keys.new.names ≡ keys.old.names ++ added) }
+    ensures room { keys.new.room ≡ keys.old.room }
+{
     'records: loop {
-        match take_event(version, source, &mut row, &mut events, keys) {
+        match take_event(version, source, row, &mut events, keys) {
             Ok(true) => {}
             Ok(false) => return Ok(RawTrace::of_few(events)),
             Err(kind) => {

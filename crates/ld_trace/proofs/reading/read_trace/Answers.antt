@@ -4,8 +4,12 @@ use Rattle.ld_trace.proofs.reading.read_trace.Goals as goal
 
 pub returns-clause-ok : goal.returns-clause-ok
 returns-clause-ok g c =
-    IfOk-weaker c.read_records.result _ _ (λ trace read. read (g.R.Read.remaining c.args.reader) (given-none g.R.Read.remaining (g.R.Read.remaining c.args.reader) c.from_reader-source.result c.from_reader-source.ensures.source c.from_reader-source.ensures.state)) c.read_records.ensures.ok
+    let known = g.R.Read.remaining c.args.reader in
+    let fresh = c.plain_reader-source.ensures.fresh in
+    IfOk-weaker c.read_records.result _ _ (λ trace read. read known (given-none g.R.Read.remaining known c.plain_reader-source.result fresh.source_has fresh.state)) c.read_records.ensures.ok
 
 pub returns-clause-refused : goal.returns-clause-refused
 returns-clause-refused g c =
-    IfErr-weaker c.read_records.result _ _ (λ fault stopped. stopped (g.R.Read.remaining c.args.reader) (given-none g.R.Read.remaining (g.R.Read.remaining c.args.reader) c.from_reader-source.result c.from_reader-source.ensures.source c.from_reader-source.ensures.state)) c.read_records.ensures.refused
+    let known = g.R.Read.remaining c.args.reader in
+    let fresh = c.plain_reader-source.ensures.fresh in
+    IfErr-weaker c.read_records.result _ _ (λ fault stopped. stopped known (given-none g.R.Read.remaining known c.plain_reader-source.result fresh.source_has fresh.state)) c.read_records.ensures.refused
