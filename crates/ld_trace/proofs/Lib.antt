@@ -4,6 +4,9 @@ pub mod NameLemmas
 pub mod ReadLemmas
 pub mod StoredLemmas
 pub mod TakenLemmas
+pub mod PlainLemmas
+mod RowLemmas
+mod Joins
 mod KnownLemmas
 mod WriteLemmas
 mod LineLemmas

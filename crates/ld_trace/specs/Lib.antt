@@ -1,5 +1,6 @@
 pub mod Inside
 pub mod Events
+pub mod Joining
 pub mod KeyFaults
 pub mod Laws
 pub mod Lines

@@ -1,5 +1,6 @@
 //! Laws of the definitions, each carried by a function that does nothing.
 
+ghost use Rattle.ld_trace.specs.Joining.{TextsComeApart};
 ghost use Rattle.ld_trace.specs.Laws.{NewTablesHaveRoom, RenumberingsStay, TextsReadBack, TextsReadThemselves, TracesReadAlike};
 ghost use Rattle.ld_trace.specs.Pieces.{PiecesJoin};
 
@@ -16,6 +17,13 @@ pub fn written_traces_read_back()
 /// room for all: it stands for events that say the same, each key by its name.
 pub fn traces_read_alike()
     ensures alike { TracesReadAlike }
+{}
+
+/// Texts that are read as one, with a record `.` between each two, come apart again: if the records come in as many parts as
+/// there are texts, each like a trace without fault, then each part is the records of its own text. A quote that a text
+/// leaves open shows as a newline in a field.
+pub fn texts_come_apart()
+    ensures apart { TextsComeApart }
 {}
 
 /// A renumbering stays one when the table that takes in gets more names.
