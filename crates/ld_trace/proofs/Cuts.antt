@@ -11,7 +11,8 @@ use Rattle.csv.specs.declared.parser.State.TheVariants as st
 use Rattle.ld_trace.specs.declared.version.Version.{Version}
 use Rattle.ld_trace.specs.declared.version.Version.TheVariants.{One, Two}
 use Rattle.ld_trace.specs.Lines.{Record}
-use Rattle.ld_trace.specs.Pieces.{AreLines, header_line, is_one_line}
+use Rattle.ld_trace.specs.Joining.{is_one_line}
+use Rattle.ld_trace.specs.Pieces.{AreLines, header_line}
 use Rattle.ld_trace.specs.Reading.{records_of}
 use Rattle.ld_trace.proofs.CsvLemmas.{Shortens, next-shortens, records-all, records-none}
 

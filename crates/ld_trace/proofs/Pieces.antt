@@ -1,5 +1,5 @@
 -- A trace of whole lines, and what is read after it.
-use Rattle.std.proofs.Common.{◌≡◌, ◌⊎◌, inl, inr, ℕ, suc, ◌+◌, ◌≤◌, ◌<◌, ◌==◌, ◌&&◌, not, Bool, true, false, true≢false, List, [], ◌∷◌, ◌++◌, codes, length, Option, Some, None, Result, Ok, Err, refl, sym, ap, ◌∙◌, arith, append_assoc}
+use Rattle.std.proofs.Common.{◌≡◌, ◌⊎◌, inl, inr, ℕ, suc, ◌+◌, ◌≤◌, ◌<◌, ◌==◌, ◌&&◌, not, Bool, true, false, true≢false, List, [], ◌∷◌, ◌++◌, All, codes, length, Option, Some, None, Result, Ok, Err, refl, sym, ap, ◌∙◌, arith, append_assoc}
 use Rattle.std.specs.List.{list_all}
 use Rattle.csv.specs.Machine.{next_record}
 use Rattle.csv.specs.Reading.{records_from, strip_bom}
@@ -11,12 +11,14 @@ use Rattle.ld_trace.specs.Inside.Progress.{AreTaken}
 use Rattle.ld_trace.specs.Laws.{with_lines}
 use Rattle.ld_trace.specs.Lines.{Line, Record, line_of_record, version_of}
 use Rattle.ld_trace.specs.Names.{Name}
-use Rattle.ld_trace.specs.Pieces.{AreLines, PiecesJoin, header_line, is_one_line}
+use Rattle.ld_trace.specs.Joining.{IsPlain, is_one_line}
+use Rattle.ld_trace.specs.Pieces.{AreLines, PiecesJoin, header_line}
 use Rattle.ld_trace.specs.Reading.{ReadsTo, records_of, version_in, version_of_trace}
 use Rattle.ld_trace.specs.Writing.{header_of}
 use Rattle.ld_trace.proofs.Alike.{IsSaid, reads-said}
 use Rattle.ld_trace.proofs.Cuts.{cut}
 use Rattle.ld_trace.proofs.LineLemmas.{Say, events_with, length-events_with, taken-said}
+use Rattle.ld_trace.proofs.PlainLemmas.{taken-plain}
 use Rattle.ld_trace.proofs.ReadLemmas.{reads-to, taken-header}
 
 -- ---- the header's line
@@ -44,18 +46,15 @@ records-behind version piece =
     cut version (header_line version) piece (header-lines version) (rw header-records (header-one-line version))
     ∙ ap (λ first. first ++ records_of (10 ∷ piece)) (header-records version)
 
--- ---- a record that says a line has no newline
-said-one-line : (version : Version) (rs : List Record) (lines : List Line) → Say version rs lines → list_all is_one_line rs ≡ true
-said-one-line version rs lines say = ?
-
-names-one-line : (version : Version) (r : Record) → version_of r ≡ Some version → is_one_line r ≡ true
-names-one-line version r named = ?
+-- ---- records that are plain have no newline
+plain-one-line : (rows : List Record) → All IsPlain rows → list_all is_one_line rows ≡ true
+plain-one-line [] plain = refl
+plain-one-line (r ∷ rows) plain =
+    let first = plain 0 r (omega arith) in
+    rw first.one_line (plain-one-line rows (λ k d lt. plain (suc k) d (omega (arith, lt))))
 
 -- ---- the records of a trace that was read
 module _ (room : ℕ) (old names : List Name) (bytes : List ℕ) (events : List Event) (reads : ReadsTo room old bytes names events) (said : IsSaid old bytes names events) where
-  pub read-one-line : list_all is_one_line (records_of bytes) ≡ true
-  read-one-line = rw (said.records_are, names-one-line said.version said.header said.named, said-one-line said.version said.rows said.lines said.say) refl
-
   pub read-version : version_of_trace bytes ≡ said.version
   read-version = rw (said.records_are, said.named) refl
 
@@ -73,6 +72,9 @@ module _ (room : ℕ) (old names : List Name) (bytes : List ℕ) (events : List 
     below = rw (said.names_are, said.events_are) own-taken.below;
     added = rw said.names_are own-taken.added;
   }
+
+  pub read-one-line : list_all is_one_line (records_of bytes) ≡ true
+  read-one-line = plain-one-line (records_of bytes) (taken-plain room said.version old (records_of bytes) names events read-taken).plain
 
 as-said : (room : ℕ) (old : List Name) (bytes : List ℕ) (new names : List Name) (events more others : List Event) → new ≡ names → more ≡ others
     → ReadsTo room old bytes names (events ++ others) → ReadsTo room old bytes new (events ++ more)

@@ -1,11 +1,9 @@
 -- A trace that is read in pieces, each cut behind a newline [this project's own].
-use Rattle.std.specs.Prelude.{◌≡◌, ◌≤◌, ◌+◌, ◌==◌, ℕ, Bool, not, List, [], ◌∷◌, ◌++◌, codes, length}
-use Rattle.std.specs.List.{list_all}
+use Rattle.std.specs.Prelude.{◌≡◌, ◌≤◌, ◌+◌, ℕ, List, [], ◌∷◌, ◌++◌, codes, length}
 use Rattle.ld_trace.specs.declared.event.Event.{Event}
 use Rattle.ld_trace.specs.declared.raw_trace.TheConstants.{MAX_EVENTS}
 use Rattle.ld_trace.specs.declared.version.Version.{Version}
 use Rattle.ld_trace.specs.declared.version.Version.TheVariants.{One, Two}
-use Rattle.ld_trace.specs.Lines.{Record}
 use Rattle.ld_trace.specs.Names.{Name}
 use Rattle.ld_trace.specs.Reading.{ReadsTo}
 
@@ -20,10 +18,6 @@ pub record AreLines (version : Version) (bytes : List ℕ) : Type 0 where
   pub begin : bytes ≡ header_line version ++ more
   pub most : List ℕ
   pub end : bytes ≡ most ++ 10 ∷ []
-
--- whether no field of a record has a newline
-abbrev pub is_one_line : Record → Bool
-is_one_line row = list_all (list_all (λ byte. not (byte == 10))) row
 
 -- a trace of whole lines reads on as one of these: with the header before it, what follows is a trace of its own, which begins with
 -- the names that the first one left. Together they are the trace of the first one's events and then the other's
