@@ -14,4 +14,4 @@ mod Alike
 mod ReadBack
 mod TakenIn
 mod Cuts
-mod Pieces
+mod PieceLemmas

@@ -1,4 +1,4 @@
-use Rattle.ld_trace.proofs.Pieces.{pieces-join}
+use Rattle.ld_trace.proofs.PieceLemmas.{pieces-join}
 use Rattle.ld_trace.proofs.laws.pieces_join.Goals as goal
 
 pub returns : goal.returns

@@ -1,4 +1,4 @@
-use Rattle.std.proofs.Common.{[], ◌++◌, refl, sym, ap, ◌∙◌, append_assoc}
+use Rattle.std.proofs.Common.{◌≡◌, ◌+◌, [], ◌++◌, arith, length, refl, sym, ap, ◌∙◌, append_assoc}
 use Rattle.std.proofs.lemmas.List.{append-nil}
 use Rattle.ld_trace.proofs.reading.read_events.Goals as goal
 
@@ -24,4 +24,6 @@ returns-in-Ok-false-clause-ok g c = λ known old had.
 pub returns-in-Err-clause-refused : goal.returns-in-Err-clause-refused
 returns-in-Err-clause-refused g c = λ known old had.
     let kept = c.records.invariant in
-    rw (c.len-at.ensures, c.in-Err.ensures.kept_events, ← kept.4) (c.in-Err.ensures.refused known old (rw kept.4 (kept.2 known old had)))
+    let at : c.len-at.result ≡ length c.records.events.items = omega (arith, c.len-at.ensures, ap length c.in-Err.ensures.kept_events) in
+    let there : c.len-at.result + 2 ≡ length c.records.events.items + 2 = ap (λ n. n + 2) at in
+    rw (there, ← kept.4) (c.in-Err.ensures.refused known old (rw kept.4 (kept.2 known old had)))

@@ -1,13 +1,15 @@
 -- A trace of whole lines, and what is read after it.
-use Rattle.std.proofs.Common.{◌≡◌, ◌⊎◌, inl, inr, ℕ, suc, ◌+◌, ◌≤◌, ◌<◌, ◌==◌, ◌&&◌, not, Bool, true, false, true≢false, List, [], ◌∷◌, ◌++◌, All, codes, length, Option, Some, None, Result, Ok, Err, refl, sym, ap, ◌∙◌, arith, append_assoc}
+use Rattle.std.proofs.Common.{◌≡◌, ℕ, suc, ◌+◌, ◌≤◌, true, List, [], ◌∷◌, ◌++◌, All, codes, length, Option, Some, None, IfSome, option_map, refl, sym, ap, ◌∙◌, arith, append_assoc}
 use Rattle.std.specs.List.{list_all}
 use Rattle.csv.specs.Machine.{next_record}
+use Rattle.std.specs.Fmt.{option_append}
 use Rattle.csv.specs.Reading.{records_from, strip_bom}
+use Rattle.csv.specs.declared.reader.Reader.{Reader}
 use Rattle.ld_trace.specs.declared.event.Event.{Event}
 use Rattle.ld_trace.specs.declared.raw_trace.TheConstants.{MAX_EVENTS}
 use Rattle.ld_trace.specs.declared.version.Version.{Version}
 use Rattle.ld_trace.specs.declared.version.Version.TheVariants.{One, Two}
-use Rattle.ld_trace.specs.Inside.Progress.{AreTaken}
+use Rattle.ld_trace.specs.Inside.Progress.{AreTaken, HasTaken, IsFresh}
 use Rattle.ld_trace.specs.Laws.{with_lines}
 use Rattle.ld_trace.specs.Lines.{Line, Record, line_of_record, version_of}
 use Rattle.ld_trace.specs.Names.{Name}
@@ -16,6 +18,7 @@ use Rattle.ld_trace.specs.Pieces.{AreLines, PiecesJoin, header_line}
 use Rattle.ld_trace.specs.Reading.{ReadsTo, records_of, version_in, version_of_trace}
 use Rattle.ld_trace.specs.Writing.{header_of}
 use Rattle.ld_trace.proofs.Alike.{IsSaid, reads-said}
+use Rattle.ld_trace.proofs.CsvLemmas.{given-on}
 use Rattle.ld_trace.proofs.Cuts.{cut}
 use Rattle.ld_trace.proofs.LineLemmas.{Say, events_with, length-events_with, taken-said}
 use Rattle.ld_trace.proofs.PlainLemmas.{taken-plain}
@@ -80,8 +83,8 @@ as-said : (room : ℕ) (old : List Name) (bytes : List ℕ) (new names : List Na
     → ReadsTo room old bytes names (events ++ others) → ReadsTo room old bytes new (events ++ more)
 as-said room old bytes new names events more others a b reads = rw (a, b) reads
 
--- ---- the law
-module _ (any room : ℕ) (version : Version) (old names new : List Name) (done piece : List ℕ) (events more : List Event) (lines : AreLines version done) (first : ReadsTo room old done names events) where
+-- ---- whole lines that were read, and what is read after them
+module _ (room : ℕ) (version : Version) (old names : List Name) (done : List ℕ) (events : List Event) (lines : AreLines version done) (first : ReadsTo room old done names events) where
   said : IsSaid old done names events
   said = reads-said room old names done events first
 
@@ -93,14 +96,15 @@ module _ (any room : ℕ) (version : Version) (old names new : List Name) (done 
       let named : Some said.version ≡ Some version = sym said.named ∙ ap version_of same ∙ header-names version in
       cc
 
-  pub lines-taken : AreTaken room version old (records_of done) names events
+  lines-taken : AreTaken room version old (records_of done) names events
   lines-taken = rw first-version at (read-taken room old names done events first said)
 
-  pub lines-cut : records_of (done ++ piece) ≡ records_of done ++ records_of (10 ∷ piece)
-  lines-cut = cut version done piece lines (read-one-line room old names done events first said)
+  lines-cut : (piece : List ℕ) → records_of (done ++ piece) ≡ records_of done ++ records_of (10 ∷ piece)
+  lines-cut piece = cut version done piece lines (read-one-line room old names done events first said)
 
-  pub joins : ReadsTo any names (header_line version ++ piece) new more → length new ≤ room → length events + length more ≤ MAX_EVENTS → ReadsTo room old (done ++ piece) new (events ++ more)
-  joins second fits few =
+  joins : (any : ℕ) (new : List Name) (piece : List ℕ) (more : List Event) → ReadsTo any names (header_line version ++ piece) new more → length new ≤ room → length events + length more ≤ MAX_EVENTS
+      → ReadsTo room old (done ++ piece) new (events ++ more)
+  joins any new piece more second fits few =
       let other = reads-said any names new (header_line version ++ piece) more second in
       let head : other.header ∷ other.rows ≡ header_of version ∷ records_of (10 ∷ piece) = sym other.records_are ∙ records-behind version piece in
       let same : other.header ≡ header_of version = cc in
@@ -111,7 +115,22 @@ module _ (any room : ℕ) (version : Version) (old names new : List Name) (done 
       let long : length events + length other.lines ≤ MAX_EVENTS = rw (other.events_are, length-events_with) at few in
       let all = taken-said room version old (records_of done) names events (records_of (10 ∷ piece)) other.lines lines-taken say long (rw (← other.names_are) fits) in
       as-said room old (done ++ piece) new (with_lines names other.lines) events more (events_with names other.lines) other.names_are other.events_are
-      (reads-to room version old (done ++ piece) (records_of done ++ records_of (10 ∷ piece)) (with_lines names other.lines) (events ++ events_with names other.lines) lines-cut all)
+      (reads-to room version old (done ++ piece) (records_of done ++ records_of (10 ∷ piece)) (with_lines names other.lines) (events ++ events_with names other.lines) (lines-cut piece) all)
 
+  -- a new reader that has a newline and then the rest of the bytes
+  pub taken-on : {R : Type 0} (rem : R → Option (List ℕ)) (beneath : R) (source : Reader R) (rest : Option (List ℕ)) → IsFresh rem beneath source → rem beneath ≡ option_append (Some (10 ∷ [])) rest
+      → HasTaken rem (option_map (λ bytes. done ++ bytes) rest) source room version old names events
+  taken-on rem beneath source None fresh e = (records_of done, tt, lines-taken)
+  taken-on rem beneath source (Some bytes) fresh e = (
+    records_of done,
+    given-on rem (done ++ bytes) (10 ∷ bytes) (records_of done) source (lines-cut bytes) (fresh.source_has ∙ ap (option_map strip_bom) e) fresh.state,
+    lines-taken,
+  )
+
+pub if-mapped : {X Y : Type 0} (f : X → Y) (P : Y → Type 0) (known : Option X) → IfSome (option_map f known) P → IfSome known (λ x. P (f x))
+if-mapped f P None h = tt
+if-mapped f P (Some x) h = h
+
+-- ---- the law
 pub pieces-join : PiecesJoin
-pieces-join any room version old names new done piece events more lines first second fits few = joins any room version old names new done piece events more lines first second fits few
+pieces-join any room version old names new done piece events more lines first second fits few = joins room version old names done events lines first any new piece more second fits few
