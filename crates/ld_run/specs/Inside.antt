@@ -3,4 +3,5 @@ pub mod Walks
 pub mod BoardRule
 pub mod Gathered
 pub mod Ahead
+pub mod Pieces
 pub mod Walked

@@ -119,7 +119,7 @@ pub fn read_into<R: Read + Drop>(
 }
 
 // The fault if memory runs out for the room of a trace.
-fn no_room() -> TraceFault
+pub(crate) fn no_room() -> TraceFault
     ensures fault { result ≡ record { kind = TraceFaultKind.Memory; at = 1 } }
     ensures stops { (room : ℕ) (names : List Name) (bytes : List ℕ) → StopsAt room names bytes names result }
 {

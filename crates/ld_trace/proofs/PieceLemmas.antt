@@ -14,7 +14,7 @@ use Rattle.ld_trace.specs.Laws.{with_lines}
 use Rattle.ld_trace.specs.Lines.{Line, Record, line_of_record, version_of}
 use Rattle.ld_trace.specs.Names.{Name}
 use Rattle.ld_trace.specs.Joining.{IsPlain, is_one_line}
-use Rattle.ld_trace.specs.Pieces.{AreLines, PiecesJoin, header_line}
+use Rattle.ld_trace.specs.Pieces.{AreLines, HeadersRead, PiecesJoin, header_line}
 use Rattle.ld_trace.specs.Reading.{ReadsTo, records_of, version_in, version_of_trace}
 use Rattle.ld_trace.specs.Writing.{header_of}
 use Rattle.ld_trace.proofs.Alike.{IsSaid, reads-said}
@@ -131,6 +131,12 @@ pub if-mapped : {X Y : Type 0} (f : X → Y) (P : Y → Type 0) (known : Option 
 if-mapped f P None h = tt
 if-mapped f P (Some x) h = h
 
--- ---- the law
+-- ---- the laws
+pub headers-read : HeadersRead
+headers-read room version names = (
+  header-lines version,
+  reads-to room version names (header_line version) (header_of version ∷ []) names [] (header-records version) (taken-header room version names (header_of version) (header-names version)),
+)
+
 pub pieces-join : PiecesJoin
 pieces-join any room version old names new done piece events more lines first second fits few = joins room version old names done events lines first any new piece more second fits few

@@ -25,3 +25,7 @@ abbrev pub PiecesJoin : Type 0
 PiecesJoin = (any room : ℕ) (version : Version) (old names new : List Name) (done piece : List ℕ) (events more : List Event)
     → AreLines version done → ReadsTo room old done names events → ReadsTo any names (header_line version ++ piece) new more
     → length new ≤ room → length events + length more ≤ MAX_EVENTS → ReadsTo room old (done ++ piece) new (events ++ more)
+
+-- the header's line is whole lines, and a trace without events
+abbrev pub HeadersRead : Type 0
+HeadersRead = (room : ℕ) (version : Version) (names : List Name) → AreLines version (header_line version) × ReadsTo room names (header_line version) names []

@@ -2,7 +2,7 @@
 
 ghost use Rattle.ld_trace.specs.Joining.{TextsComeApart};
 ghost use Rattle.ld_trace.specs.Laws.{NewTablesHaveRoom, RenumberingsStay, TextsReadBack, TextsReadThemselves, TracesReadAlike};
-ghost use Rattle.ld_trace.specs.Pieces.{PiecesJoin};
+ghost use Rattle.ld_trace.specs.Pieces.{HeadersRead, PiecesJoin};
 
 /// What `trace_text` writes, `read_trace` reads back: over any table with room for the trace's names, as events that
 /// say the same, each key by its name; a new table with as much room as the trace's own has room for them; and over the
@@ -35,4 +35,9 @@ pub fn renumberings_stay()
 /// are those of the whole.
 pub fn pieces_join()
     ensures join { PiecesJoin }
+{}
+
+/// The line of a header is a trace without events.
+pub fn headers_read()
+    ensures read { HeadersRead }
 {}
