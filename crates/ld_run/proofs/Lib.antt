@@ -14,3 +14,4 @@ pub mod Working
 pub mod Crews
 pub mod AheadLemmas
 pub mod AreReadLemmas
+pub mod PieceLemmas

@@ -220,7 +220,8 @@ fn read_piece(
     from: usize,
     to: usize,
 ) -> Option<Piece>
-    ensures { MayBePiece version lines.now result }
+    ensures piece { MayBePiece version lines.now result }
+    ensures place { IfSome result (λ piece. (piece.from ≡ from) × (piece.to ≡ to)) }
 {
     if from > to || to > lines.len() {
         return None;
@@ -256,10 +257,11 @@ fn join_line(
     ensures none { IsFalse result → (keys.new ≡ keys.old) × (whole.new ≡ whole.old) }
     ensures room { keys.new.room ≡ keys.old.room }
 {
-    match read_piece(alloc, version, line, 0, line.len()) {
-        Some(piece) => keys.take_in_piece(alloc, &piece.own, piece.trace, whole),
-        None => false,
-    }
+    let Some(piece) = read_piece(alloc, version, line, 0, line.len()) else {
+        return false;
+    };
+    let Piece { own, trace, .. } = piece;
+    keys.take_in_piece(alloc, &own, trace, whole)
 }
 
 // Takes in the pieces from the first one on, up to one that isn't there or can't be taken in. Returns how many bytes these are.
@@ -301,9 +303,14 @@ fn join_piece(
     ensures none { IsNone result → (keys.new ≡ keys.old) × (whole.new ≡ whole.old) }
     ensures room { keys.new.room ≡ keys.old.room }
 {
-    let piece = found?;
-    if piece.from != at || !keys.take_in_piece(alloc, &piece.own, piece.trace, whole) {
+    let Piece {
+        from,
+        to,
+        own,
+        trace,
+    } = found?;
+    if from != at || !keys.take_in_piece(alloc, &own, trace, whole) {
         return None;
     }
-    Some(piece.to)
+    Some(to)
 }

@@ -14,7 +14,7 @@ use std::thread;
 use std::thread::Threads;
 
 // Reads the sources by several threads, puts the traces of the first ones after the others, and returns how many these are: none with
-// fewer than two threads, or if memory runs out.
+// fewer than two threads or sources, or if memory runs out.
 pub(crate) fn read_ahead<R: Threads + Sync, S: Sources + Sync>(
     rt: &R,
     alloc: Global,
@@ -30,6 +30,9 @@ pub(crate) fn read_ahead<R: Threads + Sync, S: Sources + Sync>(
     ensures room { keys.new.room ≡ keys.old.room }
 {
     if threads < 2 {
+        return 0;
+    }
+    if count < 2 {
         return 0;
     }
     match read_in_threads(rt, alloc, threads, sources, count) {

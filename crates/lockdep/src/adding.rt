@@ -22,6 +22,12 @@ use std::thread::Threads;
 // With fewer bytes for each, more threads take as long as one.
 const BYTES_PER_THREAD: u64 = 262_144;
 
+// The same for each that reads pieces of one file.
+const BYTES_PER_PIECE_THREAD: u64 = 524_288;
+
+// More threads for one file would need too much room for what they read.
+const MOST_FOR_ONE: u64 = 8;
+
 // Of how many files the size is asked for.
 const SIZES_ASKED: usize = 64;
 
@@ -142,8 +148,11 @@ fn size_of<R: Files>(rt: &R, file: &str) -> u64 {
 // How many threads are worth it: one for every 256 KiB of the files, by the sizes of the first ones, and no more than there are
 // workers and files. A number of workers that a run refuses reads in turn.
 fn useful_threads<R: Files>(rt: &R, workers: u16, files: &[&str]) -> usize {
-    if workers < 2 || workers > MAX_WORKERS || files.len() < 2 {
+    if workers < 2 || workers > MAX_WORKERS || files.is_empty() {
         return 1;
+    }
+    if let [file] = files {
+        return useful_for_one(rt, workers, file);
     }
     let mut bytes = 0u64;
     let mut asked = 0u64;
@@ -155,6 +164,13 @@ fn useful_threads<R: Files>(rt: &R, workers: u16, files: &[&str]) -> usize {
     let shares = mean.saturating_mul(files.len() as u64) / BYTES_PER_THREAD;
     let threads = shares.saturating_add(1).min(u64::from(workers)) as usize;
     threads.min(files.len())
+}
+
+// The same for a single file, of which each thread reads pieces: one for every 512 KiB, and no more than 8.
+fn useful_for_one<R: Files>(rt: &R, workers: u16, file: &str) -> usize {
+    let shares = size_of(rt, file) / BYTES_PER_PIECE_THREAD;
+    let most = u64::from(workers).min(MOST_FOR_ONE);
+    shares.saturating_add(1).min(most) as usize
 }
 
 // The refusal of the file at whose place reading stopped.

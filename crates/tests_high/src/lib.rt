@@ -10,4 +10,6 @@ mod lines;
 #[cfg(test)]
 mod origins;
 #[cfg(test)]
+mod pieces;
+#[cfg(test)]
 mod runs;
