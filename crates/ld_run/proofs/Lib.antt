@@ -10,3 +10,4 @@ pub mod Crews
 pub mod AheadLemmas
 pub mod JoinedTexts
 pub mod AreReadLemmas
+pub mod PieceLemmas

@@ -1,4 +1,5 @@
 pub mod Crews
 pub mod Walks
 pub mod Ahead
+pub mod Pieces
 pub mod Walked

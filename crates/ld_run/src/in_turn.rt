@@ -8,6 +8,7 @@ ghost use Rattle.ld_trace.specs.Names.{Name};
 ghost use Rattle.ld_trace.specs.Reading.{ReadsTo, StopsAt};
 ghost use Rattle.ld_run.specs.Reading.{AreRead, IsNotRead, IsRead, StopsAfter};
 
+use crate::pieces::read_in_pieces;
 use crate::sources::Sources;
 use crate::taking::read_ahead;
 use crate::unread::{ReadFault, Unread};
@@ -16,9 +17,13 @@ use std::alloc::Global;
 use std::io::Read;
 use std::thread::Threads;
 
+// About how many bytes of one trace a thread reads at a time.
+const PIECE: usize = 131_072;
+
 /// Reads the traces of the first `count` sources over one table, and puts them after the others. The result is that of reading them
 /// in turn, whatever the number of threads and the size of the groups: with more than one, later sources may be opened and read before
-/// an earlier one was read whole, each thread over a table of its own. A thread reads a group of short sources by one CSV reader.
+/// an earlier one was read whole, each thread over a table of its own. A thread reads a group of short sources by one CSV reader; and
+/// the threads read pieces of a source that is the only one.
 ///
 /// If a source can't be opened, or its trace is refused, the first such source is returned with its place and why it wasn't read; the
 /// traces before it are kept, and the names are those that reading in turn leaves.
@@ -41,12 +46,15 @@ pub fn read_all<R: Threads + Sync, S: Sources + Sync>(
     ensures room { keys.new.room ≡ keys.old.room }
 {
     let first = read_ahead(rt, alloc, threads, group, sources, count, keys, traces);
-    read_from(alloc, sources, first, count, keys, traces)
+    let apart = if count < 2 { threads } else { 1 };
+    read_from(rt, alloc, apart, sources, first, count, keys, traces)
 }
 
-// Reads the traces of the sources from this place on.
-fn read_from<S: Sources>(
+// Reads the traces of the sources from this place on, each by this many threads.
+fn read_from<R: Threads + Sync, S: Sources>(
+    rt: &R,
     alloc: Global,
+    threads: usize,
     sources: &S,
     first: usize,
     count: usize,
@@ -61,16 +69,18 @@ fn read_from<S: Sources>(
     ensures room { keys.new.room ≡ keys.old.room }
 {
     for place in first..count {
-        if let Err(fault) = read_one(alloc, sources, place, keys, traces) {
+        if let Err(fault) = read_one(rt, alloc, threads, sources, place, keys, traces) {
             return Err(Unread { place, fault });
         }
     }
     Ok(())
 }
 
-// Reads the trace of the source at this place.
-fn read_one<S: Sources>(
+// Reads the trace of the source at this place by this many threads.
+fn read_one<R: Threads + Sync, S: Sources>(
+    rt: &R,
     alloc: Global,
+    threads: usize,
     sources: &S,
     place: usize,
     keys: &mut KeyTable,
@@ -85,9 +95,38 @@ fn read_one<S: Sources>(
     let Some(source) = sources.open(place) else {
         return Err(ReadFault::CannotOpen);
     };
-    match read_into(alloc, source, keys, traces) {
+    match read_apart(rt, alloc, threads, source, keys, traces) {
         Ok(()) => Ok(()),
         Err(fault) => Err(ReadFault::Trace(fault)),
+    }
+}
+
+// Reads one trace as `read_into` does, by this many threads.
+fn read_apart<R: Threads + Sync, S: Read + Drop>(
+    rt: &R,
+    alloc: Global,
+    threads: usize,
+    reader: S,
+    keys: &mut KeyTable,
+    traces: &mut Vec<RawTrace>,
+) -> Result<(), TraceFault>
+    ensures ok { IfOk result (λ _. (trace : List Event) × (traces.new.items ≡ traces.old.items ++ trace ∷ [])
+        × KeysBelow (length keys.new.names) trace
+        × IfSome (S.remaining reader) (λ bytes. ReadsTo keys.old.room keys.old.names bytes keys.new.names trace)) }
+    ensures refused { IfErr result (λ fault. (traces.new.items ≡ traces.old.items)
+        × IfSome (S.remaining reader) (λ bytes. StopsAt keys.old.room keys.old.names bytes keys.new.names fault)) }
+    ensures kept { (added : List Name) × (keys.new.names ≡ keys.old.names ++ added) }
+    ensures room { keys.new.room ≡ keys.old.room }
+{
+    if traces.reserve(1).is_err() {
+        return Err(no_room());
+    }
+    match read_in_pieces(rt, alloc, threads, PIECE, reader, keys) {
+        Ok(trace) => {
+            traces.push_reserved(trace);
+            Ok(())
+        }
+        Err(fault) => Err(fault),
     }
 }
 
@@ -120,7 +159,7 @@ pub fn read_into<R: Read + Drop>(
 }
 
 // The fault if memory runs out for the room of a trace.
-fn no_room() -> TraceFault
+pub(crate) fn no_room() -> TraceFault
     ensures fault { result ≡ record { kind = TraceFaultKind.Memory; at = 1 } }
     ensures stops { (room : ℕ) (names : List Name) (bytes : List ℕ) → StopsAt room names bytes names result }
 {

@@ -14,7 +14,7 @@ use std::thread;
 use std::thread::Threads;
 
 // Reads the sources by several threads or in groups, puts the traces of the first ones after the others, and returns how many these
-// are: none with fewer than two threads and no groups of two or more, or if memory runs out.
+// are: none with fewer than two threads and no groups of two or more, with fewer than two sources, or if memory runs out.
 pub(crate) fn read_ahead<R: Threads + Sync, S: Sources + Sync>(
     rt: &R,
     alloc: Global,
@@ -31,6 +31,9 @@ pub(crate) fn read_ahead<R: Threads + Sync, S: Sources + Sync>(
     ensures room { keys.new.room ≡ keys.old.room }
 {
     if threads < 2 && group < 2 {
+        return 0;
+    }
+    if count < 2 {
         return 0;
     }
     match read_in_threads(rt, alloc, threads.max(1), group, sources, count) {

@@ -173,52 +173,72 @@ all_moved-lines : (own names : List Name) (events : List Event) → all_moved ow
 all_moved-lines own names [] = refl
 all_moved-lines own names (event ∷ events) = ap (λ l. event_of names (line_at own event) ∷ l) (all_moved-lines own names events)
 
--- ---- the law
-module _ (any room : ℕ) (start own names : List Name) (bytes : List ℕ) (events : List Event) (within : Within start names) (reads : ReadsTo any start bytes own events) (fits : length (with_all names own) ≤ room) where
-  abbrev Alike : Type 0
-  Alike = ReadsTo room names bytes (with_all names own) (all_moved own (with_all names own) events)
+-- ---- what a trace that was read says: a header, and then lines
+pub record IsSaid (start : List Name) (bytes : List ℕ) (own : List Name) (events : List Event) : Type 0 where
+  pub version : Version
+  pub header : Record
+  pub rows : List Record
+  pub lines : List Line
+  pub records_are : records_of bytes ≡ header ∷ rows
+  pub named : version_of header ≡ Some version
+  pub say : Say version rows lines
+  pub few : 0 + length lines ≤ MAX_EVENTS
+  pub names_are : own ≡ with_lines start lines
+  pub events_are : events ≡ events_with start lines
 
-  module _ (version : Version) (h : Record) (rs : List Record) (e : records_of bytes ≡ h ∷ rs) (named : version_of h ≡ Some version) (lines : List Line) (say : Say version rs lines) (few : 0 + length lines ≤ MAX_EVENTS) where
-    is-version : version_in (records_of bytes) ≡ version
-    is-version = rw (e, named) refl
+module _ (any : ℕ) (start own : List Name) (bytes : List ℕ) (events : List Event) (reads : ReadsTo any start bytes own events) where
+  said-lines : (version : Version) (h : Record) (rs : List Record) → records_of bytes ≡ h ∷ rs → version_of h ≡ Some version → (lines : List Line) → Say version rs lines → 0 + length lines ≤ MAX_EVENTS
+      → IsSaid start bytes own events
+  said-lines version h rs e named lines say few =
+      let is-version : version_in (records_of bytes) ≡ version = rw (e, named) refl in
+      let own-taken =
+          taken-said (length (with_lines start lines)) version start (h ∷ []) start [] rs lines (taken-header (length (with_lines start lines)) version start h named) say few (omega arith) in
+      record {
+        version = version;
+        header = h;
+        rows = rs;
+        lines = lines;
+        records_are = e;
+        named = named;
+        say = say;
+        few = few;
+        names_are = reads.names ∙ rw (is-version, e, own-taken.names) refl;
+        events_are = same-places events (events_with start lines) (λ i. reads.each i ∙ rw (is-version, e, own-taken.each i) refl);
+      }
 
-    own-taken : AreTaken (length (with_lines start lines)) version start (h ∷ rs) (with_lines start lines) (events_with start lines)
-    own-taken = taken-said (length (with_lines start lines)) version start (h ∷ []) start [] rs lines (taken-header (length (with_lines start lines)) version start h named) say few (omega arith)
-
-    own-is : own ≡ with_lines start lines
-    own-is = reads.names ∙ rw (is-version, e, own-taken.names) refl
-
-    events-are : events ≡ events_with start lines
-    events-are = same-places events (events_with start lines) (λ i. reads.each i ∙ rw (is-version, e, own-taken.each i) refl)
-
-    names-are : with_lines names lines ≡ with_all names own
-    names-are =
-        ap (λ now. with_lines now lines) (sym (with_all-within names start within))
-        ∙ with_all-lines names start lines ∙ ap (with_all names) (sym own-is)
-
-    moved-are : events_with names lines ≡ all_moved own (with_all names own) events
-    moved-are =
-        let told : lines_at own events ≡ lines = rw (own-is, events-are) (lines_at-events_with start lines) in
-        sym (all_moved-lines own (with_all names own) events ∙ rw (told, ← names-are) (events_with-later names lines))
-
-    reads-over : ReadsTo room names bytes (with_lines names lines) (events_with names lines)
-    reads-over =
-        reads-to room version names bytes (h ∷ rs) (with_lines names lines) (events_with names lines) e
-        (taken-said room version names (h ∷ []) names [] rs lines (taken-header room version names h named) say few (rw names-are fits))
-
-    alike-said : Alike
-    alike-said = rw (names-are, moved-are) at reads-over
-
-  alike-rows : (rows : List Record) → records_of bytes ≡ rows → Alike
+  said-rows : (rows : List Record) → records_of bytes ≡ rows → IsSaid start bytes own events
   unfolding fault_at
-  alike-rows [] e = let count = reads.count in absurd (omega (arith, ap length e, count))
-  alike-rows (h ∷ rs) e =
+  said-rows [] e = let count = reads.count in absurd (omega (arith, ap length e, count))
+  said-rows (h ∷ rs) e =
       let none = header-named (version_of h) (rw e at (reads.faultless 0)) in
       let version-is = ap version_in e ∙ version-named h rs none.0 none.1 in
       let said = says-from any none.0 0 rs (λ i. names_before none.0 start (h ∷ rs) (suc i)) (λ i.
       let z : 0 + i ≡ i = omega arith in
       rw z (rw (version-is, e) at (reads.faultless (suc i)))) (omega arith) in
-      alike-said none.0 h rs e none.1 said.0 said.1 said.2
+      said-lines none.0 h rs e none.1 said.0 said.1 said.2
+
+pub reads-said : (any : ℕ) (start own : List Name) (bytes : List ℕ) (events : List Event) → ReadsTo any start bytes own events → IsSaid start bytes own events
+reads-said any start own bytes events reads = said-rows any start own bytes events reads (records_of bytes) refl
+
+-- ---- the law
+module _ (room : ℕ) (start own names : List Name) (bytes : List ℕ) (events : List Event) (within : Within start names) (said : IsSaid start bytes own events) (fits : length (with_all names own) ≤ room) where
+  names-are : with_lines names said.lines ≡ with_all names own
+  names-are =
+      ap (λ now. with_lines now said.lines) (sym (with_all-within names start within))
+      ∙ with_all-lines names start said.lines ∙ ap (with_all names) (sym said.names_are)
+
+  moved-are : events_with names said.lines ≡ all_moved own (with_all names own) events
+  moved-are =
+      let told : lines_at own events ≡ said.lines = rw (said.names_are, said.events_are) (lines_at-events_with start said.lines) in
+      sym (all_moved-lines own (with_all names own) events ∙ rw (told, ← names-are) (events_with-later names said.lines))
+
+  reads-over : ReadsTo room names bytes (with_lines names said.lines) (events_with names said.lines)
+  reads-over =
+      reads-to room said.version names bytes (said.header ∷ said.rows) (with_lines names said.lines) (events_with names said.lines) said.records_are
+      (taken-said room said.version names (said.header ∷ []) names [] said.rows said.lines (taken-header room said.version names said.header said.named) said.say said.few (rw names-are fits))
+
+  alike-said : ReadsTo room names bytes (with_all names own) (all_moved own (with_all names own) events)
+  alike-said = rw (names-are, moved-are) at reads-over
 
 pub traces-read-alike : TracesReadAlike
-traces-read-alike any room start own names bytes events within reads fits = alike-rows any room start own names bytes events within reads fits (records_of bytes) refl
+traces-read-alike any room start own names bytes events within reads fits = alike-said room start own names bytes events within (reads-said any start own bytes events reads) fits

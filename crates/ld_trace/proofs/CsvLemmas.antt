@@ -1,5 +1,5 @@
 -- The records that a reader returned one after the other are the first records of its text.
-use Rattle.std.proofs.Common.{◌≡◌, ◌⊎◌, inl, inr, ℕ, zero, suc, ◌+◌, ◌-◌, ◌≤◌, ◌<◌, Bool, true, false, List, [], ◌∷◌, ◌++◌, length, Option, Some, None, IfSome, option_map, refl, sym, ap, ◌∙◌, arith, if◌then◌else◌}
+use Rattle.std.proofs.Common.{◌≡◌, ◌⊎◌, inl, inr, ℕ, zero, suc, ◌+◌, ◌-◌, ◌≤◌, ◌<◌, Bool, true, false, List, [], ◌∷◌, ◌++◌, length, Option, Some, None, IfSome, option_map, refl, sym, ap, ◌∙◌, append_assoc, arith, if◌then◌else◌}
 use Rattle.std.proofs.lemmas.List.{append-nil}
 use Rattle.csv.specs.Machine.{Read, ends_at_end, field_after, fields_after, is_end, next_record, step}
 use Rattle.csv.specs.Reading.{ReadRecord, Reached, default_config, records_from, reader_state, source_of, strip_bom}
@@ -9,7 +9,7 @@ use Rattle.csv.specs.declared.parser.State.TheVariants as st
 use Rattle.csv.specs.declared.reader.Reader.{Reader}
 use Rattle.csv.proofs.ReadFacts.{rows-end, rows-more}
 use Rattle.ld_trace.specs.Lines.{Record}
-use Rattle.ld_trace.specs.Inside.Progress.{HasGiven, ReadsPlain}
+use Rattle.ld_trace.specs.Inside.Progress.{Gives, HasGiven, ReadsPlain}
 use Rattle.ld_trace.specs.Reading.{records_of}
 
 -- a record takes a byte, or it is the one that the end of the text ended
@@ -90,27 +90,56 @@ records-all bytes s2 ys rows h e =
     ∙ rw (records-none default_config (length (strip_bom bytes) + 1 - length rows) s2 ys e, append-nil rows)
 
 module _ {R : Type 0} (rem : R → Option (List ℕ)) where
+  -- a reader that begins behind some records has returned those
+  pub given-on : (bytes mine : List ℕ) (first : List Record) (a : Reader R) → records_of bytes ≡ first ++ records_of mine → source_of rem a ≡ Some (strip_bom mine)
+      → reader_state a ≡ st.StartRecord → Gives rem bytes a first
+  unfolding Reached
+  given-on bytes mine first a e has s = record {
+    first = first;
+    later = [];
+    mine = mine;
+    left = strip_bom mine;
+    rows_are = sym (append-nil first);
+    records_are = e;
+    source_has = has;
+    reached = (sym s, refl);
+  }
+
   -- a new reader has returned none yet
   pub given-none : (known : Option (List ℕ)) (a : Reader R) → source_of rem a ≡ option_map strip_bom known → reader_state a ≡ st.StartRecord → HasGiven rem known a []
-  unfolding Reached
   given-none None a e s = tt
-  given-none (Some bytes) a e s = (strip_bom bytes, e, (sym s, refl))
+  given-none (Some bytes) a e s = given-on bytes bytes [] a refl e s
 
   -- one more record was returned
   pub given-more : (known : Option (List ℕ)) (a b : Reader R) (rows : List Record) (r : Record) → ReadsPlain a → HasGiven rem known a rows → ReadRecord rem a b true r
       → HasGiven rem known b (rows ++ r ∷ [])
   given-more None a b rows r p h read = tt
   given-more (Some bytes) a b rows r p h read =
-      rows-more rem a b r default_config st.StartRecord (strip_bom bytes) h.0 rows p.config h.1 h.2 read
+      let more = rows-more rem a b r default_config st.StartRecord (strip_bom h.mine) h.left h.later p.config h.source_has h.reached read in
+      record {
+        first = h.first;
+        later = h.later ++ r ∷ [];
+        mine = h.mine;
+        left = more.0;
+        rows_are = ap (λ l. l ++ r ∷ []) h.rows_are ∙ append_assoc h.first h.later (r ∷ []);
+        records_are = h.records_are;
+        source_has = more.1;
+        reached = more.2;
+      }
 
   -- the records that were returned begin those of the bytes
   pub given-begin : (known : Option (List ℕ)) (a : Reader R) (rows : List Record) → HasGiven rem known a rows
       → IfSome known (λ bytes. (rest : List Record) × (records_of bytes ≡ rows ++ rest))
   given-begin None a rows h = tt
-  given-begin (Some bytes) a rows h = records-begin bytes (reader_state a) h.0 rows h.2
+  given-begin (Some bytes) a rows h =
+      let begin = records-begin h.mine (reader_state a) h.left h.later h.reached in
+      (begin.0, h.records_are ∙ ap (λ l. h.first ++ l) begin.1 ∙ sym (append_assoc h.first h.later begin.0) ∙ ap (λ l. l ++ begin.0) (sym h.rows_are))
 
   -- and at the end they are all
   pub given-all : (known : Option (List ℕ)) (a b : Reader R) (rows : List Record) (f : Record) → ReadsPlain a → HasGiven rem known a rows → ReadRecord rem a b false f
       → IfSome known (λ bytes. records_of bytes ≡ rows)
   given-all None a b rows f p h read = tt
-  given-all (Some bytes) a b rows f p h read = records-all bytes (reader_state a) h.0 rows h.2 (rows-end rem a b f default_config h.0 p.config h.1 read)
+  given-all (Some bytes) a b rows f p h read =
+      h.records_are
+      ∙ ap (λ l. h.first ++ l) (records-all h.mine (reader_state a) h.left h.later h.reached (rows-end rem a b f default_config h.left p.config h.source_has read))
+      ∙ sym h.rows_are

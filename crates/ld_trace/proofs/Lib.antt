@@ -8,7 +8,6 @@ pub mod PlainLemmas
 mod RowLemmas
 mod CutLemmas
 pub mod Joins
-mod Pieces
 mod JoinedLemmas
 mod KnownLemmas
 mod WriteLemmas
@@ -16,3 +15,5 @@ mod LineLemmas
 mod Alike
 mod ReadBack
 mod TakenIn
+mod Cuts
+mod PieceLemmas

@@ -28,6 +28,10 @@ abbrev pub events_with : List Name → List Line → List Event
 events_with now [] = []
 events_with now (line ∷ lines) = event_of now line ∷ events_with (with_line now line) lines
 
+pub length-events_with : (now : List Name) (lines : List Line) → length (events_with now lines) ≡ length lines
+length-events_with now [] = refl
+length-events_with now (line ∷ lines) = let rest = length-events_with (with_line now line) lines in omega (arith, rest)
+
 pub with_lines-added : (now : List Name) (lines : List Line) → (more : List Name) × (with_lines now lines ≡ now ++ more)
 unfolding with_lines
 with_lines-added now [] = ([], sym (append-nil now))

@@ -1,32 +1,31 @@
--- A text that is read in pieces, each of which ends with a newline [this project's own].
-use Rattle.std.specs.Prelude.{◌≡◌, ◌⊎◌, ℕ, true, List, [], ◌∷◌, ◌++◌, All}
-use Rattle.std.specs.List.{concat, flat_map, list_all}
-use Rattle.csv.specs.Reading.{default_config, records}
-use Rattle.ld_trace.specs.Joining.{is_one_line}
-use Rattle.ld_trace.specs.Lines.{Record}
-use Rattle.ld_trace.specs.Reading.{records_of}
+-- A trace that is read in pieces, each cut behind a newline [this project's own].
+use Rattle.std.specs.Prelude.{◌≡◌, ◌≤◌, ◌+◌, ℕ, List, [], ◌∷◌, ◌++◌, codes, length}
+use Rattle.ld_trace.specs.declared.event.Event.{Event}
+use Rattle.ld_trace.specs.declared.raw_trace.TheConstants.{MAX_EVENTS}
+use Rattle.ld_trace.specs.declared.version.Version.{Version}
+use Rattle.ld_trace.specs.declared.version.Version.TheVariants.{One, Two}
+use Rattle.ld_trace.specs.Names.{Name}
+use Rattle.ld_trace.specs.Reading.{ReadsTo}
 
--- the bytes end with a newline
-abbrev pub EndsLine : List ℕ → Type 0
-EndsLine bytes = (front : List ℕ) × (bytes ≡ front ++ 10 ∷ [])
+-- the line with the header of a version
+abbrev pub header_line : Version → List ℕ
+header_line One = codes "lockdep,1" ++ 10 ∷ []
+header_line Two = codes "lockdep,2" ++ 10 ∷ []
 
--- the records of bytes from the middle of a text, where no byte order mark is looked for
-abbrev pub later_records : List ℕ → List Record
-later_records bytes = records default_config bytes
+-- these bytes are whole lines, and the first is the header of this version
+pub record AreLines (version : Version) (bytes : List ℕ) : Type 0 where
+  pub more : List ℕ
+  pub begin : bytes ≡ header_line version ++ more
+  pub most : List ℕ
+  pub end : bytes ≡ most ++ 10 ∷ []
 
--- a text may be cut after a newline: if no record of the piece before it has a newline in a field, or none of the whole text,
--- then its records are those of the piece, and then those of the rest
-abbrev pub TextsCutAtLines : Type 0
-TextsCutAtLines = (piece rest : List ℕ) → EndsLine piece
-    → (list_all is_one_line (records_of piece) ≡ true) ⊎ (list_all is_one_line (records_of (piece ++ rest)) ≡ true)
-    → records_of (piece ++ rest) ≡ records_of piece ++ later_records rest
+-- a trace of whole lines reads on as one of these: with the header before it, what follows is a trace of its own, which begins with
+-- the names that the first one left. Together they are the trace of the first one's events and then the other's
+abbrev pub PiecesJoin : Type 0
+PiecesJoin = (any room : ℕ) (version : Version) (old names new : List Name) (done piece : List ℕ) (events more : List Event)
+    → AreLines version done → ReadsTo room old done names events → ReadsTo any names (header_line version ++ piece) new more
+    → length new ≤ room → length events + length more ≤ MAX_EVENTS → ReadsTo room old (done ++ piece) new (events ++ more)
 
--- a piece that ends with a newline, and no record of which has a newline in a field
-pub record IsWhole (piece : List ℕ) : Type 0 where
-  pub ends : EndsLine piece
-  pub lines : list_all is_one_line (later_records piece) ≡ true
-
--- the records of many pieces are those of each, one piece after the other
-abbrev pub PiecesReadAlone : Type 0
-PiecesReadAlone = (pieces : List (List ℕ)) (last : List ℕ) → All IsWhole pieces
-    → later_records (concat pieces ++ last) ≡ flat_map later_records pieces ++ later_records last
+-- the header's line is whole lines, and a trace without events
+abbrev pub HeadersRead : Type 0
+HeadersRead = (room : ℕ) (version : Version) (names : List Name) → AreLines version (header_line version) × ReadsTo room names (header_line version) names []

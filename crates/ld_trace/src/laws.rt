@@ -2,7 +2,7 @@
 
 ghost use Rattle.ld_trace.specs.Joining.{TextsComeApart};
 ghost use Rattle.ld_trace.specs.Laws.{NewTablesHaveRoom, RenumberingsStay, TextsReadBack, TextsReadThemselves, TracesReadAlike};
-ghost use Rattle.ld_trace.specs.Pieces.{PiecesReadAlone, TextsCutAtLines};
+ghost use Rattle.ld_trace.specs.Pieces.{HeadersRead, PiecesJoin};
 
 /// What `trace_text` writes, `read_trace` reads back: over any table with room for the trace's names, as events that
 /// say the same, each key by its name; a new table with as much room as the trace's own has room for them; and over the
@@ -26,14 +26,18 @@ pub fn texts_come_apart()
     ensures apart { TextsComeApart }
 {}
 
-/// A text may be read in pieces that end with a newline: if no record of the piece before a cut has a newline in a field, or
-/// none of the whole text, then its records are those of the piece, and then those of the rest.
-pub fn texts_read_in_pieces()
-    ensures cut { TextsCutAtLines }
-    ensures many { PiecesReadAlone }
-{}
-
 /// A renumbering stays one when the table that takes in gets more names.
 pub fn renumberings_stay()
     ensures stay { RenumberingsStay }
+{}
+
+/// A trace that is cut behind a newline is two: what follows, with the header before it, is a trace of its own, and the events of both
+/// are those of the whole.
+pub fn pieces_join()
+    ensures join { PiecesJoin }
+{}
+
+/// The line of a header is a trace without events.
+pub fn headers_read()
+    ensures read { HeadersRead }
 {}

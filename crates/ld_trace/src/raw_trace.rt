@@ -1,6 +1,6 @@
 //! Traces as they were read.
 
-ghost use Rattle.std.specs.Prelude.{◌≡◌, ◌≤◌, ◌↔◌, IsTrue, IsSome, IfSome, length, map, slice_get};
+ghost use Rattle.std.specs.Prelude.{◌≡◌, ◌+◌, ◌≤◌, ◌++◌, ◌↔◌, IsTrue, IsFalse, IsSome, IfSome, length, map, slice_get};
 ghost use Rattle.ld_trace.specs.Events.{KeysBelow, has_try};
 ghost use Rattle.ld_trace.specs.Inside.Renumbered.{event_with};
 
@@ -50,6 +50,27 @@ impl RawTrace {
         ensures { result ≡ events.items }
     {
         RawTrace { events }
+    }
+
+    // The events.
+    pub(crate) fn into_events(self) -> Vec<Event>
+        ensures events { result.items ≡ self }
+        ensures few { length result.items ≤ MAX_EVENTS }
+    {
+        self.events
+    }
+
+    // Puts the events of another trace after these. False if these would be more than 1,000,000, or if memory runs out; then nothing
+    // is changed.
+    pub(crate) fn append(&mut self, mut more: RawTrace) -> bool
+        ensures joined { IsTrue result → self.new ≡ self.old ++ more }
+        ensures few { IsTrue result → length self.old + length more ≤ MAX_EVENTS }
+        ensures none { IsFalse result → self.new ≡ self.old }
+    {
+        if self.events.len() + more.events.len() > MAX_EVENTS {
+            return false;
+        }
+        self.events.append(&mut more.events).is_ok()
     }
 
     /// How many events there are, at most 1,000,000.

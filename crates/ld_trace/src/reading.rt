@@ -1,12 +1,12 @@
 //! Reading a trace.
 
-ghost use Rattle.std.specs.Prelude.{◌≡◌, ◌≤◌, ◌<◌, ◌+◌, ◌++◌, ℕ, suc, [], List, Option, length, true, false, IfOk, IfErr, IfSome, OnOk, OnErr, Some, ◌⊎◌, ◌≢◌};
+ghost use Rattle.std.specs.Prelude.{◌≡◌, ◌≤◌, ◌<◌, ◌+◌, ◌++◌, ◌∷◌, ℕ, suc, [], List, Option, length, true, false, IfOk, IfErr, IfSome, OnOk, OnErr, Some, ◌⊎◌, ◌≢◌};
 ghost use Rattle.csv.specs.Reading.{ReadRecord, error_kind};
 ghost use Rattle.csv.specs.Records.{fields_of};
 ghost use Rattle.ld_trace.specs.Events.{KeysBelow};
 ghost use Rattle.ld_trace.specs.Lines.{Record, line_of_record, version_of};
 ghost use Rattle.ld_trace.specs.Names.{Name};
-ghost use Rattle.ld_trace.specs.Inside.Progress.{AreRead, AreRefused, HasGiven, HasTaken, ReadsPlain, TakesBefore, TakesLast, TakesLine, read_fault};
+ghost use Rattle.ld_trace.specs.Inside.Progress.{AreRead, AreRefused, HasGiven, HasTaken, IsFresh, ReadsPlain, Returns, ReturnsLast, TakesBefore, TakesLast, TakesLine, TakesOn, read_fault};
 ghost use Rattle.ld_trace.specs.Reading.{ReadsTo, StopsAt, line_fault};
 ghost use Rattle.ld_trace.specs.TraceFaults.{is_of_text};
 
@@ -51,6 +51,7 @@ pub fn read_trace<R: Read + Drop>(
 // A reader of records as the format has them, which has returned none yet.
 pub(crate) fn plain_reader<R: Read>(alloc: Global, reader: R) -> Reader<R>
     ensures plain { ReadsPlain result }
+    ensures fresh { IsFresh R.remaining reader result }
     ensures none { HasGiven R.remaining (R.remaining reader) result [] }
 {
     ReaderBuilder::new()
@@ -106,6 +107,31 @@ pub(crate) fn take_records<R: Read>(
         Ok(version) => version,
         Err(kind) => return Err(TraceFault { kind, at: 1 }),
     };
+    take_events(version, source, row, events, keys)
+}
+
+// Takes the records behind some that were taken as these events, up to the end or to one that is refused, which then stands in the row.
+pub(crate) fn take_events<R: Read>(
+    version: Version,
+    source: &mut Reader<R>,
+    row: &mut ByteRecord,
+    events: &mut Vec<Event>,
+    keys: &mut KeyTable,
+) -> Result<(), TraceFault>
+    requires plain { ReadsPlain source.old }
+    requires few { length events.old.items ≤ MAX_EVENTS }
+    ensures few { length events.new.items ≤ MAX_EVENTS }
+    ensures ok { OnOk result ((more : List Record) × ReturnsLast R.remaining source.old more
+        × TakesOn keys.old.room version keys.old.names keys.new.names events.old.items events.new.items more) }
+    ensures refused { IfErr result (λ fault. (known : Option (List ℕ)) (old : List Name)
+        → HasTaken R.remaining known source.old keys.old.room version old keys.old.names events.old.items
+        → AreRefused keys.old.room known old keys.new.names fault.kind fault.at) }
+    ensures before { IfErr result (λ fault. fault.kind ≡ TraceFaultKind.BadRecord → ReadsPlain source.new
+        × (more : List Record) × Returns R.remaining source.old source.new (more ++ fields_of row.new ∷ [])
+        × TakesOn keys.old.room version keys.old.names keys.new.names events.old.items events.new.items more) }
+    ensures kept { (added : List Name) × (keys.new.names ≡ keys.old.names ++ added) }
+    ensures room { keys.new.room ≡ keys.old.room }
+{
     'records: loop {
         match take_event(version, source, row, events, keys) {
             Ok(true) => {}

@@ -2,7 +2,7 @@
 
 /// The version of the text format that a trace's header names.
 #[derive(Clone, Copy, PartialEq, Eq, Debug)]
-pub(crate) enum Version {
+pub enum Version {
     /// Without try acquisitions.
     One,
     /// With try acquisitions.

@@ -22,6 +22,12 @@ use std::thread::Threads;
 // With fewer bytes for each, more threads take as long as one.
 const BYTES_PER_THREAD: u64 = 262_144;
 
+// The same for each that reads pieces of one file.
+const BYTES_PER_PIECE_THREAD: u64 = 524_288;
+
+// More threads for one file would need too much room for what they read.
+const MOST_FOR_ONE: u64 = 8;
+
 // Of how many files the size is asked for.
 const SIZES_ASKED: usize = 64;
 
@@ -162,10 +168,13 @@ fn mean_size<R: Files>(rt: &R, files: &[&str]) -> u64 {
 }
 
 // How many threads are worth it for so many files of this mean size: one for every 256 KiB, and no more than there are workers and
-// files. For a number of workers that a run refuses it is one.
+// files, unless there is one file, of which each thread reads pieces. For a number of workers that a run refuses it is one.
 fn useful_threads(mean: u64, workers: u16, files: usize) -> usize {
-    if workers < 2 || workers > MAX_WORKERS || files < 2 {
+    if workers < 2 || workers > MAX_WORKERS || files == 0 {
         return 1;
+    }
+    if files == 1 {
+        return useful_for_one(mean, workers);
     }
     let shares = mean.saturating_mul(files as u64) / BYTES_PER_THREAD;
     let threads = shares.saturating_add(1).min(u64::from(workers)) as usize;
@@ -181,6 +190,13 @@ fn useful_group(mean: u64, threads: usize, files: usize) -> usize {
     let fitting = (BYTES_PER_GROUP / mean.max(1)).min(FILES_PER_GROUP) as usize;
     let fair = files / threads.saturating_mul(4).max(1);
     fitting.min(fair).max(1)
+}
+
+// The same for a single file of this size: one for every 512 KiB, and no more than 8.
+fn useful_for_one(size: u64, workers: u16) -> usize {
+    let shares = size / BYTES_PER_PIECE_THREAD;
+    let most = u64::from(workers).min(MOST_FOR_ONE);
+    shares.saturating_add(1).min(most) as usize
 }
 
 // The refusal of the file at whose place reading stopped.

@@ -12,4 +12,6 @@ mod lines;
 #[cfg(test)]
 mod origins;
 #[cfg(test)]
+mod pieces;
+#[cfg(test)]
 mod runs;

@@ -1,5 +1,5 @@
 -- What holds while a trace is read, of the records that were taken so far. No public clause speaks of these.
-use Rattle.std.specs.Prelude.{◌≡◌, ℕ, suc, ◌<◌, ◌++◌, None, false, List, [], ◌∷◌, length, slice_get, Option, Some, IfSome, Result, Ok}
+use Rattle.std.specs.Prelude.{◌≡◌, ℕ, suc, ◌<◌, ◌++◌, None, false, List, [], ◌∷◌, length, slice_get, Option, Some, IfSome, option_map, Result, Ok}
 use Rattle.csv.specs.Reading.{Ready, Reached, default_config, reader_config, reader_state, reader_trim, source_of, strip_bom}
 use Rattle.csv.specs.declared.error.ErrorKind.{ErrorKind}
 use Rattle.csv.specs.declared.error.ErrorKind.TheVariants as kind
@@ -21,12 +21,27 @@ pub record ReadsPlain {R : Type 0} (source : Reader R) : Type 0 where
   pub trim : reader_trim source ≡ trim.None
   pub ready : Ready source
 
--- if the bytes are known, these are their first records, and the source has the bytes after them
+-- a reader of records that has read nothing yet of the reader beneath
+pub record IsFresh {R : Type 0} (rem : R → Option (List ℕ)) (beneath : R) (source : Reader R) : Type 0 where
+  pub source_has : source_of rem source ≡ option_map strip_bom (rem beneath)
+  pub state : reader_state source ≡ st.StartRecord
+
+-- these are the first records of the bytes, and the source has what is after them: it began with the bytes, or behind the first of
+-- these records, with bytes that have all later ones
+pub record Gives {R : Type 0} (rem : R → Option (List ℕ)) (bytes : List ℕ) (source : Reader R) (rows : List Record) : Type 0 where
+  pub first : List Record
+  pub later : List Record
+  pub mine : List ℕ
+  pub left : List ℕ
+  pub rows_are : rows ≡ first ++ later
+  pub records_are : records_of bytes ≡ first ++ records_of mine
+  pub source_has : source_of rem source ≡ Some left
+  pub reached : Reached default_config st.StartRecord (strip_bom mine) later (reader_state source) left
+
+-- the same, if the bytes are known
 abbrev pub HasGiven : {R : Type 0} → (R → Option (List ℕ)) → Option (List ℕ) → Reader R
     → List Record → Type 0
-HasGiven rem known source rows =
-    IfSome known (λ bytes. (left : List ℕ) × (source_of rem source ≡ Some left)
-    × Reached default_config st.StartRecord (strip_bom bytes) rows (reader_state source) left)
+HasGiven rem known source rows = IfSome known (λ bytes. Gives rem bytes source rows)
 
 -- the header, which names this version, and these records after it were taken, and stand for these events
 pub record AreTaken (room : ℕ) (version : Version) (old : List Name) (rows : List Record) (now : List Name) (events : List Event) : Type 0 where
@@ -52,6 +67,11 @@ Returns rem from to rows = (known : Option (List ℕ)) (before : List Record) �
 abbrev pub ReturnsLast : {R : Type 0} → (R → Option (List ℕ)) → Reader R → List Record → Type 0
 ReturnsLast rem from rows = (known : Option (List ℕ)) (before : List Record) → HasGiven rem known from before
     → IfSome known (λ bytes. records_of bytes ≡ before ++ rows)
+
+-- behind any records that were taken as some events, these were taken too
+abbrev pub TakesOn : (room : ℕ) (version : Version) (before now : List Name) (had events : List Event) → List Record → Type 0
+TakesOn room version before now had events more = (old : List Name) (rows : List Record) → AreTaken room version old rows before had
+    → AreTaken room version old (rows ++ more) now events
 
 -- the last records were taken as a trace
 pub record TakesLast {R : Type 0} (rem : R → Option (List ℕ)) (from : Reader R) (room : ℕ) (old now : List Name) (events : List Event) : Type 0 where

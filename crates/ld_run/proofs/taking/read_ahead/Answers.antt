@@ -7,6 +7,10 @@ pub returns-then-group-lt2-clause-read : goal.returns-then-group-lt2-clause-read
 returns-then-group-lt2-clause-read g c =
     ([], sym (append-nil c.args.traces.now.items), refl, read-none c.args.keys.now.room (g.S.Sources.holds c.args.sources.now) 0 c.args.keys.now.names)
 
+pub returns-then-count-lt2-clause-read : goal.returns-then-count-lt2-clause-read
+returns-then-count-lt2-clause-read g c =
+    ([], sym (append-nil c.args.traces.now.items), refl, read-none c.args.keys.now.room (g.S.Sources.holds c.args.sources.now) 0 c.args.keys.now.names)
+
 pub returns-in-Err-clause-read : goal.returns-in-Err-clause-read
 returns-in-Err-clause-read g c =
     ([], sym (append-nil c.args.traces.now.items), refl, read-none c.args.keys.now.room (g.S.Sources.holds c.args.sources.now) 0 c.args.keys.now.names)

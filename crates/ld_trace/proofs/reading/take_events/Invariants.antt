@@ -2,12 +2,13 @@ use Rattle.std.proofs.Common.{◌≡◌, ◌≤◌, ◌+◌, ◌-◌, ◌++◌, 
 use Rattle.ld_trace.specs.declared.raw_trace.TheConstants.{MAX_EVENTS}
 use Rattle.ld_trace.specs.Lines.{Record}
 use Rattle.ld_trace.specs.Names.{Name}
-use Rattle.ld_trace.specs.Inside.Progress.{AreTaken, ReadsPlain, Returns}
-use Rattle.ld_trace.proofs.reading.take_records.Given as goal
+use Rattle.ld_trace.specs.Inside.Progress.{ReadsPlain, Returns, TakesOn}
+use Rattle.ld_trace.proofs.reading.take_events.Given as goal
 
 abbrev pub invariant-records : goal.invariant-records
 invariant-records g l = ReadsPlain l.source × (length l.events.items ≤ MAX_EVENTS)
-    × ((rows : List Record) × AreTaken l.fn.keys.room l.version l.fn.keys.names rows l.keys.names l.events.items × Returns g.R.Read.remaining l.fn.source l.source rows)
+    × ((more : List Record) × Returns g.R.Read.remaining l.fn.source l.source more
+    × TakesOn l.fn.keys.room l.version l.fn.keys.names l.keys.names l.fn.events.items l.events.items more)
     × ((added : List Name) × (l.keys.names ≡ l.fn.keys.names ++ added))
     × (l.keys.room ≡ l.fn.keys.room)
 

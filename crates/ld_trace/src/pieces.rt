@@ -1,0 +1,106 @@
+//! Reading a trace in pieces, each cut behind a newline.
+
+ghost use Rattle.std.specs.Prelude.{◌≡◌, ◌≤◌, ◌++◌, ℕ, [], List, length, IfOk, IfErr, IfSome, IsTrue, IsFalse};
+ghost use Rattle.ld_trace.specs.Events.{KeysBelow};
+ghost use Rattle.ld_trace.specs.Names.{Name};
+ghost use Rattle.ld_trace.specs.Pieces.{AreLines, header_line};
+ghost use Rattle.ld_trace.specs.Reading.{ReadsTo, StopsAt};
+
+use crate::reading::{plain_reader, take_events};
+use crate::{KeyTable, RawTrace, Renumbering, TraceFault, Version};
+use csv::ByteRecord;
+use std::alloc::Global;
+use std::io::Read;
+
+/// The line with the header of version 1.
+const HEADER_ONE: &[u8] = b"lockdep,1\n";
+
+/// The line with the header of version 2.
+const HEADER_TWO: &[u8] = b"lockdep,2\n";
+
+impl Version {
+    /// The version that this line names, if it is exactly a header and a newline.
+    pub fn of_line(line: &[u8]) -> Option<Version>
+        ensures { IfSome result (λ version. line.now ≡ header_line version) }
+    {
+        if line == HEADER_ONE {
+            return Some(Version::One);
+        }
+        if line == HEADER_TWO {
+            return Some(Version::Two);
+        }
+        None
+    }
+
+    /// The line with the header of this version.
+    pub fn line(self) -> &'static [u8]
+        ensures { result.now ≡ header_line self }
+    {
+        match self {
+            Version::One => HEADER_ONE,
+            Version::Two => HEADER_TWO,
+        }
+    }
+}
+
+impl KeyTable {
+    /// Takes in the trace of a piece, which was read over the table `own`, a new one, with a header before it: puts its events after
+    /// those of what was read before. False if there would be more than 1,000,000 events, if the table has no room for the names, or
+    /// if memory runs out; then nothing is changed, and the piece's trace is dropped.
+    pub fn take_in_piece(
+        &mut self,
+        alloc: Global,
+        own: &KeyTable,
+        piece: RawTrace,
+        whole: &mut RawTrace,
+    ) -> bool
+        requires { KeysBelow (length own.now.names) piece }
+        ensures joined { IsTrue result → (any : ℕ) (version : Version) (old : List Name) (done bytes : List ℕ) → AreLines version done
+            → ReadsTo self.old.room old done self.old.names whole.old → ReadsTo any [] (header_line version ++ bytes) own.now.names piece
+            → ReadsTo self.old.room old (done ++ bytes) self.new.names whole.new }
+        ensures kept { (added : List Name) × (self.new.names ≡ self.old.names ++ added) }
+        ensures room { self.new.room ≡ self.old.room }
+        ensures none { IsFalse result → (self.new ≡ self.old) × (whole.new ≡ whole.old) }
+    {
+        let before = self.len();
+        let mut by = Renumbering::new(alloc);
+        let Ok(taken) = self.take_in(own, own.len(), &mut by, piece) else {
+            return false;
+        };
+        self.keeps_its_rule();
+        if !whole.append(taken) {
+            self.forget_from(before);
+            return false;
+        }
+        true
+    }
+}
+
+/// Reads on behind whole lines that were read as these events: what `read_trace` does with those lines and then the reader's bytes.
+pub fn read_on<R: Read + Drop>(
+    alloc: Global,
+    version: Version,
+    events: RawTrace,
+    reader: R,
+    keys: &mut KeyTable,
+) -> Result<RawTrace, TraceFault>
+    ensures ok { IfOk result (λ trace. (old : List Name) (done : List ℕ) → AreLines version done
+        → ReadsTo keys.old.room old done keys.old.names events
+        → KeysBelow (length keys.new.names) trace
+        × IfSome (R.remaining reader) (λ bytes. ReadsTo keys.old.room old (done ++ bytes) keys.new.names trace)) }
+    ensures refused { IfErr result (λ fault. (old : List Name) (done : List ℕ) → AreLines version done
+        → ReadsTo keys.old.room old done keys.old.names events
+        → IfSome (R.remaining reader) (λ bytes. StopsAt keys.old.room old (done ++ bytes) keys.new.names fault)) }
+    ensures kept { (added : List Name) × (keys.new.names ≡ keys.old.names ++ added) }
+    ensures room { keys.new.room ≡ keys.old.room }
+{
+    // A newline at the start of a record is skipped, and a byte order mark after it isn't taken for one.
+    let newline: &[u8] = b"\n";
+    let mut source = plain_reader(alloc, newline.chain(reader));
+    let mut row = ByteRecord::new(alloc);
+    let mut events = events.into_events();
+    match take_events(version, &mut source, &mut row, &mut events, keys) {
+        Ok(()) => Ok(RawTrace::of_few(events)),
+        Err(fault) => Err(fault),
+    }
+}

@@ -1,0 +1,86 @@
+//! One trace that several threads read in pieces.
+
+use ld_run::read_in_pieces;
+use ld_trace::{KeyTable, RawTrace, TraceFault, read_trace};
+use std::alloc::Global;
+use std::thread::Threads;
+
+// A text that is read: repeated, between a beginning and an end.
+type Case<'t> = (&'t str, &'t str, usize, &'t str);
+
+static CASES: [Case<'_>; 12] = [
+    ("lockdep,1\n", "acq,A,0,w\nrel,A,0\nenter,softirq\nleave\n", 6, ""),
+    ("lockdep,2\n", "acq,A,0,tw\nacq,B,1,rr\nrel,B,1\nrel,A,0\n", 6, "acq,C,0,w\n"),
+    // The last line has no newline.
+    ("lockdep,1\n", "acq,A,0,w\nrel,A,0\n", 6, "acq,C,7,w"),
+    // Names with a comma or a quote, so that cuts fall behind quoted fields.
+    ("lockdep,1\n", "acq,\"a,b\",0,w\nacq,\"c\"\"d\",0,r\n", 6, ""),
+    // Newlines within quotes aren't the ends of records.
+    ("lockdep,1\n", "acq,A,0,w\nrel,A,0\n", 6, "acq,\"B\nC\",0,w\nacq,D,0,w\n"),
+    ("lockdep,1\n", "acq,A,0,w\nrel,A,0\n", 6, "acq,\"B\nacq,C,0,w\nacq,D,0,w\nrel,D,0\nrel,C,0\n"),
+    // Lines that end with CR LF, with CR alone, and empty ones.
+    ("lockdep,1\n", "acq,A,0,w\r\n\r\nrel,A,0\r\n\n", 6, ""),
+    ("lockdep,1\r\n", "acq,A,0,w\r\nrel,A,0\r\n", 6, ""),
+    ("lockdep,1\n", "acq,A,0,w\rrel,A,0\r\n", 6, "leave"),
+    // A faulty record far behind, and a name that would be read after it.
+    ("lockdep,1\n", "acq,A,0,w\nrel,A,0\n", 6, "acq,B,0,w\nacq,C,9,w\nacq,D,0,w\n"),
+    // A byte order mark at the start of a line in the middle isn't skipped, and one at the start of the text is.
+    ("lockdep,1\n", "acq,A,0,w\nrel,A,0\n", 6, "\u{feff}acq,B,0,w\nrel,B,0\n"),
+    ("\u{feff}lockdep,1\n", "acq,A,0,w\nrel,A,0\n", 6, "acq,B,0,w\n"),
+];
+
+// The text of a case. None if memory runs out.
+fn text_of(alloc: Global, case: &Case<'_>) -> Option<String> {
+    let (begin, repeated, times, end) = *case;
+    let mut text = String::new(alloc);
+    text.push_str(begin).ok()?;
+    for _ in 0..times {
+        text.push_str(repeated).ok()?;
+    }
+    text.push_str(end).ok()?;
+    Some(text)
+}
+
+// Whether two readings have the same events or the same fault, and left the same names.
+fn are_alike(
+    one: &Result<RawTrace, TraceFault>,
+    other: &Result<RawTrace, TraceFault>,
+    left: &KeyTable,
+    right: &KeyTable,
+) -> bool {
+    let same = match (one, other) {
+        (Ok(a), Ok(b)) => a.as_slice() == b.as_slice(),
+        (Err(a), Err(b)) => a == b,
+        _ => false,
+    };
+    same && left.len() == right.len()
+}
+
+// Whether this many threads read the text as one does, with so many bytes to a piece.
+fn reads<R: Threads + Sync>(
+    rt: &R,
+    alloc: Global,
+    text: &[u8],
+    threads: usize,
+    size: usize,
+) -> Option<bool> {
+    let mut keys = KeyTable::new(alloc).ok()?;
+    let mut others = KeyTable::new(alloc).ok()?;
+    let apart = read_in_pieces(rt, alloc, threads, size, text, &mut keys);
+    let in_turn = read_trace(alloc, text, &mut others);
+    Some(are_alike(&apart, &in_turn, &keys, &others))
+}
+
+#[test]
+fn pieces_read_as_one(rt: HostRuntime) {
+    for case in &CASES {
+        let text = text_of(rt.alloc(), case);
+        for size in [1, 30, 200] {
+            for threads in [2, 3] {
+                let bytes = text.as_ref().map(|text| text.as_bytes());
+                let alike = bytes.and_then(|bytes| reads(&rt, rt.alloc(), bytes, threads, size));
+                assert_eq!(rt; alike, Some(true));
+            }
+        }
+    }
+}
