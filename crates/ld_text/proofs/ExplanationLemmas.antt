@@ -20,10 +20,19 @@ module _ (P Q : Fact → Type 0) (same : AreSame P Q) where
   told-same before (d ∷ ds) circles (inr (was, more)) = inr (was, told-same before ds circles more)
 
   double-same : (told : Told) (x : Irq × ℕ) (text : List ℕ) → IsDoubleBlock P told x text → IsDoubleBlock Q told x text
-  double-same told x text b = record b { by = (IsDoubleBy-same P Q same x.0 x.1 b.l).0 b.by }
+  double-same told x text b = record {
+    l = b.l;
+    by = (IsDoubleBy-same P Q same x.0 x.1 b.l).0 b.by;
+    text_is = b.text_is;
+  }
 
   inversion-same : (told : Told) (keys : List ℕ) (x : Irq × (ℕ × ℕ)) (text : List ℕ) → IsInversionBlock P told keys x text → IsInversionBlock Q told keys x text
-  inversion-same told keys x text b = record b { by = IsShortestInversion-same P Q same x.0 x.1.0 x.1.1 b.l b.walk b.by }
+  inversion-same told keys x text b = record {
+    walk = b.walk;
+    l = b.l;
+    by = IsShortestInversion-same P Q same x.0 x.1.0 x.1.1 b.l b.walk b.by;
+    text_is = b.text_is;
+  }
 
   -- the explanation of equal facts
   pub IsExplanation-same : (told : Told) (text : List ℕ) → IsExplanation P told text → IsExplanation Q told text
@@ -34,6 +43,6 @@ module _ (P Q : Fact → Type 0) (same : AreSame P Q) where
     found_are = AreFound-same P Q same e.keys e.found e.found_are;
     circles = e.circles;
     circles_are = told-same [] e.found.circles e.circles e.circles_are;
-    text_is = then-same (λ _ h. h) (then-same (λ _ h. h) (then-same (InTurn-same _ _ (double-same told) e.found.doubles)
-        (then-same (InTurn-same _ _ (inversion-same told e.keys) e.found.inversions) (λ _ h. h)))) text e.text_is;
+    text_is = then-same _ _ (λ _ h. h) (then-same _ _ (λ _ h. h) (then-same _ _ (InTurn-same _ _ (double-same told) e.found.doubles)
+        (then-same _ _ (InTurn-same _ _ (inversion-same told e.keys) e.found.inversions) (λ _ h. h)))) text e.text_is;
   }

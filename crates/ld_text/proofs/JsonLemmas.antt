@@ -160,7 +160,7 @@ module _ (P Q : Fact → Type 0) (same : AreSame P Q) where
     circles = e.circles;
     circles_are = told-same P Q same [] e.found.circles e.circles e.circles_are;
     lines = e.lines;
-    lines_are = then-same (λ _ h. h) (then-same (InTurn-same _ _ (double-same told) e.found.doubles)
-        (then-same (InTurn-same _ _ (inversion-same told e.keys) e.found.inversions) (λ _ h. h))) e.lines e.lines_are;
+    lines_are = then-same _ _ (λ _ h. h) (then-same _ _ (InTurn-same _ _ (double-same told) e.found.doubles)
+        (then-same _ _ (InTurn-same _ _ (inversion-same told e.keys) e.found.inversions) (λ _ h. h))) e.lines e.lines_are;
     text_is = e.text_is;
   }

@@ -70,9 +70,9 @@ module _ (P Q : Fact → Type 0) (same : AreSame P Q) where
       record {
         keys = keys;
         keys_are = p.keys_are;
-        text_is = then-same (λ _ h. h) (then-same (InTurn-same _ _ (key-same names keys only) keys)
-            (then-same (InTurn-same _ _ (λ from. InTurn-same _ _ (λ to. InTurn-same _ _ (λ kind. edge-same names only (arrow from to kind)) kinds) keys) keys)
-            (then-same (InTurn-same _ _ (λ irq. InTurn-same _ _ (λ key. ShowsWhere-same _ _ (link_line names irq key key) (IsDouble-same P Q same irq key)) keys) states)
-            (then-same (InTurn-same _ _ (λ irq. InTurn-same _ _ (λ a. InTurn-same _ _ (λ b. ShowsWhere-same _ _ (link_line names irq b a) (IsInversion-same P Q same irq a b)) keys) keys) states)
+        text_is = then-same _ _ (λ _ h. h) (then-same _ _ (InTurn-same _ _ (key-same names keys only) keys)
+            (then-same _ _ (InTurn-same _ _ (λ from. InTurn-same _ _ (λ to. InTurn-same _ _ (λ kind. edge-same names only (arrow from to kind)) kinds) keys) keys)
+            (then-same _ _ (InTurn-same _ _ (λ irq. InTurn-same _ _ (λ key. ShowsWhere-same _ _ (link_line names irq key key) (IsDouble-same P Q same irq key)) keys) states)
+            (then-same _ _ (InTurn-same _ _ (λ irq. InTurn-same _ _ (λ a. InTurn-same _ _ (λ b. ShowsWhere-same _ _ (link_line names irq b a) (IsInversion-same P Q same irq a b)) keys) keys) states)
             (λ _ h. h))))) text p.text_is;
       }

@@ -20,10 +20,10 @@ InTurn-same R S same [] text none = none
 InTurn-same R S same (x ∷ xs) text (first, rest, shows, others, is) = (first, rest, same x first shows, InTurn-same R S same xs rest others, is)
 
 -- a sequence of which the first part means the same, and the others
-pub then-same : {P Q : List ℕ → Type 0} {Ps Qs : List (List ℕ → Type 0)} → ((text : List ℕ) → P text → Q text) → ((text : List ℕ) → InSequence Ps text → InSequence Qs text) →
+pub then-same : {P Q : List ℕ → Type 0} (Ps Qs : List (List ℕ → Type 0)) → ((text : List ℕ) → P text → Q text) → ((text : List ℕ) → InSequence Ps text → InSequence Qs text) →
     (text : List ℕ) → InSequence (P ∷ Ps) text → InSequence (Q ∷ Qs) text
 unfolding InSequence
-then-same one more text (first, rest, shows, others, is) = (first, rest, one first shows, more rest others, is)
+then-same Ps Qs one more text (first, rest, shows, others, is) = (first, rest, one first shows, more rest others, is)
 
 pub ShowsWhere-same : (P Q : Type 0) (line : List ℕ) → P ↔ Q → (text : List ℕ) → ShowsWhere P line text → ShowsWhere Q line text
 ShowsWhere-same P Q line same text (inl (holds, is)) = inl (same.0 holds, is)
@@ -79,6 +79,6 @@ module _ (P Q : Fact → Type 0) (same : AreSame P Q) where
     keys_are = r.keys_are;
     found = r.found;
     found_are = AreFound-same P Q same r.keys r.found r.found_are;
-    text_is = then-same (totals-same traces events (length names)) (then-same (InTurn-same _ _ (line-same names) r.keys)
-        (then-same (λ _ h. h) (then-same (because-same names) (λ _ h. h)))) text r.text_is;
+    text_is = then-same _ _ (totals-same traces events (length names)) (then-same _ _ (InTurn-same _ _ (line-same names) r.keys)
+        (then-same _ _ (λ _ h. h) (then-same _ _ (because-same names) (λ _ h. h)))) text r.text_is;
   }

@@ -39,7 +39,8 @@ loop-passed-preserved c =
 
 pub returns-clause-taken : goal.returns-clause-taken
 returns-clause-taken c traces t here placed is before =
-    let (origins, guards) = (c.loop-passed.self.origins, c.loop-passed.self.guards) in
+    let origins = c.loop-passed.self.origins in
+    let guards = c.loop-passed.self.guards in
     let none : c.slots-slots.result - c.loop-passed.passed ≡ 0 = omega (arith, c.loop-passed-test.false) in
     taken_chain traces c.args.asked.now t c.args.trace c.args.place c.args.chain.now here is c.slots_have_what_is_given.ensures.exact origins guards
     (subst (λ n. AreTakenIn traces c.args.asked.now (SeenFrom traces t c.args.trace c.args.place c.args.chain.now n) origins guards) none
