@@ -73,8 +73,8 @@ pub fn program<R: Files + Threads + Wait + Sync, I: Read + Drop, O: Write, E: Wr
     run_program(rt, &InTurn { rt }, alloc, words, input, out, err)
 }
 
-/// The same program, and the same in every word, but the runtime reads the files: with several workers later files may be opened
-/// before an earlier one was read whole. What is written, and the status, are those of reading them in turn.
+/// The same program, and the same in every word, but the runtime reads the files: with several workers, or if they are small, later
+/// files may be opened before an earlier one was read whole. What is written, and the status, are those of reading them in turn.
 pub fn program_side_by_side<
     R: Files + Adds + Threads + Wait + Sync,
     I: Read + Drop,
