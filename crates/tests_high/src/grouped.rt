@@ -45,15 +45,10 @@ impl<'t> Sources for Texts<'t> {
 type Case<'t> = (
     &'t [&'t str],
     &'t [&'t str],
-    Option<TraceFault>,
+    Option<(TraceFaultKind, usize)>,
     &'t [&'t str],
     usize,
 );
-
-// The fault of a record of the text.
-const fn fault(kind: TraceFaultKind, at: usize) -> Option<TraceFault> {
-    Some(TraceFault { kind, at })
-}
 
 static CASES: [Case<'_>; 9] = [
     (
@@ -75,7 +70,7 @@ static CASES: [Case<'_>; 9] = [
     (
         &["lockdep,1\nacq,\"A", "lockdep,1\nacq,\"B\",0,w\n"],
         &[],
-        fault(TraceFaultKind::BadRecord, 2),
+        Some((TraceFaultKind::BadRecord, 2)),
         &[],
         1,
     ),
@@ -86,7 +81,7 @@ static CASES: [Case<'_>; 9] = [
             "lockdep,1\nacq,B,0,w\n",
         ],
         &[],
-        fault(TraceFaultKind::BadRecord, 3),
+        Some((TraceFaultKind::BadRecord, 3)),
         &["A"],
         1,
     ),
@@ -94,7 +89,7 @@ static CASES: [Case<'_>; 9] = [
     (
         &["lockdep,1\nacq,A,0,w\n", "", "lockdep,1\nacq,B,0,w\n"],
         &["lockdep,1\nacq,A,0,w\n"],
-        fault(TraceFaultKind::NoHeader, 1),
+        Some((TraceFaultKind::NoHeader, 1)),
         &["A"],
         2,
     ),
@@ -145,7 +140,7 @@ static CASES: [Case<'_>; 9] = [
     (
         &["lockdep,1\nacq,A,0,w\n", "lockdep,1\nacq,B,9,w\n"],
         &["lockdep,1\nacq,A,0,w\n"],
-        fault(TraceFaultKind::BadSub, 2),
+        Some((TraceFaultKind::BadSub, 2)),
         &["A"],
         2,
     ),
@@ -175,9 +170,9 @@ fn reads<R: Threads + Wait + Sync + Abort>(
         &mut traces,
     );
     let wanted = match stops {
-        Some(fault) => Err(Unread {
+        Some((kind, at)) => Err(Unread {
             place: written.len(),
-            fault: ReadFault::Trace(fault),
+            fault: ReadFault::Trace(TraceFault { kind, at }),
         }),
         None => Ok(()),
     };
