@@ -15,5 +15,4 @@ mod LineLemmas
 mod Alike
 mod ReadBack
 mod TakenIn
-mod Cuts
 mod PieceLemmas

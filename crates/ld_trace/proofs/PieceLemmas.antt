@@ -1,5 +1,6 @@
 -- A trace of whole lines, and what is read after it.
 use Rattle.std.proofs.Common.{◌≡◌, ℕ, suc, ◌+◌, ◌≤◌, true, List, [], ◌∷◌, ◌++◌, All, codes, length, Option, Some, None, IfSome, option_map, refl, sym, ap, ◌∙◌, arith, append_assoc}
+use Rattle.std.proofs.lemmas.List.{append-nil}
 use Rattle.std.specs.List.{list_all}
 use Rattle.csv.specs.Machine.{next_record}
 use Rattle.std.specs.Fmt.{option_append}
@@ -19,10 +20,37 @@ use Rattle.ld_trace.specs.Reading.{ReadsTo, records_of, version_in, version_of_t
 use Rattle.ld_trace.specs.Writing.{header_of}
 use Rattle.ld_trace.proofs.Alike.{IsSaid, reads-said}
 use Rattle.ld_trace.proofs.CsvLemmas.{given-on}
-use Rattle.ld_trace.proofs.Cuts.{cut}
+use Rattle.ld_trace.proofs.CutLemmas.{cut-rows, mark-first}
+use Rattle.ld_trace.proofs.Joins.{plain-lines}
 use Rattle.ld_trace.proofs.LineLemmas.{Say, events_with, length-events_with, taken-said}
 use Rattle.ld_trace.proofs.PlainLemmas.{taken-plain}
 use Rattle.ld_trace.proofs.ReadLemmas.{reads-to, taken-header}
+use Rattle.ld_trace.proofs.RowLemmas.{records-rows, rows_from, rows_of}
+
+-- ---- a text that is cut after a newline
+-- a newline at the start of a record is skipped
+after-newline : (rest : List ℕ) → records_of (10 ∷ rest) ≡ rows_of rest
+unfolding rows_from strip_bom
+after-newline rest = records-rows (strip_bom (10 ∷ rest)) ∙ ap rows_of (mark-first [] rest)
+
+-- the records up to the newline are those of the piece that ends with it
+cut-line : (front rest : List ℕ) → list_all is_one_line (rows_of (front ++ 10 ∷ [])) ≡ true → rows_of (front ++ 10 ∷ rest) ≡ rows_of (front ++ 10 ∷ []) ++ rows_of rest
+unfolding rows_from
+cut-line front rest lines =
+    let own : rows_of (front ++ 10 ∷ []) ≡ rows_of front = cut-rows front [] [] lines ∙ append-nil (rows_of front) in
+    rw own (cut-rows front [] rest lines)
+
+cut-front : (front rest : List ℕ) → list_all is_one_line (records_of (front ++ 10 ∷ [])) ≡ true
+    → records_of (front ++ 10 ∷ rest) ≡ records_of (front ++ 10 ∷ []) ++ records_of (10 ∷ rest)
+cut-front front rest lines =
+    let rows = λ (next : List ℕ). records-rows (strip_bom (front ++ 10 ∷ next)) ∙ ap rows_of (mark-first front next) in
+    rw (rows rest, rows [], after-newline rest) (cut-line (strip_bom front) rest (rw (rows []) at lines))
+
+cut : (version : Version) (done rest : List ℕ) → AreLines version done → list_all is_one_line (records_of done) ≡ true
+    → records_of (done ++ rest) ≡ records_of done ++ records_of (10 ∷ rest)
+cut version done rest are lines =
+    let joins : done ++ rest ≡ are.most ++ 10 ∷ rest = ap (λ bytes. bytes ++ rest) are.end ∙ append_assoc are.most (10 ∷ []) rest in
+    rw (joins, are.end) (cut-front are.most rest (rw are.end at lines))
 
 -- ---- the header's line
 header-records : (version : Version) → records_of (header_line version) ≡ header_of version ∷ []
@@ -49,13 +77,6 @@ records-behind version piece =
     cut version (header_line version) piece (header-lines version) (rw header-records (header-one-line version))
     ∙ ap (λ first. first ++ records_of (10 ∷ piece)) (header-records version)
 
--- ---- records that are plain have no newline
-plain-one-line : (rows : List Record) → All IsPlain rows → list_all is_one_line rows ≡ true
-plain-one-line [] plain = refl
-plain-one-line (r ∷ rows) plain =
-    let first = plain 0 r (omega arith) in
-    rw first.one_line (plain-one-line rows (λ k d lt. plain (suc k) d (omega (arith, lt))))
-
 -- ---- the records of a trace that was read
 module _ (room : ℕ) (old names : List Name) (bytes : List ℕ) (events : List Event) (reads : ReadsTo room old bytes names events) (said : IsSaid old bytes names events) where
   pub read-version : version_of_trace bytes ≡ said.version
@@ -77,7 +98,7 @@ module _ (room : ℕ) (old names : List Name) (bytes : List ℕ) (events : List 
   }
 
   pub read-one-line : list_all is_one_line (records_of bytes) ≡ true
-  read-one-line = plain-one-line (records_of bytes) (taken-plain room said.version old (records_of bytes) names events read-taken).plain
+  read-one-line = plain-lines (records_of bytes) (taken-plain room said.version old (records_of bytes) names events read-taken).plain
 
 as-said : (room : ℕ) (old : List Name) (bytes : List ℕ) (new names : List Name) (events more others : List Event) → new ≡ names → more ≡ others
     → ReadsTo room old bytes names (events ++ others) → ReadsTo room old bytes new (events ++ more)
