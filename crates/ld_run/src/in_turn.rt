@@ -122,8 +122,8 @@ fn read_apart<R: Threads + Sync, S: Read + Drop>(
         return Err(no_room());
     }
     match read_in_pieces(rt, alloc, threads, PIECE, reader, keys) {
-        Ok(trace) => {
-            traces.push_reserved(trace);
+        Ok(read) => {
+            traces.push_reserved(read);
             Ok(())
         }
         Err(fault) => Err(fault),
