@@ -11,7 +11,9 @@ ghost use Rattle.ld_trace.specs.Reading.{ReadsTo, StopsAt};
 ghost use Rattle.ld_run.specs.Inside.Pieces.{Advances, IsPiece, MayBePiece, ReadsOn, left_of};
 
 use crate::in_turn::no_room;
-use ld_trace::{KeyTable, MAX_MANY, RawTrace, TraceFault, Version, headers_read, read_on, read_trace};
+use ld_trace::{
+    KeyTable, MAX_MANY, RawTrace, TraceFault, Version, headers_read, read_on, read_trace,
+};
 use std::alloc::{AllocError, Global};
 use std::io::{BufRead, BufReader, Read};
 use std::thread;
@@ -169,7 +171,14 @@ impl<R: Threads + Sync> Team<'_, R> {
     {
         let count = self.threads.min(lines.len() / self.size.max(1) + 1);
         match self.read_all(alloc, lines, count) {
-            Ok(mut pieces) => join_pieces(alloc, self.version, lines, pieces.as_mut_slice(), keys, whole),
+            Ok(mut pieces) => join_pieces(
+                alloc,
+                self.version,
+                lines,
+                pieces.as_mut_slice(),
+                keys,
+                whole,
+            ),
             Err(_) => 0,
         }
     }
@@ -190,7 +199,15 @@ impl<R: Threads + Sync> Team<'_, R> {
             count,
             &|place: usize| -> Option<Piece>
                 ensures { MayBePiece version lines.entry.now result }
-            { read_piece(alloc, version, lines, cut_at(lines, count, place), cut_at(lines, count, place.saturating_add(1))) },
+            {
+                read_piece(
+                    alloc,
+                    version,
+                    lines,
+                    cut_at(lines, count, place),
+                    cut_at(lines, count, place.saturating_add(1)),
+                )
+            },
         )
     }
 }
@@ -200,7 +217,9 @@ fn cut_at(lines: &[u8], count: usize, place: usize) -> usize {
     if place >= count {
         return end_of_lines(lines);
     }
-    let near = (lines.len() / count.max(1)).saturating_mul(place).min(lines.len());
+    let near = (lines.len() / count.max(1))
+        .saturating_mul(place)
+        .min(lines.len());
     end_of_lines(&lines[..near])
 }
 

@@ -192,7 +192,7 @@ module _ (any : ℕ) (start own : List Name) (bytes : List ℕ) (events : List E
   said-lines version h rs e named lines say few =
       let is-version : version_in (records_of bytes) ≡ version = rw (e, named) refl in
       let own-taken =
-          taken-said (length (with_lines start lines)) version start (h ∷ []) start [] rs lines (taken-header (length (with_lines start lines)) version start h named) say few (omega arith) in
+      taken-said (length (with_lines start lines)) version start (h ∷ []) start [] rs lines (taken-header (length (with_lines start lines)) version start h named) say few (omega arith) in
       record {
         version = version;
         header = h;

@@ -10,5 +10,5 @@ returns-clause-on c = λ e.
     let piece = c.in-Some.piece in
     let kept = c.take_in_piece.ensures.kept in
     let on =
-        on-piece c.args.version keys.room keys.names c.take_in_piece.new.self.names kept.0 c.args.whole.now c.take_in_piece.new.whole line piece kept.1 c.in-Some.ensures.piece (c.take_in_piece.ensures.joined e) in
+    on-piece c.args.version keys.room keys.names c.take_in_piece.new.self.names kept.0 c.args.whole.now c.take_in_piece.new.whole line piece kept.1 c.in-Some.ensures.piece (c.take_in_piece.ensures.joined e) in
     rw (whole-piece line piece c.in-Some.ensures.place.0 c.in-Some.ensures.place.1) at on

@@ -11,6 +11,6 @@ returns-clause-on c = λ version lines found.
     let same : c.in_ok-from.field-0.from ≡ c.args.at = omega (arith, c.in_ok-from.from-is, c.if-from-at.false) in
     let kept = c.take_in_piece.ensures.kept in
     let on =
-        on-piece version keys.room keys.names c.take_in_piece.new.self.names kept.0 c.args.whole.now c.take_in_piece.new.whole lines piece kept.1 is
-        (c.if-not-take_in_piece.ensures.joined refl) in
+    on-piece version keys.room keys.names c.take_in_piece.new.self.names kept.0 c.args.whole.now c.take_in_piece.new.whole lines piece kept.1 is
+    (c.if-not-take_in_piece.ensures.joined refl) in
     (omega (arith, is.more), is.within, rw (← same) on)

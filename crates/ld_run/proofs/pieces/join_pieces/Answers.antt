@@ -26,8 +26,8 @@ loop-slot-preserved c =
       All-set (MayBePiece c.args.version lines) c.loop-slot.pieces c.loop-slot.slot-index c.take.new.self (rw c.take.ensures.after tt) kept.0,
       joined.1,
       rw (take-on at to lines joined.0)
-      (on-more c.args.version keys.room keys.names c.loop-slot.keys.names c.join_piece.new.keys.names c.args.whole.now c.loop-slot.whole c.join_piece.new.whole (take at lines) (take (to - at) (drop at lines)) kept.2
-      (rw kept.3 at joined.2)),
+          (on-more c.args.version keys.room keys.names c.loop-slot.keys.names c.join_piece.new.keys.names c.args.whole.now c.loop-slot.whole c.join_piece.new.whole (take at lines) (take (to - at) (drop at lines)) kept.2
+          (rw kept.3 at joined.2)),
       c.join_piece.ensures.room ∙ kept.3,
     )
 

@@ -10,9 +10,10 @@ returns-in-Ok-clause-ok g c = λ old done lines first.
     let rest = g.R.Read.remaining c.args.reader in
     let had = taken-on keys.room c.args.version old keys.names done c.args.events lines first _ c.chain.result c.plain_reader-source.result rest c.plain_reader-source.ensures.fresh c.chain.ensures.bytes in
     let on = c.in-Ok.ensures.ok in
-    let all = on.2 old had.0 (rw c.into_events-events.ensures.events had.2) in
-    (rw c.of_few.ensures all.below,
-     rw c.of_few.ensures (if-mapped _ _ rest (if-some _ _ _ (λ bytes are. reads-to keys.room c.args.version old bytes (had.0 ++ on.0) c.take_events.new.keys.names c.take_events.new.events.items are all) (on.1 _ had.0 had.1))))
+    let all = on.2 old had.0 (rw c.into_events-events.ensures.events had.2) in (
+      rw c.of_few.ensures all.below,
+      rw c.of_few.ensures (if-mapped _ _ rest (if-some _ _ _ (λ bytes are. reads-to keys.room c.args.version old bytes (had.0 ++ on.0) c.take_events.new.keys.names c.take_events.new.events.items are all) (on.1 _ had.0 had.1))),
+    )
 
 pub returns-clause-refused : goal.returns-clause-refused
 returns-clause-refused g c = λ old done lines first.

@@ -23,7 +23,7 @@ returns-clause-refused g c =
     let names = c.args.keys.now.names in
     let header = c.in-Ok.ensures.taken in
     IfErr-weaker c.take_events.result _ _ (λ fault stopped known given. stopped known names
-        (rw c.requires.none (header-taken g.R.Read.remaining known c.args.keys.now.room names c.args.source.now c.in-Ok.version c.take_header.new.source header.0 c.requires.plain given header.1 header.2))) c.take_events.ensures.refused
+    (rw c.requires.none (header-taken g.R.Read.remaining known c.args.keys.now.room names c.args.source.now c.in-Ok.version c.take_header.new.source header.0 c.requires.plain given header.1 header.2))) c.take_events.ensures.refused
 
 pub returns-clause-before : goal.returns-clause-before
 returns-clause-before g c =

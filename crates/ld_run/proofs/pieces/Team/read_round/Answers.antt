@@ -15,7 +15,7 @@ returns-clause-on g c =
     let buffer = c.buffer.result.now in
     let few = c.join_lines-taken.ensures.within in
     let gone =
-        left-buffer (rem between) (rem c.consume.new.self) (g.S.Read.remaining between.inner) (reader_capacity between == 0) (reader_buffer between) c.join_lines-taken.result refl (rw c.buffer.ensures at few) c.consume.ensures.bytes in
+    left-buffer (rem between) (rem c.consume.new.self) (g.S.Read.remaining between.inner) (reader_capacity between == 0) (reader_buffer between) c.join_lines-taken.result refl (rw c.buffer.ensures at few) c.consume.ensures.bytes in
     let first = rw c.as_slice.ensures.value at (c.if-not-join_line.ensures.on refl) in
     let second = rw (c.join_line.ensures.room, c.buffer.ensures) at c.join_lines-taken.ensures.on in
     rw (c.requires, c.clear.ensures.items)

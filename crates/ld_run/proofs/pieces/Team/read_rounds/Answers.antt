@@ -25,7 +25,7 @@ loop-preserved g c =
     let rem = reader_remaining g.S.Read.remaining in (
       c.if-not-read_round.ensures.none_left refl,
       advance-on c.args.self.now.version c.args.keys.now.room c.args.keys.now.names c.loop.keys.names c.read_round.new.keys.names c.args.whole.now c.loop.whole c.read_round.new.whole
-      (left_of c.args.line.now.items (rem c.args.source.now)) (left_of c.loop.line.items (rem c.loop.source)) (left_of c.read_round.new.line.items (rem c.read_round.new.source))
-      kept.1 (rw kept.2 at c.read_round.ensures.on),
+          (left_of c.args.line.now.items (rem c.args.source.now)) (left_of c.loop.line.items (rem c.loop.source)) (left_of c.read_round.new.line.items (rem c.read_round.new.source))
+          kept.1 (rw kept.2 at c.read_round.ensures.on),
       c.read_round.ensures.room ∙ kept.2,
     )
