@@ -1,8 +1,7 @@
 -- What seats have put and seen, in facts.
-use Rattle.std.proofs.Common.{◌≡◌, ◌⊎◌, ◌↔◌, ℕ, zero, suc, ◌+◌, ◌<◌, ◌/◌, ◌%◌, List, [], ◌∷◌, ◌++◌, length, get_or, Any, All, Some, Bool, true, false, IsTrue, ◌&&◌, eqb, eqb-true, eq-eqb, true≢false, slice_get, slice_index, inl, inr, refl, sym, ap, ◌∙◌, subst, arith, bit_or}
+use Rattle.std.proofs.Common.{◌≡◌, ◌↔◌, ℕ, zero, suc, ◌+◌, ◌<◌, ◌/◌, ◌%◌, List, [], ◌∷◌, ◌++◌, length, get_or, Any, All, Some, Bool, true, false, IsTrue, ◌&&◌, eqb, eqb-true, eq-eqb, true≢false, slice_get, slice_index, inl, inr, refl, sym, ap, ◌∙◌, subst, arith, bit_or}
 use Rattle.std.specs.Int.{bit_at}
 use Rattle.std.proofs.lemmas.Bool.{cases_eq}
-use Rattle.std.proofs.lemmas.Nat.Bits.{bit_at-zero}
 use Rattle.std.proofs.lemmas.Option.{get_or_from_slice_get, slice_get_within}
 use Rattle.ld_task.specs.Chains.{ChainParts}
 use Rattle.ld_facts.specs.FactBits.{FactParts, FactBelow, HasFact}

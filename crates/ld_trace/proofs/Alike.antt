@@ -11,7 +11,6 @@ use Rattle.ld_trace.specs.declared.raw_trace.TheConstants.{MAX_EVENTS}
 use Rattle.ld_trace.specs.declared.trace_fault.TraceFaultKind.{TraceFaultKind}
 use Rattle.ld_trace.specs.declared.trace_fault.TraceFaultKind.TheVariants.{TooManyRecords}
 use Rattle.ld_trace.specs.declared.version.Version.{Version}
-use Rattle.ld_trace.specs.Inside.Progress.{AreTaken}
 use Rattle.ld_trace.specs.Laws.{TracesReadAlike, lines_at, with_lines}
 use Rattle.ld_trace.specs.Lines.{Line, Record, takes, gives_back, enters, leaves, turns_on, turns_off, event_of, line_of_record, version_of, with_line}
 use Rattle.ld_trace.specs.Names.{Name, is_known, is_same, place_of, with_name}

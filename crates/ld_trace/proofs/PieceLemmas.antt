@@ -1,5 +1,5 @@
 -- A trace of whole lines, and what is read after it.
-use Rattle.std.proofs.Common.{◌≡◌, ℕ, suc, ◌+◌, ◌≤◌, true, List, [], ◌∷◌, ◌++◌, All, codes, length, Option, Some, None, IfSome, option_map, refl, sym, ap, ◌∙◌, arith, append_assoc}
+use Rattle.std.proofs.Common.{◌≡◌, ℕ, ◌+◌, ◌≤◌, true, List, [], ◌∷◌, ◌++◌, codes, length, Option, Some, None, IfSome, option_map, refl, sym, ap, ◌∙◌, arith, append_assoc}
 use Rattle.std.proofs.lemmas.List.{append-nil}
 use Rattle.std.specs.List.{list_all}
 use Rattle.csv.specs.Machine.{next_record}
@@ -12,11 +12,11 @@ use Rattle.ld_trace.specs.declared.version.Version.{Version}
 use Rattle.ld_trace.specs.declared.version.Version.TheVariants.{One, Two}
 use Rattle.ld_trace.specs.Inside.Progress.{AreTaken, HasTaken, IsFresh}
 use Rattle.ld_trace.specs.Laws.{with_lines}
-use Rattle.ld_trace.specs.Lines.{Line, Record, line_of_record, version_of}
+use Rattle.ld_trace.specs.Lines.{version_of}
 use Rattle.ld_trace.specs.Names.{Name}
-use Rattle.ld_trace.specs.Joining.{IsPlain, is_one_line}
+use Rattle.ld_trace.specs.Joining.{is_one_line}
 use Rattle.ld_trace.specs.Pieces.{AreLines, HeadersRead, PiecesJoin, header_line}
-use Rattle.ld_trace.specs.Reading.{ReadsTo, records_of, version_in, version_of_trace}
+use Rattle.ld_trace.specs.Reading.{ReadsTo, records_of, version_of_trace}
 use Rattle.ld_trace.specs.Writing.{header_of}
 use Rattle.ld_trace.proofs.Alike.{IsSaid, reads-said}
 use Rattle.ld_trace.proofs.CsvLemmas.{given-on}

@@ -1,4 +1,4 @@
-use Rattle.std.proofs.Common.{◌∷◌, ◌++◌, ◌<◌, ℕ, List, get_or, length, refl, sym, ◌∙◌, subst, arith, false}
+use Rattle.std.proofs.Common.{◌∷◌, ◌++◌, ◌<◌, ℕ, List, get_or, length, refl, sym, ◌∙◌, subst, arith}
 use Rattle.std.proofs.lemmas.Bool.{or_parts}
 use Rattle.ld_facts.specs.WordPairs.{bits_of, Within, NonePast, word_total}
 use Rattle.ld_board.specs.Boards.{keys_of}
