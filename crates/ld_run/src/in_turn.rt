@@ -17,8 +17,8 @@ use std::alloc::Global;
 use std::io::Read;
 use std::thread::Threads;
 
-// About how many bytes of one trace a thread reads at a time.
-const PIECE: usize = 131_072;
+// About how many bytes of one trace all threads together read at a time.
+const ROUND: usize = 1_048_576;
 
 /// Reads the traces of the first `count` sources over one table, and puts them after the others. The result is that of reading them
 /// in turn, whatever the number of threads and the size of the groups: with more than one, later sources may be opened and read before
@@ -121,7 +121,8 @@ fn read_apart<R: Threads + Sync, S: Read + Drop>(
     if traces.reserve(1).is_err() {
         return Err(no_room());
     }
-    match read_in_pieces(rt, alloc, threads, PIECE, reader, keys) {
+    let size = ROUND / threads.max(1);
+    match read_in_pieces(rt, alloc, threads, size, reader, keys) {
         Ok(read) => {
             traces.push_reserved(read);
             Ok(())

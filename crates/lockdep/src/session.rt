@@ -26,8 +26,8 @@ use std::marker::Model;
 use std::sync::Wait;
 use std::thread::Threads;
 
-// As many events as one worker walks in about half a millisecond. With fewer for each, more workers take as long as one.
-const EVENTS_PER_WORKER: u128 = 16_384;
+// As many events as one worker walks in about a millisecond. With fewer for each, more workers take as long as one.
+const EVENTS_PER_WORKER: u128 = 32_768;
 
 /// Traces that were read, and the names of their keys.
 #[derive(Drop)]
@@ -113,7 +113,7 @@ impl Session {
         )
     }
 
-    // How many of the workers are worth their threads: one for every 16,384 events, and at least one. A number of
+    // How many of the workers are worth their threads: one for every 32,768 events, and at least one. A number of
     // workers that a run refuses is returned as it is.
     pub(crate) fn useful_workers(&self, workers: u16) -> u16
         ensures crew { IsCrew result ↔ IsCrew workers }
