@@ -1,4 +1,5 @@
 pub mod Climbing
+pub mod Pairs
 pub mod PartLaws
 pub mod Parts
 pub mod Parting

@@ -9,6 +9,7 @@ mod finding;
 mod home;
 mod laws;
 mod node_arrows;
+mod pair;
 mod part;
 mod parted_graph;
 mod parting_fault;

@@ -5,10 +5,13 @@ ghost use Rattle.ld_facts.specs.Arrows.{Arrow, arrow};
 ghost use Rattle.ld_facts.specs.Counting.{IsNumberOf};
 ghost use Rattle.ld_facts.specs.FactBits.{HasFact};
 ghost use Rattle.ld_facts.specs.Facts.{DependenciesOf};
+ghost use Rattle.ld_facts.specs.declared.fact.Fact.{Fact};
 ghost use Rattle.ld_graph.specs.Links.{InInversion, IsClean, IsDouble, IsDoubleBy, IsInversion, IsShortestInversion, link_by};
 ghost use Rattle.ld_graph.specs.Walks.{IsShortestCircle, IsShortestFrom, OnCircle};
-ghost use Rattle.ld_facts.specs.declared.fact.Fact.{Fact};
+ghost use Rattle.ld_parts.specs.Inside.Pairs.{IsPair};
+ghost use Rattle.ld_parts.specs.Inside.Parts.{AreApart};
 
+use crate::pair::Pair;
 use crate::parted_graph::PartedGraph;
 use ld_facts::Facts;
 use ld_graph::{Circle, Graph, InversionWalk, Kind, Mark, Walk};
@@ -19,23 +22,23 @@ use std::marker::Model;
 /// they mean; no question takes memory.
 #[derive(Drop)]
 pub struct Settled {
-    answers: Answers,
+    graphs: Graphs,
 }
 
 // What the questions are asked of: one graph of all keys, or one for each rank of many.
 #[derive(Drop)]
-pub(crate) enum Answers {
-    Whole(Graph),
+pub(crate) enum Graphs {
+    One(Graph),
     ByRank(PartedGraph),
 }
 
 impl Model for Settled {
     ghost use Rattle.ld_facts.specs.FactBits.{FactParts};
-    ghost use Rattle.ld_parts.specs.Inside.Answering.{facts_in};
+    ghost use Rattle.ld_parts.specs.Inside.Pairs.{facts_in};
 
     ghost Value = { FactParts };
 
-    ghost view = { λ s. facts_in s.answers };
+    ghost view = { λ s. facts_in s.graphs };
 }
 
 impl Settled {
@@ -44,7 +47,7 @@ impl Settled {
         ensures { result ≡ graph.facts }
     {
         Settled {
-            answers: Answers::Whole(graph),
+            graphs: Graphs::One(graph),
         }
     }
 
@@ -53,7 +56,41 @@ impl Settled {
         ensures { result ≡ graph }
     {
         Settled {
-            answers: Answers::ByRank(graph),
+            graphs: Graphs::ByRank(graph),
+        }
+    }
+
+    // Two keys in the graph that has both. None if no graph has both, and so nothing is found between them.
+    fn pair(&self, a: u16, b: u16) -> Option<Pair<'_>>
+        ensures none { IsNone result → AreApart self.now a b }
+        ensures some { IfSome result (IsPair self.now a b) }
+    {
+        match &self.graphs {
+            Graphs::One(graph) => Some(Pair {
+                graph,
+                keys: None,
+                a,
+                b,
+            }),
+            Graphs::ByRank(graph) => {
+                let (part, at_a, at_b) = graph.together(a, b)?;
+                Some(Pair {
+                    graph: &part.graph,
+                    keys: Some(&part.keys),
+                    a: at_a,
+                    b: at_b,
+                })
+            }
+        }
+    }
+
+    /// The facts.
+    pub fn facts(&self) -> &Facts
+        ensures { result.now ≡ self.now }
+    {
+        match &self.graphs {
+            Graphs::One(graph) => graph.facts(),
+            Graphs::ByRank(graph) => graph.facts(),
         }
     }
 
@@ -78,23 +115,13 @@ impl Settled {
         self.facts().dependencies()
     }
 
-    /// The facts.
-    pub fn facts(&self) -> &Facts
-        ensures { result.now ≡ self.now }
-    {
-        match &self.answers {
-            Answers::Whole(graph) => graph.facts(),
-            Answers::ByRank(graph) => graph.facts(),
-        }
-    }
-
     /// Whether the dependency is on a circle. False if it isn't among the facts.
     pub fn on_circle(&self, from: u16, to: u16, kind: Kind) -> bool
         ensures { IsTrue result ↔ OnCircle (HasFact self.now) (arrow from to kind) }
     {
-        match &self.answers {
-            Answers::Whole(graph) => graph.on_circle(from, to, kind),
-            Answers::ByRank(graph) => graph.on_circle(from, to, kind),
+        match self.pair(from, to) {
+            Some(pair) => pair.graph.on_circle(pair.a, pair.b, kind),
+            None => false,
         }
     }
 
@@ -106,9 +133,9 @@ impl Settled {
         ensures some { IfSome result (λ circle. IsShortestCircle (HasFact self.now) circle) }
         ensures few { IfSome result (λ circle. length circle ≤ self.now.keys) }
     {
-        match &self.answers {
-            Answers::Whole(graph) => graph.shortest_circle(),
-            Answers::ByRank(graph) => graph.shortest_circle(),
+        match &self.graphs {
+            Graphs::One(graph) => graph.shortest_circle(),
+            Graphs::ByRank(graph) => graph.shortest_circle(),
         }
     }
 
@@ -119,19 +146,18 @@ impl Settled {
         ensures some { IfSome result (λ walk. IsShortestFrom (HasFact self.now) (arrow from to kind) walk) }
         ensures few { IfSome result (λ walk. length walk ≤ 2 * self.now.keys) }
     {
-        match &self.answers {
-            Answers::Whole(graph) => graph.circle_through(from, to, kind),
-            Answers::ByRank(graph) => graph.circle_through(from, to, kind),
-        }
+        let pair = self.pair(from, to)?;
+        let walk = pair.graph.circle_through(pair.a, pair.b, kind)?;
+        Some(pair.by_keys(walk))
     }
 
     /// Whether the key is a double of the state: used in it and used with it enabled, and not only by readers.
     pub fn is_double(&self, irq: Irq, key: u16) -> bool
         ensures { IsTrue result ↔ IsDouble (HasFact self.now) irq key }
     {
-        match &self.answers {
-            Answers::Whole(graph) => graph.is_double(irq, key),
-            Answers::ByRank(graph) => graph.is_double(irq, key),
+        match self.pair(key, key) {
+            Some(pair) => pair.graph.is_double(irq, pair.a),
+            None => false,
         }
     }
 
@@ -143,10 +169,8 @@ impl Settled {
         ensures some { IfSome result (λ forms.
             IsDoubleBy (HasFact self.now) irq key (link_by key key forms.0 forms.1)) }
     {
-        match &self.answers {
-            Answers::Whole(graph) => graph.double_forms(irq, key),
-            Answers::ByRank(graph) => graph.double_forms(irq, key),
-        }
+        let pair = self.pair(key, key)?;
+        pair.graph.double_forms(irq, pair.a)
     }
 
     /// Whether `a` and `b` are an inversion of the state: a strong walk from `a` to `b` and an interrupt link from `b`
@@ -154,9 +178,9 @@ impl Settled {
     pub fn is_inversion(&self, irq: Irq, a: u16, b: u16) -> bool
         ensures { IsTrue result ↔ IsInversion (HasFact self.now) irq a b }
     {
-        match &self.answers {
-            Answers::Whole(graph) => graph.is_inversion(irq, a, b),
-            Answers::ByRank(graph) => graph.is_inversion(irq, a, b),
+        match self.pair(a, b) {
+            Some(pair) => pair.graph.is_inversion(irq, pair.a, pair.b),
+            None => false,
         }
     }
 
@@ -164,9 +188,9 @@ impl Settled {
     pub fn in_inversion(&self, from: u16, to: u16, kind: Kind) -> bool
         ensures { IsTrue result ↔ InInversion (HasFact self.now) (arrow from to kind) }
     {
-        match &self.answers {
-            Answers::Whole(graph) => graph.in_inversion(from, to, kind),
-            Answers::ByRank(graph) => graph.in_inversion(from, to, kind),
+        match self.pair(from, to) {
+            Some(pair) => pair.graph.in_inversion(pair.a, pair.b, kind),
+            None => false,
         }
     }
 
@@ -179,19 +203,22 @@ impl Settled {
             (link_by b a found.enabled_read found.used_read) found.walk) }
         ensures few { IfSome result (λ found. length found.walk ≤ 2 * self.now.keys) }
     {
-        match &self.answers {
-            Answers::Whole(graph) => graph.inversion_walk(irq, a, b),
-            Answers::ByRank(graph) => graph.inversion_walk(irq, a, b),
-        }
+        let pair = self.pair(a, b)?;
+        let found = pair.graph.inversion_walk(irq, pair.a, pair.b)?;
+        Some(InversionWalk {
+            walk: pair.by_keys(found.walk),
+            enabled_read: found.enabled_read,
+            used_read: found.used_read,
+        })
     }
 
     /// Whether no dependency is on a circle and there is no double and no inversion.
     pub fn is_clean(&self) -> bool
         ensures { IsTrue result ↔ IsClean (HasFact self.now) }
     {
-        match &self.answers {
-            Answers::Whole(graph) => graph.is_clean(),
-            Answers::ByRank(graph) => graph.is_clean(),
+        match &self.graphs {
+            Graphs::One(graph) => graph.is_clean(),
+            Graphs::ByRank(graph) => graph.is_clean(),
         }
     }
 }

@@ -1,7 +1,7 @@
 //! What a graph and a graph in parts are both asked.
 
 use ld_graph::{Circle, Graph, InversionWalk, Kind, Walk};
-use ld_parts::PartedGraph;
+use ld_parts::Settled;
 use ld_trace::Irq;
 
 pub(crate) trait Finds {
@@ -62,7 +62,7 @@ impl Finds for Graph {
     }
 }
 
-impl Finds for PartedGraph {
+impl Finds for Settled {
     fn clean(&self) -> bool {
         self.is_clean()
     }

@@ -4,7 +4,7 @@ use crate::steps::Step::{TurnOff, TurnOn, Write};
 use crate::steps::{A, B, C, Step, chains_of, last_chain};
 use ld_facts::{Fact, Facts, fact_words};
 use ld_graph::{Graph, Kind, Mark};
-use ld_parts::{PartedGraph, Ranks, are_ranked, find_ranks};
+use ld_parts::{PartedGraph, Ranks, Settled, are_ranked, find_ranks};
 use ld_task::Chain;
 use ld_trace::Irq::Hard;
 use ld_trace::{MAX_KEYS, MAX_MANY};
@@ -117,7 +117,7 @@ fn have_a_circle_in_parts(alloc: Global) -> Option<bool> {
     for (from, to) in [(A, 299), (298, 299), (299, 298)] {
         add(&mut facts, from, to)?;
     }
-    let graph = PartedGraph::new(alloc, facts).ok()?;
+    let graph = Settled::by_rank(PartedGraph::new(alloc, facts).ok()?);
     let found = graph.on_circle(298, 299, Kind::En) && !graph.on_circle(A, 299, Kind::En);
     Some(found && graph.shortest_circle()?.len() == 2)
 }

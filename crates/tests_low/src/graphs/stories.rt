@@ -8,7 +8,7 @@ use super::finds::Finds;
 use crate::steps::{Step, chains_of};
 use ld_facts::Facts;
 use ld_graph::{Circle, Graph, InversionWalk, Kind, Walk};
-use ld_parts::{PartedGraph, Ranks};
+use ld_parts::{PartedGraph, Ranks, Settled};
 use ld_task::Chain;
 use ld_task::Kind::{En, Er, Sn, Sr};
 use ld_trace::Irq::{Hard, Soft};
@@ -282,11 +282,12 @@ fn facts_of(alloc: Global, graph: &Graph) -> Option<Facts> {
 fn is_told(alloc: Global, story: &Story) -> Option<bool> {
     let facts = facts_of(alloc, &told(alloc, story)?)?;
     let counted = facts.dependencies() == story.dependencies;
-    let graph = if story.ranks.is_empty() {
+    let parted = if story.ranks.is_empty() {
         PartedGraph::new(alloc, facts).ok()?
     } else {
         PartedGraph::by_ranks(alloc, facts, &ranks_of(alloc, story.ranks)?).ok()?
     };
+    let graph = Settled::by_rank(parted);
     let clean = graph.is_clean() == finds(&graph, &nothing(story.keys));
     Some(counted && clean && finds(&graph, story))
 }

@@ -1,16 +1,34 @@
-use Rattle.std.proofs.Common.{◌∙◌, ap, subst, sym}
-use Rattle.std.specs.Prelude.{◌↔◌, IsNone}
-use Rattle.ld_facts.specs.FactBits.{FactParts, HasFact}
-use Rattle.ld_graph.specs.Links.{IsInversion}
-use Rattle.ld_parts.specs.Inside.Answering.{facts_in}
+use Rattle.std.specs.Prelude.{is_some}
+use Rattle.std.proofs.Common.{ap, arith, ◌≡◌, length, refl, sym, subst, true, false}
+use Rattle.ld_facts.specs.FactBits.{HasFact}
+use Rattle.ld_graph.specs.Links.{IsShortestInversion, link_by}
+use Rattle.ld_parts.proofs.Pairs.{length-told}
+use Rattle.ld_parts.proofs.Parts.{no_inversion_apart}
 use Rattle.ld_parts.proofs.settled.Settled.inversion_walk.Goals as goal
 
-pub returns-in-Whole-clause-none : goal.returns-in-Whole-clause-none
-returns-in-Whole-clause-none c =
-    subst (λ (facts : FactParts). IsNone c.inversion_walk.result ↔ ¬ IsInversion (HasFact facts) c.args.irq c.args.a c.args.b)
-    (sym (ap facts_in c.in-Whole.is) ∙ c.self.view_is) c.inversion_walk.ensures.none
+pub returns-in_err-pair-clause-none : goal.returns-in_err-pair-clause-none
+returns-in_err-pair-clause-none c =
+    (λ _. no_inversion_apart c.args.self.now c.args.a c.args.b (c.in_err-pair.ensures.none refl) c.args.irq, λ _. ap is_some c.from_residual.ensures)
 
-pub returns-in-ByRank-clause-none : goal.returns-in-ByRank-clause-none
-returns-in-ByRank-clause-none c =
-    subst (λ (facts : FactParts). IsNone c.inversion_walk-in-ByRank.result ↔ ¬ IsInversion (HasFact facts) c.args.irq c.args.a c.args.b)
-    (sym (ap facts_in c.in-ByRank.is) ∙ c.self.view_is) c.inversion_walk-in-ByRank.ensures.none
+pub returns-in_err-found-clause-none : goal.returns-in_err-found-clause-none
+returns-in_err-found-clause-none c = (
+  (λ _ is_one. c.in_err-found.ensures.none.0 refl ((c.in_ok-pair.ensures.some.inversion c.args.irq).0 is_one)),
+  (λ _. ap is_some c.from_residual-in_err-found.ensures),
+)
+
+pub returns-clause-none : goal.returns-clause-none
+returns-clause-none c = (
+  (λ h. absurd (let t : true ≡ false = h in cc)),
+  (λ none. absurd (let t : true ≡ false = c.in_ok-found.ensures.none.1
+      (λ is_one. none ((c.in_ok-pair.ensures.some.inversion c.args.irq).1 is_one)) in cc)),
+)
+
+pub returns-clause-some : goal.returns-clause-some
+returns-clause-some c =
+    subst (IsShortestInversion (HasFact c.args.self.now) c.args.irq c.args.a c.args.b (link_by c.args.b c.args.a c.in_ok-found.found.enabled_read c.in_ok-found.found.used_read)) (sym c.by_keys.ensures)
+    (c.in_ok-pair.ensures.some.shortest_inversion c.args.irq c.in_ok-found.found.enabled_read c.in_ok-found.found.used_read c.in_ok-found.found.walk c.in_ok-found.ensures.some)
+
+pub returns-clause-few : goal.returns-clause-few
+returns-clause-few c =
+    let few = c.in_ok-pair.ensures.some.few in let most = c.in_ok-found.ensures.few in
+    omega (arith, ap length c.by_keys.ensures, length-told c.in_ok-pair.pair.keys c.in_ok-found.found.walk, few, most)

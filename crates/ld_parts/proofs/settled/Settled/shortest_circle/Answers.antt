@@ -3,13 +3,13 @@ use Rattle.std.specs.Prelude.{◌↔◌, IsNone}
 use Rattle.ld_facts.specs.Arrows.{Arrow}
 use Rattle.ld_facts.specs.FactBits.{FactParts, HasFact}
 use Rattle.ld_graph.specs.Walks.{OnCircle}
-use Rattle.ld_parts.specs.Inside.Answering.{facts_in}
+use Rattle.ld_parts.specs.Inside.Pairs.{facts_in}
 use Rattle.ld_parts.proofs.settled.Settled.shortest_circle.Goals as goal
 
-pub returns-in-Whole-clause-none : goal.returns-in-Whole-clause-none
-returns-in-Whole-clause-none c =
+pub returns-in-One-clause-none : goal.returns-in-One-clause-none
+returns-in-One-clause-none c =
     subst (λ (facts : FactParts). IsNone c.shortest_circle.result ↔ ((d : Arrow) → ¬ OnCircle (HasFact facts) d))
-    (sym (ap facts_in c.in-Whole.is) ∙ c.self.view_is) c.shortest_circle.ensures.none
+    (sym (ap facts_in c.in-One.is) ∙ c.self.view_is) c.shortest_circle.ensures.none
 
 pub returns-in-ByRank-clause-none : goal.returns-in-ByRank-clause-none
 returns-in-ByRank-clause-none c =

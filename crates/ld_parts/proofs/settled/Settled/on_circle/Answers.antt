@@ -1,12 +1,10 @@
 use Rattle.std.proofs.Common.{◌≡◌, refl, true, false}
-use Rattle.ld_parts.proofs.PartLaws.{on_circle_at}
 use Rattle.ld_parts.proofs.Parts.{no_circle_apart}
-use Rattle.ld_parts.proofs.parted_graph.PartedGraph.on_circle.Goals as goal
+use Rattle.ld_parts.proofs.settled.Settled.on_circle.Goals as goal
 
 pub returns-in-Some : goal.returns-in-Some
 returns-in-Some c =
-    let iff = on_circle_at c.args.self.now c.in-Some.part.now c.args.from c.args.to c.in-Some.from c.in-Some.to c.in-Some.ensures.some c.args.kind in
-    ((λ h. iff.1 (c.on_circle.ensures.0 h)), (λ h. c.on_circle.ensures.1 (iff.0 h)))
+    let iff = c.in-Some.ensures.some.on_circle c.args.kind in ((λ h. iff.1 (c.on_circle.ensures.0 h)), (λ h. c.on_circle.ensures.1 (iff.0 h)))
 
 pub returns-in-None : goal.returns-in-None
 returns-in-None c =

@@ -1,12 +1,10 @@
 use Rattle.std.proofs.Common.{◌≡◌, refl, true, false}
-use Rattle.ld_parts.proofs.PartLaws.{double_at}
 use Rattle.ld_parts.proofs.Parts.{no_double_apart}
-use Rattle.ld_parts.proofs.parted_graph.PartedGraph.is_double.Goals as goal
+use Rattle.ld_parts.proofs.settled.Settled.is_double.Goals as goal
 
 pub returns-in-Some : goal.returns-in-Some
 returns-in-Some c =
-    let iff = double_at c.args.self.now c.in-Some.part.now c.args.key c.args.key c.in-Some.key c.in-Some.field-0-2 c.in-Some.ensures.some c.args.irq in
-    ((λ h. iff.1 (c.is_double.ensures.0 h)), (λ h. c.is_double.ensures.1 (iff.0 h)))
+    let iff = c.in-Some.ensures.some.double c.args.irq in ((λ h. iff.1 (c.is_double.ensures.0 h)), (λ h. c.is_double.ensures.1 (iff.0 h)))
 
 pub returns-in-None : goal.returns-in-None
 returns-in-None c =

@@ -1,12 +1,10 @@
 use Rattle.std.proofs.Common.{◌≡◌, refl, true, false}
-use Rattle.ld_parts.proofs.PartLaws.{inversion_at}
 use Rattle.ld_parts.proofs.Parts.{no_inversion_apart}
-use Rattle.ld_parts.proofs.parted_graph.PartedGraph.is_inversion.Goals as goal
+use Rattle.ld_parts.proofs.settled.Settled.is_inversion.Goals as goal
 
 pub returns-in-Some : goal.returns-in-Some
 returns-in-Some c =
-    let iff = inversion_at c.args.self.now c.in-Some.part.now c.args.a c.args.b c.in-Some.a c.in-Some.b c.in-Some.ensures.some c.args.irq in
-    ((λ h. iff.1 (c.is_inversion.ensures.0 h)), (λ h. c.is_inversion.ensures.1 (iff.0 h)))
+    let iff = c.in-Some.ensures.some.inversion c.args.irq in ((λ h. iff.1 (c.is_inversion.ensures.0 h)), (λ h. c.is_inversion.ensures.1 (iff.0 h)))
 
 pub returns-in-None : goal.returns-in-None
 returns-in-None c =
