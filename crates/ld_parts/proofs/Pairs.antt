@@ -1,15 +1,18 @@
 -- Pairs of keys in the one graph, and in that of a part.
-use Rattle.std.specs.Prelude.{◌≡◌, ℕ, List, length, Option, Some, None}
+use Rattle.std.specs.Prelude.{◌≡◌, ◌<◌, ℕ, List, length, Option, Some, None, slice_index}
 use Rattle.std.specs.Borrow.{Bor}
 use Rattle.std.proofs.Common.{refl, arith}
 use Rattle.std.proofs.lemmas.List.{length-map}
 use Rattle.ld_facts.specs.Arrows.{Arrow}
-use Rattle.ld_facts.specs.FactBits.{FactParts}
+use Rattle.ld_facts.specs.FactBits.{FactParts, HasFact}
 use Rattle.ld_facts.specs.Renumbered.{arrow_at}
+use Rattle.ld_graph.specs.Links.{link_by}
 use Rattle.ld_graph.specs.declared.graph.Graph.{Graph}
 use Rattle.ld_parts.specs.Inside.Pairs.{IsPair, told_by}
-use Rattle.ld_parts.specs.Inside.Parts.{AreTogether}
-use Rattle.ld_parts.proofs.PartLaws.{double_at, double_by_at, in_inversion_at, inversion_at, on_circle_at, shortest_from_at, shortest_inversion_at}
+use Rattle.ld_parts.specs.Inside.Parts.{AreTogether, IsPart}
+use Rattle.ld_parts.specs.Ranks.{NoneGoesDown}
+use Rattle.ld_parts.specs.declared.pair.Pair.{Pair}
+use Rattle.ld_parts.proofs.PartLaws.{double, double_by, in_inversion, inversion, on_circle, shortest_from, shortest_inversion}
 use Rattle.ld_parts.specs.declared.part.Part.{Part}
 
 -- in the one graph the numbers are the keys themselves
@@ -27,20 +30,28 @@ pair_of_all graph a b = record {
 }
 
 -- in that of a part they are the places of the keys
-pub pair_of_part : (facts : FactParts) (part : Part) (graph : Bor Graph) (keys : Bor (List ℕ)) (a b i j : ℕ) → graph.now ≡ part.graph → keys.now ≡ part.keys.items
-    → AreTogether facts part a b i j → IsPair facts a b (record { graph = graph; keys = Some keys; a = i; b = j })
-pair_of_part facts part graph keys a b i j the_graph the_keys together = record {
-  few = let is = together.of.3 in let few = is.keys_are.few in rw the_graph (omega (arith, is.bound, few));
-  told = rw the_keys together.of.3.told;
-  on_circle = λ kind. rw the_graph (on_circle_at facts part a b i j together kind);
-  shortest_from = λ kind walk. rw (the_graph, the_keys) (shortest_from_at facts part a b i j together kind walk);
-  double = λ irq. rw the_graph (double_at facts part a b i j together irq);
-  double_by = λ irq enabled_read used_read. rw the_graph (double_by_at facts part a b i j together irq enabled_read used_read);
-  inversion = λ irq. rw the_graph (inversion_at facts part a b i j together irq);
-  in_inversion = λ kind. rw the_graph (in_inversion_at facts part a b i j together kind);
-  shortest_inversion = λ irq enabled_read used_read walk. rw (the_graph, the_keys)
-      (shortest_inversion_at facts part a b i j together irq enabled_read used_read walk);
-}
+module _ (facts : FactParts) (part : Part) (graph : Bor Graph) (keys : Bor (List ℕ)) (i j : ℕ) (the_graph : graph.now ≡ part.graph) (the_keys : keys.now ≡ part.keys.items) where
+  abbrev pair : Pair
+  pair = record { graph = graph; keys = Some keys; a = i; b = j }
+
+  pair_at_places : (rank : ℕ → ℕ) (r : ℕ) (none : NoneGoesDown (HasFact facts) rank) (is : IsPart facts rank r part)
+      (li : i < length part.keys.items) (lj : j < length part.keys.items) →
+      IsPair facts (slice_index part.keys.items i) (slice_index part.keys.items j) pair
+  pair_at_places rank r none is li lj = record {
+    few = let few = is.keys_are.few in rw the_graph (omega (arith, is.bound, few));
+    told = rw the_keys is.told;
+    on_circle = λ kind. rw the_graph (on_circle facts part rank r is none i j kind li lj);
+    shortest_from = λ kind walk. rw (the_graph, the_keys) (shortest_from facts part rank r is none i j kind walk li lj);
+    double = λ irq. rw the_graph (double facts part rank r is none irq i li);
+    double_by = λ irq enabled_read used_read. rw the_graph (double_by facts part rank r is none irq i (link_by i i enabled_read used_read) li);
+    inversion = λ irq. rw the_graph (inversion facts part rank r is none irq i j li lj);
+    in_inversion = λ kind. rw the_graph (in_inversion facts part rank r is none i j kind li lj);
+    shortest_inversion = λ irq enabled_read used_read walk. rw (the_graph, the_keys)
+        (shortest_inversion facts part rank r is none irq i j (link_by j i enabled_read used_read) walk li lj);
+  }
+
+  pub pair_of_part : (a b : ℕ) → AreTogether facts part a b i j → IsPair facts a b pair
+  pair_of_part a b by = rw (← by.at_a.1, ← by.at_b.1) (pair_at_places by.of.0 by.of.1 by.of.2 by.of.3 by.at_a.0 by.at_b.0)
 
 -- a walk is as long with other numbers
 pub length-told : (keys : Option (Bor (List ℕ))) (walk : List Arrow) → length (told_by keys walk) ≡ length walk

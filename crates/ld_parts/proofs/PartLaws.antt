@@ -1,5 +1,5 @@
 -- What is found in a part is what is found among all facts.
-use Rattle.std.specs.Prelude.{◌≡◌, ℕ, ◌<◌, ◌↔◌, Bool, List, length, map, slice_index, Contains}
+use Rattle.std.specs.Prelude.{◌≡◌, ℕ, ◌<◌, ◌↔◌, List, length, map, slice_index, Contains}
 use Rattle.std.proofs.Common.{refl, sym, ◌∙◌, subst}
 use Rattle.std.proofs.lemmas.List.Elements.{Contains-get_or}
 use Rattle.ld_trace.specs.declared.event.Irq.{Irq}
@@ -8,7 +8,7 @@ use Rattle.ld_facts.specs.Arrows.{Arrow, arrow}
 use Rattle.ld_facts.specs.FactBits.{FactParts, HasFact}
 use Rattle.ld_graph.specs.Laws.Facts.{OnCircle-same, IsShortestCircle-same, IsShortestFrom-same, IsDouble-same, IsDoubleBy-same, IsInversion-same, InInversion-same, IsShortestInversion-same, IsClean-same}
 use Rattle.ld_facts.specs.Facts.{AreSame}
-use Rattle.ld_graph.specs.Links.{IsDouble, IsDoubleBy, IsInversion, InInversion, IsShortestInversion, IsClean, link_by}
+use Rattle.ld_graph.specs.Links.{IsDouble, IsDoubleBy, IsInversion, InInversion, IsShortestInversion, IsClean}
 use Rattle.ld_parts.specs.Laws.Ranks.{are_found_by_rank}
 use Rattle.ld_parts.specs.Ranks.{AmongRank, AreFoundByRank, NoneGoesDown}
 use Rattle.ld_facts.specs.Renumbered.{AmongKeys, HasKeys, Renumbered, arrow_at}
@@ -167,40 +167,3 @@ module _ (facts : FactParts) (part : Part) (a b i j : ℕ) (by : AreTogether fac
   on_circle_at kind =
       at_places (λ x y. OnCircle (HasFact facts) (arrow x y kind) ↔ OnCircle (HasFact part.graph.facts) (arrow i j kind))
       (on_circle facts part by.of.0 by.of.1 by.of.3 by.of.2 i j kind by.at_a.0 by.at_b.0)
-
-  pub inversion_at : (irq : Irq) →
-      IsInversion (HasFact facts) irq a b ↔ IsInversion (HasFact part.graph.facts) irq i j
-  inversion_at irq =
-      at_places (λ x y. IsInversion (HasFact facts) irq x y ↔ IsInversion (HasFact part.graph.facts) irq i j)
-      (inversion facts part by.of.0 by.of.1 by.of.3 by.of.2 irq i j by.at_a.0 by.at_b.0)
-
-  pub in_inversion_at : (kind : Kind) →
-      InInversion (HasFact facts) (arrow a b kind) ↔ InInversion (HasFact part.graph.facts) (arrow i j kind)
-  in_inversion_at kind =
-      at_places (λ x y. InInversion (HasFact facts) (arrow x y kind) ↔ InInversion (HasFact part.graph.facts) (arrow i j kind))
-      (in_inversion facts part by.of.0 by.of.1 by.of.3 by.of.2 i j kind by.at_a.0 by.at_b.0)
-
-  pub shortest_from_at : (kind : Kind) (walk : List Arrow) → IsShortestFrom (HasFact part.graph.facts) (arrow i j kind) walk →
-      IsShortestFrom (HasFact facts) (arrow a b kind) (map (arrow_at part.keys.items) walk)
-  shortest_from_at kind walk shortest =
-      at_places (λ x y. IsShortestFrom (HasFact facts) (arrow x y kind) (map (arrow_at part.keys.items) walk))
-      (shortest_from facts part by.of.0 by.of.1 by.of.3 by.of.2 i j kind walk by.at_a.0 by.at_b.0 shortest)
-
-  pub shortest_inversion_at : (irq : Irq) (enabled_read used_read : Bool) (walk : List Arrow) →
-      IsShortestInversion (HasFact part.graph.facts) irq i j (link_by j i enabled_read used_read) walk →
-      IsShortestInversion (HasFact facts) irq a b (link_by b a enabled_read used_read) (map (arrow_at part.keys.items) walk)
-  shortest_inversion_at irq enabled_read used_read walk shortest =
-      at_places (λ x y. IsShortestInversion (HasFact facts) irq x y (link_by y x enabled_read used_read) (map (arrow_at part.keys.items) walk))
-      (shortest_inversion facts part by.of.0 by.of.1 by.of.3 by.of.2 irq i j (link_by j i enabled_read used_read) walk by.at_a.0 by.at_b.0 shortest)
-
-  pub double_at : (irq : Irq) → IsDouble (HasFact facts) irq a ↔ IsDouble (HasFact part.graph.facts) irq i
-  double_at irq =
-      at_places (λ x y. IsDouble (HasFact facts) irq x ↔ IsDouble (HasFact part.graph.facts) irq i)
-      (double facts part by.of.0 by.of.1 by.of.3 by.of.2 irq i by.at_a.0)
-
-  pub double_by_at : (irq : Irq) (enabled_read used_read : Bool) →
-      IsDoubleBy (HasFact part.graph.facts) irq i (link_by i i enabled_read used_read) →
-      IsDoubleBy (HasFact facts) irq a (link_by a a enabled_read used_read)
-  double_by_at irq enabled_read used_read link =
-      at_places (λ x y. IsDoubleBy (HasFact facts) irq x (link_by x x enabled_read used_read))
-      (double_by facts part by.of.0 by.of.1 by.of.3 by.of.2 irq i (link_by i i enabled_read used_read) by.at_a.0 link)

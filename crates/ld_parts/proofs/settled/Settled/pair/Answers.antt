@@ -10,4 +10,4 @@ returns-in-One-clause-some c =
 pub returns-in_ok-part-in-ByRank-clause-some : goal.returns-in_ok-part-in-ByRank-clause-some
 returns-in_ok-part-in-ByRank-clause-some c =
     rw (← (sym (ap facts_in c.in-ByRank.is) ∙ c.self.view_is))
-    (pair_of_part c.in-ByRank.graph c.in_ok-part-in-ByRank.part.now _ c.deref.result c.args.a c.args.b _ _ refl c.deref.ensures.value c.in_ok-part-in-ByRank.ensures.some)
+    (pair_of_part c.in-ByRank.graph c.in_ok-part-in-ByRank.part.now _ c.deref.result _ _ refl c.deref.ensures.value c.args.a c.args.b c.in_ok-part-in-ByRank.ensures.some)
