@@ -4,10 +4,7 @@ pub mod OrderLemmas
 pub mod GroupLemmas
 pub mod BecauseLemmas
 pub mod ChainLemmas
-pub mod ReportLemmas
-pub mod ExplanationLemmas
 pub mod JsonLemmas
-pub mod PictureLemmas
 pub mod TellingLemmas
 pub mod LeafLemmas
 pub mod PictureGrowing

@@ -10,9 +10,3 @@ StopsWriting-begun IsText old new text (Ok x) is_text never begun = tt
 StopsWriting-begun IsText old new text (Err Failed) is_text never begun = (text, is_text, begun)
 StopsWriting-begun IsText old new text (Err Stuck) is_text never begun = (text, is_text, begun)
 StopsWriting-begun IsText old new text (Err Memory) is_text never begun = absurd (never refl)
-
--- texts of which the same is said
-pub StopsWriting-same : (A B : List ℕ → Type 0) → ((text : List ℕ) → A text → B text) → (old new : Option (List ℕ)) (fault : WriteFault) → StopsWriting A old new fault → StopsWriting B old new fault
-StopsWriting-same A B same old new Failed (text, is_text, begun) = (text, same text is_text, begun)
-StopsWriting-same A B same old new Stuck (text, is_text, begun) = (text, same text is_text, begun)
-StopsWriting-same A B same old new Memory kept = kept

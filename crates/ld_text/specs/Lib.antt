@@ -4,6 +4,7 @@ pub mod Found
 pub mod Groups
 pub mod Inside
 pub mod Json
+pub mod Laws
 pub mod Order
 pub mod Output
 pub mod Picture

@@ -13,7 +13,7 @@ use Rattle.lockdep.specs.declared.fault.ReportFault.TheVariants.{Step, Run, Cond
 use Rattle.ld_text.specs.declared.write_fault.WriteFault.{WriteFault}
 use Rattle.lockdep.specs.Faults.{StopsSettled, StopsText}
 use Rattle.ld_text.specs.WriteFaults.{StopsWriting}
-use Rattle.ld_text.proofs.WriteFaultLemmas.{StopsWriting-same}
+use Rattle.ld_text.specs.Laws.WriteFaults.{StopsWriting-same}
 use Rattle.lockdep.specs.Texts.{OutputView, IsTextOf}
 
 pub StopsSettled-same : (output : OutputView) (A B : List ℕ → Type 0) → ((text : List ℕ) → A text → B text) → (old new : Option (List ℕ)) (fault : ReportFault) → StopsSettled output A old new fault → StopsSettled output B old new fault

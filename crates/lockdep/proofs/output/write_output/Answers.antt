@@ -12,11 +12,11 @@ use Rattle.ld_text.specs.Report.{IsReport}
 use Rattle.lockdep.specs.Texts.{report, explanation, json, picture, condensed, IsTextOf, view_of}
 use Rattle.lockdep.specs.declared.output.Output.{Output}
 use Rattle.lockdep.proofs.CondensedLemmas.{IsCondensedText-same}
-use Rattle.ld_text.proofs.ExplanationLemmas.{IsExplanation-same}
-use Rattle.ld_text.proofs.JsonLemmas.{IsJson-same}
+use Rattle.ld_text.specs.Laws.Explanation.{IsExplanation-same}
+use Rattle.ld_text.specs.Laws.Json.{IsJson-same}
 use Rattle.lockdep.proofs.FaultLemmas.{StopsSettled-same, written-err, written-ok}
-use Rattle.ld_text.proofs.PictureLemmas.{IsPicture-same}
-use Rattle.ld_text.proofs.ReportLemmas.{IsReport-same}
+use Rattle.ld_text.specs.Laws.Picture.{IsPicture-same}
+use Rattle.ld_text.specs.Laws.Report.{IsReport-same}
 use Rattle.lockdep.proofs.output.write_output.Goals as goal
 
 pub returns-in-Report-clause-ok : goal.returns-in-Report-clause-ok

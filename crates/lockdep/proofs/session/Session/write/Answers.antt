@@ -5,7 +5,7 @@ use Rattle.ld_task.specs.WellFormed.{IsWellFormed}
 use Rattle.ld_facts.specs.FactBits.{HasFact}
 use Rattle.ld_graph.specs.Links.{IsClean}
 use Rattle.ld_facts.specs.TraceFacts.{TracesHave}
-use Rattle.ld_text.proofs.ReportLemmas.{clean_is-same}
+use Rattle.ld_text.specs.Laws.Report.{clean_is-same}
 use Rattle.lockdep.specs.Faults.{StopsText}
 use Rattle.lockdep.specs.Sessions.{SessionParts}
 use Rattle.lockdep.specs.Texts.{IsTextOf, view_of}

@@ -6,8 +6,8 @@ use Rattle.ld_facts.specs.Facts.{AreSame}
 use Rattle.ld_graph.specs.Laws.Facts.{IsDoubleBy-same, IsShortestFrom-same, IsShortestInversion-same}
 use Rattle.ld_facts.specs.declared.fact.Fact.{Fact}
 use Rattle.ld_text.specs.Explanation.{AreTold, IsDoubleBlock, IsExplanation, IsInversionBlock, Told}
-use Rattle.ld_text.proofs.FindingLemmas.{AreFound-same}
-use Rattle.ld_text.proofs.ReportLemmas.{InTurn-same, then-same}
+use Rattle.ld_text.specs.Laws.Found.{AreFound-same}
+use Rattle.ld_text.specs.Laws.Report.{InTurn-same, then-same}
 
 module _ (P Q : Fact → Type 0) (same : AreSame P Q) where
   -- the circles that are reported of equal facts
