@@ -96,7 +96,7 @@ impl Chains {
         ensures put { IfOk result (λ n. PutsChain self.old.all self.new.all n chain) }
         ensures refused { OnErr result (self.new.all ≡ self.old.all) }
     {
-        move_behind(&mut self.indexed, &mut self.latest)?;
+        move_to_end(&mut self.indexed, &mut self.latest)?;
         let Ok((number, _)) = self.indexed.insert_full(chain) else {
             return Err(AllocError);
         };
@@ -105,7 +105,7 @@ impl Chains {
 }
 
 // Moves chains to the end of a set that has none of them. If memory is refused, nothing is changed.
-fn move_behind(indexed: &mut IndexSet<Chain>, latest: &mut Vec<Chain>) -> Result<(), AllocError>
+fn move_to_end(indexed: &mut IndexSet<Chain>, latest: &mut Vec<Chain>) -> Result<(), AllocError>
     requires { IsDistinct chain_eq (indexed.old.keys ++ latest.old.items) }
     ensures moved { OnOk result (indexed.new.keys ≡ indexed.old.keys ++ latest.old.items) }
     ensures emptied { OnOk result (latest.new.items ≡ []) }

@@ -44,12 +44,13 @@ pub(crate) fn read_claimed<S: Sources>(
 {
     let mut ahead = Ahead::new(alloc);
     let mut bytes = Vec::new(alloc);
+    let group = group.max(1);
     for _ in 0..count {
-        let first = next.fetch_add(group.max(1), Ordering::SeqCst);
+        let first = next.fetch_add(group, Ordering::SeqCst);
         if first >= count {
             break;
         }
-        let end = first.saturating_add(group.max(1)).min(count);
+        let end = first.saturating_add(group).min(count);
         if !ahead.read_group(alloc, sources, first, end, &mut bytes) {
             next.store(count, Ordering::SeqCst);
             break;

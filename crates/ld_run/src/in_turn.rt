@@ -95,39 +95,16 @@ fn read_one<R: Threads + Sync, S: Sources>(
     let Some(source) = sources.open(place) else {
         return Err(ReadFault::CannotOpen);
     };
-    match read_apart(rt, alloc, threads, source, keys, traces) {
-        Ok(()) => Ok(()),
-        Err(fault) => Err(ReadFault::Trace(fault)),
-    }
-}
-
-// Reads one trace as `read_into` does, by this many threads.
-fn read_apart<R: Threads + Sync, S: Read + Drop>(
-    rt: &R,
-    alloc: Global,
-    threads: usize,
-    reader: S,
-    keys: &mut KeyTable,
-    traces: &mut Vec<RawTrace>,
-) -> Result<(), TraceFault>
-    ensures ok { IfOk result (λ _. (trace : List Event) × (traces.new.items ≡ traces.old.items ++ trace ∷ [])
-        × KeysBelow (length keys.new.names) trace
-        × IfSome (S.remaining reader) (λ bytes. ReadsTo keys.old.room keys.old.names bytes keys.new.names trace)) }
-    ensures refused { IfErr result (λ fault. (traces.new.items ≡ traces.old.items)
-        × IfSome (S.remaining reader) (λ bytes. StopsAt keys.old.room keys.old.names bytes keys.new.names fault)) }
-    ensures kept { (added : List Name) × (keys.new.names ≡ keys.old.names ++ added) }
-    ensures room { keys.new.room ≡ keys.old.room }
-{
     if traces.reserve(1).is_err() {
-        return Err(no_room());
+        return Err(ReadFault::Trace(no_room()));
     }
     let size = ROUND / threads.max(1);
-    match read_in_pieces(rt, alloc, threads, size, reader, keys) {
+    match read_in_pieces(rt, alloc, threads, size, source, keys) {
         Ok(read) => {
             traces.push_reserved(read);
             Ok(())
         }
-        Err(fault) => Err(fault),
+        Err(fault) => Err(ReadFault::Trace(fault)),
     }
 }
 

@@ -212,7 +212,7 @@ impl<R: Threads + Sync> Team<'_, R> {
     }
 }
 
-// Where the share of this place begins, of as many: behind a newline, or at 0.
+// Where the share of this place begins, of as many: after a newline, or at 0.
 fn cut_at(lines: &[u8], count: usize, place: usize) -> usize {
     if place >= count {
         return end_of_lines(lines);

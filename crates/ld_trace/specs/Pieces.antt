@@ -1,4 +1,4 @@
--- A trace that is read in pieces, each cut behind a newline [this project's own].
+-- A trace that is read in pieces, each cut after a newline [this project's own].
 use Rattle.std.specs.Prelude.{◌≡◌, ◌≤◌, ◌+◌, ℕ, List, [], ◌∷◌, ◌++◌, codes, length}
 use Rattle.ld_trace.specs.declared.event.Event.{Event}
 use Rattle.ld_trace.specs.declared.raw_trace.TheConstants.{MAX_EVENTS}

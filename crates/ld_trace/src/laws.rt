@@ -31,7 +31,7 @@ pub fn renumberings_stay()
     ensures stay { RenumberingsStay }
 {}
 
-/// A trace that is cut behind a newline is two: what follows, with the header before it, is a trace of its own, and the events of both
+/// A trace that is cut after a newline is two: what follows, with the header before it, is a trace of its own, and the events of both
 /// are those of the whole.
 pub fn pieces_join()
     ensures join { PiecesJoin }

@@ -1,4 +1,4 @@
-//! Reading a trace in pieces, each cut behind a newline.
+//! Reading a trace in pieces, each cut after a newline.
 
 ghost use Rattle.std.specs.Prelude.{◌≡◌, ◌≤◌, ◌++◌, ℕ, [], List, length, IfOk, IfErr, IfSome, IsTrue, IsFalse};
 ghost use Rattle.ld_trace.specs.Events.{KeysBelow};
@@ -76,7 +76,7 @@ impl KeyTable {
     }
 }
 
-/// Reads on behind whole lines that were read as these events: what `read_trace` does with those lines and then the reader's bytes.
+/// Reads on after whole lines that were read as these events: what `read_trace` does with those lines and then the reader's bytes.
 pub fn read_on<R: Read + Drop>(
     alloc: Global,
     version: Version,

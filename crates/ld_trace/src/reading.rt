@@ -110,7 +110,7 @@ pub(crate) fn take_records<R: Read>(
     take_events(version, source, row, events, keys)
 }
 
-// Takes the records behind some that were taken as these events, up to the end or to one that is refused, which then stands in the row.
+// Takes the records after some that were taken as these events, up to the end or to one that is refused, which then stands in the row.
 pub(crate) fn take_events<R: Read>(
     version: Version,
     source: &mut Reader<R>,

@@ -23,7 +23,7 @@ static CASES: [Case<'_>; 12] = [
     ),
     // The last line has no newline.
     ("lockdep,1\n", "acq,A,0,w\nrel,A,0\n", 6, "acq,C,7,w"),
-    // Names with a comma or a quote, so that cuts fall behind quoted fields.
+    // Names with a comma or a quote, so that cuts fall after quoted fields.
     (
         "lockdep,1\n",
         "acq,\"a,b\",0,w\nacq,\"c\"\"d\",0,r\n",
@@ -47,7 +47,7 @@ static CASES: [Case<'_>; 12] = [
     ("lockdep,1\n", "acq,A,0,w\r\n\r\nrel,A,0\r\n\n", 6, ""),
     ("lockdep,1\r\n", "acq,A,0,w\r\nrel,A,0\r\n", 6, ""),
     ("lockdep,1\n", "acq,A,0,w\rrel,A,0\r\n", 6, "leave"),
-    // A faulty record far behind, and a name that would be read after it.
+    // A faulty record far on, and a name that would be read after it.
     (
         "lockdep,1\n",
         "acq,A,0,w\nrel,A,0\n",

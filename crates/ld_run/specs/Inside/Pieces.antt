@@ -1,4 +1,4 @@
--- A trace that is read in pieces, each cut behind a newline. No public clause speaks of these.
+-- A trace that is read in pieces, each cut after a newline. No public clause speaks of these.
 use Rattle.std.specs.Prelude.{◌≡◌, ℕ, ◌-◌, ◌≤◌, List, [], ◌∷◌, ◌++◌, Option, Some, IfSome, length, take, drop}
 use Rattle.std.specs.Fmt.{option_append}
 use Rattle.std.specs.Io.KnownBytes.{Consumes}

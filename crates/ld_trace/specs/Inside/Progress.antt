@@ -26,7 +26,7 @@ pub record IsFresh {R : Type 0} (rem : R → Option (List ℕ)) (beneath : R) (s
   pub source_has : source_of rem source ≡ option_map strip_bom (rem beneath)
   pub state : reader_state source ≡ st.StartRecord
 
--- these are the first records of the bytes, and the source has what is after them: it began with the bytes, or behind the first of
+-- these are the first records of the bytes, and the source has what is after them: it began with the bytes, or after the first of
 -- these records, with bytes that have all later ones
 pub record Gives {R : Type 0} (rem : R → Option (List ℕ)) (bytes : List ℕ) (source : Reader R) (rows : List Record) : Type 0 where
   pub first : List Record
@@ -68,7 +68,7 @@ abbrev pub ReturnsLast : {R : Type 0} → (R → Option (List ℕ)) → Reader R
 ReturnsLast rem from rows = (known : Option (List ℕ)) (before : List Record) → HasGiven rem known from before
     → IfSome known (λ bytes. records_of bytes ≡ before ++ rows)
 
--- behind any records that were taken as some events, these were taken too
+-- after any records that were taken as some events, these were taken too
 abbrev pub TakesOn : (room : ℕ) (version : Version) (before now : List Name) (had events : List Event) → List Record → Type 0
 TakesOn room version before now had events more = (old : List Name) (rows : List Record) → AreTaken room version old rows before had
     → AreTaken room version old (rows ++ more) now events

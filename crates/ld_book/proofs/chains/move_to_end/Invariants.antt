@@ -3,7 +3,7 @@ use Rattle.std.specs.List.{IsDistinct}
 use Rattle.std.specs.Vec.Iter.{drain_items}
 use Rattle.indexmap.specs.IndexSet.{spare}
 use Rattle.ld_task.specs.ChainEquality.{chain_eq}
-use Rattle.ld_book.proofs.chains.move_behind.Given as goal
+use Rattle.ld_book.proofs.chains.move_to_end.Given as goal
 
 -- those that are in the set and those that aren't yet are those of before, and for those that aren't there is room
 abbrev pub invariant-loop-chain : goal.invariant-loop-chain

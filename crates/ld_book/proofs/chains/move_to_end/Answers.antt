@@ -3,7 +3,7 @@ use Rattle.std.specs.List.{IsDistinct}
 use Rattle.std.specs.Vec.Iter.{drain_items}
 use Rattle.ld_task.specs.ChainEquality.{chain_eq}
 use Rattle.ld_book.proofs.ChainsLemmas.{inserted-next}
-use Rattle.ld_book.proofs.chains.move_behind.Goals as goal
+use Rattle.ld_book.proofs.chains.move_to_end.Goals as goal
 
 pub loop-chain-preserved : goal.loop-chain-preserved
 loop-chain-preserved c =
