@@ -1,14 +1,12 @@
 -- Those of a list that something holds of.
-use Rattle.std.proofs.Common.{◌≡◌, ◌↔◌, ℕ, ◌+◌, ◌<◌, List, [], ◌∷◌, ◌++◌, All, length, map, slice_index_or, take, refl, sym, ap, ◌∙◌, subst, inl, inr}
+use Rattle.std.proofs.Common.{◌≡◌, ℕ, ◌+◌, ◌<◌, List, [], ◌∷◌, ◌++◌, All, length, map, slice_index_or, take, refl, sym, ap, ◌∙◌, subst, inl, inr}
 use Rattle.std.specs.List.{flat_map}
 use Rattle.std.proofs.lemmas.List.{append_assoc, append-nil, map-append, take_more}
 use Rattle.std.proofs.lemmas.List.Elements.{All-cons, All-nil}
-use Rattle.ld_facts.specs.Facts.{AreSame}
-use Rattle.ld_graph.specs.Laws.Facts.{IsDouble-same, IsInversion-same, OnCircle-same}
 use Rattle.ld_graph.specs.Links.{IsClean, IsDouble, IsInversion}
 use Rattle.ld_graph.specs.Walks.{OnCircle}
 use Rattle.ld_facts.specs.declared.fact.Fact.{Fact}
-use Rattle.ld_text.specs.Found.{AreFound, AreThose, FoundParts, arrows_among, doubles_among, inversions_among}
+use Rattle.ld_text.specs.Found.{AreFound, AreThose, arrows_among, doubles_among, inversions_among}
 use Rattle.ld_text.specs.Inside.Finding.{AddsThose}
 use Rattle.ld_text.proofs.GroupLemmas.{flat_map-next}
 

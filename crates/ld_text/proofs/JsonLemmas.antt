@@ -7,8 +7,6 @@ use Rattle.ld_trace.specs.declared.event.Irq.{Irq}
 use Rattle.ld_task.specs.Kinds.{is_r-kind_of_letters, is_s-kind_of_letters}
 use Rattle.ld_task.specs.declared.mark.Mark.TheVariants.{UsedIn, Enabled}
 use Rattle.ld_facts.specs.Arrows.{Arrow}
-use Rattle.ld_graph.specs.Laws.Facts.{IsDoubleBy-same, IsShortestInversion-same}
-use Rattle.ld_facts.specs.Facts.{AreSame}
 use Rattle.ld_graph.specs.Links.{IsDoubleBy, IsShortestInversion, link_by}
 use Rattle.ld_facts.specs.declared.fact.Fact.{Fact}
 use Rattle.ld_facts.specs.declared.fact.Fact.TheVariants.{Marked}
@@ -17,11 +15,8 @@ use Rattle.ld_explain.specs.declared.origins.Origin.{Origin}
 use Rattle.ld_text.specs.Explanation.{AreGateNotes, Told}
 use Rattle.ld_text.specs.Words.{Text}
 use Rattle.ld_text.specs.Groups.{InTurn}
-use Rattle.ld_text.specs.Json.{IsDoubleObject, IsInversionObject, IsJson, IsLineOf, IsOrder, double_object, inversion_object}
+use Rattle.ld_text.specs.Json.{IsDoubleObject, IsInversionObject, IsOrder, double_object, inversion_object}
 use Rattle.ld_text.specs.Inside.Tokens.{Adds, Takes}
-use Rattle.ld_text.specs.Laws.Explanation.{told-same}
-use Rattle.ld_text.specs.Laws.Found.{AreFound-same}
-use Rattle.ld_text.specs.Laws.Report.{InTurn-same, then-same}
 use Rattle.ld_text.proofs.GroupLemmas.{GrowsBy-more_item, GrowsBy-none}
 
 -- nothing was written

@@ -1,20 +1,11 @@
 -- The JSON of equal facts.
-use Rattle.std.proofs.Common.{◌≡◌, Bool, ℕ, ◌+◌, ◌<◌, List, [], ◌∷◌, ◌++◌, Result, Ok, Err, OnOk, length, map, slice_index_or, take, refl, sym, ap, ◌∙◌, subst}
+use Rattle.std.proofs.Common.{ℕ, List, []}
 use Rattle.ld_trace.specs.declared.event.Irq.{Irq}
-use Rattle.ld_task.specs.Kinds.{is_r-kind_of_letters, is_s-kind_of_letters}
-use Rattle.ld_task.specs.declared.mark.Mark.TheVariants.{UsedIn, Enabled}
-use Rattle.ld_facts.specs.Arrows.{Arrow}
 use Rattle.ld_graph.specs.Laws.Facts.{IsDoubleBy-same, IsShortestInversion-same}
 use Rattle.ld_facts.specs.Facts.{AreSame}
-use Rattle.ld_graph.specs.Links.{IsDoubleBy, IsShortestInversion, link_by}
 use Rattle.ld_facts.specs.declared.fact.Fact.{Fact}
-use Rattle.ld_facts.specs.declared.fact.Fact.TheVariants.{Marked}
-use Rattle.ld_explain.specs.Origins.{IsFirst}
-use Rattle.ld_explain.specs.declared.origins.Origin.{Origin}
-use Rattle.ld_text.specs.Explanation.{AreGateNotes, Told}
-use Rattle.ld_text.specs.Words.{Text}
-use Rattle.ld_text.specs.Groups.{InTurn}
-use Rattle.ld_text.specs.Json.{IsDoubleObject, IsInversionObject, IsJson, IsLineOf, IsOrder, double_object, inversion_object}
+use Rattle.ld_text.specs.Explanation.{Told}
+use Rattle.ld_text.specs.Json.{IsDoubleObject, IsInversionObject, IsJson, IsLineOf}
 use Rattle.ld_text.specs.Laws.Explanation.{told-same}
 use Rattle.ld_text.specs.Laws.Found.{AreFound-same}
 use Rattle.ld_text.specs.Laws.Report.{InTurn-same, then-same}

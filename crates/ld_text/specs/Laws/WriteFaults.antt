@@ -1,6 +1,5 @@
 -- What a refused write leaves, of texts of which the same is said.
-use Rattle.std.proofs.Common.{◌≡◌, ℕ, List, Option, Result, Ok, Err, OnErr, IfErr, refl}
-use Rattle.ld_text.specs.Output.{AppendsBeginning}
+use Rattle.std.proofs.Common.{ℕ, List, Option}
 use Rattle.ld_text.specs.WriteFaults.{StopsWriting}
 use Rattle.ld_text.specs.declared.write_fault.WriteFault.{WriteFault}
 use Rattle.ld_text.specs.declared.write_fault.WriteFault.TheVariants.{Failed, Stuck, Memory}
