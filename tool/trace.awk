@@ -9,9 +9,14 @@
 
 # ---- The fields of a record.
 
-# Adds to the field. A long text would be copied for each of its characters, so the last ones are kept by themselves at first.
-function add(c) {
-    last_few = last_few c
+# Adds to the field. A long text would be copied for each of its characters, so the last ones are kept by themselves at first; and of
+# one that has no end, as after a double quote that is never closed, the rest is counted and not kept.
+function add(some) {
+    if (beyond || length(field) >= 100000) {
+        beyond += length(some)
+        return
+    }
+    last_few = last_few some
     if (length(last_few) < 100) return
     last_many = last_many last_few
     last_few = ""
@@ -22,13 +27,32 @@ function add(c) {
 
 function end_field() {
     fields[++count] = field last_many last_few
+    not_kept[count] = beyond
     field = last_many = last_few = ""
+    beyond = 0
+}
+
+# Adds what is in the line from a place on, up to a character that may end the field or a quote, and returns the place of that one. It
+# looks at a part of the line at a time, since a line may be as long as the file.
+function plain_until(line, i, n,    part, end) {
+    while (i <= n) {
+        part = substr(line, i, 4096)
+        end = match(part, state == "quoted" ? "\"" : "[\",]")
+        if (end) part = substr(part, 1, end - 1)
+        if (part != "") {
+            add(part)
+            if (state != "quoted") state = "inside"
+            i += length(part)
+        }
+        if (end) break
+    }
+    return i
 }
 
 # Reads a line of the file. A field that begins with a double quote goes on until the quote is closed.
 function take(line,    i, n, c) {
     n = length(line)
-    for (i = 1; i <= n; i++) {
+    for (i = plain_until(line, 1, n); i <= n; i = plain_until(line, i + 1, n)) {
         c = substr(line, i, 1)
         if (state == "quoted") {
             if (c == "\"") state = "closed"
@@ -138,7 +162,7 @@ function tell_record(    verb, trimmed) {
 }
 
 function tell_name() {
-    tell("bytes", length(fields[2]))
+    tell("bytes", length(fields[2]) + not_kept[2])
     if (fields[2] == "") tell("case", "empty")
     else if (fields[2] ~ / /) tell("case", "space")
     else if (fields[2] ~ /[^!-~]/) tell("case", "ascii")
@@ -213,6 +237,8 @@ function begin() {
     split("", fields)
     count = 0
     field = last_many = last_few = ""
+    beyond = 0
+    split("", not_kept)
     state = "start"
     first = NR
     text = first_line = line
