@@ -10,10 +10,6 @@ abbrev pub HasKeys : List ℕ → Fact → Type 0
 HasKeys keys (Dependency from to kind) = Contains keys from × Contains keys to
 HasKeys keys (Marked key mark) = Contains keys key
 
--- those of the facts that are about keys of the list alone
-abbrev pub AmongKeys : (Fact → Type 0) → List ℕ → Fact → Type 0
-AmongKeys Has keys x = Has x × HasKeys keys x
-
 -- the same fact, or arrow, with other keys for its own
 abbrev pub fact_by : (ℕ → ℕ) → Fact → Fact
 fact_by other (Dependency from to kind) = Dependency (other from) (other to) kind

@@ -1,6 +1,8 @@
 pub mod Climbing
+pub mod Levels
+pub mod OneRank
 pub mod Pairs
 pub mod PartLaws
-pub mod Parts
 pub mod Parting
-pub mod OneRank
+pub mod Parts
+pub mod Renumbering

@@ -3,7 +3,7 @@ use Rattle.std.specs.Prelude.{◌≡◌, ◌<◌, ℕ, List, length, Option, Som
 use Rattle.std.specs.Borrow.{Bor}
 use Rattle.std.proofs.Common.{refl, arith}
 use Rattle.std.proofs.lemmas.List.{length-map}
-use Rattle.ld_facts.specs.Arrows.{Arrow}
+use Rattle.ld_facts.specs.Arrows.{Arrow, arrow}
 use Rattle.ld_facts.specs.FactBits.{FactParts, HasFact}
 use Rattle.ld_facts.specs.Renumbered.{arrow_at}
 use Rattle.ld_graph.specs.Links.{link_by}
@@ -12,7 +12,7 @@ use Rattle.ld_parts.specs.Inside.Pairs.{IsPair, told_by}
 use Rattle.ld_parts.specs.Inside.Parts.{AreTogether, IsPart}
 use Rattle.ld_parts.specs.Ranks.{NoneGoesDown}
 use Rattle.ld_parts.specs.declared.pair.Pair.{Pair}
-use Rattle.ld_parts.proofs.PartLaws.{double, double_by, in_inversion, inversion, on_circle, shortest_from, shortest_inversion}
+use Rattle.ld_parts.proofs.Parts.{found_in_part}
 use Rattle.ld_parts.specs.declared.part.Part.{Part}
 
 -- in the one graph the numbers are the keys themselves
@@ -37,18 +37,19 @@ module _ (facts : FactParts) (part : Part) (graph : Bor Graph) (keys : Bor (List
   pair_at_places : (rank : ℕ → ℕ) (r : ℕ) (none : NoneGoesDown (HasFact facts) rank) (is : IsPart facts rank r part)
       (li : i < length part.keys.items) (lj : j < length part.keys.items) →
       IsPair facts (slice_index part.keys.items i) (slice_index part.keys.items j) pair
-  pair_at_places rank r none is li lj = record {
-    few = let few = is.keys_are.few in rw the_graph (omega (arith, is.bound, few));
-    told = rw the_keys is.told;
-    on_circle = λ kind. rw the_graph (on_circle facts part rank r is none i j kind li lj);
-    shortest_from = λ kind walk. rw (the_graph, the_keys) (shortest_from facts part rank r is none i j kind walk li lj);
-    double = λ irq. rw the_graph (double facts part rank r is none irq i li);
-    double_by = λ irq enabled_read used_read. rw the_graph (double_by facts part rank r is none irq i (link_by i i enabled_read used_read) li);
-    inversion = λ irq. rw the_graph (inversion facts part rank r is none irq i j li lj);
-    in_inversion = λ kind. rw the_graph (in_inversion facts part rank r is none i j kind li lj);
-    shortest_inversion = λ irq enabled_read used_read walk. rw (the_graph, the_keys)
-        (shortest_inversion facts part rank r is none irq i j (link_by j i enabled_read used_read) walk li lj);
-  }
+  pair_at_places rank r none is li lj =
+      let found = found_in_part facts part rank r none is in record {
+        few = let few = is.keys_are.few in rw the_graph (omega (arith, is.bound, few));
+        told = rw the_keys is.told;
+        on_circle = λ kind. rw the_graph (found.on_circle (arrow i j kind) li lj);
+        shortest_from = λ kind walk. rw (the_graph, the_keys) (found.shortest_from (arrow i j kind) walk);
+        double = λ irq. rw the_graph (found.double irq i li);
+        double_by = λ irq enabled_read used_read. rw the_graph (found.double_by irq i (link_by i i enabled_read used_read));
+        inversion = λ irq. rw the_graph (found.inversion irq i j li lj);
+        in_inversion = λ kind. rw the_graph (found.in_inversion (arrow i j kind) li lj);
+        shortest_inversion = λ irq enabled_read used_read walk. rw (the_graph, the_keys)
+            (found.shortest_inversion irq i j (link_by j i enabled_read used_read) walk);
+      }
 
   pub pair_of_part : (a b : ℕ) → AreTogether facts part a b i j → IsPair facts a b pair
   pair_of_part a b by = rw (← by.at_a.1, ← by.at_b.1) (pair_at_places by.of.0 by.of.1 by.of.2 by.of.3 by.at_a.0 by.at_b.0)

@@ -1,169 +1,232 @@
--- What is found in a part is what is found among all facts.
-use Rattle.std.specs.Prelude.{◌≡◌, ℕ, ◌<◌, ◌↔◌, List, length, map, slice_index, Contains}
-use Rattle.std.proofs.Common.{refl, sym, ◌∙◌, subst}
+-- The law of parts: what is found in parts is what is found among all facts.
+use Rattle.std.specs.Prelude.{◌≡◌, ℕ, ◌<◌, ◌≤◌, ◌↔◌, List, [], ◌∷◌, length, get_or, map, slice_index, AllPairs}
+use Rattle.std.proofs.Common.{refl, ap, sym, ◌∙◌, subst, inl, inr, arith}
+use Rattle.std.proofs.lemmas.Bool.{cases_eq, cases_lt}
+use Rattle.std.proofs.lemmas.List.{get_or-map, length-map}
 use Rattle.std.proofs.lemmas.List.Elements.{Contains-get_or}
 use Rattle.ld_trace.specs.declared.event.Irq.{Irq}
-use Rattle.ld_task.specs.declared.kind.Kind.{Kind}
-use Rattle.ld_facts.specs.Arrows.{Arrow, arrow}
-use Rattle.ld_facts.specs.FactBits.{FactParts, HasFact}
-use Rattle.ld_graph.specs.Laws.Facts.{OnCircle-same, IsShortestCircle-same, IsShortestFrom-same, IsDouble-same, IsDoubleBy-same, IsInversion-same, InInversion-same, IsShortestInversion-same, IsClean-same}
-use Rattle.ld_facts.specs.Facts.{AreSame}
-use Rattle.ld_graph.specs.Links.{IsDouble, IsDoubleBy, IsInversion, InInversion, IsShortestInversion, IsClean}
-use Rattle.ld_parts.specs.Laws.Ranks.{are_found_by_rank}
-use Rattle.ld_parts.specs.Ranks.{AmongRank, AreFoundByRank, NoneGoesDown}
-use Rattle.ld_facts.specs.Renumbered.{AmongKeys, HasKeys, Renumbered, arrow_at}
-use Rattle.ld_parts.specs.FoundByPlace.{AreFoundByPlace}
-use Rattle.ld_parts.specs.Laws.Renumbered.{are_found_by_place, AmongRank-listed}
-use Rattle.ld_graph.specs.Walks.{OnCircle, IsShortestCircle, IsShortestFrom}
-use Rattle.ld_parts.specs.Inside.Parts.{AreTogether, IsAtPlace, IsPart}
+use Rattle.ld_facts.specs.Arrows.{Arrow}
+use Rattle.ld_facts.specs.Facts.{AreSame, DependenciesOf}
+use Rattle.ld_facts.specs.Renumbered.{HasKeys, Renumbered, arrow_at, arrow_by, fact_by}
 use Rattle.ld_facts.specs.declared.fact.Fact.{Fact}
 use Rattle.ld_facts.specs.declared.fact.Fact.TheVariants.{Dependency, Marked}
-use Rattle.ld_parts.specs.declared.part.Part.{Part}
+use Rattle.ld_graph.specs.Laws.Facts.{StrongWalk-members}
+use Rattle.ld_graph.specs.Links.{IsDouble, IsInversion, InInversion, IsShortestInversion, IsClean}
+use Rattle.ld_graph.specs.Walks.{ClosedWalk, OnCircle, IsCircle, IsShortestCircle, IsShortestFrom}
+use Rattle.ld_parts.specs.Ranks.{AmongRank, NoneGoesDown}
+use Rattle.ld_parts.specs.FoundInParts.{AreFoundInPart, AreFoundInParts, ListsRank}
+use Rattle.ld_parts.proofs.Levels.{circle_level, closed_level, double_level, in_inversion_level, inversion_level, inversion_with_level}
+use Rattle.ld_parts.proofs.Renumbering.{ClosedWalk-by, InInversion-by, IsCircle-by, IsDouble-by, IsDoubleBy-by, IsInversion-by, IsInversionWith-by, OnCircle-by, place_in, place_in-stands}
 
--- what is said of a rank's facts, of those of its keys, of these by their places and of a part's
-by_places : {A B C D : Type 0} → A ↔ B → C ↔ B → D ↔ C → A ↔ D
-by_places of_keys by_place same = ((λ a. same.1 (by_place.1 (of_keys.0 a))), (λ d. of_keys.1 (by_place.0 (same.0 d))))
+-- ---- one part
+module _ (Has Among : Fact → Type 0) (rank : ℕ → ℕ) (r : ℕ) (keys : List ℕ) (lists : ListsRank Has rank r keys)
+    (same : AreSame Among (Renumbered Has keys)) where
+  abbrev key_at : ℕ → ℕ
+  key_at = slice_index keys
 
--- ---- what is found in a part
-module _ (facts : FactParts) (part : Part) (rank : ℕ → ℕ) (r : ℕ) (is : IsPart facts rank r part) where
-  abbrev keys : List ℕ
-  keys = part.keys.items
+  abbrev place : ℕ → ℕ
+  place = place_in keys
 
-  abbrev Has : Fact → Type 0
-  Has = HasFact facts
+  -- the part's facts are facts of the keys, and the facts of its rank are in the part
+  pub up : (x : Fact) → Among x → Has (fact_by key_at x)
+  up x h = ((same x).0 h).1
 
-  abbrev Among : Fact → Type 0
-  Among = HasFact part.graph.facts
+  listed_down : (x : Fact) → HasKeys keys x → Has x → Among (fact_by place x)
+  listed_down (Dependency from to kind) in_list has =
+      let (i, from_is) = place_in-stands keys from in_list.0.0 in_list.0.1 in_list.0.2 in
+      let (j, to_is) = place_in-stands keys to in_list.1.0 in_list.1.1 in_list.1.2 in
+      (same (Dependency (place from) (place to) kind)).1 ((i, j), subst (λ a. Has (Dependency a (key_at (place to)) kind)) (sym from_is)
+          (subst (λ b. Has (Dependency from b kind)) (sym to_is) has))
+  listed_down (Marked key mark) in_list has =
+      let (i, is) = place_in-stands keys key in_list.0 in_list.1 in_list.2 in
+      (same (Marked (place key) mark)).1 (i, subst (λ a. Has (Marked a mark)) (sym is) has)
 
-  of_rank : (key : ℕ) → Contains keys key → rank key ≡ r
-  of_rank key (k, l, e) = subst (λ x. rank x ≡ r) e (is.keys_are.of k key l).1
+  pub down : (s : ℕ) → s ≡ r → (x : Fact) → AmongRank Has rank s x → Among (fact_by place x)
+  down s at x h = listed_down x (lists.all x (subst (λ t. AmongRank Has rank t x) at h)) h.0
 
-  all_keys : (x : Fact) → AmongRank Has rank r x → HasKeys keys x
-  all_keys (Dependency from to kind) ((below, set), (at_from, at_to)) =
-      (is.keys_are.all from below.0 at_from, is.keys_are.all to below.1 at_to)
-  all_keys (Marked key mark) ((below, set), at_key) = is.keys_are.all key below at_key
+  -- ---- keys and places
+  same_place : (i j : ℕ) → i < length keys → j < length keys → key_at i ≡ key_at j → i ≡ j
+  same_place i j li lj e =
+      elim (cases_eq i j) [
+        | inl is ↦ is
+        | inr ne ↦ elim (cases_lt i j) [
+          | inl less ↦ absurd (lists.once i j 0 less lj e)
+          | inr more ↦ absurd (lists.once j i 0 (omega arith) li (sym e))
+        ]
+      ]
 
-  by_place : AreFoundByPlace Has keys
-  by_place = are_found_by_place Has keys is.keys_are.once
+  place_again : (i : ℕ) → i < length keys → place (key_at i) ≡ i
+  place_again i l =
+      let (k, lk, e) = Contains-get_or keys i 0 l in
+      let (below, is) = place_in-stands keys (key_at i) k lk e in
+      same_place (place (key_at i)) i below l is
 
-  pub listed : AreSame (AmongRank Has rank r) (AmongKeys Has keys)
-  listed = AmongRank-listed Has rank r keys (record { of_rank = of_rank; all = all_keys })
+  arrow_again : (d : Arrow) → d.start < length keys → d.end < length keys → arrow_by place (arrow_at keys d) ≡ d
+  arrow_again d ls le = λ i. record { start = place_again d.start ls i; end = place_again d.end le i; kind = d.kind }
 
-  unlisted : AreSame (AmongKeys Has keys) (AmongRank Has rank r)
-  unlisted x = ((listed x).1, (listed x).0)
+  arrow_below : (d : Arrow) → DependenciesOf Among d → (d.start < length keys) × (d.end < length keys)
+  arrow_below d h = ((same (Dependency d.start d.end d.kind)).0 h).0
 
-  rank_at : (key n : ℕ) → IsAtPlace keys key n → rank key ≡ r
-  rank_at key n (l, e) = subst (λ k. rank k ≡ r) e (of_rank (slice_index keys n) (Contains-get_or keys n 0 l))
+  -- the facts of the rank of the key at a place are in the part
+  abbrev Level : ℕ → Fact → Type 0
+  Level i = AmongRank Has rank (rank (key_at i))
+
+  back : (i : ℕ) → i < length keys → (x : Fact) → Level i x → Among (fact_by place x)
+  back i l = down (rank (key_at i)) (lists.of_rank (key_at i) (Contains-get_or keys i 0 l))
+
+  -- no key of a circle is the start of two: no place is
+  starts_below : (circle : List Arrow) → IsCircle Among circle → (k : ℕ) (d : Arrow) → k < length circle → (get_or circle k d).start < length keys
+  starts_below [] no_walk k d l = absurd no_walk
+  starts_below (a ∷ rest) closed k d l =
+      (arrow_below (get_or (a ∷ rest) k d) (StrongWalk-members (DependenciesOf Among) a rest closed.0 k d l)).0
+
+  pub apart : (circle : List Arrow) → IsCircle Among circle →
+      AllPairs (λ a b. ¬ (a.start ≡ b.start)) circle → AllPairs (λ a b. ¬ (a.start ≡ b.start)) (map (arrow_at keys) circle)
+  apart circle closed pairs i j d less l e =
+      let long = length-map circle (arrow_at keys) in
+      let lj : j < length circle = omega arith in
+      let li : i < length circle = omega arith in
+      let at_i = ap (λ (a : Arrow). a.start) (get_or-map (arrow_at keys) circle i d d li) in
+      let at_j = ap (λ (a : Arrow). a.start) (get_or-map (arrow_at keys) circle j d d lj) in
+      pairs i j d less lj (same_place (get_or circle i d).start (get_or circle j d).start
+          (starts_below circle closed i d li) (starts_below circle closed j d lj) (sym at_i ∙ e ∙ at_j))
 
   module _ (none : NoneGoesDown Has rank) where
-    found : AreFoundByRank Has rank
-    found = are_found_by_rank Has rank none
+    -- ---- circles
+    on_circle : (d : Arrow) → d.start < length keys → d.end < length keys → OnCircle Has (arrow_at keys d) ↔ OnCircle Among d
+    on_circle d ls le = (
+      (λ on. subst (OnCircle Among) (arrow_again d ls le)
+          (OnCircle-by place (Level d.start) Among (back d.start ls) (arrow_at keys d) (circle_level Has rank none (arrow_at keys d) on).1)),
+      OnCircle-by key_at Among Has up d,
+    )
 
-    pub on_circle : (i j : ℕ) (kind : Kind) → i < length keys → j < length keys →
-        OnCircle Has (arrow_at keys (arrow i j kind)) ↔ OnCircle Among (arrow i j kind)
-    on_circle i j kind li lj =
-        let d = arrow_at keys (arrow i j kind) in
-        let at_i = rank_at (slice_index keys i) i (li, refl) in
-        let at_j = rank_at (slice_index keys j) j (lj, refl) in
-        let placed = by_places (OnCircle-same (AmongRank Has rank r) (AmongKeys Has keys) listed d) (by_place.on_circle (arrow i j kind) li lj)
-        (OnCircle-same Among (Renumbered Has keys) is.same (arrow i j kind)) in (
-          (λ on. placed.0 (subst (λ s. OnCircle (AmongRank Has rank s) d) at_i ((found.on_circle d).0 on).1)),
-          (λ on. (found.on_circle d).1 (at_i ∙ sym at_j, subst (λ s. OnCircle (AmongRank Has rank s) d) (sym at_i) (placed.1 on))),
-        )
+    shortest_from : (d : Arrow) (walk : List Arrow) → IsShortestFrom Among d walk →
+        IsShortestFrom Has (arrow_at keys d) (map (arrow_at keys) walk)
+    shortest_from d walk shortest =
+        let (ls, le) = arrow_below d (StrongWalk-members (DependenciesOf Among) d shortest.rest shortest.closed.0 0 d (omega arith)) in record {
+          rest = map (arrow_at keys) shortest.rest;
+          walk_is = ap (map (arrow_at keys)) shortest.walk_is;
+          closed = ClosedWalk-by key_at Among Has up d shortest.rest shortest.closed;
+          least = λ other is.
+              let few = shortest.least (map (arrow_by place) other)
+              (subst (λ a. ClosedWalk (DependenciesOf Among) a (map (arrow_by place) other)) (arrow_again d ls le)
+              (ClosedWalk-by place (Level d.start) Among (back d.start ls) (arrow_at keys d) other (closed_level Has rank none (arrow_at keys d) other is))) in
+              omega (arith, length-map shortest.rest (arrow_at keys), length-map other (arrow_by place));
+        }
 
-    pub double : (irq : Irq) (i : ℕ) → i < length keys → IsDouble Has irq (slice_index keys i) ↔ IsDouble Among irq i
-    double irq i l =
-        let a = slice_index keys i in
-        let at_i = rank_at a i (l, refl) in
-        let placed = by_places (IsDouble-same (AmongRank Has rank r) (AmongKeys Has keys) listed irq a) (by_place.double irq i l)
-        (IsDouble-same Among (Renumbered Has keys) is.same irq i) in (
-          (λ is_double. placed.0 (subst (λ s. IsDouble (AmongRank Has rank s) irq a) at_i ((found.double irq a).0 is_double))),
-          (λ is_double. (found.double irq a).1 (subst (λ s. IsDouble (AmongRank Has rank s) irq a) (sym at_i) (placed.1 is_double))),
-        )
+    -- ---- doubles and inversions
+    double : (irq : Irq) (a : ℕ) → a < length keys → IsDouble Has irq (key_at a) ↔ IsDouble Among irq a
+    double irq a l = (
+      (λ is. subst (IsDouble Among irq) (place_again a l)
+          (IsDouble-by place (Level a) Among (back a l) irq (key_at a) (double_level Has rank irq (key_at a) is))),
+      IsDouble-by key_at Among Has up irq a,
+    )
 
-    pub double_by : (irq : Irq) (i : ℕ) (l : Arrow) → i < length keys → IsDoubleBy Among irq i l →
-        IsDoubleBy Has irq (slice_index keys i) (arrow_at keys l)
-    double_by irq i l within by =
-        let a = slice_index keys i in
-        let of_keys = by_place.double_by irq i l ((IsDoubleBy-same Among (Renumbered Has keys) is.same irq i l).0 by) in
-        let of_rank = (IsDoubleBy-same (AmongRank Has rank r) (AmongKeys Has keys) listed irq a (arrow_at keys l)).1 of_keys in
-        (found.double_by irq a (arrow_at keys l)).1
-        (subst (λ s. IsDoubleBy (AmongRank Has rank s) irq a (arrow_at keys l)) (sym (rank_at a i (within, refl))) of_rank)
+    inversion : (irq : Irq) (a b : ℕ) → a < length keys → b < length keys →
+        IsInversion Has irq (key_at a) (key_at b) ↔ IsInversion Among irq a b
+    inversion irq a b la lb = (
+      (λ is. rw (place_again a la, place_again b lb) at
+          (IsInversion-by place (Level a) Among (back a la) irq (key_at a) (key_at b) (inversion_level Has rank none irq (key_at a) (key_at b) is).1)),
+      IsInversion-by key_at Among Has up irq a b,
+    )
 
-    pub inversion : (irq : Irq) (i j : ℕ) → i < length keys → j < length keys →
-        IsInversion Has irq (slice_index keys i) (slice_index keys j) ↔ IsInversion Among irq i j
-    inversion irq i j li lj =
-        let a = slice_index keys i in
-        let b = slice_index keys j in
-        let at_i = rank_at a i (li, refl) in
-        let at_j = rank_at b j (lj, refl) in
-        let placed = by_places (IsInversion-same (AmongRank Has rank r) (AmongKeys Has keys) listed irq a b) (by_place.inversion irq i j li lj)
-        (IsInversion-same Among (Renumbered Has keys) is.same irq i j) in (
-          (λ is_one. placed.0 (subst (λ s. IsInversion (AmongRank Has rank s) irq a b) at_i ((found.inversion irq a b).0 is_one).1)),
-          (λ is_one. (found.inversion irq a b).1 (at_i ∙ sym at_j, subst (λ s. IsInversion (AmongRank Has rank s) irq a b) (sym at_i) (placed.1 is_one))),
-        )
+    shortest_inversion : (irq : Irq) (a b : ℕ) (l : Arrow) (walk : List Arrow) → IsShortestInversion Among irq a b l walk →
+        IsShortestInversion Has irq (key_at a) (key_at b) (arrow_at keys l) (map (arrow_at keys) walk)
+    shortest_inversion irq a b l walk shortest =
+        let (w, link, at_b, to_a, closes, starts) = shortest.closed in
+        let la : a < length keys = subst (λ i. i < length keys) to_a ((same _).0 link.1).0 in
+        let lb : b < length keys = subst (λ j. j < length keys) at_b ((same _).0 link.0).0 in record {
+          first = arrow_at keys shortest.first;
+          rest = map (arrow_at keys) shortest.rest;
+          walk_is = ap (map (arrow_at keys)) shortest.walk_is;
+          closed = IsInversionWith-by key_at Among Has up irq a b shortest.first shortest.rest l shortest.closed;
+          least = λ d other m with.
+              let by = arrow_by place in
+              let few = shortest.least (by d) (map by other) (by m)
+              (rw (place_again a la, place_again b lb) at
+              (IsInversionWith-by place (Level a) Among (back a la) irq (key_at a) (key_at b) d other m
+              (inversion_with_level Has rank none irq (key_at a) (key_at b) d other m with).1)) in
+              omega (arith, length-map shortest.rest (arrow_at keys), length-map other by);
+        }
 
-    pub in_inversion : (i j : ℕ) (kind : Kind) → i < length keys → j < length keys →
-        InInversion Has (arrow_at keys (arrow i j kind)) ↔ InInversion Among (arrow i j kind)
-    in_inversion i j kind li lj =
-        let d = arrow_at keys (arrow i j kind) in
-        let at_i = rank_at (slice_index keys i) i (li, refl) in
-        let at_j = rank_at (slice_index keys j) j (lj, refl) in
-        let placed = by_places (InInversion-same (AmongRank Has rank r) (AmongKeys Has keys) listed d) (by_place.in_inversion (arrow i j kind) li lj)
-        (InInversion-same Among (Renumbered Has keys) is.same (arrow i j kind)) in (
-          (λ in_one. placed.0 (subst (λ s. InInversion (AmongRank Has rank s) d) at_i ((found.in_inversion d).0 in_one).1)),
-          (λ in_one. (found.in_inversion d).1 (at_i ∙ sym at_j, subst (λ s. InInversion (AmongRank Has rank s) d) (sym at_i) (placed.1 in_one))),
-        )
+    in_inversion : (d : Arrow) → d.start < length keys → d.end < length keys → InInversion Has (arrow_at keys d) ↔ InInversion Among d
+    in_inversion d ls le = (
+      (λ in_one. subst (InInversion Among) (arrow_again d ls le)
+          (InInversion-by place (Level d.start) Among (back d.start ls) (arrow_at keys d) (in_inversion_level Has rank none (arrow_at keys d) in_one).1)),
+      InInversion-by key_at Among Has up d,
+    )
 
-    pub shortest_from : (i j : ℕ) (kind : Kind) (walk : List Arrow) → i < length keys → j < length keys →
-        IsShortestFrom Among (arrow i j kind) walk →
-        IsShortestFrom Has (arrow_at keys (arrow i j kind)) (map (arrow_at keys) walk)
-    shortest_from i j kind walk li lj shortest =
-        let d = arrow_at keys (arrow i j kind) in
-        let told = map (arrow_at keys) walk in
-        let at_i = rank_at (slice_index keys i) i (li, refl) in
-        let at_j = rank_at (slice_index keys j) j (lj, refl) in
-        let by_places = IsShortestFrom-same Among (Renumbered Has keys) is.same (arrow i j kind) walk shortest in
-        let of_keys = by_place.shortest_from (arrow i j kind) walk by_places in
-        let of_rank = IsShortestFrom-same (AmongKeys Has keys) (AmongRank Has rank r) unlisted d told of_keys in
-        (found.shortest_from d told).1
-        (at_i ∙ sym at_j, subst (λ s. IsShortestFrom (AmongRank Has rank s) d told) (sym at_i) of_rank)
+    pub are_found_in_part : AreFoundInPart Has Among keys
+    are_found_in_part = record {
+      on_circle = on_circle;
+      shortest_from = shortest_from;
+      double = double;
+      double_by = IsDoubleBy-by key_at Among Has up;
+      inversion = inversion;
+      shortest_inversion = shortest_inversion;
+      in_inversion = in_inversion;
+    }
 
-    pub shortest_inversion : (irq : Irq) (i j : ℕ) (l : Arrow) (walk : List Arrow) → i < length keys → j < length keys →
-        IsShortestInversion Among irq i j l walk →
-        IsShortestInversion Has irq (slice_index keys i) (slice_index keys j) (arrow_at keys l) (map (arrow_at keys) walk)
-    shortest_inversion irq i j l walk li lj shortest =
-        let a = slice_index keys i in
-        let b = slice_index keys j in
-        let told = map (arrow_at keys) walk in
-        let at_i = rank_at a i (li, refl) in
-        let at_j = rank_at b j (lj, refl) in
-        let by_places = IsShortestInversion-same Among (Renumbered Has keys) is.same irq i j l walk shortest in
-        let of_keys = by_place.shortest_inversion irq i j l walk by_places in
-        let of_rank = IsShortestInversion-same (AmongKeys Has keys) (AmongRank Has rank r) unlisted irq a b (arrow_at keys l) told of_keys in
-        (found.shortest_inversion irq a b (arrow_at keys l) told).1
-        (at_i ∙ sym at_j, subst (λ s. IsShortestInversion (AmongRank Has rank s) irq a b (arrow_at keys l) told) (sym at_i) of_rank)
+-- ---- all parts
+module _ (Has : Fact → Type 0) (rank : ℕ → ℕ) (keys : ℕ → List ℕ) (none : NoneGoesDown Has rank)
+    (lists : (r : ℕ) → ListsRank Has rank r (keys r)) where
+  abbrev Part : ℕ → Fact → Type 0
+  Part r = Renumbered Has (keys r)
 
-  -- ---- what is found among the keys of its rank
-  pub shortest_of_rank : (circle : List Arrow) → IsShortestCircle Among circle →
-      IsShortestCircle (AmongRank Has rank r) (map (arrow_at keys) circle)
-  shortest_of_rank circle shortest =
-      IsShortestCircle-same (AmongKeys Has keys) (AmongRank Has rank r) unlisted (map (arrow_at keys) circle)
-      (by_place.shortest_circle circle (IsShortestCircle-same Among (Renumbered Has keys) is.same circle shortest))
+  itself : (r : ℕ) → AreSame (Part r) (Part r)
+  itself r x = ((λ h. h), (λ h. h))
 
-  pub clean_rank : IsClean Among ↔ IsClean (AmongRank Has rank r)
-  clean_rank =
-      let clean = by_places (IsClean-same (AmongRank Has rank r) (AmongKeys Has keys) listed) by_place.clean (IsClean-same Among (Renumbered Has keys) is.same) in
-      (clean.1, clean.0)
+  from : (r : ℕ) → (x : Fact) → Part r x → Has (fact_by (slice_index (keys r)) x)
+  from r = up Has (Part r) rank r (keys r) (lists r) (itself r)
 
--- ---- what a part's graph says of two keys at places of it
-module _ (facts : FactParts) (part : Part) (a b i j : ℕ) (by : AreTogether facts part a b i j) where
-  -- what holds of the keys at the places holds of the two
-  at_places : (P : ℕ → ℕ → Type 0) → P (slice_index part.keys.items i) (slice_index part.keys.items j) → P a b
-  at_places P p = subst (λ y. P a y) by.at_b.1 (subst (λ x. P x (slice_index part.keys.items j)) by.at_a.1 p)
+  into : (r : ℕ) → (x : Fact) → AmongRank Has rank r x → Part r (fact_by (place_in (keys r)) x)
+  into r = down Has (Part r) rank r (keys r) (lists r) (itself r) r refl
 
-  pub on_circle_at : (kind : Kind) →
-      OnCircle (HasFact facts) (arrow a b kind) ↔ OnCircle (HasFact part.graph.facts) (arrow i j kind)
-  on_circle_at kind =
-      at_places (λ x y. OnCircle (HasFact facts) (arrow x y kind) ↔ OnCircle (HasFact part.graph.facts) (arrow i j kind))
-      (on_circle facts part by.of.0 by.of.1 by.of.3 by.of.2 i j kind by.at_a.0 by.at_b.0)
+  -- each circle is as long as one of some part
+  pub circle_placed : (circle : List Arrow) → IsCircle Has circle →
+      (r : ℕ) × (placed : List Arrow) × IsCircle (Part r) placed × (length placed ≡ length circle)
+  circle_placed [] no_walk = absurd no_walk
+  circle_placed (a ∷ rest) closed =
+      let r = rank a.start in
+      let by = arrow_by (place_in (keys r)) in
+      (r, map by (a ∷ rest), ClosedWalk-by (place_in (keys r)) (AmongRank Has rank r) (Part r) (into r) a rest (closed_level Has rank none a rest closed), length-map (a ∷ rest) by)
+
+  shortest_circle : (r : ℕ) (circle : List Arrow) → IsShortestCircle (Part r) circle →
+      ((s : ℕ) (other : List Arrow) → IsCircle (Part s) other → length circle ≤ length other) →
+      IsShortestCircle Has (map (arrow_at (keys r)) circle)
+  shortest_circle r circle shortest least = record {
+    closed = IsCircle-by (slice_index (keys r)) (Part r) Has (from r) circle shortest.closed;
+    least = λ other is.
+        let (s, placed, closed, long) = circle_placed other is in
+        let few = least s placed closed in
+        omega (arith, length-map circle (arrow_at (keys r)));
+    once = apart Has (Part r) rank r (keys r) (lists r) (itself r) circle shortest.closed shortest.once;
+  }
+
+  clean : IsClean Has ↔ ((r : ℕ) → IsClean (Part r))
+  clean = (
+    (λ all r. record {
+      circles = λ d on. all.circles (arrow_at (keys r) d) (OnCircle-by (slice_index (keys r)) (Part r) Has (from r) d on);
+      doubles = λ irq a is. all.doubles irq (slice_index (keys r) a) (IsDouble-by (slice_index (keys r)) (Part r) Has (from r) irq a is);
+      inversions = λ irq a b is. all.inversions irq (slice_index (keys r) a) (slice_index (keys r) b)
+          (IsInversion-by (slice_index (keys r)) (Part r) Has (from r) irq a b is);
+    }),
+    (λ each. record {
+      circles = λ d on. let r = rank d.start in (each r).circles (arrow_by (place_in (keys r)) d)
+          (OnCircle-by (place_in (keys r)) (AmongRank Has rank r) (Part r) (into r) d (circle_level Has rank none d on).1);
+      doubles = λ irq a is. let r = rank a in (each r).doubles irq (place_in (keys r) a)
+          (IsDouble-by (place_in (keys r)) (AmongRank Has rank r) (Part r) (into r) irq a (double_level Has rank irq a is));
+      inversions = λ irq a b is. let r = rank a in (each r).inversions irq (place_in (keys r) a) (place_in (keys r) b)
+          (IsInversion-by (place_in (keys r)) (AmongRank Has rank r) (Part r) (into r) irq a b (inversion_level Has rank none irq a b is).1);
+    }),
+  )
+
+  pub are_found_in_parts : AreFoundInParts Has rank keys
+  are_found_in_parts = record {
+    each = λ r. are_found_in_part Has (Part r) rank r (keys r) (lists r) (itself r) none;
+    on_circle = λ d on. (circle_level Has rank none d on).0;
+    inversion = λ irq a b is. (inversion_level Has rank none irq a b is).0;
+    in_inversion = λ d in_one. (in_inversion_level Has rank none d in_one).0;
+    shortest_circle = shortest_circle;
+    clean = clean;
+  }

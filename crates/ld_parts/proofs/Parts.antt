@@ -1,30 +1,29 @@
 -- The parts of a parted graph: where keys are, what isn't found between parts, and what is found in all of them.
-use Rattle.std.specs.Prelude.{◌≡◌, ℕ, ◌<◌, ◌≤◌, ◌↔◌, List, [], ◌∷◌, length, get_or, All}
+use Rattle.std.specs.Prelude.{◌≡◌, ℕ, ◌<◌, ◌≤◌, ◌↔◌, List, [], ◌∷◌, length, get_or, map, All}
 use Rattle.std.proofs.Common.{refl, ap, sym, ◌∙◌, subst, inl, inr, arith}
 use Rattle.std.proofs.lemmas.Bool.{cases_lt}
-use Rattle.std.proofs.lemmas.List.{get_or_default, length-map}
+use Rattle.std.proofs.lemmas.List.{get_or-map, get_or_past, length-map}
 use Rattle.ld_trace.specs.declared.event.Irq.{Irq}
 use Rattle.ld_task.specs.declared.kind.Kind.{Kind}
 use Rattle.ld_task.specs.declared.mark.Mark.TheVariants.{Enabled}
 use Rattle.ld_task.specs.Kinds.{is_s}
 use Rattle.ld_facts.specs.Arrows.{Arrow, arrow}
 use Rattle.ld_facts.specs.FactBits.{FactParts, HasFact}
-use Rattle.ld_graph.specs.Laws.Facts.{StrongWalk-members, IsCircle-more}
-use Rattle.ld_facts.specs.Facts.{DependenciesOf}
-use Rattle.ld_graph.specs.Links.{IsDouble, IsInversion, InInversion, IsClean}
-use Rattle.ld_parts.specs.Laws.Ranks.{are_found_by_rank}
-use Rattle.ld_parts.specs.Ranks.{AmongRank}
-use Rattle.ld_facts.specs.Renumbered.{AmongKeys, Renumbered, arrow_at}
-use Rattle.ld_parts.specs.Laws.Renumbered.{IsCircle-placed}
-use Rattle.ld_graph.specs.Walks.{IsCircle, OnCircle, IsShortestCircle}
-use Rattle.ld_parts.specs.Inside.Parts.{AreApart, IsParted, IsAtPlace, IsHome, IsPart, IsPartOf, IsShortestOfFirst}
-use Rattle.ld_parts.proofs.PartLaws.{clean_rank, listed, on_circle_at, shortest_of_rank}
-use Rattle.ld_graph.specs.Laws.Facts.{OnCircle-member}
+use Rattle.ld_facts.specs.Facts.{AreSame, DependenciesOf}
 use Rattle.ld_facts.specs.Laws.Lists.{Contains-head}
+use Rattle.ld_facts.specs.Renumbered.{HasKeys, Renumbered, arrow_at}
 use Rattle.ld_facts.specs.declared.fact.Fact.{Fact}
 use Rattle.ld_facts.specs.declared.fact.Fact.TheVariants.{Dependency, Marked}
+use Rattle.ld_graph.specs.Laws.Facts.{IsCircle-more, IsClean-same, IsShortestCircle-same, OnCircle-member, StrongWalk-members}
+use Rattle.ld_graph.specs.Links.{IsDouble, IsInversion, InInversion, IsClean}
+use Rattle.ld_graph.specs.Walks.{IsCircle, OnCircle, IsShortestCircle}
+use Rattle.ld_parts.specs.FoundInParts.{AreFoundInPart, AreFoundInParts, ListsRank}
+use Rattle.ld_parts.specs.Inside.Parts.{AreApart, AreKeysOf, IsParted, IsAtPlace, IsHome, IsPart, IsPartOf, IsShortestOfFirst}
+use Rattle.ld_parts.specs.Ranks.{AmongRank, NoneGoesDown}
 use Rattle.ld_parts.specs.declared.home.Home.{Home}
 use Rattle.ld_parts.specs.declared.part.Part.{Part}
+use Rattle.ld_parts.proofs.Levels.{circle_level, in_inversion_level, inversion_level}
+use Rattle.ld_parts.proofs.PartLaws.{are_found_in_part, are_found_in_parts, circle_placed}
 
 -- ---- where keys are
 module _ (facts : FactParts) (parts : List Part) (homes : List Home) (are : IsParted facts parts homes) where
@@ -66,7 +65,7 @@ module _ (facts : FactParts) (a b : ℕ) (apart : AreApart facts a b) where
   no_circle_apart kind on =
       let (below, set) = OnCircle-member (HasFact facts) (arrow a b kind) on in
       let (rank, none, differ) = apart below.0 below.1 in
-      differ (((are_found_by_rank (HasFact facts) rank none).on_circle (arrow a b kind)).0 on).0
+      differ (circle_level (HasFact facts) rank none (arrow a b kind) on).0
 
   pub no_inversion_apart : (irq : Irq) → ¬ IsInversion (HasFact facts) irq a b
   no_inversion_apart irq is_one =
@@ -74,7 +73,7 @@ module _ (facts : FactParts) (a b : ℕ) (apart : AreApart facts a b) where
       let below_a : a < facts.keys = subst (λ k. k < facts.keys) with.3 with.1.1.0 in
       let below_b : b < facts.keys = subst (λ k. k < facts.keys) with.2 with.1.0.0 in
       let (rank, none, differ) = apart below_a below_b in
-      differ (((are_found_by_rank (HasFact facts) rank none).inversion irq a b).0 is_one).0
+      differ (inversion_level (HasFact facts) rank none irq a b is_one).0
 
   pub not_in_inversion_apart : (kind : Kind) → ¬ InInversion (HasFact facts) (arrow a b kind)
   not_in_inversion_apart kind in_one =
@@ -82,7 +81,7 @@ module _ (facts : FactParts) (a b : ℕ) (apart : AreApart facts a b) where
       let (below, set) = subst (DependenciesOf (HasFact facts)) at
       (StrongWalk-members (DependenciesOf (HasFact facts)) first rest with.0.0 k (arrow a b kind) within) in
       let (rank, none, differ) = apart below.0 below.1 in
-      differ (((are_found_by_rank (HasFact facts) rank none).in_inversion (arrow a b kind)).0 in_one).0
+      differ (in_inversion_level (HasFact facts) rank none (arrow a b kind) in_one).0
 
 -- a key is apart from itself only if it isn't below the bound
 pub no_double_apart : (facts : FactParts) (a : ℕ) → AreApart facts a a → (irq : Irq) → ¬ IsDouble (HasFact facts) irq a
@@ -90,6 +89,26 @@ no_double_apart facts a apart irq (l, (marks, at_a, to_a, follows)) =
     let below = subst (λ k. k < facts.keys) at_a marks.0.0 in
     let (rank, none, differ) = apart below below in
     differ refl
+
+-- ---- what is found in a part
+-- the list of a rank's keys below the bound has all those that the facts are about
+module _ (facts : FactParts) (rank : ℕ → ℕ) (r : ℕ) (keys : List ℕ) (are : AreKeysOf facts.keys rank r keys) where
+  all_keys : (x : Fact) → AmongRank (HasFact facts) rank r x → HasKeys keys x
+  all_keys (Dependency from to kind) ((below, set), (at_from, at_to)) = (are.all from below.0 at_from, are.all to below.1 at_to)
+  all_keys (Marked key mark) ((below, set), at_key) = are.all key below at_key
+
+  pub lists_rank : ListsRank (HasFact facts) rank r keys
+  lists_rank = record {
+    once = are.once;
+    of_rank = λ key (k, l, e). subst (λ x. rank x ≡ r) e (are.of k key l).1;
+    all = all_keys;
+  }
+
+pub found_in_part : (facts : FactParts) (part : Part) (rank : ℕ → ℕ) (r : ℕ) → NoneGoesDown (HasFact facts) rank →
+    IsPart facts rank r part → AreFoundInPart (HasFact facts) (HasFact part.graph.facts) part.keys.items
+found_in_part facts part rank r none is =
+    are_found_in_part (HasFact facts) (HasFact part.graph.facts) rank r part.keys.items
+    (lists_rank facts rank r part.keys.items is.keys_are) is.same none
 
 -- ---- what is found in all parts
 -- facts about nothing are clean
@@ -118,72 +137,84 @@ module _ (facts : FactParts) (parts : List Part) (homes : List Home) (are : IsPa
   has_part r (Marked key mark) ((below, set), at_key) =
       let l = are.parts_are.all key below in omega arith
 
-  pub clean_parts : All (λ part. IsClean (HasFact part.graph.facts)) parts ↔ IsClean (HasFact facts)
-  clean_parts =
-      let law = (are_found_by_rank (HasFact facts) are.rank are.none).clean in (
-        (λ each. law.1 (λ r. elim (cases_lt r (length parts)) [
-          | inl l ↦
-              let part = some_part parts r l in
-              (clean_rank facts (get_or parts r part) are.rank r (are.parts_are.parts_are r part l)).0 (each r part l)
-          | inr past ↦ IsClean-none (AmongRank (HasFact facts) are.rank r)
-              (λ x among. let l = has_part r x among in absurd (omega arith))
-        ])),
-        (λ clean r part l. (clean_rank facts (get_or parts r part) are.rank r (are.parts_are.parts_are r part l)).1 (law.0 clean r)),
-      )
+  -- the keys of each rank, and none where there is no part
+  abbrev listed : ℕ → List ℕ
+  listed r = get_or (map (λ (part : Part). part.keys.items) parts) r []
 
-  -- a dependency on a circle is on one of a part's
+  listed_part : (r : ℕ) (part : Part) → r < length parts → listed r ≡ (get_or parts r part).keys.items
+  listed_part r part l = get_or-map (λ (p : Part). p.keys.items) parts r part [] l
+
+  listed_none : (r : ℕ) → length parts ≤ r → listed r ≡ []
+  listed_none r past = get_or_past (map (λ (p : Part). p.keys.items) parts) r [] (omega (arith, length-map parts (λ (p : Part). p.keys.items)))
+
+  lists : (r : ℕ) → ListsRank (HasFact facts) are.rank r (listed r)
+  lists r = elim (cases_lt r (length parts)) [
+    | inl l ↦
+        let part = some_part parts r l in
+        rw (listed_part r part l) (lists_rank facts are.rank r (get_or parts r part).keys.items (are.parts_are.parts_are r part l).keys_are)
+    | inr past ↦ rw (listed_none r past) record {
+      once = λ i j d less l. absurd (omega arith);
+      of_rank = λ key (k, l, e). absurd (omega arith);
+      all = λ x among. absurd (let l = has_part r x among in omega arith);
+    }
+  ]
+
+  abbrev Among : ℕ → Fact → Type 0
+  Among r = Renumbered (HasFact facts) (listed r)
+
+  found : AreFoundInParts (HasFact facts) are.rank listed
+  found = are_found_in_parts (HasFact facts) are.rank listed are.none lists
+
+  same_in_part : (r : ℕ) (part : Part) → r < length parts → AreSame (HasFact (get_or parts r part).graph.facts) (Among r)
+  same_in_part r part l = rw (listed_part r part l) (are.parts_are.parts_are r part l).same
+
+  none_past : (r : ℕ) → length parts ≤ r → (x : Fact) → ¬ Among r x
+  none_past r past (Dependency from to kind) h =
+      let l = h.0.0 in omega (arith, ap length (listed_none r past))
+  none_past r past (Marked key mark) h =
+      let l = h.0 in omega (arith, ap length (listed_none r past))
+
+  pub clean_parts : All (λ part. IsClean (HasFact part.graph.facts)) parts ↔ IsClean (HasFact facts)
+  clean_parts = (
+    (λ each. found.clean.1 (λ r. elim (cases_lt r (length parts)) [
+      | inl l ↦
+          let part = some_part parts r l in
+          (IsClean-same (HasFact (get_or parts r part).graph.facts) (Among r) (same_in_part r part l)).0 (each r part l)
+      | inr past ↦ IsClean-none (Among r) (none_past r past)
+    ])),
+    (λ clean r part l. (IsClean-same (HasFact (get_or parts r part).graph.facts) (Among r) (same_in_part r part l)).1 (found.clean.0 clean r)),
+  )
+
+  -- a circle by places is one of the part there
+  circle_in_part : (r : ℕ) (circle : List Arrow) → IsCircle (Among r) circle →
+      (l : r < length parts) × ((part : Part) → IsCircle (HasFact (get_or parts r part).graph.facts) circle)
+  circle_in_part r [] no_walk = absurd no_walk
+  circle_in_part r (a ∷ rest) closed = elim (cases_lt r (length parts)) [
+    | inl l ↦ (l, λ part. IsCircle-more (Among r) (HasFact (get_or parts r part).graph.facts) (λ x. (same_in_part r part l x).1) (a ∷ rest) closed)
+    | inr past ↦ absurd (none_past r past (Dependency a.start a.end a.kind) (StrongWalk-members (DependenciesOf (Among r)) a rest closed.0 0 a (omega arith)))
+  ]
+
+  -- a dependency on a circle is on one of which a part has as long a one
   pub on_circle_parts : (d : Arrow) → OnCircle (HasFact facts) d →
       All (λ part. (e : Arrow) → ¬ OnCircle (HasFact part.graph.facts) e) parts → ⊥
-  on_circle_parts d on none =
-      let (below, set) = OnCircle-member (HasFact facts) d on in
-      let (level, of_rank) = ((are_found_by_rank (HasFact facts) are.rank are.none).on_circle d).0 on in
-      let l = are.parts_are.all d.start below.0 in
-      let part = some_part parts (are.rank d.start) l in
-      let is = are.parts_are.parts_are (are.rank d.start) part l in
-      let (i, li, at_i) = is.keys_are.all d.start below.0 refl in
-      let (j, lj, at_j) = is.keys_are.all d.end below.1 (sym level) in
-      let keys = (get_or parts (are.rank d.start) part).keys.items in
-      none (are.rank d.start) part l (arrow i j d.kind)
-      ((on_circle_at facts (get_or parts (are.rank d.start) part) d.start d.end i j
-      (record {
-        of = (are.rank, are.rank d.start, are.none, is);
-        at_a = (li, get_or_default keys i 0 d.start li ∙ at_i);
-        at_b = (lj, get_or_default keys j 0 d.end lj ∙ at_j);
-      }) d.kind).0 on)
-
-  -- a circle of a rank is as long as one of its part
-  circle_of_part : (s : ℕ) (part : Part) → (l : s < length parts) → (other : List Arrow) →
-      IsCircle (AmongRank (HasFact facts) are.rank s) other →
-      (own : List Arrow) × IsCircle (HasFact (get_or parts s part).graph.facts) own × (length own ≡ length other)
-  circle_of_part s part l other closed =
-      let is = are.parts_are.parts_are s part l in
-      let keys = (get_or parts s part).keys.items in
-      let among = IsCircle-more (AmongRank (HasFact facts) are.rank s) (AmongKeys (HasFact facts) keys)
-      (λ x. (listed facts (get_or parts s part) are.rank s is x).0) other closed in
-      let (own, places, long) = IsCircle-placed (HasFact facts) keys other among in
-      (own, IsCircle-more (Renumbered (HasFact facts) keys) (HasFact (get_or parts s part).graph.facts) (λ x. (is.same x).1) own places, long)
-
-  first_fact : (P : Fact → Type 0) (circle : List Arrow) → IsCircle P circle → (x : Fact) × P x
-  first_fact P [] no_walk = absurd no_walk
-  first_fact P (a ∷ rest) closed = (Dependency a.start a.end a.kind, StrongWalk-members (DependenciesOf P) a rest closed.0 0 a (omega arith))
+  on_circle_parts d (a, rest, closed, met) none =
+      let (r, placed, of_rank, long) = circle_placed (HasFact facts) are.rank listed are.none lists (a ∷ rest) closed in
+      let (l, of_part) = circle_in_part r placed of_rank in
+      let part = some_part parts r l in
+      no_circle (HasFact (get_or parts r part).graph.facts) (none r part l) placed (of_part part)
 
   pub shortest_of_parts : (circle : List Arrow) → IsShortestOfFirst parts (length parts) circle → IsShortestCircle (HasFact facts) circle
   shortest_of_parts circle first =
       let part = some_part parts first.r first.before in
       let told = first.of part in
-      let is = are.parts_are.parts_are first.r part first.before in
-      ((are_found_by_rank (HasFact facts) are.rank are.none).shortest_circle circle).1
-      (record {
-        r = first.r;
-        shortest = subst (IsShortestCircle (AmongRank (HasFact facts) are.rank first.r)) (sym told.told)
-            (shortest_of_rank facts (get_or parts first.r part) are.rank first.r is told.own told.shortest);
-        least = λ s other closed.
-            let (x, among) = first_fact (AmongRank (HasFact facts) are.rank s) other closed in
-            let l = has_part s x among in
-            let (own, is_own, long) = circle_of_part s part l other closed in
-            let least = first.least s part own l is_own in
-            omega arith;
-      })
+      let long : length circle ≡ length told.own = ap length told.told ∙ length-map told.own (arrow_at (get_or parts first.r part).keys.items) in
+      rw (told.told, ← listed_part first.r part first.before) (found.shortest_circle first.r told.own
+      (IsShortestCircle-same (HasFact (get_or parts first.r part).graph.facts) (Among first.r) (same_in_part first.r part first.before) told.own told.shortest)
+      (λ s other closed.
+          let (l, of_part) = circle_in_part s other closed in
+          let other_part = some_part parts s l in
+          let least = first.least s other_part other l (of_part other_part) in
+          omega arith))
 
   pub shortest_few : (circle : List Arrow) → IsShortestOfFirst parts (length parts) circle → length circle ≤ facts.keys
   shortest_few circle first =

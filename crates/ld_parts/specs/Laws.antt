@@ -1,20 +1,11 @@
--- What holds of all facts: the laws of ranks and of keys by their places. A set of facts is a test in them.
-pub mod Ranks
-pub mod Renumbered
+-- What holds of all facts: the law of parts. A set of facts is a test in it.
 use Rattle.std.specs.Prelude.{ℕ, Bool, List}
-use Rattle.ld_parts.specs.Ranks.{NoneGoesDown, AreFoundByRank}
-use Rattle.ld_facts.specs.Renumbered.{HasEachOnce}
-use Rattle.ld_parts.specs.FoundByPlace.{AreFoundByPlace}
+use Rattle.ld_parts.specs.Ranks.{NoneGoesDown}
+use Rattle.ld_parts.specs.FoundInParts.{AreFoundInParts, ListsRank}
 use Rattle.ld_facts.specs.declared.fact.Fact.{Fact}
 use Rattle.ld_graph.specs.Laws.{In}
 
--- ---- ranks
--- where no arrow goes down, what is found among all facts is found among those of one rank
-abbrev pub FindingsAreThoseOfTheRanks : Type 0
-FindingsAreThoseOfTheRanks = (set : Fact → Bool) (rank : ℕ → ℕ) →
-    NoneGoesDown (In set) rank → AreFoundByRank (In set) rank
-
--- what is found among the keys of a list is what is found by their places there
-abbrev pub FindingsAreThoseOfThePlaces : Type 0
-FindingsAreThoseOfThePlaces = (set : Fact → Bool) (keys : List ℕ) →
-    HasEachOnce keys → AreFoundByPlace (In set) keys
+-- if no arrow goes down, and each rank's keys are listed, what is found by their places is what is found among all facts
+abbrev pub FindingsAreThoseOfTheParts : Type 0
+FindingsAreThoseOfTheParts = (set : Fact → Bool) (rank : ℕ → ℕ) (keys : ℕ → List ℕ) → NoneGoesDown (In set) rank →
+    ((r : ℕ) → ListsRank (In set) rank r (keys r)) → AreFoundInParts (In set) rank keys

@@ -1,4 +1,4 @@
 pub mod Inside
 pub mod Ranks
-pub mod FoundByPlace
+pub mod FoundInParts
 pub mod Laws

@@ -1,12 +1,11 @@
 -- Ranks of keys such that no arrow goes down. What is found among all facts is then found among those about the keys of
 -- one rank [this project's own].
-use Rattle.std.specs.Prelude.{◌≡◌, ℕ, ◌+◌, ◌<◌, ◌≤◌, ◌↔◌, List, length, All, AllPairs}
+use Rattle.std.specs.Prelude.{◌≡◌, ℕ, ◌+◌, ◌<◌, ◌≤◌, List, length, All, AllPairs}
 use Rattle.ld_trace.specs.declared.key_id.TheConstants.{MAX_KEYS}
 use Rattle.ld_trace.specs.declared.event.Irq.{Irq}
 use Rattle.ld_facts.specs.Arrows.{Arrow}
 use Rattle.ld_facts.specs.Facts.{DependenciesOf}
-use Rattle.ld_graph.specs.Links.{IsLink, IsDouble, IsDoubleBy, IsInversion, InInversion, IsShortestInversion, IsClean}
-use Rattle.ld_graph.specs.Walks.{OnCircle, IsCircle, IsShortestCircle, IsShortestFrom}
+use Rattle.ld_graph.specs.Links.{IsLink}
 use Rattle.ld_facts.specs.declared.fact.Fact.{Fact}
 use Rattle.ld_facts.specs.declared.fact.Fact.TheVariants.{Dependency, Marked}
 
@@ -36,29 +35,3 @@ IsOfRank rank r (Marked key mark) = rank key ≡ r
 -- those of the facts that are only about keys of this rank
 abbrev pub AmongRank : (Fact → Type 0) → (ℕ → ℕ) → ℕ → Fact → Type 0
 AmongRank Has rank r x = Has x × IsOfRank rank r x
-
--- a shortest circle among the facts of its rank, such that none of any rank is shorter
-pub record IsShortestOfRanks (Has : Fact → Type 0) (rank : ℕ → ℕ) (circle : List Arrow) : Type 0 where
-  pub r : ℕ
-  pub shortest : IsShortestCircle (AmongRank Has rank r) circle
-  pub least : (s : ℕ) (other : List Arrow) → IsCircle (AmongRank Has rank s) other → length circle ≤ length other
-
--- what is found among all facts is what is found among those of one rank
-pub record AreFoundByRank (Has : Fact → Type 0) (rank : ℕ → ℕ) : Type 0 where
-  pub on_circle : (d : Arrow) →
-      OnCircle Has d ↔ ((rank d.start ≡ rank d.end) × OnCircle (AmongRank Has rank (rank d.start)) d)
-  pub shortest_circle : (circle : List Arrow) → IsShortestCircle Has circle ↔ IsShortestOfRanks Has rank circle
-  pub shortest_from : (d : Arrow) (walk : List Arrow) →
-      IsShortestFrom Has d walk ↔
-      ((rank d.start ≡ rank d.end) × IsShortestFrom (AmongRank Has rank (rank d.start)) d walk)
-  pub double : (irq : Irq) (a : ℕ) → IsDouble Has irq a ↔ IsDouble (AmongRank Has rank (rank a)) irq a
-  pub double_by : (irq : Irq) (a : ℕ) (l : Arrow) →
-      IsDoubleBy Has irq a l ↔ IsDoubleBy (AmongRank Has rank (rank a)) irq a l
-  pub inversion : (irq : Irq) (a b : ℕ) →
-      IsInversion Has irq a b ↔ ((rank a ≡ rank b) × IsInversion (AmongRank Has rank (rank a)) irq a b)
-  pub shortest_inversion : (irq : Irq) (a b : ℕ) (l : Arrow) (walk : List Arrow) →
-      IsShortestInversion Has irq a b l walk ↔
-      ((rank a ≡ rank b) × IsShortestInversion (AmongRank Has rank (rank a)) irq a b l walk)
-  pub in_inversion : (d : Arrow) →
-      InInversion Has d ↔ ((rank d.start ≡ rank d.end) × InInversion (AmongRank Has rank (rank d.start)) d)
-  pub clean : IsClean Has ↔ ((r : ℕ) → IsClean (AmongRank Has rank r))

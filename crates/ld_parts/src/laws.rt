@@ -1,16 +1,11 @@
-//! Laws of the definitions, each carried by a function that does nothing.
+//! The law of the definitions, carried by a function that does nothing.
 
-ghost use Rattle.ld_parts.specs.Laws.{FindingsAreThoseOfThePlaces, FindingsAreThoseOfTheRanks};
+ghost use Rattle.ld_parts.specs.Laws.{FindingsAreThoseOfTheParts};
 
-/// Where each key has a rank and no dependency and no interrupt link goes from a key to one of lower rank, what is found
-/// among all facts is found among those about the keys of one rank: what is on a circle, shortest circles and shortest
-/// closed walks, doubles, inversions with their shortest walks and their members, and that nothing is wrong.
-pub fn findings_are_those_of_the_ranks()
-    ensures { FindingsAreThoseOfTheRanks }
-{}
-
-/// Where keys of a list are numbered by their places, and none is there twice, what is found among the keys by these
-/// numbers is what is found among the keys themselves.
-pub fn findings_are_those_of_the_places()
-    ensures { FindingsAreThoseOfThePlaces }
+/// If each key has a rank, no dependency and no interrupt link goes from a key to one of lower rank, and the keys of each
+/// rank are listed, what is found among the facts of a list's keys, by the places of these keys, is what is found among
+/// all facts: what is on a circle, shortest circles and shortest closed walks, doubles, inversions with their shortest
+/// walks and their members, and that nothing is wrong. Nothing is found between keys of two ranks.
+pub fn findings_are_those_of_the_parts()
+    ensures { FindingsAreThoseOfTheParts }
 {}

@@ -17,7 +17,7 @@ mod ranks;
 mod settled;
 
 pub use finding::{find_ranks, find_ranks_of};
-pub use laws::{findings_are_those_of_the_places, findings_are_those_of_the_ranks};
+pub use laws::findings_are_those_of_the_parts;
 pub use parted_graph::PartedGraph;
 pub use parting_fault::PartingFault;
 pub use ranks::{Ranks, are_ranked};
