@@ -2,8 +2,6 @@
 use Rattle.std.proofs.Common.{◌≡◌, ℕ, ◌+◌, ◌-◌, ◌≤◌, Bool, true, false, if◌then◌else◌, List, [], ◌∷◌, ◌++◌, length, take, drop, Option, Some, None, IfSome, refl, sym, ap, ◌∙◌, arith, append_assoc}
 use Rattle.std.proofs.lemmas.List.{append-nil, take-append-drop, take-append-le}
 use Rattle.std.proofs.Math.Seq.{take-add, take-length}
-use Rattle.std.specs.Fmt.{option_append}
-use Rattle.std.specs.Io.Buffered.{reader_buffer, reader_remaining}
 use Rattle.std.specs.Io.BufRead.{DropsConsumable}
 use Rattle.std.specs.Io.KnownBytes.{Consumes, prepend_known}
 use Rattle.ld_trace.specs.declared.event.Event.{Event}
@@ -11,7 +9,7 @@ use Rattle.ld_trace.specs.declared.version.Version.{Version}
 use Rattle.ld_trace.specs.Events.{KeysBelow}
 use Rattle.ld_trace.specs.Names.{Name}
 use Rattle.ld_trace.specs.Pieces.{AreLines, header_line}
-use Rattle.ld_trace.specs.Reading.{ReadsTo, StopsAt}
+use Rattle.ld_trace.specs.Reading.{ReadsTo}
 use Rattle.ld_run.specs.declared.pieces.Piece.{Piece}
 use Rattle.ld_run.specs.Inside.Pieces.{Advances, IsPiece, MayBePiece, ReadsOn, bytes_of, left_of}
 

@@ -1,5 +1,4 @@
 use Rattle.std.proofs.Common.{◌≡◌}
-use Rattle.ld_run.specs.Inside.Pieces.{ReadsOn}
 use Rattle.ld_run.proofs.PieceLemmas.{on-piece, whole-piece}
 use Rattle.ld_run.proofs.pieces.join_line.Goals as goal
 

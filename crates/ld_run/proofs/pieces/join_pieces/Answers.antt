@@ -1,4 +1,4 @@
-use Rattle.std.proofs.Common.{◌≡◌, ◌∙◌, ◌-◌, arith, ap, drop, length, refl, take}
+use Rattle.std.proofs.Common.{◌≡◌, ◌∙◌, ◌-◌, arith, ap, drop, refl, take}
 use Rattle.std.proofs.lemmas.List.Elements.{All-set}
 use Rattle.ld_run.specs.Inside.Pieces.{MayBePiece}
 use Rattle.ld_run.proofs.PieceLemmas.{found-below, on-more, on-nothing, take-on}

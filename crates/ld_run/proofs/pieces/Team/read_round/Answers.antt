@@ -1,8 +1,7 @@
-use Rattle.std.proofs.Common.{◌≡◌, ◌++◌, ◌==◌, [], List, ℕ, length, take, refl, sym, ap, ◌∙◌}
+use Rattle.std.proofs.Common.{◌≡◌, ◌++◌, ◌==◌, [], take, refl, ◌∙◌}
 use Rattle.std.specs.Io.Buffered.{reader_buffer, reader_capacity, reader_remaining}
 use Rattle.std.specs.Io.KnownBytes.{Consumes}
-use Rattle.ld_run.specs.Inside.Pieces.{Advances, left_of}
-use Rattle.ld_run.proofs.PieceLemmas.{consumes-more, left-buffer, left-line, left-moved, on-more, round-on}
+use Rattle.ld_run.proofs.PieceLemmas.{left-buffer, round-on}
 use Rattle.ld_run.proofs.pieces.Team.read_round.Goals as goal
 
 pub returns-clause-on : goal.returns-clause-on
