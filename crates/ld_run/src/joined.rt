@@ -7,7 +7,7 @@ ghost use Rattle.ld_run.specs.Inside.Ahead.{AreJoined};
 use crate::sources::Sources;
 use std::io::Read;
 
-// A text of so many bytes or more is read by itself: making a CSV reader for it costs little beside reading it.
+// A text of this many bytes or more is read by itself: making a CSV reader for it costs little beside reading it.
 const LONG_TEXT: u64 = 65_536;
 
 // Puts the texts of the sources at the places from `first` to before `end` into an empty vector, with a record of their own between each

@@ -24,7 +24,7 @@ pub struct NumberedTrace {
     pub trace: RawTrace,
 }
 
-/// Reads so many traces from one reader, which gives their texts as one: between each two texts a newline, a `.` and a newline. The
+/// Reads `count` traces from one reader, which gives their texts as one: between each two texts a newline, a `.` and a newline. The
 /// result is that of reading each text by itself, in turn, over the one table, but costs one CSV reader instead of one for each text.
 ///
 /// None if one of the traces has a fault, if there are fewer of them or more, or if memory runs out. Then nothing is known of the
@@ -60,7 +60,7 @@ pub fn read_joined<R: Read + Drop>(
     Some(traces)
 }
 
-// Reads so many traces, each of which a point ends, and returns whether it could.
+// Reads `count` traces, each of which a point ends, and returns whether it could.
 fn read_ended<R: Read>(
     alloc: Global,
     count: usize,

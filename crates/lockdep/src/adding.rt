@@ -167,7 +167,7 @@ fn mean_size<R: Files>(rt: &R, files: &[&str]) -> u64 {
     bytes / asked.max(1)
 }
 
-// How many threads are worth it for so many files of this mean size: one for every 256 KiB, and no more than there are workers and
+// How many threads are worth it for this number of files of this mean size: one for every 256 KiB, and no more than there are workers and
 // files, unless there is one file, of which each thread reads pieces. For a number of workers that a run refuses it is one.
 fn useful_threads(mean: u64, workers: u16, files: usize) -> usize {
     if workers < 2 || workers > MAX_WORKERS || files == 0 {
@@ -181,8 +181,8 @@ fn useful_threads(mean: u64, workers: u16, files: usize) -> usize {
     threads.min(files)
 }
 
-// How many files a thread claims at a time, and reads by one CSV reader: so many as have 64 KiB together, at most 64, and so few that
-// each thread claims four times. One, unless the files are small.
+// How many files a thread claims at a time, and reads by one CSV reader: as many as have 64 KiB together, at most 64, and few enough
+// that each thread claims four times. One, unless the files are small.
 fn useful_group(mean: u64, threads: usize, files: usize) -> usize {
     if mean > SMALL_FILE {
         return 1;

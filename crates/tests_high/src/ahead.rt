@@ -57,7 +57,7 @@ impl<'t> Sources for Texts<'t> {
     }
 }
 
-// Traces, of which the first so many can be read; what stops the next one; and the names then.
+// Traces, how many of the first ones can be read; what stops the next one; and the names then.
 type Case<'t> = (&'t [&'t str], usize, Option<TraceFault>, &'t [&'t str]);
 
 static CASES: [Case<'_>; 4] = [
@@ -137,7 +137,7 @@ pub(crate) fn are_named(names: &[&str], keys: &KeyTable) -> bool {
     names.len() == keys.len()
 }
 
-// Whether so many threads give what the case says, whether two of them read at once, and how many texts were opened in their turn.
+// Whether this many threads give what the case says, whether two of them read at once, and how many texts were opened in their turn.
 fn reads<R: Threads + Wait + Sync + Abort>(
     rt: &R,
     alloc: Global,

@@ -146,7 +146,7 @@ static CASES: [Case<'_>; 9] = [
     ),
 ];
 
-// Whether so many threads give what the case says, and how many texts were opened in their turn.
+// Whether this many threads give what the case says, and how many texts were opened in their turn.
 fn reads<R: Threads + Wait + Sync + Abort>(
     rt: &R,
     alloc: Global,

@@ -96,7 +96,7 @@ fn are_alike(
     same && left.len() == right.len()
 }
 
-// Whether this many threads read the text as one does, with so many bytes to a piece.
+// Whether this many threads read the text as one does, with this many bytes to a piece.
 fn reads<R: Threads + Sync>(
     rt: &R,
     alloc: Global,
