@@ -35,8 +35,11 @@ module _ (Has Among : Fact → Type 0) (rank : ℕ → ℕ) (r : ℕ) (keys : Li
   listed_down (Dependency from to kind) in_list has =
       let (i, from_is) = place_in-stands keys from in_list.0.0 in_list.0.1 in_list.0.2 in
       let (j, to_is) = place_in-stands keys to in_list.1.0 in_list.1.1 in_list.1.2 in
-      (same (Dependency (place from) (place to) kind)).1 ((i, j), subst (λ a. Has (Dependency a (key_at (place to)) kind)) (sym from_is)
-          (subst (λ b. Has (Dependency from b kind)) (sym to_is) has))
+      (same (Dependency (place from) (place to) kind)).1 (
+        (i, j),
+        subst (λ a. Has (Dependency a (key_at (place to)) kind)) (sym from_is)
+            (subst (λ b. Has (Dependency from b kind)) (sym to_is) has),
+      )
   listed_down (Marked key mark) in_list has =
       let (i, is) = place_in-stands keys key in_list.0 in_list.1 in_list.2 in
       (same (Marked (place key) mark)).1 (i, subst (λ a. Has (Marked a mark)) (sym is) has)
@@ -89,7 +92,7 @@ module _ (Has Among : Fact → Type 0) (rank : ℕ → ℕ) (r : ℕ) (keys : Li
       let at_i = ap (λ (a : Arrow). a.start) (get_or-map (arrow_at keys) circle i d d li) in
       let at_j = ap (λ (a : Arrow). a.start) (get_or-map (arrow_at keys) circle j d d lj) in
       pairs i j d less lj (same_place (get_or circle i d).start (get_or circle j d).start
-          (starts_below circle closed i d li) (starts_below circle closed j d lj) (sym at_i ∙ e ∙ at_j))
+      (starts_below circle closed i d li) (starts_below circle closed j d lj) (sym at_i ∙ e ∙ at_j))
 
   module _ (none : NoneGoesDown Has rank) where
     -- ---- circles

@@ -211,10 +211,10 @@ module _ (facts : FactParts) (parts : List Part) (homes : List Home) (are : IsPa
       rw (told.told, ← listed_part first.r part first.before) (found.shortest_circle first.r told.own
       (IsShortestCircle-same (HasFact (get_or parts first.r part).graph.facts) (Among first.r) (same_in_part first.r part first.before) told.own told.shortest)
       (λ s other closed.
-          let (l, of_part) = circle_in_part s other closed in
-          let other_part = some_part parts s l in
-          let least = first.least s other_part other l (of_part other_part) in
-          omega arith))
+      let (l, of_part) = circle_in_part s other closed in
+      let other_part = some_part parts s l in
+      let least = first.least s other_part other l (of_part other_part) in
+      omega arith))
 
   pub shortest_few : (circle : List Arrow) → IsShortestOfFirst parts (length parts) circle → length circle ≤ facts.keys
   shortest_few circle first =
