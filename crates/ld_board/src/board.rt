@@ -20,7 +20,7 @@ use crate::board_fault::BoardFault;
 use crate::seat::Seat;
 use crate::view::{BoardRule, BoardSize, Claim, Cut, View};
 use atomic_table::{Closed, Table};
-use ld_facts::Facts;
+use ld_facts::{Facts, word_total};
 use ld_task::Chain;
 use std::alloc::Global;
 
@@ -59,7 +59,7 @@ impl Board {
         if seats == 0 || seats > MAX_SEATS {
             return Err(BoardFault::Seats);
         }
-        let blank = vec![in alloc; 0u64; words_of(keys) + 1]?;
+        let blank = vec![in alloc; 0u64; word_total(keys) + 1]?;
         let size = BoardSize {
             seats: seats as u64,
             keys: u64::from(keys),
@@ -182,15 +182,6 @@ impl Board {
     }
 }
 
-// How many words hold the facts about keys below `keys`.
-fn words_of(keys: u16) -> usize
-    requires { keys ≤ MAX_MANY }
-    ensures { result ≡ word_total keys }
-{
-    let n = usize::from(keys);
-    (n * n * 4 + n * 9 + 63) / 64
-}
-
 // Joins the seats with the last one.
 fn gather(
     table: &Table<(), View, BoardSize, BoardRule, Global>,
@@ -231,7 +222,7 @@ fn unite_words(facts: &mut Facts, closed: &Closed<(), Global>)
         × (bit_at (slice_index (slots_items closed.now.words) (fact_number facts.old.keys x / 64 + 1)) (fact_number facts.old.keys x % 64) ≡ 1)) }
 {
     ld_facts::facts_are_bits();
-    for n in 0..words_of(facts.keys()) {
+    for n in 0..word_total(facts.keys()) {
         facts.unite_word(n, closed.word(n + 1));
     }
 }

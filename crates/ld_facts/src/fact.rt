@@ -4,11 +4,21 @@ ghost use Rattle.std.specs.Prelude.{◌≡◌, ◌+◌, ◌*◌, ◌<◌, ◌≤
 ghost use Rattle.ld_facts.specs.Numbers.{kind_number, irq_number, mark_index, fact_number, dependency_total, bit_total};
 ghost use Rattle.ld_facts.specs.FactBits.{FactBelow};
 ghost use Rattle.ld_facts.specs.Renumbered.{fact_by};
+ghost use Rattle.ld_facts.specs.WordPairs.{word_total};
 ghost use Rattle.ld_trace.specs.declared.key_id.TheConstants.{MAX_MANY};
 
 use crate::dependency::kind_at;
 use ld_task::{Kind, Mark};
 use ld_trace::Irq;
+
+/// How many interrupt states there are.
+pub const STATE_COUNT: usize = 2;
+
+/// The interrupt states, by their numbers. This is the report's order too.
+pub const STATES: [Irq; STATE_COUNT] = [Irq::Hard, Irq::Soft];
+
+// How many marks a key can have: that it is used, and four for each state.
+const MARKS_OF_KEY: usize = 9;
 
 /// A dependency between two keys, or a mark on one.
 #[derive(Clone, Copy, PartialEq, Eq, Debug)]
@@ -61,8 +71,8 @@ impl Fact {
         } else {
             let n = n - dependencies;
             Fact::Marked {
-                key: (n / 9) as u16,
-                mark: mark_at(n % 9),
+                key: (n / MARKS_OF_KEY) as u16,
+                mark: mark_at(n % MARKS_OF_KEY),
             }
         }
     }
@@ -115,7 +125,24 @@ pub(crate) fn first_mark(keys: u16, key: u16) -> usize
     ensures within { result + 9 ≤ bit_total keys }
 {
     let n = usize::from(keys);
-    n * n * 4 + usize::from(key) * 9
+    n * n * 4 + usize::from(key) * MARKS_OF_KEY
+}
+
+/// How many facts about keys below `keys` there can be: 264,448 for 256 keys.
+pub fn fact_total(keys: u16) -> usize
+    requires { keys ≤ MAX_MANY }
+    ensures { result ≡ bit_total keys }
+{
+    let n = usize::from(keys);
+    n * n * 4 + n * MARKS_OF_KEY
+}
+
+/// How many words have a bit for each of them: 4,132 for 256 keys.
+pub fn word_total(keys: u16) -> usize
+    requires { keys ≤ MAX_MANY }
+    ensures { result ≡ word_total keys }
+{
+    (fact_total(keys) + 63) / 64
 }
 
 // The place of a kind among the four of its keys.

@@ -15,7 +15,7 @@ ghost use Rattle.ld_trace.specs.declared.key_id.TheConstants.{MAX_KEYS};
 ghost use Rattle.ld_trace.specs.declared.key_id.TheConstants.{MAX_MANY};
 
 use crate::dependency::Dependency;
-use crate::fact::Fact;
+use crate::fact::{Fact, word_total};
 use crate::{bits, chain_facts};
 use ld_task::{Chain, Kind, Mark};
 use std::alloc::{AllocError, Global};
@@ -53,8 +53,7 @@ impl Facts {
         ensures dependency_count { IfOk result (λ f. dependency_count f ≡ 0) }
         ensures mark_count { IfOk result (λ f. mark_count f ≡ 0) }
     {
-        let n = usize::from(keys);
-        let bits = vec![in alloc; 0; (n * n * 4 + n * 9 + 63) / 64]?;
+        let bits = vec![in alloc; 0; word_total(keys)]?;
         Ok(Facts {
             keys,
             bits,

@@ -14,7 +14,7 @@ pub mod places;
 pub use chain_facts::{fact_at as fact_in_slot, held_of as lock_of_slot, slots as fact_slots};
 pub use chain_words::{FactWords, fact_words};
 pub use dependency::{Dependency, kind_at};
-pub use fact::{Fact, irq_number};
+pub use fact::{Fact, STATE_COUNT, STATES, fact_total, irq_number, word_total};
 pub use facts::Facts;
 pub use laws::{
     adding_in_turn_unites, dependencies_have_one_number, facts_are_bits, slots_have_what_is_given,

@@ -3,12 +3,11 @@
 ghost use Rattle.std.specs.Prelude.{◌≡◌, ◌≤◌, IfOk, length};
 ghost use Rattle.ld_facts.specs.FactBits.{HasFact};
 ghost use Rattle.ld_facts.specs.Facts.{AreSame};
-ghost use Rattle.ld_facts.specs.Numbers.{bit_total};
 ghost use Rattle.ld_facts.specs.Renumbered.{Renumbered};
 ghost use Rattle.ld_trace.specs.declared.key_id.TheConstants.{MAX_KEYS};
 
 use crate::graph::Graph;
-use ld_facts::{Fact, Facts};
+use ld_facts::{Fact, Facts, fact_total};
 use std::alloc::{AllocError, Global};
 
 impl Graph {
@@ -29,13 +28,4 @@ impl Graph {
         }
         Ok(graph)
     }
-}
-
-// How many facts about keys below `keys` there can be.
-fn fact_total(keys: u16) -> usize
-    requires { keys ≤ MAX_KEYS }
-    ensures { result ≡ bit_total keys }
-{
-    let keys = usize::from(keys);
-    keys * keys * 4 + keys * 9
 }

@@ -9,19 +9,16 @@ ghost use Rattle.ld_trace.specs.declared.key_id.TheConstants.{MAX_KEYS};
 
 use crate::reach::Reach;
 use ld_facts::places::{ROW_WORDS, Row, place_of};
-use ld_facts::{bits, irq_number};
+use ld_facts::{STATE_COUNT, bits, irq_number};
 use ld_task::Mark;
 use ld_trace::Irq;
-
-// How many states there are.
-const STATES: usize = 2;
 
 // By state, the places where its links arrive, which are those of keys used in it, and the places that its links
 // leave, which are those of keys used with it enabled.
 #[derive(Drop)]
 pub(crate) struct Ends {
-    arrivals: [Row; STATES],
-    departures: [Row; STATES],
+    arrivals: [Row; STATE_COUNT],
+    departures: [Row; STATE_COUNT],
 }
 
 impl Ends {
@@ -31,8 +28,8 @@ impl Ends {
         ensures departures { (irq : Irq) (q : ℕ) → IsFalse (departs_from result irq q) }
     {
         Ends {
-            arrivals: [[0; ROW_WORDS]; STATES],
-            departures: [[0; ROW_WORDS]; STATES],
+            arrivals: [[0; ROW_WORDS]; STATE_COUNT],
+            departures: [[0; ROW_WORDS]; STATE_COUNT],
         }
     }
 
@@ -56,7 +53,7 @@ impl Ends {
     pub(crate) fn are_joined(&self, sources: &Row, targets: &Row) -> bool
         ensures { IsTrue result ↔ JoinsLinks sources.now targets.now self.now }
     {
-        for i in 0..STATES {
+        for i in 0..STATE_COUNT {
             if bits::meet(sources, &self.arrivals[i]) && bits::meet(targets, &self.departures[i]) {
                 return true;
             }

@@ -3,12 +3,9 @@
 
 use crate::bit_rows::BitRows;
 use crate::ranks::{is_enabled, is_used};
-use ld_facts::{Fact, Facts, irq_number};
+use ld_facts::{Fact, Facts, STATE_COUNT, STATES, irq_number};
 use ld_trace::Irq;
 use std::alloc::{AllocError, Global};
-
-// How many interrupt states there are.
-const STATES: u16 = 2;
 
 // For each node, the nodes that arrows lead to from it, and those from which arrows lead to it.
 #[derive(Drop)]
@@ -27,8 +24,9 @@ impl NodeArrows {
             backwards: BitRows::new(alloc, nodes, nodes)?,
         };
         arrows.add_dependencies(facts);
-        arrows.add_links(facts, Irq::Hard);
-        arrows.add_links(facts, Irq::Soft);
+        for irq in STATES {
+            arrows.add_links(facts, irq);
+        }
         Ok(arrows)
     }
 
@@ -64,5 +62,5 @@ impl NodeArrows {
 
 // How many nodes there are: those of the keys, by their numbers, and then those of the states.
 pub(crate) fn node_count(facts: &Facts) -> u16 {
-    facts.keys() + STATES
+    facts.keys() + STATE_COUNT as u16
 }

@@ -1,4 +1,4 @@
--- Whether a state is on in a frame [this project's own; the states are those of "State"].
+-- What an interrupt state is in a frame, and whether it is on there [this project's own; the states are those of "State"].
 use Rattle.std.specs.Prelude.{ℕ, Bool, true, ◌&&◌, List, Option, Some, None, false}
 use Rattle.ld_task.specs.Events.{event, changes_flag, is_turn_on}
 use Rattle.ld_task.specs.Frames.{is_task, one_frame, kind}
@@ -33,6 +33,15 @@ is_enabled Soft flags = is_on Hard flags && is_on Soft flags
 abbrev pub may_enter : Irq → Frame → Flags → Bool
 may_enter Hard frame flags = is_enabled Hard flags
 may_enter Soft frame flags = is_task frame && is_enabled Soft flags
+
+-- a use in a frame of this kind is one in the state
+abbrev pub is_in : Irq → Frame → Bool
+is_in Hard Hardirq = true
+is_in Hard Softirq = false
+is_in Hard Task = false
+is_in Soft Hardirq = false
+is_in Soft Softirq = true
+is_in Soft Task = false
 
 -- the flag of a state at the start of a frame
 abbrev pub starts_on : Irq → Frame → Bool

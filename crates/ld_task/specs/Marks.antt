@@ -2,27 +2,16 @@
 use Rattle.std.specs.Prelude.{ℕ, suc, Bool, true, ◌&&◌, not, List, ◌≡◌, false, IsTrue, ◌⊎◌}
 use Rattle.ld_task.specs.Events.{event, is_acquire, is_turn_on, mode_taken}
 use Rattle.ld_task.specs.Frames.{kind}
-use Rattle.ld_task.specs.Flags.{flags_at, is_enabled}
+use Rattle.ld_task.specs.Flags.{flags_at, is_enabled, is_in}
 use Rattle.ld_task.specs.Held.{key_at, is_held}
 use Rattle.ld_task.specs.declared.frame.Flags.{Flags}
 use Rattle.ld_task.specs.declared.frame.Frame.{Frame}
 use Rattle.ld_task.specs.declared.mark.Mark.{Mark}
-use Rattle.ld_task.specs.declared.frame.Frame.TheVariants.{Task, Softirq, Hardirq}
 use Rattle.ld_task.specs.declared.mark.Mark.TheVariants.{Used, UsedIn, Enabled}
 use Rattle.ld_trace.specs.declared.event.Event.{Event}
 use Rattle.ld_trace.specs.declared.event.Mode.{Mode}
 use Rattle.ld_trace.specs.Modes.{is_read, may_wait}
 use Rattle.ld_trace.specs.declared.event.Irq.{Irq}
-use Rattle.ld_trace.specs.declared.event.Irq.TheVariants.{Hard, Soft}
-
--- used in this state in a frame of this kind
-abbrev pub is_in : Irq → Frame → Bool
-is_in Hard Hardirq = true
-is_in Hard Softirq = false
-is_in Hard Task = false
-is_in Soft Hardirq = false
-is_in Soft Softirq = true
-is_in Soft Task = false
 
 -- both are in the read form, or neither is
 abbrev pub same_form : Bool → Bool → Bool

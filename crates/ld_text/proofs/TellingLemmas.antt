@@ -16,7 +16,7 @@ use Rattle.ld_facts.specs.declared.fact.Fact.TheVariants.{Dependency, Marked}
 use Rattle.ld_text.specs.Explanation.{AreGateNotes, AreNoteLines, IsDependencyLine, IsDoubleBlock, IsEnabledLine, IsInversionBlock, IsOriginLine, IsUsedLine, Told, comes_line, holds_line, waits_text}
 use Rattle.ld_text.specs.Groups.{GrowsBy, InTurn}
 use Rattle.ld_text.specs.Report.{double_line, inversion_line}
-use Rattle.ld_text.specs.Words.{irq_text}
+use Rattle.ld_trace.specs.Writing.{irq_word}
 use Rattle.ld_text.proofs.GroupLemmas.{GrowsBy-none, GrowsBy-then}
 use Rattle.ld_text.proofs.LeafLemmas.{take-next}
 
@@ -81,22 +81,22 @@ GrowsBy-line line old new is = record { part = line; shows = refl; grew = is }
 
 -- the line of where a key is used in a state, by the form of a link, and of where it is used with it enabled
 used_line : (told : Told) (irq : Irq) (key b a : ℕ) (enabled used : Bool) (old new : List ℕ) →
-    GrowsBy (IsOriginLine told (codes "used in " ++ irq_text irq) (Marked key (UsedIn irq used))) old new →
+    GrowsBy (IsOriginLine told (codes "used in " ++ irq_word irq) (Marked key (UsedIn irq used))) old new →
     GrowsBy (IsUsedLine told irq key (link_by b a enabled used)) old new
 used_line told irq key b a enabled used old new =
-    subst (λ r. GrowsBy (IsOriginLine told (codes "used in " ++ irq_text irq) (Marked key (UsedIn irq r))) old new) (sym (is_r-kind_of_letters enabled used))
+    subst (λ r. GrowsBy (IsOriginLine told (codes "used in " ++ irq_word irq) (Marked key (UsedIn irq r))) old new) (sym (is_r-kind_of_letters enabled used))
 
 enabled_line : (told : Told) (irq : Irq) (key b a : ℕ) (enabled used : Bool) (old new : List ℕ) →
-    GrowsBy (IsOriginLine told (codes "used with " ++ (irq_text irq ++ codes "s on")) (Marked key (Enabled irq enabled))) old new →
+    GrowsBy (IsOriginLine told (codes "used with " ++ (irq_word irq ++ codes "s on")) (Marked key (Enabled irq enabled))) old new →
     GrowsBy (IsEnabledLine told irq key (link_by b a enabled used)) old new
 enabled_line told irq key b a enabled used old new =
-    subst (λ s. GrowsBy (IsOriginLine told (codes "used with " ++ (irq_text irq ++ codes "s on")) (Marked key (Enabled irq s))) old new) (sym (is_s-kind_of_letters enabled used))
+    subst (λ s. GrowsBy (IsOriginLine told (codes "used with " ++ (irq_word irq ++ codes "s on")) (Marked key (Enabled irq s))) old new) (sym (is_s-kind_of_letters enabled used))
 
 pub double-grows : (Has : Fact → Type 0) (told : Told) (irq : Irq) (key : ℕ) (enabled used : Bool) (old headed with_used with_enabled held new : List ℕ) →
     IsDoubleBy Has irq key (link_by key key enabled used) →
     headed ≡ old ++ (codes "\n" ++ double_line told.names irq key) →
-    GrowsBy (IsOriginLine told (codes "used in " ++ irq_text irq) (Marked key (UsedIn irq used))) headed with_used →
-    GrowsBy (IsOriginLine told (codes "used with " ++ (irq_text irq ++ codes "s on")) (Marked key (Enabled irq enabled))) with_used with_enabled →
+    GrowsBy (IsOriginLine told (codes "used in " ++ irq_word irq) (Marked key (UsedIn irq used))) headed with_used →
+    GrowsBy (IsOriginLine told (codes "used with " ++ (irq_word irq ++ codes "s on")) (Marked key (Enabled irq enabled))) with_used with_enabled →
     held ≡ with_enabled ++ holds_line told.names key → new ≡ held ++ comes_line told.names irq key →
     GrowsBy (IsDoubleBlock Has told (irq, key)) old new
 double-grows Has told irq key enabled used old headed with_used with_enabled held new by head used_in used_with hold come =
@@ -112,8 +112,8 @@ pub inversion-grows : (Has : Fact → Type 0) (told : Told) (keys : List ℕ) (i
     IsShortestInversion Has irq a b (link_by b a enabled used) walk →
     headed ≡ old ++ (codes "\n" ++ inversion_line told.names irq a b) →
     GrowsBy (InTurn (IsDependencyLine told) walk) headed walked →
-    GrowsBy (IsOriginLine told (codes "used in " ++ irq_text irq) (Marked a (UsedIn irq used))) walked with_used →
-    GrowsBy (IsOriginLine told (codes "used with " ++ (irq_text irq ++ codes "s on")) (Marked b (Enabled irq enabled))) with_used with_enabled →
+    GrowsBy (IsOriginLine told (codes "used in " ++ irq_word irq) (Marked a (UsedIn irq used))) walked with_used →
+    GrowsBy (IsOriginLine told (codes "used with " ++ (irq_word irq ++ codes "s on")) (Marked b (Enabled irq enabled))) with_used with_enabled →
     held ≡ with_enabled ++ holds_line told.names b → waiting ≡ held ++ waits_text told.names 2 walk → come_in ≡ waiting ++ comes_line told.names irq a →
     GrowsBy (AreNoteLines (AreGateNotes told keys walk)) come_in new →
     GrowsBy (IsInversionBlock Has told keys (irq, (a, b))) old new

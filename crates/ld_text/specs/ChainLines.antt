@@ -11,11 +11,12 @@ use Rattle.ld_task.specs.Flags.{is_on}
 use Rattle.ld_task.specs.declared.lock.Lock.{Lock}
 use Rattle.ld_task.specs.Chains.{ChainParts}
 use Rattle.ld_task.specs.TraceChains.{chains}
-use Rattle.ld_text.specs.Words.{flag_text, frame_text, key_text, mode_text, name_at}
+use Rattle.ld_trace.specs.Writing.{mode_word}
+use Rattle.ld_text.specs.Words.{flag_text, frame_text, key_text, name_at}
 
 -- a key and how it is taken
 abbrev pub taken_text : List Name → ℕ → Mode → List ℕ
-taken_text names key mode = key_text (name_at names key) ++ (codes " " ++ mode_text mode)
+taken_text names key mode = key_text (name_at names key) ++ (codes " " ++ mode_word mode)
 
 -- the flags: hardirq, softirq
 abbrev pub flags_text : Flags → List ℕ

@@ -22,7 +22,8 @@ use Rattle.ld_text.specs.Found.{AreFound, AreThose, FoundParts}
 use Rattle.ld_text.specs.Groups.{InSequence, InTurn}
 use Rattle.ld_text.specs.Order.{IsKeyOrder}
 use Rattle.ld_text.specs.Report.{double_line, inversion_line, member_text, total_line}
-use Rattle.ld_text.specs.Words.{file_at, irq_text, key_text, name_at}
+use Rattle.ld_trace.specs.Writing.{irq_word}
+use Rattle.ld_text.specs.Words.{file_at, key_text, name_at}
 
 -- what an explanation is made from: the traces, the names of their keys, and the files that they were read from
 pub record Told : Type 0 where
@@ -39,7 +40,7 @@ event_of traces trace place = event (unwrap_or (slice_get traces trace) []) plac
 -- what the event does: the lock that it takes, and how, or the flag that it turns on
 abbrev pub does_text : List Name → Option Event → List ℕ
 does_text names (Some (Acquire mode key)) = codes " takes " ++ taken_text names key mode
-does_text names (Some (TurnOn irq)) = codes " turns " ++ (irq_text irq ++ codes "s on")
+does_text names (Some (TurnOn irq)) = codes " turns " ++ (irq_word irq ++ codes "s on")
 does_text names _ = []
 
 -- the lock that the event took
@@ -74,12 +75,12 @@ IsDependencyLine told d = IsOriginLine told (dependency_text told.names d) (Depe
 
 -- where a key is used in a state
 abbrev pub IsUsedLine : Told → Irq → (key : ℕ) → Arrow → List ℕ → Type 0
-IsUsedLine told irq key l = IsOriginLine told (codes "used in " ++ irq_text irq) (Marked key (UsedIn irq (is_r l.kind)))
+IsUsedLine told irq key l = IsOriginLine told (codes "used in " ++ irq_word irq) (Marked key (UsedIn irq (is_r l.kind)))
 
 -- where a key is used with it enabled
 abbrev pub IsEnabledLine : Told → Irq → (key : ℕ) → Arrow → List ℕ → Type 0
 IsEnabledLine told irq key l =
-    IsOriginLine told (codes "used with " ++ (irq_text irq ++ codes "s on")) (Marked key (Enabled irq (is_s l.kind)))
+    IsOriginLine told (codes "used with " ++ (irq_word irq ++ codes "s on")) (Marked key (Enabled irq (is_s l.kind)))
 
 -- How it ends in a deadlock.
 
@@ -99,7 +100,7 @@ holds_line names key = codes "  task 1 holds " ++ (key_text (name_at names key) 
 
 -- an interrupt comes in at it and waits for a lock
 abbrev pub comes_line : List Name → Irq → (key : ℕ) → List ℕ
-comes_line names irq key = codes "  a " ++ (irq_text irq ++ (codes " comes in at task 1 and waits for "
+comes_line names irq key = codes "  a " ++ (irq_word irq ++ (codes " comes in at task 1 and waits for "
     ++ (key_text (name_at names key) ++ codes "\n")))
 
 -- What speaks against it.

@@ -19,7 +19,8 @@ use Rattle.ld_text.specs.Explanation.{AreCircleNotes, AreGateNotes, AreTold, Tol
 use Rattle.ld_text.specs.Found.{AreFound, FoundParts}
 use Rattle.ld_text.specs.Groups.{InSequence, InTurn}
 use Rattle.ld_text.specs.Order.{IsKeyOrder}
-use Rattle.ld_text.specs.Words.{Text, file_at, irq_text, key_text, kind_text, mode_text, name_at}
+use Rattle.ld_trace.specs.Writing.{irq_word, mode_word}
+use Rattle.ld_text.specs.Words.{Text, file_at, key_text, kind_text, name_at}
 
 -- Members of objects.
 
@@ -48,13 +49,13 @@ object_member name groups = key name ∷ object groups
 
 -- how the event takes its lock, or the flag that it turns on
 abbrev pub event_members : Option Event → List Token
-event_members (Some (Acquire mode lock)) = text_member (codes "takes") (mode_text mode)
-event_members (Some (TurnOn irq)) = text_member (codes "turns_on") (irq_text irq)
+event_members (Some (Acquire mode lock)) = text_member (codes "takes") (mode_word mode)
+event_members (Some (TurnOn irq)) = text_member (codes "turns_on") (irq_word irq)
 event_members _ = []
 
 -- how the event took its lock
 abbrev pub taken_mode : Option Event → List ℕ
-taken_mode (Some (Acquire mode lock)) = mode_text mode
+taken_mode (Some (Acquire mode lock)) = mode_word mode
 taken_mode _ = []
 
 -- how the lock that is held meanwhile was taken, and by which record
@@ -88,10 +89,10 @@ abbrev pub circle_words : List Name → Arrow → List ℕ
 circle_words names d = codes "circle " ++ dependency_text names d
 
 abbrev pub double_words : List Name → Irq → (key : ℕ) → List ℕ
-double_words names irq lock = codes "double " ++ (irq_text irq ++ (codes " " ++ key_text (name_at names lock)))
+double_words names irq lock = codes "double " ++ (irq_word irq ++ (codes " " ++ key_text (name_at names lock)))
 
 abbrev pub inversion_words : List Name → Irq → (a b : ℕ) → List ℕ
-inversion_words names irq a b = codes "inversion " ++ (irq_text irq ++ (codes " " ++ (key_text (name_at names a) ++ (codes " " ++ key_text (name_at names b)))))
+inversion_words names irq a b = codes "inversion " ++ (irq_word irq ++ (codes " " ++ (key_text (name_at names a) ++ (codes " " ++ key_text (name_at names b)))))
 
 -- the notes
 abbrev pub notes_member : List Text → List Token
@@ -122,7 +123,7 @@ use_members told used enabled = object_member (codes "used") (occurrence_members
 abbrev pub double_object : Told → Irq × ℕ → (used enabled : Origin) → List Token
 double_object told double used enabled = object (
     text_member (codes "type") (codes "double")
-    ∷ text_member (codes "irq") (irq_text double.0)
+    ∷ text_member (codes "irq") (irq_word double.0)
     ∷ text_member (codes "key") (key_text (name_at told.names double.1))
     ∷ list_member (codes "lines") (string (double_words told.names double.0 double.1) ∷ [])
     ∷ use_members told used enabled
@@ -141,7 +142,7 @@ pub record IsDoubleObject (Has : Fact → Type 0) (told : Told) (double : Irq ×
 abbrev pub inversion_object : Told → Irq × (ℕ × ℕ) → (orders : List Token) → (used enabled : Origin) → (notes : List Text) → List Token
 inversion_object told inversion orders used enabled notes = object (
     text_member (codes "type") (codes "inversion")
-    ∷ text_member (codes "irq") (irq_text inversion.0)
+    ∷ text_member (codes "irq") (irq_word inversion.0)
     ∷ list_member (codes "keys") (string (key_text (name_at told.names inversion.1.0)) ∷ string (key_text (name_at told.names inversion.1.1)) ∷ [])
     ∷ list_member (codes "lines") (string (inversion_words told.names inversion.0 inversion.1.0 inversion.1.1) ∷ [])
     ∷ list_member (codes "orders") orders

@@ -12,7 +12,8 @@ use Rattle.ld_facts.specs.TraceFacts.{TracesHave}
 use Rattle.ld_text.specs.Groups.{InSequence, InTurn, ShowsWhere}
 use Rattle.ld_text.specs.Order.{IsKeyOrder}
 use Rattle.ld_text.specs.Report.{IsUsageCharacter, forms}
-use Rattle.ld_text.specs.Words.{irq_text, kind_text, kinds, name_at, states}
+use Rattle.ld_trace.specs.Writing.{irq_word}
+use Rattle.ld_text.specs.Words.{kind_text, kinds, name_at, states}
 
 -- Names. In a text between double quotes, a double quote and a backslash come after a backslash.
 
@@ -74,7 +75,7 @@ edge_line names d red = arrow_text names d.start d.end (kind_text d.kind) ++ end
 
 -- a double or an inversion: from the key that is used with the state enabled to the key that is used in it
 abbrev pub link_line : List Name → Irq → (from to : ℕ) → List ℕ
-link_line names irq from to = arrow_text names from to (irq_text irq) ++ codes ", style=dashed, color=red, fontcolor=red];\n"
+link_line names irq from to = arrow_text names from to (irq_word irq) ++ codes ", style=dashed, color=red, fontcolor=red];\n"
 
 -- What is shown.
 

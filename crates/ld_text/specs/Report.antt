@@ -4,7 +4,6 @@ use Rattle.std.specs.declared.cmp.Ordering.TheVariants.{Less}
 use Rattle.ld_trace.specs.Names.{Name}
 use Rattle.ld_trace.specs.declared.event.Event.{Event}
 use Rattle.ld_trace.specs.declared.event.Irq.{Irq}
-use Rattle.ld_trace.specs.declared.event.Irq.TheVariants.{Hard, Soft}
 use Rattle.ld_task.specs.declared.mark.Mark.TheVariants.{UsedIn, Enabled}
 use Rattle.ld_facts.specs.Arrows.{Arrow}
 use Rattle.ld_facts.specs.Facts.{DependenciesOf}
@@ -14,7 +13,8 @@ use Rattle.ld_graph.specs.Walks.{IsShortestCircle, OnCircle}
 use Rattle.ld_graph.specs.Links.{IsClean}
 use Rattle.ld_facts.specs.Counting.{IsNumberOf}
 use Rattle.ld_facts.specs.TraceFacts.{TracesHave}
-use Rattle.ld_text.specs.Words.{irq_text, key_text, kind_text, name_at}
+use Rattle.ld_trace.specs.Writing.{irq_word}
+use Rattle.ld_text.specs.Words.{key_text, kind_text, name_at, states}
 use Rattle.ld_text.specs.Order.{IsKeyOrder, name_cmp}
 use Rattle.ld_text.specs.Found.{AreFound, FoundParts}
 use Rattle.ld_text.specs.Groups.{InSequence, InTurn}
@@ -43,7 +43,7 @@ pub record AreTotals (Has : Fact → Type 0) (traces events keys : ℕ) (text : 
 
 -- the four columns of a usage line: each state, not read and read
 abbrev pub forms : List (Irq × Bool)
-forms = (Hard, false) ∷ (Hard, true) ∷ (Soft, false) ∷ (Soft, true) ∷ []
+forms = flat_map (λ irq. (irq, false) ∷ (irq, true) ∷ []) states
 
 -- what a character says of one state and form: whether the key was ever used with it enabled, and in its context
 abbrev pub usage_character : (enabled used_in : Bool) → List ℕ
@@ -106,10 +106,10 @@ ShowsBecause Has names text =
 
 abbrev pub double_line : List Name → Irq → (key : ℕ) → List ℕ
 double_line names irq key =
-    codes "double " ++ irq_text irq ++ codes " " ++ key_text (name_at names key) ++ codes "\n"
+    codes "double " ++ irq_word irq ++ codes " " ++ key_text (name_at names key) ++ codes "\n"
 
 abbrev pub inversion_line : List Name → Irq → (a b : ℕ) → List ℕ
-inversion_line names irq a b = codes "inversion " ++ irq_text irq ++ codes " "
+inversion_line names irq a b = codes "inversion " ++ irq_word irq ++ codes " "
     ++ key_text (name_at names a) ++ codes " " ++ key_text (name_at names b) ++ codes "\n"
 
 -- The findings.

@@ -3,8 +3,6 @@ use Rattle.std.specs.Prelude.{ℕ, Bool, true, false, List, [], ◌∷◌, ◌++
 use Rattle.ld_trace.specs.Names.{Name}
 use Rattle.ld_trace.specs.declared.event.Irq.{Irq}
 use Rattle.ld_trace.specs.declared.event.Irq.TheVariants.{Hard, Soft}
-use Rattle.ld_trace.specs.declared.event.Mode.{Mode}
-use Rattle.ld_trace.specs.declared.event.Mode.TheVariants.{Write, Read, RecRead, TryWrite, TryRead, TryRecRead}
 use Rattle.ld_task.specs.declared.frame.Frame.{Frame}
 use Rattle.ld_task.specs.declared.frame.Frame.TheVariants.{Task, Softirq, Hardirq}
 use Rattle.ld_task.specs.declared.kind.Kind.{Kind}
@@ -26,26 +24,12 @@ name_at names key = unwrap_or (slice_get names key) ([], 0)
 abbrev pub key_text : Name → List ℕ
 key_text name = name.0 ++ (codes "/" ++ decimal name.1)
 
--- a state's word
-abbrev pub irq_text : Irq → List ℕ
-irq_text Hard = codes "hardirq"
-irq_text Soft = codes "softirq"
-
 -- a kind's word
 abbrev pub kind_text : Kind → List ℕ
 kind_text Er = codes "ER"
 kind_text En = codes "EN"
 kind_text Sr = codes "SR"
 kind_text Sn = codes "SN"
-
--- a mode's word
-abbrev pub mode_text : Mode → List ℕ
-mode_text Write = codes "w"
-mode_text Read = codes "r"
-mode_text RecRead = codes "rr"
-mode_text TryWrite = codes "tw"
-mode_text TryRead = codes "tr"
-mode_text TryRecRead = codes "trr"
 
 -- a frame's word
 abbrev pub frame_text : Frame → List ℕ

@@ -11,6 +11,7 @@ ghost use Rattle.ld_text.specs.Found.{AreFound, arrows_among, doubles_among, inv
 ghost use Rattle.ld_text.specs.Inside.Finding.{AddsThose};
 ghost use Rattle.ld_text.specs.Words.{kinds};
 
+use ld_facts::STATES;
 use ld_graph::{Kind, Mark};
 use ld_parts::Settled;
 use ld_trace::{Irq, KeyId};
@@ -19,9 +20,6 @@ use std::marker::Model;
 
 // The four kinds, in the report's order.
 pub(crate) const KINDS: [Kind; 4] = [Kind::Er, Kind::En, Kind::Sr, Kind::Sn];
-
-// The two states, in the report's order.
-pub(crate) const STATES: [Irq; 2] = [Irq::Hard, Irq::Soft];
 
 // A dependency.
 #[derive(Drop)]

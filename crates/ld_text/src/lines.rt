@@ -9,7 +9,8 @@ ghost use Rattle.ld_task.specs.declared.mark.Mark.{Mark};
 ghost use Rattle.ld_text.specs.Explanation.{IsDependencyLine, IsOriginLine, comes_line, does_text, event_of, holds_line, lock_of, occurrence_text, waits_text, while_text};
 ghost use Rattle.ld_text.specs.Groups.{GrowsBy, InTurn};
 ghost use Rattle.ld_text.specs.Report.{member_text};
-ghost use Rattle.ld_text.specs.Words.{irq_text, key_text, name_at};
+ghost use Rattle.ld_trace.specs.Writing.{irq_word};
+ghost use Rattle.ld_text.specs.Words.{key_text, name_at};
 
 use crate::teller::Teller;
 use crate::told_walk::{ToldWalk, member};
@@ -149,7 +150,7 @@ impl Teller<'_> {
         read: bool,
     ) -> Result<(), AllocError>
         requires { HasFact self.now.asked (Fact.Marked key (Mark.UsedIn irq read)) }
-        ensures { OnOk result (GrowsBy (IsOriginLine self.now.told (codes "used in " ++ irq_text irq)
+        ensures { OnOk result (GrowsBy (IsOriginLine self.now.told (codes "used in " ++ irq_word irq)
             (Fact.Marked key (Mark.UsedIn irq read))) (string_bytes text.old) (string_bytes text.new)) }
     {
         let origin = self.mark(key, Mark::UsedIn { irq, read });
@@ -168,7 +169,7 @@ impl Teller<'_> {
     ) -> Result<(), AllocError>
         requires { HasFact self.now.asked (Fact.Marked key (Mark.Enabled irq read)) }
         ensures { OnOk result (GrowsBy
-            (IsOriginLine self.now.told (codes "used with " ++ (irq_text irq ++ codes "s on"))
+            (IsOriginLine self.now.told (codes "used with " ++ (irq_word irq ++ codes "s on"))
             (Fact.Marked key (Mark.Enabled irq read))) (string_bytes text.old) (string_bytes text.new)) }
     {
         let origin = self.mark(key, Mark::Enabled { irq, read });

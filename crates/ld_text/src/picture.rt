@@ -11,12 +11,13 @@ ghost use Rattle.ld_text.specs.Picture.{AreJoined, IsFoundKey, IsNode, IsPicture
 ghost use Rattle.ld_text.specs.Report.{IsUsageCharacter, forms};
 ghost use Rattle.ld_text.specs.Words.{name_at, states};
 
-use crate::found::{STATES, is_used_in};
+use crate::found::is_used_in;
 use crate::order::sorted_keys;
 use crate::output::write_text;
 use crate::report::{FORMS, usage_character};
 use crate::words::{digits_of, irq_word, name_of};
 use crate::write_fault::WriteFault;
+use ld_facts::STATES;
 use ld_parts::Settled;
 use ld_trace::{Irq, KeyId, KeyTable};
 use std::alloc::{AllocError, Global};

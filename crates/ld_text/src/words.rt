@@ -1,7 +1,8 @@
 //! Words of the program's texts.
 
 ghost use Rattle.std.specs.Prelude.{◌≡◌, ◌+◌, ◌<◌, ◌≤◌, ◌++◌, [], ◌∷◌, decimal, length, map};
-ghost use Rattle.ld_text.specs.Words.{file_at, flag_text, frame_text, irq_text, kind_text, mode_text, name_at};
+ghost use Rattle.ld_trace.specs.Writing.{irq_word, mode_word};
+ghost use Rattle.ld_text.specs.Words.{file_at, flag_text, frame_text, kind_text, name_at};
 
 use arrayvec::ArrayString;
 use ld_graph::Kind;
@@ -40,7 +41,7 @@ pub(crate) fn kind_word(kind: Kind) -> &'static str
 
 /// The word for a state.
 pub(crate) fn irq_word(irq: Irq) -> &'static str
-    ensures { result.now ≡ irq_text irq }
+    ensures { result.now ≡ irq_word irq }
 {
     match irq {
         Irq::Hard => "hardirq",
@@ -50,7 +51,7 @@ pub(crate) fn irq_word(irq: Irq) -> &'static str
 
 /// The word for a mode.
 pub(crate) fn mode_word(mode: Mode) -> &'static str
-    ensures word { result.now ≡ mode_text mode }
+    ensures word { result.now ≡ mode_word mode }
     ensures short { length result.now ≤ 3 }
 {
     match mode {

@@ -4,12 +4,13 @@ ghost use Rattle.std.specs.Prelude.{◌≡◌, ◌≤◌, ◌∷◌, [], IfOk, O
 ghost use Rattle.std.specs.Io.KnownBytes.{Appends};
 ghost use Rattle.std.specs.List.{flat_map};
 ghost use Rattle.csv.specs.Writing.{text_written};
-ghost use Rattle.ld_trace.specs.Writing.{event_text, header_of, irq_word, mode_word, name_at, record_text, trace_text, version_for};
+ghost use Rattle.ld_trace.specs.Writing.{event_text, header_of, name_at, record_text, trace_text, version_for};
 ghost use Rattle.ld_trace.specs.Inside.Written.{IsBetween};
 ghost use Rattle.ld_trace.specs.declared.key_table.TheConstants.{MAX_SUB};
 
+use crate::record::{irq_word, mode_word};
 use crate::version::Version;
-use crate::{Event, Irq, KeyId, KeyTable, Mode, RawTrace};
+use crate::{Event, KeyId, KeyTable, RawTrace};
 use csv::{Writer, WriterBuilder};
 use std::alloc::{AllocError, Global};
 use std::io::Write;
@@ -120,29 +121,6 @@ fn name_of(keys: &KeyTable, key: KeyId) -> (&[u8], u8)
     match keys.name_of(key) {
         Some((class, sub)) => (class.as_bytes(), sub),
         None => (b"", 0),
-    }
-}
-
-fn mode_word(mode: Mode) -> &'static [u8]
-    ensures { result.now ≡ mode_word mode }
-{
-    match mode {
-        Mode::Write => b"w",
-        Mode::Read => b"r",
-        Mode::RecRead => b"rr",
-        Mode::TryWrite => b"tw",
-        Mode::TryRead => b"tr",
-        Mode::TryRecRead => b"trr",
-    }
-}
-
-// The word of a state.
-fn irq_word(irq: Irq) -> &'static [u8]
-    ensures { result.now ≡ irq_word irq }
-{
-    match irq {
-        Irq::Hard => b"hardirq",
-        Irq::Soft => b"softirq",
     }
 }
 

@@ -14,8 +14,8 @@ use Rattle.ld_task.specs.declared.mark.Mark.{Mark}
 use Rattle.ld_task.specs.declared.mark.Mark.TheVariants.{Used, UsedIn, Enabled}
 use Rattle.ld_task.specs.Chains.{ChainParts, ChainKeysBelow}
 use Rattle.ld_task.specs.Kinds.{kind_between}
-use Rattle.ld_task.specs.Flags.{is_enabled}
-use Rattle.ld_task.specs.Marks.{is_in, same_form, marks_taken, marks_opened}
+use Rattle.ld_task.specs.Flags.{is_enabled, is_in}
+use Rattle.ld_task.specs.Marks.{same_form, marks_taken, marks_opened}
 use Rattle.ld_facts.specs.Facts.{ChainHas}
 use Rattle.ld_facts.specs.FactBits.{FactBelow}
 use Rattle.ld_facts.specs.ChainFacts.{GivenBy, StandsBy, StandsIn, chain_fact, fact_by, fact_slots, held_by, mark_by_opening, mark_by_taking, mark_if, mark_of_held, slot_held}

@@ -19,7 +19,7 @@ unite_word-requires c =
     let i = c.loop-n.invariant in
     let words = ap (λ k. word_total k) (c.keys.ensures.value ∙ sym i.0) in
     let test = c.loop-n-test.true in
-    let end = c.words_of-n-end.ensures in
+    let end = c.word_total-n-end.ensures in
     record {
       below = omega arith;
       none_past = subst (λ (p : ℕ × ℕ). NonePast p.0 (c.loop-n.n, p.1)) (λ j. (sym i.0 j, word_is c j)) (c.requires.none_past c.loop-n.n);
@@ -39,7 +39,7 @@ returns-clause-facts c = λ x.
     let i = c.loop-n.invariant in
     let words = ap (λ k. word_total k) c.keys.ensures.value in
     let test = c.loop-n-test.false in
-    let end = c.words_of-n-end.ensures in
+    let end = c.word_total-n-end.ensures in
     let all = c.loop-n.auto.n-end in (
       (λ h. let (below, l, on) = (i.1 x).0 h in (below, on)),
       (λ (below, on). (i.1 x).1 (below, (let l = c.facts_are_bits.ensures.below c.args.facts.now.keys x below in omega arith), on)),

@@ -1,7 +1,8 @@
 use Rattle.std.proofs.Common.{◌≡◌, ◌≤◌, ◌*◌, count_by, sum_by, take}
+use Rattle.ld_trace.specs.declared.raw_trace.TheConstants.{MAX_EVENTS}
 use Rattle.ld_task.specs.Events.{makes_chain}
 use Rattle.ld_run.proofs.runs.chain_count.Given as goal
 
 -- the traces so far were counted
 abbrev pub invariant-loop-trace : goal.invariant-loop-trace
-invariant-loop-trace l = (l.count ≡ sum_by (count_by makes_chain) (take l.trace-index l.traces)) × (l.count ≤ l.trace-index * 1000000)
+invariant-loop-trace l = (l.count ≡ sum_by (count_by makes_chain) (take l.trace-index l.traces)) × (l.count ≤ l.trace-index * MAX_EVENTS)

@@ -19,9 +19,9 @@ of_words-requires c =
     let len = c.in_ok-blank.ensures.len in
     let s = c.as_slice.ensures in
     let l = s.len in
-    let words = c.words_of.ensures in
+    let words = c.word_total.ensures in
     let keys = ap (λ k. word_total k) c.from.ensures in
-    opens _ _ (omega arith) (omega arith) (omega arith) (λ n. ap (λ (ws : List ℕ). slice_index ws n) s.value ∙ ap (λ (ws : List ℕ). slice_index ws n) (c.in_ok-blank.ensures.items_if_clones_equal (λ y e. e)) ∙ blank_at (c.words_of.result + 1) n)
+    opens _ _ (omega arith) (omega arith) (omega arith) (λ n. ap (λ (ws : List ℕ). slice_index ws n) s.value ∙ ap (λ (ws : List ℕ). slice_index ws n) (c.in_ok-blank.ensures.items_if_clones_equal (λ y e. e)) ∙ blank_at (c.word_total.result + 1) n)
 
 pub split_seat-seat-requires : goal.split_seat-seat-requires
 split_seat-seat-requires c =
