@@ -4,7 +4,6 @@ ghost use Rattle.std.specs.Prelude.{◌≡◌, ◌≢◌, ◌⊎◌, ◌↔◌, 
 ghost use Rattle.std.specs.Int.{bit_at};
 ghost use Rattle.std.specs.Mem.Slots.{slots_items, slots_len, IsFull};
 ghost use Rattle.ld_trace.specs.declared.key_id.TheConstants.{MAX_KEYS};
-ghost use Rattle.ld_trace.specs.declared.key_id.TheConstants.{MAX_MANY};
 ghost use Rattle.ld_task.specs.Chains.{ChainKeysBelow};
 ghost use Rattle.ld_facts.specs.FactBits.{FactBelow, HasFact};
 ghost use Rattle.ld_facts.specs.Facts.{Adds, AreSame, ChainHas, Holds};
