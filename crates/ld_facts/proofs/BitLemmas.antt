@@ -1,8 +1,8 @@
 -- What a write, a union and the finding of a bit leave.
-use Rattle.std.proofs.Common.{◌≡◌, ◌≢◌, ℕ, suc, zero, ◌+◌, ◌-◌, ◌*◌, ◌/◌, ◌%◌, ◌^◌, ◌<◌, ◌≤◌, List, length, get_or, set, refl, ap, sym, ◌∙◌, inl, inr, subst, arith, Bool, true, false, cond, not, eqb, min, max, ◌||◌, ◌&&◌, bit_or, bit_and, w64, get_or-set_same, get_or-set_other, eq-eqb, eqb-true}
+use Rattle.std.proofs.Common.{◌≡◌, ◌≢◌, ℕ, suc, zero, ◌+◌, ◌-◌, ◌*◌, ◌/◌, ◌%◌, ◌^◌, ◌<◌, ◌≤◌, List, length, get_or, set, refl, ap, sym, ◌∙◌, inl, inr, subst, arith, Bool, true, false, cond, not, eqb, min, max, ◌||◌, ◌&&◌, bit_or, bit_and, count_ones, w64, get_or-set_same, get_or-set_other, eq-eqb, eqb-true, mod-lt}
 use Rattle.std.proofs.lemmas.Bool.{ne_eqb, cases_eq, cases_lt, cases_Bool}
 use Rattle.std.proofs.lemmas.List.{get_or_past}
-use Rattle.std.proofs.lemmas.Nat.{pow-add, pow_pos}
+use Rattle.std.proofs.lemmas.Nat.{pow-add, pow_pos, mod-pow-add, ones_cat, zero_from_ones, ones_le_self}
 use Rattle.std.proofs.Math.Nat.{div-div-eq-div-mul, div-lt_iff_lt-mul}
 use Rattle.std.proofs.Math.Pow.{pow_mono}
 use Rattle.std.proofs.lemmas.Nat.Bits.{bit_at_set_same, bit_at_set_other, bit_at_or, bit_at_and, bit_at_not, bit_at-lt, bit_at-trailing_zeros, bit_at-zero, bit_at_above}
@@ -186,6 +186,55 @@ count_below-set f g p n l on others =
       | inl t ↦ rw t (count_below-same f g n (λ k m. elim (cases_eq k p) [ inl e ↦ ap g e ∙ on ∙ sym (ap f e ∙ t) | inr d ↦ others k d ]) ∙ omega arith)
       | inr t ↦ rw t (count_below-one_more f g p n l t on others)
     ]
+
+-- the ones of a word are its bits that are set
+one_bit : (b : ℕ) → b < 2 → count_ones b ≡ cond (eqb b 1) 1 0
+one_bit b l =
+    elim (cases_eq b 1) [
+      | inl e ↦
+          let some : count_ones 1 ≢ 0 = λ none. absurd (let z : 1 ≡ 0 = zero_from_ones 1 none in omega arith) in
+          let most : count_ones 1 ≤ 1 = ones_le_self 1 in
+          rw e (omega arith)
+      | inr n ↦
+          let z : b ≡ 0 = omega arith in
+          let most : count_ones 0 ≤ 0 = ones_le_self 0 in
+          rw z (omega arith)
+    ]
+
+low_ones : (w n : ℕ) → count_ones (w % 2 ^ n) ≡ count_below (λ k. eqb (bit_at w k) 1) n
+unfolding count_below
+low_ones w zero =
+    let none : w % 2 ^ 0 ≡ 0 = omega arith in
+    let most : count_ones 0 ≤ 0 = ones_le_self 0 in
+    rw none (omega arith)
+low_ones w (suc n) =
+    let low : w % 2 ^ n < 2 ^ n = mod-lt w (pow_pos n) in
+    ap (λ x. count_ones (w % 2 ^ x)) (let e : suc n ≡ 1 + n = omega arith in e) ∙
+    ap count_ones (mod-pow-add w 1 n) ∙
+    ones_cat n (bit_at w n) (w % 2 ^ n) low ∙
+    omega (arith, one_bit (bit_at w n) (bit_at-lt w n), low_ones w n)
+
+count_below-add : (f : ℕ → Bool) (n m : ℕ) → count_below f (n + m) ≡ count_below f n + count_below (λ k. f (n + k)) m
+unfolding count_below
+count_below-add f n zero = ap (count_below f) (let e : n + 0 ≡ n = omega arith in e) ∙ omega arith
+count_below-add f n (suc m) =
+    ap (count_below f) (let e : n + suc m ≡ suc (n + m) = omega arith in e) ∙
+    omega (arith, count_below-add f n m)
+
+-- one word more
+pub count_below-word : (words : List ℕ) (i : ℕ) → get_or words i 0 < 2 ^ 64 →
+    count_below (has_bit words) (64 * (i + 1)) ≡ count_below (has_bit words) (64 * i) + count_ones (get_or words i 0)
+count_below-word words i fits =
+    let w : ℕ = get_or words i 0 in
+    let whole : w % 2 ^ 64 ≡ w = omega arith in
+    let bits : count_below (λ k. has_bit words (64 * i + k)) 64 ≡ count_below (λ k. eqb (bit_at w k) 1) 64 =
+    count_below-same (λ k. eqb (bit_at w k) 1) (λ k. has_bit words (64 * i + k)) 64 (λ k l.
+    let q : (64 * i + k) / 64 ≡ i = omega arith in
+    let r : (64 * i + k) % 64 ≡ k = omega arith in
+    rw (q, r) refl) in
+    ap (count_below (has_bit words)) (let e : 64 * (i + 1) ≡ 64 * i + 64 = omega arith in e) ∙
+    count_below-add (has_bit words) (64 * i) 64 ∙
+    ap (λ n. count_below (has_bit words) (64 * i) + n) (bits ∙ sym (low_ones w 64) ∙ ap count_ones whole)
 
 -- ---- the first bit from a place on
 bit_at-shifted : (w a j : ℕ) → bit_at (w / 2 ^ a) j ≡ bit_at w (a + j)

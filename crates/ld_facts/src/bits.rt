@@ -2,7 +2,7 @@
 
 ghost use Rattle.std.specs.Prelude.{◌≡◌, ℕ, ◌+◌, ◌*◌, ◌^◌, ◌<◌, ◌≤◌, ◌≢◌, ◌||◌, ◌&&◌, ◌==◌, not, length, IsTrue, IsFalse, IsNone, IfSome};
 ghost use Rattle.std.specs.Int.{bit_at};
-ghost use Rattle.ld_facts.specs.Inside.Bits.{has_bit};
+ghost use Rattle.ld_facts.specs.Inside.Bits.{has_bit, count_below};
 
 use crate::places::{PLACES, ROW_WORDS, Row};
 
@@ -131,7 +131,7 @@ pub(crate) fn same(words: &[u64], others: &[u64]) -> bool
 
 /// How many bits are set.
 pub fn count(row: &Row) -> u64
-    ensures { result ≤ PLACES }
+    ensures { result ≡ count_below (has_bit row.now) PLACES }
 {
     let mut count = 0;
     for i in 0..ROW_WORDS {

@@ -137,7 +137,7 @@ pub fn fact_total(keys: u16) -> usize
     n * n * 4 + n * MARKS_OF_KEY
 }
 
-/// How many words have a bit for each of them: 4,132 for 256 keys.
+/// How many words have a bit for each fact about keys below `keys`: 4,132 for 256 keys.
 pub fn word_total(keys: u16) -> usize
     requires { keys ≤ MAX_MANY }
     ensures { result ≡ word_total keys }

@@ -1,5 +1,6 @@
-use Rattle.std.proofs.Common.{◌≤◌, ◌*◌}
+use Rattle.std.proofs.Common.{◌≡◌, ◌*◌}
+use Rattle.ld_facts.specs.Inside.Bits.{has_bit, count_below}
 use Rattle.ld_facts.proofs.bits.count.Given as goal
 
 abbrev pub invariant-loop-i : goal.invariant-loop-i
-invariant-loop-i l = l.count ≤ 64 * l.i
+invariant-loop-i l = l.count ≡ count_below (has_bit l.row) (64 * l.i)
