@@ -3,7 +3,7 @@
 ghost use Rattle.std.specs.Prelude.{◌≡◌, ◌≢◌, ◌⊎◌, ◌↔◌, ◌+◌, ◌/◌, ◌%◌, ◌<◌, ◌≤◌, ℕ, length, All, Any, IsFalse, IsTrue, IfOk, IsErrOf, List, vec_len, slice_index};
 ghost use Rattle.std.specs.Int.{bit_at};
 ghost use Rattle.std.specs.Mem.Slots.{slots_items, slots_len, IsFull};
-ghost use Rattle.ld_trace.specs.declared.key_id.TheConstants.{MAX_KEYS};
+ghost use Rattle.ld_trace.specs.declared.key_id.TheConstants.{GRAPH_KEYS};
 ghost use Rattle.ld_task.specs.Chains.{ChainKeysBelow};
 ghost use Rattle.ld_facts.specs.FactBits.{FactBelow, HasFact};
 ghost use Rattle.ld_facts.specs.Facts.{Adds, AreSame, ChainHas, Holds};
@@ -36,7 +36,7 @@ pub struct Board {
     alloc: Global,
     pub(crate) keys: u16,
     seats: usize,
-    ghost few: { keys ≤ MAX_KEYS },
+    ghost few: { keys ≤ GRAPH_KEYS },
     ghost keyed: { table.shared.key.keys ≡ keys },
     ghost words: { table.shared.table_id.words ≡ word_total keys + 1 },
     ghost seated: { (table.shared.key.seats ≡ seats) × (0 < seats) },
@@ -50,7 +50,7 @@ impl Board {
     ///
     /// C1 if `seats` isn't 1 to 65, otherwise C2 if memory is refused.
     pub fn open(alloc: Global, keys: u16, seats: usize) -> Result<(Board, Vec<Seat>), BoardFault>
-        requires { keys ≤ MAX_KEYS }
+        requires { keys ≤ GRAPH_KEYS }
         ensures refused { IsErrOf result BoardFault.Seats ↔ ((seats ≡ 0) ⊎ (MAX_SEATS < seats)) }
         ensures ok { IfOk result (λ r. (keys_of r.0 ≡ keys) × (seat_count r.0 ≡ seats) × (vec_len r.1 ≡ seats)) }
         ensures seats { IfOk result (λ r. All (λ s. IsSeatOf r.0 s × (view s ≡ newcomer 1)) r.1.items) }
@@ -138,6 +138,7 @@ impl Board {
         ensures knows { Holds (KnowsFact (keys_of self.now) (view seat.new)) (ChainHas chain.now) }
         ensures covered { IsFalse result → ((view seat.new).put ≡ (view seat.old).put)
             × Holds (SeenHas (keys_of self.now) (view seat.new)) (ChainHas chain.now) }
+        ensures some { IsTrue result → length (view seat.old).put < length (view seat.new).put }
     {
         if self.has_long(seat, chain) {
             return false;

@@ -1,6 +1,6 @@
 //! The words of a board that hold facts: how they are loaded, and how bits are put into them.
 
-ghost use Rattle.std.specs.Prelude.{◌≡◌, ◌≢◌, ◌↔◌, ◌+◌, ◌<◌, ◌∷◌, ◌++◌, ℕ, All, AllPairs, Any, IsFalse, IsTrue, List, bit_or};
+ghost use Rattle.std.specs.Prelude.{◌≡◌, ◌≢◌, ◌↔◌, ◌+◌, ◌<◌, ◌∷◌, ◌++◌, ℕ, All, AllPairs, Any, IsFalse, IsTrue, List, bit_or, length, if◌then◌else◌};
 ghost use Rattle.ld_facts.specs.Facts.{ChainHas, Holds};
 ghost use Rattle.ld_facts.specs.WordPairs.{bits_of, word_total, NonePast, Within};
 ghost use Rattle.ld_board.specs.Views.{SeenHas};
@@ -121,6 +121,7 @@ impl Board {
         ensures knows { (n : ℕ) → Within (bits_of n seat.old.words) (bits_of n ((view seat.new).put ++ (view seat.new).seen)) }
         ensures covered { IsFalse result → ((view seat.new).put ≡ (view seat.old).put)
             × ((n : ℕ) → Within (bits_of n seat.old.words) (bits_of n (view seat.new).seen)) }
+        ensures some { IsTrue result → length (view seat.old).put < length (view seat.new).put }
     {
         let mut any = false;
         for n in 0..seat.words.len() {
@@ -146,6 +147,7 @@ impl Board {
         ensures knows { Within wanted (bits_of word ((view seat.new).put ++ (view seat.new).seen)) }
         ensures covered { IsFalse result → ((view seat.new).put ≡ (view seat.old).put)
             × Within wanted (bits_of word (view seat.new).seen) }
+        ensures some { length (view seat.new).put ≡ length (view seat.old).put + (if result then 1 else 0) }
     {
         let found = self.look_word(seat, word);
         if wanted | found == found {

@@ -14,7 +14,7 @@ use crate::fault::BookFault;
 use crate::journal::Journal;
 use ld_graph::Graph;
 use ld_task::{Chain, Kind, Mark};
-use ld_trace::MAX_KEYS;
+use ld_trace::GRAPH_KEYS;
 use std::alloc::{AllocError, Global};
 use std::marker::Model;
 
@@ -70,7 +70,7 @@ impl Book {
     /// A book without entries, for keys below `keys`, which is at most 256, and for at most `limit` entries. B2 if
     /// memory is refused, and then no book is made.
     pub fn new(alloc: Global, keys: u16, limit: u64) -> Result<Book, BookFault>
-        requires { keys ≤ MAX_KEYS }
+        requires { keys ≤ GRAPH_KEYS }
         ensures empty { IfOk result (λ b. b ≡ record {
           journal = [];
           keys = keys;
@@ -136,7 +136,7 @@ impl Book {
     /// The bound on the keys, at most 256.
     pub fn keys(&self) -> u16
         ensures value { result ≡ self.now.keys }
-        ensures few { result ≤ MAX_KEYS }
+        ensures few { result ≤ GRAPH_KEYS }
     {
         self.graph.keys()
     }

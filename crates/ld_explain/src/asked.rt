@@ -5,7 +5,7 @@ ghost use Rattle.ld_facts.specs.ChainFacts.{chain_fact};
 ghost use Rattle.ld_facts.specs.FactBits.{FactBelow, HasFact};
 ghost use Rattle.ld_facts.specs.Facts.{Adds};
 ghost use Rattle.ld_facts.specs.declared.fact.Fact.{Fact};
-ghost use Rattle.ld_trace.specs.declared.key_id.TheConstants.{MAX_MANY};
+ghost use Rattle.ld_trace.specs.declared.key_id.TheConstants.{MAX_KEYS};
 ghost use Rattle.ld_explain.specs.Inside.Taking.{last_key};
 
 use ld_facts::{Fact, Facts};
@@ -34,10 +34,10 @@ impl Model for Asked {
 }
 
 impl Asked {
-    /// No facts about the keys below `keys`, which is at most `MAX_MANY`: then they take 34 MB. It fails only if memory is
+    /// No facts about the keys below `keys`, which is at most `MAX_KEYS`: then they take 34 MB. It fails only if memory is
     /// refused.
     pub fn new(alloc: Global, keys: u16) -> Result<Asked, AllocError>
-        requires { keys ≤ MAX_MANY }
+        requires { keys ≤ MAX_KEYS }
         ensures keys { IfOk result (λ asked. asked.keys ≡ keys) }
         ensures none { IfOk result (λ asked. (x : Fact) → ¬ HasFact asked x) }
     {
@@ -46,10 +46,10 @@ impl Asked {
         Ok(Asked { facts, ends })
     }
 
-    /// The bound on the keys, at most `MAX_MANY`.
+    /// The bound on the keys, at most `MAX_KEYS`.
     pub fn keys(&self) -> u16
         ensures value { result ≡ self.now.keys }
-        ensures few { result ≤ MAX_MANY }
+        ensures few { result ≤ MAX_KEYS }
     {
         self.facts.keys()
     }

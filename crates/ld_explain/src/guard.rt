@@ -1,6 +1,6 @@
 //! What speaks against one fact.
 
-ghost use Rattle.std.specs.Prelude.{◌≡◌, ◌↔◌, ℕ, [], Contains, IsFalse, Some, filter, slice_get};
+ghost use Rattle.std.specs.Prelude.{◌≡◌, ◌≢◌, ◌↔◌, ℕ, [], Contains, IsFalse, IsTrue, Some, filter, slice_get};
 ghost use Rattle.ld_explain.specs.Inside.Guarding.{IsFirstGuard, IsGateBefore, Narrows, gate_in, is_among};
 
 use arrayvec::ArrayVec;
@@ -28,7 +28,8 @@ impl Guard {
 
     // Whether there is a gate.
     pub(crate) fn has_gates(&self) -> bool
-        ensures { IsFalse result → self.now.gates.items ≡ [] }
+        ensures none { IsFalse result → self.now.gates.items ≡ [] }
+        ensures some { IsTrue result → self.now.gates.items ≢ [] }
     {
         !self.gates.is_empty()
     }

@@ -2,7 +2,7 @@
 
 ghost use Rattle.std.specs.Prelude.{◌≡◌, ◌+◌, ◌∷◌, [], ◌<◌, ◌≤◌, ◌↔◌, ℕ, List, IfSome, IsFalse, IsNone, IsTrue, OnOk, Some, slice_get};
 ghost use Rattle.ld_trace.specs.declared.event.Event.{Event};
-ghost use Rattle.ld_trace.specs.declared.key_id.TheConstants.{MAX_MANY};
+ghost use Rattle.ld_trace.specs.declared.key_id.TheConstants.{MAX_KEYS};
 ghost use Rattle.ld_task.specs.TraceChains as trace_chains;
 ghost use Rattle.ld_facts.specs.Arrows.{arrow};
 ghost use Rattle.ld_facts.specs.ChainFacts.{chain_fact, fact_slots};
@@ -32,20 +32,20 @@ pub struct Guards {
 
 impl Model for Guards {
     ghost use Rattle.std.specs.Prelude.{◌≤◌};
-    ghost use Rattle.ld_trace.specs.declared.key_id.TheConstants.{MAX_MANY};
+    ghost use Rattle.ld_trace.specs.declared.key_id.TheConstants.{MAX_KEYS};
     ghost use Rattle.ld_explain.specs.Notes.{GuardParts};
 
     ghost Value = { GuardParts };
 
     ghost view = { λ g. record { keys = g.keys; entries = g.guards.entries } };
 
-    ghost invariant = { λ g. g.keys ≤ MAX_MANY };
+    ghost invariant = { λ g. g.keys ≤ MAX_KEYS };
 }
 
 impl Guards {
     // Nothing that speaks against dependencies between the keys below `keys`.
     pub(crate) fn none(alloc: Global, keys: u16) -> Guards
-        requires { keys ≤ MAX_MANY }
+        requires { keys ≤ MAX_KEYS }
         ensures { result ≡ record { keys = keys; entries = [] } }
     {
         Guards {
@@ -67,12 +67,11 @@ impl Guards {
         }
     }
 
-    /// Whether some key may be a gate of the dependency. If not, none is. The dependency is one that was asked about and that
-    /// the traces have.
+    /// Whether some key is a gate of the dependency. The dependency is one that was asked about and that the traces have.
     pub fn has_gates(&self, from: u16, to: u16, kind: Kind) -> bool
         ensures { (traces : List (List Event)) (asked : FactParts) → AreGuardsOf traces asked self.now
             → HasFact asked (Fact.Dependency from to kind) → TracesHave traces (Fact.Dependency from to kind)
-            → IsFalse result → (gate : ℕ) → ¬ IsGate traces (arrow from to kind) gate }
+            → IsTrue result ↔ ((gate : ℕ) × IsGate traces (arrow from to kind) gate) }
     {
         match self.guard_of(Fact::Dependency { from, to, kind }) {
             Some(guard) => guard.has_gates(),

@@ -2,7 +2,7 @@
 
 ghost use Rattle.std.specs.Prelude.{◌≡◌, ◌+◌, ◌<◌, ◌≤◌, [], ℕ, List, IfSome, IsNone, OnOk, Some};
 ghost use Rattle.ld_trace.specs.declared.event.Event.{Event};
-ghost use Rattle.ld_trace.specs.declared.key_id.TheConstants.{MAX_MANY};
+ghost use Rattle.ld_trace.specs.declared.key_id.TheConstants.{MAX_KEYS};
 ghost use Rattle.ld_task.specs.Placed.{IsPlacedAfter};
 ghost use Rattle.ld_task.specs.TraceChains as trace_chains;
 ghost use Rattle.ld_facts.specs.ChainFacts.{fact_slots};
@@ -40,20 +40,20 @@ pub struct Origins {
 
 impl Model for Origins {
     ghost use Rattle.std.specs.Prelude.{◌≤◌};
-    ghost use Rattle.ld_trace.specs.declared.key_id.TheConstants.{MAX_MANY};
+    ghost use Rattle.ld_trace.specs.declared.key_id.TheConstants.{MAX_KEYS};
     ghost use Rattle.ld_explain.specs.Origins.{OriginParts};
 
     ghost Value = { OriginParts };
 
     ghost view = { λ o. record { keys = o.keys; entries = o.origins.entries } };
 
-    ghost invariant = { λ o. o.keys ≤ MAX_MANY };
+    ghost invariant = { λ o. o.keys ≤ MAX_KEYS };
 }
 
 impl Origins {
     // No occurrences of facts about the keys below `keys`.
     pub(crate) fn none(alloc: Global, keys: u16) -> Origins
-        requires { keys ≤ MAX_MANY }
+        requires { keys ≤ MAX_KEYS }
         ensures { result ≡ record { keys = keys; entries = [] } }
     {
         Origins {

@@ -1,7 +1,7 @@
 -- One bit more: one fact more, and the counts.
 use Rattle.std.proofs.Common.{◌≡◌, ℕ, ◌+◌, ◌-◌, ◌/◌, ◌<◌, ◌≤◌, length, ap, sym, ◌∙◌, subst, inl, inr, arith, true, false, cond, not}
 use Rattle.std.proofs.lemmas.Bool.{cases_eq}
-use Rattle.ld_trace.specs.declared.key_id.TheConstants.{MAX_MANY}
+use Rattle.ld_trace.specs.declared.key_id.TheConstants.{MAX_KEYS}
 use Rattle.ld_facts.specs.Inside.Bits.{has_bit, count_below}
 use Rattle.ld_facts.specs.Numbers.{fact_number, dependency_total, mark_total, bit_total}
 use Rattle.ld_facts.specs.Facts.{Adds}
@@ -44,7 +44,7 @@ module _ (old new : FactParts) (n : ℕ) (sets : SetsBit old new n) where
 
   AreFacts-set : length new.words ≡ length old.words → n < bit_total old.keys → AreFacts old → AreFacts new
   AreFacts-set len below are = record {
-    few = subst (λ k. k ≤ MAX_MANY) (sym sets.keys) are.few;
+    few = subst (λ k. k ≤ MAX_KEYS) (sym sets.keys) are.few;
     words = len ∙ are.words ∙ ap (λ k. (bit_total k + 63) / 64) (sym sets.keys);
     none_past = λ k past.
         let past' : bit_total old.keys ≤ k = subst (λ x. bit_total x ≤ k) sets.keys past in

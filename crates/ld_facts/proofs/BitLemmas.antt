@@ -65,6 +65,36 @@ beyond_found words taken i li lx ly some =
           rw (q, r, ey) (ne_eqb (bit_at y t) 1 (omega (arith, bit_at-lt y t, e))),
         )
 
+-- a bit that is not beyond the other's is one of them
+none_beyond : (words taken : List ℕ) (k : ℕ) → get_or taken (k / 64) 0 < 2 ^ 64 →
+    bit_at (bit_and (get_or words (k / 64) 0) (bit_not w64 (get_or taken (k / 64) 0))) (k % 64) ≡ 0 →
+    has_bit words k ≡ true → has_bit taken k ≡ true
+none_beyond words taken k fits at set =
+    let x : ℕ = get_or words (k / 64) 0 in
+    let y : ℕ = get_or taken (k / 64) 0 in
+    let is : bit_at x (k % 64) ≡ 1 = eqb-true (bit_at x (k % 64)) 1 set in
+    let m : min (bit_at x (k % 64)) (1 - bit_at y (k % 64)) ≡ 0 = sym (bit_at_beyond x y (k % 64) fits (omega arith)) ∙ at in
+    eq-eqb (bit_at y (k % 64)) 1 (omega (arith, bit_at-lt y (k % 64), m, is))
+
+-- the lowest bit of the first word with a bit beyond the other's is the first such bit
+pub beyond_first : (words taken : List ℕ) (i : ℕ) → get_or words i 0 < 2 ^ 64 → ((k : ℕ) → k ≤ i → get_or taken k 0 < 2 ^ 64) →
+    ((k : ℕ) → k < i → bit_and (get_or words k 0) (bit_not w64 (get_or taken k 0)) ≡ 0) →
+    bit_and (get_or words i 0) (bit_not w64 (get_or taken i 0)) ≢ 0 →
+    (k : ℕ) → k < i * 64 + trailing_zeros w64 (bit_and (get_or words i 0) (bit_not w64 (get_or taken i 0))) →
+    has_bit words k ≡ true → has_bit taken k ≡ true
+beyond_first words taken i fits ranges empty some k lk =
+    let fresh : ℕ = bit_and (get_or words i 0) (bit_not w64 (get_or taken i 0)) in
+    let below : fresh < 2 ^ 64 = omega (arith, beyond-le (get_or words i 0) (bit_not w64 (get_or taken i 0))) in
+    let low : (trailing_zeros w64 fresh < 64) × (bit_at fresh (trailing_zeros w64 fresh) ≡ 1) × ((j : ℕ) → j < trailing_zeros w64 fresh → bit_at fresh j ≡ 0) =
+    bit_at-trailing_zeros w64 fresh (omega arith) below in
+    let upto : k / 64 ≤ i = omega (arith, low.0) in
+    none_beyond words taken k (ranges (k / 64) upto) (elim (cases_lt (k / 64) i) [
+      | inl before ↦ rw (empty (k / 64) before) (bit_at-zero (k % 64))
+      | inr past ↦
+          let word : k / 64 ≡ i = omega arith in
+          rw word (low.2 (k % 64) (omega arith))
+    ])
+
 -- if no word has a bit beyond the other's, each bit of the one is a bit of the other
 pub beyond_none : (words taken : List ℕ) (n : ℕ) → n ≡ length words →
     ((k : ℕ) → k < length words → get_or taken k 0 < 2 ^ 64) →
@@ -73,12 +103,7 @@ pub beyond_none : (words taken : List ℕ) (n : ℕ) → n ≡ length words →
 beyond_none words taken n e ranges empty k set =
     elim (Rattle.std.proofs.lemmas.Bool.cases_lt (k / 64) (length words)) [
       | inl within ↦
-          let x : ℕ = get_or words (k / 64) 0 in
-          let y : ℕ = get_or taken (k / 64) 0 in
-          let is : bit_at x (k % 64) ≡ 1 = eqb-true (bit_at x (k % 64)) 1 set in
-          let at : bit_at (bit_and x (bit_not w64 y)) (k % 64) ≡ 0 = rw (empty (k / 64) (omega arith)) (bit_at-zero (k % 64)) in
-          let m : min (bit_at x (k % 64)) (1 - bit_at y (k % 64)) ≡ 0 = sym (bit_at_beyond x y (k % 64) (ranges (k / 64) within) (omega arith)) ∙ at in
-          eq-eqb (bit_at y (k % 64)) 1 (omega (arith, bit_at-lt y (k % 64), m, is))
+          none_beyond words taken k (ranges (k / 64) within) (rw (empty (k / 64) (omega arith)) (bit_at-zero (k % 64))) set
       | inr past ↦
           let zero : get_or words (k / 64) 0 ≡ 0 = Rattle.std.proofs.lemmas.List.get_or_past words (k / 64) 0 past in
           let is : bit_at (get_or words (k / 64) 0) (k % 64) ≡ 1 = eqb-true (bit_at (get_or words (k / 64) 0) (k % 64)) 1 set in

@@ -1,7 +1,7 @@
 -- No facts: words of zeros.
 use Rattle.std.proofs.Common.{◌≡◌, ℕ, ◌+◌, ◌*◌, ◌/◌, ◌≤◌, length, get_or, replicate, ap, sym, ◌∙◌, subst, false}
 use Rattle.std.proofs.lemmas.List.{length-replicate}
-use Rattle.ld_trace.specs.declared.key_id.TheConstants.{MAX_MANY}
+use Rattle.ld_trace.specs.declared.key_id.TheConstants.{MAX_KEYS}
 use Rattle.ld_facts.specs.Inside.Bits.{has_bit}
 use Rattle.ld_facts.specs.Numbers.{dependency_total, bit_total}
 use Rattle.ld_facts.specs.FactBits.{FactParts, AreCounted, dependency_count, mark_count}
@@ -18,7 +18,7 @@ module _ (facts : FactParts) (n : ℕ) (zeros : facts.words ≡ replicate n 0) w
   pub mark_count-zeros : mark_count facts ≡ 0
   mark_count-zeros = count_below-none (λ k. has_bit facts.words (dependency_total facts.keys + k)) (facts.keys * 9) (λ k. none_set (dependency_total facts.keys + k))
 
-  pub AreCounted-zeros : facts.keys ≤ MAX_MANY → n ≡ (bit_total facts.keys + 63) / 64 → AreCounted facts 0 0
+  pub AreCounted-zeros : facts.keys ≤ MAX_KEYS → n ≡ (bit_total facts.keys + 63) / 64 → AreCounted facts 0 0
   AreCounted-zeros few size = record {
     are = record {
       few = few;

@@ -1,7 +1,7 @@
 -- Facts about the keys below a bound, kept as bits in words of 64.
 use Rattle.std.specs.Prelude.{◌≡◌, ℕ, ◌+◌, ◌*◌, ◌/◌, ◌||◌, ◌==◌, ◌<◌, ◌≤◌, false, IsTrue, List, length}
 use Rattle.std.specs.Int.{bit_at}
-use Rattle.ld_trace.specs.declared.key_id.TheConstants.{MAX_MANY}
+use Rattle.ld_trace.specs.declared.key_id.TheConstants.{MAX_KEYS}
 use Rattle.ld_facts.specs.declared.places.TheConstants.{PLACES}
 use Rattle.ld_facts.specs.Inside.Bits.{has_bit, count_below}
 use Rattle.ld_facts.specs.Numbers.{fact_number, dependency_total, mark_total, bit_total}
@@ -41,7 +41,7 @@ rows_for (Marked key mark) = PLACES
 
 -- words that hold facts about the keys below `keys`, and no other bit
 pub record AreFacts (facts : FactParts) : Type 0 where
-  pub few : facts.keys ≤ MAX_MANY
+  pub few : facts.keys ≤ MAX_KEYS
   pub words : length facts.words ≡ (bit_total facts.keys + 63) / 64
   pub none_past : (n : ℕ) → bit_total facts.keys ≤ n → has_bit facts.words n ≡ false
 

@@ -68,6 +68,7 @@ pub fn first_beyond(words: &[u64], taken: &[u64]) -> Option<usize>
         → (k : ℕ) → IsTrue (has_bit words.now k) → IsTrue (has_bit taken.now k) }
     ensures some { IfSome result (λ p. (p < 64 * length words.now)
         × IsTrue (has_bit words.now p) × IsFalse (has_bit taken.now p)) }
+    ensures first { IfSome result (λ p. (k : ℕ) → k < p → IsTrue (has_bit words.now k) → IsTrue (has_bit taken.now k)) }
 {
     for i in 0..words.len() {
         let fresh = words[i] & !taken[i];

@@ -17,7 +17,7 @@ pub(crate) const MARKS_TAKEN: usize = 5;
 pub(crate) const MARKS_OPENED: usize = 2;
 
 /// How many slots the chain has for facts, at most 96. Some of them are empty.
-pub fn slots(chain: &Chain) -> usize
+pub fn fact_slots(chain: &Chain) -> usize
     ensures value { result ≡ fact_slots chain.now }
     ensures few { result ≤ 96 }
 {
@@ -30,7 +30,7 @@ pub fn slots(chain: &Chain) -> usize
 /// The fact in slot `n` of a chain, if there is one: of an acquisition the dependencies, oldest first, and then the
 /// marks of the new lock; of an opening the marks of the held locks, oldest first.
 #[inline(always)]
-pub fn fact_at(chain: &Chain, n: usize) -> Option<Fact>
+pub fn fact_in_slot(chain: &Chain, n: usize) -> Option<Fact>
     ensures { result ≡ chain_fact chain.now n }
 {
     match chain.taken() {
@@ -48,7 +48,7 @@ pub fn fact_at(chain: &Chain, n: usize) -> Option<Fact>
 
 /// The place of the held lock by which the fact in slot `n` of a chain is given, counted from the oldest; None if it is
 /// the lock that the chain takes.
-pub fn held_of(chain: &Chain, n: usize) -> Option<usize>
+pub fn lock_of_slot(chain: &Chain, n: usize) -> Option<usize>
     ensures { result ≡ slot_held chain.now n }
 {
     match chain.taken() {
@@ -95,7 +95,7 @@ pub(crate) fn mark_of_new(
         3 => (waits && frame == Frame::Softirq, used_in(Irq::Soft, read)),
         _ => (flags.is_enabled(Irq::Soft), enabled(Irq::Soft, read)),
     };
-    mark_where(given, key, mark)
+    mark_given(given, key, mark)
 }
 
 // The mark of number `n` below 2 on the held lock `i`, if there is one and the opening gives it.
@@ -104,7 +104,7 @@ pub(crate) fn mark_of_old(chain: &Chain, i: usize, n: usize) -> Option<Fact>
 {
     let (key, mode) = chain.held(i)?;
     let irq = if n == 0 { Irq::Hard } else { Irq::Soft };
-    mark_where(
+    mark_given(
         chain.flags().is_enabled(irq),
         key,
         enabled(irq, mode.is_read()),
@@ -126,7 +126,7 @@ fn enabled(irq: Irq, read: bool) -> Mark
 }
 
 // The mark on the key, if it is given.
-fn mark_where(given: bool, key: KeyId, mark: Mark) -> Option<Fact>
+fn mark_given(given: bool, key: KeyId, mark: Mark) -> Option<Fact>
     ensures { result ≡ (if given then Some (Fact.Marked key mark) else None) }
 {
     if given {

@@ -8,7 +8,7 @@ ghost use Rattle.ld_facts.specs.ChainFacts.{fact_slots};
 ghost use Rattle.ld_facts.specs.Inside.WordTable.{AreWords, HasWord, StandsAt, UnitesPair, TakesFact, TakesRun, TakesMarkBit, Gathered};
 ghost use Rattle.ld_facts.specs.WordPairs.{AreWordsOf};
 ghost use Rattle.ld_task.specs.declared.lock.TheConstants.{MAX_HELD};
-ghost use Rattle.ld_trace.specs.declared.key_id.TheConstants.{MAX_KEYS};
+ghost use Rattle.ld_trace.specs.declared.key_id.TheConstants.{GRAPH_KEYS};
 
 use crate::chain_facts::MARKS_TAKEN;
 use crate::fact::{Fact, first_mark, mark_index};
@@ -63,7 +63,7 @@ impl FactWords {
 
     /// Replaces the words with those of a chain. The chain's keys are below `keys`, which is at most 256.
     pub fn set_to(&mut self, chain: &Chain, keys: u16)
-        requires few { keys ≤ MAX_KEYS }
+        requires few { keys ≤ GRAPH_KEYS }
         requires below { ChainKeysBelow keys chain.now }
         ensures { AreWordsOf keys chain.now self.new }
     {
@@ -109,7 +109,7 @@ impl FactWords {
 
     // Adds the dependencies of an acquisition.
     fn add_dependencies(&mut self, chain: &Chain, key: KeyId, mode: Mode, frame: Frame, keys: u16)
-        requires few { keys ≤ MAX_KEYS }
+        requires few { keys ≤ GRAPH_KEYS }
         requires below { ChainKeysBelow keys chain.now }
         requires taken { chain.now.new_lock ≡ Some (record { key = key; mode = mode }, frame) }
         requires none { self.old ≡ [] }
@@ -123,7 +123,7 @@ impl FactWords {
 
     // Adds the marks that an acquisition gives, after its dependencies.
     fn add_marks_of_new(&mut self, chain: &Chain, key: KeyId, mode: Mode, frame: Frame, keys: u16)
-        requires few { keys ≤ MAX_KEYS }
+        requires few { keys ≤ GRAPH_KEYS }
         requires below { ChainKeysBelow keys chain.now }
         requires taken { chain.now.new_lock ≡ Some (record { key = key; mode = mode }, frame) }
         requires few_before { length self.old ≤ MAX_HELD }
@@ -139,7 +139,7 @@ impl FactWords {
 
     // Adds the marks that an opening gives.
     fn add_marks_of_held(&mut self, chain: &Chain, keys: u16)
-        requires few { keys ≤ MAX_KEYS }
+        requires few { keys ≤ GRAPH_KEYS }
         requires below { ChainKeysBelow keys chain.now }
         requires opening { chain.now.new_lock ≡ None }
         requires none { self.old ≡ [] }
@@ -158,7 +158,7 @@ impl FactWords {
     #[inline(always)]
     fn add_if(&mut self, fact: Option<Fact>, keys: u16)
         requires room { length self.old < MAX_WORDS }
-        requires few { keys ≤ MAX_KEYS }
+        requires few { keys ≤ GRAPH_KEYS }
         requires below { ForSome fact (FactBelow keys) }
         requires words { AreWords self.old }
         ensures { TakesFact keys self.old self.new fact }
@@ -272,7 +272,7 @@ fn with_mark(run: u64, fact: Option<Fact>) -> u64
 
 /// The words of a chain whose keys are below `keys`, which is at most 256.
 pub fn fact_words(chain: &Chain, keys: u16) -> FactWords
-    requires few { keys ≤ MAX_KEYS }
+    requires few { keys ≤ GRAPH_KEYS }
     requires below { ChainKeysBelow keys chain.now }
     ensures { AreWordsOf keys chain.now result }
 {

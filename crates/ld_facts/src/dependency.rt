@@ -2,8 +2,8 @@
 
 ghost use Rattle.std.specs.Prelude.{◌≡◌, ◌*◌, ◌<◌, ◌↔◌, EachIndex, IsTrue, slice_index};
 ghost use Rattle.ld_task.specs.Kinds.{is_s};
+ghost use Rattle.ld_trace.specs.declared.key_id.TheConstants.{GRAPH_KEYS};
 ghost use Rattle.ld_trace.specs.declared.key_id.TheConstants.{MAX_KEYS};
-ghost use Rattle.ld_trace.specs.declared.key_id.TheConstants.{MAX_MANY};
 ghost use Rattle.ld_facts.specs.Arrows.{MayFollow};
 ghost use Rattle.ld_facts.specs.Inside.Rows.{arrow_of};
 ghost use Rattle.ld_facts.specs.Numbers.{kind_number};
@@ -15,20 +15,23 @@ ghost use Rattle.ld_facts.specs.declared.places.TheConstants.{PLACES};
 use crate::fact::kind_number;
 use crate::places::place_of;
 use ld_task::Kind;
-use ld_trace::MAX_KEYS;
+use ld_trace::GRAPH_KEYS;
 
-/// A dependency between two keys.
+/// A dependency: a lock of `to` was taken, and waited for, with one of `from` held.
 #[derive(Clone, Copy, PartialEq, Eq, Debug)]
 pub struct Dependency {
+    /// The key of the lock that was held.
     pub from: u16,
+    /// The key of the lock that was taken.
     pub to: u16,
+    /// In which modes they were.
     pub kind: Kind,
 }
 
 impl Dependency {
     /// Where it arrives.
     pub fn arrival(self) -> usize
-        requires { self.to < MAX_KEYS }
+        requires { self.to < GRAPH_KEYS }
         ensures value { result ≡ arrival (arrow_of self) }
         ensures below { result < PLACES }
     {
@@ -41,7 +44,7 @@ impl Dependency {
         ensures keys { IsOfKeys result }
         ensures arrives { arrival (arrow_of result) ≡ place }
     {
-        let keys = usize::from(MAX_KEYS);
+        let keys = usize::from(GRAPH_KEYS);
         if place < keys {
             Dependency {
                 from: 0,
@@ -71,9 +74,9 @@ impl Dependency {
         self.from == self.to && !(self.kind.ends_in_r() && self.kind.begins_with_s())
     }
 
-    /// The one by the keys that stand at the places that are its own keys, or 0 where nothing does.
+    /// The same with other keys: instead of key `n` the one at place `n` of the list, or 0 if there is none.
     pub fn by_keys(self, keys: &[u16]) -> Dependency
-        requires { EachIndex keys.now (λ i. slice_index keys.now i < MAX_MANY) }
+        requires { EachIndex keys.now (λ i. slice_index keys.now i < MAX_KEYS) }
         ensures keys { IsOfManyKeys result }
         ensures value { arrow_of result ≡ arrow_at keys.now (arrow_of self) }
     {
@@ -93,8 +96,8 @@ impl Dependency {
 
     // The one from the key that is at that place of the key's row.
     pub(crate) fn at(from: u16, n: usize) -> Dependency
-        requires from { from < MAX_KEYS }
-        requires at { n < MAX_KEYS * 4 }
+        requires from { from < GRAPH_KEYS }
+        requires at { n < GRAPH_KEYS * 4 }
         ensures keys { IsOfKeys result }
         ensures from { result.from ≡ from }
         ensures at { row_place result.to result.kind ≡ n }

@@ -5,7 +5,7 @@ ghost use Rattle.ld_facts.specs.Numbers.{kind_number, irq_number, mark_index, fa
 ghost use Rattle.ld_facts.specs.FactBits.{FactBelow};
 ghost use Rattle.ld_facts.specs.Renumbered.{fact_by};
 ghost use Rattle.ld_facts.specs.WordPairs.{word_total};
-ghost use Rattle.ld_trace.specs.declared.key_id.TheConstants.{MAX_MANY};
+ghost use Rattle.ld_trace.specs.declared.key_id.TheConstants.{MAX_KEYS};
 
 use crate::dependency::kind_at;
 use ld_task::{Kind, Mark};
@@ -38,11 +38,11 @@ impl Fact {
         }
     }
 
-    /// The number of the fact among all those about keys below `keys`, which is at most `MAX_MANY`: below 264,448 for
+    /// The number of the fact among all those about keys below `keys`, which is at most `MAX_KEYS`: below 264,448 for
     /// 256 keys, and below 268,509,184 for the most. The dependencies come first. The caller makes sure that the fact's
     /// keys are below `keys`.
     pub fn number(self, keys: u16) -> usize
-        requires few { keys ≤ MAX_MANY }
+        requires few { keys ≤ MAX_KEYS }
         requires below { FactBelow keys self }
         ensures value { result ≡ fact_number keys self }
         ensures within { result < bit_total keys }
@@ -55,7 +55,7 @@ impl Fact {
 
     /// The fact about keys below `keys` that has this number.
     pub fn of_number(keys: u16, n: usize) -> Fact
-        requires few { keys ≤ MAX_MANY }
+        requires few { keys ≤ MAX_KEYS }
         requires within { n < bit_total keys }
         ensures below { FactBelow keys result }
         ensures number { fact_number keys result ≡ n }
@@ -98,7 +98,7 @@ impl Fact {
 
 // The number of a dependency's bit.
 fn dependency_number(keys: u16, from: u16, to: u16, kind: Kind) -> usize
-    requires few { keys ≤ MAX_MANY }
+    requires few { keys ≤ MAX_KEYS }
     requires from { from < keys }
     requires to { to < keys }
     ensures value { result ≡ fact_number keys (Fact.Dependency from to kind) }
@@ -109,7 +109,7 @@ fn dependency_number(keys: u16, from: u16, to: u16, kind: Kind) -> usize
 
 // The number of a mark's bit.
 fn mark_number(keys: u16, key: u16, mark: Mark) -> usize
-    requires few { keys ≤ MAX_MANY }
+    requires few { keys ≤ MAX_KEYS }
     requires key { key < keys }
     ensures value { result ≡ fact_number keys (Fact.Marked key mark) }
     ensures within { result < bit_total keys }
@@ -119,7 +119,7 @@ fn mark_number(keys: u16, key: u16, mark: Mark) -> usize
 
 // The number of the bit of a key's first mark. The nine marks of a key are next to each other.
 pub(crate) fn first_mark(keys: u16, key: u16) -> usize
-    requires few { keys ≤ MAX_MANY }
+    requires few { keys ≤ MAX_KEYS }
     requires key { key < keys }
     ensures value { result ≡ dependency_total keys + key * 9 }
     ensures within { result + 9 ≤ bit_total keys }
@@ -130,7 +130,7 @@ pub(crate) fn first_mark(keys: u16, key: u16) -> usize
 
 /// How many facts about keys below `keys` there can be: 264,448 for 256 keys.
 pub fn fact_total(keys: u16) -> usize
-    requires { keys ≤ MAX_MANY }
+    requires { keys ≤ MAX_KEYS }
     ensures { result ≡ bit_total keys }
 {
     let n = usize::from(keys);
@@ -139,7 +139,7 @@ pub fn fact_total(keys: u16) -> usize
 
 /// How many words have a bit for each fact about keys below `keys`: 4,132 for 256 keys.
 pub fn word_total(keys: u16) -> usize
-    requires { keys ≤ MAX_MANY }
+    requires { keys ≤ MAX_KEYS }
     ensures { result ≡ word_total keys }
 {
     (fact_total(keys) + 63) / 64

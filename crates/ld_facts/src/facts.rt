@@ -11,8 +11,8 @@ ghost use Rattle.ld_facts.specs.Counting.{IsNumberOf};
 ghost use Rattle.ld_task.specs.declared.kind.Kind.{Kind};
 ghost use Rattle.ld_facts.specs.Inside.Rows.{IsNextFrom, row_place};
 ghost use Rattle.ld_facts.specs.declared.fact.Fact.{Fact};
+ghost use Rattle.ld_trace.specs.declared.key_id.TheConstants.{GRAPH_KEYS};
 ghost use Rattle.ld_trace.specs.declared.key_id.TheConstants.{MAX_KEYS};
-ghost use Rattle.ld_trace.specs.declared.key_id.TheConstants.{MAX_MANY};
 
 use crate::dependency::Dependency;
 use crate::fact::{Fact, word_total};
@@ -21,7 +21,7 @@ use ld_task::{Chain, Kind, Mark};
 use std::alloc::{AllocError, Global};
 use std::marker::Model;
 
-/// Facts about the keys below a bound of at most `MAX_MANY`: dependencies between them, and marks on them.
+/// Facts about the keys below a bound of at most `MAX_KEYS`: dependencies between them, and marks on them.
 #[derive(Drop)]
 pub struct Facts {
     keys: u16,
@@ -44,10 +44,10 @@ impl Model for Facts {
 }
 
 impl Facts {
-    /// No facts about the keys below `keys`, which is at most `MAX_MANY`: then the bits take 34 MB. It fails only if
+    /// No facts about the keys below `keys`, which is at most `MAX_KEYS`: then the bits take 34 MB. It fails only if
     /// memory is refused.
     pub fn new(alloc: Global, keys: u16) -> Result<Facts, AllocError>
-        requires { keys ≤ MAX_MANY }
+        requires { keys ≤ MAX_KEYS }
         ensures keys { IfOk result (λ f. f.keys ≡ keys) }
         ensures none { IfOk result (λ f. (x : Fact) → ¬ HasFact f x) }
         ensures dependency_count { IfOk result (λ f. dependency_count f ≡ 0) }
@@ -62,10 +62,10 @@ impl Facts {
         })
     }
 
-    /// The bound on the keys, at most `MAX_MANY`.
+    /// The bound on the keys, at most `MAX_KEYS`.
     pub fn keys(&self) -> u16
         ensures value { result ≡ self.now.keys }
-        ensures few { result ≤ MAX_MANY }
+        ensures few { result ≤ MAX_KEYS }
     {
         self.keys
     }
@@ -140,8 +140,8 @@ impl Facts {
         ensures known { IsFalse result → self.new ≡ self.old }
     {
         let mut fresh = false;
-        for n in 0..chain_facts::slots(chain) {
-            if let Some(fact) = chain_facts::fact_at(chain, n) {
+        for n in 0..chain_facts::fact_slots(chain) {
+            if let Some(fact) = chain_facts::fact_in_slot(chain, n) {
                 fresh |= self.add(fact);
             }
         }
@@ -198,8 +198,8 @@ impl Facts {
 impl Facts {
     /// The next dependency from the key: the first that stands at the place `n` of their row or later.
     pub fn next_from(&self, from: u16, n: usize) -> Option<Dependency>
-        requires few { self.now.keys ≤ MAX_KEYS }
-        requires within { n ≤ MAX_KEYS * 4 }
+        requires few { self.now.keys ≤ GRAPH_KEYS }
+        requires within { n ≤ GRAPH_KEYS * 4 }
         ensures none { IsNone result → (to : ℕ) (kind : Kind) → n ≤ row_place to kind
             → ¬ HasFact self.now (Fact.Dependency from to kind) }
         ensures some { IfSome result (λ dependency. IsNextFrom self.now from n dependency) }

@@ -11,7 +11,7 @@ mod facts;
 mod laws;
 pub mod places;
 
-pub use chain_facts::{fact_at as fact_in_slot, held_of as lock_of_slot, slots as fact_slots};
+pub use chain_facts::{fact_in_slot, fact_slots, lock_of_slot};
 pub use chain_words::{FactWords, fact_words};
 pub use dependency::{Dependency, kind_at};
 pub use fact::{Fact, STATE_COUNT, STATES, fact_total, irq_number, word_total};

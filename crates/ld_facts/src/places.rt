@@ -4,10 +4,10 @@
 ghost use Rattle.std.specs.Prelude.{◌≡◌, ◌<◌};
 ghost use Rattle.ld_facts.specs.Inside.Places.{place};
 
-use ld_trace::MAX_KEYS;
+use ld_trace::GRAPH_KEYS;
 
 /// How many places there are: two for each key.
-pub const PLACES: usize = 2 * MAX_KEYS as usize;
+pub const PLACES: usize = 2 * GRAPH_KEYS as usize;
 
 /// How many words a row has.
 pub const ROW_WORDS: usize = PLACES / 64;
@@ -17,12 +17,12 @@ pub type Row = [u64; ROW_WORDS];
 
 /// The place of a key and a letter.
 pub fn place_of(key: u16, at_r: bool) -> usize
-    requires { key < MAX_KEYS }
+    requires { key < GRAPH_KEYS }
     ensures value { result ≡ place key at_r }
     ensures below { result < PLACES }
 {
     if at_r {
-        usize::from(key) + usize::from(MAX_KEYS)
+        usize::from(key) + usize::from(GRAPH_KEYS)
     } else {
         usize::from(key)
     }

@@ -6,7 +6,7 @@ use Rattle.ld_task.specs.declared.kind.Kind.TheVariants.{Er, En, Sr, Sn}
 use Rattle.ld_task.specs.declared.mark.Mark.{Mark}
 use Rattle.ld_task.specs.declared.mark.Mark.TheVariants.{Used, UsedIn, Enabled}
 use Rattle.ld_task.specs.Kinds.{is_s, is_r}
-use Rattle.ld_trace.specs.declared.key_id.TheConstants.{MAX_KEYS}
+use Rattle.ld_trace.specs.declared.key_id.TheConstants.{GRAPH_KEYS}
 use Rattle.ld_facts.specs.Arrows.{Arrow, MayFollow, arrow}
 use Rattle.ld_facts.specs.Facts.{Holds, Adds, DependenciesOf}
 use Rattle.ld_facts.specs.FactBits.{FactBelow}
@@ -29,7 +29,7 @@ pub record CleanPlaces (Has : Fact → Type 0) : Type 0 where
   pub circles : (d : Arrow) → ¬ OnCircle Has d
   pub links : (irq : Irq) → ¬ LinksBack Has irq
 
-pub arrows_within : (Has : Fact → Type 0) → Holds (FactBelow MAX_KEYS) Has → IsWithin (DependenciesOf Has)
+pub arrows_within : (Has : Fact → Type 0) → Holds (FactBelow GRAPH_KEYS) Has → IsWithin (DependenciesOf Has)
 arrows_within Has within = record {
   starts = λ d h. (within (Dependency d.start d.end d.kind) h).0;
   ends = λ d h. (within (Dependency d.start d.end d.kind) h).1;
@@ -43,7 +43,7 @@ link_of Has irq a b false false used enabled = (En, (enabled, used), refl, refl)
 link_of Has irq a b true true used enabled = (Sr, (enabled, used), refl, refl)
 link_of Has irq a b true false used enabled = (Sn, (enabled, used), refl, refl)
 
-module _ (Has : Fact → Type 0) (within : Holds (FactBelow MAX_KEYS) Has) where
+module _ (Has : Fact → Type 0) (within : Holds (FactBelow GRAPH_KEYS) Has) where
   abbrev In : Arrow → Type 0
   In = DependenciesOf Has
 
@@ -53,8 +53,8 @@ module _ (Has : Fact → Type 0) (within : Holds (FactBelow MAX_KEYS) Has) where
     links = λ irq (p, q, (a, r, used, at), (b, s, enabled, leaves), path).
         let (kind, marks, es, er) = link_of Has irq a b s r used enabled in
         let l : Arrow = arrow b a kind in
-        let la : a < MAX_KEYS = within (Marked a (UsedIn irq r)) used in
-        let lb : b < MAX_KEYS = within (Marked b (Enabled irq s)) enabled in
+        let la : a < GRAPH_KEYS = within (Marked a (UsedIn irq r)) used in
+        let lb : b < GRAPH_KEYS = within (Marked b (Enabled irq s)) enabled in
         let arrives : p ≡ arrival l = at ∙ ap (place a) (sym er) in
         let out : Leaves l q = subst (λ x. LeavesFrom b x q) (sym es) leaves in
         elim (Path-cases (Leads In) path) [
@@ -83,8 +83,8 @@ module _ (Has : Fact → Type 0) (within : Holds (FactBelow MAX_KEYS) Has) where
         );
     inversions = λ irq a b inversion.
         (let (kind, marks, closes) = (IsInversion-iff Has irq a b).0 inversion in
-        let la : a < MAX_KEYS = within (Marked a (UsedIn irq (is_r kind))) marks.1 in
-        let lb : b < MAX_KEYS = within (Marked b (Enabled irq (is_s kind))) marks.0 in
+        let la : a < GRAPH_KEYS = within (Marked a (UsedIn irq (is_r kind))) marks.1 in
+        let lb : b < GRAPH_KEYS = within (Marked b (Enabled irq (is_s kind))) marks.0 in
         let (q, way, leaves) = (ClosesWith-iff In (arrows_within Has within) (arrow b a kind) lb la).0 closes in
         clean.links irq (place a (is_r kind), q, (a, is_r kind, marks.1, refl), (b, is_s kind, marks.0, leaves), Path-from_way (Leads In) (place a (is_r kind)) q way));
   }
@@ -169,7 +169,7 @@ module _ (Old New : Fact → Type 0) (d : Arrow) (adds : Adds Old New (λ x. x �
   edges : (p q : ℕ) → to p q ↔ (from p q ⊎ (Leaves d p × (arrival d ≡ q)))
   edges = Leads-added (DependenciesOf Old) (DependenciesOf New) d arrows_added
 
-  pub CleanPlaces-dependency : Holds (FactBelow MAX_KEYS) New → CleanPlaces Old →
+  pub CleanPlaces-dependency : Holds (FactBelow GRAPH_KEYS) New → CleanPlaces Old →
       CleanPlaces New ↔ (¬ ComesBack Old d × ((irq : Irq) → ¬ Joins Old d irq))
   CleanPlaces-dependency within was = (
     (λ now. (

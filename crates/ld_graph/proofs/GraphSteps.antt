@@ -4,7 +4,7 @@ use Rattle.ld_trace.specs.declared.event.Irq.{Irq}
 use Rattle.ld_task.specs.declared.mark.Mark.{Mark}
 use Rattle.ld_task.specs.declared.mark.Mark.TheVariants.{Used, UsedIn, Enabled}
 use Rattle.ld_task.specs.Kinds.{is_s}
-use Rattle.ld_trace.specs.declared.key_id.TheConstants.{MAX_KEYS}
+use Rattle.ld_trace.specs.declared.key_id.TheConstants.{GRAPH_KEYS}
 use Rattle.ld_facts.specs.Arrows.{Arrow}
 use Rattle.ld_facts.specs.Inside.Bits.{has_bit}
 use Rattle.ld_facts.specs.Facts.{Holds, Adds, DependenciesOf}
@@ -23,7 +23,7 @@ use Rattle.ld_graph.proofs.Paths.{OnCircle-iff, Path-more}
 use Rattle.ld_graph.proofs.Ways.{Comes-path, Path-append, Path-from_way, Way-through, ways_taken}
 use Rattle.ld_graph.proofs.CleanPlaces.{CleanPlaces-from, IsClean-from_places, CleanPlaces-dependency, CleanPlaces-mark, ComesBack, Joins, TurnsBackBy, arrows_within, arrows_added, Leads-kept, LinkArrives-adds, LinkLeaves-adds, LinkArrives-kept, LinkLeaves-kept}
 
-pub facts_within : (facts : FactParts) → facts.keys ≤ MAX_KEYS → Holds (FactBelow MAX_KEYS) (HasFact facts)
+pub facts_within : (facts : FactParts) → facts.keys ≤ GRAPH_KEYS → Holds (FactBelow GRAPH_KEYS) (HasFact facts)
 facts_within facts few (Dependency from to kind) h = let l = h.0 in (omega arith, omega arith)
 facts_within facts few (Marked key mark) h = let l = h.0 in omega arith
 
@@ -31,7 +31,7 @@ off_on : {A : Type 0} (b : Bool) → b ≡ false → b ≡ true → A
 off_on b off on = absurd (let e : false ≡ true = sym off ∙ on in cc)
 
 -- ---- a new graph
-pub IsGraph-new : (facts : FactParts) (table : List (List ℕ)) (ends : Ends) → facts.keys ≤ MAX_KEYS → ((x : Fact) → ¬ HasFact facts x) →
+pub IsGraph-new : (facts : FactParts) (table : List (List ℕ)) (ends : Ends) → facts.keys ≤ GRAPH_KEYS → ((x : Fact) → ¬ HasFact facts x) →
     ((p q : ℕ) → reaches table p q ≡ false) →
     ((irq : Irq) (p : ℕ) → arrives_at ends irq p ≡ false) → ((irq : Irq) (q : ℕ) → departs_from ends irq q ≡ false) →
     IsGraph facts table ends true 0
@@ -57,7 +57,7 @@ IsGraph-new facts table ends few free empty arrivals departures = record {
 }
 
 -- ---- look-ups
-pub OnCircle-by_table : (facts : FactParts) (table : List (List ℕ)) → facts.keys ≤ MAX_KEYS →
+pub OnCircle-by_table : (facts : FactParts) (table : List (List ℕ)) → facts.keys ≤ GRAPH_KEYS →
     ((p q : ℕ) → (reaches table p q ≡ true) ↔ Way (Leads (DependenciesOf (HasFact facts))) p q) → (d : Arrow) → DependenciesOf (HasFact facts) d →
     (targets : List ℕ) → ((q : ℕ) → (has_bit targets q ≡ true) ↔ Comes table (arrival d) q) →
     OnCircle (HasFact facts) d ↔ LeavesTarget targets d.start (is_s d.kind)
@@ -139,7 +139,7 @@ module _ (old new : FactParts) (d : Arrow) (keys : new.keys ≡ old.keys)
 
   clean_still : IsClean (HasFact old) → IsClean (HasFact new)
   clean_still clean_old =
-      let within = facts_within new (subst (λ k. k ≤ MAX_KEYS) (sym keys) was.few) in
+      let within = facts_within new (subst (λ k. k ≤ GRAPH_KEYS) (sym keys) was.few) in
       let places = CleanPlaces-from (HasFact old) (facts_within old was.few) clean_old in
       IsClean-from_places (HasFact new) within ((CleanPlaces-dependency (HasFact old) (HasFact new) d adds within places).1 (
         (λ back. let (x, on) = comes_back_on back in places.circles x on),
@@ -149,7 +149,7 @@ module _ (old new : FactParts) (d : Arrow) (keys : new.keys ≡ old.keys)
 
   pub IsGraph-led : (now : ℕ) → now ≤ rows_allowed new → IsGraph new table ends clean now
   IsGraph-led now bound = record {
-    few = subst (λ k. k ≤ MAX_KEYS) (sym keys) was.few;
+    few = subst (λ k. k ≤ GRAPH_KEYS) (sym keys) was.few;
     ways = ways_taken (DependenciesOf (HasFact old)) (DependenciesOf (HasFact new)) d table table (arrows_added (HasFact old) (HasFact new) d adds) was.ways takes_none;
     ends_are = ends_kept old new d adds ends was.ends_are;
     flag = (
@@ -164,8 +164,8 @@ module _ (old new : FactParts) (d : Arrow) (keys : new.keys ≡ old.keys)
     (adds : Adds (HasFact old) (HasFact new) (λ x. x ≡ Dependency d.start d.end d.kind))
     (table table' : List (List ℕ)) (takes : TakesArrow table table' d) (sources targets : List ℕ) (span : AreSpan table d sources targets)
     (ends : Ends) (clean : Bool) (searched : ℕ) (was : IsGraph old table ends clean searched) where
-  few : new.keys ≤ MAX_KEYS
-  few = subst (λ k. k ≤ MAX_KEYS) (sym keys) was.few
+  few : new.keys ≤ GRAPH_KEYS
+  few = subst (λ k. k ≤ GRAPH_KEYS) (sym keys) was.few
 
   comes : (p q : ℕ) → Comes table p q ↔ Path (Leads (DependenciesOf (HasFact old))) p q
   comes p q = Comes-path (Leads (DependenciesOf (HasFact old))) table was.ways p q
@@ -212,8 +212,8 @@ module _ (old new : FactParts) (key : ℕ) (mark : Mark) (keys : new.keys ≡ ol
     (adds : Adds (HasFact old) (HasFact new) (λ x. x ≡ Marked key mark)) (table : List (List ℕ))
     (ends ends' : Ends) (takes : TakesMark ends ends' key mark)
     (clean : Bool) (searched : ℕ) (was : IsGraph old table ends clean searched) where
-  few_marked : new.keys ≤ MAX_KEYS
-  few_marked = subst (λ k. k ≤ MAX_KEYS) (sym keys) was.few
+  few_marked : new.keys ≤ GRAPH_KEYS
+  few_marked = subst (λ k. k ≤ GRAPH_KEYS) (sym keys) was.few
 
   comes_marked : (p q : ℕ) → Comes table p q ↔ Path (Leads (DependenciesOf (HasFact old))) p q
   comes_marked p q = Comes-path (Leads (DependenciesOf (HasFact old))) table was.ways p q

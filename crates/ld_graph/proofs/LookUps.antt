@@ -6,7 +6,7 @@ use Rattle.ld_task.specs.declared.kind.Kind.{Kind}
 use Rattle.ld_task.specs.declared.kind.Kind.TheVariants.{Er, En, Sr, Sn}
 use Rattle.ld_task.specs.declared.mark.Mark.TheVariants.{UsedIn, Enabled}
 use Rattle.ld_task.specs.Kinds.{is_s, is_r}
-use Rattle.ld_trace.specs.declared.key_id.TheConstants.{MAX_KEYS}
+use Rattle.ld_trace.specs.declared.key_id.TheConstants.{GRAPH_KEYS}
 use Rattle.ld_facts.specs.Arrows.{arrow}
 use Rattle.ld_facts.specs.Inside.Bits.{has_bit}
 use Rattle.ld_facts.specs.Facts.{Holds, DependenciesOf}
@@ -60,8 +60,8 @@ IsDouble-by_marks Has irq a n r e s hn hr he hs = (
 abbrev LeavesRow : List ℕ → ℕ → Bool → Type 0
 LeavesRow row b s = (has_bit row (place b false) ≡ true) ⊎ ((has_bit row (place b true) ≡ true) × (s ≡ false))
 
-module _ (Has : Fact → Type 0) (within : Holds (FactBelow MAX_KEYS) Has) (irq : Irq) (row : List ℕ) (a b : ℕ) (read : Bool)
-    (lb : b < MAX_KEYS) (used : Has (Marked a (UsedIn irq read)))
+module _ (Has : Fact → Type 0) (within : Holds (FactBelow GRAPH_KEYS) Has) (irq : Irq) (row : List ℕ) (a b : ℕ) (read : Bool)
+    (lb : b < GRAPH_KEYS) (used : Has (Marked a (UsedIn irq read)))
     (exact : (q : ℕ) → (has_bit row q ≡ true) ↔ Way (Leads (DependenciesOf Has)) (place a read) q) where
   closes : (kind : Kind) → is_r kind ≡ read → ClosesWith (DependenciesOf Has) (arrow b a kind) ↔ LeavesRow row b (is_s kind)
   closes kind same =

@@ -3,7 +3,7 @@ use Rattle.std.proofs.Common.{◌≡◌, ◌≢◌, ℕ, suc, ◌+◌, ◌<◌, 
 use Rattle.std.specs.Prelude.{Contains}
 use Rattle.std.proofs.lemmas.Bool.{cases_Bool, cases_eq, cases_lt, and_from, not_from_false}
 use Rattle.std.proofs.lemmas.List.{append-nil}
-use Rattle.ld_trace.specs.declared.key_id.TheConstants.{MAX_KEYS}
+use Rattle.ld_trace.specs.declared.key_id.TheConstants.{GRAPH_KEYS}
 use Rattle.ld_facts.specs.Arrows.{Arrow, MayFollow}
 use Rattle.ld_facts.specs.Facts.{DependenciesOf}
 use Rattle.ld_facts.specs.FactBits.{FactParts, HasFact}
@@ -133,23 +133,23 @@ LeastDone-more facts done done' place bound n others least shorter through (a �
       ]
     ]
 
-pub arrows_below : (facts : FactParts) → facts.keys ≤ MAX_KEYS → IsWithin (DependenciesOf (HasFact facts))
+pub arrows_below : (facts : FactParts) → facts.keys ≤ GRAPH_KEYS → IsWithin (DependenciesOf (HasFact facts))
 arrows_below facts few = record {
   starts = λ d h. let l = h.0.0 in omega arith;
   ends = λ d h. let l = h.0.1 in omega arith;
 }
 
 -- if all places are done, each circle has at least this many members
-place-lt : (key : ℕ) (at_r : Bool) → key < MAX_KEYS → place key at_r < PLACES
+place-lt : (key : ℕ) (at_r : Bool) → key < GRAPH_KEYS → place key at_r < PLACES
 place-lt key true l = omega arith
 place-lt key false l = omega arith
 
-pub LeastDone-all : (facts : FactParts) (done : List ℕ) (n : ℕ) → facts.keys ≤ MAX_KEYS → ((q : ℕ) → q < PLACES → has_bit done q ≡ true) →
+pub LeastDone-all : (facts : FactParts) (done : List ℕ) (n : ℕ) → facts.keys ≤ GRAPH_KEYS → ((q : ℕ) → q < PLACES → has_bit done q ≡ true) →
     LeastDone facts done n → (walk : List Arrow) → IsCircle (HasFact facts) walk → n ≤ length walk
 LeastDone-all facts done n few all least [] no_walk = absurd no_walk
 LeastDone-all facts done n few all least (a ∷ rest) closed =
     let has : DependenciesOf (HasFact facts) a = StrongWalk-head (DependenciesOf (HasFact facts)) a rest closed.0 in
-    let below : a.end < MAX_KEYS = let l = has.0.1 in omega arith in
+    let below : a.end < GRAPH_KEYS = let l = has.0.1 in omega arith in
     least (a ∷ rest) closed a (Contains-head a rest) (all (arrival a) (place-lt a.end (is_r a.kind) below))
 
 pub done_more : (done done' : List ℕ) (n : ℕ) → ((q : ℕ) → q < n → has_bit done q ≡ true) → has_bit done' n ≡ true →

@@ -4,7 +4,7 @@ use Rattle.std.specs.Prelude.{Contains, AllPairs}
 use Rattle.std.proofs.lemmas.Bool.{cases_lt}
 use Rattle.std.proofs.lemmas.List.{length-map}
 use Rattle.ld_task.specs.Kinds.{is_s, is_r}
-use Rattle.ld_trace.specs.declared.key_id.TheConstants.{MAX_KEYS}
+use Rattle.ld_trace.specs.declared.key_id.TheConstants.{GRAPH_KEYS}
 use Rattle.ld_facts.specs.Arrows.{Arrow, MayFollow}
 use Rattle.ld_facts.specs.Facts.{DependenciesOf}
 use Rattle.ld_facts.specs.FactBits.{FactParts, HasFact}
@@ -46,7 +46,7 @@ GoesTo-from_path In (step {p} {q} {r} path (a, has, leaves, arrives)) =
     (way ++ a ∷ [], GoesTo-append In p q r way (a ∷ []) goes (has, leaves, arrives))
 
 -- ---- a way back to l is a strong walk such that it and l may follow each other
-pub LeadsRound-walk : (In : Arrow → Type 0) → IsWithin In → (l : Arrow) → l.start < MAX_KEYS → l.end < MAX_KEYS →
+pub LeadsRound-walk : (In : Arrow → Type 0) → IsWithin In → (l : Arrow) → l.start < GRAPH_KEYS → l.end < GRAPH_KEYS →
     (d : Arrow) (rest : List Arrow) →
     LeadsRound In l (d ∷ rest) → StrongWalk In d rest × MayFollow (last d rest) l × MayFollow l d
 LeadsRound-walk In within l ls le d rest (some, (q, leaves, goes)) =

@@ -6,7 +6,7 @@ use Rattle.std.proofs.lemmas.Nat.{same_from_place}
 use Rattle.ld_task.specs.declared.kind.Kind.{Kind}
 use Rattle.ld_task.specs.declared.kind.Kind.TheVariants.{Er}
 use Rattle.ld_task.specs.Kinds.{is_s, is_r}
-use Rattle.ld_trace.specs.declared.key_id.TheConstants.{MAX_KEYS}
+use Rattle.ld_trace.specs.declared.key_id.TheConstants.{GRAPH_KEYS}
 use Rattle.ld_facts.specs.Inside.Rows.{arrow_of}
 use Rattle.ld_facts.specs.FactBits.{FactParts, HasFact}
 use Rattle.ld_facts.specs.Numbers.{kind_number}
@@ -88,7 +88,7 @@ row_place-same a b k m e =
     let split = same_from_place a (kind_number k) b (kind_number m) 4 (kind_number-lt k) (kind_number-lt m) e in
     (split.0, sym (kind_of-number k) ∙ ap kind_of split.1 ∙ kind_of-number m)
 
-pub row_place-lt : (to : ℕ) (kind : Kind) → to < MAX_KEYS → row_place to kind < MAX_KEYS * 4
+pub row_place-lt : (to : ℕ) (kind : Kind) → to < GRAPH_KEYS → row_place to kind < GRAPH_KEYS * 4
 row_place-lt to kind l = let k = kind_number-lt kind in omega arith
 
 module _ (facts : FactParts) (within goal : List ℕ) (i : ℕ) (from : Dependency) (n : ℕ) (old mid : SearchParts)
@@ -169,7 +169,7 @@ module _ (facts : FactParts) (within goal : List ℕ) (i : ℕ) (from : Dependen
 
 -- if none is left, all has been seen
 pub SeesAll-scanned : (facts : FactParts) (within goal : List ℕ) (i : ℕ) (from : Dependency) (n : ℕ) (old new : SearchParts) →
-    Scans facts within goal i from n old new → facts.keys ≤ MAX_KEYS → from.to < MAX_KEYS →
+    Scans facts within goal i from n old new → facts.keys ≤ GRAPH_KEYS → from.to < GRAPH_KEYS →
     ((step : Step) → slice_get old.steps i ≡ Some step → step.dependency ≡ from) →
     ((to : ℕ) (kind : Kind) → n ≤ row_place to kind → ¬ HasFact facts (Depends from.to to kind)) →
     SeesAllFrom facts within i old.steps new.seen

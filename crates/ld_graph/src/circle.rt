@@ -1,17 +1,17 @@
 //! Circles: closed strong walks of no more members than there can be keys.
 
 ghost use Rattle.std.specs.Prelude.{◌≡◌, ◌<◌, ◌≤◌, EachIndex, IfSome, length, map, option_map, slice_get, slice_index};
-ghost use Rattle.ld_trace.specs.declared.key_id.TheConstants.{MAX_MANY};
+ghost use Rattle.ld_trace.specs.declared.key_id.TheConstants.{MAX_KEYS};
 ghost use Rattle.ld_facts.specs.Renumbered.{arrow_at};
 ghost use Rattle.ld_graph.specs.Circles.{arrow_parts};
 
 use crate::walk::Walk;
 use ld_task::Kind;
-use ld_trace::MAX_KEYS;
+use ld_trace::GRAPH_KEYS;
 use std::marker::Model;
 
 // The most dependencies that a circle has: as many as there can be keys.
-pub(crate) const MAX_CIRCLE: usize = MAX_KEYS as usize;
+pub(crate) const MAX_CIRCLE: usize = GRAPH_KEYS as usize;
 
 /// A walk of at most 256 dependencies, as `Graph::shortest_circle` returns it.
 #[derive(Drop, Debug)]
@@ -40,9 +40,9 @@ impl Circle {
         Circle { walk }
     }
 
-    /// The same circle by the keys that stand at the places that are its own keys.
+    /// The same circle with other keys: instead of key `n` the one at place `n` of the list.
     pub fn by_keys(&self, keys: &[u16]) -> Circle
-        requires { EachIndex keys.now (λ i. slice_index keys.now i < MAX_MANY) }
+        requires { EachIndex keys.now (λ i. slice_index keys.now i < MAX_KEYS) }
         ensures { result ≡ map (arrow_at keys.now) self.now }
     {
         Circle {
@@ -59,10 +59,10 @@ impl Circle {
     }
 
     /// The dependency at place `i`, counted from 0: the key that it leads from, the key that it leads to, and its kind.
-    /// None if there is none. Both keys are below `MAX_MANY`.
+    /// None if there is none. Both keys are below `MAX_KEYS`.
     pub fn get(&self, i: usize) -> Option<(u16, u16, Kind)>
         ensures value { result ≡ option_map arrow_parts (slice_get self.now i) }
-        ensures below { IfSome result (λ d. (d.0 < MAX_MANY) × (d.1 < MAX_MANY)) }
+        ensures below { IfSome result (λ d. (d.0 < MAX_KEYS) × (d.1 < MAX_KEYS)) }
     {
         self.walk.get(i)
     }

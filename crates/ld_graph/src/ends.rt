@@ -5,7 +5,7 @@ ghost use Rattle.ld_trace.specs.declared.event.Irq.{Irq};
 ghost use Rattle.ld_facts.specs.Inside.Bits.{has_bit};
 ghost use Rattle.ld_facts.specs.Inside.Places.{LeavesFrom};
 ghost use Rattle.ld_graph.specs.Inside.Kept.{arrives_at, departs_from, TakesMark, JoinsLinks, MarkTurnsBack};
-ghost use Rattle.ld_trace.specs.declared.key_id.TheConstants.{MAX_KEYS};
+ghost use Rattle.ld_trace.specs.declared.key_id.TheConstants.{GRAPH_KEYS};
 
 use crate::reach::Reach;
 use ld_facts::places::{ROW_WORDS, Row, place_of};
@@ -35,7 +35,7 @@ impl Ends {
 
     // Adds the ends of the links by a mark.
     pub(crate) fn add(&mut self, key: u16, mark: Mark)
-        requires { key < MAX_KEYS }
+        requires { key < GRAPH_KEYS }
         ensures { TakesMark self.old self.new key mark }
     {
         match mark {
@@ -63,7 +63,7 @@ impl Ends {
 
     // Whether a link by the mark leads back to it, by what is reached.
     pub(crate) fn turns_back(&self, reach: &Reach, key: u16, mark: Mark) -> bool
-        requires { key < MAX_KEYS }
+        requires { key < GRAPH_KEYS }
         ensures { IsTrue result ↔ MarkTurnsBack reach.now self.now key mark }
     {
         match mark {
@@ -80,7 +80,7 @@ impl Ends {
 
 // Adds the places that an arrow from the key leaves, by its first letter.
 pub(crate) fn insert_left(row: &mut Row, key: u16, by_s: bool)
-    requires { key < MAX_KEYS }
+    requires { key < GRAPH_KEYS }
     ensures { (q : ℕ) → IsTrue (has_bit row.new q)
         ↔ (IsTrue (has_bit row.old q) ⊎ LeavesFrom key by_s q) }
 {

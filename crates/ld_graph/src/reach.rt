@@ -5,7 +5,7 @@ ghost use Rattle.ld_facts.specs.Arrows.{arrow};
 ghost use Rattle.ld_facts.specs.Inside.Bits.{has_bit};
 ghost use Rattle.ld_facts.specs.Inside.Places.{arrival, Leaves, LeavesFrom};
 ghost use Rattle.ld_graph.specs.Inside.Tables.{reaches, IsSource, IsTarget, AreSpan, IsTransitive, TakesArrow};
-ghost use Rattle.ld_trace.specs.declared.key_id.TheConstants.{MAX_KEYS};
+ghost use Rattle.ld_trace.specs.declared.key_id.TheConstants.{GRAPH_KEYS};
 
 use ld_facts::bits;
 use ld_facts::places::{PLACES, ROW_WORDS, Row, place_of};
@@ -59,7 +59,7 @@ impl Reach {
 
     // The places at which an arrow to the key arrives, by its second letter, and those that are reached from there.
     pub(crate) fn targets(&self, key: u16, by_r: bool) -> Row
-        requires { key < MAX_KEYS }
+        requires { key < GRAPH_KEYS }
         ensures { (q : ℕ) → IsTrue (has_bit result q) ↔ IsTarget self.now key by_r q }
     {
         let place = place_of(key, by_r);
@@ -70,7 +70,7 @@ impl Reach {
 
     // The places that an arrow from the key leaves, by its first letter, and those from which these are reached.
     pub(crate) fn sources(&self, key: u16, by_s: bool) -> Row
-        requires { key < MAX_KEYS }
+        requires { key < GRAPH_KEYS }
         ensures { (p : ℕ) → IsTrue (has_bit result p) ↔ IsSource self.now key by_s p }
     {
         let place = place_of(key, false);
@@ -86,7 +86,7 @@ impl Reach {
 
     // The places that are reached from each place that an arrow from the key leaves, by its first letter.
     fn reached_from_each(&self, key: u16, by_s: bool) -> Row
-        requires { key < MAX_KEYS }
+        requires { key < GRAPH_KEYS }
         ensures { (q : ℕ) → IsTrue (has_bit result q)
             ↔ ((l : ℕ) → LeavesFrom key by_s l → IsTrue (reaches self.now l q)) }
     {
@@ -108,8 +108,8 @@ impl Reach {
 
     // Whether the place where a dependency arrives is reached from each place that it leaves: then it opens no way.
     pub(crate) fn leads(&self, from: u16, to: u16, kind: Kind) -> bool
-        requires from { from < MAX_KEYS }
-        requires to { to < MAX_KEYS }
+        requires from { from < GRAPH_KEYS }
+        requires to { to < GRAPH_KEYS }
         ensures { IsTrue result ↔ ((l : ℕ) → Leaves (arrow from to kind) l
             → IsTrue (reaches self.now l (arrival (arrow from to kind)))) }
     {
@@ -129,8 +129,8 @@ impl Reach {
         sources: &Row,
         targets: &Row,
     ) -> u64
-        requires from { from < MAX_KEYS }
-        requires to { to < MAX_KEYS }
+        requires from { from < GRAPH_KEYS }
+        requires to { to < GRAPH_KEYS }
         requires transitive { IsTransitive self.old }
         requires span { AreSpan self.old (arrow from to kind) sources.now targets.now }
         ensures takes { TakesArrow self.old self.new (arrow from to kind) }
@@ -152,8 +152,8 @@ impl Reach {
 // How many rows of a table are counted for a dependency: those written, and those read, which are of the place where it
 // arrives and of the places that it leaves.
 fn rows_taken(written: &Row, from: u16, to: u16, kind: Kind) -> u64
-    requires from { from < MAX_KEYS }
-    requires to { to < MAX_KEYS }
+    requires from { from < GRAPH_KEYS }
+    requires to { to < GRAPH_KEYS }
     ensures { result ≤ PLACES }
 {
     let mut rows = *written;

@@ -9,7 +9,7 @@ ghost use Rattle.ld_facts.specs.Inside.Places.{arrival};
 ghost use Rattle.ld_graph.specs.Inside.Searching.{AreSteps, FindsGoal, GoesTo, Hits, LeadsBack, Misses, NoGoalBy, SeesAllFrom, StandsAt, Takes, Visits};
 ghost use Rattle.ld_facts.specs.Inside.Rows.{IsOfKeys};
 ghost use Rattle.ld_graph.specs.declared.walk.TheConstants.{MAX_WALK};
-ghost use Rattle.ld_trace.specs.declared.key_id.TheConstants.{MAX_KEYS};
+ghost use Rattle.ld_trace.specs.declared.key_id.TheConstants.{GRAPH_KEYS};
 
 use crate::steps::Steps;
 use crate::walk::Walk;
@@ -90,7 +90,7 @@ impl Search {
 
     // Takes the steps that follow step `i`, up to the first that arrives at a goal, and returns whether there is one.
     fn expand(&mut self, facts: &Facts, within: &Row, goal: &Row, i: usize) -> bool
-        requires few { facts.now.keys ≤ MAX_KEYS }
+        requires few { facts.now.keys ≤ GRAPH_KEYS }
         requires within { i < length self.old.steps }
         ensures takes { Takes facts.now i self.old self.new }
         ensures missed { IsFalse result → Misses goal.now self.old self.new
@@ -114,7 +114,7 @@ impl Search {
 
     // Expands the steps from `first` to `end`, up to the first goal, and returns whether there is one.
     fn round(&mut self, facts: &Facts, within: &Row, goal: &Row, first: usize, end: usize) -> bool
-        requires few { facts.now.keys ≤ MAX_KEYS }
+        requires few { facts.now.keys ≤ GRAPH_KEYS }
         requires order { first ≤ end }
         requires within { end ≤ length self.old.steps }
         ensures missed { IsFalse result → (start n : ℕ)
@@ -142,7 +142,7 @@ impl Search {
         start: Dependency,
         bound: usize,
     ) -> Option<usize>
-        requires few { facts.now.keys ≤ MAX_KEYS }
+        requires few { facts.now.keys ≤ GRAPH_KEYS }
         requires start { IsOfKeys start }
         ensures none { IsNone result → (n : ℕ) → n < bound
             → NoGoalBy facts.now within.now goal.now (arrival (arrow_of start)) n }

@@ -14,7 +14,7 @@ ghost use Rattle.ld_facts.specs.declared.places.TheConstants.{PLACES};
 
 use crate::circle::Circle;
 use crate::ends::insert_left;
-use crate::graph::{Graph, KINDS};
+use crate::graph::{Graph, KIND_COUNT};
 use crate::search::Search;
 use crate::walk::Walk;
 use ld_facts::places::{PLACES, ROW_WORDS, Row};
@@ -45,7 +45,7 @@ impl Graph {
     {
         let mut shortest = None;
         let mut bound = self.walk_bound();
-        for n in 0..KINDS {
+        for n in 0..KIND_COUNT {
             let kind = kind_at(n);
             let link = Dependency {
                 from: b,
@@ -105,14 +105,14 @@ impl Graph {
         Some(search.way(length))
     }
 
-    // Such a walk of one dependency, if there is one. Where many keys are taken in both orders most walks are such, and a
+    // Such a walk of one dependency, if there is one. If many keys are taken in both orders most walks are such, and a
     // search would look at all that the key leads to.
     fn step_back(&self, arrow: Dependency) -> Option<Walk>
         requires { IsOfKeys arrow }
         ensures { IfSome result (λ walk.
             LeadsRound (DependenciesOf (HasFact self.now.facts)) (arrow_of arrow) walk × (length walk ≡ 1)) }
     {
-        for n in 0..KINDS {
+        for n in 0..KIND_COUNT {
             if let Some(back) = self.dependency_back(arrow, kind_at(n)) {
                 let mut walk = Walk::new();
                 walk.put_first(back);

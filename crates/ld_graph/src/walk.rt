@@ -1,7 +1,7 @@
 //! Strong walks, as they are returned.
 
 ghost use Rattle.std.specs.Prelude.{◌≡◌, ◌<◌, ◌≤◌, [], ◌∷◌, EachIndex, IfSome, length, map, option_map, slice_get, slice_index};
-ghost use Rattle.ld_trace.specs.declared.key_id.TheConstants.{MAX_MANY};
+ghost use Rattle.ld_trace.specs.declared.key_id.TheConstants.{MAX_KEYS};
 ghost use Rattle.ld_graph.specs.Circles.{arrow_parts};
 ghost use Rattle.ld_facts.specs.Inside.Rows.{arrow_of};
 ghost use Rattle.ld_facts.specs.Inside.Rows.{IsOfManyKeys};
@@ -60,9 +60,9 @@ impl Walk {
         self.len += 1;
     }
 
-    /// The same walk by the keys that stand at the places that are its own keys.
+    /// The same walk with other keys: instead of key `n` the one at place `n` of the list.
     pub fn by_keys(&self, keys: &[u16]) -> Walk
-        requires { EachIndex keys.now (λ i. slice_index keys.now i < MAX_MANY) }
+        requires { EachIndex keys.now (λ i. slice_index keys.now i < MAX_KEYS) }
         ensures { result ≡ map (arrow_at keys.now) self.now }
     {
         let mut walk = Walk::new();
@@ -81,10 +81,10 @@ impl Walk {
     }
 
     /// The dependency at place `i`, counted from 0: the key that it leads from, the key that it leads to, and its kind.
-    /// None if there is none. Both keys are below `MAX_MANY`.
+    /// None if there is none. Both keys are below `MAX_KEYS`.
     pub fn get(&self, i: usize) -> Option<(u16, u16, Kind)>
         ensures value { result ≡ option_map arrow_parts (slice_get self.now i) }
-        ensures below { IfSome result (λ d. (d.0 < MAX_MANY) × (d.1 < MAX_MANY)) }
+        ensures below { IfSome result (λ d. (d.0 < MAX_KEYS) × (d.1 < MAX_KEYS)) }
     {
         if i >= self.len {
             return None;

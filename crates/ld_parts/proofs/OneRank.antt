@@ -1,7 +1,7 @@
 -- One rank for all keys of which there are few.
 use Rattle.std.proofs.Common.{◌≡◌, ◌⊎◌, ℕ, ◌<◌, ◌≤◌, arith, inl, inr}
 use Rattle.std.proofs.lemmas.List.Elements.{All-contains}
-use Rattle.ld_trace.specs.declared.key_id.TheConstants.{MAX_KEYS}
+use Rattle.ld_trace.specs.declared.key_id.TheConstants.{GRAPH_KEYS}
 use Rattle.ld_facts.specs.Laws.Counting.{distinct-few}
 use Rattle.ld_facts.specs.declared.fact.Fact.{Fact}
 use Rattle.ld_parts.specs.Ranks.{IsCrowded, NoneGoesDown}
@@ -12,13 +12,13 @@ one_rank Has rank none = record {
   links = λ irq l h. omega (arith, none l.start);
 }
 
-few_keys : (bound : ℕ) (rank : ℕ → ℕ) (r : ℕ) → bound ≤ MAX_KEYS → ¬ IsCrowded bound rank r
+few_keys : (bound : ℕ) (rank : ℕ → ℕ) (r : ℕ) → bound ≤ GRAPH_KEYS → ¬ IsCrowded bound rank r
 few_keys bound rank r few (keys, many, once, all) =
     let most = distinct-few keys bound once (λ x c. (All-contains (λ key. (key < bound) × (rank key ≡ r)) keys x all c).0) in
     omega (arith, most, many, few)
 
 -- so no arrow goes down, and the rank isn't crowded
-pub one_rank-fits : (Has : Fact → Type 0) (rank : ℕ → ℕ) (bound : ℕ) → bound ≤ MAX_KEYS → ((key : ℕ) → rank key ≡ 0)
+pub one_rank-fits : (Has : Fact → Type 0) (rank : ℕ → ℕ) (bound : ℕ) → bound ≤ GRAPH_KEYS → ((key : ℕ) → rank key ≡ 0)
     → ¬ ((¬ NoneGoesDown Has rank) ⊎ ((r : ℕ) × IsCrowded bound rank r))
 one_rank-fits Has rank bound few none unfit = elim unfit [
   | inl down ↦ down (one_rank Has rank none)

@@ -5,7 +5,7 @@ use Rattle.std.proofs.lemmas.Bool.{cases_eq, cases_lt}
 use Rattle.std.proofs.lemmas.List.{get_or_append_left, get_or_push, get_or_default, get_or-take, length_push, length-map, length-take-le}
 use Rattle.std.proofs.lemmas.List.Elements.{All-push, All-take, Contains-append_left, Contains-push}
 use Rattle.std.proofs.lemmas.List.Quantifiers.{all_pairs_push}
-use Rattle.ld_trace.specs.declared.key_id.TheConstants.{MAX_KEYS, MAX_MANY}
+use Rattle.ld_trace.specs.declared.key_id.TheConstants.{GRAPH_KEYS, MAX_KEYS}
 use Rattle.ld_facts.specs.Arrows.{Arrow}
 use Rattle.ld_facts.specs.FactBits.{FactParts, HasFact}
 use Rattle.ld_parts.specs.Inside.Parts.{AreHomes, AreHoused, AreKeysOf, AreParts, IsHome, IsShortestOfFirst, IsToldBy}
@@ -70,17 +70,17 @@ module _ (rank : ℕ → ℕ) (r n : ℕ) (keys : List ℕ) (are : AreKeysOf n r
   }
 
   -- one more than a graph takes are too many
-  pub IsCrowded-keys : MAX_KEYS < length keys → IsCrowded n rank r
+  pub IsCrowded-keys : GRAPH_KEYS < length keys → IsCrowded n rank r
   IsCrowded-keys many =
-      let first = take (MAX_KEYS + 1) keys in
-      let long : length first ≡ MAX_KEYS + 1 = length-take-le (MAX_KEYS + 1) keys (omega arith) in (
+      let first = take (GRAPH_KEYS + 1) keys in
+      let long : length first ≡ GRAPH_KEYS + 1 = length-take-le (GRAPH_KEYS + 1) keys (omega arith) in (
         first,
         long,
         (λ i j d less l e.
-            let lj : j < MAX_KEYS + 1 = omega arith in
+            let lj : j < GRAPH_KEYS + 1 = omega arith in
             are.once i j d less (omega arith)
-            (sym (get_or-take (MAX_KEYS + 1) keys i d (omega arith)) ∙ e ∙ get_or-take (MAX_KEYS + 1) keys j d lj)),
-        All-take (λ key. (key < n) × (rank key ≡ r)) (MAX_KEYS + 1) keys are.of,
+            (sym (get_or-take (GRAPH_KEYS + 1) keys i d (omega arith)) ∙ e ∙ get_or-take (GRAPH_KEYS + 1) keys j d lj)),
+        All-take (λ key. (key < n) × (rank key ≡ r)) (GRAPH_KEYS + 1) keys are.of,
       )
 
 -- ---- homes
@@ -164,7 +164,7 @@ module _ (parts : List Part) (n : ℕ) (part : Part) (within : n < length parts)
     }
 
 -- ---- parts with all keys
-pub AreHoused-parts : (facts : FactParts) (rank : ℕ → ℕ) (parts : List Part) → AreParts facts rank parts → facts.keys ≤ MAX_MANY →
+pub AreHoused-parts : (facts : FactParts) (rank : ℕ → ℕ) (parts : List Part) → AreParts facts rank parts → facts.keys ≤ MAX_KEYS →
     AreHoused facts.keys rank parts
 AreHoused-parts facts rank parts are few = record {
   within = are.all;

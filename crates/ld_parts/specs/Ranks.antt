@@ -1,7 +1,7 @@
 -- Ranks of keys such that no arrow goes down. What is found among all facts is then found among those about the keys of
 -- one rank [this project's own].
 use Rattle.std.specs.Prelude.{◌≡◌, ℕ, ◌+◌, ◌<◌, ◌≤◌, List, length, All, AllPairs}
-use Rattle.ld_trace.specs.declared.key_id.TheConstants.{MAX_KEYS}
+use Rattle.ld_trace.specs.declared.key_id.TheConstants.{GRAPH_KEYS}
 use Rattle.ld_trace.specs.declared.event.Irq.{Irq}
 use Rattle.ld_facts.specs.Arrows.{Arrow}
 use Rattle.ld_facts.specs.Facts.{DependenciesOf}
@@ -24,7 +24,7 @@ pub record NoneGoesDown (Has : Fact → Type 0) (rank : ℕ → ℕ) : Type 0 wh
 
 -- more keys below the bound have this rank than a graph takes: these are one too many
 abbrev pub IsCrowded : ℕ → (ℕ → ℕ) → ℕ → Type 0
-IsCrowded bound rank r = (keys : List ℕ) × (length keys ≡ MAX_KEYS + 1) ×
+IsCrowded bound rank r = (keys : List ℕ) × (length keys ≡ GRAPH_KEYS + 1) ×
     AllPairs (λ a b. ¬ (a ≡ b)) keys × All (λ key. (key < bound) × (rank key ≡ r)) keys
 
 -- the fact is only about keys of this rank

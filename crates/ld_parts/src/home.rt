@@ -2,7 +2,7 @@
 
 ghost use Rattle.std.specs.Prelude.{◌≤◌, Contains, IfOk, length, slice_index};
 ghost use Rattle.ld_parts.specs.Inside.Parts.{AreHomes, AreHoused, IsAtPlace};
-ghost use Rattle.ld_trace.specs.declared.key_id.TheConstants.{MAX_MANY};
+ghost use Rattle.ld_trace.specs.declared.key_id.TheConstants.{MAX_KEYS};
 
 use crate::part::Part;
 use crate::ranks::Ranks;
@@ -28,15 +28,15 @@ pub(crate) fn homes_by_ranks(
     let mut homes = Vec::new(alloc);
     for key in 0..bound {
         let part = ranks.get(key);
-        let place = place_among(&parts[usize::from(part)].keys, key);
+        let place = place_in(&parts[usize::from(part)].keys, key);
         homes.push(Home { part, place })?;
     }
     Ok(homes)
 }
 
 // The key's place among the keys, of which it is one.
-fn place_among(keys: &[u16], key: u16) -> u16
-    requires few { length keys.now ≤ MAX_MANY }
+fn place_in(keys: &[u16], key: u16) -> u16
+    requires few { length keys.now ≤ MAX_KEYS }
     requires listed { Contains keys.now key }
     ensures { IsAtPlace keys.now key result }
 {

@@ -5,7 +5,6 @@
 
 mod bit_rows;
 mod depth_first;
-mod finding;
 mod home;
 mod laws;
 mod node_arrows;
@@ -13,12 +12,13 @@ mod pair;
 mod part;
 mod parted_graph;
 mod parting_fault;
+mod ranking;
 mod ranks;
 mod settled;
 
-pub use finding::{find_ranks, find_ranks_of};
 pub use laws::findings_are_those_of_the_parts;
 pub use parted_graph::PartedGraph;
 pub use parting_fault::PartingFault;
+pub use ranking::{find_ranks, find_ranks_of};
 pub use ranks::{Ranks, are_ranked};
 pub use settled::Settled;

@@ -13,7 +13,7 @@ use crate::parting_fault::PartingFault;
 use crate::ranks::Ranks;
 use ld_facts::Facts;
 use ld_graph::{Circle, Graph};
-use ld_trace::MAX_KEYS;
+use ld_trace::GRAPH_KEYS;
 use std::alloc::{AllocError, Global};
 
 // The keys of a rank, with the graph of the facts among them, in which a key's number is its place.
@@ -31,7 +31,7 @@ impl Part {
             → IsCrowded facts.now.keys (slice_index ranks.now) rank }
     {
         let keys = keys_of(alloc, facts.keys(), ranks, rank)?;
-        if keys.len() > usize::from(MAX_KEYS) {
+        if keys.len() > usize::from(GRAPH_KEYS) {
             return Err(PartingFault::TooTangled);
         }
         let graph = Graph::of_keys(alloc, facts, &keys)?;

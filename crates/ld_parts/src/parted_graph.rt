@@ -8,20 +8,20 @@ ghost use Rattle.ld_graph.specs.Links.{IsClean};
 ghost use Rattle.ld_parts.specs.Ranks.{IsCrowded, NoneGoesDown};
 ghost use Rattle.ld_graph.specs.Walks.{IsShortestCircle, OnCircle};
 ghost use Rattle.ld_parts.specs.declared.parting_fault.PartingFault.TheVariants.{TooTangled};
-ghost use Rattle.ld_trace.specs.declared.key_id.TheConstants.{MAX_KEYS};
+ghost use Rattle.ld_trace.specs.declared.key_id.TheConstants.{GRAPH_KEYS};
 
-use crate::finding::find_ranks;
 use crate::home::{Home, homes_by_ranks};
 use crate::part::{Part, are_clean, parts_by_ranks, shortest_of};
 use crate::parting_fault::PartingFault;
+use crate::ranking::find_ranks;
 use crate::ranks::{Ranks, are_ranked};
 use ld_facts::Facts;
 use ld_graph::Circle;
-use ld_trace::MAX_KEYS;
+use ld_trace::GRAPH_KEYS;
 use std::alloc::{AllocError, Global};
 use std::marker::Model;
 
-/// Facts about the keys below a bound of at most `MAX_MANY`, with a graph for each rank of some ranks by which no
+/// Facts about the keys below a bound of at most `MAX_KEYS`, with a graph for each rank of some ranks by which no
 /// dependency and no interrupt link goes down. A question about keys of one rank is one to that rank's graph, and
 /// nothing is found between keys of different ranks. The questions are those of `Settled`.
 #[derive(Drop)]
@@ -69,7 +69,7 @@ impl PartedGraph {
     /// have the same rank. It fails if more than 256 keys would have to have one rank, or if memory is refused.
     pub fn new(alloc: Global, facts: Facts) -> Result<PartedGraph, PartingFault>
         ensures value { IfOk result (λ graph. graph ≡ facts) }
-        ensures tangled { result ≡ Err TooTangled → MAX_KEYS < facts.keys }
+        ensures tangled { result ≡ Err TooTangled → GRAPH_KEYS < facts.keys }
     {
         let ranks = ranks_for(alloc, &facts)?;
         PartedGraph::by_ranks(alloc, facts, &ranks)
@@ -116,9 +116,9 @@ impl PartedGraph {
 
 // Ranks for the facts: one for all keys, if there are at most 256, and otherwise those that a search finds.
 fn ranks_for(alloc: Global, facts: &Facts) -> Result<Ranks, AllocError>
-    ensures { facts.now.keys ≤ MAX_KEYS → IfOk result (λ ranks. (key : ℕ) → slice_index ranks key ≡ 0) }
+    ensures { facts.now.keys ≤ GRAPH_KEYS → IfOk result (λ ranks. (key : ℕ) → slice_index ranks key ≡ 0) }
 {
-    if facts.keys() <= MAX_KEYS {
+    if facts.keys() <= GRAPH_KEYS {
         Ranks::new(alloc, 0)
     } else {
         find_ranks(alloc, facts)

@@ -1,4 +1,4 @@
-//! The facts of a completed run, and what they mean.
+//! Facts that are settled, as those of a completed run, and what they mean.
 
 ghost use Rattle.std.specs.Prelude.{◌≡◌, ◌*◌, ◌≤◌, ◌↔◌, IfSome, IsNone, IsTrue, length};
 ghost use Rattle.ld_facts.specs.Arrows.{Arrow, arrow};
@@ -18,8 +18,8 @@ use ld_graph::{Circle, Graph, InversionWalk, Kind, Mark, Walk};
 use ld_trace::Irq;
 use std::marker::Model;
 
-/// The facts of a completed run, on which the book and the workers agree, or of a survey. Whoever has them can ask what
-/// they mean; no question takes memory.
+/// Facts that are settled: those of a completed run, or of a graph that its caller has made. Whoever has them can ask
+/// what they mean; no question takes memory.
 #[derive(Drop)]
 pub struct Settled {
     graphs: Graphs,

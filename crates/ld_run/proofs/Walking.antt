@@ -17,7 +17,7 @@ use Rattle.ld_facts.specs.declared.fact.Fact.{Fact}
 use Rattle.ld_board.specs.Views.{KnowsFact, PutsOnly}
 use Rattle.ld_run.specs.Inside.Walks.{ComesNext, HasGathered, WalksOn, fault_in}
 use Rattle.ld_board.specs.declared.view.View.{View}
-use Rattle.ld_run.specs.declared.worker.Lost.{Lost}
+use Rattle.ld_run.specs.declared.worker.OutOfMemory.{OutOfMemory}
 
 -- the chain of an event of a trace has the trace's keys
 pub chain_below : ChainKeysAreTheTraces → (keys : ℕ) (t : List Event) (n : ℕ) (state : EndState) (r : Result (Option ChainParts) StepFault) (c : ChainParts) → r ≡ Ok (Some c) → GoesOn t n state r → KeysBelow keys t → ChainKeysBelow keys c
@@ -129,6 +129,6 @@ pub gathered_knows : (keys : ℕ) (start now : View) (t : List Event) (n : ℕ) 
 gathered_knows keys start now t n Q same gathered x h = gathered.knows x ((same x).1 h)
 
 -- nothing is refused if the worker was lost
-pub none_in : (r : Result (Option StepFault) Lost) → IsErr r → fault_in r ≡ None
+pub none_in : (r : Result (Option StepFault) OutOfMemory) → IsErr r → fault_in r ≡ None
 none_in (Ok fault) is = absurd (true≢false (sym is))
 none_in (Err lost) is = refl

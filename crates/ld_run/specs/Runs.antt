@@ -8,7 +8,7 @@ use Rattle.ld_facts.specs.TraceFacts.{TracesHave, IsFirstRefused}
 use Rattle.ld_run.specs.declared.fault.RunFault.{RunFault}
 use Rattle.ld_run.specs.declared.fault.RunFault.TheVariants.{BadWorkers, TooManyTraces, Unsettled, Memory, Refused, TooTangled}
 use Rattle.ld_run.specs.declared.runs.TheConstants.{MAX_WORKERS}
-use Rattle.ld_trace.specs.declared.key_id.TheConstants.{MAX_KEYS}
+use Rattle.ld_trace.specs.declared.key_id.TheConstants.{GRAPH_KEYS}
 use Rattle.ld_trace.specs.declared.raw_trace.TheConstants.{MAX_TRACES}
 
 -- there can be this many workers
@@ -35,7 +35,7 @@ StopsRun traces keys workers (Refused trace place fault) =
     IsCrew workers × (length traces ≤ MAX_TRACES) ×
     IsFirstRefused traces trace (record { fault = fault; place = place })
 StopsRun traces keys workers TooTangled =
-    IsCrew workers × (length traces ≤ MAX_TRACES) × All IsWellFormed traces × (MAX_KEYS < keys)
+    IsCrew workers × (length traces ≤ MAX_TRACES) × All IsWellFormed traces × (GRAPH_KEYS < keys)
 
 -- the run ended in this way
 abbrev pub EndsRun : List (List Event) → (keys workers : ℕ) → Result FactParts RunFault → Type 0

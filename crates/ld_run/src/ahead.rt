@@ -8,7 +8,7 @@ ghost use Rattle.ld_run.specs.Inside.Ahead.{AreFrom, AreHeld, AreJoined, ArePart
 
 use crate::joined::join_texts;
 use crate::sources::Sources;
-use ld_trace::{KeyTable, MAX_MANY, NumberedTrace, RawTrace, Renumbering, read_joined, read_trace};
+use ld_trace::{KeyTable, MAX_KEYS, NumberedTrace, RawTrace, Renumbering, read_joined, read_trace};
 use std::alloc::Global;
 use std::collections::VecDeque;
 use std::sync::atomic::{AtomicUsize, Ordering};
@@ -65,7 +65,7 @@ impl Ahead {
         ensures by { result.by ≡ [] }
         ensures parts { result.parts.items ≡ [] }
     {
-        let Ok(own) = KeyTable::with_room(alloc, MAX_MANY) else {
+        let Ok(own) = KeyTable::with_room(alloc, MAX_KEYS) else {
             unreachable!();
         };
         Ahead {

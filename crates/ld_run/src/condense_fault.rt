@@ -10,7 +10,7 @@ use thiserror::Error;
 #[derive(Clone, Copy, PartialEq, Eq, Debug, Error)]
 pub enum CondenseFault {
     /// E1: the trace that was made doesn't have exactly the facts, for example because a key of theirs isn't in the
-    /// order.
+    /// order, or because it would have more than 1,000,000 events.
     #[error("the condensed trace does not have the same facts")]
     Unequal,
     /// E2: memory was refused.

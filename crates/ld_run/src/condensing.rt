@@ -4,15 +4,15 @@
 //! proof depends on how it was made.
 
 ghost use Rattle.std.specs.Prelude.{◌≡◌, ◌≤◌, IfOk};
-ghost use Rattle.ld_trace.specs.declared.key_id.TheConstants.{MAX_MANY};
+ghost use Rattle.ld_trace.specs.declared.key_id.TheConstants.{MAX_KEYS};
 ghost use Rattle.ld_trace.specs.Events.{KeysBelow};
 ghost use Rattle.ld_task.specs.WellFormed.{IsWellFormed};
 ghost use Rattle.ld_facts.specs.FactBits.{HasFact};
 ghost use Rattle.ld_facts.specs.Facts.{AreSame, TraceHas};
 ghost use Rattle.ld_run.specs.Condensing.{IsCondensed};
 
-use crate::adding::add_trace;
 use crate::condense_fault::CondenseFault;
+use crate::trace_facts::add_trace;
 use ld_facts::Facts;
 use ld_graph::{Kind, Mark};
 use ld_parts::Settled;
@@ -21,11 +21,12 @@ use std::alloc::{AllocError, Global};
 
 /// One trace that has exactly the settled facts, made from them alone: the same facts in the same order of keys give
 /// the same trace, and condensing the result again gives the result. It has no try, so version 1 of the format can
-/// write it, and it has at most about 540,000 events.
+/// write it, and of 256 keys it has at most about 540,000 events.
 ///
 /// The order has each key that the facts are about, once. Refusals: E2 if memory is refused, E1 if the trace that was
-/// made doesn't have exactly the facts, for example because the order lacks a key. For facts of well-formed traces, in
-/// an order that has all their keys, no test has met E1; that it can't happen isn't proved.
+/// made doesn't have exactly the facts, for example because the order lacks a key, or would have more than 1,000,000
+/// events. For facts of well-formed traces with at most 256 keys, in an order that has them all, no test has met E1;
+/// that it can't happen isn't proved.
 pub fn condense(
     alloc: Global,
     settled: &Settled,
@@ -48,7 +49,7 @@ pub fn condense(
 
 // The facts of a trace, if each of its events is allowed.
 fn facts_of(alloc: Global, trace: &RawTrace, keys: u16) -> Result<Facts, CondenseFault>
-    requires few { keys ≤ MAX_MANY }
+    requires few { keys ≤ MAX_KEYS }
     requires below { KeysBelow keys trace.now }
     ensures keys { IfOk result (λ facts. facts.keys ≡ keys) }
     ensures well_formed { IfOk result (λ _. IsWellFormed trace.now) }

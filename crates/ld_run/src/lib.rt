@@ -1,7 +1,6 @@
 //! Runs over many traces: threads that read them, workers that walk them in threads, and the facts of all traces together.
 #![tactic(auto)]
 
-mod adding;
 mod ahead;
 mod condense_fault;
 mod condensing;
@@ -16,6 +15,7 @@ mod shares;
 mod sources;
 mod surveys;
 mod taking;
+mod trace_facts;
 mod unread;
 mod worker;
 

@@ -12,7 +12,7 @@ ghost use Rattle.ld_run.specs.Inside.Pieces.{Advances, IsPiece, MayBePiece, Read
 
 use crate::in_turn::no_room;
 use ld_trace::{
-    KeyTable, MAX_MANY, RawTrace, TraceFault, Version, headers_read, read_on, read_trace,
+    KeyTable, MAX_KEYS, RawTrace, TraceFault, Version, headers_read, read_on, read_trace,
 };
 use std::alloc::{AllocError, Global};
 use std::io::{BufRead, BufReader, Read};
@@ -33,6 +33,7 @@ pub(crate) struct Piece {
 
 /// Reads a trace as `read_trace` does, by as many threads, of which each reads about `size` bytes at a time. Whatever can't be read
 /// apart is read in turn: a header that isn't exactly `lockdep,1` or `lockdep,2` and a newline, and everything from a faulty record on.
+/// Faults are those of `read_trace`, and T9 at record 1 if memory for the pieces is refused.
 pub fn read_in_pieces<R: Threads + Sync, S: Read + Drop>(
     rt: &R,
     alloc: Global,
@@ -170,7 +171,7 @@ impl<R: Threads + Sync> Team<'_, R> {
         ensures room { keys.new.room ≡ keys.old.room }
     {
         let count = self.threads.min(lines.len() / self.size.max(1) + 1);
-        match self.read_all(alloc, lines, count) {
+        match self.read_pieces(alloc, lines, count) {
             Ok(mut pieces) => join_pieces(
                 alloc,
                 self.version,
@@ -184,7 +185,7 @@ impl<R: Threads + Sync> Team<'_, R> {
     }
 
     // What this many threads have read of the lines.
-    fn read_all(
+    fn read_pieces(
         &self,
         alloc: Global,
         lines: &[u8],
@@ -250,7 +251,7 @@ fn read_piece(
     if *last != b'\n' {
         return None;
     }
-    let Ok(mut own) = KeyTable::with_room(alloc, MAX_MANY) else {
+    let Ok(mut own) = KeyTable::with_room(alloc, MAX_KEYS) else {
         unreachable!();
     };
     let Ok(trace) = read_trace(alloc, version.line().chain(bytes), &mut own) else {

@@ -2,7 +2,7 @@
 
 ghost use Rattle.std.specs.Prelude.{◌≡◌, ◌+◌, ◌≤◌, ◌<◌, ◌↔◌, ◌++◌, ℕ, List, All, IfOk, IfErr, IsErrOf, IsFalse, count_by, length, map, sum_by, vec_capacity, vec_len};
 ghost use Rattle.ld_trace.specs.declared.event.Event.{Event};
-ghost use Rattle.ld_trace.specs.declared.key_id.TheConstants.{MAX_MANY};
+ghost use Rattle.ld_trace.specs.declared.key_id.TheConstants.{MAX_KEYS};
 ghost use Rattle.ld_trace.specs.Events.{KeysBelow};
 ghost use Rattle.ld_task.specs.Events.{makes_chain};
 ghost use Rattle.ld_run.specs.Runs.{CompletesRun, EndsRun, IsCrew, StopsRun};
@@ -17,13 +17,13 @@ use crate::fault::{RunFault, refused_by};
 use crate::gate::Gate;
 use crate::settling::settle;
 use crate::surveys::survey;
-use crate::worker::{Lost, Worked, work};
+use crate::worker::{OutOfMemory, Worked, work};
 use ld_board::{Board, Seat};
 use ld_book::{Book, LockedBook};
 use ld_facts::Facts;
 use ld_parts::Settled;
 use ld_task::StepAt;
-use ld_trace::{Event, MAX_EVENTS, MAX_KEYS, MAX_TRACES, RawTrace};
+use ld_trace::{Event, GRAPH_KEYS, MAX_EVENTS, MAX_TRACES, RawTrace};
 use std::alloc::{AllocError, Global};
 use std::sync::Wait;
 use std::thread;
@@ -55,9 +55,9 @@ struct Crew<'a, R, G> {
 ///
 /// Refusals, in this order: N1 if `workers` isn't 1 to 64; N2 if there are more than 4,096 traces; N4 if memory is
 /// refused; N5 if a trace isn't well formed, with the first such trace and its first event that isn't allowed; N3 if
-/// the book and the board don't agree. With more than 256 keys M1 comes instead of N3, if they can't be split into parts
-/// of at most 256 such that what is found among all keys is found in the parts, or N4 again if memory is refused for the
-/// parts. The traces are only borrowed.
+/// the book and the board don't agree. With more than 256 keys there is M1 instead of N3, if they can't be split into
+/// parts of at most 256 such that what is found among all keys is found in the parts, or N4 again if memory is refused
+/// for the parts. The traces are only borrowed.
 pub fn run<R: Threads + Wait + Sync, G: Gate + Sync>(
     rt: &R,
     alloc: Global,
@@ -66,7 +66,7 @@ pub fn run<R: Threads + Wait + Sync, G: Gate + Sync>(
     workers: u16,
     gate: &G,
 ) -> Result<Settled, RunFault>
-    requires few { keys ≤ MAX_MANY }
+    requires few { keys ≤ MAX_KEYS }
     requires below { All (KeysBelow keys) traces.now }
     ensures ok { IfOk result (CompletesRun traces.now workers) }
     ensures keys { IfOk result (λ settled. settled.keys ≡ keys) }
@@ -80,7 +80,7 @@ pub fn run<R: Threads + Wait + Sync, G: Gate + Sync>(
     if traces.len() > MAX_TRACES {
         return Err(RunFault::TooManyTraces);
     }
-    if keys > MAX_KEYS {
+    if keys > GRAPH_KEYS {
         survey(rt, alloc, traces, keys, usize::from(workers))
     } else {
         complete(rt, alloc, traces, keys, usize::from(workers), gate)
@@ -96,7 +96,7 @@ fn complete<R: Threads + Wait + Sync, G: Gate + Sync>(
     workers: usize,
     gate: &G,
 ) -> Result<Settled, RunFault>
-    requires few { keys ≤ MAX_KEYS }
+    requires few { keys ≤ GRAPH_KEYS }
     requires below { All (KeysBelow keys) traces.now }
     requires crew { IsCrew workers }
     requires traces { length traces.now ≤ MAX_TRACES }
@@ -155,8 +155,8 @@ fn gather<R: Threads + Wait + Sync, G: Gate + Sync>(
     crew: &Crew<R, G>,
     traces: &[RawTrace],
     keys: u16,
-) -> Result<(Facts, Option<(usize, StepAt)>), Lost>
-    requires few { keys ≤ MAX_KEYS }
+) -> Result<(Facts, Option<(usize, StepAt)>), OutOfMemory>
+    requires few { keys ≤ GRAPH_KEYS }
     requires below { All (KeysBelow keys) traces.now }
     requires crew { IsCrew crew.now.workers }
     requires traces { length traces.now ≤ MAX_TRACES }
@@ -164,22 +164,22 @@ fn gather<R: Threads + Wait + Sync, G: Gate + Sync>(
     ensures tally { IfOk result (λ gathered. IsTally traces.now gathered.0 gathered.1) }
 {
     let Ok((board, mut seats)) = Board::open(crew.alloc, keys, crew.workers + 1) else {
-        return Err(Lost);
+        return Err(OutOfMemory);
     };
     let Some(mine) = seats.pop() else {
-        return Err(Lost);
+        return Err(OutOfMemory);
     };
     let Ok(mut back) = Vec::with_capacity(crew.alloc, crew.workers + 1) else {
-        return Err(Lost);
+        return Err(OutOfMemory);
     };
     back.push_reserved(mine);
     let Ok(done) = work_in_threads(crew, &board, seats, traces) else {
-        return Err(Lost);
+        return Err(OutOfMemory);
     };
     let (back, refused) = hand_in(back, done)?;
     match board.close(back) {
         Ok(facts) => Ok((facts, refused)),
-        Err(_) => Err(Lost),
+        Err(_) => Err(OutOfMemory),
     }
 }
 
@@ -211,7 +211,7 @@ fn work_in_threads<R: Threads + Wait + Sync, G: Gate + Sync>(
 fn hand_in(
     mut back: Vec<Seat>,
     done: Vec<Worked>,
-) -> Result<(Vec<Seat>, Option<(usize, StepAt)>), Lost>
+) -> Result<(Vec<Seat>, Option<(usize, StepAt)>), OutOfMemory>
     requires { vec_len back + vec_len done ≤ vec_capacity back }
     ensures seats { IfOk result (λ r. r.0.items ≡ back.items ++ map (λ w. w.seat) done.items) }
     ensures none_lost { IfOk result (λ r. All (λ w. IsFalse w.lost) done.items) }
@@ -227,7 +227,7 @@ fn hand_in(
             lost,
         } = worked;
         if lost {
-            return Err(Lost);
+            return Err(OutOfMemory);
         }
         back.push_reserved(seat);
         refused = earlier(refused, found);

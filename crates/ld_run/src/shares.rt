@@ -2,15 +2,15 @@
 
 ghost use Rattle.std.specs.Prelude.{◌≤◌, ℕ, All, drop, length, take};
 ghost use denote.Param.Send.{IsSync};
-ghost use Rattle.ld_trace.specs.declared.key_id.TheConstants.{MAX_MANY};
+ghost use Rattle.ld_trace.specs.declared.key_id.TheConstants.{MAX_KEYS};
 ghost use Rattle.ld_trace.specs.Events.{KeysBelow};
 ghost use Rattle.ld_task.specs.WellFormed.{IsWellFormed};
 ghost use Rattle.ld_run.specs.Inside.Walked.{EndsWalk, StopsWalk};
 
-use crate::adding::add_trace;
+use crate::trace_facts::add_trace;
 use ld_facts::Facts;
 use ld_task::StepAt;
-use ld_trace::RawTrace;
+use ld_trace::{RawTrace, event_count};
 use std::alloc::Global;
 use std::thread;
 use std::thread::Threads;
@@ -34,7 +34,7 @@ pub(crate) fn facts_of_all<R: Threads + Sync>(
     keys: u16,
     threads: usize,
 ) -> Result<Facts, Unwalked>
-    requires few { keys ≤ MAX_MANY }
+    requires few { keys ≤ MAX_KEYS }
     requires below { All (KeysBelow keys) traces.now }
     ensures { EndsWalk keys traces.now result }
 {
@@ -46,11 +46,11 @@ pub(crate) fn facts_of_all<R: Threads + Sync>(
     let place = place_of_share(traces, threads);
     let (low, high) = traces.split_at(place);
     let first = move || -> Result<Facts, Unwalked>
-        requires { IsSync R.row × (keys ≤ MAX_MANY) × All (KeysBelow keys) low.now }
+        requires { IsSync R.row × (keys ≤ MAX_KEYS) × All (KeysBelow keys) low.now }
         ensures { EndsWalk keys low.entry.now result }
     { facts_of_all(rt, alloc, low, keys, part) };
     let second = move || -> Result<Facts, Unwalked>
-        requires { IsSync R.row × (keys ≤ MAX_MANY) × All (KeysBelow keys) high.now }
+        requires { IsSync R.row × (keys ≤ MAX_KEYS) × All (KeysBelow keys) high.now }
         ensures { EndsWalk keys high.entry.now result }
     { facts_of_all(rt, alloc, high, keys, rest) };
     let (first, second) = thread::join(rt, first, second);
@@ -59,7 +59,7 @@ pub(crate) fn facts_of_all<R: Threads + Sync>(
 
 // The facts of all traces, if they are well formed, walked one after the other by the calling thread.
 fn facts_in_turn(alloc: Global, traces: &[RawTrace], keys: u16) -> Result<Facts, Unwalked>
-    requires few { keys ≤ MAX_MANY }
+    requires few { keys ≤ MAX_KEYS }
     requires below { All (KeysBelow keys) traces.now }
     ensures { EndsWalk keys traces.now result }
 {
@@ -74,7 +74,7 @@ fn facts_in_turn(alloc: Global, traces: &[RawTrace], keys: u16) -> Result<Facts,
     Ok(facts)
 }
 
-// What both parts of the traces have, of which the first ends before this place. Memory that was refused to one of them comes first.
+// What both parts of the traces have, of which the first ends before this place. If memory was refused to one of them, that is returned.
 fn united(
     traces: &[RawTrace],
     place: usize,
@@ -96,7 +96,7 @@ fn united(
             facts.unite(&others);
             Ok(facts)
         }
-        Err(unwalked) => Err(place_among(traces, place, unwalked)),
+        Err(unwalked) => Err(unwalked_of_all(traces, place, unwalked)),
     }
 }
 
@@ -106,7 +106,7 @@ fn lacks_memory(part: &Result<Facts, Unwalked>) -> bool {
 }
 
 // The same for all traces, if only those from this place on were walked.
-fn place_among(traces: &[RawTrace], place: usize, unwalked: Unwalked) -> Unwalked
+fn unwalked_of_all(traces: &[RawTrace], place: usize, unwalked: Unwalked) -> Unwalked
     requires place { place ≤ length traces.now }
     requires stops { StopsWalk (drop place traces.now) unwalked }
     ensures { All IsWellFormed (take place traces.now) → StopsWalk traces.now result }
@@ -125,10 +125,10 @@ fn place_of_share(traces: &[RawTrace], threads: usize) -> usize
     requires { 2 ≤ threads }
     ensures { result ≤ length traces.now }
 {
-    let share = (event_count(traces) / threads).saturating_mul(threads / 2);
-    let mut before = 0usize;
+    let share = (event_count(traces) / threads as u128).saturating_mul(threads as u128 / 2);
+    let mut before = 0u128;
     for place in 0..traces.len() {
-        let events = traces[place].len();
+        let events = traces[place].len() as u128;
         if share <= before.saturating_add(events / 2) {
             return place;
         }
@@ -143,14 +143,5 @@ pub(crate) fn useful_threads(traces: &[RawTrace], keys: u16, workers: usize) -> 
     ensures { result ≤ workers }
 {
     let words = usize::from(keys) * usize::from(keys) / 16;
-    workers.min(event_count(traces) / (words / 4 + 1))
-}
-
-// How many events the traces have together.
-fn event_count(traces: &[RawTrace]) -> usize {
-    let mut events = 0usize;
-    for trace in traces {
-        events = events.saturating_add(trace.len());
-    }
-    events
+    workers.min((event_count(traces) / (words as u128 / 4 + 1)) as usize)
 }

@@ -1,7 +1,7 @@
 //! A survey: a run over traces of many keys.
 
 ghost use Rattle.std.specs.Prelude.{◌≡◌, ◌≤◌, All, IfErr, IfOk, IsErrOf, length};
-ghost use Rattle.ld_trace.specs.declared.key_id.TheConstants.{MAX_MANY};
+ghost use Rattle.ld_trace.specs.declared.key_id.TheConstants.{MAX_KEYS};
 ghost use Rattle.ld_trace.specs.Events.{KeysBelow};
 ghost use Rattle.ld_run.specs.Runs.{CompletesRun, IsCrew, StopsRun};
 
@@ -20,7 +20,7 @@ pub(crate) fn survey<R: Threads + Sync>(
     keys: u16,
     workers: usize,
 ) -> Result<Settled, RunFault>
-    requires few { keys ≤ MAX_MANY }
+    requires few { keys ≤ MAX_KEYS }
     requires below { All (KeysBelow keys) traces.now }
     requires crew { IsCrew workers }
     requires traces { length traces.now ≤ MAX_TRACES }

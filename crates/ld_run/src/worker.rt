@@ -35,7 +35,7 @@ pub struct Worked {
 // What the workers of a run share besides the board: how they wait, the book that they record in, and the gate that
 // they call.
 #[derive(Clone, Copy)]
-struct Walk<'a, R, G> {
+struct Desk<'a, R, G> {
     rt: &'a R,
     book: &'a LockedBook,
     gate: &'a G,
@@ -43,7 +43,7 @@ struct Walk<'a, R, G> {
 
 /// The worker ended because memory was refused.
 #[derive(Clone, Copy, Debug)]
-pub(crate) struct Lost;
+pub(crate) struct OutOfMemory;
 
 /// Claims traces with the seat until it gets a number that is no trace's place, and walks each up to its first event
 /// that isn't allowed. A chain that the board covers isn't recorded. The facts of any other are put on the board; then
@@ -67,12 +67,12 @@ pub fn work<R: Wait, G: Gate>(
     ensures seat { IsSeatOf board.now result.seat }
     ensures worked { HasWorked (keys_of board.now) traces.now (view seat) result }
 {
-    let walk = Walk { rt, book, gate };
+    let desk = Desk { rt, book, gate };
     let mut refused = None;
     let mut number = board.claim(&mut seat);
     while number < traces.len() as u64 {
         let trace = number as usize;
-        let Ok(found) = walk_trace(&walk, board, &mut seat, trace, &traces[trace]) else {
+        let Ok(found) = walk_trace(&desk, board, &mut seat, trace, &traces[trace]) else {
             return Worked {
                 seat,
                 refused,
@@ -91,12 +91,12 @@ pub fn work<R: Wait, G: Gate>(
 
 // Walks a trace up to its first event that isn't allowed, and returns that one, if there is one.
 fn walk_trace<R: Wait, G: Gate>(
-    walk: &Walk<R, G>,
+    desk: &Desk<R, G>,
     board: &Board,
     seat: &mut Seat,
     trace: usize,
     events: &RawTrace,
-) -> Result<Option<StepAt>, Lost>
+) -> Result<Option<StepAt>, OutOfMemory>
     requires seat { IsSeatOf board.now seat.old }
     requires below { KeysBelow (keys_of board.now) events.now }
     requires trace { trace < MAX_CLAIMS }
@@ -115,7 +115,7 @@ fn walk_trace<R: Wait, G: Gate>(
         let Some(event) = events.event(place) else {
             unreachable!();
         };
-        let refused = walk_event(walk, board, seat, &mut state, trace, &mut number, event)?;
+        let refused = walk_event(desk, board, seat, &mut state, trace, &mut number, event)?;
         if let Some(fault) = refused {
             return Ok(Some(StepAt { fault, place }));
         }
@@ -126,14 +126,14 @@ fn walk_trace<R: Wait, G: Gate>(
 // Advances by one event of a trace, and returns why it isn't allowed, if it isn't. The number is that of the trace's
 // next chain: the events of a trace that make a chain are counted.
 fn walk_event<R: Wait, G: Gate>(
-    walk: &Walk<R, G>,
+    desk: &Desk<R, G>,
     board: &Board,
     seat: &mut Seat,
     state: &mut TaskState,
     trace: usize,
     number: &mut u64,
     event: Event,
-) -> Result<Option<StepFault>, Lost>
+) -> Result<Option<StepFault>, OutOfMemory>
     requires seat { IsSeatOf board.now seat.old }
     requires next { (start : View) × (t : List Event) × (n : ℕ)
         × ComesNext (keys_of board.now) start (view seat.old) state.old event t n }
@@ -150,7 +150,7 @@ fn walk_event<R: Wait, G: Gate>(
         Ok(answer) => {
             if let Some(chain) = answer {
                 if board.put_unless_covered(seat, &chain) {
-                    record_chain(walk, trace, *number, chain)?;
+                    record_chain(desk, trace, *number, chain)?;
                 }
                 *number += 1;
             }
@@ -163,16 +163,16 @@ fn walk_event<R: Wait, G: Gate>(
 // Calls the gate, and records the chain. If the book is full or doesn't take a key of the chain, the chain isn't
 // recorded: settling finds what that lost.
 fn record_chain<R: Wait, G: Gate>(
-    walk: &Walk<R, G>,
+    desk: &Desk<R, G>,
     trace: usize,
     number: u64,
     chain: Chain,
-) -> Result<(), Lost>
+) -> Result<(), OutOfMemory>
     requires trace { trace < MAX_CLAIMS }
 {
-    walk.gate.before_record(trace, number);
-    match walk.book.record(walk.rt, trace as u32, chain) {
-        Err(BookFault::Memory) => Err(Lost),
+    desk.gate.before_record(trace, number);
+    match desk.book.record(desk.rt, trace as u32, chain) {
+        Err(BookFault::Memory) => Err(OutOfMemory),
         _ => Ok(()),
     }
 }

@@ -2,7 +2,7 @@
 use Rattle.std.specs.Prelude.{◌≡◌, ℕ, zero, suc, ◌+◌, ◌*◌, ◌/◌, ◌%◌, ◌<◌}
 use Rattle.ld_trace.specs.declared.event.Mode.{Mode}
 use Rattle.ld_trace.specs.declared.event.Mode.TheVariants.{Write, Read, RecRead, TryWrite, TryRead, TryRecRead}
-use Rattle.ld_trace.specs.declared.key_id.TheConstants.{MAX_MANY}
+use Rattle.ld_trace.specs.declared.key_id.TheConstants.{MAX_KEYS}
 
 -- a key and the mode that it is taken in
 pub record LockParts : Type 0 where
@@ -37,5 +37,5 @@ lock_of_word word = record { key = word / 8; mode = mode_from (word % 8) }
 
 -- the word is that of a lock
 pub record IsLockWord (word : ℕ) : Type 0 where
-  pub key_below : word / 8 < MAX_MANY
+  pub key_below : word / 8 < MAX_KEYS
   pub mode_is : mode_number (mode_from (word % 8)) ≡ word % 8

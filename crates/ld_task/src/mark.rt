@@ -7,8 +7,8 @@ use ld_trace::Irq;
 pub enum Mark {
     /// Taken at all.
     Used,
-    /// Taken in the context of this state.
+    /// Taken in the context of this state, and not by a try.
     UsedIn { irq: Irq, read: bool },
-    /// Held with this state on.
+    /// Held, or taken, with this state enabled: softirqs are if both flags are on.
     Enabled { irq: Irq, read: bool },
 }

@@ -11,7 +11,7 @@ use Rattle.ld_explain.specs.Notes.{IsAloneIn}
 use Rattle.ld_text.specs.Explanation.{AreNoteLines, note_line, dependency_text, gate_note, listed_text}
 use Rattle.ld_text.specs.Groups.{GrowsBy, InSequence, InTurn}
 use Rattle.ld_text.specs.Words.{Text, key_text, name_at}
-use Rattle.ld_text.specs.Inside.Telling.{mark_at}
+use Rattle.ld_text.specs.Inside.Telling.{separator_at}
 
 -- ---- lists of notes
 -- nothing was added
@@ -52,18 +52,18 @@ module _ (names : List Name) where
       ∙ ap (λ t. before ++ t) (sym (append_assoc (dependency_text names x) (listed_text names (codes ", ") xs) (codes ", " ++ dependency_text names d)))
       ∙ sym (append_assoc before (dependency_text names x ++ listed_text names (codes ", ") xs) (codes ", " ++ dependency_text names d))
 
-  mark_is : (n : ℕ) → mark_of (codes ": ") n ≡ mark_at n
+  mark_is : (n : ℕ) → mark_of (codes ": ") n ≡ separator_at n
   unfolding mark_of
   mark_is zero = refl
   mark_is (suc n) = refl
 
   -- one dependency more
   pub listed-more : (gate : ℕ) (ds : List Arrow) (i : ℕ) (d : Arrow) (old new : List ℕ) → slice_get ds i ≡ Some d → i < length ds →
-      old ≡ gate_note names gate (take i ds) → new ≡ old ++ (mark_at i ++ dependency_text names d) → new ≡ gate_note names gate (take (i + 1) ds)
+      old ≡ gate_note names gate (take i ds) → new ≡ old ++ (separator_at i ++ dependency_text names d) → new ≡ gate_note names gate (take (i + 1) ds)
   listed-more gate ds i d old new is within before more =
       let next : take (i + 1) ds ≡ take i ds ++ d ∷ [] = take_more ds i d within ∙ ap (λ x. take i ds ++ x ∷ []) (get_or_from_slice_get ds i d d is) in
       let count : length (take i ds) ≡ i = length-take-le i ds (omega (arith, within)) in
-      let all = mark_at i ++ dependency_text names d in
+      let all = separator_at i ++ dependency_text names d in
       more ∙ ap (λ t. t ++ all) before
       ∙ append_assoc (codes "always inside ") (key_text (name_at names gate) ++ listed_text names (codes ": ") (take i ds)) all
       ∙ ap (λ t. codes "always inside " ++ t) (append_assoc (key_text (name_at names gate)) (listed_text names (codes ": ") (take i ds)) all

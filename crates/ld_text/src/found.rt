@@ -1,4 +1,4 @@
-//! What was found: the findings of settled facts as lists, in the report's order. Each text is made of these.
+//! What was found: the findings of settled facts as lists, in the report's order. Each text but the picture is made of these.
 
 ghost use Rattle.std.specs.Prelude.{◌≡◌, [], ◌∷◌, ℕ, IfOk, IsFalse, OnOk, flat_map, map};
 ghost use Rattle.ld_facts.specs.Arrows.{arrow};
@@ -61,7 +61,7 @@ impl Found {
         if settled.is_clean() {
             return Ok(Found::none(alloc));
         }
-        Search { settled, keys }.found(alloc)
+        Finder { settled, keys }.found(alloc)
     }
 
     // No findings.
@@ -121,13 +121,13 @@ pub(crate) fn is_used_in(settled: &Settled, irq: Irq, a: KeyId) -> bool
 
 // Where findings are looked for.
 #[derive(Clone, Copy)]
-struct Search<'a> {
+struct Finder<'a> {
     settled: &'a Settled,
     // All keys, in the order of their names.
     keys: &'a [KeyId],
 }
 
-impl Search<'_> {
+impl Finder<'_> {
     // All findings.
     fn found(self, alloc: Global) -> Result<Found, AllocError>
         ensures { IfOk result (AreFound (HasFact self.entry.settled.now) self.entry.keys.now) }

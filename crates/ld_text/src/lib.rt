@@ -31,6 +31,6 @@ pub use json_text::write_json;
 pub use order::sorted_keys;
 pub use output::{write_text, write_texts};
 pub use picture::write_picture;
-pub use report::{event_count, write_report};
+pub use report::write_report;
 pub use words::{STDIN, digits_of, file_of};
 pub use write_fault::WriteFault;

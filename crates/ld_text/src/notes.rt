@@ -10,7 +10,7 @@ ghost use Rattle.ld_text.specs.Explanation.{AreCircleNotes, AreGateNotes, IsAlon
 ghost use Rattle.ld_text.specs.Found.{AreThose};
 ghost use Rattle.ld_text.specs.Groups.{GrowsBy};
 ghost use Rattle.ld_text.specs.Inside.Finding.{AddsThose};
-ghost use Rattle.ld_text.specs.Inside.Telling.{mark_at};
+ghost use Rattle.ld_text.specs.Inside.Telling.{separator_at};
 
 use crate::found::Dependency;
 use crate::teller::Teller;
@@ -24,8 +24,8 @@ use std::alloc::AllocError;
 const MIN_GUARDED: usize = 2;
 
 // What stands before the dependency at this place of a list.
-fn mark_at(i: usize) -> &'static str
-    ensures { result.now ≡ mark_at i }
+fn separator_at(i: usize) -> &'static str
+    ensures { result.now ≡ separator_at i }
 {
     if i == 0 { ": " } else { ", " }
 }
@@ -73,12 +73,12 @@ impl Teller<'_> {
     // The dependency at this place of a list.
     fn add_listed(&self, note: &mut String, i: usize, d: &Dependency) -> Result<(), AllocError>
         ensures { OnOk result (string_bytes note.new
-            ≡ string_bytes note.old ++ (mark_at i ++ dependency_text self.now.told.names d.now)) }
+            ≡ string_bytes note.old ++ (separator_at i ++ dependency_text self.now.told.names d.now)) }
     {
         let (from_name, from_sub) = name_of(self.names, d.from);
         let (to_name, to_sub) = name_of(self.names, d.to);
         let kind = kind_word(d.kind);
-        note.push_str(mark_at(i))?;
+        note.push_str(separator_at(i))?;
         write!(note, "{from_name}/{from_sub} {kind} {to_name}/{to_sub}")
     }
 

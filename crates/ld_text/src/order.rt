@@ -29,7 +29,7 @@ fn numbered_keys(alloc: Global, keys: &KeyTable) -> Result<Vec<KeyId>, AllocErro
     Ok(all)
 }
 
-/// All keys of the table, in the order of their names.
+/// All keys of the table, in the order of their names. Fails only if memory is refused.
 pub fn sorted_keys(alloc: Global, keys: &KeyTable) -> Result<Vec<KeyId>, AllocError>
     ensures { IfOk result (λ sorted. IsKeyOrder keys.now.names sorted.items) }
 {

@@ -61,10 +61,12 @@ pub(crate) fn put<W: Write>(w: &mut W, page: &mut Page, text: &str) -> Result<()
     write_text(w, text.as_bytes())
 }
 
-/// Writes several texts, one after the other: together, as far as a page holds them.
+/// Writes several texts, one after the other: together, as far as a page holds them. O1 if the writer returns an error and O2 if it
+/// takes nothing, after exactly a beginning of them.
 pub fn write_texts<W: Write>(w: &mut W, texts: &[&str]) -> Result<(), WriteFault>
     ensures ok { OnOk result (Appends (W.contents w.old) (W.contents w.new)
         (flat_map (λ text. text.now) texts.now)) }
+    ensures not_memory { ¬ (result ≡ Err WriteFault.Memory) }
     ensures err { OnErr result (AppendsBeginning (W.contents w.old) (W.contents w.new)
         (flat_map (λ text. text.now) texts.now)) }
 {

@@ -201,7 +201,7 @@ impl PictureView<'_> {
         add(text, "\"")
     }
 
-    // The line of a key to itself, where it is a double.
+    // The line of a key to itself, if it is a double.
     fn add_double(self, text: &mut Vec<u8>, irq: Irq, key: KeyId) -> Result<(), AllocError>
         ensures { OnOk result (GrowsBy
             (ShowsDoubleLink (HasFact self.entry.settled.now) self.entry.names.now.names irq key)
@@ -239,7 +239,7 @@ impl PictureView<'_> {
         Ok(())
     }
 
-    // The line from the second key to the first, where they are an inversion.
+    // The line from the second key to the first, if they are an inversion.
     fn add_inversion(
         self,
         text: &mut Vec<u8>,
@@ -330,7 +330,7 @@ fn picture_text(
     Ok(text)
 }
 
-/// Writes the picture of settled facts, with the names of the keys that are in the table: all of them, or where
+/// Writes the picture of settled facts, with the names of the keys that are in the table: all of them, or if
 /// `findings` is set, only what is part of a circle, a double or an inversion.
 ///
 /// Refusals: O3 if memory for the text is refused, before its first byte; O1 if the writer returns an error and O2

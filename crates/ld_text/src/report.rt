@@ -17,7 +17,7 @@ use crate::words::{irq_word, kind_word, name_of};
 use crate::write_fault::WriteFault;
 use ld_graph::Mark;
 use ld_parts::Settled;
-use ld_trace::{Irq, KeyId, KeyTable, RawTrace};
+use ld_trace::{Irq, KeyId, KeyTable, RawTrace, event_count};
 use std::alloc::{AllocError, Global};
 use std::io::Write;
 
@@ -302,15 +302,4 @@ pub fn write_report<W: Write>(
         Ok(text) => write_text(w, text.as_str().as_bytes()),
         Err(_) => Err(WriteFault::Memory),
     }
-}
-
-// How many events the traces have together.
-pub fn event_count(traces: &[RawTrace]) -> u128
-    ensures { result ≡ sum_by length traces.now }
-{
-    let mut events = 0u128;
-    for trace in traces {
-        events += trace.len() as u128;
-    }
-    events
 }

@@ -1,6 +1,6 @@
 //! What findings are explained from: the facts, and what the traces say about those that are asked about.
 
-ghost use Rattle.std.specs.Prelude.{◌≡◌, ◌↔◌, ◌∷◌, [], ℕ, IsFalse, IsTrue, Some};
+ghost use Rattle.std.specs.Prelude.{◌≡◌, ◌↔◌, ◌∷◌, [], ℕ, IsTrue, Some};
 ghost use Rattle.ld_facts.specs.Arrows.{arrow};
 ghost use Rattle.ld_facts.specs.FactBits.{HasFact};
 ghost use Rattle.ld_facts.specs.declared.fact.Fact.{Fact};
@@ -93,10 +93,10 @@ impl Teller<'_> {
             .is_gate(from.get(), to.get(), kind, gate.get())
     }
 
-    /// Whether some key may be a gate of a dependency. If not, none is.
+    /// Whether some key is a gate of a dependency.
     pub(crate) fn has_gates(&self, from: KeyId, to: KeyId, kind: Kind) -> bool
         requires { HasFact self.now.asked (Fact.Dependency from to kind) }
-        ensures { IsFalse result → (gate : ℕ) → ¬ IsGate self.now.told.traces (arrow from to kind) gate }
+        ensures { IsTrue result ↔ ((gate : ℕ) × IsGate self.now.told.traces (arrow from to kind) gate) }
     {
         self.evidence.guards.has_gates(from.get(), to.get(), kind)
     }

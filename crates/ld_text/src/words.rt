@@ -12,14 +12,14 @@ use ld_trace::{Irq, KeyId, KeyTable, MAX_NAME, Mode};
 /// What texts call the trace on standard input.
 pub const STDIN: &str = "stdin";
 
-/// The name of the file that the trace at this place was read from. Where no file is named, it is standard input.
+/// The name of the file that the trace at this place was read from. If no file is named, it is standard input.
 pub fn file_of<'a>(files: &[&'a str], place: usize) -> &'a str
     ensures { result.now ≡ file_at (map (λ file. file.now) files.entry.now) place }
 {
     files.get(place).copied().unwrap_or(STDIN)
 }
 
-/// The class's name and the subclass of a key; an empty name where there is no such key.
+/// The class's name and the subclass of a key; an empty name if there is no such key.
 pub(crate) fn name_of(keys: &KeyTable, key: KeyId) -> (&str, u8)
     ensures name { (result.0.now, result.1) ≡ name_at keys.now.names key }
     ensures short { length result.0.now ≤ MAX_NAME }
@@ -111,7 +111,7 @@ fn add_digits(digits: &mut Digits, number: usize)
     digits.push_str(digit(number % 10));
 }
 
-// The digits of a number.
+/// The digits of a number.
 pub fn digits_of(number: usize) -> Digits
     ensures text { result.bytes ≡ decimal number }
     ensures few { number < 1000 → length result.bytes ≤ 3 }

@@ -8,7 +8,7 @@ use thiserror::Error;
 /// Why a text wasn't written whole.
 #[derive(Clone, Copy, PartialEq, Eq, Debug, Error)]
 pub enum WriteFault {
-    /// O1: the writer answered an error, of whatever kind. A beginning of the text was written.
+    /// O1: the writer returned an error, of whatever kind. A beginning of the text was written.
     #[error("O1 Failed")]
     Failed,
     /// O2: the writer took nothing of a piece that isn't empty. A beginning of the text was written.

@@ -4,7 +4,7 @@ use Rattle.std.specs.List.{AllByRecursion, IsDistinct, list_all, list_any, posit
 use Rattle.std.proofs.lemmas.Bool.Decides.{nat_tests}
 use Rattle.std.proofs.lemmas.List.{map-append}
 use Rattle.std.proofs.lemmas.List.Folds.{list_all-append}
-use Rattle.ld_trace.specs.declared.key_id.TheConstants.{MAX_MANY}
+use Rattle.ld_trace.specs.declared.key_id.TheConstants.{MAX_KEYS}
 use Rattle.indexmap.specs.IndexSet.{insert_key}
 use Rattle.ld_trace.specs.Names.{AreNumbered, Name, is_known, is_name, is_one_too_many, is_same, place_of, with_name}
 
@@ -46,7 +46,7 @@ named-with_name names name all one = by (is_known names name)
     by false = rw (list_all-append is_name names (name ∷ []), all, one)
 
 -- a table without names
-pub AreNumbered-none : (room : ℕ) → room ≤ MAX_MANY → AreNumbered (record { room = room; names = [] })
+pub AreNumbered-none : (room : ℕ) → room ≤ MAX_KEYS → AreNumbered (record { room = room; names = [] })
 unfolding IsDistinct
 AreNumbered-none room most = record { most = most; few = omega arith; named = refl; once = tt }
 

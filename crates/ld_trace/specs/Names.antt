@@ -2,7 +2,7 @@
 use Rattle.std.specs.Prelude.{◌≡◌, ℕ, ◌≤◌, ◌==◌, ◌&&◌, ◌++◌, ◌∷◌, Bool, true, not, List, [], length, nat_le, if◌then◌else◌}
 use Rattle.std.specs.List.{IsDistinct, list_all, list_any, position_or_len}
 use Rattle.std.specs.Str.{bytes_eq}
-use Rattle.ld_trace.specs.declared.key_id.TheConstants.{MAX_MANY}
+use Rattle.ld_trace.specs.declared.key_id.TheConstants.{MAX_KEYS}
 use Rattle.ld_trace.specs.declared.key_table.TheConstants.{MAX_SUB}
 use Rattle.ld_trace.specs.declared.stored_name.TheConstants.{MAX_NAME}
 
@@ -51,7 +51,7 @@ pub record Table : Type 0 where
 -- the invariant of a table: room for at most 8,192 names, and no more names than it has room for, each a valid name,
 -- none of them twice
 pub record AreNumbered (table : Table) : Type 0 where
-  pub most : table.room ≤ MAX_MANY
+  pub most : table.room ≤ MAX_KEYS
   pub few : length table.names ≤ table.room
   pub named : list_all is_name table.names ≡ true
   pub once : IsDistinct is_same table.names

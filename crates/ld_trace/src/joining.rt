@@ -19,8 +19,11 @@ use std::io::Read;
 /// A trace, and how many names its table had before and after it.
 #[derive(Drop)]
 pub struct NumberedTrace {
+    /// How many names the table had before the trace was read.
     pub before: usize,
+    /// How many it had afterwards.
     pub after: usize,
+    /// The trace.
     pub trace: RawTrace,
 }
 

@@ -6,7 +6,7 @@ ghost use Rattle.ld_trace.specs.Inside.Stored.{name_of, names_of};
 ghost use Rattle.std.specs.List.{IsDistinct};
 
 use crate::stored_name::{SLOTS, StoredName, is_class_name, slot_of};
-use crate::{KeyFault, KeyId, MAX_KEYS, MAX_MANY, MAX_NAME};
+use crate::{GRAPH_KEYS, KeyFault, KeyId, MAX_KEYS, MAX_NAME};
 use indexmap::IndexSet;
 use std::alloc::Global;
 use std::marker::Model;
@@ -42,15 +42,15 @@ impl KeyTable {
     /// A table without names, with room for 256 of them. It takes no memory yet; K4 is the only refusal that its type leaves
     /// room for.
     pub fn new(alloc: Global) -> Result<KeyTable, KeyFault>
-        ensures { IsOkAnd result (λ table. (table.room ≡ MAX_KEYS) × (table.names ≡ [])) }
+        ensures { IsOkAnd result (λ table. (table.room ≡ GRAPH_KEYS) × (table.names ≡ [])) }
     {
-        KeyTable::with_room(alloc, MAX_KEYS)
+        KeyTable::with_room(alloc, GRAPH_KEYS)
     }
 
-    /// A table without names, with room for `room` of them, at most `MAX_MANY`. It takes no memory yet; K4 is the only refusal
+    /// A table without names, with room for `room` of them, at most `MAX_KEYS`. It takes no memory yet; K4 is the only refusal
     /// that its type leaves room for.
     pub fn with_room(alloc: Global, room: u16) -> Result<KeyTable, KeyFault>
-        requires { room ≤ MAX_MANY }
+        requires { room ≤ MAX_KEYS }
         ensures { IsOkAnd result (λ table. (table.room ≡ room) × (table.names ≡ [])) }
     {
         Ok(KeyTable {

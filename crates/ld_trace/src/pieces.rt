@@ -1,6 +1,6 @@
 //! Reading a trace in pieces, each cut after a newline.
 
-ghost use Rattle.std.specs.Prelude.{◌≡◌, ◌≤◌, ◌++◌, ℕ, [], List, length, IfOk, IfErr, IfSome, IsTrue, IsFalse};
+ghost use Rattle.std.specs.Prelude.{◌≡◌, ◌≢◌, ◌≤◌, ◌++◌, ℕ, [], List, length, IfOk, IfErr, IfSome, IsNone, IsTrue, IsFalse};
 ghost use Rattle.ld_trace.specs.Events.{KeysBelow};
 ghost use Rattle.ld_trace.specs.Names.{Name};
 ghost use Rattle.ld_trace.specs.Pieces.{AreLines, header_line};
@@ -21,7 +21,8 @@ const HEADER_TWO: &[u8] = b"lockdep,2\n";
 impl Version {
     /// The version that this line names, if it is exactly a header and a newline.
     pub fn of_line(line: &[u8]) -> Option<Version>
-        ensures { IfSome result (λ version. line.now ≡ header_line version) }
+        ensures some { IfSome result (λ version. line.now ≡ header_line version) }
+        ensures none { IsNone result → (version : Version) → line.now ≢ header_line version }
     {
         if line == HEADER_ONE {
             return Some(Version::One);

@@ -1,6 +1,6 @@
 //! Traces as they were read.
 
-ghost use Rattle.std.specs.Prelude.{◌≡◌, ◌+◌, ◌≤◌, ◌++◌, ◌↔◌, IsTrue, IsFalse, IsSome, IfSome, length, map, slice_get};
+ghost use Rattle.std.specs.Prelude.{◌≡◌, ◌+◌, ◌≤◌, ◌++◌, ◌↔◌, IsTrue, IsFalse, IsSome, IfSome, length, map, slice_get, sum_by};
 ghost use Rattle.ld_trace.specs.Events.{KeysBelow, has_try};
 ghost use Rattle.ld_trace.specs.Inside.Renumbered.{event_with};
 
@@ -117,6 +117,17 @@ impl RawTrace {
         renumber(self.events.as_mut_slice(), numbers);
         self
     }
+}
+
+/// How many events the traces have together.
+pub fn event_count(traces: &[RawTrace]) -> u128
+    ensures { result ≡ sum_by length traces.now }
+{
+    let mut events = 0u128;
+    for trace in traces {
+        events += trace.len() as u128;
+    }
+    events
 }
 
 // Gives each key of the events the number at its place of the list.

@@ -4,7 +4,7 @@ use Rattle.std.specs.Io.KnownBytes.{Appends, Keeps}
 use Rattle.ld_trace.specs.Events.{KeysBelow}
 use Rattle.ld_trace.specs.Names.{Name}
 use Rattle.ld_trace.specs.declared.event.Event.{Event}
-use Rattle.ld_trace.specs.declared.key_id.TheConstants.{MAX_KEYS, MAX_MANY}
+use Rattle.ld_trace.specs.declared.key_id.TheConstants.{GRAPH_KEYS, MAX_KEYS}
 use Rattle.ld_trace.specs.Reading.{ReadsTo, StopsAt}
 use Rattle.ld_task.specs.WellFormed.{IsFirstFault, IsWellFormed}
 use Rattle.ld_graph.specs.Links.{IsClean}
@@ -62,7 +62,7 @@ asked_by (Chains file) = chains_of (option_map (λ word. word.now) file)
 
 -- how many keys there is room for
 abbrev pub room_of : (many : Bool) → ℕ
-room_of many = if many then MAX_MANY else MAX_KEYS
+room_of many = if many then MAX_KEYS else GRAPH_KEYS
 
 -- the status after an output was written: 1 if the facts aren't clean, and 0 otherwise and after a condensed trace
 abbrev pub status_of : OutputView → (clean : Bool) → ℕ
@@ -104,7 +104,7 @@ known_of (Some file) input = None
 -- this trace was read from these bytes
 pub record IsTraceOf (bytes : Option (List ℕ)) (names : List Name) (trace : List Event) : Type 0 where
   pub below : KeysBelow (length names) trace
-  pub reads : IfSome bytes (λ known. ReadsTo MAX_KEYS [] known names trace)
+  pub reads : IfSome bytes (λ known. ReadsTo GRAPH_KEYS [] known names trace)
 
 -- the chains of the trace were written
 pub record WritesChains (bytes old new : Option (List ℕ)) (status : ℕ) : Type 0 where
@@ -196,7 +196,7 @@ RefusesTrace file names trace old new refusal = (IsStepRefusal file trace refusa
 -- no chains were written whole: memory ran out before, or the trace was refused while it was read, or after that
 abbrev pub RefusesOpened : (file : Text) → (bytes old new : Option (List ℕ)) → Refusal → Type 0
 RefusesOpened file bytes old new refusal =
-    (((refusal ≡ Memory) ⊎ IsReadingRefusal file MAX_KEYS [] bytes refusal) × Keeps old new)
+    (((refusal ≡ Memory) ⊎ IsReadingRefusal file GRAPH_KEYS [] bytes refusal) × Keeps old new)
     ⊎ ((names : List Name) × (trace : List Event) × IsTraceOf bytes names trace
     × RefusesTrace file names trace old new refusal)
 

@@ -7,7 +7,6 @@ use std::alloc::{AllocError, Global};
 use std::process::ExitCode;
 use std::{env, io};
 
-mod adding;
 mod chains;
 mod condensed;
 mod fault;
@@ -20,8 +19,8 @@ mod settled;
 mod source;
 #[cfg(test)]
 mod tests;
+mod trace_files;
 
-use adding::{Adds, add_side_by_side};
 use program::program_side_by_side;
 use refusal::{REFUSED, Refusal, refuse};
 use session::Session;
@@ -29,6 +28,7 @@ use std::io::{Read, Write};
 use std::rt::{Env, Files};
 use std::sync::Wait;
 use std::thread::Threads;
+use trace_files::{Adds, add_side_by_side};
 
 // The words of the command line, the program's name first.
 fn words_of(rt: &(impl Env + AllocGlobal)) -> Result<Vec<String>, Refusal<'static>> {
@@ -69,7 +69,7 @@ where
     }
 }
 
-// The runtime's own files and threads may be shared among threads, which of others isn't known.
+// The runtime's own files and threads may be shared among threads, so that files are read side by side.
 impl Adds for HostRuntime {
     fn add_files<'a, T: Threads + Sync>(
         &self,

@@ -2,7 +2,7 @@
 
 ghost use Rattle.std.specs.Prelude.{◌≡◌, ◌<◌, ◌≤◌, [], ℕ, List, IfOk, IfErr, OnOk, OnErr, map};
 ghost use Rattle.std.specs.Io.KnownBytes.{Appends};
-ghost use Rattle.ld_trace.specs.declared.key_id.TheConstants.{MAX_MANY};
+ghost use Rattle.ld_trace.specs.declared.key_id.TheConstants.{MAX_KEYS};
 ghost use Rattle.lockdep.specs.Inside.Requests.{output_asked};
 ghost use Rattle.ld_words.specs.CommandLine.{IsLineFault};
 ghost use Rattle.lockdep.specs.FaultLines.{fault_line};
@@ -11,7 +11,6 @@ ghost use Rattle.lockdep.specs.Program.{AreTracesOf, DoesLine, DoesWords, IsRepo
 ghost use Rattle.lockdep.specs.Texts.{view_of};
 ghost use Rattle.lockdep.specs.declared.refusal.Refusal.{Refusal};
 
-use crate::adding::{Adds, InTurn, add_trace};
 use crate::chains::answer_chains;
 use crate::fault::ReportFault;
 use crate::output::Output;
@@ -19,9 +18,10 @@ use crate::refusal::{REFUSED, Refusal, refuse};
 use crate::request::{OutputRequest, Request, request_of};
 use crate::session::Session;
 use crate::source::Source;
+use crate::trace_files::{Adds, InTurn, add_trace};
 use ld_run::OpenGate;
 use ld_text::{STDIN, WriteFault, file_of, write_text};
-use ld_trace::{MAX_KEYS, MAX_MANY};
+use ld_trace::{GRAPH_KEYS, MAX_KEYS};
 use ld_words::{Line, LineFault, command_line};
 use std::alloc::Global;
 use std::io::{Read, Write};
@@ -252,9 +252,9 @@ fn answer_output<'a, R: Files + Threads + Wait + Sync, A: Adds, I: Read + Drop, 
 // How many keys there is room for.
 fn room_of(many: bool) -> u16
     ensures value { result ≡ room_of many }
-    ensures few { result ≤ MAX_MANY }
+    ensures few { result ≤ MAX_KEYS }
 {
-    if many { MAX_MANY } else { MAX_KEYS }
+    if many { MAX_KEYS } else { GRAPH_KEYS }
 }
 
 // Writes the output for the session's traces, which are those of the files, by as many of the workers as are worth their threads:

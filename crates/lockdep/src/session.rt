@@ -1,4 +1,4 @@
-//! A session: traces that are read one after the other, and what is written of all of them together.
+//! A session: traces, in their order, and what is written of all of them together.
 
 ghost use Rattle.std.specs.Prelude.{◌≡◌, ◌+◌, ◌<◌, ◌≤◌, ◌∷◌, ◌++◌, [], ℕ, List, All, length, IfOk, IfErr, IfSome, IsErrOf, IsOkAnd, IsTrue, OnOk, ◌↔◌};
 ghost use Rattle.std.specs.Io.KnownBytes.{Appends};
@@ -18,8 +18,7 @@ use crate::fault::ReportFault;
 use crate::output::{Output, write_output};
 use crate::settled::settled_of;
 use ld_run::{Gate, MAX_TRACES, MAX_WORKERS, RunFault, Sources, Unread, read_all, read_into};
-use ld_text::event_count;
-use ld_trace::{KeyFault, KeyTable, MAX_KEYS, MAX_MANY, RawTrace, TraceFault};
+use ld_trace::{GRAPH_KEYS, KeyFault, KeyTable, MAX_KEYS, RawTrace, TraceFault, event_count};
 use std::alloc::Global;
 use std::io::{Read, Write};
 use std::marker::Model;
@@ -52,15 +51,15 @@ impl Model for Session {
 impl Session {
     /// A session without traces, with room for the names of 256 keys. K4 is the only refusal that its type leaves room for.
     pub fn new(alloc: Global) -> Result<Session, KeyFault>
-        ensures { IsOkAnd result (λ session. session ≡ record { room = MAX_KEYS; names = []; traces = [] }) }
+        ensures { IsOkAnd result (λ session. session ≡ record { room = GRAPH_KEYS; names = []; traces = [] }) }
     {
-        Session::with_room(alloc, MAX_KEYS)
+        Session::with_room(alloc, GRAPH_KEYS)
     }
 
-    /// A session without traces, with room for the names of `room` keys, at most `MAX_MANY`. K4 is the only refusal that its
+    /// A session without traces, with room for the names of `room` keys, at most `MAX_KEYS`. K4 is the only refusal that its
     /// type leaves room for.
     pub fn with_room(alloc: Global, room: u16) -> Result<Session, KeyFault>
-        requires { room ≤ MAX_MANY }
+        requires { room ≤ MAX_KEYS }
         ensures { IsOkAnd result (λ session. session ≡ record { room = room; names = []; traces = [] }) }
     {
         Ok(Session {
@@ -134,8 +133,8 @@ impl Session {
     /// N4 if the run is out of memory; `Step` with the first trace that isn't well formed, the record of its first event that
     /// isn't allowed, and why; `Run` with N3 if the workers don't agree on the facts; `Condensing` with E2 if memory runs out for
     /// a condensed trace, and with E1 if it doesn't have exactly the facts, which no test has met; `Out` if writing failed. With
-    /// more than 256 keys no chain is recorded, and M1 comes instead of N3, if the keys can't be split into parts of at most 256.
-    /// Nothing was written in any of these cases, nor with O3, which means that memory ran out for the text; with O1 and O2 exactly
+    /// more than 256 keys no chain is recorded, and instead of N3 there is M1 if the keys can't be split into parts of at most 256,
+    /// or N4 again if memory is refused for the parts. Nothing was written in any of these cases, nor with O3, which means that memory ran out for the text; with O1 and O2 exactly
     /// a beginning of the text was [this project's own].
     pub fn write<R: Threads + Wait + Sync, W: Write, G: Gate + Sync>(
         self,

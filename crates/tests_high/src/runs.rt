@@ -7,7 +7,7 @@ mod settling;
 mod want_of_memory;
 
 use ld_run::{Gate, RunFault, Settled, run};
-use ld_trace::{MAX_MANY, RawTrace};
+use ld_trace::{MAX_KEYS, RawTrace};
 use std::alloc::Global;
 use std::process::Abort;
 use std::sync::Wait;
@@ -22,6 +22,6 @@ pub(crate) fn run_over<R: Threads + Wait + Sync + Abort, G: Gate + Sync>(
     workers: u16,
     gate: &G,
 ) -> Result<Settled, RunFault> {
-    assert!(rt; keys <= MAX_MANY && traces.iter().all(|trace| trace.keys_below(keys)));
+    assert!(rt; keys <= MAX_KEYS && traces.iter().all(|trace| trace.keys_below(keys)));
     run(rt, alloc, traces, keys, workers, gate)
 }

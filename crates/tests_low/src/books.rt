@@ -8,7 +8,7 @@ use ld_book::{Book, BookFault, LockedBook, News, Totals};
 use ld_graph::{Kind, Mark};
 use ld_task::Chain;
 use ld_trace::Irq::Hard;
-use ld_trace::MAX_KEYS;
+use ld_trace::GRAPH_KEYS;
 use std::alloc::Global;
 use std::sync::Wait;
 
@@ -199,7 +199,7 @@ fn has_entries(book: &Book, story: &Story) -> Option<bool> {
 }
 
 fn is_told(alloc: Global, story: &Story) -> Option<bool> {
-    if story.keys > MAX_KEYS {
+    if story.keys > GRAPH_KEYS {
         return None;
     }
     let mut book = Book::new(alloc, story.keys, story.limit).ok()?;
@@ -243,7 +243,7 @@ fn says_all_under_a_lock(rt: &impl Wait, book: &LockedBook, story: &Story) -> Op
 }
 
 fn is_told_under_a_lock(rt: &impl Wait, alloc: Global, story: &Story) -> Option<bool> {
-    if story.keys > MAX_KEYS {
+    if story.keys > GRAPH_KEYS {
         return None;
     }
     let book = LockedBook::new(Book::new(alloc, story.keys, story.limit).ok()?);

@@ -2,7 +2,7 @@
 
 use ld_facts::Facts;
 use ld_task::{Chain, TaskState};
-use ld_trace::{Event, Irq, KeyId, MAX_MANY, Mode, RawTrace};
+use ld_trace::{Event, Irq, KeyId, MAX_KEYS, Mode, RawTrace};
 use std::alloc::Global;
 
 // The first keys, by the letters of the examples.
@@ -136,7 +136,7 @@ fn add_chains(facts: &mut Facts, chains: &[Chain]) {
 
 // The facts of the traces about the keys below the bound, without a run.
 pub fn facts_of(alloc: Global, given: &[&[Step]], keys: u16) -> Option<Facts> {
-    if keys > MAX_MANY {
+    if keys > MAX_KEYS {
         return None;
     }
     let chains = chains_of(alloc, given)?;

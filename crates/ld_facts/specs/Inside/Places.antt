@@ -10,14 +10,14 @@ use Rattle.std.specs.Prelude.{◌≡◌, ℕ, ◌+◌, ◌⊎◌, Bool, true, fa
 use Rattle.ld_trace.specs.declared.event.Irq.{Irq}
 use Rattle.ld_task.specs.declared.mark.Mark.TheVariants.{UsedIn, Enabled}
 use Rattle.ld_task.specs.Kinds.{is_s, is_r}
-use Rattle.ld_trace.specs.declared.key_id.TheConstants.{MAX_KEYS}
+use Rattle.ld_trace.specs.declared.key_id.TheConstants.{GRAPH_KEYS}
 use Rattle.ld_facts.specs.Arrows.{Arrow}
 use Rattle.ld_facts.specs.declared.fact.Fact.{Fact}
 use Rattle.ld_facts.specs.declared.fact.Fact.TheVariants.{Marked}
 
 -- the number of a place: those of R come after those of N
 abbrev pub place : ℕ → Bool → ℕ
-place key at_r = if at_r then key + MAX_KEYS else key
+place key at_r = if at_r then key + GRAPH_KEYS else key
 
 -- where an arrow arrives
 abbrev pub arrival : Arrow → ℕ

@@ -4,8 +4,8 @@ use Rattle.ld_task.specs.declared.kind.Kind.{Kind}
 use Rattle.ld_facts.specs.Arrows.{Arrow, arrow}
 use Rattle.ld_facts.specs.FactBits.{FactParts, HasFact}
 use Rattle.ld_facts.specs.Numbers.{kind_number}
+use Rattle.ld_trace.specs.declared.key_id.TheConstants.{GRAPH_KEYS}
 use Rattle.ld_trace.specs.declared.key_id.TheConstants.{MAX_KEYS}
-use Rattle.ld_trace.specs.declared.key_id.TheConstants.{MAX_MANY}
 use Rattle.ld_facts.specs.declared.fact.Fact.TheVariants.{Dependency as Depends}
 use Rattle.ld_facts.specs.declared.dependency.Dependency.{Dependency}
 
@@ -15,11 +15,11 @@ arrow_of d = arrow d.from d.to d.kind
 
 -- both its keys are such as there can be
 abbrev pub IsOfKeys : Dependency → Type 0
-IsOfKeys d = (d.from < MAX_KEYS) × (d.to < MAX_KEYS)
+IsOfKeys d = (d.from < GRAPH_KEYS) × (d.to < GRAPH_KEYS)
 
 -- both its keys are such as facts can be about
 abbrev pub IsOfManyKeys : Dependency → Type 0
-IsOfManyKeys d = (d.from < MAX_MANY) × (d.to < MAX_MANY)
+IsOfManyKeys d = (d.from < MAX_KEYS) × (d.to < MAX_KEYS)
 
 -- ---- the dependencies from one key, in a row
 -- the place of a dependency to that key among those from its start

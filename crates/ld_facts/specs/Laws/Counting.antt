@@ -12,7 +12,7 @@ use Rattle.ld_facts.specs.FactBits.{FactParts, dependency_count, mark_count, row
 use Rattle.ld_facts.specs.Counting.{IsNumberOf}
 use Rattle.ld_facts.specs.Laws.Bits.{count_below-le}
 use Rattle.std.proofs.lemmas.Nat.{mul-le}
-use Rattle.ld_trace.specs.declared.key_id.TheConstants.{MAX_KEYS}
+use Rattle.ld_trace.specs.declared.key_id.TheConstants.{GRAPH_KEYS}
 use Rattle.ld_facts.specs.declared.places.TheConstants.{PLACES}
 
 -- ---- the numbers below n that pass, each read as a member
@@ -132,5 +132,5 @@ dependency_count-le facts most few =
 pub mark_count-le : (facts : FactParts) (most : ℕ) → facts.keys ≤ most → mark_count facts ≤ mark_total most
 mark_count-le facts most few = omega (arith, count_below-le (λ n. has_bit facts.words (dependency_total facts.keys + n)) (mark_total facts.keys))
 
-pub rows_allowed-le : (facts : FactParts) → facts.keys ≤ MAX_KEYS → rows_allowed facts ≤ 2 * PLACES * dependency_total MAX_KEYS + PLACES * mark_total MAX_KEYS
-rows_allowed-le facts few = omega (arith, dependency_count-le facts MAX_KEYS few, mark_count-le facts MAX_KEYS few)
+pub rows_allowed-le : (facts : FactParts) → facts.keys ≤ GRAPH_KEYS → rows_allowed facts ≤ 2 * PLACES * dependency_total GRAPH_KEYS + PLACES * mark_total GRAPH_KEYS
+rows_allowed-le facts few = omega (arith, dependency_count-le facts GRAPH_KEYS few, mark_count-le facts GRAPH_KEYS few)

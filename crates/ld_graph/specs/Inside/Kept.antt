@@ -5,7 +5,7 @@ use Rattle.ld_task.specs.declared.kind.Kind.{Kind}
 use Rattle.ld_task.specs.declared.mark.Mark.{Mark}
 use Rattle.ld_task.specs.declared.mark.Mark.TheVariants.{Used, UsedIn, Enabled}
 use Rattle.ld_task.specs.Kinds.{is_r}
-use Rattle.ld_trace.specs.declared.key_id.TheConstants.{MAX_KEYS}
+use Rattle.ld_trace.specs.declared.key_id.TheConstants.{GRAPH_KEYS}
 use Rattle.ld_facts.specs.Arrows.{Arrow, MayFollow, arrow}
 use Rattle.ld_facts.specs.Inside.Bits.{has_bit}
 use Rattle.ld_facts.specs.Facts.{DependenciesOf}
@@ -78,7 +78,7 @@ IsInversionBy Has irq a b read = (kind : Kind) × (is_r kind ≡ read) ×
 -- the table is that of the ways, the ends are those of the links, the flag says that the facts are clean, and no more
 -- rows were counted than may be
 pub record IsGraph (facts : FactParts) (table : List (List ℕ)) (ends : Ends) (clean : Bool) (searched : ℕ) : Type 0 where
-  pub few : facts.keys ≤ MAX_KEYS
+  pub few : facts.keys ≤ GRAPH_KEYS
   pub ways : (p q : ℕ) → IsTrue (reaches table p q) ↔
       Way (Leads (DependenciesOf (HasFact facts))) p q
   pub ends_are : AreEnds (HasFact facts) ends

@@ -1,6 +1,6 @@
 -- The parts of a parted graph: the keys of each rank, with a graph of the facts among them.
 use Rattle.std.specs.Prelude.{◌≡◌, ℕ, ◌<◌, ◌≤◌, List, length, map, get_or, All, Contains, EachIndex, slice_index}
-use Rattle.ld_trace.specs.declared.key_id.TheConstants.{MAX_KEYS, MAX_MANY}
+use Rattle.ld_trace.specs.declared.key_id.TheConstants.{GRAPH_KEYS, MAX_KEYS}
 use Rattle.ld_facts.specs.Arrows.{Arrow}
 use Rattle.ld_facts.specs.FactBits.{FactParts, HasFact}
 use Rattle.ld_facts.specs.Facts.{AreSame}
@@ -20,13 +20,13 @@ pub record AreKeysOf (bound : ℕ) (rank : ℕ → ℕ) (r : ℕ) (keys : List �
 
 -- there can be facts about each key of the list
 abbrev pub MayBeTold : List ℕ → Type 0
-MayBeTold keys = EachIndex keys (λ i. slice_index keys i < MAX_MANY)
+MayBeTold keys = EachIndex keys (λ i. slice_index keys i < MAX_KEYS)
 
 -- the part has the keys of the rank, and its graph has the facts among them
 pub record IsPart (facts : FactParts) (rank : ℕ → ℕ) (r : ℕ) (part : Part) : Type 0 where
   pub keys_are : AreKeysOf facts.keys rank r part.keys.items
   pub told : MayBeTold part.keys.items
-  pub room : length part.keys.items ≤ MAX_KEYS
+  pub room : length part.keys.items ≤ GRAPH_KEYS
   pub bound : part.graph.facts.keys ≡ length part.keys.items
   pub same : AreSame (HasFact part.graph.facts) (Renumbered (HasFact facts) part.keys.items)
 
@@ -50,7 +50,7 @@ pub record IsHome (rank : ℕ → ℕ) (parts : List Part) (key : ℕ) (home : H
 pub record AreHoused (bound : ℕ) (rank : ℕ → ℕ) (parts : List Part) : Type 0 where
   pub within : (key : ℕ) → key < bound → rank key < length parts
   pub listed : (key : ℕ) (part : Part) → key < bound → Contains (get_or parts (rank key) part).keys.items key
-  pub few : (r : ℕ) (part : Part) → r < length parts → length (get_or parts r part).keys.items ≤ MAX_MANY
+  pub few : (r : ℕ) (part : Part) → r < length parts → length (get_or parts r part).keys.items ≤ MAX_KEYS
 
 -- a home for each key below the bound
 pub record AreHomes (bound : ℕ) (rank : ℕ → ℕ) (parts : List Part) (homes : List Home) : Type 0 where

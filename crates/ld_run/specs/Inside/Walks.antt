@@ -11,7 +11,7 @@ use Rattle.ld_task.specs.WellFormed.{IsWellFormed, IsFirstFault}
 use Rattle.ld_facts.specs.Facts.{ChainsHave, Holds}
 use Rattle.ld_board.specs.Views.{KnowsFact, PutsOnly}
 use Rattle.ld_board.specs.declared.view.View.{View}
-use Rattle.ld_run.specs.declared.worker.Lost.{Lost}
+use Rattle.ld_run.specs.declared.worker.OutOfMemory.{OutOfMemory}
 
 -- nothing but the facts of the chains of the trace's first n events was put, and all of them are put or seen
 pub record HasGathered (keys : ℕ) (start now : View) (t : List Event) (n : ℕ) : Type 0 where
@@ -35,7 +35,7 @@ WalksOn keys start now state t n (Some fault) =
     IsFirstFault t (record { fault = fault; place = n }) × HasGathered keys start now t n
 
 -- why the event isn't allowed; none also if the worker was lost after it
-abbrev pub fault_in : Result (Option StepFault) Lost → Option StepFault
+abbrev pub fault_in : Result (Option StepFault) OutOfMemory → Option StepFault
 fault_in (Ok fault) = fault
 fault_in (Err lost) = None
 

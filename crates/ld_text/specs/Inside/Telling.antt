@@ -11,6 +11,6 @@ pub record TellerParts : Type 0 where
   pub keys : List ℕ
 
 -- what stands before the dependency at this place of a list
-abbrev pub mark_at : ℕ → List ℕ
-mark_at zero = codes ": "
-mark_at (suc i) = codes ", "
+abbrev pub separator_at : ℕ → List ℕ
+separator_at zero = codes ": "
+separator_at (suc i) = codes ", "

@@ -7,7 +7,7 @@ use crate::tests::helpers::{assert_text, text_in};
 use ld_run::RunFault;
 use ld_task::StepFault;
 use ld_text::digits_of;
-use ld_trace::{MAX_KEYS, MAX_MANY};
+use ld_trace::{GRAPH_KEYS, MAX_KEYS};
 use std::alloc::{AllocError, Global};
 use std::process::Abort;
 use std::sync::Wait;
@@ -60,7 +60,7 @@ fn add_copies(session: &mut Session, trace: &[u8], copies: u16) -> Result<(), Fa
 }
 
 fn session_of(alloc: Global, case: &Case<'_>) -> Result<Session, Fail> {
-    let room = if case.many { MAX_MANY } else { MAX_KEYS };
+    let room = if case.many { MAX_KEYS } else { GRAPH_KEYS };
     let mut session = Session::with_room(alloc, room)?;
     for trace in case.traces {
         let text = spelled(alloc, *trace)?;

@@ -93,7 +93,7 @@ static SETTLINGS: [Settling; 7] = [
 
 // The book under its lock, with the chains recorded.
 fn book_of<R: Wait>(rt: &R, alloc: Global, settling: &Settling) -> Option<LockedBook> {
-    if settling.keys > ld_trace::MAX_KEYS {
+    if settling.keys > ld_trace::GRAPH_KEYS {
         return None;
     }
     let book = LockedBook::new(Book::new(alloc, settling.keys, 100).ok()?);

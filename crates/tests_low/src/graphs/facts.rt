@@ -2,7 +2,7 @@
 
 ghost use Rattle.std.specs.Prelude.{◌≤◌};
 ghost use Rattle.ld_task.specs.Chains.{ChainKeysBelow};
-ghost use Rattle.ld_trace.specs.declared.key_id.TheConstants.{MAX_KEYS};
+ghost use Rattle.ld_trace.specs.declared.key_id.TheConstants.{GRAPH_KEYS};
 
 use crate::steps::Step::{Read, Reread, TurnOff, TurnOn, Write};
 use crate::steps::{A, B, C, Step, last_chain};
@@ -10,7 +10,7 @@ use ld_facts::{Fact, FactWords, Facts, fact_words};
 use ld_graph::{Kind, Mark};
 use ld_task::Chain;
 use ld_trace::Irq::{Hard, Soft};
-use ld_trace::MAX_KEYS;
+use ld_trace::GRAPH_KEYS;
 use std::alloc::Global;
 
 // The facts of the last chain of a trace, and the words that hold their bits.
@@ -226,7 +226,7 @@ pub(crate) fn are_all(facts: &Facts, wanted: &[Fact]) -> bool {
 
 // Unites the words of a chain with the facts, one by one.
 fn unite_words(facts: &mut Facts, chain: &Chain)
-    requires few { facts.old.keys ≤ MAX_KEYS }
+    requires few { facts.old.keys ≤ GRAPH_KEYS }
     requires below { ChainKeysBelow facts.old.keys chain.now }
 {
     let words = fact_words(chain, facts.keys());
@@ -239,7 +239,7 @@ fn unite_words(facts: &mut Facts, chain: &Chain)
 
 // The facts of the chain, which are new once, and its words.
 fn facts_of(alloc: Global, chain: &Chain, keys: u16, words: &mut FactWords) -> Option<Facts> {
-    if keys > MAX_KEYS || !chain.keys_below(keys) {
+    if keys > GRAPH_KEYS || !chain.keys_below(keys) {
         return None;
     }
     let mut facts = Facts::new(alloc, keys).ok()?;
@@ -252,7 +252,7 @@ fn facts_of(alloc: Global, chain: &Chain, keys: u16, words: &mut FactWords) -> O
 
 // The same facts, by their words.
 fn facts_by_words(alloc: Global, chain: &Chain, keys: u16) -> Option<Facts> {
-    if keys > MAX_KEYS || !chain.keys_below(keys) {
+    if keys > GRAPH_KEYS || !chain.keys_below(keys) {
         return None;
     }
     let mut facts = Facts::new(alloc, keys).ok()?;

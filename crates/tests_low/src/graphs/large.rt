@@ -7,7 +7,7 @@ use ld_graph::{Graph, Kind, Mark};
 use ld_parts::{PartedGraph, Ranks, Settled, are_ranked, find_ranks};
 use ld_task::Chain;
 use ld_trace::Irq::Hard;
-use ld_trace::{MAX_KEYS, MAX_MANY};
+use ld_trace::{GRAPH_KEYS, MAX_KEYS};
 use std::alloc::Global;
 
 // Takes 48 locks, one under the other, whose keys are `apart` apart.
@@ -29,7 +29,7 @@ fn add_chains(graph: &mut Graph, chains: &[Chain]) {
 
 fn graph_of(alloc: Global, trace: &[Step]) -> Option<Graph> {
     let chains = chains_of(alloc, &[trace])?;
-    let mut graph = Graph::new(alloc, MAX_KEYS).ok()?;
+    let mut graph = Graph::new(alloc, GRAPH_KEYS).ok()?;
     add_chains(&mut graph, &chains);
     Some(graph)
 }
@@ -49,11 +49,11 @@ fn are_marked_by_an_opening(alloc: Global) -> Option<bool> {
     take_forty_eight(&mut trace, 5)?;
     trace.push(TurnOn(Hard)).ok()?;
     let chain = last_chain(&trace)?;
-    let mut facts = Facts::new(alloc, MAX_KEYS).ok()?;
-    if !chain.keys_below(MAX_KEYS) || !chain.keys_below(facts.keys()) {
+    let mut facts = Facts::new(alloc, GRAPH_KEYS).ok()?;
+    if !chain.keys_below(GRAPH_KEYS) || !chain.keys_below(facts.keys()) {
         return None;
     }
-    let words = fact_words(&chain, MAX_KEYS);
+    let words = fact_words(&chain, GRAPH_KEYS);
     facts.add_chain(&chain);
     let first = words.get(0) == Some((4096, 1 << 3 | 1 << 7 | 1 << 48 | 1 << 52));
     let last = words.len() == 34 && words.get(33) == Some((4129, 1 << 6 | 1 << 10));
@@ -62,9 +62,9 @@ fn are_marked_by_an_opening(alloc: Global) -> Option<bool> {
 
 // A graph in which each key is taken while the one before it is held, all the way round.
 fn ring(alloc: Global) -> Option<Graph> {
-    let mut graph = Graph::new(alloc, MAX_KEYS).ok()?;
-    for number in 0..MAX_KEYS {
-        let chain = last_chain(&[Write(number), Write((number + 1) % MAX_KEYS)])?;
+    let mut graph = Graph::new(alloc, GRAPH_KEYS).ok()?;
+    for number in 0..GRAPH_KEYS {
+        let chain = last_chain(&[Write(number), Write((number + 1) % GRAPH_KEYS)])?;
         if !chain.keys_below(graph.keys()) {
             return None;
         }
@@ -77,7 +77,7 @@ fn is_a_circle_of_all_keys(alloc: Global) -> Option<bool> {
     let circle = ring(alloc)?.shortest_circle()?;
     for i in 0..circle.len() {
         let (from, to, kind) = circle.get(i)?;
-        if to != (from % MAX_KEYS + 1) % MAX_KEYS || kind != Kind::En {
+        if to != (from % GRAPH_KEYS + 1) % GRAPH_KEYS || kind != Kind::En {
             return None;
         }
     }
@@ -147,12 +147,12 @@ fn have_the_numbers_of_their_places(alloc: Global) -> Option<bool> {
 // Facts about the last of all keys there may be: with one rank for all keys nothing goes down, and with a greater one
 // for the last the dependency from it does.
 fn go_down_from_the_last_key(alloc: Global) -> Option<bool> {
-    let last = MAX_MANY - 1;
-    let mut facts = Facts::new(alloc, MAX_MANY).ok()?;
+    let last = MAX_KEYS - 1;
+    let mut facts = Facts::new(alloc, MAX_KEYS).ok()?;
     for (from, to) in [(last, last), (last, 300)] {
         add(&mut facts, from, to)?;
     }
-    let mut ranks = Ranks::new(alloc, MAX_MANY).ok()?;
+    let mut ranks = Ranks::new(alloc, MAX_KEYS).ok()?;
     let level = are_ranked(&facts, &ranks);
     ranks.set(last, 1);
     Some(level && !are_ranked(&facts, &ranks))

@@ -5,7 +5,7 @@ use crate::steps::{A, B, C};
 use ld_facts::{Fact, Facts, Kind, Mark};
 use ld_parts::{PartedGraph, PartingFault, Ranks, are_ranked, find_ranks, find_ranks_of};
 use ld_trace::Irq::{Hard, Soft};
-use ld_trace::MAX_MANY;
+use ld_trace::MAX_KEYS;
 use std::alloc::Global;
 
 // Facts about the first keys, the ranks of these keys, whether no arrow goes down by them, and whether the facts are
@@ -168,7 +168,7 @@ static PARTINGS: [Parting; 12] = [
 
 // These facts about the keys below the bound. None if a key isn't, or memory is refused.
 fn facts_of(alloc: Global, keys: u16, all: &[Fact]) -> Option<Facts> {
-    if keys > MAX_MANY {
+    if keys > MAX_KEYS {
         return None;
     }
     let mut facts = Facts::new(alloc, keys).ok()?;

@@ -5,7 +5,7 @@ use crate::steps::{A, B, C};
 use ld_facts::{Fact, Facts};
 use ld_graph::{Kind, Mark};
 use ld_trace::Irq::Soft;
-use ld_trace::{MAX_KEYS, MAX_MANY};
+use ld_trace::{GRAPH_KEYS, MAX_KEYS};
 use std::alloc::Global;
 
 // Facts about keys below a bound, those that aren't there, and how many words hold them.
@@ -17,7 +17,7 @@ struct Singles {
     words: usize,
 }
 
-const LAST: u16 = MAX_MANY - 1;
+const LAST: u16 = MAX_KEYS - 1;
 
 static SINGLES: [Singles; 3] = [
     Singles {
@@ -57,7 +57,7 @@ static SINGLES: [Singles; 3] = [
     },
     Singles {
         about: "as many keys as a graph takes",
-        keys: MAX_KEYS,
+        keys: GRAPH_KEYS,
         facts: &[Fact::Marked {
             key: 255,
             mark: Mark::UsedIn {
@@ -74,7 +74,7 @@ static SINGLES: [Singles; 3] = [
     },
     Singles {
         about: "as many keys as there are",
-        keys: MAX_MANY,
+        keys: MAX_KEYS,
         facts: &[
             Fact::Dependency {
                 from: LAST,
@@ -98,7 +98,7 @@ static SINGLES: [Singles; 3] = [
                 kind: Kind::Er,
             },
             Fact::Marked {
-                key: MAX_MANY,
+                key: MAX_KEYS,
                 mark: Mark::Used,
             },
         ],
@@ -130,7 +130,7 @@ fn has_none(facts: &Facts, absent: &[Fact]) -> bool {
 }
 
 fn are_kept(alloc: Global, singles: &Singles) -> Option<bool> {
-    if singles.keys > MAX_MANY {
+    if singles.keys > MAX_KEYS {
         return None;
     }
     let mut facts = Facts::new(alloc, singles.keys).ok()?;

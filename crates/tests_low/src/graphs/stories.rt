@@ -12,7 +12,7 @@ use ld_parts::{PartedGraph, Ranks, Settled};
 use ld_task::Chain;
 use ld_task::Kind::{En, Er, Sn, Sr};
 use ld_trace::Irq::{Hard, Soft};
-use ld_trace::{Irq, MAX_KEYS};
+use ld_trace::{Irq, GRAPH_KEYS};
 use std::alloc::Global;
 
 const KINDS: [Kind; 4] = [Er, En, Sr, Sn];
@@ -254,7 +254,7 @@ fn are_known(graph: &mut Graph, chains: &[Chain]) -> bool {
 // A graph of the story's traces, which finds what the story says. None if it finds anything else, memory is refused, or
 // a trace isn't well formed.
 fn told(alloc: Global, story: &Story) -> Option<Graph> {
-    if story.keys > MAX_KEYS {
+    if story.keys > GRAPH_KEYS {
         return None;
     }
     let chains = chains_of(alloc, story.traces)?;

@@ -5,8 +5,8 @@ use Rattle.std.proofs.lemmas.List.{get_or_default}
 use Rattle.ld_parts.specs.Inside.Parts.{AreHomes, IsAtPlace}
 use Rattle.ld_parts.proofs.home.homes_by_ranks.Goals as goal
 
-pub place_among-place-requires-clause-listed : goal.place_among-place-requires-clause-listed
-place_among-place-requires-clause-listed c =
+pub place_in-place-requires-clause-listed : goal.place_in-place-requires-clause-listed
+place_in-place-requires-clause-listed c =
     subst (λ keys. Contains keys c.loop-key.key) (sym c.deref.ensures.value)
     (subst (λ r. Contains (get_or c.args.parts.now r c.index-parts-from.result).keys.items c.loop-key.key) (sym (c.from.ensures ∙ c.get-part.ensures))
     (c.requires.listed c.loop-key.key c.index-parts-from.result c.loop-key-test.true))
@@ -19,12 +19,12 @@ pub loop-key-preserved : goal.loop-key-preserved
 loop-key-preserved c =
     subst (AreHomes (c.loop-key.key + 1) (slice_index c.args.ranks.now) c.args.parts.now) (sym c.in_ok-push.ensures.items)
     (AreHomes-more (slice_index c.args.ranks.now) c.args.parts.now c.loop-key.key c.loop-key.homes.items
-    (record { part = c.get-part.result; place = c.place_among-place.result }) c.loop-key.invariant
+    (record { part = c.get-part.result; place = c.place_in-place.result }) c.loop-key.invariant
     (record {
       of_rank = c.get-part.ensures;
       within = within c;
       place = λ part.
-          subst (λ p. IsAtPlace p.keys.items c.loop-key.key c.place_among-place.result) (get_or_default c.args.parts.now c.get-part.result c.index-parts-from.result part (within c))
-          (subst (λ r. IsAtPlace (get_or c.args.parts.now r c.index-parts-from.result).keys.items c.loop-key.key c.place_among-place.result) c.from.ensures
-          (subst (λ keys. IsAtPlace keys c.loop-key.key c.place_among-place.result) c.deref.ensures.value c.place_among-place.ensures));
+          subst (λ p. IsAtPlace p.keys.items c.loop-key.key c.place_in-place.result) (get_or_default c.args.parts.now c.get-part.result c.index-parts-from.result part (within c))
+          (subst (λ r. IsAtPlace (get_or c.args.parts.now r c.index-parts-from.result).keys.items c.loop-key.key c.place_in-place.result) c.from.ensures
+          (subst (λ keys. IsAtPlace keys c.loop-key.key c.place_in-place.result) c.deref.ensures.value c.place_in-place.ensures));
     }))

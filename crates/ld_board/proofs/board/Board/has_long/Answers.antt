@@ -30,7 +30,7 @@ loop-n-preserved-in_default c =
       i.2,
       i.3,
       (λ k x l at. either k c.loop-n.n l
-          (λ same. absurd (none-some x (sym (sym c.fact_at.ensures ∙ c.in_default.is) ∙ ap (chain_fact c.args.chain.now) (sym same) ∙ at)))
+          (λ same. absurd (none-some x (sym (sym c.fact_in_slot.ensures ∙ c.in_default.is) ∙ ap (chain_fact c.args.chain.now) (sym same) ∙ at)))
           (λ before. i.4 k x before at)),
     )
 
@@ -50,7 +50,7 @@ loop-n-preserved c =
       (λ n. within_through _ _ _ (i.3 n) (e.seen n)),
       (λ k x l at. either k c.loop-n.n l
           (λ same. subst (SeenHas keys new)
-          (some_same c.in-Some.fact x (sym (sym c.fact_at.ensures ∙ c.in-Some.is) ∙ ap (chain_fact c.args.chain.now) (sym same) ∙ at))
+          (some_same c.in-Some.fact x (sym (sym c.fact_in_slot.ensures ∙ c.in-Some.is) ∙ ap (chain_fact c.args.chain.now) (sym same) ∙ at))
           (e.there c.if-not-has_fact.false))
           (λ before. PairsHave-within keys mid.seen new.seen e.seen x (i.4 k x before at))),
     )
@@ -60,7 +60,7 @@ returns-clause-covered c = λ _ x has.
     let (held, given) = (c.slots_have_what_is_given.ensures.given c.args.chain.now x).0 has in
     let (n, l, at, by) = (c.slots_have_what_is_given.ensures.exact c.args.chain.now x held).0 given in
     let test = c.loop-n-test.false in
-    let end = c.slots-n-end.ensures.value in
+    let end = c.fact_slots-n-end.ensures.value in
     c.loop-n.invariant.4 n x (omega (arith, l)) at
 
 pub returns-then-held_len-le-FEW_HELD-clause-seen : goal.returns-then-held_len-le-FEW_HELD-clause-seen

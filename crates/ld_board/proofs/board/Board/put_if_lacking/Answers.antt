@@ -1,4 +1,4 @@
-use Rattle.std.proofs.Common.{◌≡◌, ◌∷◌, ◌++◌, ℕ, List, sym, ap, ◌∙◌, subst}
+use Rattle.std.proofs.Common.{◌≡◌, ◌∷◌, ◌++◌, ℕ, List, length, sym, ap, ◌∙◌, subst, arith}
 use Rattle.ld_facts.specs.WordPairs.{bits_of, Within}
 use Rattle.ld_board.specs.Seats.{view}
 use Rattle.ld_board.specs.Inside.BoardRule.{with_look, with_put}
@@ -39,6 +39,9 @@ returns-then-wanted-found-clause-covered c = λ _.
           (within_here c.args.word c.args.wanted c.look_word-found.result old.seen c.if-wanted-found.true),
     )
 
+pub returns-then-wanted-found-clause-some : goal.returns-then-wanted-found-clause-some
+returns-then-wanted-found-clause-some c = omega (arith, ap (λ (v : View). length v.put) c.look_word-found.ensures.looked)
+
 -- it is loaded, and then the bits are put
 both : (c : After-put_word) → (found : ℕ) × (view c.put_word.new.seat ≡ with_put (with_look (view c.args.seat.now) c.args.word c.look_word-found.result) c.args.word c.args.wanted found)
 both c =
@@ -62,6 +65,9 @@ returns-clause-seen c =
     let first : ℕ × ℕ = (c.args.word, c.look_word-found.result) in
     subst (λ (v : View). (n : ℕ) → Within (bits_of n old) (bits_of n v.seen)) (sym (both c).1)
     (λ n. within_cons n _ (c.args.word, (both c).0) (first ∷ old) (within_cons n _ first old (or_self _)))
+
+pub returns-clause-some : goal.returns-clause-some
+returns-clause-some c = omega (arith, ap (λ (v : View). length v.put) (both c).1)
 
 pub returns-clause-knows : goal.returns-clause-knows
 returns-clause-knows c =

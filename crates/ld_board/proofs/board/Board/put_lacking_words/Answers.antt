@@ -1,4 +1,4 @@
-use Rattle.std.proofs.Common.{◌∷◌, ◌++◌, ◌<◌, ℕ, List, get_or, length, refl, sym, ◌∙◌, subst, arith}
+use Rattle.std.proofs.Common.{◌≡◌, ◌∷◌, ◌++◌, ◌+◌, ◌<◌, ◌≤◌, ◌||◌, Bool, true, false, cond, IsTrue, ℕ, List, get_or, length, ap, refl, sym, ◌∙◌, subst, arith}
 use Rattle.std.proofs.lemmas.Bool.{or_parts}
 use Rattle.ld_facts.specs.WordPairs.{bits_of, Within, NonePast, word_total}
 use Rattle.ld_board.specs.Boards.{keys_of}
@@ -18,8 +18,17 @@ loop-n-init c = (
   (λ n. within_right n _ c.args.seat.now.words (view c.args.seat.now).put (or_self _)),
   (λ n. or_self _),
   (λ k d l. absurd (omega (arith, l))),
-  λ _. (refl, λ k d l. absurd (omega (arith, l))),
+  (λ _. (refl, λ k d l. absurd (omega (arith, l)))),
+  omega arith,
+  (λ on. omega (arith, ap {B = ℕ} (λ b. cond b 1 0) on)),
 )
+
+-- whether there were any, after one word more
+more_put : (any one : Bool) (was mid new : ℕ) → new ≡ mid + cond one 1 0 → was ≤ mid → (IsTrue any → was < mid) →
+    (was ≤ new) × (IsTrue (any || one) → was < new)
+more_put any true was mid new e l some = (omega arith, λ _. omega arith)
+more_put true false was mid new e l some = (omega arith, λ on. omega (arith, some on))
+more_put false false was mid new e l some = (omega arith, λ on. omega (arith, ap {B = ℕ} (λ b. cond b 1 0) on))
 
 pub put_if_lacking-any-requires : goal.put_if_lacking-any-requires
 put_if_lacking-any-requires c =
@@ -59,6 +68,8 @@ loop-n-preserved c =
                 (subst (λ (p : ℕ × ℕ). Within p.1 (bits_of p.0 new.seen)) (sym at.1) found.1)
                 (λ k d l. let p : ℕ × ℕ = get_or words k d in within_through p.1 (bits_of p.0 mid.seen) (bits_of p.0 new.seen) (others.1 k d l) (e.seen p.0)),
           )),
+      (more_put c.loop-n.any c.put_if_lacking-any.result (length was.put) (length mid.put) (length new.put) e.some i.8 i.9).0,
+      (more_put c.loop-n.any c.put_if_lacking-any.result (length was.put) (length mid.put) (length new.put) e.some i.8 i.9).1,
     )
 
 -- all words were visited

@@ -1,4 +1,4 @@
-use Rattle.std.proofs.Common.{◌≡◌, ◌<◌, ◌++◌, ℕ, IsFalse, slice_index_or}
+use Rattle.std.proofs.Common.{◌≡◌, ◌<◌, ◌≤◌, ◌++◌, ℕ, IsFalse, IsTrue, length, slice_index_or}
 use Rattle.ld_facts.specs.WordPairs.{bits_of, Within}
 use Rattle.ld_board.specs.Boards.{IsSeatOf}
 use Rattle.ld_board.specs.Seats.{view}
@@ -18,3 +18,5 @@ invariant-loop-n l =
     × ((n : ℕ) → Within (bits_of n was.seen) (bits_of n now.seen))
     × ((k : ℕ) (d : ℕ × ℕ) → k < l.n → Within (slice_index_or words k d).1 (bits_of (slice_index_or words k d).0 (now.put ++ now.seen)))
     × (IsFalse l.any → (now.put ≡ was.put) × ((k : ℕ) (d : ℕ × ℕ) → k < l.n → Within (slice_index_or words k d).1 (bits_of (slice_index_or words k d).0 now.seen)))
+    × (length was.put ≤ length now.put)
+    × (IsTrue l.any → length was.put < length now.put)

@@ -1,4 +1,4 @@
-use Rattle.std.proofs.Common.{◌≡◌, ◌++◌, ◌∙◌, ℕ, List, inl, inr, sym, subst}
+use Rattle.std.proofs.Common.{◌≡◌, ◌++◌, ◌<◌, ◌∙◌, ℕ, List, length, inl, inr, sym, subst}
 use Rattle.ld_facts.specs.Laws.Words.{PairsHave-append, PairsHave-within}
 use Rattle.ld_facts.specs.WordPairs.{bits_of, PairsHave, Within}
 use Rattle.ld_facts.specs.declared.fact.Fact.{Fact}
@@ -61,6 +61,10 @@ returns-clause-knows c = λ x has.
     let new : View = view c.put_lacking_words.new.seat in
     (PairsHave-append keys new.put new.seen x).0
     (PairsHave-within keys c.set_to.new.self (new.put ++ new.seen) c.put_lacking_words.ensures.knows x ((c.set_to.ensures.facts x).1 has))
+
+pub returns-clause-some : goal.returns-clause-some
+returns-clause-some c = λ on.
+    subst (λ ps. length ps < length (view c.put_lacking_words.new.seat).put) c.has_long.ensures.put (c.put_lacking_words.ensures.some on)
 
 pub returns-clause-covered : goal.returns-clause-covered
 returns-clause-covered c = λ off.

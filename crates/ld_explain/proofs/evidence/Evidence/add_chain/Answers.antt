@@ -18,16 +18,16 @@ loop-passed-init c = (
   refl,
   refl,
   λ traces t here placed is before.
-      let all : fact_slots c.args.chain.now ≡ c.slots-slots.result - 0 = omega (arith, c.slots-slots.ensures.value) in
+      let all : fact_slots c.args.chain.now ≡ c.fact_slots-slots.result - 0 = omega (arith, c.fact_slots-slots.ensures.value) in
       subst (λ n. AreTakenIn traces c.args.asked.now (SeenFrom traces t c.args.trace c.args.place c.args.chain.now n) c.args.self.now.origins c.args.self.now.guards) all
       (taken_last traces c.args.asked.now t c.args.trace c.args.place c.args.chain.now c.args.self.now.origins c.args.self.now.guards before),
 )
 
 pub loop-passed-preserved : goal.loop-passed-preserved
 loop-passed-preserved c =
-    let n = c.slots-slots.result - 1 - c.loop-passed.passed in
-    let was : c.slots-slots.result - c.loop-passed.passed ≡ n + 1 = omega (arith, c.loop-passed-test.true) in
-    let now : n ≡ c.slots-slots.result - (c.loop-passed.passed + 1) = omega (arith, c.loop-passed-test.true) in (
+    let n = c.fact_slots-slots.result - 1 - c.loop-passed.passed in
+    let was : c.fact_slots-slots.result - c.loop-passed.passed ≡ n + 1 = omega (arith, c.loop-passed-test.true) in
+    let now : n ≡ c.fact_slots-slots.result - (c.loop-passed.passed + 1) = omega (arith, c.loop-passed-test.true) in (
       c.in_ok-add_slot.ensures.origins ∙ c.loop-passed.invariant.0,
       c.in_ok-add_slot.ensures.guards ∙ c.loop-passed.invariant.1,
       λ traces t here placed is before.
@@ -41,7 +41,7 @@ pub returns-clause-taken : goal.returns-clause-taken
 returns-clause-taken c traces t here placed is before =
     let origins = c.loop-passed.self.origins in
     let guards = c.loop-passed.self.guards in
-    let none : c.slots-slots.result - c.loop-passed.passed ≡ 0 = omega (arith, c.loop-passed-test.false) in
+    let none : c.fact_slots-slots.result - c.loop-passed.passed ≡ 0 = omega (arith, c.loop-passed-test.false) in
     taken_chain traces c.args.asked.now t c.args.trace c.args.place c.args.chain.now here is c.slots_have_what_is_given.ensures.exact origins guards
     (subst (λ n. AreTakenIn traces c.args.asked.now (SeenFrom traces t c.args.trace c.args.place c.args.chain.now n) origins guards) none
     (c.loop-passed.invariant.2 traces t here placed is before))

@@ -15,13 +15,13 @@ use Rattle.ld_explain.proofs.evidence.Evidence.add_slot.Goals as goal
 pub returns-in_default-clause-taken : goal.returns-in_default-clause-taken
 returns-in_default-clause-taken c traces t here placed is before =
     taken_pass traces c.args.asked.now t c.args.trace c.args.place c.args.chain.now c.args.n
-    (λ x at asked. none-some x (sym c.in_default.is ∙ c.fact_at.ensures ∙ at)) c.args.self.now.origins c.args.self.now.guards before
+    (λ x at asked. none-some x (sym c.in_default.is ∙ c.fact_in_slot.ensures ∙ at)) c.args.self.now.origins c.args.self.now.guards before
 
 pub returns-then-not-has-clause-taken : goal.returns-then-not-has-clause-taken
 returns-then-not-has-clause-taken c traces t here placed is before =
     taken_pass traces c.args.asked.now t c.args.trace c.args.place c.args.chain.now c.args.n
     (λ x at asked.
-    let same : c.in-Some.fact ≡ x = same_Some c.in-Some.fact x (sym c.in-Some.is ∙ c.fact_at.ensures ∙ at) in
+    let same : c.in-Some.fact ≡ x = same_Some c.in-Some.fact x (sym c.in-Some.is ∙ c.fact_in_slot.ensures ∙ at) in
     true≢false (sym (c.has.ensures.1 (subst (HasFact c.args.asked.now) (sym same) asked)) ∙ c.if-not-has.true))
     c.args.self.now.origins c.args.self.now.guards before
 
@@ -32,7 +32,7 @@ pub add_fact-requires-clause-below : goal.add_fact-requires-clause-below
 add_fact-requires-clause-below c = subst (λ keys. FactBelow keys c.in-Some.fact) (sym c.requires.guards) (c.has.ensures.0 c.if-not-has.false).0
 
 pub add_fact-requires-clause-slot : goal.add_fact-requires-clause-slot
-add_fact-requires-clause-slot c = sym c.fact_at.ensures ∙ c.in-Some.is
+add_fact-requires-clause-slot c = sym c.fact_in_slot.ensures ∙ c.in-Some.is
 
 pub returns-clause-taken : goal.returns-clause-taken
 returns-clause-taken c =
@@ -55,7 +55,7 @@ returns-clause-taken c =
     c.in_ok-put.ensures in
     record {
       firsts = firsts_take traces asked t c.args.trace c.args.place chain_now c.slots_have_what_is_given.ensures.newer c.args.n c.in-Some.fact c.requires.within
-          (sym c.fact_at.ensures ∙ c.in-Some.is) is_asked c.args.self.now.origins c.put.new.self puts before.firsts;
+          (sym c.fact_in_slot.ensures ∙ c.in-Some.is) is_asked c.args.self.now.origins c.put.new.self puts before.firsts;
       guarded = kept traces asked t c.args.place here is is_asked before.guarded;
     } in
     after_ok _ _ c.add_fact.result follows c.add_fact.ensures.kept

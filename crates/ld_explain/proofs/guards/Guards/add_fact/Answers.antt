@@ -20,7 +20,7 @@ returns-in-Dependency-clause-kept c =
     AreGuards traces (Among (AsksOrder asked) (SeenFrom traces t c.args.trace place c.args.chain.now c.args.n)) c.put.new.self) =
     λ puts traces asked t place here is is_asked before.
     let held : c.unwrap_or-held.result ≡ unwrap_or (slot_held c.args.chain.now c.args.n) 0 =
-    c.unwrap_or-held.ensures ∙ ap (λ o. unwrap_or o 0) c.held_of.ensures in
+    c.unwrap_or-held.ensures ∙ ap (λ o. unwrap_or o 0) c.lock_of_slot.ensures in
     let guard : (key : ℕ) → Contains c.gates_before.result.items key ↔ GuardsAt traces key (slot_origin t c.args.trace place c.args.chain.now c.args.n) =
     λ key.
     let r = gates-guard t place c.args.chain.now is traces c.args.trace here c.args.n c.requires.within key

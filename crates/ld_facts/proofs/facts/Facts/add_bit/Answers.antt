@@ -4,7 +4,7 @@ use Rattle.std.specs.Vec.{with_items}
 use Rattle.ld_facts.specs.Inside.Bits.{has_bit}
 use Rattle.ld_facts.specs.Numbers.{dependency_total, bit_total}
 use Rattle.ld_facts.specs.FactBits.{FactParts, SetsBit}
-use Rattle.ld_trace.specs.declared.key_id.TheConstants.{MAX_MANY}
+use Rattle.ld_trace.specs.declared.key_id.TheConstants.{MAX_KEYS}
 use Rattle.ld_facts.proofs.Adding.{AreCounted-dependency, AreCounted-mark}
 use Rattle.ld_facts.specs.Laws.Counting.{dependency_count-le, mark_count-le}
 use Rattle.ld_facts.proofs.facts.Facts.add_bit.Goals as goal
@@ -37,7 +37,7 @@ below c = subst (λ v. c.args.n < bit_total v.keys) (sym c.self.view_is) c.requi
 
 pub overflow_add-self : goal.overflow_add-self
 overflow_add-self c =
-    let most = dependency_count-le (record { keys = c.self.inside.keys; words = c.self.inside.bits.items }) MAX_MANY c.self.invariant.are.few in
+    let most = dependency_count-le (record { keys = c.self.inside.keys; words = c.self.inside.bits.items }) MAX_KEYS c.self.invariant.are.few in
     let is = c.self.invariant.dependencies in
     search rules
 
@@ -49,7 +49,7 @@ invariant_of-self c =
 
 pub overflow_add-self-else-n-keys : goal.overflow_add-self-else-n-keys
 overflow_add-self-else-n-keys c =
-    let most = mark_count-le (record { keys = c.self.inside.keys; words = c.self.inside.bits.items }) MAX_MANY c.self.invariant.are.few in
+    let most = mark_count-le (record { keys = c.self.inside.keys; words = c.self.inside.bits.items }) MAX_KEYS c.self.invariant.are.few in
     let is = c.self.invariant.marks in
     search rules
 

@@ -1,6 +1,6 @@
 use Rattle.std.proofs.Common.{rules, not, ◌≡◌, ◌+◌, ◌≤◌, ◌↔◌, ◌∙◌, ℕ, refl, sym, ap, subst, arith, Bool, true, false}
 use Rattle.ld_task.specs.Kinds.{is_s}
-use Rattle.ld_trace.specs.declared.key_id.TheConstants.{MAX_KEYS}
+use Rattle.ld_trace.specs.declared.key_id.TheConstants.{GRAPH_KEYS}
 use Rattle.ld_facts.specs.Arrows.{Arrow, arrow}
 use Rattle.ld_facts.specs.Inside.Bits.{has_bit}
 use Rattle.ld_facts.specs.Facts.{Adds, DependenciesOf}
@@ -75,7 +75,7 @@ within c =
 
 pub overflow_add-self : goal.overflow_add-self
 overflow_add-self c =
-    let most = rows_allowed-le c.add.new.self (subst (λ k. k ≤ MAX_KEYS) (sym c.add.ensures.keys) c.self.invariant.few) in
+    let most = rows_allowed-le c.add.new.self (subst (λ k. k ≤ GRAPH_KEYS) (sym c.add.ensures.keys) c.self.invariant.few) in
     let bound = within (goal.at.overflow_add-self c).Joined-was_clean-3 in
     search rules
 

@@ -1,5 +1,5 @@
 use Rattle.std.proofs.Common.{◌∙◌, ◌*◌, ◌<◌, ◌≤◌, length, sym, ap, subst, refl, inl, inr, arith}
-use Rattle.ld_trace.specs.declared.key_id.TheConstants.{MAX_KEYS}
+use Rattle.ld_trace.specs.declared.key_id.TheConstants.{GRAPH_KEYS}
 use Rattle.ld_facts.specs.Arrows.{Arrow, arrow}
 use Rattle.ld_facts.specs.Facts.{DependenciesOf}
 use Rattle.ld_facts.specs.FactBits.{HasFact}
@@ -17,10 +17,10 @@ d c = arrow c.args.from c.args.to c.args.kind
 has : (c : After-walk_bound-bound) → DependenciesOf (HasFact c.args.self.now.facts) (d c)
 has c = OnCircle-member (HasFact c.args.self.now.facts) (d c) (c.on_circle.ensures.0 c.if-not-on_circle.false)
 
-few : (c : After-walk_bound-bound) → c.args.self.now.facts.keys ≤ MAX_KEYS
+few : (c : After-walk_bound-bound) → c.args.self.now.facts.keys ≤ GRAPH_KEYS
 few c = let e = c.walk_bound-bound.ensures.value in let l = c.walk_bound-bound.ensures.fits in omega arith
 
-keys : (c : After-walk_bound-bound) → (c.args.from < MAX_KEYS) × (c.args.to < MAX_KEYS)
+keys : (c : After-walk_bound-bound) → (c.args.from < GRAPH_KEYS) × (c.args.to < GRAPH_KEYS)
 keys c = let l = few c in let (a, b) = (has c).0 in (omega arith, omega arith)
 
 pub walk_back-requires-clause-keys : goal.walk_back-requires-clause-keys

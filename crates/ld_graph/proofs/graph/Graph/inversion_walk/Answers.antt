@@ -1,7 +1,7 @@
 use Rattle.std.proofs.Common.{◌≡◌, ◌∙◌, ◌+◌, ◌*◌, ◌≤◌, ℕ, length, sym, ap, subst, refl, arith}
 use Rattle.std.specs.Prelude.{IsNone, IfSome}
 use Rattle.std.proofs.lemmas.Option.{IfSome_then}
-use Rattle.ld_trace.specs.declared.key_id.TheConstants.{MAX_KEYS}
+use Rattle.ld_trace.specs.declared.key_id.TheConstants.{GRAPH_KEYS}
 use Rattle.ld_task.specs.declared.kind.Kind.{Kind}
 use Rattle.ld_task.specs.Kinds.{is_r, kind_of_letters, kind_of_letters-letters}
 use Rattle.ld_facts.specs.Arrows.{arrow}
@@ -62,7 +62,7 @@ loop-n-preserved c = elim c.match-walk_by_link.branch [
       })
 ]
 
-within : (c : After-loop-n) → Holds (FactBelow MAX_KEYS) (HasFact c.args.self.now.facts)
+within : (c : After-loop-n) → Holds (FactBelow GRAPH_KEYS) (HasFact c.args.self.now.facts)
 within c = facts_within c.args.self.now.facts
     (let e = c.walk_bound-bound.ensures.value in let l = c.walk_bound-bound.ensures.fits in omega arith)
 

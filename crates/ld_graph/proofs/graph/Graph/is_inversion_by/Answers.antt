@@ -1,6 +1,6 @@
 use Rattle.std.proofs.Common.{◌≡◌, ◌<◌, ◌∙◌, ℕ, sym, subst, ap, arith, true}
 use Rattle.std.specs.Prelude.{◌↔◌, IsTrue}
-use Rattle.ld_trace.specs.declared.key_id.TheConstants.{MAX_KEYS}
+use Rattle.ld_trace.specs.declared.key_id.TheConstants.{GRAPH_KEYS}
 use Rattle.ld_facts.specs.Inside.Bits.{has_bit}
 use Rattle.ld_facts.specs.Facts.{DependenciesOf}
 use Rattle.ld_facts.specs.FactBits.{HasFact}
@@ -13,7 +13,7 @@ use Rattle.ld_graph.proofs.graph.Graph.is_inversion_by.Goals as goal
 
 pub returns : goal.returns
 returns c =
-    let lb : c.args.b < MAX_KEYS = (let k = c.if-b-keys.false in let few = c.keys.ensures.few in omega arith) in
+    let lb : c.args.b < GRAPH_KEYS = (let k = c.if-b-keys.false in let few = c.keys.ensures.few in omega arith) in
     let exact : (q : ℕ) → (has_bit c.from-reached.result q ≡ true) ↔ Way (Leads (DependenciesOf (HasFact c.self.inside.facts))) (place c.args.a c.args.read) q =
     (λ q. let row : has_bit c.from-reached.result q ≡ reaches c.self.inside.reach (place c.args.a c.args.read) q =
     c.from-reached.ensures q ∙ ap (λ p. reaches c.self.inside.reach p q) c.place_of.ensures.value in (

@@ -1,7 +1,7 @@
 use Rattle.std.proofs.Common.{◌≡◌, ◌∙◌, ◌≤◌, List, [], ◌∷◌, length, sym, subst, refl, arith}
 use Rattle.std.specs.Prelude.{IsNone, IfSome}
 use Rattle.std.proofs.lemmas.Option.{IfSome_then}
-use Rattle.ld_trace.specs.declared.key_id.TheConstants.{MAX_KEYS}
+use Rattle.ld_trace.specs.declared.key_id.TheConstants.{GRAPH_KEYS}
 use Rattle.ld_facts.specs.Arrows.{Arrow}
 use Rattle.ld_facts.specs.FactBits.{HasFact}
 use Rattle.ld_graph.specs.Walks.{IsCircle, IsShortestCircle, OnCircle}
@@ -40,7 +40,7 @@ loop-place-preserved c = elim c.match-circle_at.branch [
 -- the bound is no more than the members of any circle
 least : (c : After-loop-place) → (walk : List Arrow) → IsCircle (HasFact c.args.self.now.facts) walk → c.loop-place.bound ≤ length walk
 least c =
-    let few : c.args.self.now.facts.keys ≤ MAX_KEYS = let k = c.keys.ensures.value in let f = c.keys.ensures.few in omega arith in
+    let few : c.args.self.now.facts.keys ≤ GRAPH_KEYS = let k = c.keys.ensures.value in let f = c.keys.ensures.few in omega arith in
     let all : c.loop-place.place ≡ 512 = let l = c.loop-place-test.false in let m = c.loop-place.auto.place-end in omega arith in
     LeastDone-all c.args.self.now.facts c.loop-place.done c.loop-place.bound few (λ q l. c.loop-place.invariant.all_done q (omega arith)) c.loop-place.invariant.least
 

@@ -1,4 +1,5 @@
 use Rattle.std.proofs.Common.{◌<◌, [], ℕ, arith, length, refl, subst, sym}
+use Rattle.std.proofs.lemmas.Bool.{both_ways}
 use Rattle.std.proofs.lemmas.List.{take_all}
 use Rattle.std.proofs.lemmas.Option.{get_or_from_slice_get}
 use Rattle.ld_facts.specs.Arrows.{Arrow, arrow}
@@ -16,7 +17,7 @@ loop-i-preserved c gate =
     let within : c.loop-i.i < length c.args.walk.now = let l = c.loop-i-test.true in let e = c.len-i-end.ensures.exact in omega arith in
     AreThose-none_more (λ d. IsGate c.args.self.now.told.traces d gate) c.args.walk.now c.loop-i.i d
     (sym (get_or_from_slice_get c.args.walk.now c.loop-i.i d d c.member-from.ensures)) within (c.loop-i.invariant gate)
-    (c.has_gates.ensures c.if-has_gates.false gate)
+    (λ is. both_ways c.has_gates.result c.if-has_gates.false (c.has_gates.ensures.1 (gate, is)))
 
 pub returns : goal.returns
 returns c none = subst (λ xs. (gate : ℕ) → AreThose (λ d. IsGate c.args.self.now.told.traces d gate) xs [])

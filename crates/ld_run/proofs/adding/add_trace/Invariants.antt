@@ -1,6 +1,0 @@
-use Rattle.ld_run.proofs.Summing.{IsSumming}
-use Rattle.ld_run.proofs.adding.add_trace.Given as goal
-
--- the events so far were allowed, and the facts of their chains were added
-abbrev pub invariant-loop-place : goal.invariant-loop-place
-invariant-loop-place l = IsSumming l.initial.facts l.facts l.trace l.place l.state
