@@ -143,5 +143,5 @@ pub(crate) fn useful_threads(traces: &[RawTrace], keys: u16, workers: usize) -> 
     ensures { result ≤ workers }
 {
     let words = usize::from(keys) * usize::from(keys) / 16;
-    workers.min((event_count(traces) / (words as u128 / 4 + 1)) as usize)
+    (workers as u128).min(event_count(traces) / (words as u128 / 4 + 1)) as usize
 }
