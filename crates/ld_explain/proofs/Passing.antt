@@ -30,7 +30,7 @@ use Rattle.ld_explain.proofs.Traces.{occurs_somewhere, seen_end, seen_start}
 
 some_member : (xs : List ℕ) → xs ≢ [] → (x : ℕ) × Contains xs x
 some_member [] some = absurd (some refl)
-some_member (x ∷ xs) some = (x, 0, omega arith, refl)
+some_member (x ∷ xs) some = (x, (0, omega arith, refl))
 
 -- the same occurrences of some facts
 among-same : (In : Fact → Type 0) (P Q : Fact → Origin → Type 0) → ((x : Fact) (o : Origin) → P x o ↔ Q x o) →
