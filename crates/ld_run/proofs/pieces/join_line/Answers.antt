@@ -1,4 +1,3 @@
-use Rattle.std.proofs.Common.{◌≡◌}
 use Rattle.ld_run.proofs.PieceLemmas.{on-piece, whole-piece}
 use Rattle.ld_run.proofs.pieces.join_line.Goals as goal
 

@@ -1,4 +1,4 @@
-use Rattle.std.proofs.Common.{◌≡◌, arith, refl, ◌∙◌}
+use Rattle.std.proofs.Common.{◌≡◌, arith, refl}
 use Rattle.ld_run.specs.Inside.Pieces.{IsPiece}
 use Rattle.ld_run.proofs.PieceLemmas.{on-piece}
 use Rattle.ld_run.proofs.pieces.join_piece.Goals as goal

@@ -1,4 +1,4 @@
-use Rattle.std.proofs.Common.{◌≡◌, ◌++◌, ◌==◌, [], take, refl, ◌∙◌}
+use Rattle.std.proofs.Common.{◌==◌, take, refl}
 use Rattle.std.specs.Io.Buffered.{reader_buffer, reader_capacity, reader_remaining}
 use Rattle.std.specs.Io.KnownBytes.{Consumes}
 use Rattle.ld_run.proofs.PieceLemmas.{left-buffer, round-on}
