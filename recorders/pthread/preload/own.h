@@ -181,6 +181,7 @@ bool span_around(struct call call, uintptr_t address, struct span *span);
 void forget_rules(void);
 extern uint32_t rules_epoch; /* changes when a library is closed */
 bool is_in_stack(struct call call, uint32_t from_frame);
+bool has_returned(struct call call, struct call earlier, uintptr_t function); /* which was called there, further up on the stack */
 
 /* ---- frames.c */
 
@@ -268,7 +269,7 @@ void destroyed(uintptr_t lock);
 void tried(uintptr_t lock, bool has_failed);
 bool is_held_once(uintptr_t lock);
 bool is_any_held(void);
-void enter_loader(uintptr_t loader, struct call call);
+void enter_loader(uintptr_t loader, uintptr_t function, struct call call);
 void begin_threads(void);
 
 #endif
