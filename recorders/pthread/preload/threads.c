@@ -43,6 +43,7 @@ struct entry {
 };
 
 #define PLACES 16
+#define OWN_LOCKS 16
 #define FIRST_HELD 8
 
 /* The function of the loader's that a thread is in, or was in when it came last. */
@@ -65,6 +66,8 @@ struct thread {
     uintptr_t failed; /* the lock of the last try that failed */
     uint32_t failed_under; /* how many of the locks that were held then are held since: the oldest ones */
     struct loading loading;
+    uintptr_t own_locks[OWN_LOCKS]; /* the last ones that were met first by it, in its frames or among its own variables; 0: none */
+    uint32_t own_lock_count; /* so many there were, with those that aren't here any more */
     struct thread *next;
     struct {
         uintptr_t caller;
@@ -145,6 +148,22 @@ static struct thread *make_thread(void) {
     return t;
 }
 
+/* In the same memory other locks come to lie. */
+static void forget_own_locks(struct thread *t) {
+    for (uint32_t i = 0; i < OWN_LOCKS; i++) {
+        if (t->own_locks[i])
+            forget_own_lock(t->own_locks[i]);
+        t->own_locks[i] = 0;
+    }
+}
+
+void note_own_lock(uintptr_t lock) {
+    for (uint32_t i = 0; i < OWN_LOCKS; i++)
+        if (own->own_locks[i] == lock)
+            return;
+    own->own_locks[own->own_lock_count++ % OWN_LOCKS] = lock;
+}
+
 static void end_loading(struct thread *t);
 
 /* Other destructors of the thread may still lock, so the last round of them is waited for. */
@@ -157,6 +176,7 @@ static void at_thread_end(void *value) {
         return;
     }
     end_loading(t);
+    forget_own_locks(t);
     is_ended = true;
     own = NULL;
     t->raw->ended = 1;
@@ -657,7 +677,7 @@ void initialised(uintptr_t lock, struct call call) {
 void destroyed(uintptr_t lock) {
     if (!enter())
         return;
-    forget_lock(lock);
+    drop_lock(lock);
     leave();
 }
 
@@ -671,8 +691,11 @@ static void begin_in_child(struct thread *old) {
     for (uint32_t i = 0; i < depth; i++)
         held[i] = old->entries[i].held;
     busy = true;
-    for (struct thread *t = threads; t; t = t->next)
+    for (struct thread *t = threads; t; t = t->next) {
+        if (t != old)
+            forget_own_locks(t);
         t->is_taken = 0;
+    }
     own = NULL;
     struct thread *t = make_thread();
     for (uint32_t i = 0; t && i < depth && has_entry_left(t); i++)
