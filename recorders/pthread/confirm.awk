@@ -3,6 +3,7 @@
 #
 #   mode=keys       the report by classes
 #   mode=circles    the report by single locks
+#   mode=summary    SUMMARY, which has how many threads some traces stand for besides their own
 #   mode=traces     the traces of single locks, which the checker has accepted
 #   mode=names      for depth=N, each line of the traces by classes beside that of the traces with N callers
 #   mode=deeper     for depth=N, the report with N callers
@@ -69,10 +70,19 @@ function name_of(line,    name, fields) {
     return name
 }
 
+mode == "summary" && $1 ~ /^task-/ && $2 == "stands" { others_like[$1] = $4 }
+
+# The threads that a trace is of: its own, and those whose traces weren't written because they say the same.
+function threads_of(trace) {
+    sub(/.*\//, "", trace)
+    sub(/\.csv$/, "", trace)
+    return 1 + others_like[trace]
+}
+
 # Goes through a trace: what the task holds, newest last, and from where on in the current frame.
 mode == "traces" {
     if (FNR == 1) {
-        task++
+        threads_in[++task] = threads_of(FILENAME)
         depth = base = frames = 0
     } else if (/^acq,/) {
         key = name_of($0) "/" substr(rest, 1, 1)
@@ -182,12 +192,12 @@ function gate(circle, length_of,    candidates, n, i, k) {
     return ""
 }
 
-function count_tasks(circle, length_of,    all, found, list, n, i, k) {
+function count_threads(circle, length_of,    all, found, list, n, i, k) {
     for (i = 1; i <= length_of; i++) {
         n = split(tasks_of[circle[i]], list, " ")
         for (k = 1; k <= n; k++) if (!(list[k] in all)) {
             all[list[k]] = 1
-            found++
+            found += threads_in[list[k]]
         }
     }
     return found + 0
@@ -226,7 +236,7 @@ function text_of(circle, length_of,    i, walk, orders, tasks) {
 
 # Keeps the line of a circle for the finding if none that is worse was kept; and of those with single locks alone, the worst one.
 function judge(circle, length_of,    threads, rank, locks, line, passes, rest, is_sure) {
-    threads = count_tasks(circle, length_of)
+    threads = count_threads(circle, length_of)
     locks = locks_of(circle, length_of, wanted[1])
     passes = gate(circle, length_of)
     rest = several(circle, length_of)
@@ -331,7 +341,7 @@ function search_short(worst,    most, d) {
 function is_worst(worst,    d, chosen, n) {
     for (d = 1; d <= count; d++) if (d in is_chosen) chosen[++n] = d
     if (best_rank == GATED && gate(chosen, n) != "") return 1
-    return best_rank <= worst || (best_rank == ALONE && count_tasks(chosen, n) <= 1)
+    return best_rank <= worst || (best_rank == ALONE && count_threads(chosen, n) <= 1)
 }
 
 # ---- Orders that are part of a circle.

@@ -91,6 +91,7 @@ static void tell_losses(FILE *file) {
               "libraries loaded by dlmopen into a namespace of their own: their locks aren't seen");
     tell_loss(file, "threads-alike", sums.alike,
               "threads whose traces are those of two others, and weren't written, since a run takes 4,096: nothing is lost by these");
+    tell_stand_ins(file);
     tell_loss(file, "repeats", raw->repeated, "records that repeat what their thread had done before: nothing is lost by these");
 }
 

@@ -147,7 +147,8 @@ struct content { /* of a trace: two traces of the same say the same */
 
 void expect_traces(uint64_t count);
 void add_content(struct content *content, uint64_t what);
-bool is_told_enough(const struct content *content); /* this trace isn't needed any more */
+bool is_told_enough(const struct content *content, uint32_t trace); /* this trace isn't needed any more; else it has that number */
+void tell_stand_ins(FILE *file); /* lines of SUMMARY: which traces stand for how many others */
 
 /* ---- traces.c */
 

@@ -265,7 +265,7 @@ static void write_trace(const char *folder, struct trace *t) {
     snprintf(n.object_places, sizeof n.object_places, "%s.places", n.objects);
     open_files(t, &n);
     write_records(t);
-    bool is_told = t->events && !is_told_at_end(t) && is_told_enough(&t->content);
+    bool is_told = t->events && !is_told_at_end(t) && is_told_enough(&t->content, (uint32_t)sums.threads + 1);
     close_files(t, &n, t->events && !is_told);
     sums.alike += is_told;
     if (t->events == 0 || is_told)

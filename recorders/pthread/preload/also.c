@@ -187,14 +187,14 @@ static uint64_t loader;
 static bool has_opened;
 
 /* glibc looks where dlopen was called from, to know whose paths to search. So ours jumps to it, with nothing to be done afterwards:
-   that the loader is left is seen by where the stack is when the thread comes again. */
+   that it has returned is seen on the stack when the thread comes again. */
 EXPORT void *dlopen(const char *name, int mode) {
     begin_once();
     if (is_recording()) {
         STORE(&has_opened, true);
         if (mode & RTLD_DEEPBIND)
             ADD(&arena->deep_bound, 1);
-        enter_loader((uintptr_t)&loader, HERE);
+        enter_loader((uintptr_t)&loader, (uintptr_t)REAL(dlopen), HERE);
     }
     return REAL(dlopen)(name, mode & ~RTLD_DEEPBIND);
 }
@@ -205,7 +205,7 @@ EXPORT void *dlmopen(Lmid_t space, const char *name, int mode) {
         STORE(&has_opened, true);
         if (space != LM_ID_BASE)
             ADD(&arena->namespaces, 1);
-        enter_loader((uintptr_t)&loader, HERE);
+        enter_loader((uintptr_t)&loader, (uintptr_t)REAL(dlmopen), HERE);
     }
     return REAL(dlmopen)(space, name, mode & ~RTLD_DEEPBIND);
 }

@@ -1,8 +1,8 @@
 /* Places, classes and objects.
 
    A class is where a lock was initialised; else what static lock it is; else where its memory was allocated, and where in that
-   memory it is; else in which function's frame it lies; else where it was first taken. An object is one of the class's locks that
-   was ever nested with others, as long as no more than RAW_APART are alive: all others of the class are one object. */
+   memory it is; else in which function's frame it lies; else where it was first taken. An object is one of the first RAW_APART of the
+   class's locks that were nested with others: all others of the class are one object. */
 #include "own.h"
 
 /* ---- Places. */
@@ -146,7 +146,7 @@ static uint32_t place_here(struct call call) {
 #define OBJECT_BLOCKS 65536
 
 struct kept_of_class {
-    uint32_t alive; /* a bit for each ordinal, 1 being the lowest */
+    uint32_t given; /* a bit for each ordinal, 1 being the lowest: a lock has it, or had it once */
     uint32_t objects[RAW_APART + 1];
 };
 
@@ -355,32 +355,36 @@ static bool is_outdated(uintptr_t lock, uint32_t object, struct call call) {
     return now && now != class;
 }
 
+/* Whether the lock ends with this thread. */
+static bool is_own(uintptr_t lock, uint32_t class, struct call call) {
+    enum class_kind kind = class ? kind_of(class) : CLASS_NONE;
+    return kind == CLASS_THREAD || ((kind == CLASS_STACK || kind == CLASS_TAKE) && is_below_end(lock, call));
+}
+
 uint32_t object_of_lock(uintptr_t lock, struct call call) {
     uint32_t object = lock_object(lock);
     if (LIKELY(object && !is_outdated(lock, object, call)))
         return object;
     if (object)
-        forget_lock(lock);
-    return new_object(lock, class_of_lock(lock, call));
+        drop_lock(lock);
+    uint32_t class = class_of_lock(lock, call);
+    if (is_own(lock, class, call))
+        note_own_lock(lock);
+    return new_object(lock, class);
 }
 
-/* The smallest ordinal that no other object of the class has, or 0. */
+/* The smallest ordinal that no object of the class has had, or 0. */
 static uint32_t taken_ordinal(struct kept_of_class *kept) {
-    uint32_t alive = LOAD(&kept->alive);
-    while (~alive) {
-        uint32_t free = (uint32_t)__builtin_ctz(~alive);
-        if (SWAP(&kept->alive, &alive, alive | UINT32_C(1) << free))
+    uint32_t given = LOAD(&kept->given);
+    while (~given) {
+        uint32_t free = (uint32_t)__builtin_ctz(~given);
+        if (SWAP(&kept->given, &given, given | UINT32_C(1) << free))
             return free + 1;
     }
     return 0;
 }
 
-static void give_ordinal(uint32_t class, uint32_t ordinal) {
-    struct kept_of_class *kept = ordinal && ordinal != RAW_SHARED ? kept_of(class) : NULL;
-    if (kept)
-        __atomic_fetch_and(&kept->alive, ~(UINT32_C(1) << (ordinal - 1)), __ATOMIC_ACQ_REL);
-}
-
+/* An ordinal that a lock has had is no other's, so that orders of two locks aren't taken for those of one. */
 uint32_t apart(uintptr_t lock, uint32_t object) {
     if (LIKELY(ordinal_of(object)))
         return object;
@@ -390,25 +394,23 @@ uint32_t apart(uintptr_t lock, uint32_t object) {
     struct kept_of_class *kept = kept_of(class);
     uint32_t ordinal = kept ? taken_ordinal(kept) : 0;
     uint32_t own = ordinal ? object_numbered(class, ordinal) : 0;
-    if (own && put_lock(lock, own) == own)
-        return own;
-    give_ordinal(class, ordinal);
-    return object;
+    return own && put_lock(lock, own) == own ? own : object;
 }
 
 /* ---- Locks that are initialised, and those that are no more. */
 
-static void give_object_back(uint32_t object) { give_ordinal(class_of(object), ordinal_of(object)); }
-
-void forget_lock(uintptr_t lock) { drop_lock(lock, give_object_back); }
-
-void forget_locks_between(uintptr_t from, uintptr_t to) { drop_locks_between(from, to, give_object_back); }
+/* What a call has initialised is destroyed by one. */
+void forget_own_lock(uintptr_t lock) {
+    uint32_t object = lock_object(lock);
+    if (object && kind_of(class_of(object)) != CLASS_INIT)
+        drop_lock(lock);
+}
 
 /* The memory that the lock is in is marked, so that it is forgotten with that. */
 void know_by_place(uintptr_t lock, struct call call) {
     uint32_t memory;
     uint64_t offset;
-    forget_lock(lock);
+    drop_lock(lock);
     find_memory(lock, &memory, &offset);
     uint32_t place = place_here(call);
     if (place)

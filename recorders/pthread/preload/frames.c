@@ -56,6 +56,11 @@ static bool find_noted(uintptr_t lock, struct span *span) {
 /* Whether the lock may be in a frame of this thread's. */
 bool is_on_stack(uintptr_t lock, struct call call) { return lock > call.frame && lock - call.frame < LARGEST_STACK; }
 
+/* The same without the stacks of others that lie above: a thread's own one ends where its thread pointer points to. */
+bool is_below_end(uintptr_t lock, struct call call) {
+    return lock - call.frame < (uintptr_t)__builtin_thread_pointer() - call.frame;
+}
+
 bool frame_with(uintptr_t lock, struct call call, uint64_t *function, uint64_t *offset) {
     struct span span;
     bool is_found = is_on_stack(lock, call) && span_around(call, lock, &span);

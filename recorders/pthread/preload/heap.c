@@ -200,9 +200,9 @@ void drop_piece(uintptr_t address, size_t size) {
 static void forget_piece(uintptr_t address, uint64_t about) {
     uint64_t locks = locks_of(about);
     if (RARELY(locks == SOME_LOCKS))
-        forget_locks_between(address, address + (about >> SIZE_SHIFT));
+        drop_locks_between(address, address + (about >> SIZE_SHIFT));
     else if (RARELY(locks))
-        forget_lock(address + (locks - 1) * 4);
+        drop_lock(address + (locks - 1) * 4);
 }
 
 /* ---- The piece of a lock. */

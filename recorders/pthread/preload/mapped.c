@@ -138,7 +138,7 @@ static void drop_regions(uintptr_t from, uintptr_t to) {
 static size_t whole_pages(size_t bytes) { return (bytes + PAGE - 1) & ~(size_t)(PAGE - 1); }
 
 static void forget_mapped(uintptr_t from, size_t bytes) {
-    forget_locks_between(from, from + bytes);
+    drop_locks_between(from, from + bytes);
     drop_regions(from, from + bytes);
     drop_piece(from, bytes);
 }

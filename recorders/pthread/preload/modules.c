@@ -273,7 +273,7 @@ void forget_closed_modules(void) {
         if (LOAD(&m->is_gone) || is_mapped(m))
             continue;
         STORE(&m->is_gone, true);
-        forget_locks_between(m->from, m->to);
+        drop_locks_between(m->from, m->to);
         is_any = true;
     }
     if (!is_any)

@@ -132,8 +132,8 @@ static inline bool is_crowded(uint64_t overflows, uint32_t line_bits) { return o
 uint32_t lock_object(uintptr_t lock); /* the object of a lock, or 0 */
 uint32_t put_lock(uintptr_t lock, uint32_t object); /* the object that it is then, or 0 if there is no room */
 uint32_t add_lock(uintptr_t lock, uint32_t object); /* the same of a lock that isn't there */
-void drop_lock(uintptr_t lock, void (*dropped)(uint32_t object));
-void drop_locks_between(uintptr_t from, uintptr_t to, void (*dropped)(uint32_t object));
+void drop_lock(uintptr_t lock);
+void drop_locks_between(uintptr_t from, uintptr_t to);
 
 /* ---- modules.c */
 
@@ -181,6 +181,7 @@ bool span_around(struct call call, uintptr_t address, struct span *span);
 void forget_rules(void);
 extern uint32_t rules_epoch; /* changes when a library is closed */
 bool is_in_stack(struct call call, uint32_t from_frame);
+bool has_returned(struct call call, struct call earlier, uintptr_t function); /* which was called there, further up on the stack */
 
 /* ---- frames.c */
 
@@ -188,6 +189,7 @@ void note_frames(struct call call);
 bool frame_with(uintptr_t lock, struct call call, uint64_t *function, uint64_t *offset);
 bool own_part_with(uintptr_t lock, uint64_t *word);
 bool is_on_stack(uintptr_t lock, struct call call);
+bool is_below_end(uintptr_t lock, struct call call);
 
 /* ---- heap.c */
 
@@ -248,8 +250,7 @@ void look_at_taker(uint32_t class, struct call call);
 uint32_t *foreign_releases(uint32_t object);
 void know_by_place(uintptr_t lock, struct call call);
 void know_by_file(uintptr_t lock, uint32_t file, uint64_t offset);
-void forget_lock(uintptr_t lock);
-void forget_locks_between(uintptr_t from, uintptr_t to);
+void forget_own_lock(uintptr_t lock); /* whose thread has ended */
 void forget_places_in_closed_modules(void);
 
 /* ---- threads.c */
@@ -268,7 +269,8 @@ void destroyed(uintptr_t lock);
 void tried(uintptr_t lock, bool has_failed);
 bool is_held_once(uintptr_t lock);
 bool is_any_held(void);
-void enter_loader(uintptr_t loader, struct call call);
+void note_own_lock(uintptr_t lock);
+void enter_loader(uintptr_t loader, uintptr_t function, struct call call);
 void begin_threads(void);
 
 #endif

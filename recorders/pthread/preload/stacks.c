@@ -4,7 +4,11 @@
    frame costs some nanoseconds, takes no lock and needs no other library. On other processors glibc's backtrace does it. */
 #include "own.h"
 
+#include <errno.h>
+#include <linux/futex.h>
 #include <string.h>
+#include <sys/syscall.h>
+#include <unistd.h>
 
 uint32_t rules_epoch;
 
@@ -445,6 +449,31 @@ bool span_around(struct call call, uintptr_t address, struct span *span) {
     return false;
 }
 
+/* ---- Whether a function that was called earlier has returned. */
+
+/* That stack may be unmapped by now, as a coroutine's is. So the system looks, by a wait for another value that may take no time. */
+static bool still_holds(uintptr_t address, uintptr_t word) {
+    static const struct timespec no_time = {0, 0};
+    int saved = errno;
+    bool is_other = SYSTEM(futex, address, FUTEX_WAIT_PRIVATE, (uint32_t)word, &no_time, NULL, 0) != 0 &&
+                    (errno == EAGAIN || errno == EFAULT);
+    errno = saved;
+    return !is_other;
+}
+
+/* If the stack can be followed to where the return address was, the function has returned unless that is met there, behind a function of
+   the same module: one of another module was called later at the same place. If it can't, another word there tells it. */
+bool has_returned(struct call call, struct call earlier, uintptr_t function) {
+    uintptr_t end = earlier.frame + 16, inner;
+    struct frame f = first_frame(call);
+    do {
+        inner = f.caller;
+        if (!to_caller(&f))
+            return !still_holds(end - 8, earlier.caller);
+    } while (f.sp < end);
+    return f.sp > end || f.caller != earlier.caller || module_of(inner) != module_of(function);
+}
+
 #else
 
 #include <execinfo.h>
@@ -478,6 +507,12 @@ uint32_t take_spans(struct span *spans, struct call call, uint32_t most) {
 
 bool span_around(struct call call, uintptr_t address, struct span *span) {
     (void)call, (void)address, (void)span;
+    return false;
+}
+
+/* It is known when the stack ends above the call. */
+bool has_returned(struct call call, struct call earlier, uintptr_t function) {
+    (void)call, (void)earlier, (void)function;
     return false;
 }
 

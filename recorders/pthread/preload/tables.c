@@ -205,32 +205,29 @@ uint32_t add_lock(uintptr_t lock, uint32_t object) {
 }
 
 /* Unless somebody else emptied it meanwhile. */
-static void empty_slot(uint64_t *slot, uint64_t key, void (*dropped)(uint32_t object)) {
+static void empty_slot(uint64_t *slot, uint64_t key) {
     uint64_t there = LOAD(slot);
-    while (is_of(there, key))
-        if (SWAP(slot, &there, 0)) {
-            dropped(object_in(there));
-            return;
-        }
+    while (is_of(there, key) && !SWAP(slot, &there, 0))
+        continue;
 }
 
-static inline void drop_in_line(uint64_t *line, uint64_t key, void (*dropped)(uint32_t object)) {
+static inline void drop_in_line(uint64_t *line, uint64_t key) {
     UNROLLED
     for (int i = 0; i < LOCK_WAYS; i++)
         if (RARELY(is_of(__atomic_load_n(&line[i], __ATOMIC_RELAXED), key)))
-            empty_slot(&line[i], key, dropped);
+            empty_slot(&line[i], key);
 }
 
-void drop_lock(uintptr_t lock, void (*dropped)(uint32_t object)) {
+void drop_lock(uintptr_t lock) {
     uint64_t key = key_of(lock);
     for (int level = 0; level < LOCK_LEVELS; level++) {
         uint64_t *slots = lock_level(level, false);
         if (slots)
-            drop_in_line(lock_line(slots, level, lock), key, dropped);
+            drop_in_line(lock_line(slots, level, lock), key);
     }
 }
 
-static void drop_in_level(int level, uintptr_t from, uintptr_t to, void (*dropped)(uint32_t object)) {
+static void drop_in_level(int level, uintptr_t from, uintptr_t to) {
     uint64_t lines = UINT64_C(1) << lock_bits[level];
     for (uint64_t i = 0; i < lines * LOCK_WAYS; i++) {
         uint64_t there = LOAD(&lock_levels[level][i]);
@@ -238,21 +235,21 @@ static void drop_in_level(int level, uintptr_t from, uintptr_t to, void (*droppe
             continue;
         uintptr_t lock = address_of(there >> OBJECT_BITS, level, i / LOCK_WAYS);
         if (lock >= from && lock < to)
-            empty_slot(&lock_levels[level][i], there >> OBJECT_BITS, dropped);
+            empty_slot(&lock_levels[level][i], there >> OBJECT_BITS);
     }
 }
 
 #define FEW_BYTES 65536 /* up to so many are gone through by address, more by what the table has */
 
-void drop_locks_between(uintptr_t from, uintptr_t to, void (*dropped)(uint32_t object)) {
+void drop_locks_between(uintptr_t from, uintptr_t to) {
     if (from >= to || !has_marked_part(from, to))
         return;
     if (to - from <= FEW_BYTES) {
         for (uintptr_t lock = from & ~(uintptr_t)3; lock < to; lock += 4)
-            drop_lock(lock, dropped);
+            drop_lock(lock);
         return;
     }
     for (int level = 0; level < LOCK_LEVELS; level++)
         if (lock_level(level, false))
-            drop_in_level(level, from, to, dropped);
+            drop_in_level(level, from, to);
 }

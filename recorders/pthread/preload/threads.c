@@ -43,7 +43,15 @@ struct entry {
 };
 
 #define PLACES 16
+#define OWN_LOCKS 16
 #define FIRST_HELD 8
+
+/* The function of the loader's that a thread is in, or was in when it came last. */
+struct loading {
+    uintptr_t lock; /* the loader's; 0: in none */
+    uintptr_t function;
+    struct call call;
+};
 
 struct thread {
     struct raw_thread *raw;
@@ -57,8 +65,9 @@ struct thread {
     int destructor_rounds;
     uintptr_t failed; /* the lock of the last try that failed */
     uint32_t failed_under; /* how many of the locks that were held then are held since: the oldest ones */
-    uintptr_t loader; /* the loader's lock, if the thread may still be in it */
-    struct call loading; /* from where */
+    struct loading loading;
+    uintptr_t own_locks[OWN_LOCKS]; /* the last ones that were met first by it, in its frames or among its own variables; 0: none */
+    uint32_t own_lock_count; /* so many there were, with those that aren't here any more */
     struct thread *next;
     struct {
         uintptr_t caller;
@@ -118,7 +127,7 @@ static bool begin_trace(struct thread *t) {
     t->depth = 0;
     t->failed = 0;
     t->failed_under = 0;
-    t->loader = 0;
+    t->loading.lock = 0;
     t->destructor_rounds = 0;
     t->epoch = LOAD(&foreign_epoch);
     STORE(&t->raw->is_ready, 1);
@@ -139,7 +148,23 @@ static struct thread *make_thread(void) {
     return t;
 }
 
-static void leave_loader(struct thread *t, uintptr_t frame);
+/* In the same memory other locks come to lie. */
+static void forget_own_locks(struct thread *t) {
+    for (uint32_t i = 0; i < OWN_LOCKS; i++) {
+        if (t->own_locks[i])
+            forget_own_lock(t->own_locks[i]);
+        t->own_locks[i] = 0;
+    }
+}
+
+void note_own_lock(uintptr_t lock) {
+    for (uint32_t i = 0; i < OWN_LOCKS; i++)
+        if (own->own_locks[i] == lock)
+            return;
+    own->own_locks[own->own_lock_count++ % OWN_LOCKS] = lock;
+}
+
+static void end_loading(struct thread *t);
 
 /* Other destructors of the thread may still lock, so the last round of them is waited for. */
 static void at_thread_end(void *value) {
@@ -150,7 +175,8 @@ static void at_thread_end(void *value) {
         set_value(thread_end, t);
         return;
     }
-    leave_loader(t, UINTPTR_MAX);
+    end_loading(t);
+    forget_own_locks(t);
     is_ended = true;
     own = NULL;
     t->raw->ended = 1;
@@ -366,21 +392,29 @@ static void released_foreign(struct thread *t, uintptr_t lock) {
     t->epoch = LOAD(&foreign_epoch) - 1;
 }
 
-/* The loader has been left if its frame has. */
-static void leave_loader(struct thread *t, uintptr_t frame) {
-    if (LIKELY(!t->loader || frame < t->loading.frame))
-        return;
-    uint32_t i = find_held(t, t->loader);
-    t->loader = 0;
+static void end_loading(struct thread *t) {
+    uint32_t i = t->loading.lock ? find_held(t, t->loading.lock) : RAW_HELD;
+    t->loading.lock = 0;
     if (i == RAW_HELD)
         return;
     t->entries[i].held.depth = 0;
-    release_at(t, i, t->loading.caller);
+    release_at(t, i, t->loading.call.caller);
+}
+
+__attribute__((noinline)) static void end_loading_if_returned(struct thread *t, struct call call) {
+    if (call.frame >= t->loading.call.frame || has_returned(call, t->loading.call, t->loading.function))
+        end_loading(t);
+}
+
+/* The loader's lock is given back when its holder comes first after that. */
+static inline void leave_loader(struct thread *t, struct call call) {
+    if (RARELY(t->loading.lock))
+        end_loading_if_returned(t, call);
 }
 
 /* Whether this thread was seen to take the lock. */
 static inline bool release_own(struct thread *t, uintptr_t lock, struct call call) {
-    leave_loader(t, call.frame);
+    leave_loader(t, call);
     uint32_t i = find_held(t, lock);
     if (i == RAW_HELD)
         return false;
@@ -521,7 +555,7 @@ static inline uint32_t object_to_hold(struct thread *t, uintptr_t lock, struct c
 
 static void take_lock(struct thread *t, uintptr_t lock, uint8_t mode, bool exclusive, struct call call) {
     t->raw->calls++;
-    leave_loader(t, call.frame);
+    leave_loader(t, call);
     if (RARELY(t->epoch != __atomic_load_n(&foreign_epoch, __ATOMIC_RELAXED)))
         drop_released(t, call.caller);
     uint32_t again = exclusive && t->depth ? find_held(t, lock) : RAW_HELD;
@@ -550,7 +584,7 @@ bool begin_wish(uintptr_t lock, uint8_t mode, struct call call) {
     if (!t)
         return false;
     t->raw->calls++;
-    leave_loader(t, call.frame);
+    leave_loader(t, call);
     if (RARELY(t->epoch != __atomic_load_n(&foreign_epoch, __ATOMIC_RELAXED)))
         drop_released(t, call.caller);
     uint32_t object = object_to_hold(t, lock, call);
@@ -605,14 +639,18 @@ void tried(uintptr_t lock, bool has_failed) {
     leave();
 }
 
-void enter_loader(uintptr_t loader, struct call call) {
+/* A library's constructor or destructor may load another one: the lock is held until the first call that has taken it returns. */
+void enter_loader(uintptr_t loader, uintptr_t function, struct call call) {
     struct thread *t = enter();
     if (!t)
         return;
-    take_lock(t, loader, MODE_WRITE, true, call);
-    if (!t->loader && find_held(t, loader) != RAW_HELD) {
-        t->loader = loader;
-        t->loading = call;
+    leave_loader(t, call);
+    if (find_held(t, loader) == RAW_HELD) {
+        take_lock(t, loader, MODE_WRITE, true, call);
+        if (find_held(t, loader) != RAW_HELD)
+            t->loading = (struct loading){loader, function, call};
+    } else {
+        t->raw->calls++;
     }
     leave();
 }
@@ -639,7 +677,7 @@ void initialised(uintptr_t lock, struct call call) {
 void destroyed(uintptr_t lock) {
     if (!enter())
         return;
-    forget_lock(lock);
+    drop_lock(lock);
     leave();
 }
 
@@ -649,15 +687,21 @@ void destroyed(uintptr_t lock) {
 static void begin_in_child(struct thread *old) {
     static struct held held[RAW_HELD] LARGE;
     uint32_t depth = old->depth;
+    struct loading loading = old->loading;
     for (uint32_t i = 0; i < depth; i++)
         held[i] = old->entries[i].held;
     busy = true;
-    for (struct thread *t = threads; t; t = t->next)
+    for (struct thread *t = threads; t; t = t->next) {
+        if (t != old)
+            forget_own_locks(t);
         t->is_taken = 0;
+    }
     own = NULL;
     struct thread *t = make_thread();
     for (uint32_t i = 0; t && i < depth && has_entry_left(t); i++)
         push_held(t, held[i].lock, held[i].object, held[i].mode, HERE, false);
+    if (t)
+        t->loading = loading;
     busy = false;
 }
 

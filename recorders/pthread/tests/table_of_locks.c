@@ -10,14 +10,8 @@
 
 static uintptr_t addresses[LOCKS];
 static bool is_known[LOCKS];
-static uint32_t dropped_count;
 
 void *take_private(size_t bytes) { return calloc(1, bytes); }
-
-static void dropped(uint32_t object) {
-    (void)object;
-    dropped_count++;
-}
 
 static uint64_t random_number(void) {
     static uint64_t state = 88172645463325252u;
@@ -43,16 +37,10 @@ static uint32_t count_wrong(void) {
     return wrong;
 }
 
-static uint32_t forget(uintptr_t from, uintptr_t to) {
-    uint32_t expected = 0;
+static void forget(uintptr_t from, uintptr_t to) {
     for (uint32_t i = 0; i < LOCKS; i++)
-        if (addresses[i] >= from && addresses[i] < to) {
-            expected += is_known[i];
-            is_known[i] = false;
-        }
-    dropped_count = 0;
-    drop_locks_between(from, to, dropped);
-    return dropped_count != expected;
+        is_known[i] &= addresses[i] < from || addresses[i] >= to;
+    drop_locks_between(from, to);
 }
 
 int main(void) {
@@ -65,9 +53,9 @@ int main(void) {
     wrong += count_wrong();
     for (int round = 0; round < 60; round++) {
         uintptr_t from = addresses[random_number() % LOCKS] - random_number() % 100;
-        wrong += forget(from, from + (round % 2 ? random_number() % 60000 : 70000 + random_number() % 1000000));
+        forget(from, from + (round % 2 ? random_number() % 60000 : 70000 + random_number() % 1000000));
+        wrong += round % 10 == 9 ? count_wrong() : 0;
     }
-    wrong += count_wrong();
     uint32_t left = 0;
     for (uint32_t i = 0; i < LOCKS; i++)
         left += is_known[i];
