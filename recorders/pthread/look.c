@@ -3,7 +3,8 @@
    Writes one word a line: `static`, `setuid`, `other-machine`, `other-libc`, `go`, `rust`, `libpython`, `libjvm`; or, if it is none
    of these and the program itself calls no function of a pthread lock, `no-pthread-import`. Of a script the interpreter is
    looked at. With --each it writes lines `WORD<tab>FILE`, for programs and libraries: `go`, `libpython`, `libjvm`, `embed` if there is
-   the code of lockdep_record.h in it, `openmp` if it takes a lock of OpenMP, and `pthread` if it calls such a function. */
+   the code of lockdep_record.h in it, `openmp` if it takes a lock of OpenMP, `sanitizer` if it is built with one that has an allocator of
+   its own, or is the library of one, and `pthread` if it calls such a function. */
 #define _GNU_SOURCE
 #include <elf.h>
 #include <fcntl.h>
@@ -192,6 +193,18 @@ static bool is_python(const struct symbols *symbols) {
 
 static bool is_java(const struct symbols *symbols) { return names_any(symbols, "libjvm") || names_any(symbols, "libjli"); }
 
+/* The libraries of sanitizers that have an allocator of their own, as gcc names them, and as clang does. */
+static const char *const sanitizers[] = {"libasan.so",        "liblsan.so",          "libtsan.so",         "libhwasan.so",
+                                         "libclang_rt.asan",  "libclang_rt.hwasan",  "libclang_rt.tsan"};
+
+/* Whether one of these is needed, or such a sanitizer is linked in, which has its own form of malloc. */
+static bool has_sanitizer(const struct file *file, const struct symbols *symbols) {
+    for (size_t i = 0; i < sizeof sanitizers / sizeof *sanitizers; i++)
+        if (names_any(symbols, sanitizers[i]))
+            return true;
+    return has(file, "__interceptor_malloc");
+}
+
 /* The file's first part, if it is a program or a library. */
 static const Elf64_Ehdr *read_head(const struct file *file) {
     const Elf64_Ehdr *head = part(file, 0, sizeof *head);
@@ -251,6 +264,7 @@ static void look_at_each(const char *name) {
         say_of(is_java(&symbols), "libjvm", name);
         say_of(has(&file, "ldr1 lockdep,2\n"), "embed", name);
         say_of(calls_any(&symbols, starts_of_openmp), "openmp", name);
+        say_of(has_sanitizer(&file, &symbols), "sanitizer", name);
         say_of(calls_locks(&symbols), "pthread", name);
     }
     munmap((void *)file.bytes, file.size);
