@@ -3,7 +3,9 @@
    Writes one word a line: `static`, `setuid`, `other-machine`, `other-libc`, `go`, `rust`, `libpython`, `libjvm`; or, if it is none
    of these and the program itself calls no function of a pthread lock, `no-pthread-import`. Of a script the interpreter is
    looked at. With --each it writes lines `WORD<tab>FILE`, for programs and libraries: `go`, `libpython`, `libjvm`, `embed` if there is
-   the code of lockdep_record.h in it, `openmp` if it takes a lock of OpenMP, and `pthread` if it calls such a function. */
+   the code of lockdep_record.h in it, `openmp` if it takes a lock of OpenMP, `semaphore` if it waits for semaphores,
+   `sanitizer` if it is built with one that has an allocator of its own, or is the library of one, and `pthread` if it calls such a
+   function. */
 #define _GNU_SOURCE
 #include <elf.h>
 #include <fcntl.h>
@@ -148,11 +150,12 @@ static bool begins_with(const char *text, const char *start) { return strncmp(te
 
 #define MOST_STARTS 8
 
-/* How the names begin of functions that take locks: those of pthreads and C11, and those of OpenMP, the last three of which the compilers
-   call for a critical section. */
+/* How the names begin of functions that take locks: those of pthreads and C11, those of OpenMP, the last three of which the compilers
+   call for a critical section, and those that wait for a semaphore. */
 static const char *const starts_of_pthreads[MOST_STARTS] = {"pthread_mutex_", "pthread_rwlock_", "pthread_spin_", "mtx_", "pthread_once"};
 static const char *const starts_of_openmp[MOST_STARTS] = {"omp_set_lock", "omp_test_lock", "omp_set_nest_lock", "omp_test_nest_lock",
                                                           "GOMP_critical_start", "GOMP_critical_name_start", "__kmpc_critical"};
+static const char *const starts_of_semaphores[MOST_STARTS] = {"sem_wait", "sem_trywait", "sem_timedwait", "sem_clockwait"};
 
 static bool begins_with_any(const char *name, const char *const starts[MOST_STARTS]) {
     for (size_t i = 0; i < MOST_STARTS && starts[i]; i++)
@@ -191,6 +194,18 @@ static bool is_python(const struct symbols *symbols) {
 }
 
 static bool is_java(const struct symbols *symbols) { return names_any(symbols, "libjvm") || names_any(symbols, "libjli"); }
+
+/* The libraries of sanitizers that have an allocator of their own, as gcc names them, and as clang does. */
+static const char *const sanitizers[] = {"libasan.so",        "liblsan.so",          "libtsan.so",         "libhwasan.so",
+                                         "libclang_rt.asan",  "libclang_rt.hwasan",  "libclang_rt.tsan"};
+
+/* Whether one of these is needed, or such a sanitizer is linked in, which has its own form of malloc. */
+static bool has_sanitizer(const struct file *file, const struct symbols *symbols) {
+    for (size_t i = 0; i < sizeof sanitizers / sizeof *sanitizers; i++)
+        if (names_any(symbols, sanitizers[i]))
+            return true;
+    return has(file, "__interceptor_malloc");
+}
 
 /* The file's first part, if it is a program or a library. */
 static const Elf64_Ehdr *read_head(const struct file *file) {
@@ -251,6 +266,8 @@ static void look_at_each(const char *name) {
         say_of(is_java(&symbols), "libjvm", name);
         say_of(has(&file, "ldr1 lockdep,2\n"), "embed", name);
         say_of(calls_any(&symbols, starts_of_openmp), "openmp", name);
+        say_of(calls_any(&symbols, starts_of_semaphores), "semaphore", name);
+        say_of(has_sanitizer(&file, &symbols), "sanitizer", name);
         say_of(calls_locks(&symbols), "pthread", name);
     }
     munmap((void *)file.bytes, file.size);
