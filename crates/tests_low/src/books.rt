@@ -7,8 +7,8 @@ use crate::steps::{A, B, C, Step, last_chain};
 use ld_book::{Book, BookFault, LockedBook, News, Totals};
 use ld_graph::{Kind, Mark};
 use ld_task::Chain;
-use ld_trace::Irq::Hard;
 use ld_trace::GRAPH_KEYS;
+use ld_trace::Irq::Hard;
 use std::alloc::Global;
 use std::sync::Wait;
 

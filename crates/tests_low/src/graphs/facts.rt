@@ -9,8 +9,8 @@ use crate::steps::{A, B, C, Step, last_chain};
 use ld_facts::{Fact, FactWords, Facts, fact_words};
 use ld_graph::{Kind, Mark};
 use ld_task::Chain;
-use ld_trace::Irq::{Hard, Soft};
 use ld_trace::GRAPH_KEYS;
+use ld_trace::Irq::{Hard, Soft};
 use std::alloc::Global;
 
 // The facts of the last chain of a trace, and the words that hold their bits.

@@ -12,7 +12,7 @@ use ld_parts::{PartedGraph, Ranks, Settled};
 use ld_task::Chain;
 use ld_task::Kind::{En, Er, Sn, Sr};
 use ld_trace::Irq::{Hard, Soft};
-use ld_trace::{Irq, GRAPH_KEYS};
+use ld_trace::{GRAPH_KEYS, Irq};
 use std::alloc::Global;
 
 const KINDS: [Kind; 4] = [Er, En, Sr, Sn];
