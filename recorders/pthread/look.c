@@ -199,12 +199,20 @@ static bool is_java(const struct symbols *symbols) { return names_any(symbols, "
 static const char *const sanitizers[] = {"libasan.so",        "liblsan.so",          "libtsan.so",         "libhwasan.so",
                                          "libclang_rt.asan",  "libclang_rt.hwasan",  "libclang_rt.tsan"};
 
-/* Whether one of these is needed, or such a sanitizer is linked in, which has its own form of malloc. */
+/* What a file has in it if such a sanitizer is linked in: the name of its own form of malloc, or, if it is stripped, a message. */
+static const char *const signs_of_sanitizers[] = {"__interceptor_malloc", "malloc_usable_size() for pointer which is not owned",
+                                                  "ThreadSanitizer: failed to set thread key",
+                                                  "LeakSanitizer: failed to set thread key"};
+
+/* Whether one of these is needed, or linked in. */
 static bool has_sanitizer(const struct file *file, const struct symbols *symbols) {
     for (size_t i = 0; i < sizeof sanitizers / sizeof *sanitizers; i++)
         if (names_any(symbols, sanitizers[i]))
             return true;
-    return has(file, "__interceptor_malloc");
+    for (size_t i = 0; i < sizeof signs_of_sanitizers / sizeof *signs_of_sanitizers; i++)
+        if (has(file, signs_of_sanitizers[i]))
+            return true;
+    return false;
 }
 
 /* The file's first part, if it is a program or a library. */
