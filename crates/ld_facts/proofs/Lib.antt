@@ -8,3 +8,4 @@ pub mod WordTables
 pub mod Gathering
 pub mod Meeting
 pub mod LawProofs
+pub mod Renaming

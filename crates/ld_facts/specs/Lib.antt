@@ -7,5 +7,6 @@ pub mod Counting
 pub mod Numbers
 pub mod FactBits
 pub mod WordPairs
+pub mod Renaming
 pub mod Renumbered
 pub mod Laws

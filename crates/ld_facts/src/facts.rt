@@ -15,7 +15,7 @@ ghost use Rattle.ld_trace.specs.declared.key_id.TheConstants.{GRAPH_KEYS};
 ghost use Rattle.ld_trace.specs.declared.key_id.TheConstants.{MAX_KEYS};
 
 use crate::dependency::Dependency;
-use crate::fact::{Fact, word_total};
+use crate::fact::{Fact, fact_total, word_total};
 use crate::{bits, chain_facts};
 use ld_task::{Chain, Kind, Mark};
 use std::alloc::{AllocError, Global};
@@ -223,6 +223,17 @@ impl Facts {
     {
         let keys = usize::from(self.keys);
         bits::first_between(&self.bits, n, keys * keys * 4)
+    }
+
+    // The number of the first fact whose number is `n` or more.
+    pub(crate) fn next_fact(&self, n: usize) -> Option<usize>
+        ensures none { IsNone result
+            → (k : ℕ) → n ≤ k → k < bit_total self.now.keys → IsFalse (has_bit self.now.words k) }
+        ensures some { IfSome result (λ found. (n ≤ found) × (found < bit_total self.now.keys)
+            × IsTrue (has_bit self.now.words found)
+            × ((k : ℕ) → n ≤ k → k < found → IsFalse (has_bit self.now.words k))) }
+    {
+        bits::first_between(&self.bits, n, fact_total(self.keys))
     }
 
     // Sets a bit, and returns whether it is new.

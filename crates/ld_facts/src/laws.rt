@@ -1,5 +1,6 @@
 //! Laws of the definitions, each carried by a function that does nothing.
 
+ghost use Rattle.ld_facts.specs.Renaming.{RenamedFactsAreTheImage};
 ghost use Rattle.ld_facts.specs.Laws.{ChainsGiveWhatTheyHave, DependenciesHaveOneNumber, TraceFactsAreTheChains, AddingInTurnUnites, FactsHaveBits, EachBitIsAFacts, FactsHaveDifferentBits, LaterSlotsAreOfNewerLocks, SlotsHaveWhatIsGiven};
 
 /// The facts of a trace are those of its chains.
@@ -17,6 +18,13 @@ pub fn slots_have_what_is_given()
     ensures exact { SlotsHaveWhatIsGiven }
     ensures newer { LaterSlotsAreOfNewerLocks }
 {}
+
+/// The facts of traces under a renaming of keys are what their facts say with other keys.
+pub fn renamed_facts_are_the_image()
+    ensures { RenamedFactsAreTheImage }
+{
+    trace_facts_are_the_chains();
+}
 
 /// The dependencies of some traces have one number.
 pub fn dependencies_have_one_number()

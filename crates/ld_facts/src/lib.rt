@@ -10,6 +10,7 @@ mod fact;
 mod facts;
 mod laws;
 pub mod places;
+mod renamed;
 
 pub use chain_facts::{fact_in_slot, fact_slots, lock_of_slot};
 pub use chain_words::{FactWords, fact_words};
@@ -17,7 +18,8 @@ pub use dependency::{Dependency, kind_at};
 pub use fact::{Fact, STATE_COUNT, STATES, fact_total, irq_number, word_total};
 pub use facts::Facts;
 pub use laws::{
-    adding_in_turn_unites, dependencies_have_one_number, facts_are_bits, slots_have_what_is_given,
+    adding_in_turn_unites, dependencies_have_one_number, facts_are_bits, renamed_facts_are_the_image,
+    slots_have_what_is_given,
     trace_facts_are_the_chains,
 };
 pub use ld_task::{Kind, Mark};

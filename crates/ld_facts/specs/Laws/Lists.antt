@@ -19,7 +19,7 @@ Contains-cases {X} x xs d (k, lt, e) = go k lt e
     go (suc k) lt e = inr (k, omega arith, e)
 
 -- ---- one member more in a list
-Any-member : {X : Type 0} (P : X → Type 0) (xs : List X) → Any P xs ↔ ((x : X) × Contains xs x × P x)
+pub Any-member : {X : Type 0} (P : X → Type 0) (xs : List X) → Any P xs ↔ ((x : X) × Contains xs x × P x)
 Any-member P xs = (
   (λ (k, x, l, e, h). (x, (k, l, e), h)),
   (λ (x, c, h). let (k, l, e) = c in (k, x, l, e, h)),
