@@ -1,5 +1,7 @@
 pub mod CsvLemmas
 pub mod FieldLemmas
+mod ClassLemmas
+pub mod LastHash
 pub mod NameLemmas
 pub mod ReadLemmas
 pub mod StoredLemmas

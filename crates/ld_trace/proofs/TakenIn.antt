@@ -3,6 +3,7 @@ use Rattle.std.proofs.Common.{◌≡◌, ◌⊎◌, inl, inr, ℕ, zero, suc, �
 use Rattle.std.specs.List.{list_all}
 use Rattle.std.proofs.Math.Seq.{take-suc}
 use Rattle.std.proofs.lemmas.Bool.{and_from, and_parts}
+use Rattle.std.specs.Prelude.{All}
 use Rattle.std.proofs.lemmas.Bool.Decides.{nat_tests}
 use Rattle.std.proofs.lemmas.List.{length-map, map-append, take-append-drop}
 use Rattle.std.proofs.lemmas.List.Elements.{All-cons, All-nil}
@@ -65,7 +66,7 @@ module _ (first names : List Name) (within : Within first names) where
   known-at (x ∷ xs) zero w lt = (and_parts (is_known names x) (list_all (is_known names) xs) w).0
   known-at (x ∷ xs) (suc key) w lt = known-at xs key (and_parts (is_known names x) (list_all (is_known names) xs) w).1 (omega (arith, lt))
 
-  place-known : (name : Name) → is_known names name ≡ true → place_of names name < length names
+  pub place-known : (name : Name) → is_known names name ≡ true → place_of names name < length names
   place-known name known = let there = place-below names name in rw known at there
 
   moved-below : (event : Event) → KeyIsBelow (length first) event → KeyIsBelow (length names) (moved first names event)
@@ -185,6 +186,16 @@ pub moved-by-numbers : (own : List Name) (by numbers : List ℕ) (names : List N
     → map (event_with numbers) events ≡ all_moved (take count own) names events
 moved-by-numbers own by numbers names count events are long leads below =
     rw (are, ← long) (all-renumbered-moved own by names leads events (rw (← long) at below))
+
+-- the numbers that names lead to are those of keys of the table
+numbers-below : (few names : List Name) → Within few names → All (λ key. key < length names) (map (place_of names) few)
+numbers-below [] names within = All-nil (λ key. key < length names)
+numbers-below (x ∷ xs) names within =
+    let parts = and_parts (is_known names x) (list_all (is_known names) xs) within in
+    All-cons (λ key. key < length names) (place_of names x) (map (place_of names) xs) (place-known [] names refl x parts.0) (numbers-below xs names parts.1)
+
+pub leads-below : (own : List Name) (numbers : List ℕ) (names : List Name) → Leads own numbers names → All (λ key. key < length names) numbers
+leads-below own numbers names leads = rw leads.places (numbers-below (take (length numbers) own) names leads.within)
 
 pub renumberings-stay : RenumberingsStay
 renumberings-stay own names more numbers leads = record {

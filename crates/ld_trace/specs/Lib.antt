@@ -1,3 +1,4 @@
+pub mod Classes
 pub mod Inside
 pub mod Events
 pub mod Joining

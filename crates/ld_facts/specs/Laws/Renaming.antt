@@ -2,16 +2,13 @@
 use Rattle.std.proofs.Common.{◌≡◌, ℕ, ◌<◌, List, [], ◌∷◌, Option, Some, None, refl, ap, sym, ◌∙◌, subst, inl, inr, arith}
 use Rattle.std.proofs.lemmas.List.{get_or-map, length-map}
 use Rattle.std.proofs.lemmas.Option.{none-some, same_Some}
-use Rattle.std.specs.Prelude.{Any, Contains, IsTrue, get_or, length, map, option_map}
-use Rattle.ld_trace.specs.declared.event.Event.{Event}
-use Rattle.ld_task.specs.Chains.{ChainHasDependency, ChainMarksHeld, ChainMarksNew, ChainParts}
+use Rattle.std.specs.Prelude.{Contains, IsTrue, map, option_map}
+use Rattle.ld_task.specs.Chains.{ChainParts}
 use Rattle.ld_task.specs.TraceChains.{chains}
 use Rattle.ld_task.specs.Kinds.{kind_between}
 use Rattle.ld_task.specs.Marks.{marks_opened, marks_taken}
 use Rattle.ld_trace.specs.Modes.{may_wait}
-use Rattle.ld_task.specs.declared.frame.Frame.{Frame}
-use Rattle.ld_task.specs.declared.lock.Lock.{Lock}
-use Rattle.ld_facts.specs.Facts.{ChainHas, ChainsHave, TraceHas}
+use Rattle.ld_facts.specs.Facts.{ChainHas, TraceHas}
 use Rattle.ld_facts.specs.Laws.{TraceFactsAreTheChains}
 use Rattle.ld_facts.specs.Laws.Lists.{Any-member, Contains-cases, Contains-head, Contains-later}
 use Rattle.ld_facts.specs.Renaming.{Image, TracesHaveBy, RenamedFactsAreTheImage, TraceHasBy, chain_by, lock_by}
