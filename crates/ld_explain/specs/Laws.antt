@@ -1,0 +1,2 @@
+-- What holds of all findings: equal facts have equal ones.
+pub mod Found
