@@ -9,3 +9,5 @@ pub mod Passing
 pub mod Lists
 pub mod Slots
 pub mod Traces
+pub mod FindingLemmas
+pub mod Starts

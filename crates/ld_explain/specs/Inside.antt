@@ -1,3 +1,6 @@
+pub mod Choosing
+pub mod Finding
 pub mod Firsts
 pub mod Guarding
 pub mod Taking
+pub mod Explaining

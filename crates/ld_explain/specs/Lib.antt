@@ -1,3 +1,6 @@
+pub mod Findings
+pub mod Found
 pub mod Inside
+pub mod Laws
 pub mod Notes
 pub mod Origins

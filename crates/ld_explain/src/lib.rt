@@ -1,15 +1,23 @@
-//! Where what was found comes from: for each fact that is asked about its first occurrence, by trace and position; and what
-//! speaks against it, over all its occurrences.
-#![tactic(auto)]
+//! Findings as values: what was found in the facts of many traces, for each fact that a finding is made of its first occurrence,
+//! by trace and position, and what speaks against the finding, over all its occurrences.
+#![tactic(auto, using(crate::proofs::Starts::starts))]
 
 mod asked;
+mod choices;
 mod evidence;
+mod explainer;
+mod finding;
+mod findings;
+mod found;
 mod guard;
 mod guards;
 mod origins;
 
 pub use asked::Asked;
 pub use evidence::Evidence;
+pub use finding::{Finding, GateNote, Order};
+pub use findings::findings_of;
+pub use found::{Dependency, Found, KINDS, has_dependency, is_used_in};
 pub use guard::Guard;
 pub use guards::Guards;
 pub use origins::{Origin, Origins};

@@ -10,7 +10,7 @@ use Rattle.ld_facts.specs.Laws.Lists.{Any-push}
 use Rattle.ld_facts.specs.declared.fact.Fact.{Fact}
 use Rattle.ld_text.specs.Inside.Joined.{Leads}
 use Rattle.ld_text.specs.Picture.{AreJoined, IsFoundArrow}
-use Rattle.ld_text.specs.Words.{kinds}
+use Rattle.ld_explain.specs.Found.{kinds}
 use Rattle.ld_text.proofs.PictureGrowing.{none-yet}
 
 -- what is part of a finding is a dependency

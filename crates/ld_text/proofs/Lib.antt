@@ -8,9 +8,7 @@ pub mod JsonLemmas
 pub mod TellingLemmas
 pub mod LeafLemmas
 pub mod PictureGrowing
-pub mod FindingLemmas
 pub mod KeyTextLemmas
 pub mod WriteFaultLemmas
 pub mod JoinedLemmas
-pub mod ChoosingLemmas
 pub mod Starts

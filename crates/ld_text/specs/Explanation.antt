@@ -14,11 +14,12 @@ use Rattle.ld_graph.specs.Walks.{IsShortestFrom}
 use Rattle.ld_facts.specs.declared.fact.Fact.{Fact}
 use Rattle.ld_facts.specs.declared.fact.Fact.TheVariants.{Dependency, Marked}
 use Rattle.ld_facts.specs.TraceFacts.{TracesHave}
+use Rattle.ld_explain.specs.Findings.{AreReported}
 use Rattle.ld_explain.specs.Notes.{IsAloneIn, IsGate}
 use Rattle.ld_explain.specs.Origins.{IsFirst}
 use Rattle.ld_explain.specs.declared.origins.Origin.{Origin}
 use Rattle.ld_text.specs.ChainLines.{taken_text}
-use Rattle.ld_text.specs.Found.{AreFound, AreThose, FoundParts}
+use Rattle.ld_explain.specs.Found.{AreFound, AreThose, FoundParts}
 use Rattle.ld_text.specs.Groups.{InSequence, InTurn}
 use Rattle.ld_text.specs.Order.{IsKeyOrder}
 use Rattle.ld_text.specs.Report.{double_line, inversion_line, member_text, total_line}
@@ -188,19 +189,6 @@ pub record IsInversionBlock (Has : Fact → Type 0) (told : Told) (keys : List �
 
 -- What is reported.
 
--- the dependency is a member of one of these circles
-abbrev pub IsTold : List (List Arrow) → Arrow → Type 0
-IsTold circles d = Any (λ circle. Contains circle d) circles
-
--- the circles that are reported for these dependencies in turn, if some were before: for each one that isn't a member of
--- any yet, a shortest of those that begin with it
-abbrev pub AreTold : (Fact → Type 0) → (before : List (List Arrow)) → List Arrow → List (List Arrow) → Type 0
-AreTold Has before [] circles = circles ≡ []
-AreTold Has before (d ∷ ds) circles =
-    (¬ IsTold before d × ((circle : List Arrow) × (rest : List (List Arrow)) × IsShortestFrom Has d circle
-    × (circles ≡ circle ∷ rest) × AreTold Has (before ++ circle ∷ []) ds rest))
-    ⊎ (IsTold before d × AreTold Has before ds circles)
-
 -- the text explains these facts by these traces
 pub record IsExplanation (Has : Fact → Type 0) (told : Told) (text : List ℕ) : Type 0 where
   pub keys : List ℕ
@@ -208,7 +196,7 @@ pub record IsExplanation (Has : Fact → Type 0) (told : Told) (text : List ℕ)
   pub found : FoundParts
   pub found_are : AreFound Has keys found
   pub circles : List (List Arrow)
-  pub circles_are : AreTold Has [] found.circles circles
+  pub circles_are : AreReported Has [] found.circles circles
   pub text_is : InSequence (
       (λ part. part ≡ total_line (codes "findings") (length circles + length found.doubles + length found.inversions))
       ∷ InTurn (IsCircleBlock told keys) circles

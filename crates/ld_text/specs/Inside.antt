@@ -1,5 +1,3 @@
-pub mod Choosing
-pub mod Finding
 pub mod Joined
 pub mod Telling
 pub mod Tokens

@@ -15,8 +15,9 @@ use Rattle.ld_facts.specs.declared.fact.Fact.TheVariants.{Dependency, Marked}
 use Rattle.ld_facts.specs.TraceFacts.{TracesHave}
 use Rattle.ld_explain.specs.Origins.{IsFirst}
 use Rattle.ld_explain.specs.declared.origins.Origin.{Origin}
-use Rattle.ld_text.specs.Explanation.{AreCircleNotes, AreGateNotes, AreTold, Told, dependency_text, event_of}
-use Rattle.ld_text.specs.Found.{AreFound, FoundParts}
+use Rattle.ld_explain.specs.Findings.{AreReported}
+use Rattle.ld_text.specs.Explanation.{AreCircleNotes, AreGateNotes, Told, dependency_text, event_of}
+use Rattle.ld_explain.specs.Found.{AreFound, FoundParts}
 use Rattle.ld_text.specs.Groups.{InSequence, InTurn}
 use Rattle.ld_text.specs.Order.{IsKeyOrder}
 use Rattle.ld_trace.specs.Writing.{irq_word, mode_word}
@@ -178,7 +179,7 @@ pub record IsJson (Has : Fact → Type 0) (told : Told) (text : List ℕ) : Type
   pub found : FoundParts
   pub found_are : AreFound Has keys found
   pub circles : List (List Arrow)
-  pub circles_are : AreTold Has [] found.circles circles
+  pub circles_are : AreReported Has [] found.circles circles
   pub lines : List ℕ
   pub lines_are : InSequence (
       InTurn (λ walk. IsLineOf (IsCircleObject told keys walk)) circles

@@ -1,6 +1,5 @@
 pub mod ChainLines
 pub mod Explanation
-pub mod Found
 pub mod Groups
 pub mod Inside
 pub mod Json

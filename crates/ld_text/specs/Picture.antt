@@ -13,7 +13,8 @@ use Rattle.ld_text.specs.Groups.{InSequence, InTurn, ShowsWhere}
 use Rattle.ld_text.specs.Order.{IsKeyOrder}
 use Rattle.ld_text.specs.Report.{IsUsageCharacter, forms}
 use Rattle.ld_trace.specs.Writing.{irq_word}
-use Rattle.ld_text.specs.Words.{kind_text, kinds, name_at, states}
+use Rattle.ld_explain.specs.Found.{kinds, states}
+use Rattle.ld_text.specs.Words.{kind_text, name_at}
 
 -- Names. In a text between double quotes, a double quote and a backslash come after a backslash.
 

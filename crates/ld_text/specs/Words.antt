@@ -1,8 +1,6 @@
 -- The words of the program's texts [this project's own].
 use Rattle.std.specs.Prelude.{ℕ, Bool, true, false, List, [], ◌∷◌, ◌++◌, codes, decimal, slice_get, unwrap_or}
 use Rattle.ld_trace.specs.Names.{Name}
-use Rattle.ld_trace.specs.declared.event.Irq.{Irq}
-use Rattle.ld_trace.specs.declared.event.Irq.TheVariants.{Hard, Soft}
 use Rattle.ld_task.specs.declared.frame.Frame.{Frame}
 use Rattle.ld_task.specs.declared.frame.Frame.TheVariants.{Task, Softirq, Hardirq}
 use Rattle.ld_task.specs.declared.kind.Kind.{Kind}
@@ -41,11 +39,3 @@ frame_text Hardirq = codes "hardirq"
 abbrev pub flag_text : Bool → List ℕ
 flag_text true = codes "on"
 flag_text false = codes "off"
-
--- the four kinds, in the report's order
-abbrev pub kinds : List Kind
-kinds = Er ∷ En ∷ Sr ∷ Sn ∷ []
-
--- the two states, in the report's order
-abbrev pub states : List Irq
-states = Hard ∷ Soft ∷ []

@@ -6,7 +6,7 @@ ghost use Rattle.ld_facts.specs.Facts.{DependenciesOf};
 ghost use Rattle.ld_graph.specs.Links.{IsDouble};
 ghost use Rattle.ld_text.specs.Explanation.{IsCircleBlock, IsDoubleBlock, IsInversionBlock, circle_head};
 ghost use Rattle.ld_text.specs.Groups.{GrowsBy, InSequence, InTurn};
-ghost use Rattle.ld_text.specs.Inside.Choosing.{AreToldBy, AsksMarks, IsToldCircle, IsToldDouble, IsToldInversion, keys_of};
+ghost use Rattle.ld_explain.specs.Inside.Choosing.{AreToldBy, AsksMarks, IsToldCircle, IsToldDouble, IsToldInversion, keys_of};
 ghost use Rattle.ld_text.specs.Report.{double_line, inversion_line};
 
 use crate::chosen::{Chosen, ToldInversion};

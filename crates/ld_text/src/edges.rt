@@ -6,7 +6,7 @@ ghost use Rattle.ld_facts.specs.FactBits.{HasFact};
 ghost use Rattle.ld_text.specs.Groups.{GrowsBy, InTurn};
 ghost use Rattle.ld_text.specs.Inside.Joined.{AreJoinedKeys, Leads};
 ghost use Rattle.ld_text.specs.Picture.{IsFoundArrow, ShowsEdge};
-ghost use Rattle.ld_text.specs.Words.{kinds};
+ghost use Rattle.ld_explain.specs.Found.{kinds};
 
 use crate::found::{KINDS, has_dependency};
 use crate::picture::{PictureView, add_end};

@@ -6,7 +6,7 @@ ghost use Rattle.ld_facts.specs.Facts.{DependenciesOf};
 ghost use Rattle.ld_graph.specs.Links.{IsDouble};
 ghost use Rattle.ld_text.specs.Json.{IsCircleObject, IsDoubleObject, IsInversionObject, IsLineOf};
 ghost use Rattle.ld_text.specs.Groups.{GrowsBy, InSequence, InTurn};
-ghost use Rattle.ld_text.specs.Inside.Choosing.{AreToldBy, AsksMarks, IsToldCircle, IsToldDouble, IsToldInversion, keys_of};
+ghost use Rattle.ld_explain.specs.Inside.Choosing.{AreToldBy, AsksMarks, IsToldCircle, IsToldDouble, IsToldInversion, keys_of};
 
 use crate::chosen::{Chosen, ToldInversion};
 use crate::found::Found;

@@ -10,7 +10,7 @@ ghost use Rattle.ld_facts.specs.declared.fact.Fact.{Fact};
 ghost use Rattle.ld_text.specs.Explanation.{event_of};
 ghost use Rattle.ld_text.specs.Json.{IsCircleObject, IsDoubleObject, IsInversionObject, IsOrder, circle_words, double_words, event_members, held_members, inversion_object, inversion_words, list_member, object_member, occurrence_members, taken_mode, use_members};
 ghost use Rattle.ld_text.specs.Groups.{InTurn};
-ghost use Rattle.ld_text.specs.Inside.Choosing.{AsksMarks, IsToldInversion, keys_of};
+ghost use Rattle.ld_explain.specs.Inside.Choosing.{AsksMarks, IsToldInversion, keys_of};
 ghost use Rattle.ld_text.specs.Inside.Tokens.{Adds, Takes};
 ghost use Rattle.ld_text.specs.Words.{key_text, name_at};
 

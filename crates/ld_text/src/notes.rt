@@ -7,9 +7,9 @@ ghost use Rattle.ld_facts.specs.Facts.{DependenciesOf};
 ghost use Rattle.ld_facts.specs.declared.fact.Fact.{Fact};
 ghost use Rattle.ld_explain.specs.Notes.{IsAloneIn, IsGate};
 ghost use Rattle.ld_text.specs.Explanation.{AreCircleNotes, AreGateNotes, IsAloneNote, IsGateNote, dependency_text, gate_note, note_line};
-ghost use Rattle.ld_text.specs.Found.{AreThose};
+ghost use Rattle.ld_explain.specs.Found.{AreThose};
 ghost use Rattle.ld_text.specs.Groups.{GrowsBy};
-ghost use Rattle.ld_text.specs.Inside.Finding.{AddsThose};
+ghost use Rattle.ld_explain.specs.Inside.Finding.{AddsThose};
 ghost use Rattle.ld_text.specs.Inside.Telling.{separator_at};
 
 use crate::found::Dependency;

@@ -9,7 +9,8 @@ ghost use Rattle.ld_text.specs.Groups.{GrowsBy, InTurn};
 ghost use Rattle.ld_text.specs.Inside.Joined.{AreJoinedKeys};
 ghost use Rattle.ld_text.specs.Picture.{AreJoined, IsFoundKey, IsNode, IsPicture, ShowsDoubleLink, ShowsInversionLink, ShowsKey, arrow_text, end_text, escaped, quoted_key};
 ghost use Rattle.ld_text.specs.Report.{IsUsageCharacter, forms};
-ghost use Rattle.ld_text.specs.Words.{name_at, states};
+ghost use Rattle.ld_explain.specs.Found.{states};
+ghost use Rattle.ld_text.specs.Words.{name_at};
 
 use crate::found::is_used_in;
 use crate::order::sorted_keys;

@@ -3,7 +3,7 @@ use Rattle.std.specs.Prelude.{◌≡◌, ◌↔◌, ℕ, ◌<◌, Any, Bool, fal
 use Rattle.ld_facts.specs.Arrows.{arrow}
 use Rattle.ld_facts.specs.declared.fact.Fact.{Fact}
 use Rattle.ld_text.specs.Picture.{AreJoined, IsFoundArrow}
-use Rattle.ld_text.specs.Words.{kinds}
+use Rattle.ld_explain.specs.Found.{kinds}
 
 -- a dependency that is part of a finding leads from the one key to the other
 abbrev pub Leads : (Fact → Type 0) → (from to : ℕ) → Type 0

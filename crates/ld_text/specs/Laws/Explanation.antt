@@ -5,13 +5,14 @@ use Rattle.ld_facts.specs.Arrows.{Arrow}
 use Rattle.ld_facts.specs.Facts.{AreSame}
 use Rattle.ld_graph.specs.Laws.Facts.{IsDoubleBy-same, IsShortestFrom-same, IsShortestInversion-same}
 use Rattle.ld_facts.specs.declared.fact.Fact.{Fact}
-use Rattle.ld_text.specs.Explanation.{AreTold, IsDoubleBlock, IsExplanation, IsInversionBlock, Told}
-use Rattle.ld_text.specs.Laws.Found.{AreFound-same}
+use Rattle.ld_explain.specs.Findings.{AreReported}
+use Rattle.ld_text.specs.Explanation.{IsDoubleBlock, IsExplanation, IsInversionBlock, Told}
+use Rattle.ld_explain.specs.Laws.Found.{AreFound-same}
 use Rattle.ld_text.specs.Laws.Report.{InTurn-same, then-same}
 
 module _ (P Q : Fact → Type 0) (same : AreSame P Q) where
   -- the circles that are reported of equal facts
-  pub told-same : (before : List (List Arrow)) (ds : List Arrow) (circles : List (List Arrow)) → AreTold P before ds circles → AreTold Q before ds circles
+  pub told-same : (before : List (List Arrow)) (ds : List Arrow) (circles : List (List Arrow)) → AreReported P before ds circles → AreReported Q before ds circles
   told-same before [] circles none = none
   told-same before (d ∷ ds) circles (inl (left, (circle, rest, shortest, is, more))) = inl (
     left,

@@ -7,7 +7,7 @@ use Rattle.ld_facts.specs.declared.fact.Fact.{Fact}
 use Rattle.ld_text.specs.Explanation.{Told}
 use Rattle.ld_text.specs.Json.{IsDoubleObject, IsInversionObject, IsJson, IsLineOf}
 use Rattle.ld_text.specs.Laws.Explanation.{told-same}
-use Rattle.ld_text.specs.Laws.Found.{AreFound-same}
+use Rattle.ld_explain.specs.Laws.Found.{AreFound-same}
 use Rattle.ld_text.specs.Laws.Report.{InTurn-same, then-same}
 
 module _ (P Q : Fact → Type 0) (same : AreSame P Q) where

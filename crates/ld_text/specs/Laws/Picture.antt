@@ -8,7 +8,7 @@ use Rattle.ld_facts.specs.declared.fact.Fact.{Fact}
 use Rattle.ld_facts.specs.declared.fact.Fact.TheVariants.{Dependency}
 use Rattle.ld_text.specs.Picture.{AreJoined, IsFoundArrow, IsFoundKey, IsNode, IsPicture, ShowsColoured, ShowsEdge, ShowsKey, edge_line, link_line}
 use Rattle.ld_text.specs.Report.{forms}
-use Rattle.ld_text.specs.Words.{kinds, states}
+use Rattle.ld_explain.specs.Found.{kinds, states}
 use Rattle.ld_text.specs.Laws.Report.{InTurn-same, ShowsWhere-same, character-same, then-same}
 
 Any-more : {X : Type 0} (P Q : X → Type 0) → ((x : X) → P x → Q x) → (xs : List X) → Any P xs → Any Q xs

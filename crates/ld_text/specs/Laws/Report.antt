@@ -11,7 +11,7 @@ use Rattle.ld_facts.specs.declared.fact.Fact.{Fact}
 use Rattle.ld_facts.specs.declared.fact.Fact.TheVariants.{Dependency, Marked}
 use Rattle.ld_text.specs.Groups.{InSequence, InTurn, ShowsWhere}
 use Rattle.ld_text.specs.Report.{AreTotals, IsReport, IsUsageCharacter, IsUsageLine, ShowsBecause, forms}
-use Rattle.ld_text.specs.Laws.Found.{AreFound-same}
+use Rattle.ld_explain.specs.Laws.Found.{AreFound-same}
 
 -- groups whose parts mean the same
 pub InTurn-same : {X : Type 0} (R S : X → List ℕ → Type 0) → ((x : X) (text : List ℕ) → R x text → S x text) → (xs : List X) (text : List ℕ) → InTurn R xs text → InTurn S xs text

@@ -4,7 +4,7 @@ use Rattle.ld_facts.specs.FactBits.{HasFact}
 use Rattle.ld_graph.specs.Links.{IsClean}
 use Rattle.ld_text.specs.Groups.{InSequence}
 use Rattle.ld_text.specs.Report.{total_line}
-use Rattle.ld_text.proofs.FindingLemmas.{AreFound-nothing}
+use Rattle.ld_explain.proofs.FindingLemmas.{AreFound-nothing}
 use Rattle.ld_text.proofs.explanation.explanation_text.Goals as goal
 
 pub returns : goal.returns

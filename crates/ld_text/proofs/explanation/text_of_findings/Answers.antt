@@ -5,8 +5,8 @@ use Rattle.ld_graph.specs.Walks.{OnCircle}
 use Rattle.ld_text.specs.Explanation.{IsCircleBlock, IsDoubleBlock, IsInversionBlock}
 use Rattle.ld_text.specs.Groups.{InSequence}
 use Rattle.ld_text.specs.Report.{total_line}
-use Rattle.ld_text.proofs.ChoosingLemmas.{told-all}
-use Rattle.ld_text.proofs.FindingLemmas.{AreThose-all}
+use Rattle.ld_explain.proofs.ChoosingLemmas.{told-all}
+use Rattle.ld_explain.proofs.FindingLemmas.{AreThose-all}
 use Rattle.ld_text.proofs.explanation.text_of_findings.Goals as goal
 
 pub of-requires-2-clause-circles : goal.of-requires-2-clause-circles

@@ -3,7 +3,7 @@ use Rattle.std.proofs.lemmas.Result.{IfOk-weaker}
 use Rattle.ld_facts.specs.FactBits.{HasFact}
 use Rattle.ld_graph.specs.Links.{IsClean}
 use Rattle.ld_text.specs.Groups.{InSequence}
-use Rattle.ld_text.proofs.FindingLemmas.{AreFound-nothing}
+use Rattle.ld_explain.proofs.FindingLemmas.{AreFound-nothing}
 use Rattle.ld_text.proofs.json_text.json_text.Goals as goal
 
 pub returns-then-is_clean : goal.returns-then-is_clean

@@ -4,8 +4,8 @@ use Rattle.ld_facts.specs.FactBits.{HasFact}
 use Rattle.ld_graph.specs.Links.{IsDouble, IsInversion}
 use Rattle.ld_graph.specs.Walks.{OnCircle}
 use Rattle.ld_text.specs.Json.{IsCircleObject, IsDoubleObject, IsInversionObject, IsLineOf}
-use Rattle.ld_text.proofs.ChoosingLemmas.{told-all}
-use Rattle.ld_text.proofs.FindingLemmas.{AreThose-all}
+use Rattle.ld_explain.proofs.ChoosingLemmas.{told-all}
+use Rattle.ld_explain.proofs.FindingLemmas.{AreThose-all}
 use Rattle.ld_text.proofs.json_text.text_of_findings.Goals as goal
 
 pub of-requires-2-clause-circles : goal.of-requires-2-clause-circles

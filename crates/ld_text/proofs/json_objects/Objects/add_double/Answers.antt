@@ -5,7 +5,7 @@ use Rattle.ld_facts.specs.FactBits.{HasFact}
 use Rattle.ld_graph.specs.Links.{IsDoubleBy, link_by}
 use Rattle.ld_facts.specs.declared.fact.Fact.TheVariants.{Marked}
 use Rattle.ld_explain.specs.Origins.{IsFirst}
-use Rattle.ld_text.proofs.ChoosingLemmas.{double-enabled, double-used}
+use Rattle.ld_explain.proofs.ChoosingLemmas.{double-enabled, double-used}
 use Rattle.ld_text.proofs.JsonLemmas.{Adds-ok, Adds-then, Adds-token, double-takes}
 use Rattle.ld_text.proofs.json_objects.Objects.add_double.Goals as goal
 

@@ -1,5 +1,5 @@
 use Rattle.std.proofs.Common.{subst, sym}
-use Rattle.ld_text.specs.Inside.Choosing.{IsToldCircle}
+use Rattle.ld_explain.specs.Inside.Choosing.{IsToldCircle}
 use Rattle.ld_text.specs.Json.{IsCircleObject, IsLineOf}
 use Rattle.ld_text.proofs.GroupLemmas.{GrowsBy-more_item}
 use Rattle.ld_text.proofs.json_objects.Objects.tell_circles.Goals as goal

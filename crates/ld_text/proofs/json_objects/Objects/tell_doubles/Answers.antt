@@ -1,6 +1,6 @@
 use Rattle.std.proofs.Common.{subst, sym}
 use Rattle.ld_facts.specs.FactBits.{HasFact}
-use Rattle.ld_text.specs.Inside.Choosing.{IsToldDouble}
+use Rattle.ld_explain.specs.Inside.Choosing.{IsToldDouble}
 use Rattle.ld_text.specs.Json.{IsDoubleObject, IsLineOf}
 use Rattle.ld_text.proofs.GroupLemmas.{GrowsBy-more_item}
 use Rattle.ld_text.proofs.json_objects.Objects.tell_doubles.Goals as goal

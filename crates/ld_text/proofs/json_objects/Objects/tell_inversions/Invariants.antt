@@ -1,7 +1,7 @@
 use Rattle.std.proofs.Common.{take}
 use Rattle.ld_facts.specs.FactBits.{HasFact}
 use Rattle.ld_text.specs.Groups.{GrowsBy, InTurn}
-use Rattle.ld_text.specs.Inside.Choosing.{keys_of}
+use Rattle.ld_explain.specs.Inside.Choosing.{keys_of}
 use Rattle.ld_text.specs.Json.{IsInversionObject, IsLineOf}
 use Rattle.ld_text.proofs.json_objects.Objects.tell_inversions.Given as goal
 

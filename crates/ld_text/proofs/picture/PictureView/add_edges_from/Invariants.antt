@@ -4,7 +4,7 @@ use Rattle.ld_facts.specs.Arrows.{arrow}
 use Rattle.ld_text.specs.Groups.{GrowsBy, InTurn}
 use Rattle.ld_text.specs.Inside.Joined.{Leads}
 use Rattle.ld_text.specs.Picture.{ShowsEdge}
-use Rattle.ld_text.specs.Words.{kinds}
+use Rattle.ld_explain.specs.Found.{kinds}
 use Rattle.ld_text.proofs.picture.PictureView.add_edges_from.Given as goal
 
 -- the lines to the keys so far; these are marked, and the others are as they were

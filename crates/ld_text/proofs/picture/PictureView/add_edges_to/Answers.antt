@@ -5,7 +5,7 @@ use Rattle.ld_facts.specs.FactBits.{HasFact}
 use Rattle.ld_task.specs.declared.kind.Kind.{Kind}
 use Rattle.ld_text.specs.Inside.Joined.{Leads}
 use Rattle.ld_text.specs.Picture.{IsFoundArrow, ShowsEdge}
-use Rattle.ld_text.specs.Words.{kinds}
+use Rattle.ld_explain.specs.Found.{kinds}
 use Rattle.ld_text.proofs.GroupLemmas.{GrowsBy-more, GrowsBy-none, GrowsBy-nothing, InTurn-nothing}
 use Rattle.ld_text.proofs.JoinedLemmas.{IsFoundArrow-dependency, next-same, next-true}
 use Rattle.ld_text.proofs.PictureGrowing.{none-yet, says-false}

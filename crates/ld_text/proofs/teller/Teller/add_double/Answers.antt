@@ -2,7 +2,7 @@ use Rattle.std.proofs.Common.{subst}
 use Rattle.std.proofs.lemmas.Result.{on_ok_weaker}
 use Rattle.ld_facts.specs.FactBits.{HasFact}
 use Rattle.ld_graph.specs.Links.{IsDoubleBy, link_by}
-use Rattle.ld_text.proofs.ChoosingLemmas.{double-enabled, double-used}
+use Rattle.ld_explain.proofs.ChoosingLemmas.{double-enabled, double-used}
 use Rattle.ld_text.proofs.TellingLemmas.{double-grows}
 use Rattle.ld_text.proofs.teller.Teller.add_double.Goals as goal
 

@@ -1,6 +1,6 @@
 use Rattle.std.proofs.Common.{◌∙◌, sym}
 use Rattle.std.proofs.lemmas.Bool.{true≢false}
-use Rattle.ld_text.proofs.FindingLemmas.{AddsThose-off}
+use Rattle.ld_explain.proofs.FindingLemmas.{AddsThose-off}
 use Rattle.ld_text.proofs.teller.Teller.add_guarded.Goals as goal
 
 pub returns-else-is_gate : goal.returns-else-is_gate

@@ -2,7 +2,7 @@ use Rattle.std.proofs.Common.{take, string_bytes}
 use Rattle.ld_facts.specs.FactBits.{HasFact}
 use Rattle.ld_text.specs.Explanation.{IsInversionBlock}
 use Rattle.ld_text.specs.Groups.{GrowsBy, InTurn}
-use Rattle.ld_text.specs.Inside.Choosing.{keys_of}
+use Rattle.ld_explain.specs.Inside.Choosing.{keys_of}
 use Rattle.ld_text.proofs.teller.Teller.add_inversions.Given as goal
 
 -- the blocks so far

@@ -1,7 +1,7 @@
 use Rattle.std.proofs.Common.{◌<◌, sym, arith, length}
 use Rattle.std.proofs.lemmas.Option.{get_or_from_slice_get}
 use Rattle.ld_facts.specs.Arrows.{Arrow, arrow}
-use Rattle.ld_text.proofs.FindingLemmas.{AddsThose-more_item}
+use Rattle.ld_explain.proofs.FindingLemmas.{AddsThose-more_item}
 use Rattle.ld_text.proofs.teller.Teller.guarded.Goals as goal
 
 pub loop-i-preserved : goal.loop-i-preserved

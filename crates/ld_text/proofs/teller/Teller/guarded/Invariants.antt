@@ -1,6 +1,6 @@
 use Rattle.std.proofs.Common.{[], take}
 use Rattle.ld_explain.specs.Notes.{IsGate}
-use Rattle.ld_text.specs.Inside.Finding.{AddsThose}
+use Rattle.ld_explain.specs.Inside.Finding.{AddsThose}
 use Rattle.ld_text.proofs.teller.Teller.guarded.Given as goal
 
 -- those of the members so far

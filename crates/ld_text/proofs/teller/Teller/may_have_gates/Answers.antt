@@ -4,8 +4,8 @@ use Rattle.std.proofs.lemmas.List.{take_all}
 use Rattle.std.proofs.lemmas.Option.{get_or_from_slice_get}
 use Rattle.ld_facts.specs.Arrows.{Arrow, arrow}
 use Rattle.ld_explain.specs.Notes.{IsGate}
-use Rattle.ld_text.specs.Found.{AreThose}
-use Rattle.ld_text.proofs.FindingLemmas.{AreThose-none_more}
+use Rattle.ld_explain.specs.Found.{AreThose}
+use Rattle.ld_explain.proofs.FindingLemmas.{AreThose-none_more}
 use Rattle.ld_text.proofs.teller.Teller.may_have_gates.Goals as goal
 
 pub loop-i-init : goal.loop-i-init

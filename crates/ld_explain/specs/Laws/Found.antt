@@ -1,0 +1,23 @@
+-- The findings of equal facts.
+use Rattle.std.specs.Prelude.{◌↔◌, ℕ, List, [], ◌∷◌}
+use Rattle.std.proofs.Common.{inl, inr}
+use Rattle.ld_facts.specs.Facts.{AreSame}
+use Rattle.ld_facts.specs.declared.fact.Fact.{Fact}
+use Rattle.ld_graph.specs.Laws.Facts.{IsDouble-same, IsInversion-same, OnCircle-same}
+use Rattle.ld_explain.specs.Found.{AreFound, AreThose, FoundParts, arrows_among, doubles_among, inversions_among}
+
+-- those that the same is said of
+AreThose-same : {X : Type 0} (P Q : X → Type 0) → ((x : X) → P x ↔ Q x) → (xs those : List X) → AreThose P xs those → AreThose Q xs those
+AreThose-same P Q same [] those none = none
+AreThose-same P Q same (x ∷ xs) those (inl (holds, (rest, is, more))) =
+    inl ((same x).0 holds, (rest, is, AreThose-same P Q same xs rest more))
+AreThose-same P Q same (x ∷ xs) those (inr (fails, more)) =
+    inr (λ q. fails ((same x).1 q), AreThose-same P Q same xs those more)
+
+-- the findings of equal facts
+pub AreFound-same : (P Q : Fact → Type 0) → AreSame P Q → (keys : List ℕ) (found : FoundParts) → AreFound P keys found → AreFound Q keys found
+AreFound-same P Q same keys found are = record {
+  circles = AreThose-same _ _ (OnCircle-same P Q same) (arrows_among keys) found.circles are.circles;
+  doubles = AreThose-same _ _ (λ x. IsDouble-same P Q same x.0 x.1) (doubles_among keys) found.doubles are.doubles;
+  inversions = AreThose-same _ _ (λ x. IsInversion-same P Q same x.0 x.1.0 x.1.1) (inversions_among keys) found.inversions are.inversions;
+}

@@ -1,0 +1,65 @@
+//! What was found, as values: everything that any text says of a finding.
+
+use crate::found::Dependency;
+use crate::origins::Origin;
+use ld_trace::{Irq, KeyId};
+
+/// A dependency of a finding, and where it first occurs.
+#[derive(Drop)]
+pub struct Order {
+    /// The dependency.
+    pub dependency: Dependency,
+    /// Its first occurrence in the traces.
+    pub origin: Origin,
+}
+
+/// A lock class of which a lock is held round several dependencies of a finding wherever they occur.
+#[derive(Drop)]
+pub struct GateNote {
+    /// The key of the lock that is held.
+    pub key: KeyId,
+    /// The dependencies that it is held round: two at least, in the finding's order.
+    pub guarded: Vec<Dependency>,
+}
+
+/// A finding.
+#[derive(Drop)]
+pub enum Finding {
+    /// Dependencies that make a closed strong walk.
+    Circle {
+        /// The members in turn.
+        walk: Vec<Order>,
+        /// The locks that are always held round several of them, in the order of the keys.
+        gates: Vec<GateNote>,
+        /// The place of the trace that has all occurrences of all of them, if one has.
+        only: Option<u32>,
+    },
+    /// A key that is used in a state and with it enabled.
+    Double {
+        /// The state.
+        irq: Irq,
+        /// The key.
+        key: KeyId,
+        /// Where it is first used in the state.
+        used: Origin,
+        /// Where it is first used with the state enabled.
+        enabled: Origin,
+    },
+    /// A strong walk from a key that is used in a state to a key that is used with it enabled.
+    Inversion {
+        /// The state.
+        irq: Irq,
+        /// The key that is used in the state.
+        a: KeyId,
+        /// The key that is used with it enabled.
+        b: KeyId,
+        /// The members of the walk in turn.
+        walk: Vec<Order>,
+        /// Where `a` is first used in the state.
+        used: Origin,
+        /// Where `b` is first used with the state enabled.
+        enabled: Origin,
+        /// The locks that are always held round several members, in the order of the keys.
+        gates: Vec<GateNote>,
+    },
+}
