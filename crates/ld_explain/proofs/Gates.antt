@@ -51,32 +51,32 @@ strictly p (suc n) a b i k l e f = elim (cases_Bool (p n)) [
 ]
 
 -- a gate among the held locks is a lock that keeps all others out
-gate_lock : (o : Option Lock) (key : ℕ) → gate_in o ≡ Some key → (lock : Lock) × (o ≡ Some lock) × (key ≡ lock.key) × (is_read lock.mode ≡ false)
-gate_lock None key e = absurd (cc)
-gate_lock (Some lock) key e = elim (cases_Bool (is_read lock.mode)) [
+gate_lock : (rename : ℕ → ℕ) (o : Option Lock) (key : ℕ) → gate_in rename o ≡ Some key → (lock : Lock) × (o ≡ Some lock) × (key ≡ rename lock.key) × (is_read lock.mode ≡ false)
+gate_lock rename None key e = absurd (cc)
+gate_lock rename (Some lock) key e = elim (cases_Bool (is_read lock.mode)) [
   | inl read ↦ let none : None ≡ Some key = rw read at e in absurd (cc)
-  | inr not ↦ let is : Some lock.key ≡ Some key = rw not at e in (lock, refl, sym (same_Some lock.key key is), not)
+  | inr not ↦ let is : Some (rename lock.key) ≡ Some key = rw not at e in (lock, refl, sym (same_Some (rename lock.key) key is), not)
 ]
 
-lock_gate : (lock : Lock) → is_read lock.mode ≡ false → gate_in (Some lock) ≡ Some lock.key
-lock_gate lock not = rw not refl
+lock_gate : (rename : ℕ → ℕ) (lock : Lock) → is_read lock.mode ≡ false → gate_in rename (Some lock) ≡ Some (rename lock.key)
+lock_gate rename lock not = rw not refl
 
-module _ (t : List Event) (place : ℕ) (c : ChainParts) (is : chain t place ≡ Some c) where
+module _ (rename : ℕ → ℕ) (t : List Event) (place : ℕ) (c : ChainParts) (is : chain t place ≡ Some c) where
   -- of the held lock number h, which was taken at i
   module _ (h i : ℕ) (at : slice_get (held_positions t place) h ≡ Some i) (key : ℕ) where
-    gate_guards : IsGateBefore c h key → Guarded t key i place
+    gate_guards : IsGateBefore rename c h key → Guarded rename t key i place
     gate_guards (m, before, gate) =
-        let (lock, there, key_is, not) = gate_lock (slice_get c.held_locks m) key gate in
+        let (lock, there, key_is, not) = gate_lock rename (slice_get c.held_locks m) key gate in
         let p = position_there t place m lock (ap (λ locks. slice_get locks m) (chain_held t place c is) ∙ there) in
         record {
           k = p.i;
           older = strictly (λ n. is_held t n place) place m h p.i i before p.at at;
           is_held = p.is_held;
-          key_is = key_is ∙ sym (ap (λ (l : Lock). l.key) p.is);
+          key_is = key_is ∙ sym (ap (λ (l : Lock). rename l.key) p.is);
           excludes = ap (λ (l : Lock). is_read l.mode) p.is ∙ not;
         }
 
-    guard_gates : Guarded t key i place → IsGateBefore c h key
+    guard_gates : Guarded rename t key i place → IsGateBefore rename c h key
     guard_gates g =
         let there = held_there t place g.k g.is_held in
         let lock : slice_get c.held_locks there.k ≡ Some (lock_at t g.k) = ap (λ locks. slice_get locks there.k) (sym (chain_held t place c is)) ∙ there.lock in (
@@ -87,7 +87,7 @@ module _ (t : List Event) (place : ℕ) (c : ChainParts) (is : chain t place ≡
                 let l = positions_below-ascend (λ n. is_held t n place) place h there.k i g.k past at there.at in
                 absurd (omega (arith, l, g.older))
           ],
-          ap gate_in lock ∙ lock_gate (lock_at t g.k) g.excludes ∙ ap Some (sym g.key_is),
+          ap (gate_in rename) lock ∙ lock_gate rename (lock_at t g.k) g.excludes ∙ ap Some (sym g.key_is),
         )
 
   -- of the fact in slot n
@@ -96,7 +96,7 @@ module _ (t : List Event) (place : ℕ) (c : ChainParts) (is : chain t place ≡
     at_slot = slot_origin t trace place c n
 
     pub gates-guard : (held : Option ℕ) → slot_held c n ≡ held → (before : ℕ) → ((h : ℕ) → held ≡ Some h → before ≡ h) → (held ≡ None → before ≡ zero) →
-        IsGateBefore c before key ↔ GuardsAt traces key at_slot
+        IsGateBefore rename c before key ↔ GuardsAt (record { traces = traces; rename = rename }) key at_slot
     gates-guard None held_is before some none = (
       (λ (m, l, gate). absurd (omega (arith, l, none refl))),
       (λ g. let no : None ≡ Some g.i = sym (ap (option_and_then (slice_get (held_positions t place))) held_is) ∙ g.held_is in absurd (cc)),
@@ -109,7 +109,7 @@ module _ (t : List Event) (place : ℕ) (c : ChainParts) (is : chain t place ≡
         position_is : slot_position t place c n ≡ slice_get (held_positions t place) h
         position_is = ap (option_and_then (slice_get (held_positions t place))) held_is
 
-        by : (o : Option ℕ) → slice_get (held_positions t place) h ≡ o → IsGateBefore c before key ↔ GuardsAt traces key at_slot
+        by : (o : Option ℕ) → slice_get (held_positions t place) h ≡ o → IsGateBefore rename c before key ↔ GuardsAt (record { traces = traces; rename = rename }) key at_slot
         by None at = absurd (never_past (held_positions t place) h (slot_within t place c is n h within held_is) at)
         by (Some i) at = (
           (λ gate. record {
@@ -117,11 +117,11 @@ module _ (t : List Event) (place : ℕ) (c : ChainParts) (is : chain t place ≡
             i = i;
             is_trace = here;
             held_is = position_is ∙ at;
-            guarded = gate_guards h i at key (subst (λ b. IsGateBefore c b key) e gate);
+            guarded = gate_guards h i at key (subst (λ b. IsGateBefore rename c b key) e gate);
           }),
           (λ g.
               let same_t : g.t ≡ t = same_Some g.t t (sym g.is_trace ∙ here) in
               let same_i : g.i ≡ i = same_Some g.i i (sym g.held_is ∙ position_is ∙ at) in
-              let guarded : Guarded t key i place = subst (λ p. Guarded t key p place) same_i (subst (λ s. Guarded s key g.i place) same_t g.guarded) in
-              subst (λ b. IsGateBefore c b key) (sym e) (guard_gates h i at key guarded)),
+              let guarded : Guarded rename t key i place = subst (λ p. Guarded rename t key p place) same_i (subst (λ s. Guarded rename s key g.i place) same_t g.guarded) in
+              subst (λ b. IsGateBefore rename c b key) (sym e) (guard_gates h i at key guarded)),
         )

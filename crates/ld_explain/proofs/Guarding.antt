@@ -3,14 +3,15 @@ use Rattle.std.proofs.Common.{◌≡◌, ℕ, ◌⊎◌, ◌↔◌, List, Contai
 use Rattle.std.proofs.lemmas.Option.{same_Some}
 use Rattle.ld_trace.specs.declared.event.Event.{Event}
 use Rattle.ld_facts.specs.declared.fact.Fact.{Fact}
+use Rattle.ld_explain.specs.Origins.{View}
 use Rattle.ld_explain.specs.Notes.{GuardParts, HasGuard}
 use Rattle.ld_explain.specs.Inside.Guarding.{AreGuards, GuardsAt, IsKept, PutsGuard}
 use Rattle.ld_explain.specs.declared.guard.Guard.{Guard}
 use Rattle.ld_explain.specs.declared.origins.Origin.{Origin}
 
-module _ (traces : List (List Event)) (P Q : Fact → Origin → Type 0) where
+module _ (view : View) (P Q : Fact → Origin → Type 0) where
   -- the same occurrences
-  pub AreGuards-same : (parts : GuardParts) → ((x : Fact) (o : Origin) → P x o ↔ Q x o) → AreGuards traces P parts → AreGuards traces Q parts
+  pub AreGuards-same : (parts : GuardParts) → ((x : Fact) (o : Origin) → P x o ↔ Q x o) → AreGuards view P parts → AreGuards view Q parts
   AreGuards-same parts same are = record {
     all = λ x o q. are.all x o ((same x o).1 q);
     gates = λ x g has key. let r = are.gates x g has key in (
@@ -25,13 +26,13 @@ module _ (traces : List (List Event)) (P Q : Fact → Origin → Type 0) where
 
   -- one more
   module _ (old new : GuardParts) (fact : Fact) (at : Origin) (gates : List ℕ) (puts : PutsGuard old new fact at.trace gates)
-      (guard : (key : ℕ) → Contains gates key ↔ GuardsAt traces key at)
+      (guard : (key : ℕ) → Contains gates key ↔ GuardsAt view key at)
       (up : (x : Fact) (o : Origin) → P x o → Q x o) (here : Q fact at)
       (down : (x : Fact) (o : Origin) → Q x o → P x o ⊎ ((x ≡ fact) × (o ≡ at)))
-      (are : AreGuards traces P old) where
+      (are : AreGuards view P old) where
     -- what holds of all of them
     abbrev AreGuardsFor : Fact → Guard → Type 0
-    AreGuardsFor x g = ((key : ℕ) → Contains g.gates.items key ↔ ((o : Origin) → Q x o → GuardsAt traces key o))
+    AreGuardsFor x g = ((key : ℕ) → Contains g.gates.items key ↔ ((o : Origin) → Q x o → GuardsAt view key o))
         × ((trace : ℕ) → (g.only ≡ Some trace) ↔ ((o : Origin) → Q x o → o.trace ≡ trace))
 
     for_others : (x : Fact) (g : Guard) → HasGuard old x g → ¬ (x ≡ fact) → AreGuardsFor x g
@@ -51,7 +52,7 @@ module _ (traces : List (List Event)) (P Q : Fact → Origin → Type 0) where
       (λ key. (
         (λ c o q. elim (down fact o q) [
           | inl p ↦ absurd (unkept (are.all fact o p))
-          | inr new ↦ subst (GuardsAt traces key) (sym new.1) ((guard key).0 (subst (λ xs. Contains xs key) same c))
+          | inr new ↦ subst (GuardsAt view key) (sym new.1) ((guard key).0 (subst (λ xs. Contains xs key) same c))
         ]),
         (λ h. subst (λ xs. Contains xs key) (sym same) ((guard key).1 (h at here))),
       )),
@@ -71,7 +72,7 @@ module _ (traces : List (List Event)) (P Q : Fact → Origin → Type 0) where
       (λ key. let r = are.gates fact was has key in (
         (λ c o q. let cs = (both key).0 c in elim (down fact o q) [
           | inl p ↦ r.0 cs.0 o p
-          | inr new ↦ subst (GuardsAt traces key) (sym new.1) ((guard key).0 cs.1)
+          | inr new ↦ subst (GuardsAt view key) (sym new.1) ((guard key).0 cs.1)
         ]),
         (λ h. (both key).1 (r.1 (λ o p. h o (up fact o p)), (guard key).1 (h at here))),
       )),
@@ -93,7 +94,7 @@ module _ (traces : List (List Event)) (P Q : Fact → Origin → Type 0) where
       ])
     ]
 
-    pub AreGuards-put : AreGuards traces Q new
+    pub AreGuards-put : AreGuards view Q new
     AreGuards-put = record {
       all = λ x o q. elim (down x o q) [
         | inl p ↦ puts.keeps x (are.all x o p)

@@ -81,18 +81,18 @@ module _ (bs xs both : List ℕ) (i : ℕ) (within : i < length xs) (so_far : bo
   common-miss miss = so_far ∙ sym (filter-miss bs (take i xs) (slice_index_or xs i 0) miss) ∙ ap (filter (is_among bs)) (sym (take_more xs i 0 within))
 
 -- ---- the gates among the first locks of a chain
-module _ (c : ChainParts) (i : ℕ) (gates : List ℕ) (so_far : (key : ℕ) → Contains gates key ↔ IsGateBefore c i key) where
-  last_or_before : (key : ℕ) → IsGateBefore c (i + 1) key → IsGateBefore c i key ⊎ (gate_in (slice_get c.held_locks i) ≡ Some key)
+module _ (rename : ℕ → ℕ) (c : ChainParts) (i : ℕ) (gates : List ℕ) (so_far : (key : ℕ) → Contains gates key ↔ IsGateBefore rename c i key) where
+  last_or_before : (key : ℕ) → IsGateBefore rename c (i + 1) key → IsGateBefore rename c i key ⊎ (gate_in rename (slice_get c.held_locks i) ≡ Some key)
   last_or_before key (m, l, is) = elim (cases_eq m i) [
-    | inl same ↦ inr (subst (λ n. gate_in (slice_get c.held_locks n) ≡ Some key) same is)
+    | inl same ↦ inr (subst (λ n. gate_in rename (slice_get c.held_locks n) ≡ Some key) same is)
     | inr ne ↦ inl (m, omega (arith, l, ne), is)
   ]
 
-  earlier : (key : ℕ) → IsGateBefore c i key → IsGateBefore c (i + 1) key
+  earlier : (key : ℕ) → IsGateBefore rename c i key → IsGateBefore rename c (i + 1) key
   earlier key (m, l, is) = (m, omega (arith, l), is)
 
   -- one that is a gate
-  pub gates-push : (x : ℕ) → gate_in (slice_get c.held_locks i) ≡ Some x → (key : ℕ) → Contains (gates ++ x ∷ []) key ↔ IsGateBefore c (i + 1) key
+  pub gates-push : (x : ℕ) → gate_in rename (slice_get c.held_locks i) ≡ Some x → (key : ℕ) → Contains (gates ++ x ∷ []) key ↔ IsGateBefore rename c (i + 1) key
   gates-push x is key = (
     (λ h. elim (Contains-push_cases gates x key h) [
       | inl was ↦ earlier key ((so_far key).0 was)
@@ -108,7 +108,7 @@ module _ (c : ChainParts) (i : ℕ) (gates : List ℕ) (so_far : (key : ℕ) →
   )
 
   -- one that isn't
-  pub gates-pass : gate_in (slice_get c.held_locks i) ≡ None → (key : ℕ) → Contains gates key ↔ IsGateBefore c (i + 1) key
+  pub gates-pass : gate_in rename (slice_get c.held_locks i) ≡ None → (key : ℕ) → Contains gates key ↔ IsGateBefore rename c (i + 1) key
   gates-pass is key = (
     (λ h. earlier key ((so_far key).0 h)),
     (λ h. elim (last_or_before key h) [
@@ -118,16 +118,16 @@ module _ (c : ChainParts) (i : ℕ) (gates : List ℕ) (so_far : (key : ℕ) →
   )
 
 -- before the first lock there is none
-pub gates-none : (c : ChainParts) (key : ℕ) → Contains [] key ↔ IsGateBefore c 0 key
-gates-none c key = ((λ h. absurd (has_none key h)), (λ (m, l, is). absurd (omega (arith, l))))
+pub gates-none : (rename : ℕ → ℕ) (c : ChainParts) (key : ℕ) → Contains [] key ↔ IsGateBefore rename c 0 key
+gates-none rename c key = ((λ h. absurd (has_none key h)), (λ (m, l, is). absurd (omega (arith, l))))
 
 -- past the last lock there are none
-pub gates-all : (c : ChainParts) (i held : ℕ) → i ≤ held → ((m : ℕ) → i ≤ m → m < held → slice_get c.held_locks m ≡ None) →
-    (key : ℕ) → IsGateBefore c i key ↔ IsGateBefore c held key
-gates-all c i held l none key = (
+pub gates-all : (rename : ℕ → ℕ) (c : ChainParts) (i held : ℕ) → i ≤ held → ((m : ℕ) → i ≤ m → m < held → slice_get c.held_locks m ≡ None) →
+    (key : ℕ) → IsGateBefore rename c i key ↔ IsGateBefore rename c held key
+gates-all rename c i held l none key = (
   (λ (m, before, is). (m, omega (arith, before, l), is)),
   (λ (m, before, is). elim (cases_lt m i) [
     | inl within ↦ (m, within, is)
-    | inr past ↦ let n : None ≡ Some key = ap gate_in (sym (none m past before)) ∙ is in absurd (cc)
+    | inr past ↦ let n : None ≡ Some key = ap (gate_in rename) (sym (none m past before)) ∙ is in absurd (cc)
   ]),
 )

@@ -1,9 +1,9 @@
 -- The slots of a chain, from the last one on.
-use Rattle.std.proofs.Common.{◌≡◌, ℕ, ◌+◌, ◌<◌, ◌≤◌, ◌⊎◌, ◌↔◌, List, Option, Some, None, option_and_then, refl, sym, ap, ◌∙◌, subst, inl, inr, arith}
+use Rattle.std.proofs.Common.{◌≡◌, ℕ, ◌+◌, ◌<◌, ◌≤◌, ◌⊎◌, ◌↔◌, List, Option, Some, None, option_and_then, option_map, refl, sym, ap, ◌∙◌, subst, inl, inr, arith}
 use Rattle.std.specs.Prelude.{IfSome, OnOk, Result, Ok, Err, slice_get}
 use Rattle.std.specs.declared.alloc.AllocError.{AllocError}
 use Rattle.std.proofs.lemmas.Bool.{cases_eq}
-use Rattle.std.proofs.lemmas.Option.{same_Some}
+use Rattle.std.proofs.lemmas.Option.{none-some, same_Some}
 use Rattle.ld_trace.specs.declared.event.Event.{Event}
 use Rattle.ld_task.specs.Chains.{ChainParts}
 use Rattle.ld_task.specs.Held.{is_held}
@@ -12,28 +12,34 @@ use Rattle.ld_task.specs.Laws.Positions.{positions_below-ascend}
 use Rattle.ld_task.specs.TraceChains.{chain}
 use Rattle.ld_facts.specs.ChainFacts.{chain_fact, fact_slots, slot_held}
 use Rattle.ld_facts.specs.Laws.{LaterSlotsAreOfNewerLocks, SlotsHaveWhatIsGiven}
+use Rattle.ld_facts.specs.Renumbered.{fact_by}
 use Rattle.ld_facts.specs.declared.fact.Fact.{Fact}
-use Rattle.ld_explain.specs.Origins.{AsNew, Gives, NoLater, Occurs}
-use Rattle.ld_explain.specs.Inside.Firsts.{SeenFrom, SeenTo, slot_origin, slot_position}
+use Rattle.ld_explain.specs.Origins.{AsNew, Gives, NoLater, Occurs, View}
+use Rattle.ld_explain.specs.Inside.Firsts.{SeenFrom, SeenTo, named_fact, slot_origin, slot_position}
 use Rattle.ld_explain.specs.declared.origins.Origin.{Origin}
 use Rattle.ld_explain.proofs.Giving.{giving, nothing_given}
 
-module _ (traces : List (List Event)) (t : List Event) (trace place : ℕ) (c : ChainParts) where
+-- the fact that is given another name
+pub named_there : {X Y : Type 0} (f : X → Y) (o : Option X) (y : Y) → option_map f o ≡ Some y → (x : X) × (o ≡ Some x) × (f x ≡ y)
+named_there f None y e = absurd (none-some y e)
+named_there f (Some x) y e = (x, refl, same_Some (f x) y e)
+
+module _ (view : View) (t : List Event) (trace place : ℕ) (c : ChainParts) where
   abbrev From : ℕ → Fact → Origin → Type 0
-  From n = SeenFrom traces t trace place c n
+  From n = SeenFrom view t trace place c n
 
   abbrev To : ℕ → Fact → Origin → Type 0
-  To n = SeenTo traces trace n
+  To n = SeenTo view trace n
 
   -- a slot more
   pub more : (n : ℕ) (x : Fact) (o : Origin) → From (n + 1) x o → From n x o
   more n x o (inl seen) = inl seen
   more n x o (inr (m, l, within, at, is)) = inr (m, omega (arith, l), within, at, is)
 
-  pub less : (n : ℕ) (x : Fact) (o : Origin) → From n x o → From (n + 1) x o ⊎ ((chain_fact c n ≡ Some x) × (o ≡ slot_origin t trace place c n))
+  pub less : (n : ℕ) (x : Fact) (o : Origin) → From n x o → From (n + 1) x o ⊎ ((named_fact view.rename c n ≡ Some x) × (o ≡ slot_origin t trace place c n))
   less n x o (inl seen) = inl (inl seen)
   less n x o (inr (m, l, within, at, is)) = elim (cases_eq m n) [
-    | inl same ↦ inr (subst (λ k. chain_fact c k ≡ Some x) same at, subst (λ k. o ≡ slot_origin t trace place c k) same is)
+    | inl same ↦ inr (subst (λ k. named_fact view.rename c k ≡ Some x) same at, subst (λ k. o ≡ slot_origin t trace place c k) same is)
     | inr ne ↦ inl (inr (m, omega (arith, l, ne), within, at, is))
   ]
 
@@ -66,35 +72,40 @@ module _ (traces : List (List Event)) (t : List Event) (trace place : ℕ) (c : 
         subst (λ y. NoLater y (slot_origin t trace place c n)) (sym is) (inr (refl, inr (refl, AsNew-slots m n (omega (arith, l)))))
 
   -- ---- the whole chain
-  module _ (here : slice_get traces trace ≡ Some t) (is : chain t place ≡ Some c) (exact : SlotsHaveWhatIsGiven) where
+  module _ (here : slice_get view.traces trace ≡ Some t) (is : chain t place ≡ Some c) (exact : SlotsHaveWhatIsGiven) where
     -- what the event gives is in a slot
-    in_slot : (x : Fact) (o : Origin) → Occurs traces x o → o.trace ≡ trace → o.place ≡ place → From 0 x o
+    in_slot : (x : Fact) (o : Origin) → Occurs view x o → o.trace ≡ trace → o.place ≡ place → From 0 x o
     in_slot x o occurs same at =
-        let same_trace : occurs.t ≡ t = same_Some occurs.t t (sym occurs.is_trace ∙ ap (slice_get traces) same ∙ here) in
-        let gives : Gives t x place o.held = subst (λ p. Gives t x p o.held) at (subst (λ s. Gives s x o.place o.held) same_trace occurs.gives) in
-        let (held, given, position) = (giving t place c is).1 x o.held gives in
-        let (n, within, stands, by) = (exact c x held).0 given in
+        let y = occurs.fact in
+        let same_trace : occurs.t ≡ t = same_Some occurs.t t (sym occurs.is_trace ∙ ap (slice_get view.traces) same ∙ here) in
+        let gives : Gives t y place o.held = subst (λ p. Gives t y p o.held) at (subst (λ s. Gives s y o.place o.held) same_trace occurs.gives) in
+        let (held, given, position) = (giving t place c is).1 y o.held gives in
+        let (n, within, stands, by) = (exact c y held).0 given in
         let whole : o ≡ slot_origin t trace place c n = λ i. record {
           trace = same i;
           place = at i;
           held = (position ∙ ap (λ h. option_and_then (slice_get (held_positions t place)) h) (sym by)) i;
         } in
-        inr (n, omega arith, within, stands, whole)
+        inr (n, omega arith, within, ap (option_map (fact_by view.rename)) stands ∙ ap Some occurs.named, whole)
 
     -- and what is in a slot occurs
-    occurs_slot : (x : Fact) (n : ℕ) → n < fact_slots c → chain_fact c n ≡ Some x → Occurs traces x (slot_origin t trace place c n)
-    occurs_slot x n within at = record {
-      t = t;
-      is_trace = here;
-      gives = (giving t place c is).0 x (slot_held c n) ((exact c x (slot_held c n)).1 (n, within, at, refl));
-    }
+    occurs_slot : (x : Fact) (n : ℕ) → n < fact_slots c → named_fact view.rename c n ≡ Some x → Occurs view x (slot_origin t trace place c n)
+    occurs_slot x n within at =
+        let (y, stands, named) = named_there (fact_by view.rename) (chain_fact c n) x at in
+        record {
+          t = t;
+          is_trace = here;
+          fact = y;
+          gives = (giving t place c is).0 y (slot_held c n) ((exact c y (slot_held c n)).1 (n, within, stands, refl));
+          named = named;
+        }
 
     pub From-all : (x : Fact) (o : Origin) → From 0 x o ↔ To (place + 1) x o
     From-all x o = (
       (λ h. elim h [
         | inl (occurs, before) ↦ (occurs, elim before [ inl earlier ↦ inl earlier | inr (same, earlier) ↦ inr (same, omega (arith, earlier)) ])
         | inr (n, l, within, at, that) ↦
-            (subst (Occurs traces x) (sym that) (occurs_slot x n within at), inr (ap (λ (p : Origin). p.trace) that, omega (arith, ap (λ (p : Origin). p.place) that)))
+            (subst (Occurs view x) (sym that) (occurs_slot x n within at), inr (ap (λ (p : Origin). p.trace) that, omega (arith, ap (λ (p : Origin). p.place) that)))
       ]),
       (λ (occurs, before). elim before [
         | inl earlier ↦ inl (occurs, inl earlier)
@@ -106,9 +117,9 @@ module _ (traces : List (List Event)) (t : List Event) (trace place : ℕ) (c : 
     )
 
 -- an event that makes no chain
-module _ (traces : List (List Event)) (t : List Event) (trace place : ℕ) (here : slice_get traces trace ≡ Some t) (none : chain t place ≡ None) where
+module _ (view : View) (t : List Event) (trace place : ℕ) (here : slice_get view.traces trace ≡ Some t) (none : chain t place ≡ None) where
   -- nothing more is seen
-  pub seen_none : (x : Fact) (o : Origin) → SeenTo traces trace place x o ↔ SeenTo traces trace (place + 1) x o
+  pub seen_none : (x : Fact) (o : Origin) → SeenTo view trace place x o ↔ SeenTo view trace (place + 1) x o
   seen_none x o = (
     (λ (occurs, before). elim before [
       | inl earlier ↦ (occurs, inl earlier)
@@ -119,9 +130,9 @@ module _ (traces : List (List Event)) (t : List Event) (trace place : ℕ) (here
       | inr (same, to) ↦ elim (cases_eq o.place place) [
         | inr ne ↦ (occurs, inr (same, omega (arith, to, ne)))
         | inl at ↦
-            let same_trace : occurs.t ≡ t = same_Some occurs.t t (sym occurs.is_trace ∙ ap (slice_get traces) same ∙ here) in
-            let gives : Gives t x place o.held = subst (λ p. Gives t x p o.held) at (subst (λ s. Gives s x o.place o.held) same_trace occurs.gives) in
-            absurd (nothing_given t place none x o.held gives)
+            let same_trace : occurs.t ≡ t = same_Some occurs.t t (sym occurs.is_trace ∙ ap (slice_get view.traces) same ∙ here) in
+            let gives : Gives t occurs.fact place o.held = subst (λ p. Gives t occurs.fact p o.held) at (subst (λ s. Gives s occurs.fact o.place o.held) same_trace occurs.gives) in
+            absurd (nothing_given t place none occurs.fact o.held gives)
       ]
     ]),
   )

@@ -1,6 +1,7 @@
 pub mod Findings
 pub mod Found
 pub mod Inside
+pub mod Naming
 pub mod Laws
 pub mod Notes
 pub mod Origins

@@ -13,28 +13,29 @@ use Rattle.ld_facts.specs.Facts.{DependenciesOf}
 use Rattle.ld_facts.specs.Numbers.{fact_number}
 use Rattle.ld_facts.specs.declared.fact.Fact.{Fact}
 use Rattle.ld_facts.specs.declared.fact.Fact.TheVariants.{Dependency}
-use Rattle.ld_facts.specs.TraceFacts.{TracesHave}
+use Rattle.ld_facts.specs.Renumbered.{arrow_by}
+use Rattle.ld_explain.specs.Origins.{View, ViewHas}
 use Rattle.ld_explain.specs.declared.guard.Guard.{Guard}
 
 -- ---- gates
 -- a lock of this key is held at j, in a mode that keeps all others out, and was taken before the lock that was taken at i
-pub record Guarded (t : List Event) (gate i j : ℕ) : Type 0 where
+pub record Guarded (rename : ℕ → ℕ) (t : List Event) (gate i j : ℕ) : Type 0 where
   pub k : ℕ
   pub older : k < i
   pub is_held : IsTrue (is_held t k j)
-  pub key_is : gate ≡ key_at t k
+  pub key_is : gate ≡ rename (key_at t k)
   pub excludes : is_read (mode_taken (event t k)) ≡ false
 
 -- it is, wherever one of the traces has the dependency
-abbrev pub IsGate : List (List Event) → Arrow → (gate : ℕ) → Type 0
-IsGate traces d gate = (trace : ℕ) (t : List Event) → slice_get traces trace ≡ Some t →
-    (o : IsDependency t d.start d.end d.kind) → Guarded t gate o.i o.j
+abbrev pub IsGate : View → Arrow → (gate : ℕ) → Type 0
+IsGate view d gate = (trace : ℕ) (t : List Event) → slice_get view.traces trace ≡ Some t → (e : Arrow) → arrow_by view.rename e ≡ d →
+    (o : IsDependency t e.start e.end e.kind) → Guarded view.rename t gate o.i o.j
 
 -- ---- one trace
 -- no trace but this one has one of these dependencies
-abbrev pub IsAloneIn : List (List Event) → List Arrow → (trace : ℕ) → Type 0
-IsAloneIn traces walk trace = (d : Arrow) → Contains walk d → (other : ℕ) (t : List Event) → slice_get traces other ≡ Some t →
-    IsDependency t d.start d.end d.kind → other ≡ trace
+abbrev pub IsAloneIn : View → List Arrow → (trace : ℕ) → Type 0
+IsAloneIn view walk trace = (d : Arrow) → Contains walk d → (other : ℕ) (t : List Event) → slice_get view.traces other ≡ Some t →
+    (e : Arrow) → arrow_by view.rename e ≡ d → IsDependency t e.start e.end e.kind → other ≡ trace
 
 -- ---- what is kept of them
 -- guards of facts about the keys below `keys`, each beside the fact's number
@@ -48,10 +49,10 @@ HasGuard parts x g =
     FactBelow parts.keys x × (lookup (λ n. nat_eq (fact_number parts.keys x) n) parts.entries ≡ Some g)
 
 -- they are what speaks against those of the traces' dependencies that are asked about
-pub record AreGuardsOf (traces : List (List Event)) (asked : FactParts) (parts : GuardParts) : Type 0 where
-  pub all : (d : Arrow) → DependenciesOf (HasFact asked) d → DependenciesOf (TracesHave traces) d →
+pub record AreGuardsOf (view : View) (asked : FactParts) (parts : GuardParts) : Type 0 where
+  pub all : (d : Arrow) → DependenciesOf (HasFact asked) d → DependenciesOf (ViewHas view) d →
       (g : Guard) × HasGuard parts (Dependency d.start d.end d.kind) g
   pub gates : (d : Arrow) → DependenciesOf (HasFact asked) d → (g : Guard) → HasGuard parts (Dependency d.start d.end d.kind) g →
-      (key : ℕ) → Contains g.gates.items key ↔ IsGate traces d key
+      (key : ℕ) → Contains g.gates.items key ↔ IsGate view d key
   pub only : (d : Arrow) → DependenciesOf (HasFact asked) d → (g : Guard) → HasGuard parts (Dependency d.start d.end d.kind) g →
-      (trace : ℕ) → (g.only ≡ Some trace) ↔ IsAloneIn traces (d ∷ []) trace
+      (trace : ℕ) → (g.only ≡ Some trace) ↔ IsAloneIn view (d ∷ []) trace

@@ -8,7 +8,8 @@ use Rattle.ld_facts.specs.FactBits.{FactBelow, FactParts, HasFact}
 use Rattle.ld_facts.specs.Numbers.{fact_number}
 use Rattle.ld_facts.specs.declared.fact.Fact.{Fact}
 use Rattle.ld_facts.specs.declared.fact.Fact.TheVariants.{Dependency, Marked}
-use Rattle.ld_facts.specs.TraceFacts.{TracesHave}
+use Rattle.ld_facts.specs.Renaming.{TracesHaveBy}
+use Rattle.ld_facts.specs.Renumbered.{fact_by}
 use Rattle.ld_explain.specs.declared.origins.Origin.{Origin}
 
 -- ---- occurrences
@@ -20,11 +21,26 @@ Gives t (Dependency from to kind) place None = ⊥
 Gives t (Marked key mark) place (Some held) = (m : IsMarkedOpening t key mark) × (m.i ≡ held) × (m.j ≡ place)
 Gives t (Marked key mark) place None = (m : IsMarkedTaking t key mark) × (m.j ≡ place)
 
--- one of the traces gives the fact there
-pub record Occurs (traces : List (List Event)) (x : Fact) (at : Origin) : Type 0 where
+-- traces, and how keys are renamed: facts are about the new names of the keys in the traces
+pub record View : Type 0 where
+  pub traces : List (List Event)
+  pub rename : ℕ → ℕ
+
+-- traces whose keys keep their names
+abbrev pub plain : List (List Event) → View
+plain traces = record { traces = traces; rename = λ key. key }
+
+-- the traces have the fact, by its keys' new names
+abbrev pub ViewHas : View → Fact → Type 0
+ViewHas view x = TracesHaveBy view.rename view.traces x
+
+-- one of the traces gives the fact there, by its keys' new names
+pub record Occurs (view : View) (x : Fact) (at : Origin) : Type 0 where
   pub t : List Event
-  pub is_trace : slice_get traces at.trace ≡ Some t
-  pub gives : Gives t x at.place at.held
+  pub is_trace : slice_get view.traces at.trace ≡ Some t
+  pub fact : Fact
+  pub gives : Gives t fact at.place at.held
+  pub named : fact_by view.rename fact ≡ x
 
 -- ---- the first one
 -- one held lock is as new as another, where there are two
@@ -39,13 +55,13 @@ NoLater at other =
     ⊎ ((at.trace ≡ other.trace) × ((at.place < other.place) ⊎ ((at.place ≡ other.place) × AsNew at.held other.held)))
 
 -- the fact's first occurrence in the traces
-pub record IsFirst (traces : List (List Event)) (x : Fact) (origin : Origin) : Type 0 where
-  pub here : Occurs traces x origin
-  pub first : (other : Origin) → Occurs traces x other → NoLater origin other
+pub record IsFirst (view : View) (x : Fact) (origin : Origin) : Type 0 where
+  pub here : Occurs view x origin
+  pub first : (other : Origin) → Occurs view x other → NoLater origin other
 
 -- the fact's first occurrence, or None exactly where no trace has the fact
-abbrev pub IsOriginOf : List (List Event) → Fact → Option Origin → Type 0
-IsOriginOf traces x origin = (IsNone origin ↔ ¬ TracesHave traces x) × IfSome origin (IsFirst traces x)
+abbrev pub IsOriginOf : View → Fact → Option Origin → Type 0
+IsOriginOf view x origin = (IsNone origin ↔ ¬ ViewHas view x) × IfSome origin (IsFirst view x)
 
 -- ---- what is kept of them
 -- origins of facts about the keys below `keys`, each beside the fact's number
@@ -59,6 +75,6 @@ HasOrigin parts x origin =
     FactBelow parts.keys x × (lookup (λ n. nat_eq (fact_number parts.keys x) n) parts.entries ≡ Some origin)
 
 -- they are the first occurrences of those of the traces' facts that are asked about
-pub record AreOriginsOf (traces : List (List Event)) (asked : FactParts) (parts : OriginParts) : Type 0 where
-  pub first : (x : Fact) (origin : Origin) → HasOrigin parts x origin → IsFirst traces x origin
-  pub all : (x : Fact) → HasFact asked x → TracesHave traces x → (origin : Origin) × HasOrigin parts x origin
+pub record AreOriginsOf (view : View) (asked : FactParts) (parts : OriginParts) : Type 0 where
+  pub first : (x : Fact) (origin : Origin) → HasOrigin parts x origin → IsFirst view x origin
+  pub all : (x : Fact) → HasFact asked x → ViewHas view x → (origin : Origin) × HasOrigin parts x origin

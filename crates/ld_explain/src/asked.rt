@@ -1,13 +1,15 @@
 //! The facts that are asked about.
 
 ghost use Rattle.std.specs.Prelude.{◌≡◌, ℕ, ◌≤◌, ◌↔◌, IfOk, IsFalse, IsTrue, Some};
-ghost use Rattle.ld_facts.specs.ChainFacts.{chain_fact};
 ghost use Rattle.ld_facts.specs.FactBits.{FactBelow, HasFact};
 ghost use Rattle.ld_facts.specs.Facts.{Adds};
 ghost use Rattle.ld_facts.specs.declared.fact.Fact.{Fact};
 ghost use Rattle.ld_trace.specs.declared.key_id.TheConstants.{MAX_KEYS};
+ghost use Rattle.ld_explain.specs.Inside.Firsts.{named_fact};
 ghost use Rattle.ld_explain.specs.Inside.Taking.{last_key};
+ghost use Rattle.ld_explain.specs.Naming.{key_by};
 
+use crate::naming::Naming;
 use ld_facts::{Fact, Facts};
 use ld_task::{Chain, Kind};
 use std::alloc::{AllocError, Global};
@@ -80,11 +82,11 @@ impl Asked {
     }
 
     // Whether the chain may give a fact that is asked about. If not, it gives none.
-    pub(crate) fn may_be_given(&self, chain: &Chain) -> bool
-        ensures { IsFalse result → (n : ℕ) (x : Fact) → chain_fact chain.now n ≡ Some x → ¬ HasFact self.now x }
+    pub(crate) fn may_be_given(&self, chain: &Chain, naming: Naming<'_>) -> bool
+        ensures { IsFalse result → (n : ℕ) (x : Fact) → named_fact (key_by naming.entry) chain.now n ≡ Some x → ¬ HasFact self.now x }
     {
         match chain.taken() {
-            Some((key, _, _)) => self.is_end(key.get()),
+            Some(new) => self.is_end(naming.of(new.0.get())),
             None => true,
         }
     }

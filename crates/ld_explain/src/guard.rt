@@ -3,6 +3,9 @@
 ghost use Rattle.std.specs.Prelude.{◌≡◌, ◌≢◌, ◌↔◌, ℕ, [], Contains, IsFalse, IsTrue, Some, filter, slice_get};
 ghost use Rattle.ld_explain.specs.Inside.Guarding.{IsFirstGuard, IsGateBefore, Narrows, gate_in, is_among};
 
+ghost use Rattle.ld_explain.specs.Naming.{key_by};
+
+use crate::naming::Naming;
 use arrayvec::ArrayVec;
 use ld_task::{Chain, MAX_HELD};
 use ld_trace::KeyId;
@@ -75,24 +78,24 @@ fn common(a: &ArrayVec<u16, MAX_HELD>, b: &ArrayVec<u16, MAX_HELD>) -> ArrayVec<
 }
 
 // The key of the held lock at this place of a chain, if it keeps all others out.
-fn gate_at(chain: &Chain, i: usize) -> Option<u16>
-    ensures { result ≡ gate_in (slice_get chain.now.held_locks i) }
+fn gate_at(chain: &Chain, naming: Naming<'_>, i: usize) -> Option<u16>
+    ensures { result ≡ gate_in (key_by naming.entry) (slice_get chain.now.held_locks i) }
 {
     let (key, mode) = chain.held(i)?;
     if mode.is_read() {
         None
     } else {
-        Some(key.get())
+        Some(naming.of(key.get()))
     }
 }
 
 // The keys of the held locks of a chain that keep all others out, among this number of the oldest.
-pub(crate) fn gates_before(chain: &Chain, held: usize) -> ArrayVec<u16, MAX_HELD>
-    ensures { (key : ℕ) → Contains result.items key ↔ IsGateBefore chain.now held key }
+pub(crate) fn gates_before(chain: &Chain, naming: Naming<'_>, held: usize) -> ArrayVec<u16, MAX_HELD>
+    ensures { (key : ℕ) → Contains result.items key ↔ IsGateBefore (key_by naming.entry) chain.now held key }
 {
     let mut gates = ArrayVec::new();
     for i in 0..held.min(chain.held_len()) {
-        if let Some(key) = gate_at(chain, i) {
+        if let Some(key) = gate_at(chain, naming, i) {
             gates.push(key);
         }
     }

@@ -5,15 +5,17 @@ ghost use Rattle.ld_trace.specs.declared.event.Event.{Event};
 ghost use Rattle.ld_trace.specs.declared.key_id.TheConstants.{MAX_KEYS};
 ghost use Rattle.ld_task.specs.TraceChains as trace_chains;
 ghost use Rattle.ld_facts.specs.Arrows.{arrow};
-ghost use Rattle.ld_facts.specs.ChainFacts.{chain_fact, fact_slots};
+ghost use Rattle.ld_facts.specs.ChainFacts.{fact_slots};
 ghost use Rattle.ld_facts.specs.FactBits.{FactBelow, FactParts, HasFact};
 ghost use Rattle.ld_facts.specs.declared.fact.Fact.{Fact};
-ghost use Rattle.ld_facts.specs.TraceFacts.{TracesHave};
 ghost use Rattle.ld_explain.specs.Notes.{AreGuardsOf, HasGuard, IsAloneIn, IsGate};
-ghost use Rattle.ld_explain.specs.Inside.Firsts.{SeenFrom};
+ghost use Rattle.ld_explain.specs.Inside.Firsts.{SeenFrom, named_fact};
+ghost use Rattle.ld_explain.specs.Naming.{key_by, view_of};
+ghost use Rattle.ld_explain.specs.Origins.{View, ViewHas};
 ghost use Rattle.ld_explain.specs.Inside.Guarding.{Among, AreGuards, AsksOrder, IsGuardWith, IsKept, PutsGuard};
 
 use crate::guard::{Guard, gates_before};
+use crate::naming::Naming;
 use arrayvec::ArrayVec;
 use indexmap::IndexMap;
 use ld_facts::{Fact, lock_of_slot};
@@ -71,22 +73,23 @@ impl Guards {
         &mut self,
         trace: u32,
         chain: &Chain,
+        naming: Naming<'_>,
         n: usize,
         fact: Fact,
     ) -> Result<(), AllocError>
         requires below { FactBelow self.old.keys fact }
-        requires slot { chain_fact chain.now n ≡ Some fact }
+        requires slot { named_fact (key_by naming) chain.now n ≡ Some fact }
         requires within { n < fact_slots chain.now }
         ensures keys { OnOk result (self.new.keys ≡ self.old.keys) }
         ensures kept { OnOk result ((traces : List (List Event)) (asked : FactParts) (t : List Event) (place : ℕ)
             → slice_get traces trace ≡ Some t → trace_chains.chain t place ≡ Some chain.now → HasFact asked fact
-            → AreGuards traces (Among (AsksOrder asked) (SeenFrom traces t trace place chain.now (n + 1))) self.old
-            → AreGuards traces (Among (AsksOrder asked) (SeenFrom traces t trace place chain.now n)) self.new) }
+            → AreGuards (view_of naming.entry traces) (Among (AsksOrder asked) (SeenFrom (view_of naming.entry traces) t trace place chain.now (n + 1))) self.old
+            → AreGuards (view_of naming.entry traces) (Among (AsksOrder asked) (SeenFrom (view_of naming.entry traces) t trace place chain.now n)) self.new) }
     {
         match fact {
             Fact::Dependency { .. } => {
                 let held = lock_of_slot(chain, n).unwrap_or(0);
-                self.put(fact, trace, gates_before(chain, held))
+                self.put(fact, trace, gates_before(chain, naming, held))
             }
             Fact::Marked { .. } => Ok(()),
         }

@@ -11,6 +11,7 @@ mod findings;
 mod found;
 mod guard;
 mod guards;
+mod naming;
 mod origins;
 
 pub use asked::Asked;
@@ -20,4 +21,5 @@ pub use findings::findings_of;
 pub use found::{Dependency, Found, KINDS, has_dependency, is_used_in};
 pub use guard::Guard;
 pub use guards::Guards;
+pub use naming::Naming;
 pub use origins::{Origin, Origins};

@@ -8,7 +8,7 @@ ghost use Rattle.ld_task.specs.TraceChains as trace_chains;
 ghost use Rattle.ld_facts.specs.ChainFacts.{fact_slots};
 ghost use Rattle.ld_facts.specs.FactBits.{FactBelow, FactParts, HasFact};
 ghost use Rattle.ld_facts.specs.declared.fact.Fact.{Fact};
-ghost use Rattle.ld_explain.specs.Origins.{AreOriginsOf, HasOrigin, IsOriginOf};
+ghost use Rattle.ld_explain.specs.Origins.{AreOriginsOf, HasOrigin, IsOriginOf, View};
 ghost use Rattle.ld_explain.specs.Inside.Firsts.{IsKnown, PutsOrigin, slot_position};
 
 use indexmap::IndexMap;
@@ -65,9 +65,10 @@ impl Origins {
     /// Where the fact comes from: its first occurrence in the traces that these are the origins of. None exactly if they
     /// don't have it. The fact is one that was asked about.
     pub fn origin(&self, fact: Fact) -> Option<Origin>
-        ensures { (traces : List (List Event)) (asked : FactParts) → AreOriginsOf traces asked self.now
-            → HasFact asked fact → IsOriginOf traces fact result }
+        ensures { (view : View) (asked : FactParts) → AreOriginsOf view asked self.now
+            → HasFact asked fact → IsOriginOf view fact result }
     {
+        ld_facts::renamed_facts_are_the_image();
         self.origin_of(fact)
     }
 

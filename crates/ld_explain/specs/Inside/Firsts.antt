@@ -1,23 +1,28 @@
 -- The first occurrences among those that were seen so far. Only private clauses cite these words.
-use Rattle.std.specs.Prelude.{◌≡◌, ℕ, ◌<◌, ◌≤◌, ◌⊎◌, List, Option, Some, option_and_then, slice_get}
+use Rattle.std.specs.Prelude.{◌≡◌, ℕ, ◌<◌, ◌≤◌, ◌⊎◌, List, Option, Some, option_and_then, option_map, slice_get}
 use Rattle.ld_trace.specs.declared.event.Event.{Event}
 use Rattle.ld_task.specs.Chains.{ChainParts}
 use Rattle.ld_task.specs.Placed.{IsPlacedAfter, PlacedParts, held_positions}
 use Rattle.ld_task.specs.WellFormed.{IsWellFormed}
 use Rattle.ld_facts.specs.ChainFacts.{chain_fact, fact_slots, slot_held}
 use Rattle.ld_facts.specs.declared.fact.Fact.{Fact}
-use Rattle.ld_explain.specs.Origins.{HasOrigin, NoLater, Occurs, OriginParts}
+use Rattle.ld_facts.specs.Renumbered.{fact_by}
+use Rattle.ld_explain.specs.Origins.{HasOrigin, NoLater, Occurs, OriginParts, View}
 use Rattle.ld_explain.specs.declared.origins.Origin.{Origin}
 
 -- ---- what was seen: a set of occurrences is a predicate on facts and places
 -- what occurs in the traces before this one
-abbrev pub SeenBefore : List (List Event) → (trace : ℕ) → Fact → Origin → Type 0
-SeenBefore traces trace x o = Occurs traces x o × (o.trace < trace)
+abbrev pub SeenBefore : View → (trace : ℕ) → Fact → Origin → Type 0
+SeenBefore view trace x o = Occurs view x o × (o.trace < trace)
 
 -- what occurs in the traces before this one, and in it before this place
-abbrev pub SeenTo : List (List Event) → (trace place : ℕ) → Fact → Origin → Type 0
-SeenTo traces trace place x o =
-    Occurs traces x o × ((o.trace < trace) ⊎ ((o.trace ≡ trace) × (o.place < place)))
+abbrev pub SeenTo : View → (trace place : ℕ) → Fact → Origin → Type 0
+SeenTo view trace place x o =
+    Occurs view x o × ((o.trace < trace) ⊎ ((o.trace ≡ trace) × (o.place < place)))
+
+-- the fact in slot n of a chain, by its keys' new names
+abbrev pub named_fact : (ℕ → ℕ) → ChainParts → ℕ → Option Fact
+named_fact rename c n = option_map (fact_by rename) (chain_fact c n)
 
 -- the position of the held lock by which the fact in slot n of the chain at this place is given
 abbrev pub slot_position : List Event → (place : ℕ) → ChainParts → ℕ → Option ℕ
@@ -28,10 +33,10 @@ abbrev pub slot_origin : List Event → (trace place : ℕ) → ChainParts → �
 slot_origin t trace place c n = record { trace = trace; place = place; held = slot_position t place c n }
 
 -- that, and the facts in the chain's slots from n on
-abbrev pub SeenFrom : List (List Event) → List Event → (trace place : ℕ) → ChainParts → ℕ → Fact → Origin → Type 0
-SeenFrom traces t trace place c n x o =
-    SeenTo traces trace place x o
-    ⊎ ((m : ℕ) × (n ≤ m) × (m < fact_slots c) × (chain_fact c m ≡ Some x) × (o ≡ slot_origin t trace place c m))
+abbrev pub SeenFrom : View → List Event → (trace place : ℕ) → ChainParts → ℕ → Fact → Origin → Type 0
+SeenFrom view t trace place c n x o =
+    SeenTo view trace place x o
+    ⊎ ((m : ℕ) × (n ≤ m) × (m < fact_slots c) × (named_fact view.rename c m ≡ Some x) × (o ≡ slot_origin t trace place c m))
 
 -- the event at n comes next in this well-formed trace
 pub record ComesNext (t : List Event) (n : ℕ) (state : PlacedParts) (event : Event) : Type 0 where

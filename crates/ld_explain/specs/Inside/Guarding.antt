@@ -9,29 +9,30 @@ use Rattle.ld_facts.specs.FactBits.{FactParts, HasFact}
 use Rattle.ld_facts.specs.declared.fact.Fact.{Fact}
 use Rattle.ld_facts.specs.declared.fact.Fact.TheVariants.{Dependency, Marked}
 use Rattle.ld_explain.specs.Notes.{GuardParts, Guarded, HasGuard}
+use Rattle.ld_explain.specs.Origins.{View}
 use Rattle.ld_explain.specs.declared.guard.Guard.{Guard}
 use Rattle.ld_explain.specs.declared.origins.Origin.{Origin}
 
--- the key of a lock, if there is one and it keeps all others out
-abbrev pub gate_in : Option Lock → Option ℕ
-gate_in None = None
-gate_in (Some lock) = if is_read lock.mode then None else Some lock.key
+-- the key of a lock by its new name, if there is one and it keeps all others out
+abbrev pub gate_in : (ℕ → ℕ) → Option Lock → Option ℕ
+gate_in rename None = None
+gate_in rename (Some lock) = if is_read lock.mode then None else Some (rename lock.key)
 
 -- the key is that of such a lock in the chain, among this number of the oldest
-abbrev pub IsGateBefore : ChainParts → (held key : ℕ) → Type 0
-IsGateBefore c held key = (m : ℕ) × (m < held) × (gate_in (slice_get c.held_locks m) ≡ Some key)
+abbrev pub IsGateBefore : (ℕ → ℕ) → ChainParts → (held key : ℕ) → Type 0
+IsGateBefore rename c held key = (m : ℕ) × (m < held) × (gate_in rename (slice_get c.held_locks m) ≡ Some key)
 
 -- the number is one of the list
 abbrev pub is_among : List ℕ → ℕ → Bool
 is_among xs x = list_any (λ y. nat_eq y x) xs
 
 -- a lock of the key guards this occurrence
-pub record GuardsAt (traces : List (List Event)) (key : ℕ) (at : Origin) : Type 0 where
+pub record GuardsAt (view : View) (key : ℕ) (at : Origin) : Type 0 where
   pub t : List Event
   pub i : ℕ
-  pub is_trace : slice_get traces at.trace ≡ Some t
+  pub is_trace : slice_get view.traces at.trace ≡ Some t
   pub held_is : at.held ≡ Some i
-  pub guarded : Guarded t key i at.place
+  pub guarded : Guarded view.rename t key i at.place
 
 -- the occurrences of these facts alone
 abbrev pub Among : (Fact → Type 0) → (Fact → Origin → Type 0) → Fact → Origin → Type 0
@@ -47,10 +48,10 @@ abbrev pub IsKept : GuardParts → Fact → Type 0
 IsKept parts x = (g : Guard) × HasGuard parts x g
 
 -- the guards say what guards all of these occurrences, and in which trace all of them lie
-pub record AreGuards (traces : List (List Event)) (Seen : Fact → Origin → Type 0) (parts : GuardParts) : Type 0 where
+pub record AreGuards (view : View) (Seen : Fact → Origin → Type 0) (parts : GuardParts) : Type 0 where
   pub all : (x : Fact) (o : Origin) → Seen x o → IsKept parts x
   pub gates : (x : Fact) (g : Guard) → HasGuard parts x g → (key : ℕ) →
-      Contains g.gates.items key ↔ ((o : Origin) → Seen x o → GuardsAt traces key o)
+      Contains g.gates.items key ↔ ((o : Origin) → Seen x o → GuardsAt view key o)
   pub only : (x : Fact) (g : Guard) → HasGuard parts x g → (trace : ℕ) →
       (g.only ≡ Some trace) ↔ ((o : Origin) → Seen x o → o.trace ≡ trace)
 

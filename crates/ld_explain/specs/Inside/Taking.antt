@@ -5,7 +5,7 @@ use Rattle.ld_facts.specs.FactBits.{FactParts, HasFact}
 use Rattle.ld_facts.specs.declared.fact.Fact.{Fact}
 use Rattle.ld_facts.specs.declared.fact.Fact.TheVariants.{Dependency, Marked}
 use Rattle.ld_explain.specs.Notes.{GuardParts}
-use Rattle.ld_explain.specs.Origins.{OriginParts}
+use Rattle.ld_explain.specs.Origins.{OriginParts, View}
 use Rattle.ld_explain.specs.Inside.Firsts.{AreFirsts}
 use Rattle.ld_explain.specs.Inside.Guarding.{Among, AreGuards, AsksOrder}
 use Rattle.ld_explain.specs.declared.origins.Origin.{Origin}
@@ -20,6 +20,6 @@ abbrev pub AreEnds : FactParts → List Bool → Type 0
 AreEnds facts ends = (length ends ≡ facts.keys) × ((x : Fact) → HasFact facts x → slice_get ends (last_key x) ≡ Some true)
 
 -- of what is asked about, the first of these occurrences are kept, and of its dependencies what guards all of them
-pub record AreTakenIn (traces : List (List Event)) (asked : FactParts) (Seen : Fact → Origin → Type 0) (origins : OriginParts) (guards : GuardParts) : Type 0 where
+pub record AreTakenIn (view : View) (asked : FactParts) (Seen : Fact → Origin → Type 0) (origins : OriginParts) (guards : GuardParts) : Type 0 where
   pub firsts : AreFirsts (Among (HasFact asked) Seen) origins
-  pub guarded : AreGuards traces (Among (AsksOrder asked) Seen) guards
+  pub guarded : AreGuards view (Among (AsksOrder asked) Seen) guards

@@ -2,6 +2,7 @@ use Rattle.std.proofs.Common.{◌≡◌, ◌+◌, ◌-◌, List, Some, slice_get
 use Rattle.ld_trace.specs.declared.event.Event.{Event}
 use Rattle.ld_task.specs.Placed.{IsPlacedAfter}
 use Rattle.ld_task.specs.TraceChains.{chain}
+use Rattle.ld_explain.specs.Naming.{view_of}
 use Rattle.ld_explain.specs.Inside.Firsts.{SeenFrom, SeenTo}
 use Rattle.ld_explain.specs.Inside.Taking.{AreTakenIn}
 use Rattle.ld_explain.proofs.evidence.Evidence.add_chain.Given as goal
@@ -12,5 +13,5 @@ invariant-loop-passed l =
     (l.self.origins.keys ≡ l.initial.self.origins.keys)
     × (l.self.guards.keys ≡ l.initial.self.guards.keys)
     × ((traces : List (List Event)) (t : List Event) → slice_get traces l.trace ≡ Some t → IsPlacedAfter t (l.place + 1) l.state →
-    chain t l.place ≡ Some l.chain → AreTakenIn traces l.asked (SeenTo traces l.trace l.place) l.initial.self.origins l.initial.self.guards →
-    AreTakenIn traces l.asked (SeenFrom traces t l.trace l.place l.chain (l.slots - l.passed)) l.self.origins l.self.guards)
+    chain t l.place ≡ Some l.chain → AreTakenIn (view_of l.naming traces) l.asked (SeenTo (view_of l.naming traces) l.trace l.place) l.initial.self.origins l.initial.self.guards →
+    AreTakenIn (view_of l.naming traces) l.asked (SeenFrom (view_of l.naming traces) t l.trace l.place l.chain (l.slots - l.passed)) l.self.origins l.self.guards)

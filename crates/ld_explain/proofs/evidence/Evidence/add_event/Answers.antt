@@ -2,6 +2,7 @@ use Rattle.std.proofs.Common.{◌≡◌, ◌+◌, ◌∙◌, List, Some, slice_g
 use Rattle.ld_trace.specs.declared.event.Event.{Event}
 use Rattle.ld_task.specs.Placed.{IsPlacedAfter}
 use Rattle.ld_task.specs.TraceChains.{chain}
+use Rattle.ld_explain.specs.Naming.{view_of}
 use Rattle.ld_explain.specs.Inside.Firsts.{ComesNext, SeenTo}
 use Rattle.ld_explain.specs.Inside.Taking.{AreTakenIn}
 use Rattle.ld_explain.proofs.Passing.{taken_none}
@@ -15,11 +16,11 @@ returns-in-Ok-Some-clause-taken c =
     let follows :
     ((traces : List (List Event)) (t : List Event) → slice_get traces c.args.trace ≡ Some t → IsPlacedAfter t (c.args.place + 1) c.step.new.self →
     chain t c.args.place ≡ Some c.in-Ok-Some.chain →
-    AreTakenIn traces asked (SeenTo traces c.args.trace c.args.place) c.args.self.now.origins c.args.self.now.guards →
-    AreTakenIn traces asked (SeenTo traces c.args.trace (c.args.place + 1)) new.origins new.guards) →
+    AreTakenIn (view_of c.args.naming traces) asked (SeenTo (view_of c.args.naming traces) c.args.trace c.args.place) c.args.self.now.origins c.args.self.now.guards →
+    AreTakenIn (view_of c.args.naming traces) asked (SeenTo (view_of c.args.naming traces) c.args.trace (c.args.place + 1)) new.origins new.guards) →
     ((traces : List (List Event)) (t : List Event) → slice_get traces c.args.trace ≡ Some t → ComesNext t c.args.place c.args.state.now c.args.event →
-    AreTakenIn traces asked (SeenTo traces c.args.trace c.args.place) c.args.self.now.origins c.args.self.now.guards →
-    AreTakenIn traces asked (SeenTo traces c.args.trace (c.args.place + 1)) new.origins new.guards) =
+    AreTakenIn (view_of c.args.naming traces) asked (SeenTo (view_of c.args.naming traces) c.args.trace c.args.place) c.args.self.now.origins c.args.self.now.guards →
+    AreTakenIn (view_of c.args.naming traces) asked (SeenTo (view_of c.args.naming traces) c.args.trace (c.args.place + 1)) new.origins new.guards) =
     λ taken traces t here next before.
     let goes = c.in-Ok-Some.ensures.goes_on t next.after next.here in
     taken traces t here goes.0 (sym goes.1 ∙ c.in-Ok-Some.field-0-is) before in
@@ -28,4 +29,4 @@ returns-in-Ok-Some-clause-taken c =
 pub returns-in-Ok-None-clause-taken : goal.returns-in-Ok-None-clause-taken
 returns-in-Ok-None-clause-taken c traces t here next before =
     let goes = c.in-Ok-None.ensures.goes_on t next.after next.here in
-    taken_none traces c.args.asked.now t c.args.trace here c.args.place (sym goes.1 ∙ c.in-Ok-None.field-0-is) c.args.self.now.origins c.args.self.now.guards before
+    taken_none (view_of c.args.naming traces) c.args.asked.now t c.args.trace here c.args.place (sym goes.1 ∙ c.in-Ok-None.field-0-is) c.args.self.now.origins c.args.self.now.guards before

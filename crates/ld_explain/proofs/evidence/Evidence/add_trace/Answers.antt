@@ -1,4 +1,5 @@
 use Rattle.std.proofs.Common.{◌≤◌, ◌∙◌, arith, length, refl, sym}
+use Rattle.ld_explain.specs.Naming.{view_of}
 use Rattle.ld_explain.specs.Inside.Firsts.{ComesNext}
 use Rattle.ld_explain.proofs.Keys.{never_past}
 use Rattle.ld_explain.proofs.Passing.{taken_end, taken_start}
@@ -10,7 +11,7 @@ loop-place-init c = (
   refl,
   c.new-state.ensures c.args.trace.now,
   λ traces here before.
-      taken_start traces c.args.asked.now c.args.number c.args.self.now.origins c.args.self.now.guards before,
+      taken_start (view_of c.args.naming traces) c.args.asked.now c.args.number c.args.self.now.origins c.args.self.now.guards before,
 )
 
 pub unreachable-requires : goal.unreachable-requires
@@ -34,5 +35,5 @@ loop-place-preserved c =
 pub returns-clause-taken : goal.returns-clause-taken
 returns-clause-taken c traces here before =
     let past : length c.args.trace.now ≤ c.loop-place.place = omega (arith, c.len-place-end.ensures.count, c.loop-place-test.false) in
-    taken_end traces c.args.asked.now c.args.trace.now c.args.number here c.loop-place.place past c.loop-place.self.origins c.loop-place.self.guards
+    taken_end (view_of c.args.naming traces) c.args.asked.now c.args.trace.now c.args.number here c.loop-place.place past c.loop-place.self.origins c.loop-place.self.guards
     (c.loop-place.invariant.3 traces here before)

@@ -1,6 +1,7 @@
 use Rattle.std.proofs.Common.{◌≡◌, List, Some, slice_get}
 use Rattle.ld_trace.specs.declared.event.Event.{Event}
 use Rattle.ld_task.specs.Placed.{IsPlacedAfter}
+use Rattle.ld_explain.specs.Naming.{view_of}
 use Rattle.ld_explain.specs.Inside.Firsts.{SeenBefore, SeenTo}
 use Rattle.ld_explain.specs.Inside.Taking.{AreTakenIn}
 use Rattle.ld_explain.proofs.evidence.Evidence.add_trace.Given as goal
@@ -12,5 +13,5 @@ invariant-loop-place l =
     × (l.self.guards.keys ≡ l.initial.self.guards.keys)
     × IsPlacedAfter l.trace l.place l.state
     × ((traces : List (List Event)) → slice_get traces l.number ≡ Some l.trace →
-    AreTakenIn traces l.asked (SeenBefore traces l.number) l.initial.self.origins l.initial.self.guards →
-    AreTakenIn traces l.asked (SeenTo traces l.number l.place) l.self.origins l.self.guards)
+    AreTakenIn (view_of l.naming traces) l.asked (SeenBefore (view_of l.naming traces) l.number) l.initial.self.origins l.initial.self.guards →
+    AreTakenIn (view_of l.naming traces) l.asked (SeenTo (view_of l.naming traces) l.number l.place) l.self.origins l.self.guards)

@@ -1,5 +1,6 @@
 use Rattle.std.proofs.Common.{◌≤◌, ◌∙◌, arith, length, refl}
 use Rattle.std.proofs.lemmas.Option.{slice_get_read}
+use Rattle.ld_explain.specs.Naming.{view_of}
 use Rattle.ld_explain.proofs.Passing.{AreGuardsOf-end, AreOriginsOf-end}
 use Rattle.ld_explain.proofs.evidence.Evidence.of.Goals as goal
 
@@ -15,9 +16,9 @@ loop-i-preserved c =
 pub returns-clause-origins : goal.returns-clause-origins
 returns-clause-origins c =
     let past : length c.args.traces.now ≤ c.loop-i.i = omega (arith, c.loop-i-test.false) in
-    AreOriginsOf-end c.args.traces.now c.args.asked.now c.loop-i.evidence.origins c.loop-i.i past c.loop-i.invariant.2.firsts
+    AreOriginsOf-end (view_of c.args.naming c.args.traces.now) c.args.asked.now c.renamed_facts_are_the_image.ensures c.loop-i.evidence.origins c.loop-i.i past c.loop-i.invariant.2.firsts
 
 pub returns-clause-guards : goal.returns-clause-guards
 returns-clause-guards c =
     let past : length c.args.traces.now ≤ c.loop-i.i = omega (arith, c.loop-i-test.false) in
-    AreGuardsOf-end c.args.traces.now c.args.asked.now c.loop-i.evidence.guards c.loop-i.i past c.loop-i.invariant.2.guarded
+    AreGuardsOf-end (view_of c.args.naming c.args.traces.now) c.args.asked.now c.renamed_facts_are_the_image.ensures c.loop-i.evidence.guards c.loop-i.i past c.loop-i.invariant.2.guarded

@@ -1,5 +1,6 @@
 use Rattle.std.proofs.Common.{◌≡◌}
 use Rattle.ld_explain.specs.Inside.Firsts.{SeenBefore}
+use Rattle.ld_explain.specs.Naming.{view_of}
 use Rattle.ld_explain.specs.Inside.Taking.{AreTakenIn}
 use Rattle.ld_explain.proofs.evidence.Evidence.of.Given as goal
 
@@ -8,4 +9,4 @@ abbrev pub invariant-loop-i : goal.invariant-loop-i
 invariant-loop-i l =
     (l.evidence.origins.keys ≡ l.asked.keys)
     × (l.evidence.guards.keys ≡ l.asked.keys)
-    × AreTakenIn l.traces l.asked (SeenBefore l.traces l.i) l.evidence.origins l.evidence.guards
+    × AreTakenIn (view_of l.naming l.traces) l.asked (SeenBefore (view_of l.naming l.traces) l.i) l.evidence.origins l.evidence.guards

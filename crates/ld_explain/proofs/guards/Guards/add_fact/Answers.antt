@@ -3,6 +3,7 @@ use Rattle.ld_trace.specs.declared.event.Event.{Event}
 use Rattle.ld_task.specs.TraceChains.{chain}
 use Rattle.ld_facts.specs.ChainFacts.{slot_held}
 use Rattle.ld_facts.specs.FactBits.{FactParts, HasFact}
+use Rattle.ld_explain.specs.Naming.{key_by, view_of}
 use Rattle.ld_explain.specs.Inside.Firsts.{SeenFrom, slot_origin}
 use Rattle.ld_explain.specs.Inside.Guarding.{Among, AreGuards, AsksOrder, GuardsAt, PutsGuard}
 use Rattle.ld_explain.proofs.Gates.{gates-guard}
@@ -16,23 +17,23 @@ returns-in-Dependency-clause-kept c =
     PutsGuard c.args.self.now c.put.new.self c.args.fact c.args.trace c.gates_before.result.items →
     ((traces : List (List Event)) (asked : FactParts) (t : List Event) (place : ℕ) → slice_get traces c.args.trace ≡ Some t →
     chain t place ≡ Some c.args.chain.now → HasFact asked c.args.fact →
-    AreGuards traces (Among (AsksOrder asked) (SeenFrom traces t c.args.trace place c.args.chain.now (c.args.n + 1))) c.args.self.now →
-    AreGuards traces (Among (AsksOrder asked) (SeenFrom traces t c.args.trace place c.args.chain.now c.args.n)) c.put.new.self) =
+    AreGuards (view_of c.args.naming traces) (Among (AsksOrder asked) (SeenFrom (view_of c.args.naming traces) t c.args.trace place c.args.chain.now (c.args.n + 1))) c.args.self.now →
+    AreGuards (view_of c.args.naming traces) (Among (AsksOrder asked) (SeenFrom (view_of c.args.naming traces) t c.args.trace place c.args.chain.now c.args.n)) c.put.new.self) =
     λ puts traces asked t place here is is_asked before.
     let held : c.unwrap_or-held.result ≡ unwrap_or (slot_held c.args.chain.now c.args.n) 0 =
     c.unwrap_or-held.ensures ∙ ap (λ o. unwrap_or o 0) c.lock_of_slot.ensures in
-    let guard : (key : ℕ) → Contains c.gates_before.result.items key ↔ GuardsAt traces key (slot_origin t c.args.trace place c.args.chain.now c.args.n) =
+    let guard : (key : ℕ) → Contains c.gates_before.result.items key ↔ GuardsAt (view_of c.args.naming traces) key (slot_origin t c.args.trace place c.args.chain.now c.args.n) =
     λ key.
-    let r = gates-guard t place c.args.chain.now is traces c.args.trace here c.args.n c.requires.within key
+    let r = gates-guard (key_by c.args.naming) t place c.args.chain.now is traces c.args.trace here c.args.n c.requires.within key
     (slot_held c.args.chain.now c.args.n) refl c.unwrap_or-held.result
     (λ h e. held ∙ ap (λ o. unwrap_or o 0) e) (λ e. held ∙ ap (λ o. unwrap_or o 0) e) in
     let before_is = c.gates_before.ensures key in
     (λ h. r.0 (before_is.0 h), λ h. before_is.1 (r.1 h)) in
-    guards_take traces asked t c.args.trace place c.args.chain.now c.args.n c.args.fact c.requires.within c.requires.slot
+    guards_take (view_of c.args.naming traces) asked t c.args.trace place c.args.chain.now c.args.n c.args.fact c.requires.within c.requires.slot
     (rw c.in-Dependency.is (rw c.in-Dependency.is at is_asked)) c.args.self.now c.put.new.self c.gates_before.result.items puts guard before in
     after_ok _ _ c.put.result follows c.put.ensures
 
 pub returns-in-Marked-clause-kept : goal.returns-in-Marked-clause-kept
 returns-in-Marked-clause-kept c traces asked t place here is is_asked before =
-    guards_mark traces asked t c.args.trace place c.args.chain.now c.args.n _ _
+    guards_mark (view_of c.args.naming traces) asked t c.args.trace place c.args.chain.now c.args.n _ _
     (c.requires.slot ∙ ap Some c.in-Marked.is) c.args.self.now before
