@@ -1,6 +1,16 @@
 //! Where what was chosen comes from, and what speaks against it.
 
-ghost use Rattle.ld_explain.specs.Inside.Explaining.{Knows};
+ghost use Rattle.std.specs.Prelude.{◌≡◌, ◌↔◌, ◌<◌, ◌++◌, ◌∷◌, [], ℕ, List, All, IfOk, IsFalse, IsTrue, OnOk, Some, length};
+ghost use Rattle.ld_facts.specs.Facts.{DependenciesOf, Holds};
+ghost use Rattle.ld_facts.specs.FactBits.{HasFact};
+ghost use Rattle.ld_explain.specs.Findings.{Are, AreGates, AreOrders, IsCircle, IsOnly};
+ghost use Rattle.ld_explain.specs.Found.{AreThose};
+ghost use Rattle.ld_explain.specs.Inside.Choosing.{IsAmong, IsMark};
+ghost use Rattle.ld_explain.specs.Inside.Explaining.{Explains, IsGuardOf, IsOfBoth, IsOfLink, Knows};
+ghost use Rattle.ld_explain.specs.Inside.Finding.{AddsThose};
+ghost use Rattle.ld_explain.specs.Notes.{IsGate};
+ghost use Rattle.ld_explain.specs.Origins.{IsFirst};
+ghost use Rattle.ld_facts.specs.declared.fact.Fact.{Fact};
 
 use crate::asked::Asked;
 use crate::choices::{Choice, Link};
@@ -16,6 +26,13 @@ use std::alloc::{AllocError, Global};
 // Of how many members of a walk a key is a gate if it has a note, at least.
 const MIN_GUARDED: usize = 2;
 
+// Whether both are the same trace, or none.
+fn is_same(a: Option<u32>, b: Option<u32>) -> bool
+    ensures { IsTrue result ↔ (a ≡ b) }
+{
+    a == b
+}
+
 // What findings are explained from: what the traces say about all facts that are asked about, and the keys in the
 // report's order.
 #[derive(Drop)]
@@ -25,25 +42,13 @@ pub(crate) struct Explainer<'a> {
     pub evidence: &'a Evidence,
     pub keys: &'a [KeyId],
     pub alloc: Global,
-    ghost knows: { Knows traces.now asked.now evidence.now.origins evidence.now.guards },
 }
 
 impl Explainer<'_> {
-    ghost use Rattle.std.specs.Prelude.{◌≡◌, ◌↔◌, ◌<◌, ◌++◌, ◌∷◌, [], ℕ, List, All, IfOk, IsFalse, OnOk, Some, length};
-    ghost use Rattle.ld_facts.specs.Facts.{DependenciesOf, Holds};
-    ghost use Rattle.ld_facts.specs.FactBits.{HasFact};
-    ghost use Rattle.ld_explain.specs.Findings.{Are, AreGates, AreOrders, IsCircle, IsOnly};
-    ghost use Rattle.ld_explain.specs.Found.{AreThose};
-    ghost use Rattle.ld_explain.specs.Inside.Choosing.{IsMark, IsPart};
-    ghost use Rattle.ld_explain.specs.Inside.Explaining.{Explains, HasMembers, IsGuardOf, IsOfBoth, IsOfLink};
-    ghost use Rattle.ld_explain.specs.Inside.Finding.{AddsThose};
-    ghost use Rattle.ld_explain.specs.Notes.{IsGate};
-    ghost use Rattle.ld_explain.specs.Origins.{IsFirst};
-    ghost use Rattle.ld_facts.specs.declared.fact.Fact.TheVariants.{Dependency};
-
     // Where a fact first occurs.
     fn origin(&self, fact: Fact) -> Origin
-        requires { HasFact self.now.asked.now fact }
+        requires knows { Knows self.now }
+        requires asked { HasFact self.now.asked.now fact }
         ensures { IsFirst self.now.traces.now fact result }
     {
         let Some(origin) = self.evidence.origins.origin(fact) else {
@@ -54,9 +59,10 @@ impl Explainer<'_> {
 
     // A dependency, and where it first occurs.
     fn order(&self, d: &Dependency) -> Order
-        requires { DependenciesOf (HasFact self.now.asked.now) d.now }
+        requires knows { Knows self.now }
+        requires asked { DependenciesOf (HasFact self.now.asked.now) d.now }
         ensures dependency { result.dependency ≡ d.now }
-        ensures origin { IsFirst self.now.traces.now (Dependency d.now.start d.now.end d.now.kind) result.origin }
+        ensures origin { IsFirst self.now.traces.now (Fact.Dependency d.now.start d.now.end d.now.kind) result.origin }
     {
         Order {
             dependency: d.copy(),
@@ -66,7 +72,8 @@ impl Explainer<'_> {
 
     // The members of a walk.
     fn orders(&self, walk: &[Dependency]) -> Result<Vec<Order>, AllocError>
-        requires { All (DependenciesOf (HasFact self.now.asked.now)) walk.now }
+        requires knows { Knows self.now }
+        requires asked { All (DependenciesOf (HasFact self.now.asked.now)) walk.now }
         ensures { IfOk result (λ orders. AreOrders self.now.traces.now walk.now orders.items) }
     {
         let mut orders = Vec::new(self.alloc);
@@ -78,7 +85,8 @@ impl Explainer<'_> {
 
     // What speaks against a dependency.
     fn guard(&self, d: &Dependency) -> &Guard
-        requires { DependenciesOf (HasFact self.now.asked.now) d.now }
+        requires knows { Knows self.now }
+        requires asked { DependenciesOf (HasFact self.now.asked.now) d.now }
         ensures { IsGuardOf self.now.traces.now d.now result.now }
     {
         let Some(guard) = self.evidence.guards.guard_of(d.fact()) else {
@@ -94,7 +102,8 @@ impl Explainer<'_> {
         d: &Dependency,
         gate: KeyId,
     ) -> Result<(), AllocError>
-        requires { DependenciesOf (HasFact self.now.asked.now) d.now }
+        requires knows { Knows self.now }
+        requires asked { DependenciesOf (HasFact self.now.asked.now) d.now }
         ensures { OnOk result (AddsThose (λ d. IsGate self.now.traces.now d gate) (d.now ∷ []) guarded.old.items guarded.new.items) }
     {
         if self.guard(d).has_gate(gate) {
@@ -105,7 +114,8 @@ impl Explainer<'_> {
 
     // Those members of a walk that the key is a gate of.
     fn guarded(&self, walk: &[Dependency], gate: KeyId) -> Result<Vec<Dependency>, AllocError>
-        requires { All (DependenciesOf (HasFact self.now.asked.now)) walk.now }
+        requires knows { Knows self.now }
+        requires asked { All (DependenciesOf (HasFact self.now.asked.now)) walk.now }
         ensures { IfOk result (λ guarded. AreThose (λ d. IsGate self.now.traces.now d gate) walk.now guarded.items) }
     {
         let mut guarded = Vec::new(self.alloc);
@@ -122,7 +132,8 @@ impl Explainer<'_> {
         walk: &[Dependency],
         key: KeyId,
     ) -> Result<(), AllocError>
-        requires { All (DependenciesOf (HasFact self.now.asked.now)) walk.now }
+        requires knows { Knows self.now }
+        requires asked { All (DependenciesOf (HasFact self.now.asked.now)) walk.now }
         ensures { OnOk result ((keys : List ℕ) → AreGates self.now.traces.now keys walk.now gates.old.items
             → AreGates self.now.traces.now (keys ++ key ∷ []) walk.now gates.new.items) }
     {
@@ -136,7 +147,8 @@ impl Explainer<'_> {
 
     // Whether some key may be a gate of a member of a walk. If not, none is.
     fn may_have_gates(&self, walk: &[Dependency]) -> bool
-        requires { All (DependenciesOf (HasFact self.now.asked.now)) walk.now }
+        requires knows { Knows self.now }
+        requires asked { All (DependenciesOf (HasFact self.now.asked.now)) walk.now }
         ensures { IsFalse result → All (λ d. (gate : ℕ) → ¬ IsGate self.now.traces.now d gate) walk.now }
     {
         for d in walk {
@@ -149,7 +161,8 @@ impl Explainer<'_> {
 
     // The gates of a walk.
     fn gates(&self, walk: &[Dependency]) -> Result<Vec<GateNote>, AllocError>
-        requires { All (DependenciesOf (HasFact self.now.asked.now)) walk.now }
+        requires knows { Knows self.now }
+        requires asked { All (DependenciesOf (HasFact self.now.asked.now)) walk.now }
         ensures { IfOk result (λ gates. AreGates self.now.traces.now self.now.keys.now walk.now gates.items) }
     {
         let mut gates = Vec::new(self.alloc);
@@ -164,13 +177,14 @@ impl Explainer<'_> {
 
     // The trace that alone has all members of a walk.
     fn only(&self, walk: &[Dependency]) -> Option<u32>
+        requires knows { Knows self.now }
         requires some { 0 < length walk.now }
         requires are { All (DependenciesOf (HasFact self.now.asked.now)) walk.now }
         ensures { IsOnly self.now.traces.now walk.now result }
     {
         let only = self.guard(&walk[0]).only;
         for d in walk {
-            if self.guard(d).only != only {
+            if !is_same(self.guard(d).only, only) {
                 return None;
             }
         }
@@ -179,6 +193,7 @@ impl Explainer<'_> {
 
     // A circle.
     fn circle(&self, walk: &[Dependency]) -> Result<Finding, AllocError>
+        requires knows { Knows self.now }
         requires some { 0 < length walk.now }
         requires are { All (DependenciesOf (HasFact self.now.asked.now)) walk.now }
         ensures { IfOk result (IsCircle self.now.traces.now self.now.keys.now walk.now) }
@@ -191,7 +206,8 @@ impl Explainer<'_> {
 
     // A double.
     fn double(&self, link: &Link) -> Finding
-        requires { Holds (HasFact self.now.asked.now) (IsMark link.now) }
+        requires knows { Knows self.now }
+        requires asked { Holds (HasFact self.now.asked.now) (IsMark link.now) }
         ensures { IsOfLink self.now.traces.now link.now result }
     {
         Finding::Double {
@@ -204,6 +220,7 @@ impl Explainer<'_> {
 
     // An inversion.
     fn inversion(&self, walk: &[Dependency], link: &Link) -> Result<Finding, AllocError>
+        requires knows { Knows self.now }
         requires are { All (DependenciesOf (HasFact self.now.asked.now)) walk.now }
         requires marks { Holds (HasFact self.now.asked.now) (IsMark link.now) }
         ensures { IfOk result (IsOfBoth self.now.traces.now self.now.keys.now walk.now link.now) }
@@ -223,8 +240,8 @@ impl Explainer<'_> {
 
     // The finding of a choice.
     fn finding(&self, choice: &Choice) -> Result<Finding, AllocError>
-        requires asked { Holds (HasFact self.now.asked.now) (IsPart choice.now) }
-        requires some { HasMembers choice.now }
+        requires knows { Knows self.now }
+        requires among { IsAmong self.now.asked.now choice.now }
         ensures { IfOk result (Explains self.now.traces.now self.now.keys.now choice.now) }
     {
         match choice {
@@ -236,8 +253,8 @@ impl Explainer<'_> {
 
     // The findings of choices.
     pub(crate) fn findings(&self, choices: &[Choice]) -> Result<Vec<Finding>, AllocError>
-        requires asked { All (λ c. Holds (HasFact self.now.asked.now) (IsPart c)) choices.now }
-        requires some { All HasMembers choices.now }
+        requires knows { Knows self.now }
+        requires among { All (IsAmong self.now.asked.now) choices.now }
         ensures { IfOk result (λ findings. Are (Explains self.now.traces.now self.now.keys.now) choices.now findings.items) }
     {
         let mut findings = Vec::new(self.alloc);

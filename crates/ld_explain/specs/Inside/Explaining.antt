@@ -1,26 +1,27 @@
 -- How what was chosen is explained.
-use Rattle.std.specs.Prelude.{◌≡◌, ◌↔◌, ℕ, ◌<◌, All, Contains, List, Some, [], ◌∷◌, length}
+use Rattle.std.specs.Prelude.{◌≡◌, ◌↔◌, ℕ, Contains, List, Some, [], ◌∷◌}
 use Rattle.ld_trace.specs.declared.event.Event.{Event}
 use Rattle.ld_facts.specs.Arrows.{Arrow}
-use Rattle.ld_facts.specs.FactBits.{FactParts, HasFact}
+use Rattle.ld_facts.specs.FactBits.{HasFact}
 use Rattle.ld_facts.specs.Facts.{Holds}
 use Rattle.ld_facts.specs.TraceFacts.{TracesHave}
 use Rattle.ld_explain.specs.Findings.{AreGates, AreOrders, IsCircle}
 use Rattle.ld_explain.specs.Inside.Choosing.{enabled_of, used_of}
-use Rattle.ld_explain.specs.Notes.{AreGuardsOf, GuardParts, IsAloneIn, IsGate}
-use Rattle.ld_explain.specs.Origins.{AreOriginsOf, IsFirst, OriginParts}
+use Rattle.ld_explain.specs.Notes.{AreGuardsOf, IsAloneIn, IsGate}
+use Rattle.ld_explain.specs.Origins.{AreOriginsOf, IsFirst}
 use Rattle.ld_explain.specs.declared.choices.Choice.{Choice}
 use Rattle.ld_explain.specs.declared.choices.Choice.TheVariants.{ByBoth, ByLink, ByWalk}
 use Rattle.ld_explain.specs.declared.choices.Link.{Link}
+use Rattle.ld_explain.specs.declared.explainer.Explainer.{Explainer}
 use Rattle.ld_explain.specs.declared.finding.Finding.{Finding}
 use Rattle.ld_explain.specs.declared.finding.Finding.TheVariants.{Double, Inversion}
 use Rattle.ld_explain.specs.declared.guard.Guard.{Guard}
 
--- what is known of the traces: the origins of all that is asked about, all of which they have, and what speaks against it
-pub record Knows (traces : List (List Event)) (asked : FactParts) (origins : OriginParts) (guards : GuardParts) : Type 0 where
-  pub has : Holds (TracesHave traces) (HasFact asked)
-  pub origins_are : AreOriginsOf traces asked origins
-  pub guards_are : AreGuardsOf traces asked guards
+-- it knows of the traces what is asked about, all of which they have: where each first occurs, and what speaks against it
+pub record Knows (e : Explainer) : Type 0 where
+  pub has : Holds (TracesHave e.traces.now) (HasFact e.asked.now)
+  pub origins_are : AreOriginsOf e.traces.now e.asked.now e.evidence.now.origins
+  pub guards_are : AreGuardsOf e.traces.now e.asked.now e.evidence.now.guards
 
 -- what speaks against a dependency
 pub record IsGuardOf (traces : List (List Event)) (d : Arrow) (guard : Guard) : Type 0 where
@@ -45,8 +46,3 @@ abbrev pub Explains : List (List Event) → (keys : List ℕ) → Choice → Fin
 Explains traces keys (ByWalk walk) finding = IsCircle traces keys walk.items finding
 Explains traces keys (ByLink l) finding = IsOfLink traces l finding
 Explains traces keys (ByBoth walk l) finding = IsOfBoth traces keys walk.items l finding
-
--- a circle has members
-abbrev pub HasMembers : Choice → Type 0
-HasMembers (ByWalk walk) = 0 < length walk.items
-HasMembers _ = Unit {0}
