@@ -5,7 +5,7 @@ use Rattle.std.proofs.lemmas.Option.{none-some}
 use Rattle.ld_facts.specs.Arrows.{Arrow}
 use Rattle.ld_explain.specs.Laws.Lists.{take-item}
 use Rattle.ld_explain.specs.Notes.{IsAloneIn}
-use Rattle.ld_explain.proofs.ExplainingLemmas.{alone-member, alone-more, alone-none}
+use Rattle.ld_explain.proofs.ExplainingLemmas.{alone-member, alone-more}
 use Rattle.ld_explain.proofs.explainer.Explainer.only.Goals as goal
 
 pub returns-then-not-is_same : goal.returns-then-not-is_same
