@@ -15,7 +15,7 @@ pub map-next : {X Y : Type 0} (f : X → Y) (xs : List X) (i : ℕ) (d : X) → 
 map-next f xs i d within = ap (map f) (take_more xs i d within) ∙ map-append f (take i xs) (slice_index_or xs i d ∷ [])
 
 module _ {X : Type 0} (P : X → Type 0) where
-  AreThose-append : (xs ys a b : List X) → AreThose P xs a → AreThose P ys b → AreThose P (xs ++ ys) (a ++ b)
+  pub AreThose-append : (xs ys a b : List X) → AreThose P xs a → AreThose P ys b → AreThose P (xs ++ ys) (a ++ b)
   AreThose-append [] ys a b none h = subst (λ t. AreThose P ys (t ++ b)) (sym none) h
   AreThose-append (x ∷ xs) ys a b (inl (p, (rest, is, those))) h = inl (p, (rest ++ b, ap (λ t. t ++ b) is, AreThose-append xs ys rest b those h))
   AreThose-append (x ∷ xs) ys a b (inr (isnt, those)) h = inr (isnt, AreThose-append xs ys a b those h)
@@ -30,12 +30,6 @@ module _ {X : Type 0} (P : X → Type 0) where
   pub AreThose-nothing : ((x : X) → ¬ P x) → (xs : List X) → AreThose P xs []
   AreThose-nothing never [] = refl
   AreThose-nothing never (x ∷ xs) = inr (never x, AreThose-nothing never xs)
-
-  -- nor of one thing more
-  pub AreThose-none_more : (xs : List X) (i : ℕ) (x : X) → x ≡ slice_index_or xs i x → i < length xs → AreThose P (take i xs) [] → ¬ P x → AreThose P (take (i + 1) xs) []
-  AreThose-none_more xs i x is within none isnt =
-      subst (λ ys. AreThose P ys []) (sym (take_more xs i x within))
-      (AreThose-append (take i xs) (slice_index_or xs i x ∷ []) [] [] none (inr (subst (λ y. ¬ P y) is isnt, refl)))
 
   pub AddsThose-none : (old : List X) → AddsThose P [] old old
   AddsThose-none old = record { those = []; are = refl; grew = sym (append-nil old) }

@@ -11,3 +11,5 @@ pub mod Slots
 pub mod Traces
 pub mod FindingLemmas
 pub mod Starts
+pub mod ChoosingLemmas
+pub mod ExplainingLemmas

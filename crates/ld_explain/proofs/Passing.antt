@@ -44,10 +44,6 @@ abbrev arrow_of_fact : Fact → Arrow
 arrow_of_fact (Dependency from to kind) = arrow from to kind
 arrow_of_fact (Marked key mark) = arrow 0 0 En
 
-some_member : (xs : List ℕ) → xs ≢ [] → (x : ℕ) × Contains xs x
-some_member [] some = absurd (some refl)
-some_member (x ∷ xs) some = (x, (0, omega arith, refl))
-
 -- the same occurrences of some facts
 among-same : (In : Fact → Type 0) (P Q : Fact → Origin → Type 0) → ((x : Fact) (o : Origin) → P x o ↔ Q x o) →
     (x : Fact) (o : Origin) → Among In P x o ↔ Among In Q x o
@@ -245,24 +241,3 @@ module _ (view : View) (asked : FactParts) where
       within : (x : Fact) (o : Origin) → Occurs view x o → o.trace < trace
       within x o occurs = omega (arith, past, slice_get_within view.traces o.trace occurs.t occurs.is_trace)
 
-  -- ---- what is returned of a dependency
-  module _ (parts : GuardParts) (are : AreGuardsOf view asked parts) (d : Arrow) (is_asked : DependenciesOf (HasFact asked) d) where
-    pub tells_gate : (g : Guard) → HasGuard parts (Dependency d.start d.end d.kind) g → (key : ℕ) (b : Bool) → b ≡ is_among g.gates.items key →
-        IsTrue b ↔ IsGate view d key
-    tells_gate g has key b is =
-        let r = are.gates d is_asked g has key in
-        let among = is_among-decides g.gates.items key in
-        ((λ h. r.0 (among.0 (sym is ∙ h))), (λ gate. is ∙ among.1 (r.1 gate)))
-
-    tells_none : (g : Guard) → HasGuard parts (Dependency d.start d.end d.kind) g → g.gates.items ≡ [] → (key : ℕ) → ¬ IsGate view d key
-    tells_none g has none key gate =
-        let (k, l, at) = (are.gates d is_asked g has key).1 gate in
-        let none_there : length g.gates.items ≡ 0 = ap length none in
-        omega (arith, l, none_there)
-
-    pub tells_gates : (g : Guard) → HasGuard parts (Dependency d.start d.end d.kind) g → (b : Bool) →
-        (IsFalse b → g.gates.items ≡ []) → (IsTrue b → g.gates.items ≢ []) → IsTrue b ↔ ((gate : ℕ) × IsGate view d gate)
-    tells_gates g has b none some = (
-      (λ t. let (key, is_there) = some_member g.gates.items (some t) in (key, (are.gates d is_asked g has key).0 is_there)),
-      (λ (key, gate). elim (cases_Bool b) [ inl t ↦ t | inr f ↦ absurd (tells_none g has (none f) key gate) ]),
-    )

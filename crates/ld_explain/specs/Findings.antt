@@ -1,6 +1,5 @@
 -- Findings as values: what was found, where it comes from, and what speaks against it [this project's own].
 use Rattle.std.specs.Prelude.{◌≡◌, ◌⊎◌, ◌↔◌, ℕ, ◌≤◌, List, [], ◌∷◌, ◌++◌, Option, Some, All, Any, Contains, length, map}
-use Rattle.ld_trace.specs.declared.event.Event.{Event}
 use Rattle.ld_trace.specs.declared.event.Irq.{Irq}
 use Rattle.ld_task.specs.Kinds.{is_r, is_s}
 use Rattle.ld_task.specs.declared.mark.Mark.TheVariants.{UsedIn, Enabled}
@@ -12,7 +11,7 @@ use Rattle.ld_graph.specs.Links.{IsDoubleBy, IsShortestInversion}
 use Rattle.ld_graph.specs.Walks.{IsShortestFrom}
 use Rattle.ld_explain.specs.Found.{AreFound, AreThose, FoundParts}
 use Rattle.ld_explain.specs.Notes.{IsAloneIn, IsGate}
-use Rattle.ld_explain.specs.Origins.{IsFirst}
+use Rattle.ld_explain.specs.Origins.{IsFirst, View}
 use Rattle.ld_explain.specs.declared.finding.Finding.{Finding}
 use Rattle.ld_explain.specs.declared.finding.Finding.TheVariants.{Circle, Double, Inversion}
 use Rattle.ld_explain.specs.declared.finding.GateNote.{GateNote}
@@ -39,43 +38,43 @@ abbrev pub members_of : List Order → List Arrow
 members_of orders = map (λ o. o.dependency) orders
 
 -- they are those of this walk, each with its first occurrence
-pub record AreOrders (traces : List (List Event)) (walk : List Arrow) (orders : List Order) : Type 0 where
+pub record AreOrders (view : View) (walk : List Arrow) (orders : List Order) : Type 0 where
   pub members : members_of orders ≡ walk
-  pub first : All (λ o. IsFirst traces (fact.Dependency o.dependency.start o.dependency.end o.dependency.kind) o.origin) orders
+  pub first : All (λ o. IsFirst view (fact.Dependency o.dependency.start o.dependency.end o.dependency.kind) o.origin) orders
 
 -- the key is a gate of two members of the walk or more
-abbrev pub GuardsTwo : List (List Event) → List Arrow → (key : ℕ) → Type 0
-GuardsTwo traces walk key = (guarded : List Arrow) × AreThose (λ d. IsGate traces d key) walk guarded × (2 ≤ length guarded)
+abbrev pub GuardsTwo : View → List Arrow → (key : ℕ) → Type 0
+GuardsTwo view walk key = (guarded : List Arrow) × AreThose (λ d. IsGate view d key) walk guarded × (2 ≤ length guarded)
 
 -- the keys that are, in this order, each with the members that it is a gate of
-pub record AreGates (traces : List (List Event)) (keys : List ℕ) (walk : List Arrow) (gates : List GateNote) : Type 0 where
-  pub keys_are : AreThose (GuardsTwo traces walk) keys (map (λ g. g.key) gates)
-  pub guarded : All (λ g. AreThose (λ d. IsGate traces d g.key) walk g.guarded.items) gates
+pub record AreGates (view : View) (keys : List ℕ) (walk : List Arrow) (gates : List GateNote) : Type 0 where
+  pub keys_are : AreThose (GuardsTwo view walk) keys (map (λ g. g.key) gates)
+  pub guarded : All (λ g. AreThose (λ d. IsGate view d g.key) walk g.guarded.items) gates
 
 -- the trace that alone has all dependencies of the walk, if one has
-abbrev pub IsOnly : List (List Event) → List Arrow → Option ℕ → Type 0
-IsOnly traces walk only = (trace : ℕ) → (only ≡ Some trace) ↔ IsAloneIn traces walk trace
+abbrev pub IsOnly : View → List Arrow → Option ℕ → Type 0
+IsOnly view walk only = (trace : ℕ) → (only ≡ Some trace) ↔ IsAloneIn view walk trace
 
 -- the finding is this circle
-abbrev pub IsCircle : List (List Event) → (keys : List ℕ) → List Arrow → Finding → Type 0
-IsCircle traces keys walk (Circle orders gates only) =
-    AreOrders traces walk orders.items × AreGates traces keys walk gates.items × IsOnly traces walk only
-IsCircle traces keys walk _ = ⊥
+abbrev pub IsCircle : View → (keys : List ℕ) → List Arrow → Finding → Type 0
+IsCircle view keys walk (Circle orders gates only) =
+    AreOrders view walk orders.items × AreGates view keys walk gates.items × IsOnly view walk only
+IsCircle view keys walk _ = ⊥
 
 -- the finding is this double, by a link that makes it one
-abbrev pub IsTheDouble : (Fact → Type 0) → List (List Event) → Irq × ℕ → Finding → Type 0
-IsTheDouble Has traces double (Double irq key used enabled) = ((irq, key) ≡ double) × ((l : Arrow) × IsDoubleBy Has irq key l
-    × IsFirst traces (fact.Marked key (UsedIn irq (is_r l.kind))) used × IsFirst traces (fact.Marked key (Enabled irq (is_s l.kind))) enabled)
-IsTheDouble Has traces double _ = ⊥
+abbrev pub IsTheDouble : (Fact → Type 0) → View → Irq × ℕ → Finding → Type 0
+IsTheDouble Has view double (Double irq key used enabled) = ((irq, key) ≡ double) × ((l : Arrow) × IsDoubleBy Has irq key l
+    × IsFirst view (fact.Marked key (UsedIn irq (is_r l.kind))) used × IsFirst view (fact.Marked key (Enabled irq (is_s l.kind))) enabled)
+IsTheDouble Has view double _ = ⊥
 
 -- the finding is this inversion, by a shortest walk and a link that closes it
-abbrev pub IsTheInversion : (Fact → Type 0) → List (List Event) → (keys : List ℕ) → Irq × (ℕ × ℕ) → Finding → Type 0
-IsTheInversion Has traces keys inversion (Inversion irq a b orders used enabled gates) =
+abbrev pub IsTheInversion : (Fact → Type 0) → View → (keys : List ℕ) → Irq × (ℕ × ℕ) → Finding → Type 0
+IsTheInversion Has view keys inversion (Inversion irq a b orders used enabled gates) =
     ((irq, (a, b)) ≡ inversion) × ((l : Arrow) × IsShortestInversion Has irq a b l (members_of orders.items)
-    × AreOrders traces (members_of orders.items) orders.items
-    × IsFirst traces (fact.Marked a (UsedIn irq (is_r l.kind))) used × IsFirst traces (fact.Marked b (Enabled irq (is_s l.kind))) enabled
-    × AreGates traces keys (members_of orders.items) gates.items)
-IsTheInversion Has traces keys inversion _ = ⊥
+    × AreOrders view (members_of orders.items) orders.items
+    × IsFirst view (fact.Marked a (UsedIn irq (is_r l.kind))) used × IsFirst view (fact.Marked b (Enabled irq (is_s l.kind))) enabled
+    × AreGates view keys (members_of orders.items) gates.items)
+IsTheInversion Has view keys inversion _ = ⊥
 
 -- ---- all findings
 -- each thing of the second list is as R says of what stands at its place of the first
@@ -84,7 +83,7 @@ Are R [] ys = ys ≡ []
 Are {X} {Y} R (x ∷ xs) ys = (first : Y) × (rest : List Y) × R x first × Are R xs rest × (ys ≡ first ∷ rest)
 
 -- these are the findings of the facts of these traces, among the keys in this order: the circles, the doubles, the inversions
-pub record AreFindings (Has : Fact → Type 0) (traces : List (List Event)) (keys : List ℕ) (findings : List Finding) : Type 0 where
+pub record AreFindings (Has : Fact → Type 0) (view : View) (keys : List ℕ) (findings : List Finding) : Type 0 where
   pub found : FoundParts
   pub found_are : AreFound Has keys found
   pub walks : List (List Arrow)
@@ -92,7 +91,7 @@ pub record AreFindings (Has : Fact → Type 0) (traces : List (List Event)) (key
   pub circles : List Finding
   pub doubles : List Finding
   pub inversions : List Finding
-  pub circles_are : Are (IsCircle traces keys) walks circles
-  pub doubles_are : Are (IsTheDouble Has traces) found.doubles doubles
-  pub inversions_are : Are (IsTheInversion Has traces keys) found.inversions inversions
+  pub circles_are : Are (IsCircle view keys) walks circles
+  pub doubles_are : Are (IsTheDouble Has view) found.doubles doubles
+  pub inversions_are : Are (IsTheInversion Has view keys) found.inversions inversions
   pub are : findings ≡ circles ++ (doubles ++ inversions)

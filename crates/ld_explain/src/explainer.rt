@@ -1,6 +1,17 @@
 //! Where what was chosen comes from, and what speaks against it.
 
-ghost use Rattle.ld_explain.specs.Inside.Explaining.{Knows};
+ghost use Rattle.std.specs.Prelude.{◌≡◌, ◌↔◌, ◌<◌, ◌++◌, ◌∷◌, [], ℕ, List, All, IfOk, IsFalse, IsTrue, OnOk, Some, length};
+ghost use Rattle.ld_facts.specs.Facts.{DependenciesOf, Holds};
+ghost use Rattle.ld_facts.specs.FactBits.{HasFact};
+ghost use Rattle.ld_explain.specs.Findings.{Are, AreGates, AreOrders, IsCircle, IsOnly};
+ghost use Rattle.ld_explain.specs.Found.{AreThose};
+ghost use Rattle.ld_explain.specs.Inside.Choosing.{IsAmong, IsMark, enabled_of, used_of};
+ghost use Rattle.ld_explain.specs.Inside.Explaining.{Explains, IsGuardOf, IsOfBoth, IsOfLink, Knows};
+ghost use Rattle.ld_explain.specs.Inside.Finding.{AddsThose};
+ghost use Rattle.ld_explain.specs.Naming.{view_of};
+ghost use Rattle.ld_explain.specs.Notes.{IsGate};
+ghost use Rattle.ld_explain.specs.Origins.{IsFirst};
+ghost use Rattle.ld_facts.specs.declared.fact.Fact.{Fact};
 
 use crate::asked::Asked;
 use crate::choices::{Choice, Link};
@@ -8,6 +19,7 @@ use crate::evidence::Evidence;
 use crate::finding::{Finding, GateNote, Order};
 use crate::found::Dependency;
 use crate::guard::Guard;
+use crate::naming::Naming;
 use crate::origins::Origin;
 use ld_facts::Fact;
 use ld_trace::{KeyId, RawTrace};
@@ -16,35 +28,31 @@ use std::alloc::{AllocError, Global};
 // Of how many members of a walk a key is a gate if it has a note, at least.
 const MIN_GUARDED: usize = 2;
 
+// Whether both are the same trace, or none.
+fn is_same(a: Option<u32>, b: Option<u32>) -> bool
+    ensures { IsTrue result ↔ (a ≡ b) }
+{
+    a == b
+}
+
 // What findings are explained from: what the traces say about all facts that are asked about, and the keys in the
 // report's order.
 #[derive(Drop)]
 pub(crate) struct Explainer<'a> {
     pub traces: &'a [RawTrace],
+    pub naming: Naming<'a>,
     pub asked: &'a Asked,
     pub evidence: &'a Evidence,
     pub keys: &'a [KeyId],
     pub alloc: Global,
-    ghost knows: { Knows traces.now asked.now evidence.now.origins evidence.now.guards },
 }
 
 impl Explainer<'_> {
-    ghost use Rattle.std.specs.Prelude.{◌≡◌, ◌↔◌, ◌<◌, ◌++◌, ◌∷◌, [], ℕ, List, All, IfOk, IsFalse, OnOk, Some, length};
-    ghost use Rattle.ld_facts.specs.Facts.{DependenciesOf, Holds};
-    ghost use Rattle.ld_facts.specs.FactBits.{HasFact};
-    ghost use Rattle.ld_explain.specs.Findings.{Are, AreGates, AreOrders, IsCircle, IsOnly};
-    ghost use Rattle.ld_explain.specs.Found.{AreThose};
-    ghost use Rattle.ld_explain.specs.Inside.Choosing.{IsMark, IsPart};
-    ghost use Rattle.ld_explain.specs.Inside.Explaining.{Explains, HasMembers, IsGuardOf, IsOfBoth, IsOfLink};
-    ghost use Rattle.ld_explain.specs.Inside.Finding.{AddsThose};
-    ghost use Rattle.ld_explain.specs.Notes.{IsGate};
-    ghost use Rattle.ld_explain.specs.Origins.{IsFirst};
-    ghost use Rattle.ld_facts.specs.declared.fact.Fact.TheVariants.{Dependency};
-
     // Where a fact first occurs.
     fn origin(&self, fact: Fact) -> Origin
-        requires { HasFact self.now.asked.now fact }
-        ensures { IsFirst self.now.traces.now fact result }
+        requires knows { Knows self.now }
+        requires asked { HasFact self.now.asked.now fact }
+        ensures { IsFirst (view_of self.now.naming self.now.traces.now) fact result }
     {
         let Some(origin) = self.evidence.origins.origin(fact) else {
             unreachable!();
@@ -54,9 +62,10 @@ impl Explainer<'_> {
 
     // A dependency, and where it first occurs.
     fn order(&self, d: &Dependency) -> Order
-        requires { DependenciesOf (HasFact self.now.asked.now) d.now }
+        requires knows { Knows self.now }
+        requires asked { DependenciesOf (HasFact self.now.asked.now) d.now }
         ensures dependency { result.dependency ≡ d.now }
-        ensures origin { IsFirst self.now.traces.now (Dependency d.now.start d.now.end d.now.kind) result.origin }
+        ensures origin { IsFirst (view_of self.now.naming self.now.traces.now) (Fact.Dependency d.now.start d.now.end d.now.kind) result.origin }
     {
         Order {
             dependency: d.copy(),
@@ -66,8 +75,9 @@ impl Explainer<'_> {
 
     // The members of a walk.
     fn orders(&self, walk: &[Dependency]) -> Result<Vec<Order>, AllocError>
-        requires { All (DependenciesOf (HasFact self.now.asked.now)) walk.now }
-        ensures { IfOk result (λ orders. AreOrders self.now.traces.now walk.now orders.items) }
+        requires knows { Knows self.now }
+        requires asked { All (DependenciesOf (HasFact self.now.asked.now)) walk.now }
+        ensures { IfOk result (λ orders. AreOrders (view_of self.now.naming self.now.traces.now) walk.now orders.items) }
     {
         let mut orders = Vec::new(self.alloc);
         for d in walk {
@@ -78,8 +88,9 @@ impl Explainer<'_> {
 
     // What speaks against a dependency.
     fn guard(&self, d: &Dependency) -> &Guard
-        requires { DependenciesOf (HasFact self.now.asked.now) d.now }
-        ensures { IsGuardOf self.now.traces.now d.now result.now }
+        requires knows { Knows self.now }
+        requires asked { DependenciesOf (HasFact self.now.asked.now) d.now }
+        ensures { IsGuardOf (view_of self.now.naming self.now.traces.now) d.now result.now }
     {
         let Some(guard) = self.evidence.guards.guard_of(d.fact()) else {
             unreachable!();
@@ -94,8 +105,9 @@ impl Explainer<'_> {
         d: &Dependency,
         gate: KeyId,
     ) -> Result<(), AllocError>
-        requires { DependenciesOf (HasFact self.now.asked.now) d.now }
-        ensures { OnOk result (AddsThose (λ d. IsGate self.now.traces.now d gate) (d.now ∷ []) guarded.old.items guarded.new.items) }
+        requires knows { Knows self.now }
+        requires asked { DependenciesOf (HasFact self.now.asked.now) d.now }
+        ensures { OnOk result (AddsThose (λ d. IsGate (view_of self.now.naming self.now.traces.now) d gate) (d.now ∷ []) guarded.old.items guarded.new.items) }
     {
         if self.guard(d).has_gate(gate) {
             guarded.push(d.copy())?;
@@ -105,8 +117,9 @@ impl Explainer<'_> {
 
     // Those members of a walk that the key is a gate of.
     fn guarded(&self, walk: &[Dependency], gate: KeyId) -> Result<Vec<Dependency>, AllocError>
-        requires { All (DependenciesOf (HasFact self.now.asked.now)) walk.now }
-        ensures { IfOk result (λ guarded. AreThose (λ d. IsGate self.now.traces.now d gate) walk.now guarded.items) }
+        requires knows { Knows self.now }
+        requires asked { All (DependenciesOf (HasFact self.now.asked.now)) walk.now }
+        ensures { IfOk result (λ guarded. AreThose (λ d. IsGate (view_of self.now.naming self.now.traces.now) d gate) walk.now guarded.items) }
     {
         let mut guarded = Vec::new(self.alloc);
         for d in walk {
@@ -122,9 +135,10 @@ impl Explainer<'_> {
         walk: &[Dependency],
         key: KeyId,
     ) -> Result<(), AllocError>
-        requires { All (DependenciesOf (HasFact self.now.asked.now)) walk.now }
-        ensures { OnOk result ((keys : List ℕ) → AreGates self.now.traces.now keys walk.now gates.old.items
-            → AreGates self.now.traces.now (keys ++ key ∷ []) walk.now gates.new.items) }
+        requires knows { Knows self.now }
+        requires asked { All (DependenciesOf (HasFact self.now.asked.now)) walk.now }
+        ensures { OnOk result ((keys : List ℕ) → AreGates (view_of self.now.naming self.now.traces.now) keys walk.now gates.old.items
+            → AreGates (view_of self.now.naming self.now.traces.now) (keys ++ key ∷ []) walk.now gates.new.items) }
     {
         let guarded = self.guarded(walk, key)?;
         if guarded.len() < MIN_GUARDED {
@@ -136,8 +150,9 @@ impl Explainer<'_> {
 
     // Whether some key may be a gate of a member of a walk. If not, none is.
     fn may_have_gates(&self, walk: &[Dependency]) -> bool
-        requires { All (DependenciesOf (HasFact self.now.asked.now)) walk.now }
-        ensures { IsFalse result → All (λ d. (gate : ℕ) → ¬ IsGate self.now.traces.now d gate) walk.now }
+        requires knows { Knows self.now }
+        requires asked { All (DependenciesOf (HasFact self.now.asked.now)) walk.now }
+        ensures { IsFalse result → All (λ d. (gate : ℕ) → ¬ IsGate (view_of self.now.naming self.now.traces.now) d gate) walk.now }
     {
         for d in walk {
             if self.guard(d).has_gates() {
@@ -149,8 +164,9 @@ impl Explainer<'_> {
 
     // The gates of a walk.
     fn gates(&self, walk: &[Dependency]) -> Result<Vec<GateNote>, AllocError>
-        requires { All (DependenciesOf (HasFact self.now.asked.now)) walk.now }
-        ensures { IfOk result (λ gates. AreGates self.now.traces.now self.now.keys.now walk.now gates.items) }
+        requires knows { Knows self.now }
+        requires asked { All (DependenciesOf (HasFact self.now.asked.now)) walk.now }
+        ensures { IfOk result (λ gates. AreGates (view_of self.now.naming self.now.traces.now) self.now.keys.now walk.now gates.items) }
     {
         let mut gates = Vec::new(self.alloc);
         if !self.may_have_gates(walk) {
@@ -164,13 +180,14 @@ impl Explainer<'_> {
 
     // The trace that alone has all members of a walk.
     fn only(&self, walk: &[Dependency]) -> Option<u32>
+        requires knows { Knows self.now }
         requires some { 0 < length walk.now }
         requires are { All (DependenciesOf (HasFact self.now.asked.now)) walk.now }
-        ensures { IsOnly self.now.traces.now walk.now result }
+        ensures { IsOnly (view_of self.now.naming self.now.traces.now) walk.now result }
     {
         let only = self.guard(&walk[0]).only;
         for d in walk {
-            if self.guard(d).only != only {
+            if !is_same(self.guard(d).only, only) {
                 return None;
             }
         }
@@ -179,9 +196,10 @@ impl Explainer<'_> {
 
     // A circle.
     fn circle(&self, walk: &[Dependency]) -> Result<Finding, AllocError>
+        requires knows { Knows self.now }
         requires some { 0 < length walk.now }
         requires are { All (DependenciesOf (HasFact self.now.asked.now)) walk.now }
-        ensures { IfOk result (IsCircle self.now.traces.now self.now.keys.now walk.now) }
+        ensures { IfOk result (IsCircle (view_of self.now.naming self.now.traces.now) self.now.keys.now walk.now) }
     {
         let only = self.only(walk);
         let gates = self.gates(walk)?;
@@ -189,43 +207,57 @@ impl Explainer<'_> {
         Ok(Finding::Circle { walk, gates, only })
     }
 
+    // Where the marks of a link first occur.
+    fn uses(&self, link: &Link) -> (Origin, Origin)
+        requires knows { Knows self.now }
+        requires asked { Holds (HasFact self.now.asked.now) (IsMark link.now) }
+        ensures used { IsFirst (view_of self.now.naming self.now.traces.now) (used_of link.now) result.0 }
+        ensures enabled { IsFirst (view_of self.now.naming self.now.traces.now) (enabled_of link.now) result.1 }
+    {
+        (self.origin(link.used()), self.origin(link.enabled()))
+    }
+
     // A double.
     fn double(&self, link: &Link) -> Finding
-        requires { Holds (HasFact self.now.asked.now) (IsMark link.now) }
-        ensures { IsOfLink self.now.traces.now link.now result }
+        requires knows { Knows self.now }
+        requires asked { Holds (HasFact self.now.asked.now) (IsMark link.now) }
+        ensures { IsOfLink (view_of self.now.naming self.now.traces.now) link.now result }
     {
+        let (used, enabled) = self.uses(link);
         Finding::Double {
             irq: link.irq,
             key: link.a,
-            used: self.origin(link.used()),
-            enabled: self.origin(link.enabled()),
+            used,
+            enabled,
         }
     }
 
     // An inversion.
     fn inversion(&self, walk: &[Dependency], link: &Link) -> Result<Finding, AllocError>
+        requires knows { Knows self.now }
         requires are { All (DependenciesOf (HasFact self.now.asked.now)) walk.now }
         requires marks { Holds (HasFact self.now.asked.now) (IsMark link.now) }
-        ensures { IfOk result (IsOfBoth self.now.traces.now self.now.keys.now walk.now link.now) }
+        ensures { IfOk result (IsOfBoth (view_of self.now.naming self.now.traces.now) self.now.keys.now walk.now link.now) }
     {
         let gates = self.gates(walk)?;
         let walk = self.orders(walk)?;
+        let (used, enabled) = self.uses(link);
         Ok(Finding::Inversion {
             irq: link.irq,
             a: link.a,
             b: link.b,
             walk,
-            used: self.origin(link.used()),
-            enabled: self.origin(link.enabled()),
+            used,
+            enabled,
             gates,
         })
     }
 
     // The finding of a choice.
     fn finding(&self, choice: &Choice) -> Result<Finding, AllocError>
-        requires asked { Holds (HasFact self.now.asked.now) (IsPart choice.now) }
-        requires some { HasMembers choice.now }
-        ensures { IfOk result (Explains self.now.traces.now self.now.keys.now choice.now) }
+        requires knows { Knows self.now }
+        requires among { IsAmong self.now.asked.now choice.now }
+        ensures { IfOk result (Explains (view_of self.now.naming self.now.traces.now) self.now.keys.now choice.now) }
     {
         match choice {
             Choice::ByWalk(walk) => self.circle(walk),
@@ -236,9 +268,9 @@ impl Explainer<'_> {
 
     // The findings of choices.
     pub(crate) fn findings(&self, choices: &[Choice]) -> Result<Vec<Finding>, AllocError>
-        requires asked { All (λ c. Holds (HasFact self.now.asked.now) (IsPart c)) choices.now }
-        requires some { All HasMembers choices.now }
-        ensures { IfOk result (λ findings. Are (Explains self.now.traces.now self.now.keys.now) choices.now findings.items) }
+        requires knows { Knows self.now }
+        requires among { All (IsAmong self.now.asked.now) choices.now }
+        ensures { IfOk result (λ findings. Are (Explains (view_of self.now.naming self.now.traces.now) self.now.keys.now) choices.now findings.items) }
     {
         let mut findings = Vec::new(self.alloc);
         for choice in choices {

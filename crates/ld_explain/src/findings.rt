@@ -5,14 +5,16 @@ ghost use Rattle.ld_trace.specs.declared.raw_trace.TheConstants.{MAX_TRACES};
 ghost use Rattle.ld_task.specs.WellFormed.{IsWellFormed};
 ghost use Rattle.ld_facts.specs.FactBits.{HasFact};
 ghost use Rattle.ld_facts.specs.Facts.{AreSame};
-ghost use Rattle.ld_facts.specs.TraceFacts.{TracesHave};
 ghost use Rattle.ld_explain.specs.Findings.{AreFindings};
+ghost use Rattle.ld_explain.specs.Naming.{view_of};
+ghost use Rattle.ld_explain.specs.Origins.{ViewHas};
 
 use crate::choices::Choices;
 use crate::evidence::Evidence;
 use crate::explainer::Explainer;
 use crate::finding::Finding;
 use crate::found::Found;
+use crate::naming::Naming;
 use ld_parts::Settled;
 use ld_trace::{KeyId, RawTrace};
 use std::alloc::{AllocError, Global};
@@ -26,21 +28,23 @@ pub fn findings_of(
     alloc: Global,
     settled: &Settled,
     traces: &[RawTrace],
+    naming: Naming<'_>,
     keys: &[KeyId],
 ) -> Result<Vec<Finding>, AllocError>
     requires few { length traces.now ≤ MAX_TRACES }
     requires well_formed { All IsWellFormed traces.now }
-    requires facts { AreSame (HasFact settled.now) (TracesHave traces.now) }
-    ensures { IfOk result (λ findings. AreFindings (HasFact settled.now) traces.now keys.now findings.items) }
+    requires facts { AreSame (HasFact settled.now) (ViewHas (view_of naming traces.now)) }
+    ensures { IfOk result (λ findings. AreFindings (HasFact settled.now) (view_of naming.entry traces.now) keys.now findings.items) }
 {
     if settled.is_clean() {
         return Ok(Vec::new(alloc));
     }
     let found = Found::of(alloc, settled, keys)?;
     let choices = Choices::of(alloc, settled, &found)?;
-    let evidence = Evidence::of(alloc, traces, &choices.asked)?;
+    let evidence = Evidence::of(alloc, traces, naming, &choices.asked)?;
     let explainer = Explainer {
         traces,
+        naming,
         asked: &choices.asked,
         evidence: &evidence,
         keys,

@@ -38,11 +38,19 @@ IsPart (ByWalk walk) x = IsMember walk.items x
 IsPart (ByLink l) x = IsMark l x
 IsPart (ByBoth walk l) x = IsMember walk.items x ⊎ IsMark l x
 
--- all that is asked about are facts, and each fact of a choice is asked about
+-- its facts are among these, and a circle has members
+abbrev pub HasMembers : Choice → Type 0
+HasMembers (ByWalk walk) = 0 < length walk.items
+HasMembers _ = Unit {0}
+
+abbrev pub IsAmong : FactParts → Choice → Type 0
+IsAmong facts c = Holds (HasFact facts) (IsPart c) × HasMembers c
+
+-- all that is asked about are facts, and each choice is among what is asked about
 pub record AreAsked (facts : FactParts) (choices : Choices) : Type 0 where
   pub keys : choices.asked.keys ≡ facts.keys
   pub are : Holds (HasFact facts) (HasFact choices.asked)
-  pub each : All (λ c. Holds (HasFact choices.asked) (IsPart c)) choices.list.items
+  pub each : All (IsAmong choices.asked) choices.list.items
 
 -- ---- one choice more
 -- it was added, and its facts are asked about too
