@@ -10,7 +10,8 @@ use Rattle.ld_facts.specs.Arrows.{Arrow}
 use Rattle.ld_explain.specs.Notes.{IsAloneIn}
 use Rattle.ld_text.specs.Explanation.{AreNoteLines, note_line, dependency_text, gate_note, listed_text}
 use Rattle.ld_text.specs.Groups.{GrowsBy, InSequence, InTurn}
-use Rattle.ld_text.specs.Words.{Text, key_text, name_at}
+use Rattle.ld_trace.specs.Writing.{name_at}
+use Rattle.ld_text.specs.Words.{Text, key_text}
 use Rattle.ld_text.specs.Inside.Telling.{separator_at}
 
 -- ---- lists of notes

@@ -13,9 +13,9 @@ use Rattle.ld_graph.specs.Walks.{IsShortestCircle, OnCircle}
 use Rattle.ld_graph.specs.Links.{IsClean}
 use Rattle.ld_facts.specs.Counting.{IsNumberOf}
 use Rattle.ld_facts.specs.TraceFacts.{TracesHave}
-use Rattle.ld_trace.specs.Writing.{irq_word}
+use Rattle.ld_trace.specs.Writing.{irq_word, name_at}
 use Rattle.ld_explain.specs.Found.{states}
-use Rattle.ld_text.specs.Words.{key_text, kind_text, name_at}
+use Rattle.ld_text.specs.Words.{key_text, kind_text}
 use Rattle.ld_text.specs.Order.{IsKeyOrder, name_cmp}
 use Rattle.ld_explain.specs.Found.{AreFound, FoundParts}
 use Rattle.ld_text.specs.Groups.{InSequence, InTurn}
