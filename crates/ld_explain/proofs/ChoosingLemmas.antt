@@ -1,7 +1,7 @@
 -- How walks are chosen, one finding after the other, and what is asked about for them.
-use Rattle.std.proofs.Common.{◌≡◌, ◌↔◌, ◌⊎◌, ℕ, Bool, true, false, ◌<◌, List, [], ◌∷◌, ◌++◌, All, Contains, length, map, slice_index_or, take, ◌+◌, refl, sym, ap, ◌∙◌, subst, inl, inr, arith}
+use Rattle.std.proofs.Common.{◌≡◌, ◌↔◌, ◌⊎◌, ℕ, Bool, true, false, ◌<◌, List, [], ◌∷◌, ◌++◌, All, Contains, length, map, slice_index_or, Some, slice_get, take, ◌+◌, refl, sym, ap, ◌∙◌, subst, inl, inr, arith}
 use Rattle.std.proofs.lemmas.List.{append_assoc, append-nil, take_more}
-use Rattle.std.proofs.lemmas.List.Elements.{All-contains, All-contains_itself, All-weaker}
+use Rattle.std.proofs.lemmas.List.Elements.{All-contains, All-contains_itself, All-weaker, Contains-append_left, Contains-push, Contains-push_cases}
 use Rattle.ld_trace.specs.declared.event.Irq.{Irq}
 use Rattle.ld_task.specs.Kinds.{is_r-kind_of_letters, is_s-kind_of_letters}
 use Rattle.ld_task.specs.declared.kind.Kind.{Kind}
@@ -16,14 +16,65 @@ use Rattle.ld_facts.specs.declared.fact.Fact.TheVariants.{Dependency, Marked}
 use Rattle.ld_graph.specs.Links.{IsDoubleBy, IsShortestInversion, link_by}
 use Rattle.ld_graph.specs.Walks.{IsShortestFrom}
 use Rattle.ld_explain.specs.Findings.{AreReported}
-use Rattle.ld_text.specs.Groups.{InSequence, InTurn}
 use Rattle.ld_explain.specs.Inside.Choosing.{AreChosen, Asks, AsksMarks, IsToldCircle, IsToldDouble, IsToldInversion, keys_of}
 use Rattle.ld_explain.specs.declared.chosen.ToldInversion.{ToldInversion}
-use Rattle.ld_text.proofs.TellingLemmas.{shortest-some}
+use Rattle.ld_graph.specs.Laws.Facts.{StrongWalk-members}
+use Rattle.ld_explain.specs.Laws.Lists.{take-next}
 
 -- one more of a list
 pub take-item : {X : Type 0} (xs : List X) (i : ℕ) (x : X) → x ≡ slice_index_or xs i x → i < length xs → take (i + 1) xs ≡ take i xs ++ x ∷ []
 take-item xs i x is within = take_more xs i x within ∙ ap (λ y. take i xs ++ y ∷ []) (sym is)
+
+-- what a shortest walk from a dependency is
+module _ (Has : Fact → Type 0) (d : Arrow) (walk : List Arrow) (shortest : IsShortestFrom Has d walk) where
+  pub shortest-some : 0 < length walk
+  shortest-some = subst (λ w. 0 < length w) (sym shortest.walk_is) (let l : 0 < length (d ∷ shortest.rest) = omega arith in l)
+
+  pub shortest-are : All (DependenciesOf Has) walk
+  shortest-are = subst (All (DependenciesOf Has)) (sym shortest.walk_is)
+      (StrongWalk-members (DependenciesOf Has) d shortest.rest shortest.closed.0)
+
+-- the arrow of a dependency
+abbrev arrow_from : Fact → Arrow → Arrow
+arrow_from (Dependency from to kind) d = arrow from to kind
+arrow_from (Marked key mark) d = d
+
+-- no member was told yet
+pub told-none : (set : FactParts) (walk : List Arrow) (d : Arrow) → DependenciesOf (HasFact set) d ↔ (DependenciesOf (HasFact set) d ⊎ Contains (take 0 walk) d)
+told-none set walk d = (λ h. inl h, λ h. back h)
+  where
+    back : DependenciesOf (HasFact set) d ⊎ Contains (take 0 walk) d → DependenciesOf (HasFact set) d
+    back (inl h) = h
+    back (inr (k, l, e)) = absurd (omega (arith, l))
+
+-- one member more was told
+pub told-next : (old mid new : FactParts) (walk : List Arrow) (i : ℕ) (x : Arrow) → slice_get walk i ≡ Some x → i < length walk →
+    ((d : Arrow) → DependenciesOf (HasFact mid) d ↔ (DependenciesOf (HasFact old) d ⊎ Contains (take i walk) d)) →
+    Adds (HasFact mid) (HasFact new) (λ y. y ≡ Dependency x.start x.end x.kind) →
+    (d : Arrow) → DependenciesOf (HasFact new) d ↔ (DependenciesOf (HasFact old) d ⊎ Contains (take (i + 1) walk) d)
+told-next old mid new walk i x is within so_far adds d =
+    subst (λ xs. DependenciesOf (HasFact new) d ↔ (DependenciesOf (HasFact old) d ⊎ Contains xs d)) (sym (take-next walk i x is within)) (
+      λ h. forth ((adds (Dependency d.start d.end d.kind)).0 h),
+      λ h. (adds (Dependency d.start d.end d.kind)).1 (back h),
+    )
+  where
+    before : DependenciesOf (HasFact old) d ⊎ Contains (take i walk) d → DependenciesOf (HasFact old) d ⊎ Contains (take i walk ++ x ∷ []) d
+    before (inl h) = inl h
+    before (inr h) = inr (Contains-append_left (take i walk) (x ∷ []) d h)
+
+    forth : DependenciesOf (HasFact mid) d ⊎ (Dependency d.start d.end d.kind ≡ Dependency x.start x.end x.kind) →
+        DependenciesOf (HasFact old) d ⊎ Contains (take i walk ++ x ∷ []) d
+    forth (inl h) = before ((so_far d).0 h)
+    forth (inr same) = let e : x ≡ d = sym (ap (λ y. arrow_from y d) same) in
+        inr (subst (Contains (take i walk ++ x ∷ [])) e (Contains-push (take i walk) x))
+
+    last_back : Contains (take i walk) d ⊎ (x ≡ d) → DependenciesOf (HasFact mid) d ⊎ (Dependency d.start d.end d.kind ≡ Dependency x.start x.end x.kind)
+    last_back (inl h) = inl ((so_far d).1 (inr h))
+    last_back (inr e) = inr (ap (λ y. Dependency y.start y.end y.kind) (sym e))
+
+    back : DependenciesOf (HasFact old) d ⊎ Contains (take i walk ++ x ∷ []) d → DependenciesOf (HasFact mid) d ⊎ (Dependency d.start d.end d.kind ≡ Dependency x.start x.end x.kind)
+    back (inl h) = inl ((so_far d).1 (inl h))
+    back (inr h) = last_back (Contains-push_cases (take i walk) x d h)
 
 -- ---- circles
 AreReported-append : (Has : Fact → Type 0) (before : List (List Arrow)) (xs ys : List Arrow) (a b : List (List Arrow)) →
@@ -186,6 +237,11 @@ module _ (facts : FactParts) (irq : Irq) (key : ℕ) (enabled used : Bool) (by :
   pub double-enabled : HasFact facts (Marked key (Enabled irq enabled))
   double-enabled = subst (λ s. HasFact facts (Marked key (Enabled irq s))) (is_s-kind_of_letters enabled used) by.0.0
 
+-- the walk of an inversion is of dependencies
+pub inversion-are : (Has : Fact → Type 0) (irq : Irq) (a b : ℕ) (l : Arrow) (walk : List Arrow) → IsShortestInversion Has irq a b l walk → All (DependenciesOf Has) walk
+inversion-are Has irq a b l walk shortest = subst (All (DependenciesOf Has)) (sym shortest.walk_is)
+    (StrongWalk-members (DependenciesOf Has) shortest.first shortest.rest shortest.closed.0.0)
+
 -- an inversion whose walk and marks are asked about
 pub inversion-told : (facts asked : FactParts) (x : ToldInversion) → IsShortestInversion (HasFact facts) x.irq x.a x.b (link_by x.b x.a x.enabled_read x.used_read) x.walk →
     All (DependenciesOf (HasFact asked)) x.walk → AsksMarks facts asked x.irq x.a → AsksMarks facts asked x.irq x.b → IsToldInversion facts asked x
@@ -195,18 +251,3 @@ inversion-told facts asked x by are marks_a marks_b = record {
   used = (marks_a x.used_read).0 (link-used facts x.irq x.a x.b x.enabled_read x.used_read x.walk by);
   enabled = (marks_b x.enabled_read).1 (link-enabled facts x.irq x.a x.b x.enabled_read x.used_read x.walk by);
 }
-
--- ---- texts of findings by what was chosen
-module _ {A : Type 0} (I : Irq × (ℕ × ℕ) → List A → Type 0) where
-  InTurn-keys : (xs : List ToldInversion) (text : List A) → InTurn (λ x. I (keys_of x)) xs text → InTurn I (map keys_of xs) text
-  unfolding InSequence
-  InTurn-keys [] text none = none
-  InTurn-keys (x ∷ xs) text (first, rest, here, others, is) = (first, rest, here, InTurn-keys xs rest others, is)
-
-  pub told-all : (R : List Arrow → List A → Type 0) (D : Irq × ℕ → List A → Type 0) (circles : List (List Arrow)) (doubles : List (Irq × ℕ)) (chosen : List ToldInversion)
-      (inversions : List (Irq × (ℕ × ℕ))) (text : List A) → map keys_of chosen ≡ inversions →
-      InSequence (InTurn R circles ∷ InTurn D doubles ∷ InTurn (λ x. I (keys_of x)) chosen ∷ []) text →
-      InSequence (InTurn R circles ∷ InTurn D doubles ∷ InTurn I inversions ∷ []) text
-  unfolding InSequence
-  told-all R D circles doubles chosen inversions text same (a, more, first, (b, last, second, (c, none, third, ends, e3), e2), e1) =
-      (a, more, first, (b, last, second, (c, none, subst (λ xs. InTurn I xs c) same (InTurn-keys chosen c third), ends, e3), e2), e1)

@@ -8,7 +8,7 @@ use Rattle.ld_graph.specs.Walks.{OnCircle}
 use Rattle.ld_facts.specs.declared.fact.Fact.{Fact}
 use Rattle.ld_explain.specs.Found.{AreFound, AreThose, arrows_among, doubles_among, inversions_among}
 use Rattle.ld_explain.specs.Inside.Finding.{AddsThose}
-use Rattle.ld_text.proofs.GroupLemmas.{flat_map-next}
+use Rattle.ld_explain.specs.Laws.Lists.{flat_map-next}
 
 -- one thing more of a list
 pub map-next : {X Y : Type 0} (f : X → Y) (xs : List X) (i : ℕ) (d : X) → i < length xs → map f (take (i + 1) xs) ≡ map f (take i xs) ++ f (slice_index_or xs i d) ∷ []

@@ -89,7 +89,9 @@ pub record AreFindings (Has : Fact → Type 0) (traces : List (List Event)) (key
   pub found_are : AreFound Has keys found
   pub walks : List (List Arrow)
   pub walks_are : AreReported Has [] found.circles walks
-  pub circles doubles inversions : List Finding
+  pub circles : List Finding
+  pub doubles : List Finding
+  pub inversions : List Finding
   pub circles_are : Are (IsCircle traces keys) walks circles
   pub doubles_are : Are (IsTheDouble Has traces) found.doubles doubles
   pub inversions_are : Are (IsTheInversion Has traces keys) found.inversions inversions

@@ -1,2 +1,3 @@
 -- What holds of all findings: equal facts have equal ones.
 pub mod Found
+pub mod Lists

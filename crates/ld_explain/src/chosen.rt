@@ -14,7 +14,7 @@ ghost use Rattle.ld_explain.specs.Inside.Choosing.{AreChosen, AreToldBy, Asks, A
 
 use crate::found::{Dependency, Found};
 use crate::told_walk::{ToldWalk, member};
-use ld_explain::Asked;
+use crate::asked::Asked;
 use ld_facts::Fact;
 use ld_graph::{Mark, Walk};
 use ld_parts::Settled;

@@ -18,8 +18,8 @@ use ld_trace::{Irq, KeyId};
 use std::alloc::{AllocError, Global};
 use std::marker::Model;
 
-// The four kinds, in the report's order.
-pub(crate) const KINDS: [Kind; 4] = [Kind::Er, Kind::En, Kind::Sr, Kind::Sn];
+/// The four kinds, in the report's order.
+pub const KINDS: [Kind; 4] = [Kind::Er, Kind::En, Kind::Sr, Kind::Sn];
 
 // A dependency.
 #[derive(Drop)]
@@ -97,8 +97,8 @@ impl Found {
     }
 }
 
-// Whether a dependency of some kind leads from the one key to the other.
-pub(crate) fn has_dependency(settled: &Settled, from: KeyId, to: KeyId) -> bool
+/// Whether a dependency of some kind leads from the one key to the other. If false none does.
+pub fn has_dependency(settled: &Settled, from: KeyId, to: KeyId) -> bool
     ensures { IsFalse result → (kind : Kind) → ¬ HasFact settled.now (Fact.Dependency from to kind) }
 {
     let facts = settled.facts();
@@ -110,8 +110,8 @@ pub(crate) fn has_dependency(settled: &Settled, from: KeyId, to: KeyId) -> bool
     er || en || sr || sn
 }
 
-// Whether the key is used in the state. If it isn't, no inversion begins with it.
-pub(crate) fn is_used_in(settled: &Settled, irq: Irq, a: KeyId) -> bool
+/// Whether the key is used in the state. If it isn't, no inversion begins with it.
+pub fn is_used_in(settled: &Settled, irq: Irq, a: KeyId) -> bool
     ensures { IsFalse result → (b : ℕ) → ¬ IsInversion (HasFact settled.now) irq a b }
 {
     let used = settled.has_mark(a.get(), Mark::UsedIn { irq, read: false });

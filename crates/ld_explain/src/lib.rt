@@ -15,7 +15,7 @@ mod told_walk;
 pub use asked::Asked;
 pub use evidence::Evidence;
 pub use finding::{Finding, GateNote, Order};
-pub use found::{Dependency, Found};
+pub use found::{Dependency, Found, KINDS, has_dependency, is_used_in};
 pub use guard::Guard;
 pub use guards::Guards;
 pub use origins::{Origin, Origins};

@@ -18,7 +18,7 @@ use Rattle.ld_task.specs.Steps.{GoesOn, IsStateAfter}
 use Rattle.ld_task.specs.TraceChains.{chain, chains}
 use Rattle.ld_text.specs.ChainLines.{chain_line, chains_text, lines_before, lock_text, taken_text}
 use Rattle.ld_text.specs.Output.{AppendsBeginning, PutsBehind}
-use Rattle.ld_text.proofs.GroupLemmas.{flat_map-next}
+use Rattle.ld_explain.specs.Laws.Lists.{flat_map-next}
 use Rattle.ld_text.proofs.OutputLemmas.{AppendsBeginning-append, AppendsBeginning-more, PutsBehind-append}
 
 -- the text of a held lock that was looked up

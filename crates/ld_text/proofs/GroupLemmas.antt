@@ -2,13 +2,8 @@
 use Rattle.std.proofs.Common.{◌≡◌, ℕ, ◌+◌, ◌<◌, List, [], ◌∷◌, ◌++◌, take, length, slice_index_or, refl, sym, ap, ◌∙◌, subst, inr}
 use Rattle.std.specs.List.{flat_map}
 use Rattle.std.proofs.lemmas.List.{append_assoc, append-nil, take_more}
-use Rattle.std.proofs.lemmas.List.Concat.{flat_map-append}
+use Rattle.ld_explain.specs.Laws.Lists.{flat_map-next}
 use Rattle.ld_text.specs.Groups.{GrowsBy, InSequence, InTurn, ShowsWhere}
-
-pub flat_map-next : {X Y : Type 0} (f : Y → List X) (keys : List Y) (i : ℕ) (d : Y) → i < length keys → flat_map f (take (i + 1) keys) ≡ flat_map f (take i keys) ++ f (slice_index_or keys i d)
-flat_map-next f keys i d within =
-    ap (flat_map f) (take_more keys i d within) ∙ flat_map-append f (take i keys) (slice_index_or keys i d ∷ [])
-    ∙ ap (λ t. flat_map f (take i keys) ++ t) (append-nil (f (slice_index_or keys i d)))
 
 -- after the texts of the things of a list so far, that of one thing more
 pub flat_map-grows : {X Y : Type 0} (f : Y → List X) (xs : List Y) (i : ℕ) (y : Y) (old mid new : List X) → y ≡ slice_index_or xs i y → i < length xs →

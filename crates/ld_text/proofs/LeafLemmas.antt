@@ -14,6 +14,7 @@ use Rattle.ld_facts.specs.TraceFacts.{TracesHave}
 use Rattle.ld_explain.specs.Origins.{IsFirst, IsOriginOf}
 use Rattle.ld_explain.specs.declared.origins.Origin.{Origin}
 use Rattle.ld_text.specs.Explanation.{IsOriginLine, Told, occurrence_text, waits_line, waits_text}
+use Rattle.ld_explain.specs.Laws.Lists.{take-next}
 use Rattle.ld_text.specs.Groups.{GrowsBy}
 use Rattle.ld_text.specs.Report.{member_text}
 
@@ -37,10 +38,6 @@ origin_line told words x origin old begun new first one two =
 -- a text that is known
 pub GrowsBy-is : (t old new : List ℕ) → new ≡ old ++ t → GrowsBy (λ text. text ≡ t) old new
 GrowsBy-is t old new grew = record { part = t; shows = refl; grew = grew }
-
--- one thing more of a list
-pub take-next : {X : Type 0} (xs : List X) (i : ℕ) (d : X) → slice_get xs i ≡ Some d → i < length xs → take (i + 1) xs ≡ take i xs ++ d ∷ []
-take-next xs i d is within = take_more xs i d within ∙ ap (λ x. take i xs ++ x ∷ []) (get_or_from_slice_get xs i d d is)
 
 -- one member more
 pub members_more : (names : List Name) (walk : List Arrow) (i : ℕ) (d : Arrow) (old mid new : List ℕ) → slice_get walk i ≡ Some d → i < length walk →

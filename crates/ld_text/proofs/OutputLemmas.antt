@@ -6,7 +6,7 @@ use Rattle.std.proofs.lemmas.List.{append_assoc, append-nil, take-append-drop, d
 use Rattle.std.proofs.KnownBytes.{Appends-trans, Appends-nil}
 use Rattle.std.proofs.lemmas.List.Concat.{flat_map-append}
 use Rattle.ld_text.specs.Output.{AppendsBeginning, PutsBehind}
-use Rattle.ld_text.proofs.GroupLemmas.{flat_map-next}
+use Rattle.ld_explain.specs.Laws.Lists.{flat_map-next}
 
 -- what holds anyway holds of an error
 pub OnErr-anyway : {T E P : Type 0} (r : Result T E) → P → OnErr r P

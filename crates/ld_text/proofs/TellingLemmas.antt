@@ -18,60 +18,9 @@ use Rattle.ld_text.specs.Groups.{GrowsBy, InTurn}
 use Rattle.ld_text.specs.Report.{double_line, inversion_line}
 use Rattle.ld_trace.specs.Writing.{irq_word}
 use Rattle.ld_text.proofs.GroupLemmas.{GrowsBy-none, GrowsBy-then}
-use Rattle.ld_text.proofs.LeafLemmas.{take-next}
+use Rattle.ld_explain.specs.Laws.Lists.{take-next}
 
 -- Circles.
-
--- what a shortest walk from a dependency is
-module _ (Has : Fact → Type 0) (d : Arrow) (walk : List Arrow) (shortest : IsShortestFrom Has d walk) where
-  pub shortest-some : 0 < length walk
-  shortest-some = subst (λ w. 0 < length w) (sym shortest.walk_is) (let l : 0 < length (d ∷ shortest.rest) = omega arith in l)
-
-  pub shortest-are : All (DependenciesOf Has) walk
-  shortest-are = subst (All (DependenciesOf Has)) (sym shortest.walk_is)
-      (StrongWalk-members (DependenciesOf Has) d shortest.rest shortest.closed.0)
-
--- the arrow of a dependency
-abbrev arrow_from : Fact → Arrow → Arrow
-arrow_from (Dependency from to kind) d = arrow from to kind
-arrow_from (Marked key mark) d = d
-
--- no member was told yet
-pub told-none : (set : FactParts) (walk : List Arrow) (d : Arrow) → DependenciesOf (HasFact set) d ↔ (DependenciesOf (HasFact set) d ⊎ Contains (take 0 walk) d)
-told-none set walk d = (λ h. inl h, λ h. back h)
-  where
-    back : DependenciesOf (HasFact set) d ⊎ Contains (take 0 walk) d → DependenciesOf (HasFact set) d
-    back (inl h) = h
-    back (inr (k, l, e)) = absurd (omega (arith, l))
-
--- one member more was told
-pub told-next : (old mid new : FactParts) (walk : List Arrow) (i : ℕ) (x : Arrow) → slice_get walk i ≡ Some x → i < length walk →
-    ((d : Arrow) → DependenciesOf (HasFact mid) d ↔ (DependenciesOf (HasFact old) d ⊎ Contains (take i walk) d)) →
-    Adds (HasFact mid) (HasFact new) (λ y. y ≡ Dependency x.start x.end x.kind) →
-    (d : Arrow) → DependenciesOf (HasFact new) d ↔ (DependenciesOf (HasFact old) d ⊎ Contains (take (i + 1) walk) d)
-told-next old mid new walk i x is within so_far adds d =
-    subst (λ xs. DependenciesOf (HasFact new) d ↔ (DependenciesOf (HasFact old) d ⊎ Contains xs d)) (sym (take-next walk i x is within)) (
-      λ h. forth ((adds (Dependency d.start d.end d.kind)).0 h),
-      λ h. (adds (Dependency d.start d.end d.kind)).1 (back h),
-    )
-  where
-    before : DependenciesOf (HasFact old) d ⊎ Contains (take i walk) d → DependenciesOf (HasFact old) d ⊎ Contains (take i walk ++ x ∷ []) d
-    before (inl h) = inl h
-    before (inr h) = inr (Contains-append_left (take i walk) (x ∷ []) d h)
-
-    forth : DependenciesOf (HasFact mid) d ⊎ (Dependency d.start d.end d.kind ≡ Dependency x.start x.end x.kind) →
-        DependenciesOf (HasFact old) d ⊎ Contains (take i walk ++ x ∷ []) d
-    forth (inl h) = before ((so_far d).0 h)
-    forth (inr same) = let e : x ≡ d = sym (ap (λ y. arrow_from y d) same) in
-        inr (subst (Contains (take i walk ++ x ∷ [])) e (Contains-push (take i walk) x))
-
-    last_back : Contains (take i walk) d ⊎ (x ≡ d) → DependenciesOf (HasFact mid) d ⊎ (Dependency d.start d.end d.kind ≡ Dependency x.start x.end x.kind)
-    last_back (inl h) = inl ((so_far d).1 (inr h))
-    last_back (inr e) = inr (ap (λ y. Dependency y.start y.end y.kind) (sym e))
-
-    back : DependenciesOf (HasFact old) d ⊎ Contains (take i walk ++ x ∷ []) d → DependenciesOf (HasFact mid) d ⊎ (Dependency d.start d.end d.kind ≡ Dependency x.start x.end x.kind)
-    back (inl h) = inl ((so_far d).1 (inl h))
-    back (inr h) = last_back (Contains-push_cases (take i walk) x d h)
 
 -- Blocks.
 
@@ -131,7 +80,3 @@ inversion-grows Has told keys irq a b enabled used walk old headed walked with_u
     (GrowsBy-then _ _ come_in new new notes (GrowsBy-none new)))))) in
     record { part = all.part; shows = record { walk = walk; l = link_by b a enabled used; by = by; text_is = all.shows }; grew = all.grew }
 
--- the walk of an inversion is of dependencies
-pub inversion-are : (Has : Fact → Type 0) (irq : Irq) (a b : ℕ) (l : Arrow) (walk : List Arrow) → IsShortestInversion Has irq a b l walk → All (DependenciesOf Has) walk
-inversion-are Has irq a b l walk shortest = subst (All (DependenciesOf Has)) (sym shortest.walk_is)
-    (StrongWalk-members (DependenciesOf Has) shortest.first shortest.rest shortest.closed.0.0)

@@ -5,7 +5,7 @@ use Rattle.ld_facts.specs.FactBits.{HasFact}
 use Rattle.ld_graph.specs.Links.{IsDouble}
 use Rattle.ld_explain.specs.Inside.Choosing.{IsToldDouble}
 use Rattle.ld_explain.proofs.ChoosingLemmas.{asks-none, asks-then, doubles-stay, take-item}
-use Rattle.ld_text.proofs.chosen.ask_doubles.Goals as goal
+use Rattle.ld_explain.proofs.chosen.ask_doubles.Goals as goal
 
 pub loop-double-init : goal.loop-double-init
 loop-double-init c = (asks-none c.args.settled.now c.args.asked.now, All-nil (IsToldDouble c.args.settled.now c.args.asked.now))

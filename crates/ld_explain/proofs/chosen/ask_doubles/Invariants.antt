@@ -1,6 +1,6 @@
 use Rattle.std.proofs.Common.{All, take}
 use Rattle.ld_explain.specs.Inside.Choosing.{Asks, IsToldDouble}
-use Rattle.ld_text.proofs.chosen.ask_doubles.Given as goal
+use Rattle.ld_explain.proofs.chosen.ask_doubles.Given as goal
 
 -- the marks of the doubles so far are asked about
 abbrev pub invariant-loop-double : goal.invariant-loop-double

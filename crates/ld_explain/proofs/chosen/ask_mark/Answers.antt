@@ -1,7 +1,7 @@
 use Rattle.std.proofs.Common.{inr, refl}
 use Rattle.ld_facts.specs.declared.fact.Fact.TheVariants.{Marked}
 use Rattle.ld_explain.proofs.ChoosingLemmas.{asks-fact, asks-none}
-use Rattle.ld_text.proofs.chosen.ask_mark.Goals as goal
+use Rattle.ld_explain.proofs.chosen.ask_mark.Goals as goal
 
 pub add-requires : goal.add-requires
 add-requires c = rw (c.requires, c.get-then-has_mark.ensures.value) (rw c.get.ensures.value at (c.has_mark.ensures.0 c.if-has_mark.true)).0

@@ -3,7 +3,7 @@ use Rattle.ld_task.specs.declared.mark.Mark.TheVariants.{Enabled, UsedIn}
 use Rattle.ld_facts.specs.declared.fact.Fact.TheVariants.{Marked}
 use Rattle.ld_explain.specs.Inside.Choosing.{AsksForm}
 use Rattle.ld_explain.proofs.ChoosingLemmas.{asks-then, both-forms}
-use Rattle.ld_text.proofs.chosen.ask_marks.Goals as goal
+use Rattle.ld_explain.proofs.chosen.ask_marks.Goals as goal
 
 pub returns-clause-asks : goal.returns-clause-asks
 returns-clause-asks c = asks-then c.args.settled.now c.args.asked.now c.ask_marks_of.new.asked c.ask_marks_of-2.new.asked c.ask_marks_of.ensures.asks c.ask_marks_of-2.ensures.asks

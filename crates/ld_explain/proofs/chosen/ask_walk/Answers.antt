@@ -6,8 +6,8 @@ use Rattle.ld_facts.specs.FactBits.{FactBelow, HasFact}
 use Rattle.ld_facts.specs.Facts.{DependenciesOf}
 use Rattle.ld_facts.specs.declared.fact.Fact.TheVariants.{Marked}
 use Rattle.ld_explain.proofs.ChoosingLemmas.{other_mark}
-use Rattle.ld_text.proofs.TellingLemmas.{told-next, told-none}
-use Rattle.ld_text.proofs.chosen.ask_walk.Goals as goal
+use Rattle.ld_explain.proofs.ChoosingLemmas.{told-next, told-none}
+use Rattle.ld_explain.proofs.chosen.ask_walk.Goals as goal
 
 pub loop-i-init : goal.loop-i-init
 loop-i-init c = (refl, told-none c.args.asked.now c.args.walk.now, λ key mark. (λ h. h, λ h. h))

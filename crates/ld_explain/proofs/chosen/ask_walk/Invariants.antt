@@ -4,7 +4,7 @@ use Rattle.ld_facts.specs.Arrows.{Arrow}
 use Rattle.ld_facts.specs.FactBits.{HasFact}
 use Rattle.ld_facts.specs.Facts.{DependenciesOf}
 use Rattle.ld_facts.specs.declared.fact.Fact.TheVariants.{Marked}
-use Rattle.ld_text.proofs.chosen.ask_walk.Given as goal
+use Rattle.ld_explain.proofs.chosen.ask_walk.Given as goal
 
 -- the members so far are asked about
 abbrev pub invariant-loop-i : goal.invariant-loop-i

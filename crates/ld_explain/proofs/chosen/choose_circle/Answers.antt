@@ -4,8 +4,8 @@ use Rattle.ld_facts.specs.Facts.{DependenciesOf}
 use Rattle.ld_graph.specs.Walks.{IsShortestFrom}
 use Rattle.ld_explain.specs.Inside.Choosing.{AreChosen}
 use Rattle.ld_explain.proofs.ChoosingLemmas.{asks-none, asks-walk, chosen-off, chosen-on}
-use Rattle.ld_text.proofs.TellingLemmas.{shortest-are}
-use Rattle.ld_text.proofs.chosen.choose_circle.Goals as goal
+use Rattle.ld_explain.proofs.ChoosingLemmas.{shortest-are}
+use Rattle.ld_explain.proofs.chosen.choose_circle.Goals as goal
 
 pub returns-in_default-clause-asks : goal.returns-in_default-clause-asks
 returns-in_default-clause-asks c = asks-none c.args.settled.now c.args.asked.now

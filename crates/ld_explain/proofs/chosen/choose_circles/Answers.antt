@@ -5,7 +5,7 @@ use Rattle.ld_graph.specs.Walks.{OnCircle}
 use Rattle.ld_explain.specs.Findings.{AreReported}
 use Rattle.ld_explain.specs.Inside.Choosing.{AreChosen}
 use Rattle.ld_explain.proofs.ChoosingLemmas.{asks-none, asks-then, chosen-circles, chosen-none, take-item}
-use Rattle.ld_text.proofs.chosen.choose_circles.Goals as goal
+use Rattle.ld_explain.proofs.chosen.choose_circles.Goals as goal
 
 pub loop-d-init : goal.loop-d-init
 loop-d-init c = (asks-none c.args.settled.now c.args.asked.now, rw c.new-circles.ensures.items (chosen-none c.args.settled.now c.args.asked.now c.requires.none))

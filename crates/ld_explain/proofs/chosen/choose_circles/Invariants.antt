@@ -1,6 +1,6 @@
 use Rattle.std.proofs.Common.{take}
 use Rattle.ld_explain.specs.Inside.Choosing.{AreChosen, Asks}
-use Rattle.ld_text.proofs.chosen.choose_circles.Given as goal
+use Rattle.ld_explain.proofs.chosen.choose_circles.Given as goal
 
 -- circles are chosen for the dependencies so far
 abbrev pub invariant-loop-d : goal.invariant-loop-d

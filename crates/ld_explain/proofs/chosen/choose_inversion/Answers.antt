@@ -2,8 +2,8 @@ use Rattle.std.proofs.Common.{◌∙◌, subst, sym}
 use Rattle.ld_facts.specs.FactBits.{HasFact}
 use Rattle.ld_graph.specs.Links.{IsShortestInversion, link_by}
 use Rattle.ld_explain.proofs.ChoosingLemmas.{asks-then, asks-walk, inversion-told, marks-stay, walk-asked, walk-stays}
-use Rattle.ld_text.proofs.TellingLemmas.{inversion-are}
-use Rattle.ld_text.proofs.chosen.choose_inversion.Goals as goal
+use Rattle.ld_explain.proofs.ChoosingLemmas.{inversion-are}
+use Rattle.ld_explain.proofs.chosen.choose_inversion.Goals as goal
 
 pub ask_walk-requires : goal.ask_walk-requires
 ask_walk-requires c =

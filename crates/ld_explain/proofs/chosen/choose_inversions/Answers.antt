@@ -5,7 +5,7 @@ use Rattle.ld_facts.specs.FactBits.{HasFact}
 use Rattle.ld_graph.specs.Links.{IsInversion}
 use Rattle.ld_explain.specs.Inside.Choosing.{IsToldInversion, keys_of}
 use Rattle.ld_explain.proofs.ChoosingLemmas.{asks-none, asks-then, inversions-stay, take-item}
-use Rattle.ld_text.proofs.chosen.choose_inversions.Goals as goal
+use Rattle.ld_explain.proofs.chosen.choose_inversions.Goals as goal
 
 pub loop-inversion-init : goal.loop-inversion-init
 loop-inversion-init c = (

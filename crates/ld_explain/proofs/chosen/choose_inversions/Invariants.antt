@@ -1,6 +1,6 @@
 use Rattle.std.proofs.Common.{◌≡◌, All, map, take}
 use Rattle.ld_explain.specs.Inside.Choosing.{Asks, IsToldInversion, keys_of}
-use Rattle.ld_text.proofs.chosen.choose_inversions.Given as goal
+use Rattle.ld_explain.proofs.chosen.choose_inversions.Given as goal
 
 -- walks are chosen for the inversions so far
 abbrev pub invariant-loop-inversion : goal.invariant-loop-inversion

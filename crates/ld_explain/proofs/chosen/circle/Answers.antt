@@ -2,7 +2,7 @@ use Rattle.std.proofs.Common.{subst, sym}
 use Rattle.ld_facts.specs.FactBits.{HasFact}
 use Rattle.ld_facts.specs.Facts.{DependenciesOf}
 use Rattle.ld_graph.specs.Walks.{IsShortestFrom}
-use Rattle.ld_text.proofs.chosen.circle.Goals as goal
+use Rattle.ld_explain.proofs.chosen.circle.Goals as goal
 
 pub returns-then-has_dep : goal.returns-then-has_dep
 returns-then-has_dep c = subst (DependenciesOf (HasFact c.args.asked.now)) c.d.view_is

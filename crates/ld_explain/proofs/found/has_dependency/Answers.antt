@@ -4,7 +4,7 @@ use Rattle.ld_facts.specs.declared.fact.Fact.{Fact}
 use Rattle.ld_facts.specs.declared.fact.Fact.TheVariants.{Dependency}
 use Rattle.ld_task.specs.declared.kind.Kind.{Kind}
 use Rattle.ld_task.specs.declared.kind.Kind.TheVariants.{Er, En, Sr, Sn}
-use Rattle.ld_text.proofs.found.has_dependency.Goals as goal
+use Rattle.ld_explain.proofs.found.has_dependency.Goals as goal
 
 -- a dependency has one of the four kinds
 no_dependency : (Has : Fact → Type 0) (from to : ℕ) (er en sr sn : Bool) →

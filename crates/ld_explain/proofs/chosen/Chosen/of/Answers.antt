@@ -1,6 +1,6 @@
 use Rattle.std.proofs.Common.{◌∙◌, inl, inr}
 use Rattle.ld_explain.proofs.ChoosingLemmas.{circles-stay, doubles-stay}
-use Rattle.ld_text.proofs.chosen.Chosen.of.Goals as goal
+use Rattle.ld_explain.proofs.chosen.Chosen.of.Goals as goal
 
 pub ask_doubles-requires-clause-bound : goal.ask_doubles-requires-clause-bound
 ask_doubles-requires-clause-bound c = c.in_ok-circles.ensures.asks.keys ∙ c.requires.bound

@@ -1,5 +1,5 @@
 use Rattle.ld_explain.proofs.FindingLemmas.{AddsThose-off}
-use Rattle.ld_text.proofs.found.Finder.add_circle.Goals as goal
+use Rattle.ld_explain.proofs.found.Finder.add_circle.Goals as goal
 
 pub returns-else-on_circle : goal.returns-else-on_circle
 returns-else-on_circle c = AddsThose-off _ _ _

@@ -5,7 +5,7 @@ use Rattle.ld_graph.specs.Walks.{OnCircle}
 use Rattle.ld_facts.specs.Arrows.{arrow}
 use Rattle.ld_explain.specs.Found.{kinds}
 use Rattle.ld_explain.specs.Inside.Finding.{AddsThose}
-use Rattle.ld_text.proofs.found.Finder.add_circles_from.Given as goal
+use Rattle.ld_explain.proofs.found.Finder.add_circles_from.Given as goal
 
 -- those of the things so far
 abbrev pub invariant-loop-to : goal.invariant-loop-to

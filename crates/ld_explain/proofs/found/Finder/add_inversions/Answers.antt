@@ -5,7 +5,7 @@ use Rattle.ld_graph.specs.Links.{IsInversion}
 use Rattle.ld_explain.specs.Inside.Finding.{AddsThose}
 use Rattle.ld_explain.specs.Found.{states}
 use Rattle.ld_explain.proofs.FindingLemmas.{AddsThose-next}
-use Rattle.ld_text.proofs.found.Finder.add_inversions.Goals as goal
+use Rattle.ld_explain.proofs.found.Finder.add_inversions.Goals as goal
 
 pub loop-irq-preserved : goal.loop-irq-preserved
 loop-irq-preserved c = AddsThose-next _ (λ irq. flat_map (λ a. map (λ b. (irq, (a, b))) c.args.self.keys.now) c.args.self.keys.now) _ _ _ _ _ _ c.loop-irq-test.true c.loop-irq.invariant c.in_ok-add_inversions_of.ensures

@@ -3,7 +3,7 @@ use Rattle.std.specs.List.{flat_map}
 use Rattle.ld_facts.specs.FactBits.{HasFact}
 use Rattle.ld_graph.specs.Links.{IsInversion}
 use Rattle.ld_explain.specs.Inside.Finding.{AddsThose}
-use Rattle.ld_text.proofs.found.Finder.add_inversions.Given as goal
+use Rattle.ld_explain.proofs.found.Finder.add_inversions.Given as goal
 
 -- those of the things so far
 abbrev pub invariant-loop-irq : goal.invariant-loop-irq

@@ -1,5 +1,5 @@
 use Rattle.ld_explain.proofs.FindingLemmas.{AddsThose-map_never, AddsThose-map_next_item}
-use Rattle.ld_text.proofs.found.Finder.add_inversions_from.Goals as goal
+use Rattle.ld_explain.proofs.found.Finder.add_inversions_from.Goals as goal
 
 pub returns-then-not-is_used_in : goal.returns-then-not-is_used_in
 returns-then-not-is_used_in c =

@@ -2,7 +2,7 @@ use Rattle.std.proofs.Common.{map, take}
 use Rattle.ld_facts.specs.FactBits.{HasFact}
 use Rattle.ld_graph.specs.Links.{IsInversion}
 use Rattle.ld_explain.specs.Inside.Finding.{AddsThose}
-use Rattle.ld_text.proofs.found.Finder.add_inversions_from.Given as goal
+use Rattle.ld_explain.proofs.found.Finder.add_inversions_from.Given as goal
 
 -- those of the things so far
 abbrev pub invariant-loop-b : goal.invariant-loop-b

@@ -2,7 +2,7 @@ use Rattle.std.proofs.Common.{subst, sym}
 use Rattle.ld_facts.specs.FactBits.{HasFact}
 use Rattle.ld_explain.specs.Found.{AreFound}
 use Rattle.ld_explain.proofs.FindingLemmas.{AreFound-nothing}
-use Rattle.ld_text.proofs.found.Found.of.Goals as goal
+use Rattle.ld_explain.proofs.found.Found.of.Goals as goal
 
 pub returns-then-is_clean : goal.returns-then-is_clean
 returns-then-is_clean c = subst (AreFound (HasFact c.args.settled.now) c.args.keys.now) (sym c.none.ensures)

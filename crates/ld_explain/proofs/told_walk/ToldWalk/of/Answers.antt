@@ -1,7 +1,7 @@
 use Rattle.std.proofs.Common.{◌∙◌, ◌<◌, ◌++◌, ◌∷◌, [], ap, arith, length, sym}
 use Rattle.std.proofs.lemmas.List.{take_all}
-use Rattle.ld_text.proofs.told_walk.ToldWalk.of.Goals as goal
-use Rattle.ld_text.proofs.LeafLemmas.{take-next}
+use Rattle.ld_explain.proofs.told_walk.ToldWalk.of.Goals as goal
+use Rattle.ld_explain.specs.Laws.Lists.{take-next}
 
 pub loop-i-preserved : goal.loop-i-preserved
 loop-i-preserved c =

@@ -1,5 +1,5 @@
 use Rattle.std.proofs.Common.{◌≡◌, take}
-use Rattle.ld_text.proofs.told_walk.ToldWalk.of.Given as goal
+use Rattle.ld_explain.proofs.told_walk.ToldWalk.of.Given as goal
 
 -- the members so far
 abbrev pub invariant-loop-i : goal.invariant-loop-i
