@@ -12,16 +12,24 @@ use crate::explainer::Explainer;
 use crate::words::file_of;
 use json::Writer;
 use ld_explain::{Dependency, GateNote, Order};
+use ld_trace::KeyId;
 use std::alloc::AllocError;
 
 impl Explainer<'_> {
+    // A key.
+    pub(crate) fn write_key(&self, w: &mut Writer, key: KeyId) -> Result<(), AllocError>
+        ensures { OnOk result (Adds w.old w.new (string (key_text (name_at self.now.names key)) ∷ [])) }
+    {
+        w.string(self.key(key))
+    }
+
     // The keys that the members of a walk lead from.
     pub(crate) fn write_each_key(&self, w: &mut Writer, walk: &[Order]) -> Result<(), AllocError>
         ensures { OnOk result (Adds w.old w.new
             (map (λ order. string (key_text (name_at self.now.names order.dependency.start))) walk.now)) }
     {
         for order in walk {
-            w.string(self.key(order.dependency.from))?;
+            self.write_key(w, order.dependency.from)?;
         }
         Ok(())
     }

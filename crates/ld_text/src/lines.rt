@@ -1,7 +1,7 @@
 //! The lines of an explanation: where facts come from, and who waits for whom.
 
 ghost use Rattle.std.specs.Prelude.{◌≡◌, ◌++◌, ◌≤◌, OnOk, codes, flat_map, string_bytes};
-ghost use Rattle.ld_text.specs.Explanation.{comes_line, dependency_text, does_text, enabled_line, event_of, holds_line, lock_of, occurrence_text, order_line, used_line, waits_text, while_text};
+ghost use Rattle.ld_text.specs.Explanation.{comes_line, dependency_text, does_text, enabled_line, event_of, holds_line, lock_of, occurrence_text, order_line, used_line, waits_line, waits_text, while_text};
 ghost use Rattle.ld_text.specs.Report.{member_text};
 
 use crate::explainer::Explainer;
@@ -153,11 +153,24 @@ impl Explainer<'_> {
         self.add_origin(text, origin)
     }
 
+    // A task that holds the lock that a dependency leads from, and waits for the other.
+    pub(crate) fn add_wait(
+        &self,
+        text: &mut String,
+        task: usize,
+        d: &Dependency,
+    ) -> Result<(), AllocError>
+        ensures { OnOk result (string_bytes text.new ≡ string_bytes text.old ++ waits_line self.now.names task d.now) }
+    {
+        let (from, to) = (self.key(d.from), self.key(d.to));
+        writeln!(text, "  task {task} holds {from} and waits for {to}")
+    }
+
     // Each member of a walk as a task that waits; the tasks are numbered from this one on.
     pub(crate) fn add_waits(
         &self,
         text: &mut String,
-        first: u32,
+        first: usize,
         walk: &[Order],
     ) -> Result<(), AllocError>
         requires { first ≤ 2 }
@@ -165,25 +178,26 @@ impl Explainer<'_> {
             ≡ string_bytes text.old ++ waits_text self.now.names first walk.now) }
     {
         for i in 0..walk.len() {
-            let d = &walk[i].dependency;
-            let (from, to) = (self.key(d.from), self.key(d.to));
-            let task = first as usize + i;
-            writeln!(text, "  task {task} holds {from} and waits for {to}")?;
+            self.add_wait(text, first + i, &walk[i].dependency)?;
         }
         Ok(())
     }
 
-    // The members of a walk, each by its kind and the key that it leads to.
+    // A member of a walk, by its kind and the key that it leads to.
+    pub(crate) fn add_member(&self, text: &mut String, d: &Dependency) -> Result<(), AllocError>
+        ensures { OnOk result (string_bytes text.new ≡ string_bytes text.old ++ member_text self.now.names d.now) }
+    {
+        let (kind, to) = (kind_word(d.kind), self.key(d.to));
+        write!(text, " {kind} {to}")
+    }
+
+    // The members of a walk.
     pub(crate) fn add_members(&self, text: &mut String, walk: &[Order]) -> Result<(), AllocError>
         ensures { OnOk result (string_bytes text.new ≡ string_bytes text.old
             ++ flat_map (λ order. member_text self.now.names order.dependency) walk.now) }
     {
         for order in walk {
-            let (kind, to) = (
-                kind_word(order.dependency.kind),
-                self.key(order.dependency.to),
-            );
-            write!(text, " {kind} {to}")?;
+            self.add_member(text, &order.dependency)?;
         }
         Ok(())
     }

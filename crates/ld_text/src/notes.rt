@@ -1,7 +1,7 @@
 //! What speaks against a finding, in words.
 
-ghost use Rattle.std.specs.Prelude.{◌≡◌, ◌++◌, OnOk, flat_map, string_bytes};
-ghost use Rattle.ld_text.specs.Explanation.{gate_lines, gate_note, listed_text, note_line, only_notes};
+ghost use Rattle.std.specs.Prelude.{◌≡◌, ◌++◌, OnOk, codes, flat_map, string_bytes};
+ghost use Rattle.ld_text.specs.Explanation.{dependency_text, gate_lines, gate_note, listed_text, note_line, only_notes};
 
 use crate::explainer::Explainer;
 use crate::words::file_of;
@@ -9,18 +9,28 @@ use ld_explain::{Dependency, GateNote};
 use std::alloc::AllocError;
 
 impl Explainer<'_> {
+    // Dependencies, each after a comma.
+    pub(crate) fn add_further(&self, text: &mut String, ds: &[Dependency]) -> Result<(), AllocError>
+        ensures { OnOk result (string_bytes text.new ≡ string_bytes text.old
+            ++ flat_map (λ d. codes ", " ++ dependency_text self.now.names d) ds.now) }
+    {
+        for d in ds {
+            self.add_dependency(text, ", ", d)?;
+        }
+        Ok(())
+    }
+
     // Dependencies, the first after a colon and each further one after a comma.
     pub(crate) fn add_listed(&self, text: &mut String, ds: &[Dependency]) -> Result<(), AllocError>
         ensures { OnOk result (string_bytes text.new ≡ string_bytes text.old ++ listed_text self.now.names ds.now) }
     {
-        let Some((first, rest)) = ds.split_first() else {
-            return Ok(());
-        };
-        self.add_dependency(text, ": ", first)?;
-        for d in rest {
-            self.add_dependency(text, ", ", d)?;
+        match ds.split_first() {
+            Some((first, further)) => {
+                self.add_dependency(text, ": ", first)?;
+                self.add_further(text, further)
+            }
+            None => Ok(()),
         }
-        Ok(())
     }
 
     // The note of a lock that is always held round dependencies.
