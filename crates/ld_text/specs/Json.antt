@@ -28,16 +28,11 @@ number_member name value = key name ∷ number (decimal value) ∷ []
 abbrev pub list_member : (name : List ℕ) (values : List Token) → List Token
 list_member name values = key name ∷ begin_array ∷ (values ++ end_array ∷ [])
 
--- groups of members, and then the end of their object
-abbrev pub members : (groups : List (List Token)) → List Token
-members [] = end_object ∷ []
-members (group ∷ groups) = group ++ members groups
+abbrev pub object : (members : List Token) → List Token
+object members = begin_object ∷ (members ++ end_object ∷ [])
 
-abbrev pub object : (groups : List (List Token)) → List Token
-object groups = begin_object ∷ members groups
-
-abbrev pub object_member : (name : List ℕ) (groups : List (List Token)) → List Token
-object_member name groups = key name ∷ object groups
+abbrev pub object_member : (name : List ℕ) (members : List Token) → List Token
+object_member name members = key name ∷ object members
 
 -- Where a fact comes from.
 
@@ -65,13 +60,12 @@ occurrence_members sources origin = text_member (codes "file") (file_at sources.
     ++ (event_members (event_of sources.traces origin.trace origin.place) ++ held_members sources origin.trace origin.held))
 
 -- a dependency, and where it first occurs
+abbrev pub dependency_members : List Name → Arrow → List Token
+dependency_members names d = text_member (codes "from") (key_text (name_at names d.start))
+    ++ (text_member (codes "kind") (kind_text d.kind) ++ text_member (codes "to") (key_text (name_at names d.end)))
+
 abbrev pub order_object : Sources → Order → List Token
-order_object sources order = object (
-    text_member (codes "from") (key_text (name_at sources.names order.dependency.start))
-    ∷ text_member (codes "kind") (kind_text order.dependency.kind)
-    ∷ text_member (codes "to") (key_text (name_at sources.names order.dependency.end))
-    ∷ occurrence_members sources order.origin
-    ∷ [])
+order_object sources order = object (dependency_members sources.names order.dependency ++ occurrence_members sources order.origin)
 
 -- Findings: each with the lines that the report has of it.
 
@@ -97,45 +91,42 @@ orders_member sources walk = list_member (codes "orders") (flat_map (order_objec
 
 -- where the lower lock's key is used in the state, and where the upper's is used with it enabled
 abbrev pub use_members : Sources → (used enabled : Origin) → List Token
-use_members sources used enabled = object_member (codes "used") (occurrence_members sources used ∷ [])
-    ++ object_member (codes "enabled") (occurrence_members sources enabled ∷ [])
+use_members sources used enabled = object_member (codes "used") (occurrence_members sources used)
+    ++ object_member (codes "enabled") (occurrence_members sources enabled)
 
 -- the notes
 abbrev pub notes_member : Sources → List GateNote → (only : Option ℕ) → List Token
 notes_member sources gates only = list_member (codes "notes")
     (map (λ gate. string (gate_note sources.names gate)) gates ++ map string (only_notes sources.files only))
 
--- a finding
-abbrev pub finding_object : Sources → Finding → List Token
-finding_object sources (Circle walk gates only) = object (
+-- what is said of a finding
+abbrev pub finding_members : Sources → Finding → List Token
+finding_members sources (Circle walk gates only) =
     text_member (codes "type") (codes "circle")
-    ∷ keys_member sources.names walk.items
-    ∷ lines_member sources.names walk.items
-    ∷ orders_member sources walk.items
-    ∷ notes_member sources gates.items only
-    ∷ [])
-finding_object sources (Double irq lock used enabled) = object (
+    ++ (keys_member sources.names walk.items
+    ++ (lines_member sources.names walk.items
+    ++ (orders_member sources walk.items
+    ++ notes_member sources gates.items only)))
+finding_members sources (Double irq lock used enabled) =
     text_member (codes "type") (codes "double")
-    ∷ text_member (codes "irq") (irq_word irq)
-    ∷ text_member (codes "key") (key_text (name_at sources.names lock))
-    ∷ list_member (codes "lines") (string (double_words sources.names irq lock) ∷ [])
-    ∷ use_members sources used enabled
-    ∷ [])
-finding_object sources (Inversion irq a b walk used enabled gates) = object (
+    ++ (text_member (codes "irq") (irq_word irq)
+    ++ (text_member (codes "key") (key_text (name_at sources.names lock))
+    ++ (list_member (codes "lines") (string (double_words sources.names irq lock) ∷ [])
+    ++ use_members sources used enabled)))
+finding_members sources (Inversion irq a b walk used enabled gates) =
     text_member (codes "type") (codes "inversion")
-    ∷ text_member (codes "irq") (irq_word irq)
-    ∷ list_member (codes "keys") (string (key_text (name_at sources.names a)) ∷ string (key_text (name_at sources.names b)) ∷ [])
-    ∷ list_member (codes "lines") (string (inversion_words sources.names irq a b) ∷ [])
-    ∷ orders_member sources walk.items
-    ∷ use_members sources used enabled
-    ∷ notes_member sources gates.items None
-    ∷ [])
+    ++ (text_member (codes "irq") (irq_word irq)
+    ++ (list_member (codes "keys") (string (key_text (name_at sources.names a)) ∷ string (key_text (name_at sources.names b)) ∷ [])
+    ++ (list_member (codes "lines") (string (inversion_words sources.names irq a b) ∷ [])
+    ++ (orders_member sources walk.items
+    ++ (use_members sources used enabled
+    ++ notes_member sources gates.items None)))))
 
 -- The whole text.
 
 -- a finding on a line of its own, after a comma
 abbrev pub finding_line : Sources → Finding → List ℕ
-finding_line sources finding = codes ",\n" ++ print (finding_object sources finding)
+finding_line sources finding = codes ",\n" ++ print (object (finding_members sources finding))
 
 -- one object with all findings; the first line has no comma before it
 unfoldable pub json_text : Sources → List Finding → List ℕ

@@ -107,11 +107,11 @@ ShowsBecause Has names text =
 
 abbrev pub double_line : List Name → Irq → (key : ℕ) → List ℕ
 double_line names irq key =
-    codes "double " ++ irq_word irq ++ codes " " ++ key_text (name_at names key) ++ codes "\n"
+    codes "double " ++ (irq_word irq ++ (codes " " ++ (key_text (name_at names key) ++ codes "\n")))
 
 abbrev pub inversion_line : List Name → Irq → (a b : ℕ) → List ℕ
-inversion_line names irq a b = codes "inversion " ++ irq_word irq ++ codes " "
-    ++ key_text (name_at names a) ++ codes " " ++ key_text (name_at names b) ++ codes "\n"
+inversion_line names irq a b = codes "inversion " ++ (irq_word irq ++ (codes " "
+    ++ (key_text (name_at names a) ++ (codes " " ++ (key_text (name_at names b) ++ codes "\n")))))
 
 -- The findings.
 

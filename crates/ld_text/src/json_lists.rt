@@ -12,15 +12,14 @@ use crate::explainer::Explainer;
 use crate::words::file_of;
 use json::Writer;
 use ld_explain::{Dependency, GateNote, Order};
-use ld_trace::KeyId;
 use std::alloc::AllocError;
 
 impl Explainer<'_> {
-    // A key.
-    pub(crate) fn write_key(&self, w: &mut Writer, key: KeyId) -> Result<(), AllocError>
-        ensures { OnOk result (Adds w.old w.new (string (key_text (name_at self.now.names key)) ∷ [])) }
+    // The key that a dependency leads from.
+    pub(crate) fn write_key(&self, w: &mut Writer, d: &Dependency) -> Result<(), AllocError>
+        ensures { OnOk result (Adds w.old w.new (string (key_text (name_at self.now.names d.now.start)) ∷ [])) }
     {
-        w.string(self.key(key))
+        w.string(self.key(d.from))
     }
 
     // The keys that the members of a walk lead from.
@@ -29,7 +28,7 @@ impl Explainer<'_> {
             (map (λ order. string (key_text (name_at self.now.names order.dependency.start))) walk.now)) }
     {
         for order in walk {
-            self.write_key(w, order.dependency.from)?;
+            self.write_key(w, &order.dependency)?;
         }
         Ok(())
     }

@@ -4,14 +4,14 @@ ghost use Rattle.std.specs.Prelude.{◌≡◌, ◌∷◌, [], OnOk, codes};
 ghost use Rattle.json.specs.Token.{string};
 ghost use Rattle.ld_explain.specs.declared.finding.Finding.{Finding};
 ghost use Rattle.ld_text.specs.Explanation.{event_of};
-ghost use Rattle.ld_text.specs.Json.{double_words, event_members, finding_object, held_members, inversion_words, list_member, object_member, occurrence_members, order_object, taken_mode, use_members};
+ghost use Rattle.ld_text.specs.Json.{dependency_members, double_words, event_members, finding_members, held_members, inversion_words, list_member, object, object_member, occurrence_members, order_object, taken_mode, use_members};
 ghost use Rattle.ld_text.specs.Inside.Tokens.{Adds};
 
 use crate::explainer::Explainer;
 use crate::json_members::{add_both, add_number, add_only, add_text};
 use crate::words::{file_of, irq_word, kind_word, mode_word};
 use json::Writer;
-use ld_explain::{Finding, Order, Origin};
+use ld_explain::{Dependency, Finding, Order, Origin};
 use ld_trace::{Event, Irq, KeyId};
 use std::alloc::AllocError;
 
@@ -69,15 +69,21 @@ impl Explainer<'_> {
         self.write_held(w, origin.trace, origin.held)
     }
 
+    // A dependency.
+    pub(crate) fn write_dependency(&self, w: &mut Writer, d: &Dependency) -> Result<(), AllocError>
+        ensures { OnOk result (Adds w.old w.new (dependency_members self.now.names d.now)) }
+    {
+        add_text(w, "from", self.key(d.from))?;
+        add_text(w, "kind", kind_word(d.kind))?;
+        add_text(w, "to", self.key(d.to))
+    }
+
     // A dependency, and where it first occurs.
     pub(crate) fn write_order(&self, w: &mut Writer, order: &Order) -> Result<(), AllocError>
         ensures { OnOk result (Adds w.old w.new (order_object self.now order.now)) }
     {
-        let d = &order.dependency;
         w.begin_object()?;
-        add_text(w, "from", self.key(d.from))?;
-        add_text(w, "kind", kind_word(d.kind))?;
-        add_text(w, "to", self.key(d.to))?;
+        self.write_dependency(w, &order.dependency)?;
         self.write_occurrence(w, order.origin)?;
         w.end_object()
     }
@@ -89,7 +95,7 @@ impl Explainer<'_> {
         name: &str,
         origin: Origin,
     ) -> Result<(), AllocError>
-        ensures { OnOk result (Adds w.old w.new (object_member name.now (occurrence_members self.now origin ∷ []))) }
+        ensures { OnOk result (Adds w.old w.new (object_member name.now (occurrence_members self.now origin))) }
     {
         w.key(name)?;
         w.begin_object()?;
@@ -143,18 +149,17 @@ impl Explainer<'_> {
         add_only(w, "lines", line.as_str())
     }
 
-    // A finding.
-    pub(crate) fn write_finding(&self, w: &mut Writer, finding: &Finding) -> Result<(), AllocError>
-        ensures { OnOk result (Adds w.old w.new (finding_object self.now finding.now)) }
+    // What is said of a finding.
+    pub(crate) fn write_members(&self, w: &mut Writer, finding: &Finding) -> Result<(), AllocError>
+        ensures { OnOk result (Adds w.old w.new (finding_members self.now finding.now)) }
     {
-        w.begin_object()?;
         match finding {
             Finding::Circle { walk, gates, only } => {
                 add_text(w, "type", "circle")?;
                 self.write_keys(w, walk)?;
                 self.write_lines(w, walk)?;
                 self.write_orders(w, walk)?;
-                self.write_notes(w, gates, *only)?;
+                self.write_notes(w, gates, *only)
             }
             Finding::Double {
                 irq,
@@ -166,7 +171,7 @@ impl Explainer<'_> {
                 add_text(w, "irq", irq_word(*irq))?;
                 add_text(w, "key", self.key(*key))?;
                 self.write_double_line(w, *irq, *key)?;
-                self.write_uses(w, *used, *enabled)?;
+                self.write_uses(w, *used, *enabled)
             }
             Finding::Inversion {
                 irq,
@@ -183,9 +188,17 @@ impl Explainer<'_> {
                 self.write_inversion_line(w, *irq, *a, *b)?;
                 self.write_orders(w, walk)?;
                 self.write_uses(w, *used, *enabled)?;
-                self.write_notes(w, gates, None)?;
+                self.write_notes(w, gates, None)
             }
         }
+    }
+
+    // A finding.
+    pub(crate) fn write_finding(&self, w: &mut Writer, finding: &Finding) -> Result<(), AllocError>
+        ensures { OnOk result (Adds w.old w.new (object (finding_members self.now finding.now))) }
+    {
+        w.begin_object()?;
+        self.write_members(w, finding)?;
         w.end_object()
     }
 }

@@ -21,12 +21,15 @@ impl Explainer<'_> {
         ensures { OnOk result (string_bytes text.new ≡ string_bytes text.old
             ++ does_text self.now.names (event_of self.now.traces trace place)) }
     {
-        match self.event(trace, place) {
-            Some(Event::Acquire { mode, key }) => {
+        let Some(event) = self.event(trace, place) else {
+            return Ok(());
+        };
+        match event {
+            Event::Acquire { mode, key } => {
                 let (key, mode) = (self.key(key), mode_word(mode));
                 write!(text, " takes {key} {mode}")
             }
-            Some(Event::TurnOn { irq }) => {
+            Event::TurnOn { irq } => {
                 let state = irq_word(irq);
                 write!(text, " turns {state}s on")
             }
@@ -44,8 +47,11 @@ impl Explainer<'_> {
         ensures { OnOk result (string_bytes text.new ≡ string_bytes text.old
             ++ lock_of self.now.names (event_of self.now.traces trace place)) }
     {
-        match self.event(trace, place) {
-            Some(Event::Acquire { mode, key }) => {
+        let Some(event) = self.event(trace, place) else {
+            return Ok(());
+        };
+        match event {
+            Event::Acquire { mode, key } => {
                 let (key, mode) = (self.key(key), mode_word(mode));
                 write!(text, "{key} {mode}")
             }
@@ -154,7 +160,7 @@ impl Explainer<'_> {
     }
 
     // A task that holds the lock that a dependency leads from, and waits for the other.
-    pub(crate) fn add_wait(
+    pub(crate) fn add_task(
         &self,
         text: &mut String,
         task: usize,
@@ -164,6 +170,19 @@ impl Explainer<'_> {
     {
         let (from, to) = (self.key(d.from), self.key(d.to));
         writeln!(text, "  task {task} holds {from} and waits for {to}")
+    }
+
+    // A member of a walk as such a task.
+    pub(crate) fn add_wait(
+        &self,
+        text: &mut String,
+        task: usize,
+        order: &Order,
+    ) -> Result<(), AllocError>
+        ensures { OnOk result (string_bytes text.new
+            ≡ string_bytes text.old ++ waits_line self.now.names task order.now.dependency) }
+    {
+        self.add_task(text, task, &order.dependency)
     }
 
     // Each member of a walk as a task that waits; the tasks are numbered from this one on.
@@ -178,7 +197,7 @@ impl Explainer<'_> {
             ≡ string_bytes text.old ++ waits_text self.now.names first walk.now) }
     {
         for i in 0..walk.len() {
-            self.add_wait(text, first + i, &walk[i].dependency)?;
+            self.add_wait(text, first + i, &walk[i])?;
         }
         Ok(())
     }
