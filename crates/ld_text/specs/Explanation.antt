@@ -62,12 +62,10 @@ dependency_text names d = key_text (name_at names d.start) ++ member_text names 
 abbrev pub order_line : Sources → Order → List ℕ
 order_line sources order = origin_line sources (dependency_text sources.names order.dependency) order.origin
 
--- where a key is used in a state, and where it is used with it enabled
-abbrev pub used_line : Sources → Irq → Origin → List ℕ
-used_line sources irq = origin_line sources (codes "used in " ++ irq_word irq)
-
-abbrev pub enabled_line : Sources → Irq → Origin → List ℕ
-enabled_line sources irq = origin_line sources (codes "used with " ++ (irq_word irq ++ codes "s on"))
+-- where the lower lock's key is used in a state, and where the upper's is used with it enabled
+abbrev pub use_lines : Sources → Irq → (used enabled : Origin) → List ℕ
+use_lines sources irq used enabled = origin_line sources (codes "used in " ++ irq_word irq) used
+    ++ origin_line sources (codes "used with " ++ (irq_word irq ++ codes "s on")) enabled
 
 -- How it ends in a deadlock.
 
@@ -128,12 +126,12 @@ block_text sources (Circle walk gates only) =
     circle_head sources.names walk.items ++ (flat_map (order_line sources) walk.items ++ (waits_text sources.names 1 walk.items
     ++ (gate_lines sources.names gates.items ++ flat_map note_line (only_notes sources.files only))))
 block_text sources (Double irq key used enabled) =
-    codes "\n" ++ (double_line sources.names irq key ++ (used_line sources irq used ++ (enabled_line sources irq enabled
-    ++ (holds_line sources.names key ++ comes_line sources.names irq key))))
+    codes "\n" ++ (double_line sources.names irq key ++ (use_lines sources irq used enabled
+    ++ (holds_line sources.names key ++ comes_line sources.names irq key)))
 block_text sources (Inversion irq a b walk used enabled gates) =
     codes "\n" ++ (inversion_line sources.names irq a b ++ (flat_map (order_line sources) walk.items
-    ++ (used_line sources irq used ++ (enabled_line sources irq enabled ++ (holds_line sources.names b
-    ++ (waits_text sources.names 2 walk.items ++ (comes_line sources.names irq a ++ gate_lines sources.names gates.items)))))))
+    ++ (use_lines sources irq used enabled ++ (holds_line sources.names b ++ (waits_text sources.names 2 walk.items
+    ++ (comes_line sources.names irq a ++ gate_lines sources.names gates.items))))))
 
 -- how many findings there are, and each of them
 unfoldable pub explanation_text : Sources → List Finding → List ℕ

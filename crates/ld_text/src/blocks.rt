@@ -82,8 +82,7 @@ impl Explainer<'_> {
                 enabled,
             } => {
                 self.add_double_head(text, *irq, *key)?;
-                self.add_used(text, *irq, *used)?;
-                self.add_enabled(text, *irq, *enabled)?;
+                self.add_uses(text, *irq, *used, *enabled)?;
                 self.add_holder(text, *key)?;
                 self.add_interrupt(text, *irq, *key)
             }
@@ -98,8 +97,7 @@ impl Explainer<'_> {
             } => {
                 self.add_inversion_head(text, *irq, *a, *b)?;
                 self.add_orders(text, walk)?;
-                self.add_used(text, *irq, *used)?;
-                self.add_enabled(text, *irq, *enabled)?;
+                self.add_uses(text, *irq, *used, *enabled)?;
                 self.add_holder(text, *b)?;
                 self.add_waits(text, 2, walk)?;
                 self.add_interrupt(text, *irq, *a)?;

@@ -1,7 +1,7 @@
 //! The lines of an explanation: where facts come from, and who waits for whom.
 
 ghost use Rattle.std.specs.Prelude.{◌≡◌, ◌++◌, ◌≤◌, OnOk, codes, flat_map, string_bytes};
-ghost use Rattle.ld_text.specs.Explanation.{comes_line, dependency_text, does_text, enabled_line, event_of, holds_line, lock_of, occurrence_text, order_line, used_line, waits_line, waits_text, while_text};
+ghost use Rattle.ld_text.specs.Explanation.{comes_line, dependency_text, does_text, event_of, holds_line, lock_of, occurrence_text, order_line, use_lines, waits_line, waits_text, while_text};
 ghost use Rattle.ld_text.specs.Report.{member_text};
 
 use crate::explainer::Explainer;
@@ -131,32 +131,21 @@ impl Explainer<'_> {
         Ok(())
     }
 
-    // Where a key is used in a state.
-    pub(crate) fn add_used(
+    // Where a key is used in a state, and where one is used with it enabled.
+    pub(crate) fn add_uses(
         &self,
         text: &mut String,
         irq: Irq,
-        origin: Origin,
+        used: Origin,
+        enabled: Origin,
     ) -> Result<(), AllocError>
-        ensures { OnOk result (string_bytes text.new ≡ string_bytes text.old ++ used_line self.now irq origin) }
+        ensures { OnOk result (string_bytes text.new ≡ string_bytes text.old ++ use_lines self.now irq used enabled) }
     {
         let state = irq_word(irq);
         write!(text, "  used in {state}")?;
-        self.add_origin(text, origin)
-    }
-
-    // Where a key is used with a state enabled.
-    pub(crate) fn add_enabled(
-        &self,
-        text: &mut String,
-        irq: Irq,
-        origin: Origin,
-    ) -> Result<(), AllocError>
-        ensures { OnOk result (string_bytes text.new ≡ string_bytes text.old ++ enabled_line self.now irq origin) }
-    {
-        let state = irq_word(irq);
+        self.add_origin(text, used)?;
         write!(text, "  used with {state}s on")?;
-        self.add_origin(text, origin)
+        self.add_origin(text, enabled)
     }
 
     // A task that holds the lock that a dependency leads from, and waits for the other.
