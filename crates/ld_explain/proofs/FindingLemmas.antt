@@ -15,7 +15,7 @@ pub map-next : {X Y : Type 0} (f : X → Y) (xs : List X) (i : ℕ) (d : X) → 
 map-next f xs i d within = ap (map f) (take_more xs i d within) ∙ map-append f (take i xs) (slice_index_or xs i d ∷ [])
 
 module _ {X : Type 0} (P : X → Type 0) where
-  AreThose-append : (xs ys a b : List X) → AreThose P xs a → AreThose P ys b → AreThose P (xs ++ ys) (a ++ b)
+  pub AreThose-append : (xs ys a b : List X) → AreThose P xs a → AreThose P ys b → AreThose P (xs ++ ys) (a ++ b)
   AreThose-append [] ys a b none h = subst (λ t. AreThose P ys (t ++ b)) (sym none) h
   AreThose-append (x ∷ xs) ys a b (inl (p, (rest, is, those))) h = inl (p, (rest ++ b, ap (λ t. t ++ b) is, AreThose-append xs ys rest b those h))
   AreThose-append (x ∷ xs) ys a b (inr (isnt, those)) h = inr (isnt, AreThose-append xs ys a b those h)

@@ -10,5 +10,6 @@ pub mod Lists
 pub mod Slots
 pub mod Traces
 pub mod FindingLemmas
-pub mod ChoosingLemmas
 pub mod Starts
+pub mod ChoosingLemmas
+pub mod ExplainingLemmas

@@ -78,10 +78,10 @@ IsTheInversion Has traces keys inversion (Inversion irq a b orders used enabled 
 IsTheInversion Has traces keys inversion _ = ⊥
 
 -- ---- all findings
--- each finding is as R says of what stands at the same place of a list
-unfoldable pub Are : {X : Type 0} → (X → Finding → Type 0) → List X → List Finding → Type 0
-Are R [] findings = findings ≡ []
-Are R (x ∷ xs) findings = (first : Finding) × (rest : List Finding) × R x first × Are R xs rest × (findings ≡ first ∷ rest)
+-- each thing of the second list is as R says of what stands at its place of the first
+unfoldable pub Are : {X Y : Type 0} → (X → Y → Type 0) → List X → List Y → Type 0
+Are R [] ys = ys ≡ []
+Are {X} {Y} R (x ∷ xs) ys = (first : Y) × (rest : List Y) × R x first × Are R xs rest × (ys ≡ first ∷ rest)
 
 -- these are the findings of the facts of these traces, among the keys in this order: the circles, the doubles, the inversions
 pub record AreFindings (Has : Fact → Type 0) (traces : List (List Event)) (keys : List ℕ) (findings : List Finding) : Type 0 where

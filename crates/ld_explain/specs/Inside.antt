@@ -3,3 +3,4 @@ pub mod Finding
 pub mod Firsts
 pub mod Guarding
 pub mod Taking
+pub mod Explaining

@@ -1,4 +1,4 @@
--- What holds of all findings: equal facts have equal ones.
+-- What holds of all findings (equal facts have equal ones), and of lists.
 pub mod Findings
 pub mod Found
 pub mod Lists

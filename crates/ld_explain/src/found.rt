@@ -11,7 +11,7 @@ ghost use Rattle.ld_explain.specs.Found.{AreFound, arrows_among, doubles_among, 
 ghost use Rattle.ld_explain.specs.Inside.Finding.{AddsThose};
 ghost use Rattle.ld_explain.specs.Found.{kinds};
 
-use ld_facts::STATES;
+use ld_facts::{Fact, STATES};
 use ld_graph::{Kind, Mark};
 use ld_parts::Settled;
 use ld_trace::{Irq, KeyId};
@@ -35,6 +35,30 @@ impl Model for Dependency {
     ghost Value = { Arrow };
 
     ghost view = { λ d. arrow d.from d.to d.kind };
+}
+
+impl Dependency {
+    // The fact that it is.
+    pub(crate) fn fact(&self) -> Fact
+        ensures { result ≡ Fact.Dependency self.now.start self.now.end self.now.kind }
+    {
+        Fact::Dependency {
+            from: self.from.get(),
+            to: self.to.get(),
+            kind: self.kind,
+        }
+    }
+
+    // The same.
+    pub(crate) fn copy(&self) -> Dependency
+        ensures { result ≡ self.now }
+    {
+        Dependency {
+            from: self.from,
+            to: self.to,
+            kind: self.kind,
+        }
+    }
 }
 
 // The findings of facts. If there are none the lists take no memory.

@@ -5,6 +5,7 @@ ghost use Rattle.ld_explain.specs.Inside.Guarding.{IsFirstGuard, IsGateBefore, N
 
 use arrayvec::ArrayVec;
 use ld_task::{Chain, MAX_HELD};
+use ld_trace::KeyId;
 
 /// What speaks against a fact, over all its occurrences.
 #[derive(Drop, Debug)]
@@ -24,6 +25,13 @@ impl Guard {
             only: Some(trace),
             gates,
         }
+    }
+
+    // Whether the key is a gate.
+    pub(crate) fn has_gate(&self, key: KeyId) -> bool
+        ensures { IsTrue result ↔ Contains self.now.gates.items key }
+    {
+        self.gates.as_slice().contains(&key.get())
     }
 
     // Whether there is a gate.

@@ -17,7 +17,7 @@ use crate::guard::{Guard, gates_before};
 use arrayvec::ArrayVec;
 use indexmap::IndexMap;
 use ld_facts::{Fact, lock_of_slot};
-use ld_task::{Chain, Kind, MAX_HELD};
+use ld_task::{Chain, MAX_HELD};
 use std::alloc::{AllocError, Global};
 use std::marker::Model;
 
@@ -54,46 +54,8 @@ impl Guards {
         }
     }
 
-    /// Whether a lock of the key `gate` is held round the dependency wherever it occurs. The dependency is one that was asked
-    /// about and that the traces have.
-    pub fn is_gate(&self, from: u16, to: u16, kind: Kind, gate: u16) -> bool
-        ensures { (traces : List (List Event)) (asked : FactParts) → AreGuardsOf traces asked self.now
-            → HasFact asked (Fact.Dependency from to kind) → TracesHave traces (Fact.Dependency from to kind)
-            → IsTrue result ↔ IsGate traces (arrow from to kind) gate }
-    {
-        match self.guard_of(Fact::Dependency { from, to, kind }) {
-            Some(guard) => guard.gates.as_slice().contains(&gate),
-            None => false,
-        }
-    }
-
-    /// Whether some key is a gate of the dependency. The dependency is one that was asked about and that the traces have.
-    pub fn has_gates(&self, from: u16, to: u16, kind: Kind) -> bool
-        ensures { (traces : List (List Event)) (asked : FactParts) → AreGuardsOf traces asked self.now
-            → HasFact asked (Fact.Dependency from to kind) → TracesHave traces (Fact.Dependency from to kind)
-            → IsTrue result ↔ ((gate : ℕ) × IsGate traces (arrow from to kind) gate) }
-    {
-        match self.guard_of(Fact::Dependency { from, to, kind }) {
-            Some(guard) => guard.has_gates(),
-            None => false,
-        }
-    }
-
-    /// The trace that has all occurrences of the dependency, if one has. The dependency is one that was asked about and that
-    /// the traces have.
-    pub fn only_trace(&self, from: u16, to: u16, kind: Kind) -> Option<u32>
-        ensures { (traces : List (List Event)) (asked : FactParts) → AreGuardsOf traces asked self.now
-            → HasFact asked (Fact.Dependency from to kind) → TracesHave traces (Fact.Dependency from to kind)
-            → (trace : ℕ) → (result ≡ Some trace) ↔ IsAloneIn traces (arrow from to kind ∷ []) trace }
-    {
-        match self.guard_of(Fact::Dependency { from, to, kind }) {
-            Some(guard) => guard.only,
-            None => None,
-        }
-    }
-
     // The fact's guard.
-    fn guard_of(&self, fact: Fact) -> Option<&Guard>
+    pub(crate) fn guard_of(&self, fact: Fact) -> Option<&Guard>
         ensures some { IfSome result (λ g. HasGuard self.now fact g.now) }
         ensures none { IsNone result → ¬ IsKept self.now fact }
     {

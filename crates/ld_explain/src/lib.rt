@@ -3,18 +3,20 @@
 #![tactic(auto, using(crate::proofs::Starts::starts))]
 
 mod asked;
-mod chosen;
+mod choices;
 mod evidence;
+mod explainer;
 mod finding;
+mod findings;
 mod found;
 mod guard;
 mod guards;
 mod origins;
-mod told_walk;
 
 pub use asked::Asked;
 pub use evidence::Evidence;
 pub use finding::{Finding, GateNote, Order};
+pub use findings::findings_of;
 pub use found::{Dependency, Found, KINDS, has_dependency, is_used_in};
 pub use guard::Guard;
 pub use guards::Guards;

@@ -13,7 +13,7 @@ ghost use Rattle.ld_explain.specs.Inside.Firsts.{IsKnown, PutsOrigin, slot_posit
 
 use indexmap::IndexMap;
 use ld_facts::{Fact, lock_of_slot};
-use ld_task::{Chain, Kind, Mark, PlacedState};
+use ld_task::{Chain, PlacedState};
 use std::alloc::{AllocError, Global};
 use std::marker::Model;
 
@@ -62,22 +62,13 @@ impl Origins {
         }
     }
 
-    /// Where the dependency comes from: its first occurrence in the traces that these are the origins of. None exactly if
-    /// they don't have it. The dependency is one that was asked about.
-    pub fn dependency(&self, from: u16, to: u16, kind: Kind) -> Option<Origin>
+    /// Where the fact comes from: its first occurrence in the traces that these are the origins of. None exactly if they
+    /// don't have it. The fact is one that was asked about.
+    pub fn origin(&self, fact: Fact) -> Option<Origin>
         ensures { (traces : List (List Event)) (asked : FactParts) → AreOriginsOf traces asked self.now
-            → HasFact asked (Fact.Dependency from to kind) → IsOriginOf traces (Fact.Dependency from to kind) result }
+            → HasFact asked fact → IsOriginOf traces fact result }
     {
-        self.origin_of(Fact::Dependency { from, to, kind })
-    }
-
-    /// Where the key's mark comes from: its first occurrence in the traces that these are the origins of. None exactly if
-    /// they don't have it. The mark is one that was asked about.
-    pub fn mark(&self, key: u16, mark: Mark) -> Option<Origin>
-        ensures { (traces : List (List Event)) (asked : FactParts) → AreOriginsOf traces asked self.now
-            → HasFact asked (Fact.Marked key mark) → IsOriginOf traces (Fact.Marked key mark) result }
-    {
-        self.origin_of(Fact::Marked { key, mark })
+        self.origin_of(fact)
     }
 
     // The fact's origin.

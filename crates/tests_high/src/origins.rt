@@ -303,10 +303,8 @@ fn evidence_of<R: Threads + Wait + Sync + Abort>(
 }
 
 fn is_known(origins: &Origins, known: Known) -> bool {
-    match known {
-        Dependency(from, to, kind, place) => origins.dependency(from, to, kind) == place.origin(),
-        Marked(key, mark, place) => origins.mark(key, mark) == place.origin(),
-    }
+    let (Dependency(_, _, _, place) | Marked(_, _, place)) = known;
+    origins.origin(fact_of(known)) == place.origin()
 }
 
 fn are_known(origins: &Origins, facts: &[Known]) -> bool {

@@ -1,74 +1,114 @@
--- How the walks that findings are reported with are chosen, and what is asked about for them.
-use Rattle.std.specs.Prelude.{◌≡◌, ◌⊎◌, ◌↔◌, ℕ, ◌<◌, [], All, Bool, List, Option, None, Some, length}
+-- How it is chosen what findings are reported with, and what is asked about for them.
+use Rattle.std.specs.Prelude.{◌≡◌, ◌⊎◌, ◌↔◌, ℕ, ◌<◌, [], ◌∷◌, ◌++◌, All, Contains, List, length}
 use Rattle.ld_trace.specs.declared.event.Irq.{Irq}
 use Rattle.ld_task.specs.declared.mark.Mark.TheVariants.{UsedIn, Enabled}
-use Rattle.ld_facts.specs.Arrows.{Arrow}
+use Rattle.ld_facts.specs.Arrows.{Arrow, arrow}
 use Rattle.ld_facts.specs.FactBits.{FactParts, HasFact}
-use Rattle.ld_facts.specs.Facts.{DependenciesOf}
+use Rattle.ld_facts.specs.Facts.{Adds, DependenciesOf, Holds}
 use Rattle.ld_facts.specs.declared.fact.Fact.{Fact}
-use Rattle.ld_facts.specs.declared.fact.Fact.TheVariants.{Marked}
-use Rattle.ld_graph.specs.Links.{IsDouble, IsShortestInversion, link_by}
+use Rattle.ld_facts.specs.declared.fact.Fact.TheVariants.{Dependency, Marked}
+use Rattle.ld_graph.specs.Links.{IsDoubleBy, IsShortestInversion, link_by}
 use Rattle.ld_graph.specs.Walks.{IsShortestFrom}
-use Rattle.ld_explain.specs.Findings.{AreReported, IsReported}
-use Rattle.ld_explain.specs.declared.chosen.ToldInversion.{ToldInversion}
+use Rattle.ld_explain.specs.Findings.{Are, AreReported, IsReported}
+use Rattle.ld_explain.specs.Found.{FoundParts}
+use Rattle.ld_explain.specs.declared.choices.Choice.{Choice}
+use Rattle.ld_explain.specs.declared.choices.Choice.TheVariants.{ByBoth, ByLink, ByWalk}
+use Rattle.ld_explain.specs.declared.choices.Choices.{Choices}
+use Rattle.ld_explain.specs.declared.choices.Link.{Link}
 
--- the walks of circles, and inversions with theirs
-pub record ChosenParts : Type 0 where
+-- ---- the facts of a choice
+-- a member of the walk
+abbrev pub IsMember : List Arrow → Fact → Type 0
+IsMember walk (Dependency from to kind) = Contains walk (arrow from to kind)
+IsMember walk (Marked key mark) = ⊥
+
+-- the two marks of a link, and that a fact is one of them
+abbrev pub used_of : Link → Fact
+used_of l = Marked l.a (UsedIn l.irq l.used_read)
+
+abbrev pub enabled_of : Link → Fact
+enabled_of l = Marked l.b (Enabled l.irq l.enabled_read)
+
+abbrev pub IsMark : Link → Fact → Type 0
+IsMark l x = (x ≡ used_of l) ⊎ (x ≡ enabled_of l)
+
+-- the choice has the fact
+abbrev pub IsPart : Choice → Fact → Type 0
+IsPart (ByWalk walk) x = IsMember walk.items x
+IsPart (ByLink l) x = IsMark l x
+IsPart (ByBoth walk l) x = IsMember walk.items x ⊎ IsMark l x
+
+-- its facts are among these, and a circle has members
+abbrev pub HasMembers : Choice → Type 0
+HasMembers (ByWalk walk) = 0 < length walk.items
+HasMembers _ = Unit {0}
+
+abbrev pub IsAmong : FactParts → Choice → Type 0
+IsAmong facts c = Holds (HasFact facts) (IsPart c) × HasMembers c
+
+-- all that is asked about are facts, and each choice is among what is asked about
+pub record AreAsked (facts : FactParts) (choices : Choices) : Type 0 where
+  pub keys : choices.asked.keys ≡ facts.keys
+  pub are : Holds (HasFact facts) (HasFact choices.asked)
+  pub each : All (IsAmong choices.asked) choices.list.items
+
+-- ---- one choice more
+-- it was added, and its facts are asked about too
+pub record AddsChoice (old new : Choices) (choice : Choice) : Type 0 where
+  pub keys : new.asked.keys ≡ old.asked.keys
+  pub list : new.list.items ≡ old.list.items ++ choice ∷ []
+  pub asks : Adds (HasFact old.asked) (HasFact new.asked) (IsPart choice)
+
+-- it is a choice for x
+abbrev pub AddsFor : {X : Type 0} → (X → Choice → Type 0) → X → (old new : Choices) → Type 0
+AddsFor R x old new = (choice : Choice) × R x choice × AddsChoice old new choice
+
+-- one was added for each of these
+pub record AddsEach {X : Type 0} (facts : FactParts) (R : X → Choice → Type 0) (xs : List X) (old new : Choices) : Type 0 where
+  pub added : List Choice
+  pub are : Are R xs added
+  pub list : new.list.items ≡ old.list.items ++ added
+  pub asked : AreAsked facts new
+
+-- ---- what is chosen
+-- for a circle its walk
+abbrev pub IsCircleChoice : List Arrow → Choice → Type 0
+IsCircleChoice circle (ByWalk walk) = (walk.items ≡ circle) × (0 < length circle)
+IsCircleChoice circle _ = ⊥
+
+-- for a double its link
+abbrev pub IsDoubleChoice : (Fact → Type 0) → Irq × ℕ → Choice → Type 0
+IsDoubleChoice Has double (ByLink l) = ((l.irq, l.a) ≡ double) × IsDoubleBy Has l.irq l.a (link_by l.b l.a l.enabled_read l.used_read)
+IsDoubleChoice Has double _ = ⊥
+
+-- for an inversion a shortest walk, and the link that closes it
+abbrev pub IsInversionChoice : (Fact → Type 0) → Irq × (ℕ × ℕ) → Choice → Type 0
+IsInversionChoice Has inversion (ByBoth walk l) = ((l.irq, (l.a, l.b)) ≡ inversion)
+    × IsShortestInversion Has l.irq l.a l.b (link_by l.b l.a l.enabled_read l.used_read) walk.items
+IsInversionChoice Has inversion _ = ⊥
+
+-- a shortest circle through the dependency is chosen, unless that is asked about
+abbrev pub ChoosesCircle : FactParts → Arrow → (old new : Choices) → Type 0
+ChoosesCircle facts d old new = (DependenciesOf (HasFact old.asked) d × (new ≡ old))
+    ⊎ (¬ DependenciesOf (HasFact old.asked) d × ((circle : List Arrow) × IsShortestFrom (HasFact facts) d circle × AddsFor IsCircleChoice circle old new))
+
+-- the circles that are reported for these dependencies are chosen, and exactly their members are asked about
+pub record ChoosesCircles (facts : FactParts) (ds : List Arrow) (choices : Choices) : Type 0 where
   pub circles : List (List Arrow)
-  pub inversions : List ToldInversion
+  pub reported : AreReported (HasFact facts) [] ds circles
+  pub are : Are IsCircleChoice circles choices.list.items
+  pub members : (d : Arrow) → DependenciesOf (HasFact choices.asked) d ↔ IsReported circles d
+  pub asked : AreAsked facts choices
 
--- the state and the two keys of an inversion
-abbrev pub keys_of : ToldInversion → Irq × (ℕ × ℕ)
-keys_of x = (x.irq, (x.a, x.b))
-
--- ---- what is asked about
--- more is asked about, all of it facts
-pub record Asks (facts old new : FactParts) : Type 0 where
-  pub keys : new.keys ≡ old.keys
-  pub keeps : (x : Fact) → HasFact old x → HasFact new x
-  pub within : (x : Fact) → HasFact new x → HasFact old x ⊎ HasFact facts x
-
--- the key's marks of the state are asked about, in this form; and in both
-abbrev pub AsksForm : (facts asked : FactParts) → Irq → (key : ℕ) → (read : Bool) → Type 0
-AsksForm facts asked irq key read =
-    (HasFact facts (Marked key (UsedIn irq read)) → HasFact asked (Marked key (UsedIn irq read)))
-    × (HasFact facts (Marked key (Enabled irq read)) → HasFact asked (Marked key (Enabled irq read)))
-
-abbrev pub AsksMarks : (facts asked : FactParts) → Irq → (key : ℕ) → Type 0
-AsksMarks facts asked irq key = (read : Bool) → AsksForm facts asked irq key read
-
--- a circle whose members are asked about
-abbrev pub IsToldCircle : (asked : FactParts) → List Arrow → Type 0
-IsToldCircle asked walk = (0 < length walk) × All (DependenciesOf (HasFact asked)) walk
-
--- a double whose marks are
-abbrev pub IsToldDouble : (facts asked : FactParts) → Irq × ℕ → Type 0
-IsToldDouble facts asked x = IsDouble (HasFact facts) x.0 x.1 × AsksMarks facts asked x.0 x.1
-
--- an inversion by a shortest walk, of which the members and the marks are
-pub record IsToldInversion (facts asked : FactParts) (x : ToldInversion) : Type 0 where
-  pub by : IsShortestInversion (HasFact facts) x.irq x.a x.b (link_by x.b x.a x.enabled_read x.used_read) x.walk
-  pub are : All (DependenciesOf (HasFact asked)) x.walk
-  pub used : HasFact asked (Marked x.a (UsedIn x.irq x.used_read))
-  pub enabled : HasFact asked (Marked x.b (Enabled x.irq x.enabled_read))
-
--- what is reported with these is asked about
-pub record AreToldBy (facts asked : FactParts) (doubles : List (Irq × ℕ)) (chosen : ChosenParts) : Type 0 where
-  pub circles : All (IsToldCircle asked) chosen.circles
-  pub doubles_are : All (IsToldDouble facts asked) doubles
-  pub inversions : All (IsToldInversion facts asked) chosen.inversions
-
--- ---- circles
--- the set has exactly the members of these circles
-abbrev pub HasMembers : FactParts → List (List Arrow) → Type 0
-HasMembers set circles = (d : Arrow) → DependenciesOf (HasFact set) d ↔ IsReported circles d
-
--- a shortest circle through the dependency; none, if that is asked about
-abbrev pub IsCircleFor : (facts asked : FactParts) → Arrow → Option (List Arrow) → Type 0
-IsCircleFor facts asked d None = DependenciesOf (HasFact asked) d
-IsCircleFor facts asked d (Some circle) = ¬ DependenciesOf (HasFact asked) d × IsShortestFrom (HasFact facts) d circle
-
--- these circles are chosen for the dependencies, and exactly their members are asked about
-pub record AreChosen (facts : FactParts) (ds : List Arrow) (circles : List (List Arrow)) (asked : FactParts) : Type 0 where
-  pub told : AreReported (HasFact facts) [] ds circles
-  pub members : HasMembers asked circles
+-- what is chosen for all findings
+pub record AreChoices (facts : FactParts) (found : FoundParts) (choices : Choices) : Type 0 where
+  pub walks : List (List Arrow)
+  pub walks_are : AreReported (HasFact facts) [] found.circles walks
+  pub circles : List Choice
+  pub doubles : List Choice
+  pub inversions : List Choice
+  pub circles_are : Are IsCircleChoice walks circles
+  pub doubles_are : Are (IsDoubleChoice (HasFact facts)) found.doubles doubles
+  pub inversions_are : Are (IsInversionChoice (HasFact facts)) found.inversions inversions
+  pub list : choices.list.items ≡ circles ++ (doubles ++ inversions)
+  pub asked : AreAsked facts choices

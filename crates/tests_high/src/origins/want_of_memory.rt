@@ -15,19 +15,22 @@ use std::thread::Threads;
 use tests_low::steps::Step::{Give, Write};
 use tests_low::steps::{A, B, traces_of};
 
+// The one dependency.
+const ORDER: Fact = Fact::Dependency {
+    from: A,
+    to: B,
+    kind: Kind::En,
+};
+
 // A trace of two locks; None if memory was refused.
 fn traces(alloc: Global) -> Option<Vec<RawTrace>> {
     traces_of(alloc, &[&[Write(A), Write(B), Give(B), Give(A)]], 1)
 }
 
-// The one dependency; None if memory was refused.
+// It is asked about; None if memory was refused.
 fn order_asked_about(alloc: Global) -> Option<Asked> {
     let mut asked = Asked::new(alloc, 2).ok()?;
-    asked.add(Fact::Dependency {
-        from: A,
-        to: B,
-        kind: Kind::En,
-    });
+    asked.add(ORDER);
     Some(asked)
 }
 
@@ -41,7 +44,7 @@ fn origin(
         return None;
     }
     let evidence = Evidence::of(rt.alloc(), traces, &asked).ok()?;
-    Some(evidence.origins.dependency(A, B, Kind::En))
+    Some(evidence.origins.origin(ORDER))
 }
 
 #[test]

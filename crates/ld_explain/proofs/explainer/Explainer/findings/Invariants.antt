@@ -1,0 +1,8 @@
+use Rattle.std.proofs.Common.{take}
+use Rattle.ld_explain.specs.Findings.{Are}
+use Rattle.ld_explain.specs.Inside.Explaining.{Explains}
+use Rattle.ld_explain.proofs.explainer.Explainer.findings.Given as goal
+
+-- the findings of the choices so far
+abbrev pub invariant-loop-choice : goal.invariant-loop-choice
+invariant-loop-choice l = Are (Explains l.self.traces.now l.self.keys.now) (take l.choice-index l.choices) l.findings.items

@@ -1,0 +1,7 @@
+use Rattle.std.proofs.Common.{take}
+use Rattle.ld_explain.specs.Findings.{AreGates}
+use Rattle.ld_explain.proofs.explainer.Explainer.gates.Given as goal
+
+-- those of the keys so far
+abbrev pub invariant-loop-key : goal.invariant-loop-key
+invariant-loop-key l = AreGates l.self.traces.now (take l.key-index l.self.keys.now) l.walk l.gates.items

@@ -1,6 +1,0 @@
-use Rattle.std.proofs.Common.{◌≡◌, take}
-use Rattle.ld_explain.proofs.told_walk.ToldWalk.of.Given as goal
-
--- the members so far
-abbrev pub invariant-loop-i : goal.invariant-loop-i
-invariant-loop-i l = l.members.items ≡ take l.i l.walk

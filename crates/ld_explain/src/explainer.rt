@@ -1,0 +1,266 @@
+//! Where what was chosen comes from, and what speaks against it.
+
+ghost use Rattle.std.specs.Prelude.{◌≡◌, ◌↔◌, ◌<◌, ◌++◌, ◌∷◌, [], ℕ, List, All, IfOk, IsFalse, IsTrue, OnOk, Some, length};
+ghost use Rattle.ld_facts.specs.Facts.{DependenciesOf, Holds};
+ghost use Rattle.ld_facts.specs.FactBits.{HasFact};
+ghost use Rattle.ld_explain.specs.Findings.{Are, AreGates, AreOrders, IsCircle, IsOnly};
+ghost use Rattle.ld_explain.specs.Found.{AreThose};
+ghost use Rattle.ld_explain.specs.Inside.Choosing.{IsAmong, IsMark};
+ghost use Rattle.ld_explain.specs.Inside.Explaining.{Explains, IsGuardOf, IsOfBoth, IsOfLink, Knows};
+ghost use Rattle.ld_explain.specs.Inside.Finding.{AddsThose};
+ghost use Rattle.ld_explain.specs.Notes.{IsGate};
+ghost use Rattle.ld_explain.specs.Origins.{IsFirst};
+ghost use Rattle.ld_facts.specs.declared.fact.Fact.{Fact};
+
+use crate::asked::Asked;
+use crate::choices::{Choice, Link};
+use crate::evidence::Evidence;
+use crate::finding::{Finding, GateNote, Order};
+use crate::found::Dependency;
+use crate::guard::Guard;
+use crate::origins::Origin;
+use ld_facts::Fact;
+use ld_trace::{KeyId, RawTrace};
+use std::alloc::{AllocError, Global};
+
+// Of how many members of a walk a key is a gate if it has a note, at least.
+const MIN_GUARDED: usize = 2;
+
+// Whether both are the same trace, or none.
+fn is_same(a: Option<u32>, b: Option<u32>) -> bool
+    ensures { IsTrue result ↔ (a ≡ b) }
+{
+    a == b
+}
+
+// What findings are explained from: what the traces say about all facts that are asked about, and the keys in the
+// report's order.
+#[derive(Drop)]
+pub(crate) struct Explainer<'a> {
+    pub traces: &'a [RawTrace],
+    pub asked: &'a Asked,
+    pub evidence: &'a Evidence,
+    pub keys: &'a [KeyId],
+    pub alloc: Global,
+}
+
+impl Explainer<'_> {
+    // Where a fact first occurs.
+    fn origin(&self, fact: Fact) -> Origin
+        requires knows { Knows self.now }
+        requires asked { HasFact self.now.asked.now fact }
+        ensures { IsFirst self.now.traces.now fact result }
+    {
+        let Some(origin) = self.evidence.origins.origin(fact) else {
+            unreachable!();
+        };
+        origin
+    }
+
+    // A dependency, and where it first occurs.
+    fn order(&self, d: &Dependency) -> Order
+        requires knows { Knows self.now }
+        requires asked { DependenciesOf (HasFact self.now.asked.now) d.now }
+        ensures dependency { result.dependency ≡ d.now }
+        ensures origin { IsFirst self.now.traces.now (Fact.Dependency d.now.start d.now.end d.now.kind) result.origin }
+    {
+        Order {
+            dependency: d.copy(),
+            origin: self.origin(d.fact()),
+        }
+    }
+
+    // The members of a walk.
+    fn orders(&self, walk: &[Dependency]) -> Result<Vec<Order>, AllocError>
+        requires knows { Knows self.now }
+        requires asked { All (DependenciesOf (HasFact self.now.asked.now)) walk.now }
+        ensures { IfOk result (λ orders. AreOrders self.now.traces.now walk.now orders.items) }
+    {
+        let mut orders = Vec::new(self.alloc);
+        for d in walk {
+            orders.push(self.order(d))?;
+        }
+        Ok(orders)
+    }
+
+    // What speaks against a dependency.
+    fn guard(&self, d: &Dependency) -> &Guard
+        requires knows { Knows self.now }
+        requires asked { DependenciesOf (HasFact self.now.asked.now) d.now }
+        ensures { IsGuardOf self.now.traces.now d.now result.now }
+    {
+        let Some(guard) = self.evidence.guards.guard_of(d.fact()) else {
+            unreachable!();
+        };
+        guard
+    }
+
+    // The dependency, if the key is a gate of it.
+    fn add_guarded(
+        &self,
+        guarded: &mut Vec<Dependency>,
+        d: &Dependency,
+        gate: KeyId,
+    ) -> Result<(), AllocError>
+        requires knows { Knows self.now }
+        requires asked { DependenciesOf (HasFact self.now.asked.now) d.now }
+        ensures { OnOk result (AddsThose (λ d. IsGate self.now.traces.now d gate) (d.now ∷ []) guarded.old.items guarded.new.items) }
+    {
+        if self.guard(d).has_gate(gate) {
+            guarded.push(d.copy())?;
+        }
+        Ok(())
+    }
+
+    // Those members of a walk that the key is a gate of.
+    fn guarded(&self, walk: &[Dependency], gate: KeyId) -> Result<Vec<Dependency>, AllocError>
+        requires knows { Knows self.now }
+        requires asked { All (DependenciesOf (HasFact self.now.asked.now)) walk.now }
+        ensures { IfOk result (λ guarded. AreThose (λ d. IsGate self.now.traces.now d gate) walk.now guarded.items) }
+    {
+        let mut guarded = Vec::new(self.alloc);
+        for d in walk {
+            self.add_guarded(&mut guarded, d, gate)?;
+        }
+        Ok(guarded)
+    }
+
+    // The key, if it is a gate of enough members of a walk.
+    fn add_gate(
+        &self,
+        gates: &mut Vec<GateNote>,
+        walk: &[Dependency],
+        key: KeyId,
+    ) -> Result<(), AllocError>
+        requires knows { Knows self.now }
+        requires asked { All (DependenciesOf (HasFact self.now.asked.now)) walk.now }
+        ensures { OnOk result ((keys : List ℕ) → AreGates self.now.traces.now keys walk.now gates.old.items
+            → AreGates self.now.traces.now (keys ++ key ∷ []) walk.now gates.new.items) }
+    {
+        let guarded = self.guarded(walk, key)?;
+        if guarded.len() < MIN_GUARDED {
+            return Ok(());
+        }
+        gates.push(GateNote { key, guarded })?;
+        Ok(())
+    }
+
+    // Whether some key may be a gate of a member of a walk. If not, none is.
+    fn may_have_gates(&self, walk: &[Dependency]) -> bool
+        requires knows { Knows self.now }
+        requires asked { All (DependenciesOf (HasFact self.now.asked.now)) walk.now }
+        ensures { IsFalse result → All (λ d. (gate : ℕ) → ¬ IsGate self.now.traces.now d gate) walk.now }
+    {
+        for d in walk {
+            if self.guard(d).has_gates() {
+                return true;
+            }
+        }
+        false
+    }
+
+    // The gates of a walk.
+    fn gates(&self, walk: &[Dependency]) -> Result<Vec<GateNote>, AllocError>
+        requires knows { Knows self.now }
+        requires asked { All (DependenciesOf (HasFact self.now.asked.now)) walk.now }
+        ensures { IfOk result (λ gates. AreGates self.now.traces.now self.now.keys.now walk.now gates.items) }
+    {
+        let mut gates = Vec::new(self.alloc);
+        if !self.may_have_gates(walk) {
+            return Ok(gates);
+        }
+        for key in self.keys {
+            self.add_gate(&mut gates, walk, *key)?;
+        }
+        Ok(gates)
+    }
+
+    // The trace that alone has all members of a walk.
+    fn only(&self, walk: &[Dependency]) -> Option<u32>
+        requires knows { Knows self.now }
+        requires some { 0 < length walk.now }
+        requires are { All (DependenciesOf (HasFact self.now.asked.now)) walk.now }
+        ensures { IsOnly self.now.traces.now walk.now result }
+    {
+        let only = self.guard(&walk[0]).only;
+        for d in walk {
+            if !is_same(self.guard(d).only, only) {
+                return None;
+            }
+        }
+        only
+    }
+
+    // A circle.
+    fn circle(&self, walk: &[Dependency]) -> Result<Finding, AllocError>
+        requires knows { Knows self.now }
+        requires some { 0 < length walk.now }
+        requires are { All (DependenciesOf (HasFact self.now.asked.now)) walk.now }
+        ensures { IfOk result (IsCircle self.now.traces.now self.now.keys.now walk.now) }
+    {
+        let only = self.only(walk);
+        let gates = self.gates(walk)?;
+        let walk = self.orders(walk)?;
+        Ok(Finding::Circle { walk, gates, only })
+    }
+
+    // A double.
+    fn double(&self, link: &Link) -> Finding
+        requires knows { Knows self.now }
+        requires asked { Holds (HasFact self.now.asked.now) (IsMark link.now) }
+        ensures { IsOfLink self.now.traces.now link.now result }
+    {
+        Finding::Double {
+            irq: link.irq,
+            key: link.a,
+            used: self.origin(link.used()),
+            enabled: self.origin(link.enabled()),
+        }
+    }
+
+    // An inversion.
+    fn inversion(&self, walk: &[Dependency], link: &Link) -> Result<Finding, AllocError>
+        requires knows { Knows self.now }
+        requires are { All (DependenciesOf (HasFact self.now.asked.now)) walk.now }
+        requires marks { Holds (HasFact self.now.asked.now) (IsMark link.now) }
+        ensures { IfOk result (IsOfBoth self.now.traces.now self.now.keys.now walk.now link.now) }
+    {
+        let gates = self.gates(walk)?;
+        let walk = self.orders(walk)?;
+        Ok(Finding::Inversion {
+            irq: link.irq,
+            a: link.a,
+            b: link.b,
+            walk,
+            used: self.origin(link.used()),
+            enabled: self.origin(link.enabled()),
+            gates,
+        })
+    }
+
+    // The finding of a choice.
+    fn finding(&self, choice: &Choice) -> Result<Finding, AllocError>
+        requires knows { Knows self.now }
+        requires among { IsAmong self.now.asked.now choice.now }
+        ensures { IfOk result (Explains self.now.traces.now self.now.keys.now choice.now) }
+    {
+        match choice {
+            Choice::ByWalk(walk) => self.circle(walk),
+            Choice::ByLink(link) => Ok(self.double(link)),
+            Choice::ByBoth(walk, link) => self.inversion(walk, link),
+        }
+    }
+
+    // The findings of choices.
+    pub(crate) fn findings(&self, choices: &[Choice]) -> Result<Vec<Finding>, AllocError>
+        requires knows { Knows self.now }
+        requires among { All (IsAmong self.now.asked.now) choices.now }
+        ensures { IfOk result (λ findings. Are (Explains self.now.traces.now self.now.keys.now) choices.now findings.items) }
+    {
+        let mut findings = Vec::new(self.alloc);
+        for choice in choices {
+            findings.push(self.finding(choice)?)?;
+        }
+        Ok(findings)
+    }
+}
