@@ -7,7 +7,7 @@ use Rattle.ld_task.specs.Kinds.{is_r-kind_of_letters, is_s-kind_of_letters}
 use Rattle.ld_facts.specs.Arrows.{Arrow, arrow}
 use Rattle.ld_facts.specs.FactBits.{FactParts, HasFact}
 use Rattle.ld_facts.specs.Facts.{Adds, DependenciesOf, Holds}
-use Rattle.ld_facts.specs.Laws.Lists.{Any-push, Contains-cases}
+use Rattle.ld_facts.specs.Laws.Lists.{Any-push}
 use Rattle.ld_facts.specs.declared.fact.Fact.{Fact}
 use Rattle.ld_facts.specs.declared.fact.Fact.TheVariants.{Dependency, Marked}
 use Rattle.ld_graph.specs.Laws.Facts.{StrongWalk-members}
@@ -33,17 +33,6 @@ Adds-then A B C P Q R both first more x = (
     | inr is ↦ elim ((both x).1 is) [ inl one ↦ (more x).1 (inl ((first x).1 (inr one))) | inr other ↦ (more x).1 (inr other) ]
   ],
 )
-
-pub Adds-both : (A B C P Q : Fact → Type 0) → Adds A B P → Adds B C Q → Adds A C (λ x. P x ⊎ Q x)
-Adds-both A B C P Q = Adds-then A B C P Q (λ x. P x ⊎ Q x) (λ x. (λ h. h, λ h. h))
-
--- no member of a walk yet
-none : (x : Fact) → IsMember [] x → ⊥
-none (Dependency from to kind) (k, l, at) = absurd (omega (arith, l))
-none (Marked key mark) h = h
-
-pub members-none : (A : Fact → Type 0) → Adds A A (IsMember [])
-members-none A x = (λ h. inl h, λ h. elim h [ inl was ↦ was | inr is ↦ absurd (none x is) ])
 
 -- the arrow of a dependency
 abbrev arrow_from : Fact → Arrow → Arrow
@@ -85,9 +74,6 @@ members-all Has walk are = All-weaker (Contains walk) (DependenciesOf Has) (λ d
 module _ (Has : Fact → Type 0) (d : Arrow) (walk : List Arrow) (shortest : IsShortestFrom Has d walk) where
   pub shortest-some : 0 < length walk
   shortest-some = subst (λ w. 0 < length w) (sym shortest.walk_is) (let l : 0 < length (d ∷ shortest.rest) = omega arith in l)
-
-  pub shortest-has : Contains walk d
-  shortest-has = subst (λ w. Contains w d) (sym shortest.walk_is) (0, let l : 0 < length (d ∷ shortest.rest) = omega arith in l, refl)
 
   pub shortest-are : Holds Has (IsMember walk)
   shortest-are = subst (λ w. Holds Has (IsMember w)) (sym shortest.walk_is)

@@ -1,19 +1,18 @@
 -- Findings of what was chosen.
-use Rattle.std.proofs.Common.{◌≡◌, ◌↔◌, ℕ, zero, suc, ◌+◌, ◌<◌, ◌≤◌, List, [], ◌∷◌, ◌++◌, All, Contains, Option, Some, length, map, slice_index_or, refl, sym, ap, ◌∙◌, subst, inl, inr, arith}
+use Rattle.std.proofs.Common.{◌≡◌, ℕ, zero, suc, ◌<◌, ◌≤◌, List, [], ◌∷◌, ◌++◌, All, Contains, length, map, slice_index_or, refl, sym, ap, ◌∙◌, subst, inl, inr, arith}
 use Rattle.std.proofs.lemmas.List.{append-nil, map-append}
 use Rattle.std.proofs.lemmas.List.Elements.{All-contains, All-nil, All-push, Contains-push_cases}
-use Rattle.std.proofs.lemmas.Option.{none-some, same_Some}
 use Rattle.ld_trace.specs.declared.event.Event.{Event}
 use Rattle.ld_trace.specs.declared.event.Irq.{Irq}
 use Rattle.ld_task.specs.Kinds.{is_r-kind_of_letters, is_s-kind_of_letters}
 use Rattle.ld_task.specs.declared.mark.Mark.TheVariants.{Enabled, UsedIn}
-use Rattle.ld_facts.specs.Arrows.{Arrow, arrow}
+use Rattle.ld_facts.specs.Arrows.{Arrow}
 use Rattle.ld_facts.specs.FactBits.{FactParts, HasFact}
 use Rattle.ld_facts.specs.Laws.Lists.{Contains-head, Contains-later}
 use Rattle.ld_facts.specs.declared.fact.Fact.{Fact}
 use Rattle.ld_facts.specs.declared.fact.Fact.TheVariants as fact
 use Rattle.ld_graph.specs.Links.{IsShortestInversion, link_by}
-use Rattle.ld_explain.specs.Findings.{Are, AreFindings, AreGates, AreOrders, GuardsTwo, IsCircle, IsTheDouble, IsTheInversion, members_of}
+use Rattle.ld_explain.specs.Findings.{Are, AreFindings, AreGates, AreOrders, GuardsTwo, IsCircle, IsTheDouble, IsTheInversion}
 use Rattle.ld_explain.specs.Found.{AreFound, AreThose, FoundParts}
 use Rattle.ld_explain.specs.Inside.Choosing.{AreChoices, IsCircleChoice, IsDoubleChoice, IsInversionChoice}
 use Rattle.ld_explain.specs.Inside.Explaining.{Explains}
@@ -30,9 +29,6 @@ use Rattle.ld_explain.proofs.FindingLemmas.{AreThose-append, AreThose-nothing}
 
 -- ---- origins
 module _ (traces : List (List Event)) where
-  pub orders-none : AreOrders traces [] []
-  orders-none = record { members = refl; first = All-nil _ }
-
   pub orders-more : (walk : List Arrow) (d : Arrow) (old new : List Order) (o : Order) → AreOrders traces walk old → o.dependency ≡ d →
       IsFirst traces (fact.Dependency d.start d.end d.kind) o.origin → new ≡ old ++ o ∷ [] → AreOrders traces (walk ++ d ∷ []) new
   orders-more walk d old new o were same first is = subst (AreOrders traces (walk ++ d ∷ [])) (sym is) record {
@@ -57,9 +53,6 @@ AreThose-none P (x ∷ xs) those never (inl (p, _)) = absurd (never x (Contains-
 AreThose-none P (x ∷ xs) those never (inr (not, more)) = AreThose-none P xs those (λ y has. never y (Contains-later x xs y has)) more
 
 module _ (traces : List (List Event)) (walk : List Arrow) where
-  pub gates-none : AreGates traces [] walk []
-  gates-none = record { keys_are = refl; guarded = All-nil _ }
-
   -- no key is a gate
   pub gates-nowhere : All (λ d. (gate : ℕ) → ¬ IsGate traces d gate) walk → (keys : List ℕ) → AreGates traces keys walk []
   gates-nowhere never keys = record { keys_are = AreThose-nothing (GuardsTwo traces walk) no_two keys; guarded = All-nil _ }
@@ -94,9 +87,6 @@ module _ (traces : List (List Event)) (walk : List Arrow) where
 
 -- ---- one trace alone
 module _ (traces : List (List Event)) (trace : ℕ) where
-  pub alone-none : IsAloneIn traces [] trace
-  alone-none d (k, l, at) = absurd (omega (arith, l))
-
   pub alone-more : (walk : List Arrow) (d : Arrow) → IsAloneIn traces walk trace → IsAloneIn traces (d ∷ []) trace → IsAloneIn traces (walk ++ d ∷ []) trace
   alone-more walk d before one e has = elim (Contains-push_cases walk d e has) [
     | inl was ↦ before e was

@@ -31,12 +31,6 @@ module _ {X : Type 0} (P : X → Type 0) where
   AreThose-nothing never [] = refl
   AreThose-nothing never (x ∷ xs) = inr (never x, AreThose-nothing never xs)
 
-  -- nor of one thing more
-  pub AreThose-none_more : (xs : List X) (i : ℕ) (x : X) → x ≡ slice_index_or xs i x → i < length xs → AreThose P (take i xs) [] → ¬ P x → AreThose P (take (i + 1) xs) []
-  AreThose-none_more xs i x is within none isnt =
-      subst (λ ys. AreThose P ys []) (sym (take_more xs i x within))
-      (AreThose-append (take i xs) (slice_index_or xs i x ∷ []) [] [] none (inr (subst (λ y. ¬ P y) is isnt, refl)))
-
   pub AddsThose-none : (old : List X) → AddsThose P [] old old
   AddsThose-none old = record { those = []; are = refl; grew = sym (append-nil old) }
 

@@ -1,7 +1,6 @@
 -- What is taken in, slot by slot, event by event and trace by trace.
-use Rattle.std.proofs.Common.{◌≡◌, ◌≢◌, ℕ, zero, suc, ◌+◌, ◌<◌, ◌≤◌, ◌↔◌, Bool, List, [], ◌∷◌, Contains, IsFalse, IsTrue, length, Option, Some, None, refl, sym, ap, ◌∙◌, subst, inl, inr, arith}
+use Rattle.std.proofs.Common.{◌≡◌, ℕ, zero, suc, ◌+◌, ◌<◌, ◌≤◌, ◌↔◌, List, [], ◌∷◌, Contains, length, Option, Some, None, refl, sym, ap, ◌∙◌, subst, inl, inr, arith}
 use Rattle.std.specs.Prelude.{slice_get}
-use Rattle.std.proofs.lemmas.Bool.{cases_Bool}
 use Rattle.std.proofs.lemmas.Option.{same_Some, slice_get_within}
 use Rattle.ld_trace.specs.declared.event.Event.{Event}
 use Rattle.ld_task.specs.Chains.{ChainParts}
@@ -11,26 +10,19 @@ use Rattle.ld_task.specs.declared.mark.Mark.{Mark}
 use Rattle.ld_facts.specs.Arrows.{Arrow}
 use Rattle.ld_facts.specs.ChainFacts.{chain_fact, fact_slots}
 use Rattle.ld_facts.specs.FactBits.{FactParts, HasFact}
-use Rattle.ld_facts.specs.Facts.{DependenciesOf}
 use Rattle.ld_facts.specs.Laws.{LaterSlotsAreOfNewerLocks, SlotsHaveWhatIsGiven}
 use Rattle.ld_facts.specs.declared.fact.Fact.{Fact}
 use Rattle.ld_facts.specs.declared.fact.Fact.TheVariants.{Dependency, Marked}
-use Rattle.ld_explain.specs.Notes.{AreGuardsOf, GuardParts, Guarded, HasGuard, IsAloneIn, IsGate}
+use Rattle.ld_explain.specs.Notes.{AreGuardsOf, GuardParts, Guarded, IsAloneIn, IsGate}
 use Rattle.ld_explain.specs.Origins.{AreOriginsOf, Gives, Occurs, OriginParts}
 use Rattle.ld_explain.specs.Inside.Firsts.{AreFirsts, PutsOrigin, SeenBefore, SeenFrom, SeenTo, slot_origin}
-use Rattle.ld_explain.specs.Inside.Guarding.{Among, AreGuards, AsksOrder, GuardsAt, PutsGuard, is_among}
+use Rattle.ld_explain.specs.Inside.Guarding.{Among, AreGuards, AsksOrder, GuardsAt, PutsGuard}
 use Rattle.ld_explain.specs.Inside.Taking.{AreTakenIn}
-use Rattle.ld_explain.specs.declared.guard.Guard.{Guard}
 use Rattle.ld_explain.specs.declared.origins.Origin.{Origin}
 use Rattle.ld_explain.proofs.Firsts.{AreFirsts-put, AreFirsts-same}
 use Rattle.ld_explain.proofs.Guarding.{AreGuards-put, AreGuards-same}
-use Rattle.ld_explain.proofs.Lists.{is_among-decides}
 use Rattle.ld_explain.proofs.Slots.{From-all, less, more, no_later, seen_none}
 use Rattle.ld_explain.proofs.Traces.{occurs_somewhere, seen_end, seen_start}
-
-some_member : (xs : List ℕ) → xs ≢ [] → (x : ℕ) × Contains xs x
-some_member [] some = absurd (some refl)
-some_member (x ∷ xs) some = (x, (0, omega arith, refl))
 
 -- the same occurrences of some facts
 among-same : (In : Fact → Type 0) (P Q : Fact → Origin → Type 0) → ((x : Fact) (o : Origin) → P x o ↔ Q x o) →
@@ -223,25 +215,3 @@ module _ (traces : List (List Event)) (asked : FactParts) where
     where
       within : (x : Fact) (o : Origin) → Occurs traces x o → o.trace < trace
       within x o occurs = omega (arith, past, slice_get_within traces o.trace occurs.t occurs.is_trace)
-
-  -- ---- what is returned of a dependency
-  module _ (parts : GuardParts) (are : AreGuardsOf traces asked parts) (d : Arrow) (is_asked : DependenciesOf (HasFact asked) d) where
-    pub tells_gate : (g : Guard) → HasGuard parts (Dependency d.start d.end d.kind) g → (key : ℕ) (b : Bool) → b ≡ is_among g.gates.items key →
-        IsTrue b ↔ IsGate traces d key
-    tells_gate g has key b is =
-        let r = are.gates d is_asked g has key in
-        let among = is_among-decides g.gates.items key in
-        ((λ h. r.0 (among.0 (sym is ∙ h))), (λ gate. is ∙ among.1 (r.1 gate)))
-
-    tells_none : (g : Guard) → HasGuard parts (Dependency d.start d.end d.kind) g → g.gates.items ≡ [] → (key : ℕ) → ¬ IsGate traces d key
-    tells_none g has none key gate =
-        let (k, l, at) = (are.gates d is_asked g has key).1 gate in
-        let none_there : length g.gates.items ≡ 0 = ap length none in
-        omega (arith, l, none_there)
-
-    pub tells_gates : (g : Guard) → HasGuard parts (Dependency d.start d.end d.kind) g → (b : Bool) →
-        (IsFalse b → g.gates.items ≡ []) → (IsTrue b → g.gates.items ≢ []) → IsTrue b ↔ ((gate : ℕ) × IsGate traces d gate)
-    tells_gates g has b none some = (
-      (λ t. let (key, is_there) = some_member g.gates.items (some t) in (key, (are.gates d is_asked g has key).0 is_there)),
-      (λ (key, gate). elim (cases_Bool b) [ inl t ↦ t | inr f ↦ absurd (tells_none g has (none f) key gate) ]),
-    )

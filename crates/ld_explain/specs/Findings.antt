@@ -7,7 +7,6 @@ use Rattle.ld_task.specs.declared.mark.Mark.TheVariants.{UsedIn, Enabled}
 use Rattle.ld_facts.specs.Arrows.{Arrow}
 use Rattle.ld_facts.specs.declared.fact.Fact.{Fact}
 use Rattle.ld_facts.specs.declared.fact.Fact.TheVariants as fact
-use Rattle.ld_facts.specs.TraceFacts.{TracesHave}
 use Rattle.ld_graph.specs.Links.{IsDoubleBy, IsShortestInversion}
 use Rattle.ld_graph.specs.Walks.{IsShortestFrom}
 use Rattle.ld_explain.specs.Found.{AreFound, AreThose, FoundParts}
@@ -17,7 +16,6 @@ use Rattle.ld_explain.specs.declared.finding.Finding.{Finding}
 use Rattle.ld_explain.specs.declared.finding.Finding.TheVariants.{Circle, Double, Inversion}
 use Rattle.ld_explain.specs.declared.finding.GateNote.{GateNote}
 use Rattle.ld_explain.specs.declared.finding.Order.{Order}
-use Rattle.ld_explain.specs.declared.origins.Origin.{Origin}
 
 -- ---- which circles are reported
 -- the dependency is a member of one of these circles
@@ -65,7 +63,8 @@ IsCircle traces keys walk _ = ⊥
 -- the finding is this double, by a link that makes it one
 abbrev pub IsTheDouble : (Fact → Type 0) → List (List Event) → Irq × ℕ → Finding → Type 0
 IsTheDouble Has traces double (Double irq key used enabled) = ((irq, key) ≡ double) × ((l : Arrow) × IsDoubleBy Has irq key l
-    × IsFirst traces (fact.Marked key (UsedIn irq (is_r l.kind))) used × IsFirst traces (fact.Marked key (Enabled irq (is_s l.kind))) enabled)
+    × IsFirst traces (fact.Marked key (UsedIn irq (is_r l.kind))) used
+    × IsFirst traces (fact.Marked key (Enabled irq (is_s l.kind))) enabled)
 IsTheDouble Has traces double _ = ⊥
 
 -- the finding is this inversion, by a shortest walk and a link that closes it
@@ -73,7 +72,8 @@ abbrev pub IsTheInversion : (Fact → Type 0) → List (List Event) → (keys : 
 IsTheInversion Has traces keys inversion (Inversion irq a b orders used enabled gates) =
     ((irq, (a, b)) ≡ inversion) × ((l : Arrow) × IsShortestInversion Has irq a b l (members_of orders.items)
     × AreOrders traces (members_of orders.items) orders.items
-    × IsFirst traces (fact.Marked a (UsedIn irq (is_r l.kind))) used × IsFirst traces (fact.Marked b (Enabled irq (is_s l.kind))) enabled
+    × IsFirst traces (fact.Marked a (UsedIn irq (is_r l.kind))) used
+    × IsFirst traces (fact.Marked b (Enabled irq (is_s l.kind))) enabled
     × AreGates traces keys (members_of orders.items) gates.items)
 IsTheInversion Has traces keys inversion _ = ⊥
 

@@ -5,7 +5,7 @@ ghost use Rattle.ld_facts.specs.Facts.{DependenciesOf, Holds};
 ghost use Rattle.ld_facts.specs.FactBits.{HasFact};
 ghost use Rattle.ld_explain.specs.Findings.{Are, AreGates, AreOrders, IsCircle, IsOnly};
 ghost use Rattle.ld_explain.specs.Found.{AreThose};
-ghost use Rattle.ld_explain.specs.Inside.Choosing.{IsAmong, IsMark};
+ghost use Rattle.ld_explain.specs.Inside.Choosing.{IsAmong, IsMark, enabled_of, used_of};
 ghost use Rattle.ld_explain.specs.Inside.Explaining.{Explains, IsGuardOf, IsOfBoth, IsOfLink, Knows};
 ghost use Rattle.ld_explain.specs.Inside.Finding.{AddsThose};
 ghost use Rattle.ld_explain.specs.Notes.{IsGate};
@@ -204,17 +204,28 @@ impl Explainer<'_> {
         Ok(Finding::Circle { walk, gates, only })
     }
 
+    // Where the marks of a link first occur.
+    fn uses(&self, link: &Link) -> (Origin, Origin)
+        requires knows { Knows self.now }
+        requires asked { Holds (HasFact self.now.asked.now) (IsMark link.now) }
+        ensures used { IsFirst self.now.traces.now (used_of link.now) result.0 }
+        ensures enabled { IsFirst self.now.traces.now (enabled_of link.now) result.1 }
+    {
+        (self.origin(link.used()), self.origin(link.enabled()))
+    }
+
     // A double.
     fn double(&self, link: &Link) -> Finding
         requires knows { Knows self.now }
         requires asked { Holds (HasFact self.now.asked.now) (IsMark link.now) }
         ensures { IsOfLink self.now.traces.now link.now result }
     {
+        let (used, enabled) = self.uses(link);
         Finding::Double {
             irq: link.irq,
             key: link.a,
-            used: self.origin(link.used()),
-            enabled: self.origin(link.enabled()),
+            used,
+            enabled,
         }
     }
 
@@ -227,13 +238,14 @@ impl Explainer<'_> {
     {
         let gates = self.gates(walk)?;
         let walk = self.orders(walk)?;
+        let (used, enabled) = self.uses(link);
         Ok(Finding::Inversion {
             irq: link.irq,
             a: link.a,
             b: link.b,
             walk,
-            used: self.origin(link.used()),
-            enabled: self.origin(link.enabled()),
+            used,
+            enabled,
             gates,
         })
     }

@@ -12,14 +12,16 @@ use Rattle.ld_explain.specs.Laws.Found.{AreFound-same}
 use Rattle.ld_explain.specs.declared.finding.Finding.{Finding}
 use Rattle.ld_explain.specs.declared.finding.Finding.TheVariants.{Circle, Double, Inversion}
 
-Are-same : {X Y : Type 0} (R S : X → Y → Type 0) → ((x : X) (y : Y) → R x y → S x y) → (xs : List X) (ys : List Y) → Are R xs ys → Are S xs ys
+Are-same : {X Y : Type 0} (R S : X → Y → Type 0) → ((x : X) (y : Y) → R x y → S x y) →
+    (xs : List X) (ys : List Y) → Are R xs ys → Are S xs ys
 unfolding Are
 Are-same R S same [] ys none = none
 Are-same R S same (x ∷ xs) ys (y, rest, is, are, at) = (y, rest, same x y is, Are-same R S same xs rest are, at)
 
 module _ (P Q : Fact → Type 0) (same : AreSame P Q) where
   -- the circles that are reported
-  reported-same : (before : List (List Arrow)) (ds : List Arrow) (circles : List (List Arrow)) → AreReported P before ds circles → AreReported Q before ds circles
+  reported-same : (before : List (List Arrow)) (ds : List Arrow) (circles : List (List Arrow)) →
+      AreReported P before ds circles → AreReported Q before ds circles
   reported-same before [] circles none = none
   reported-same before (d ∷ ds) circles (inl (left, (circle, rest, shortest, is, more))) = inl (
     left,
@@ -34,7 +36,8 @@ module _ (P Q : Fact → Type 0) (same : AreSame P Q) where
     double-same x (Circle orders gates only) none = none
     double-same x (Inversion irq a b orders used enabled gates) none = none
 
-    inversion-same : (x : Irq × (ℕ × ℕ)) (finding : Finding) → IsTheInversion P traces keys x finding → IsTheInversion Q traces keys x finding
+    inversion-same : (x : Irq × (ℕ × ℕ)) (finding : Finding) →
+        IsTheInversion P traces keys x finding → IsTheInversion Q traces keys x finding
     inversion-same x (Inversion irq a b orders used enabled gates) (is, (l, by, are, first, also, gates_are)) =
         (is, (l, IsShortestInversion-same P Q same irq a b l (members_of orders.items) by, are, first, also, gates_are))
     inversion-same x (Circle orders gates only) none = none
@@ -51,6 +54,7 @@ module _ (P Q : Fact → Type 0) (same : AreSame P Q) where
       inversions = are.inversions;
       circles_are = are.circles_are;
       doubles_are = Are-same (IsTheDouble P traces) (IsTheDouble Q traces) double-same are.found.doubles are.doubles are.doubles_are;
-      inversions_are = Are-same (IsTheInversion P traces keys) (IsTheInversion Q traces keys) inversion-same are.found.inversions are.inversions are.inversions_are;
+      inversions_are = Are-same (IsTheInversion P traces keys) (IsTheInversion Q traces keys) inversion-same
+          are.found.inversions are.inversions are.inversions_are;
       are = are.are;
     }

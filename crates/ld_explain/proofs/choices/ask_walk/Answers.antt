@@ -3,7 +3,7 @@ use Rattle.ld_facts.specs.FactBits.{HasFact}
 use Rattle.ld_facts.specs.Facts.{Adds}
 use Rattle.ld_explain.specs.Inside.Choosing.{IsMember}
 use Rattle.ld_explain.specs.Laws.Lists.{take-item}
-use Rattle.ld_explain.proofs.ChoosingLemmas.{members-more, members-none}
+use Rattle.ld_explain.proofs.ChoosingLemmas.{members-more}
 use Rattle.ld_explain.proofs.choices.ask_walk.Goals as goal
 
 pub loop-d-preserved : goal.loop-d-preserved

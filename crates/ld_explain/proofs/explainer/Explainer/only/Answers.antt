@@ -1,11 +1,10 @@
-use Rattle.std.proofs.Common.{◌≡◌, ◌∙◌, ◌<◌, Contains, Some, arith, refl, subst, sym, take}
+use Rattle.std.proofs.Common.{◌∙◌, arith, subst, sym, take}
 use Rattle.std.proofs.lemmas.Bool.{true≢false}
 use Rattle.std.proofs.lemmas.List.{take_all}
 use Rattle.std.proofs.lemmas.Option.{none-some}
-use Rattle.ld_facts.specs.Arrows.{Arrow}
 use Rattle.ld_explain.specs.Laws.Lists.{take-item}
 use Rattle.ld_explain.specs.Notes.{IsAloneIn}
-use Rattle.ld_explain.proofs.ExplainingLemmas.{alone-member, alone-more, alone-none}
+use Rattle.ld_explain.proofs.ExplainingLemmas.{alone-member, alone-more}
 use Rattle.ld_explain.proofs.explainer.Explainer.only.Goals as goal
 
 pub returns-then-not-is_same : goal.returns-then-not-is_same

@@ -1,7 +1,7 @@
 use Rattle.std.proofs.Common.{subst, sym}
 use Rattle.ld_explain.specs.Findings.{AreOrders}
 use Rattle.ld_explain.specs.Laws.Lists.{take-item}
-use Rattle.ld_explain.proofs.ExplainingLemmas.{orders-more, orders-none}
+use Rattle.ld_explain.proofs.ExplainingLemmas.{orders-more}
 use Rattle.ld_explain.proofs.explainer.Explainer.orders.Goals as goal
 
 pub loop-d-preserved : goal.loop-d-preserved
