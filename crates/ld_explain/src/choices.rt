@@ -74,11 +74,7 @@ pub(crate) struct Choices {
 
 impl Choices {
     // Chooses for all findings.
-    pub(crate) fn of(
-        alloc: Global,
-        settled: &Settled,
-        found: &Found,
-    ) -> Result<Choices, AllocError>
+    pub(crate) fn of(alloc: Global, settled: &Settled, found: &Found) -> Result<Choices, AllocError>
         requires { (keys : List ℕ) × AreFound (HasFact settled.now) keys found.now }
         ensures { IfOk result (AreChoices settled.now found.now) }
     {
@@ -158,11 +154,7 @@ impl Choices {
     }
 
     // The doubles.
-    fn add_doubles(
-        &mut self,
-        settled: &Settled,
-        doubles: &[(Irq, KeyId)],
-    ) -> Result<(), AllocError>
+    fn add_doubles(&mut self, settled: &Settled, doubles: &[(Irq, KeyId)]) -> Result<(), AllocError>
         requires asked { AreAsked settled.now self.old }
         requires are { All (λ x. IsDouble (HasFact settled.now) x.0 x.1) doubles.now }
         ensures { OnOk result (AddsEach settled.now (IsDoubleChoice (HasFact settled.now)) doubles.now self.old self.new) }

@@ -13,7 +13,8 @@ use Rattle.ld_trace.specs.Names.{Name}
 use Rattle.ld_facts.specs.Arrows.{Arrow}
 use Rattle.ld_text.specs.Inside.Turning.{TellsTurned, starts_before}
 use Rattle.ld_text.specs.Report.{member_text}
-use Rattle.ld_text.specs.Words.{key_text, name_at}
+use Rattle.ld_trace.specs.Writing.{name_at}
+use Rattle.ld_text.specs.Words.{key_text}
 use Rattle.ld_explain.specs.Laws.Lists.{flat_map-next}
 use Rattle.ld_text.proofs.OrderLemmas.{name_cmp_total}
 

@@ -1,9 +1,9 @@
 -- Groups of lines that grow.
-use Rattle.std.proofs.Common.{◌≡◌, ℕ, ◌+◌, ◌<◌, List, [], ◌∷◌, ◌++◌, take, length, slice_index_or, refl, sym, ap, ◌∙◌, subst, inr}
+use Rattle.std.proofs.Common.{◌≡◌, ℕ, ◌+◌, ◌<◌, List, [], ◌∷◌, ◌++◌, take, length, slice_index_or, refl, sym, ap, ◌∙◌, subst}
 use Rattle.std.specs.List.{flat_map}
 use Rattle.std.proofs.lemmas.List.{append_assoc, append-nil, take_more}
 use Rattle.ld_explain.specs.Laws.Lists.{flat_map-next}
-use Rattle.ld_text.specs.Groups.{GrowsBy, InSequence, InTurn, ShowsWhere}
+use Rattle.ld_text.specs.Groups.{GrowsBy, InSequence, InTurn}
 
 -- after the texts of the things of a list so far, that of one thing more
 pub flat_map-grows : {X Y : Type 0} (f : Y → List X) (xs : List Y) (i : ℕ) (y : Y) (old mid new : List X) → y ≡ slice_index_or xs i y → i < length xs →
@@ -47,10 +47,6 @@ module _ {X A : Type 0} (R : X → List A → Type 0) where
   GrowsBy-more_item xs i x old mid new is within before more =
       GrowsBy-more xs i x old mid new within before (subst (λ y. GrowsBy (R y) mid new) is more)
 
--- what is false adds nothing
-pub GrowsBy-hidden : (P : Type 0) (line text : List ℕ) → ¬ P → GrowsBy (ShowsWhere P line) text text
-GrowsBy-hidden P line text no_line = record { part = []; shows = inr (no_line, refl); grew = sym (append-nil text) }
-
 -- where no text is allowed none was added
 pub GrowsBy-nothing : (Q : List ℕ → Type 0) (text : List ℕ) → Q [] → GrowsBy Q text text
 GrowsBy-nothing Q text allowed = record { part = []; shows = allowed; grew = sym (append-nil text) }
@@ -60,13 +56,6 @@ unfolding InSequence
 InTurn-nothing R allowed [] = refl
 InTurn-nothing R allowed (x ∷ xs) = ([], [], allowed x, InTurn-nothing R allowed xs, refl)
 
--- where all is false there is no line
-module _ {X : Type 0} (P : X → Type 0) (line : X → List ℕ) (never : (x : X) → ¬ P x) where
-  hidden : (x : X) → ShowsWhere (P x) (line x) []
-  hidden x = inr (never x, refl)
-
-  pub InTurn-hidden : (xs : List X) → InTurn (λ x. ShowsWhere (P x) (line x)) xs []
-  InTurn-hidden xs = InTurn-nothing (λ x. ShowsWhere (P x) (line x)) hidden xs
-
-  pub GrowsBy-all_hidden : (xs : List X) (text : List ℕ) → GrowsBy (InTurn (λ x. ShowsWhere (P x) (line x)) xs) text text
-  GrowsBy-all_hidden xs text = GrowsBy-nothing (InTurn (λ x. ShowsWhere (P x) (line x)) xs) text (InTurn-hidden xs)
+-- a text that is known
+pub GrowsBy-is : (t old new : List ℕ) → new ≡ old ++ t → GrowsBy (λ text. text ≡ t) old new
+GrowsBy-is t old new grew = record { part = t; shows = refl; grew = grew }

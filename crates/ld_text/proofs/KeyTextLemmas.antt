@@ -3,7 +3,8 @@ use Rattle.std.proofs.Common.{◌≡◌, ℕ, ◌+◌, ◌<◌, List, [], ◌∷
 use Rattle.std.proofs.lemmas.List.{map-append, take_more}
 use Rattle.std.proofs.lemmas.Option.{unwrap_or-slice_get}
 use Rattle.ld_trace.specs.Names.{Name}
-use Rattle.ld_text.specs.Words.{key_text, name_at}
+use Rattle.ld_trace.specs.Writing.{name_at}
+use Rattle.ld_text.specs.Words.{key_text}
 
 -- the texts for one key more
 pub texts_more : (names : List Name) (n : ℕ) (texts : List (List ℕ)) (text : List ℕ) → n < length names → texts ≡ map key_text (take n names) → text ≡ key_text (name_at names n) →

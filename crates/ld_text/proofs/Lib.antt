@@ -1,11 +1,9 @@
 pub mod OutputLemmas
-pub mod NoteLemmas
 pub mod OrderLemmas
 pub mod GroupLemmas
 pub mod BecauseLemmas
 pub mod ChainLemmas
 pub mod JsonLemmas
-pub mod TellingLemmas
 pub mod LeafLemmas
 pub mod PictureGrowing
 pub mod KeyTextLemmas

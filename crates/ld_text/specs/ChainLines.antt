@@ -11,8 +11,8 @@ use Rattle.ld_task.specs.Flags.{is_on}
 use Rattle.ld_task.specs.declared.lock.Lock.{Lock}
 use Rattle.ld_task.specs.Chains.{ChainParts}
 use Rattle.ld_task.specs.TraceChains.{chains}
-use Rattle.ld_trace.specs.Writing.{mode_word}
-use Rattle.ld_text.specs.Words.{flag_text, frame_text, key_text, name_at}
+use Rattle.ld_trace.specs.Writing.{mode_word, name_at}
+use Rattle.ld_text.specs.Words.{flag_text, frame_text, key_text}
 
 -- a key and how it is taken
 abbrev pub taken_text : List Name → ℕ → Mode → List ℕ

@@ -1,4 +1,3 @@
 pub mod Joined
-pub mod Telling
 pub mod Tokens
 pub mod Turning

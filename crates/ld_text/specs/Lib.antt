@@ -1,5 +1,6 @@
 pub mod ChainLines
 pub mod Explanation
+pub mod Findings
 pub mod Groups
 pub mod Inside
 pub mod Json

@@ -4,7 +4,7 @@ use Rattle.std.specs.Ordering.{nat_cmp, ordering_then}
 use Rattle.std.specs.declared.cmp.Ordering.{Ordering}
 use Rattle.std.specs.Cmp.Lexicographic.{slice_cmp}
 use Rattle.ld_trace.specs.Names.{Name}
-use Rattle.ld_text.specs.Words.{name_at}
+use Rattle.ld_trace.specs.Writing.{name_at}
 
 -- names are compared by their bytes, and then by their subclass
 abbrev pub name_cmp : Name → Name → Ordering

@@ -5,16 +5,16 @@ use Rattle.ld_trace.specs.declared.event.Event.{Event}
 use Rattle.ld_trace.specs.declared.event.Irq.{Irq}
 use Rattle.ld_facts.specs.Arrows.{Arrow, arrow}
 use Rattle.ld_facts.specs.Facts.{DependenciesOf}
-use Rattle.ld_graph.specs.Links.{InInversion, IsDouble, IsInversion}
+use Rattle.ld_graph.specs.Links.{InInversion, IsDouble}
 use Rattle.ld_graph.specs.Walks.{OnCircle}
 use Rattle.ld_facts.specs.declared.fact.Fact.{Fact}
 use Rattle.ld_facts.specs.TraceFacts.{TracesHave}
-use Rattle.ld_text.specs.Groups.{InSequence, InTurn, ShowsWhere}
+use Rattle.ld_text.specs.Groups.{InSequence, InTurn}
 use Rattle.ld_text.specs.Order.{IsKeyOrder}
 use Rattle.ld_text.specs.Report.{IsUsageCharacter, forms}
-use Rattle.ld_trace.specs.Writing.{irq_word}
-use Rattle.ld_explain.specs.Found.{kinds, states}
-use Rattle.ld_text.specs.Words.{kind_text, name_at}
+use Rattle.ld_trace.specs.Writing.{irq_word, name_at}
+use Rattle.ld_explain.specs.Found.{AreFound, FoundParts, kinds, states}
+use Rattle.ld_text.specs.Words.{kind_text}
 
 -- Names. In a text between double quotes, a double quote and a backslash come after a backslash.
 
@@ -88,23 +88,26 @@ ShowsEdge Has names only d text =
     (DependenciesOf Has d × ShowsColoured only (IsFoundArrow Has d) (λ red line. line ≡ edge_line names d red) text)
     ⊎ (¬ DependenciesOf Has d × (text ≡ []))
 
-abbrev pub ShowsDoubleLink : (Fact → Type 0) → List Name → Irq → (key : ℕ) → List ℕ → Type 0
-ShowsDoubleLink Has names irq key = ShowsWhere (IsDouble Has irq key) (link_line names irq key key)
+-- the lines of doubles and of inversions
+abbrev pub double_links : List Name → List (Irq × ℕ) → List ℕ
+double_links names = flat_map (λ x. link_line names x.0 x.1 x.1)
 
-abbrev pub ShowsInversionLink : (Fact → Type 0) → List Name → Irq → (a b : ℕ) → List ℕ → Type 0
-ShowsInversionLink Has names irq a b = ShowsWhere (IsInversion Has irq a b) (link_line names irq b a)
+abbrev pub inversion_links : List Name → List (Irq × (ℕ × ℕ)) → List ℕ
+inversion_links names = flat_map (λ x. link_line names x.0 x.1.1 x.1.0)
 
 -- the text is a picture of these facts, for the keys with these names: the keys, the dependencies, the doubles and the
 -- inversions, each in the report's order
 pub record IsPicture (Has : Fact → Type 0) (only : Bool) (names : List Name) (text : List ℕ) : Type 0 where
   pub keys : List ℕ
   pub keys_are : IsKeyOrder names keys
+  pub found : FoundParts
+  pub found_are : AreFound Has keys found
   pub text_is : InSequence (
       (λ part. part ≡ codes "digraph lockdep {\n  node [shape=box];\n")
       ∷ InTurn (ShowsKey Has names keys only) keys
       ∷ InTurn (λ from. InTurn (λ to. InTurn (λ kind. ShowsEdge Has names only (arrow from to kind)) kinds) keys) keys
-      ∷ InTurn (λ irq. InTurn (ShowsDoubleLink Has names irq) keys) states
-      ∷ InTurn (λ irq. InTurn (λ a. InTurn (ShowsInversionLink Has names irq a) keys) keys) states
+      ∷ (λ part. part ≡ double_links names found.doubles)
+      ∷ (λ part. part ≡ inversion_links names found.inversions)
       ∷ (λ part. part ≡ codes "}\n")
       ∷ []) text
 

@@ -13,9 +13,9 @@ use Rattle.ld_graph.specs.Walks.{IsShortestCircle, OnCircle}
 use Rattle.ld_graph.specs.Links.{IsClean}
 use Rattle.ld_facts.specs.Counting.{IsNumberOf}
 use Rattle.ld_facts.specs.TraceFacts.{TracesHave}
-use Rattle.ld_trace.specs.Writing.{irq_word}
+use Rattle.ld_trace.specs.Writing.{irq_word, name_at}
 use Rattle.ld_explain.specs.Found.{states}
-use Rattle.ld_text.specs.Words.{key_text, kind_text, name_at}
+use Rattle.ld_text.specs.Words.{key_text, kind_text}
 use Rattle.ld_text.specs.Order.{IsKeyOrder, name_cmp}
 use Rattle.ld_explain.specs.Found.{AreFound, FoundParts}
 use Rattle.ld_text.specs.Groups.{InSequence, InTurn}
@@ -107,11 +107,11 @@ ShowsBecause Has names text =
 
 abbrev pub double_line : List Name → Irq → (key : ℕ) → List ℕ
 double_line names irq key =
-    codes "double " ++ irq_word irq ++ codes " " ++ key_text (name_at names key) ++ codes "\n"
+    codes "double " ++ (irq_word irq ++ (codes " " ++ (key_text (name_at names key) ++ codes "\n")))
 
 abbrev pub inversion_line : List Name → Irq → (a b : ℕ) → List ℕ
-inversion_line names irq a b = codes "inversion " ++ irq_word irq ++ codes " "
-    ++ key_text (name_at names a) ++ codes " " ++ key_text (name_at names b) ++ codes "\n"
+inversion_line names irq a b = codes "inversion " ++ (irq_word irq ++ (codes " "
+    ++ (key_text (name_at names a) ++ (codes " " ++ (key_text (name_at names b) ++ codes "\n")))))
 
 -- The findings.
 

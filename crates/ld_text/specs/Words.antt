@@ -1,5 +1,5 @@
 -- The words of the program's texts [this project's own].
-use Rattle.std.specs.Prelude.{ℕ, Bool, true, false, List, [], ◌∷◌, ◌++◌, codes, decimal, slice_get, unwrap_or}
+use Rattle.std.specs.Prelude.{ℕ, Bool, true, false, List, ◌++◌, codes, decimal, slice_get, unwrap_or}
 use Rattle.ld_trace.specs.Names.{Name}
 use Rattle.ld_task.specs.declared.frame.Frame.{Frame}
 use Rattle.ld_task.specs.declared.frame.Frame.TheVariants.{Task, Softirq, Hardirq}
@@ -13,10 +13,6 @@ Text = List ℕ
 -- what texts call the trace at this place: its file, or standard input where no file is named
 abbrev pub file_at : List Text → ℕ → Text
 file_at files place = unwrap_or (slice_get files place) (codes "stdin")
-
--- the name of the key of this number; an empty one where there is no such key
-abbrev pub name_at : List Name → ℕ → Name
-name_at names key = unwrap_or (slice_get names key) ([], 0)
 
 -- a key: its class's name, a slash and its subclass
 abbrev pub key_text : Name → List ℕ

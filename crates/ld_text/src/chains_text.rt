@@ -4,7 +4,8 @@ ghost use Rattle.std.specs.Prelude.{◌≡◌, ◌+◌, ◌≤◌, ◌++◌, [],
 ghost use Rattle.std.specs.Io.KnownBytes.{Appends};
 ghost use Rattle.ld_text.specs.ChainLines.{chain_line, chains_text, flags_text, head_text, taken_text};
 ghost use Rattle.ld_text.specs.Output.{AppendsBeginning};
-ghost use Rattle.ld_text.specs.Words.{key_text, name_at};
+ghost use Rattle.ld_trace.specs.Writing.{name_at};
+ghost use Rattle.ld_text.specs.Words.{key_text};
 ghost use Rattle.ld_text.specs.declared.chains_text.TheConstants.{LINE_BYTES};
 
 use crate::output::{Page, put, write_out};

@@ -8,9 +8,9 @@ ghost use Rattle.ld_text.specs.Inside.Joined.{AreJoinedKeys, Leads};
 ghost use Rattle.ld_text.specs.Picture.{IsFoundArrow, ShowsEdge};
 ghost use Rattle.ld_explain.specs.Found.{kinds};
 
-use crate::found::{KINDS, has_dependency};
 use crate::picture::{PictureView, add_end};
 use crate::words::kind_word;
+use ld_explain::{KINDS, has_dependency};
 use ld_graph::Kind;
 use ld_parts::Settled;
 use ld_trace::KeyId;

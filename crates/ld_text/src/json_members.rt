@@ -1,8 +1,8 @@
 //! Members of JSON objects.
 
-ghost use Rattle.std.specs.Prelude.{◌∷◌, [], OnOk, map, string_bytes};
+ghost use Rattle.std.specs.Prelude.{◌∷◌, [], OnOk};
 ghost use Rattle.json.specs.Token.{string};
-ghost use Rattle.ld_text.specs.Json.{list_member, notes_member, number_member, text_member};
+ghost use Rattle.ld_text.specs.Json.{list_member, number_member, text_member};
 ghost use Rattle.ld_text.specs.Inside.Tokens.{Adds};
 
 use json::Writer;
@@ -47,25 +47,5 @@ pub(crate) fn add_both(
     w.begin_array()?;
     w.string(first)?;
     w.string(second)?;
-    w.end_array()
-}
-
-// Each note.
-pub(crate) fn add_each_note(w: &mut Writer, notes: &[String]) -> Result<(), AllocError>
-    ensures { OnOk result (Adds w.old w.new (map string (map string_bytes notes.now))) }
-{
-    for i in 0..notes.len() {
-        w.string(notes[i].as_str())?;
-    }
-    Ok(())
-}
-
-// The notes.
-pub(crate) fn add_notes(w: &mut Writer, notes: &[String]) -> Result<(), AllocError>
-    ensures { OnOk result (Adds w.old w.new (notes_member (map string_bytes notes.now))) }
-{
-    w.key("notes")?;
-    w.begin_array()?;
-    add_each_note(w, notes)?;
     w.end_array()
 }

@@ -1,7 +1,8 @@
 //! The keys as lines name them.
 
 ghost use Rattle.std.specs.Prelude.{◌≡◌, ◌++◌, [], IfOk, OnOk, map, slice_get, string_bytes, unwrap_or};
-ghost use Rattle.ld_text.specs.Words.{key_text, name_at};
+ghost use Rattle.ld_trace.specs.Writing.{name_at};
+ghost use Rattle.ld_text.specs.Words.{key_text};
 
 use crate::words::name_of;
 use ld_trace::{KeyId, KeyTable};

@@ -1,35 +1,16 @@
 //! The lines of an explanation: where facts come from, and who waits for whom.
 
-ghost use Rattle.std.specs.Prelude.{◌≡◌, ◌++◌, ◌≤◌, All, OnOk, codes, flat_map, string_bytes};
-ghost use Rattle.ld_facts.specs.Arrows.{arrow};
-ghost use Rattle.ld_facts.specs.FactBits.{HasFact};
-ghost use Rattle.ld_facts.specs.Facts.{DependenciesOf};
-ghost use Rattle.ld_facts.specs.declared.fact.Fact.{Fact};
-ghost use Rattle.ld_task.specs.declared.mark.Mark.{Mark};
-ghost use Rattle.ld_text.specs.Explanation.{IsDependencyLine, IsOriginLine, comes_line, does_text, event_of, holds_line, lock_of, occurrence_text, waits_text, while_text};
-ghost use Rattle.ld_text.specs.Groups.{GrowsBy, InTurn};
+ghost use Rattle.std.specs.Prelude.{◌≡◌, ◌++◌, ◌≤◌, OnOk, codes, flat_map, string_bytes};
+ghost use Rattle.ld_text.specs.Explanation.{comes_line, dependency_text, does_text, event_of, holds_line, lock_of, occurrence_text, order_line, use_lines, waits_line, waits_text, while_text};
 ghost use Rattle.ld_text.specs.Report.{member_text};
-ghost use Rattle.ld_trace.specs.Writing.{irq_word};
-ghost use Rattle.ld_text.specs.Words.{key_text, name_at};
 
-use crate::teller::Teller;
-use crate::told_walk::{ToldWalk, member};
-use crate::words::{file_of, irq_word, kind_word, mode_word, name_of};
-use ld_explain::Origin;
-use ld_graph::{Kind, Mark};
+use crate::explainer::Explainer;
+use crate::words::{file_of, irq_word, kind_word, mode_word};
+use ld_explain::{Dependency, Order, Origin};
 use ld_trace::{Event, Irq, KeyId};
 use std::alloc::AllocError;
 
-impl Teller<'_> {
-    // A key.
-    pub(crate) fn add_key(&self, text: &mut String, key: KeyId) -> Result<(), AllocError>
-        ensures { OnOk result (string_bytes text.new
-            ≡ string_bytes text.old ++ key_text (name_at self.now.told.names key)) }
-    {
-        let (name, sub) = name_of(self.names, key);
-        write!(text, "{name}/{sub}")
-    }
-
+impl Explainer<'_> {
     // What the event at this place of a trace does.
     pub(crate) fn add_event(
         &self,
@@ -38,16 +19,15 @@ impl Teller<'_> {
         place: u32,
     ) -> Result<(), AllocError>
         ensures { OnOk result (string_bytes text.new ≡ string_bytes text.old
-            ++ does_text self.now.told.names (event_of self.now.told.traces trace place)) }
+            ++ does_text self.now.names (event_of self.now.traces trace place)) }
     {
         let Some(event) = self.event(trace, place) else {
             return Ok(());
         };
         match event {
             Event::Acquire { mode, key } => {
-                let (name, sub) = name_of(self.names, key);
-                let mode = mode_word(mode);
-                write!(text, " takes {name}/{sub} {mode}")
+                let (key, mode) = (self.key(key), mode_word(mode));
+                write!(text, " takes {key} {mode}")
             }
             Event::TurnOn { irq } => {
                 let state = irq_word(irq);
@@ -65,16 +45,15 @@ impl Teller<'_> {
         place: u32,
     ) -> Result<(), AllocError>
         ensures { OnOk result (string_bytes text.new ≡ string_bytes text.old
-            ++ lock_of self.now.told.names (event_of self.now.told.traces trace place)) }
+            ++ lock_of self.now.names (event_of self.now.traces trace place)) }
     {
         let Some(event) = self.event(trace, place) else {
             return Ok(());
         };
         match event {
             Event::Acquire { mode, key } => {
-                let (name, sub) = name_of(self.names, key);
-                let mode = mode_word(mode);
-                write!(text, "{name}/{sub} {mode}")
+                let (key, mode) = (self.key(key), mode_word(mode));
+                write!(text, "{key} {mode}")
             }
             _ => Ok(()),
         }
@@ -87,8 +66,7 @@ impl Teller<'_> {
         trace: u32,
         held: Option<u32>,
     ) -> Result<(), AllocError>
-        ensures { OnOk result (string_bytes text.new
-            ≡ string_bytes text.old ++ while_text self.now.told trace held) }
+        ensures { OnOk result (string_bytes text.new ≡ string_bytes text.old ++ while_text self.now trace held) }
     {
         let Some(held) = held else {
             return Ok(());
@@ -101,8 +79,7 @@ impl Teller<'_> {
 
     // An occurrence.
     pub(crate) fn add_occurrence(&self, text: &mut String, origin: Origin) -> Result<(), AllocError>
-        ensures { OnOk result (string_bytes text.new
-            ≡ string_bytes text.old ++ occurrence_text self.now.told origin) }
+        ensures { OnOk result (string_bytes text.new ≡ string_bytes text.old ++ occurrence_text self.now origin) }
     {
         let file = file_of(self.files, origin.trace as usize);
         let record = origin.place as u64 + 2;
@@ -114,135 +91,131 @@ impl Teller<'_> {
     // The rest of a line that begins with the words for a fact: where it first occurs.
     pub(crate) fn add_origin(&self, text: &mut String, origin: Origin) -> Result<(), AllocError>
         ensures { OnOk result (string_bytes text.new ≡ string_bytes text.old
-            ++ (codes ": " ++ (occurrence_text self.now.told origin ++ codes "\n"))) }
+            ++ (codes ": " ++ (occurrence_text self.now origin ++ codes "\n"))) }
     {
         text.push_str(": ")?;
         self.add_occurrence(text, origin)?;
         text.push_str("\n")
     }
 
-    // Where a dependency comes from.
+    // A dependency, after these words.
     pub(crate) fn add_dependency(
         &self,
         text: &mut String,
-        from: KeyId,
-        to: KeyId,
-        kind: Kind,
+        before: &str,
+        d: &Dependency,
     ) -> Result<(), AllocError>
-        requires { HasFact self.now.asked (Fact.Dependency from to kind) }
-        ensures { OnOk result (GrowsBy (IsDependencyLine self.now.told (arrow from to kind))
-            (string_bytes text.old) (string_bytes text.new)) }
+        ensures { OnOk result (string_bytes text.new
+            ≡ string_bytes text.old ++ (before.now ++ dependency_text self.now.names d.now)) }
     {
-        let origin = self.dependency(from, to, kind);
-        let (from_name, from_sub) = name_of(self.names, from);
-        let (to_name, to_sub) = name_of(self.names, to);
-        let kind = kind_word(kind);
-        write!(text, "  {from_name}/{from_sub} {kind} {to_name}/{to_sub}")?;
-        self.add_origin(text, origin)
+        let (from, kind, to) = (self.key(d.from), kind_word(d.kind), self.key(d.to));
+        write!(text, "{before}{from} {kind} {to}")
     }
 
-    // Where a key is used in a state.
-    pub(crate) fn add_used(
-        &self,
-        text: &mut String,
-        irq: Irq,
-        key: KeyId,
-        read: bool,
-    ) -> Result<(), AllocError>
-        requires { HasFact self.now.asked (Fact.Marked key (Mark.UsedIn irq read)) }
-        ensures { OnOk result (GrowsBy (IsOriginLine self.now.told (codes "used in " ++ irq_word irq)
-            (Fact.Marked key (Mark.UsedIn irq read))) (string_bytes text.old) (string_bytes text.new)) }
+    // Where a dependency comes from.
+    pub(crate) fn add_order(&self, text: &mut String, order: &Order) -> Result<(), AllocError>
+        ensures { OnOk result (string_bytes text.new ≡ string_bytes text.old ++ order_line self.now order.now) }
     {
-        let origin = self.mark(key, Mark::UsedIn { irq, read });
-        let state = irq_word(irq);
-        write!(text, "  used in {state}")?;
-        self.add_origin(text, origin)
-    }
-
-    // Where a key is used with a state enabled.
-    pub(crate) fn add_enabled(
-        &self,
-        text: &mut String,
-        irq: Irq,
-        key: KeyId,
-        read: bool,
-    ) -> Result<(), AllocError>
-        requires { HasFact self.now.asked (Fact.Marked key (Mark.Enabled irq read)) }
-        ensures { OnOk result (GrowsBy
-            (IsOriginLine self.now.told (codes "used with " ++ (irq_word irq ++ codes "s on"))
-            (Fact.Marked key (Mark.Enabled irq read))) (string_bytes text.old) (string_bytes text.new)) }
-    {
-        let origin = self.mark(key, Mark::Enabled { irq, read });
-        text.push_str("  used with ")?;
-        text.push_str(irq_word(irq))?;
-        text.push_str("s on")?;
-        self.add_origin(text, origin)
+        self.add_dependency(text, "  ", &order.dependency)?;
+        self.add_origin(text, order.origin)
     }
 
     // Where each dependency of a walk comes from.
-    pub(crate) fn add_dependencies(
-        &self,
-        text: &mut String,
-        walk: &ToldWalk,
-    ) -> Result<(), AllocError>
-        requires { All (DependenciesOf (HasFact self.now.asked)) walk.now }
-        ensures { OnOk result (GrowsBy (InTurn (IsDependencyLine self.now.told) walk.now)
-            (string_bytes text.old) (string_bytes text.new)) }
+    pub(crate) fn add_orders(&self, text: &mut String, walk: &[Order]) -> Result<(), AllocError>
+        ensures { OnOk result (string_bytes text.new
+            ≡ string_bytes text.old ++ flat_map (order_line self.now) walk.now) }
     {
-        for i in 0..walk.len() {
-            let (from, to, kind) = member(walk, i);
-            self.add_dependency(text, from, to, kind)?;
+        for order in walk {
+            self.add_order(text, order)?;
         }
         Ok(())
+    }
+
+    // Where a key is used in a state, and where one is used with it enabled.
+    pub(crate) fn add_uses(
+        &self,
+        text: &mut String,
+        irq: Irq,
+        used: Origin,
+        enabled: Origin,
+    ) -> Result<(), AllocError>
+        ensures { OnOk result (string_bytes text.new ≡ string_bytes text.old ++ use_lines self.now irq used enabled) }
+    {
+        let state = irq_word(irq);
+        write!(text, "  used in {state}")?;
+        self.add_origin(text, used)?;
+        write!(text, "  used with {state}s on")?;
+        self.add_origin(text, enabled)
+    }
+
+    // A task that holds the lock that a dependency leads from, and waits for the other.
+    pub(crate) fn add_task(
+        &self,
+        text: &mut String,
+        task: usize,
+        d: &Dependency,
+    ) -> Result<(), AllocError>
+        ensures { OnOk result (string_bytes text.new ≡ string_bytes text.old ++ waits_line self.now.names task d.now) }
+    {
+        let (from, to) = (self.key(d.from), self.key(d.to));
+        writeln!(text, "  task {task} holds {from} and waits for {to}")
+    }
+
+    // A member of a walk as such a task.
+    pub(crate) fn add_wait(
+        &self,
+        text: &mut String,
+        task: usize,
+        order: &Order,
+    ) -> Result<(), AllocError>
+        ensures { OnOk result (string_bytes text.new
+            ≡ string_bytes text.old ++ waits_line self.now.names task order.now.dependency) }
+    {
+        self.add_task(text, task, &order.dependency)
     }
 
     // Each member of a walk as a task that waits; the tasks are numbered from this one on.
     pub(crate) fn add_waits(
         &self,
         text: &mut String,
-        first: u32,
-        walk: &ToldWalk,
+        first: usize,
+        walk: &[Order],
     ) -> Result<(), AllocError>
         requires { first ≤ 2 }
         ensures { OnOk result (string_bytes text.new
-            ≡ string_bytes text.old ++ waits_text self.now.told.names first walk.now) }
+            ≡ string_bytes text.old ++ waits_text self.now.names first walk.now) }
     {
         for i in 0..walk.len() {
-            let (from, to, _) = member(walk, i);
-            let (from_name, from_sub) = name_of(self.names, from);
-            let (to_name, to_sub) = name_of(self.names, to);
-            let task = first as usize + i;
-            writeln!(
-                text,
-                "  task {task} holds {from_name}/{from_sub} and waits for {to_name}/{to_sub}"
-            )?;
+            self.add_wait(text, first + i, &walk[i])?;
         }
         Ok(())
     }
 
-    // The members of a walk, each by its kind and the key that it leads to.
-    pub(crate) fn add_members(&self, text: &mut String, walk: &ToldWalk) -> Result<(), AllocError>
-        ensures { OnOk result (string_bytes text.new
-            ≡ string_bytes text.old ++ flat_map (member_text self.now.told.names) walk.now) }
+    // A member of a walk, by its kind and the key that it leads to.
+    pub(crate) fn add_member(&self, text: &mut String, d: &Dependency) -> Result<(), AllocError>
+        ensures { OnOk result (string_bytes text.new ≡ string_bytes text.old ++ member_text self.now.names d.now) }
     {
-        for i in 0..walk.len() {
-            let (_, to, kind) = member(walk, i);
-            let (name, sub) = name_of(self.names, to);
-            let kind = kind_word(kind);
-            write!(text, " {kind} {name}/{sub}")?;
+        let (kind, to) = (kind_word(d.kind), self.key(d.to));
+        write!(text, " {kind} {to}")
+    }
+
+    // The members of a walk.
+    pub(crate) fn add_members(&self, text: &mut String, walk: &[Order]) -> Result<(), AllocError>
+        ensures { OnOk result (string_bytes text.new ≡ string_bytes text.old
+            ++ flat_map (λ order. member_text self.now.names order.dependency) walk.now) }
+    {
+        for order in walk {
+            self.add_member(text, &order.dependency)?;
         }
         Ok(())
     }
 
     // Task 1 holds a lock.
     pub(crate) fn add_holder(&self, text: &mut String, key: KeyId) -> Result<(), AllocError>
-        ensures { OnOk result (string_bytes text.new
-            ≡ string_bytes text.old ++ holds_line self.now.told.names key) }
+        ensures { OnOk result (string_bytes text.new ≡ string_bytes text.old ++ holds_line self.now.names key) }
     {
-        text.push_str("  task 1 holds ")?;
-        self.add_key(text, key)?;
-        text.push_str("\n")?;
-        Ok(())
+        let key = self.key(key);
+        writeln!(text, "  task 1 holds {key}")
     }
 
     // An interrupt comes in and waits for a lock.
@@ -252,14 +225,12 @@ impl Teller<'_> {
         irq: Irq,
         key: KeyId,
     ) -> Result<(), AllocError>
-        ensures { OnOk result (string_bytes text.new
-            ≡ string_bytes text.old ++ comes_line self.now.told.names irq key) }
+        ensures { OnOk result (string_bytes text.new ≡ string_bytes text.old ++ comes_line self.now.names irq key) }
     {
-        let (name, sub) = name_of(self.names, key);
-        let state = irq_word(irq);
+        let (state, key) = (irq_word(irq), self.key(key));
         writeln!(
             text,
-            "  a {state} comes in at task 1 and waits for {name}/{sub}"
+            "  a {state} comes in at task 1 and waits for {key}"
         )
     }
 }

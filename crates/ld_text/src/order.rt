@@ -2,7 +2,7 @@
 
 ghost use Rattle.std.specs.Prelude.{◌≡◌, IfOk, length};
 ghost use Rattle.ld_text.specs.Order.{IsKeyOrder, name_cmp, numbers_below};
-ghost use Rattle.ld_text.specs.Words.{name_at};
+ghost use Rattle.ld_trace.specs.Writing.{name_at};
 
 use crate::words::name_of;
 use ld_trace::{KeyId, KeyTable};

@@ -7,17 +7,17 @@ ghost use Rattle.ld_graph.specs.Links.{IsDouble};
 ghost use Rattle.ld_text.specs.WriteFaults.{StopsWriting};
 ghost use Rattle.ld_text.specs.Groups.{GrowsBy, InTurn};
 ghost use Rattle.ld_text.specs.Inside.Joined.{AreJoinedKeys};
-ghost use Rattle.ld_text.specs.Picture.{AreJoined, IsFoundKey, IsNode, IsPicture, ShowsDoubleLink, ShowsInversionLink, ShowsKey, arrow_text, end_text, escaped, quoted_key};
+ghost use Rattle.ld_text.specs.Picture.{AreJoined, IsFoundKey, IsNode, IsPicture, ShowsKey, arrow_text, double_links, end_text, escaped, inversion_links, link_line, quoted_key};
 ghost use Rattle.ld_text.specs.Report.{IsUsageCharacter, forms};
 ghost use Rattle.ld_explain.specs.Found.{states};
-ghost use Rattle.ld_text.specs.Words.{name_at};
+ghost use Rattle.ld_trace.specs.Writing.{name_at};
 
-use crate::found::is_used_in;
 use crate::order::sorted_keys;
 use crate::output::write_text;
 use crate::report::{FORMS, usage_character};
 use crate::words::{digits_of, irq_word, name_of};
 use crate::write_fault::WriteFault;
+use ld_explain::Found;
 use ld_facts::STATES;
 use ld_parts::Settled;
 use ld_trace::{Irq, KeyId, KeyTable};
@@ -202,101 +202,44 @@ impl PictureView<'_> {
         add(text, "\"")
     }
 
-    // The line of a key to itself, if it is a double.
-    fn add_double(self, text: &mut Vec<u8>, irq: Irq, key: KeyId) -> Result<(), AllocError>
-        ensures { OnOk result (GrowsBy
-            (ShowsDoubleLink (HasFact self.entry.settled.now) self.entry.names.now.names irq key)
-            text.old.items text.new.items) }
-    {
-        if self.settled.is_double(irq, key.get()) {
-            self.add_arrow(text, key, key, irq_word(irq))?;
-            add(text, LINK_END)?;
-        }
-        Ok(())
-    }
-
-    // The lines of the doubles of one state.
-    fn add_doubles_of(self, text: &mut Vec<u8>, irq: Irq) -> Result<(), AllocError>
-        ensures { OnOk result (GrowsBy
-            (InTurn (ShowsDoubleLink (HasFact self.entry.settled.now) self.entry.names.now.names irq) self.entry.keys.now)
-            text.old.items text.new.items) }
-    {
-        for key in self.keys {
-            self.add_double(text, irq, *key)?;
-        }
-        Ok(())
-    }
-
-    // The lines of the doubles.
-    fn add_doubles(self, text: &mut Vec<u8>) -> Result<(), AllocError>
-        ensures { OnOk result (GrowsBy
-            (InTurn (λ irq. InTurn (ShowsDoubleLink (HasFact self.entry.settled.now) self.entry.names.now.names irq)
-            self.entry.keys.now) states)
-            text.old.items text.new.items) }
-    {
-        for irq in STATES {
-            self.add_doubles_of(text, irq)?;
-        }
-        Ok(())
-    }
-
-    // The line from the second key to the first, if they are an inversion.
-    fn add_inversion(
+    // A dashed red arrow from the key that is used with a state enabled to the key that is used in it.
+    fn add_link(
         self,
         text: &mut Vec<u8>,
         irq: Irq,
-        a: KeyId,
-        b: KeyId,
+        from: KeyId,
+        to: KeyId,
     ) -> Result<(), AllocError>
-        ensures { OnOk result (GrowsBy
-            (ShowsInversionLink (HasFact self.entry.settled.now) self.entry.names.now.names irq a b)
-            text.old.items text.new.items) }
+        ensures { OnOk result (text.new.items
+            ≡ text.old.items ++ link_line self.entry.names.now.names irq from to) }
     {
-        if self.settled.is_inversion(irq, a.get(), b.get()) {
-            self.add_arrow(text, b, a, irq_word(irq))?;
-            add(text, LINK_END)?;
+        self.add_arrow(text, from, to, irq_word(irq))?;
+        add(text, LINK_END)
+    }
+
+    // The lines of doubles.
+    fn add_doubles(self, text: &mut Vec<u8>, doubles: &[(Irq, KeyId)]) -> Result<(), AllocError>
+        ensures { OnOk result (text.new.items
+            ≡ text.old.items ++ double_links self.entry.names.now.names doubles.now) }
+    {
+        for double in doubles {
+            self.add_link(text, double.0, double.1, double.1)?;
         }
         Ok(())
     }
 
-    // The lines of the inversions of one state and one first key.
-    fn add_inversions_from(self, text: &mut Vec<u8>, irq: Irq, a: KeyId) -> Result<(), AllocError>
-        ensures { OnOk result (GrowsBy
-            (InTurn (ShowsInversionLink (HasFact self.entry.settled.now) self.entry.names.now.names irq a)
-            self.entry.keys.now)
-            text.old.items text.new.items) }
+    // The lines of inversions.
+    fn add_inversions(
+        self,
+        text: &mut Vec<u8>,
+        inversions: &[(Irq, (KeyId, KeyId))],
+    ) -> Result<(), AllocError>
+        ensures { OnOk result (text.new.items
+            ≡ text.old.items ++ inversion_links self.entry.names.now.names inversions.now) }
     {
-        if !is_used_in(self.settled, irq, a) {
-            return Ok(());
-        }
-        for b in self.keys {
-            self.add_inversion(text, irq, a, *b)?;
-        }
-        Ok(())
-    }
-
-    // The lines of the inversions of one state.
-    fn add_inversions_of(self, text: &mut Vec<u8>, irq: Irq) -> Result<(), AllocError>
-        ensures { OnOk result (GrowsBy
-            (InTurn (λ a. InTurn (ShowsInversionLink (HasFact self.entry.settled.now) self.entry.names.now.names irq a)
-            self.entry.keys.now) self.entry.keys.now)
-            text.old.items text.new.items) }
-    {
-        for a in self.keys {
-            self.add_inversions_from(text, irq, *a)?;
-        }
-        Ok(())
-    }
-
-    // The lines of the inversions.
-    fn add_inversions(self, text: &mut Vec<u8>) -> Result<(), AllocError>
-        ensures { OnOk result (GrowsBy
-            (InTurn (λ irq. InTurn (λ a. InTurn (ShowsInversionLink (HasFact self.entry.settled.now)
-            self.entry.names.now.names irq a) self.entry.keys.now) self.entry.keys.now) states)
-            text.old.items text.new.items) }
-    {
-        for irq in STATES {
-            self.add_inversions_of(text, irq)?;
+        for inversion in inversions {
+            let (a, b) = inversion.1;
+            self.add_link(text, inversion.0, b, a)?;
         }
         Ok(())
     }
@@ -319,14 +262,15 @@ fn picture_text(
         keys,
         only: findings,
     };
+    let found = Found::of(alloc, settled, keys)?;
     let mut edges = Vec::new(alloc);
     let joined = view.add_edges(alloc, &mut edges)?;
     let mut text = Vec::new(alloc);
     add(&mut text, "digraph lockdep {\n  node [shape=box];\n")?;
     view.add_keys(&mut text, joined.as_slice())?;
     add_bytes(&mut text, edges.as_slice())?;
-    view.add_doubles(&mut text)?;
-    view.add_inversions(&mut text)?;
+    view.add_doubles(&mut text, found.doubles())?;
+    view.add_inversions(&mut text, found.inversions())?;
     add(&mut text, "}\n")?;
     Ok(text)
 }

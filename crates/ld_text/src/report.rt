@@ -6,15 +6,16 @@ ghost use Rattle.ld_facts.specs.FactBits.{HasFact};
 ghost use Rattle.ld_text.specs.WriteFaults.{StopsWriting};
 ghost use Rattle.ld_text.specs.Groups.{GrowsBy, InSequence, InTurn};
 ghost use Rattle.ld_text.specs.Report.{AreTotals, IsReport, IsUsageCharacter, IsUsageLine, ShowsBecause, circle_line, clean_line, double_line, findings, forms, inversion_line, total_line, usage_character};
-ghost use Rattle.ld_text.specs.Words.{key_text, name_at};
+ghost use Rattle.ld_trace.specs.Writing.{name_at};
+ghost use Rattle.ld_text.specs.Words.{key_text};
 
 use crate::because;
-use crate::found::{Dependency, Found};
 use crate::key_texts::KeyTexts;
 use crate::order::sorted_keys;
 use crate::output::write_text;
 use crate::words::{irq_word, kind_word, name_of};
 use crate::write_fault::WriteFault;
+use ld_explain::{Dependency, Found};
 use ld_graph::Mark;
 use ld_parts::Settled;
 use ld_trace::{Irq, KeyId, KeyTable, RawTrace, event_count};

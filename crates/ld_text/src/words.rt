@@ -1,8 +1,8 @@
 //! Words of the program's texts.
 
 ghost use Rattle.std.specs.Prelude.{◌≡◌, ◌+◌, ◌<◌, ◌≤◌, ◌++◌, [], ◌∷◌, decimal, length, map};
-ghost use Rattle.ld_trace.specs.Writing.{irq_word, mode_word};
-ghost use Rattle.ld_text.specs.Words.{file_at, flag_text, frame_text, kind_text, name_at};
+ghost use Rattle.ld_trace.specs.Writing.{irq_word, mode_word, name_at};
+ghost use Rattle.ld_text.specs.Words.{file_at, flag_text, frame_text, kind_text};
 
 use arrayvec::ArrayString;
 use ld_graph::Kind;

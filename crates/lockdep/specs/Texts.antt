@@ -4,10 +4,10 @@ use Rattle.ld_text.specs.Words.{Text}
 use Rattle.ld_trace.specs.Names.{Name}
 use Rattle.ld_trace.specs.declared.event.Event.{Event}
 use Rattle.lockdep.specs.Condensed.{IsCondensedOf}
-use Rattle.ld_text.specs.Explanation.{IsExplanationOf}
-use Rattle.ld_text.specs.Json.{IsJsonOf}
+use Rattle.ld_text.specs.Findings.{SaysFindingsOf}
 use Rattle.ld_text.specs.Picture.{IsPictureOf}
 use Rattle.ld_text.specs.Report.{IsReportOf}
+use Rattle.ld_text.specs.declared.findings.Format.TheVariants as format
 use Rattle.lockdep.specs.declared.output.Output.{Output}
 use Rattle.lockdep.specs.declared.output.Output.TheVariants.{Report, Explanation, Json, Picture, Condensed}
 
@@ -29,7 +29,7 @@ view_of Condensed = condensed
 -- the text is this output of these traces
 abbrev pub IsTextOf : OutputView → List (List Event) → List Name → List ℕ → Type 0
 IsTextOf report traces names = IsReportOf traces names
-IsTextOf (explanation files) traces names = IsExplanationOf traces names files
-IsTextOf (json files) traces names = IsJsonOf traces names files
+IsTextOf (explanation files) traces names = SaysFindingsOf format.Lines traces names files
+IsTextOf (json files) traces names = SaysFindingsOf format.Json traces names files
 IsTextOf (picture findings) traces names = IsPictureOf findings traces names
 IsTextOf condensed traces names = IsCondensedOf traces names

@@ -13,7 +13,7 @@ ghost use Rattle.lockdep.specs.Texts.{IsTextOf, view_of};
 use crate::condensed::write_condensed;
 use crate::fault::ReportFault;
 use ld_run::{MAX_TRACES, Settled};
-use ld_text::{write_explanation, write_json, write_picture, write_report};
+use ld_text::{Format, write_findings, write_picture, write_report};
 use ld_trace::{KeyTable, RawTrace};
 use std::alloc::Global;
 use std::io::Write;
@@ -59,10 +59,12 @@ pub(crate) fn write_output<W: Write>(
             write_report(alloc, w, settled, traces, keys).map_err(ReportFault::Out)
         }
         Output::Explanation { files } => {
-            write_explanation(alloc, w, settled, traces, keys, files).map_err(ReportFault::Out)
+            write_findings(alloc, w, settled, traces, keys, files, Format::Lines)
+                .map_err(ReportFault::Out)
         }
         Output::Json { files } => {
-            write_json(alloc, w, settled, traces, keys, files).map_err(ReportFault::Out)
+            write_findings(alloc, w, settled, traces, keys, files, Format::Json)
+                .map_err(ReportFault::Out)
         }
         Output::Picture { findings } => {
             write_picture(alloc, w, settled, keys, findings).map_err(ReportFault::Out)

@@ -90,7 +90,8 @@ IsInversionChoice Has inversion _ = ⊥
 -- a shortest circle through the dependency is chosen, unless that is asked about
 abbrev pub ChoosesCircle : FactParts → Arrow → (old new : Choices) → Type 0
 ChoosesCircle facts d old new = (DependenciesOf (HasFact old.asked) d × (new ≡ old))
-    ⊎ (¬ DependenciesOf (HasFact old.asked) d × ((circle : List Arrow) × IsShortestFrom (HasFact facts) d circle × AddsFor IsCircleChoice circle old new))
+    ⊎ (¬ DependenciesOf (HasFact old.asked) d × ((circle : List Arrow) × IsShortestFrom (HasFact facts) d circle
+    × AddsFor IsCircleChoice circle old new))
 
 -- the circles that are reported for these dependencies are chosen, and exactly their members are asked about
 pub record ChoosesCircles (facts : FactParts) (ds : List Arrow) (choices : Choices) : Type 0 where

@@ -15,7 +15,8 @@ AreThose-same P Q same (x ∷ xs) those (inr (fails, more)) =
     inr (λ q. fails ((same x).1 q), AreThose-same P Q same xs those more)
 
 -- the findings of equal facts
-pub AreFound-same : (P Q : Fact → Type 0) → AreSame P Q → (keys : List ℕ) (found : FoundParts) → AreFound P keys found → AreFound Q keys found
+pub AreFound-same : (P Q : Fact → Type 0) → AreSame P Q → (keys : List ℕ) (found : FoundParts) →
+    AreFound P keys found → AreFound Q keys found
 AreFound-same P Q same keys found are = record {
   circles = AreThose-same _ _ (OnCircle-same P Q same) (arrows_among keys) found.circles are.circles;
   doubles = AreThose-same _ _ (λ x. IsDouble-same P Q same x.0 x.1) (doubles_among keys) found.doubles are.doubles;

@@ -6,7 +6,7 @@ use Rattle.ld_trace.specs.Names.{Name}
 use Rattle.ld_facts.specs.Arrows.{Arrow}
 use Rattle.ld_text.specs.Order.{name_cmp}
 use Rattle.ld_text.specs.Report.{because_line}
-use Rattle.ld_text.specs.Words.{name_at}
+use Rattle.ld_trace.specs.Writing.{name_at}
 
 -- the first starts at a key that stands before the second's
 abbrev pub starts_before : List Name → Arrow → Arrow → Bool

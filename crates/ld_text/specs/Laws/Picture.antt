@@ -3,13 +3,14 @@ use Rattle.std.proofs.Common.{◌≡◌, ◌↔◌, ◌⊎◌, ℕ, Bool, true, 
 use Rattle.ld_trace.specs.Names.{Name}
 use Rattle.ld_facts.specs.Arrows.{Arrow, arrow}
 use Rattle.ld_facts.specs.Facts.{AreSame}
-use Rattle.ld_graph.specs.Laws.Facts.{InInversion-same, IsDouble-same, IsInversion-same, OnCircle-same}
+use Rattle.ld_graph.specs.Laws.Facts.{InInversion-same, IsDouble-same, OnCircle-same}
 use Rattle.ld_facts.specs.declared.fact.Fact.{Fact}
 use Rattle.ld_facts.specs.declared.fact.Fact.TheVariants.{Dependency}
-use Rattle.ld_text.specs.Picture.{AreJoined, IsFoundArrow, IsFoundKey, IsNode, IsPicture, ShowsColoured, ShowsEdge, ShowsKey, edge_line, link_line}
+use Rattle.ld_text.specs.Picture.{AreJoined, IsFoundArrow, IsFoundKey, IsNode, IsPicture, ShowsColoured, ShowsEdge, ShowsKey, edge_line}
 use Rattle.ld_text.specs.Report.{forms}
 use Rattle.ld_explain.specs.Found.{kinds, states}
-use Rattle.ld_text.specs.Laws.Report.{InTurn-same, ShowsWhere-same, character-same, then-same}
+use Rattle.ld_explain.specs.Laws.Found.{AreFound-same}
+use Rattle.ld_text.specs.Laws.Report.{InTurn-same, character-same, then-same}
 
 Any-more : {X : Type 0} (P Q : X → Type 0) → ((x : X) → P x → Q x) → (xs : List X) → Any P xs → Any Q xs
 Any-more P Q more xs (k, x, within, is, holds) = (k, x, within, is, more x holds)
@@ -70,9 +71,9 @@ module _ (P Q : Fact → Type 0) (same : AreSame P Q) where
       record {
         keys = keys;
         keys_are = p.keys_are;
+        found = p.found;
+        found_are = AreFound-same P Q same keys p.found p.found_are;
         text_is = then-same _ _ (λ _ h. h) (then-same _ _ (InTurn-same _ _ (key-same names keys only) keys)
             (then-same _ _ (InTurn-same _ _ (λ from. InTurn-same _ _ (λ to. InTurn-same _ _ (λ kind. edge-same names only (arrow from to kind)) kinds) keys) keys)
-            (then-same _ _ (InTurn-same _ _ (λ irq. InTurn-same _ _ (λ key. ShowsWhere-same _ _ (link_line names irq key key) (IsDouble-same P Q same irq key)) keys) states)
-            (then-same _ _ (InTurn-same _ _ (λ irq. InTurn-same _ _ (λ a. InTurn-same _ _ (λ b. ShowsWhere-same _ _ (link_line names irq b a) (IsInversion-same P Q same irq a b)) keys) keys) states)
-            (λ _ h. h))))) text p.text_is;
+            (λ _ h. h))) text p.text_is;
       }

@@ -9,7 +9,7 @@ use Rattle.ld_facts.specs.Laws.Counting.{IsNumberOf-same}
 use Rattle.ld_graph.specs.Links.{IsClean}
 use Rattle.ld_facts.specs.declared.fact.Fact.{Fact}
 use Rattle.ld_facts.specs.declared.fact.Fact.TheVariants.{Dependency, Marked}
-use Rattle.ld_text.specs.Groups.{InSequence, InTurn, ShowsWhere}
+use Rattle.ld_text.specs.Groups.{InSequence, InTurn}
 use Rattle.ld_text.specs.Report.{AreTotals, IsReport, IsUsageCharacter, IsUsageLine, ShowsBecause, forms}
 use Rattle.ld_explain.specs.Laws.Found.{AreFound-same}
 
@@ -24,10 +24,6 @@ pub then-same : {P Q : List ℕ → Type 0} (Ps Qs : List (List ℕ → Type 0))
     (text : List ℕ) → InSequence (P ∷ Ps) text → InSequence (Q ∷ Qs) text
 unfolding InSequence
 then-same Ps Qs one more text (first, rest, shows, others, is) = (first, rest, one first shows, more rest others, is)
-
-pub ShowsWhere-same : (P Q : Type 0) (line : List ℕ) → P ↔ Q → (text : List ℕ) → ShowsWhere P line text → ShowsWhere Q line text
-ShowsWhere-same P Q line same text (inl (holds, is)) = inl (same.0 holds, is)
-ShowsWhere-same P Q line same text (inr (fails, is)) = inr (λ q. fails (same.1 q), is)
 
 both : {P Q R : Type 0} → P ↔ Q → Q ↔ R → P ↔ R
 both f g = (λ p. g.0 (f.0 p), λ r. f.1 (g.1 r))

@@ -4,16 +4,16 @@ use Rattle.std.specs.Io.KnownBytes.{Appends}
 use Rattle.ld_facts.specs.FactBits.{HasFact}
 use Rattle.ld_facts.specs.TraceFacts.{TracesHave}
 use Rattle.lockdep.specs.Condensed.{IsCondensedOf, IsCondensedText}
-use Rattle.ld_text.specs.Explanation.{IsExplanation, Told}
-use Rattle.ld_text.specs.Json.{IsJson}
+use Rattle.ld_text.specs.Explanation.{Sources}
+use Rattle.ld_text.specs.Findings.{SaysFindings}
 use Rattle.lockdep.specs.Faults.{StopsSettled}
 use Rattle.ld_text.specs.Picture.{IsPicture}
 use Rattle.ld_text.specs.Report.{IsReport}
+use Rattle.ld_text.specs.declared.findings.Format.TheVariants as format
 use Rattle.lockdep.specs.Texts.{report, explanation, json, picture, condensed, IsTextOf, view_of}
 use Rattle.lockdep.specs.declared.output.Output.{Output}
 use Rattle.lockdep.proofs.CondensedLemmas.{IsCondensedText-same}
-use Rattle.ld_text.specs.Laws.Explanation.{IsExplanation-same}
-use Rattle.ld_text.specs.Laws.Json.{IsJson-same}
+use Rattle.ld_text.specs.Laws.Findings.{SaysFindings-same}
 use Rattle.lockdep.proofs.FaultLemmas.{StopsSettled-same, written-err, written-ok}
 use Rattle.ld_text.specs.Laws.Picture.{IsPicture-same}
 use Rattle.ld_text.specs.Laws.Report.{IsReport-same}
@@ -35,31 +35,31 @@ returns-in-Report-clause-err g c =
 
 pub returns-in-Explanation-clause-ok : goal.returns-in-Explanation-clause-ok
 returns-in-Explanation-clause-ok g c =
-    let told : Told = record { traces = c.args.traces.now; names = c.args.keys.now.names; files = map (λ file. file.now) c.in-Explanation.files.now } in
-    written-ok _ (explanation told.files) (ap view_of c.in-Explanation.is) (IsExplanation (HasFact c.args.settled.now) told)
-    c.args.traces.now c.args.keys.now.names (IsExplanation-same (HasFact c.args.settled.now) (TracesHave c.args.traces.now) c.requires.facts told)
-    _ _ c.write_explanation.result c.map_err-in-Explanation.result c.map_err-in-Explanation.ensures.cases c.write_explanation.ensures.ok
+    let sources : Sources = record { traces = c.args.traces.now; names = c.args.keys.now.names; files = map (λ file. file.now) c.in-Explanation.files.now } in
+    written-ok _ (explanation sources.files) (ap view_of c.in-Explanation.is) (SaysFindings format.Lines (HasFact c.args.settled.now) sources)
+    c.args.traces.now c.args.keys.now.names (SaysFindings-same (HasFact c.args.settled.now) (TracesHave c.args.traces.now) c.requires.facts format.Lines sources)
+    _ _ c.write_findings.result c.map_err-in-Explanation.result c.map_err-in-Explanation.ensures.cases c.write_findings.ensures.ok
 
 pub returns-in-Explanation-clause-err : goal.returns-in-Explanation-clause-err
 returns-in-Explanation-clause-err g c =
-    let told : Told = record { traces = c.args.traces.now; names = c.args.keys.now.names; files = map (λ file. file.now) c.in-Explanation.files.now } in
-    written-err _ (explanation told.files) (ap view_of c.in-Explanation.is) (IsExplanation (HasFact c.args.settled.now) told)
-    c.args.traces.now c.args.keys.now.names (IsExplanation-same (HasFact c.args.settled.now) (TracesHave c.args.traces.now) c.requires.facts told)
-    _ _ c.write_explanation.result c.map_err-in-Explanation.result c.map_err-in-Explanation.ensures.cases c.write_explanation.ensures.err
+    let sources : Sources = record { traces = c.args.traces.now; names = c.args.keys.now.names; files = map (λ file. file.now) c.in-Explanation.files.now } in
+    written-err _ (explanation sources.files) (ap view_of c.in-Explanation.is) (SaysFindings format.Lines (HasFact c.args.settled.now) sources)
+    c.args.traces.now c.args.keys.now.names (SaysFindings-same (HasFact c.args.settled.now) (TracesHave c.args.traces.now) c.requires.facts format.Lines sources)
+    _ _ c.write_findings.result c.map_err-in-Explanation.result c.map_err-in-Explanation.ensures.cases c.write_findings.ensures.err
 
 pub returns-in-Json-clause-ok : goal.returns-in-Json-clause-ok
 returns-in-Json-clause-ok g c =
-    let told : Told = record { traces = c.args.traces.now; names = c.args.keys.now.names; files = map (λ file. file.now) c.in-Json.files.now } in
-    written-ok _ (json told.files) (ap view_of c.in-Json.is) (IsJson (HasFact c.args.settled.now) told)
-    c.args.traces.now c.args.keys.now.names (IsJson-same (HasFact c.args.settled.now) (TracesHave c.args.traces.now) c.requires.facts told)
-    _ _ c.write_json.result c.map_err-in-Json.result c.map_err-in-Json.ensures.cases c.write_json.ensures.ok
+    let sources : Sources = record { traces = c.args.traces.now; names = c.args.keys.now.names; files = map (λ file. file.now) c.in-Json.files.now } in
+    written-ok _ (json sources.files) (ap view_of c.in-Json.is) (SaysFindings format.Json (HasFact c.args.settled.now) sources)
+    c.args.traces.now c.args.keys.now.names (SaysFindings-same (HasFact c.args.settled.now) (TracesHave c.args.traces.now) c.requires.facts format.Json sources)
+    _ _ c.write_findings-in-Json.result c.map_err-in-Json.result c.map_err-in-Json.ensures.cases c.write_findings-in-Json.ensures.ok
 
 pub returns-in-Json-clause-err : goal.returns-in-Json-clause-err
 returns-in-Json-clause-err g c =
-    let told : Told = record { traces = c.args.traces.now; names = c.args.keys.now.names; files = map (λ file. file.now) c.in-Json.files.now } in
-    written-err _ (json told.files) (ap view_of c.in-Json.is) (IsJson (HasFact c.args.settled.now) told)
-    c.args.traces.now c.args.keys.now.names (IsJson-same (HasFact c.args.settled.now) (TracesHave c.args.traces.now) c.requires.facts told)
-    _ _ c.write_json.result c.map_err-in-Json.result c.map_err-in-Json.ensures.cases c.write_json.ensures.err
+    let sources : Sources = record { traces = c.args.traces.now; names = c.args.keys.now.names; files = map (λ file. file.now) c.in-Json.files.now } in
+    written-err _ (json sources.files) (ap view_of c.in-Json.is) (SaysFindings format.Json (HasFact c.args.settled.now) sources)
+    c.args.traces.now c.args.keys.now.names (SaysFindings-same (HasFact c.args.settled.now) (TracesHave c.args.traces.now) c.requires.facts format.Json sources)
+    _ _ c.write_findings-in-Json.result c.map_err-in-Json.result c.map_err-in-Json.ensures.cases c.write_findings-in-Json.ensures.err
 
 pub returns-in-Picture-clause-ok : goal.returns-in-Picture-clause-ok
 returns-in-Picture-clause-ok g c =

@@ -1,7 +1,6 @@
 use Rattle.std.proofs.Common.{subst, sym}
 use Rattle.ld_explain.specs.Naming.{view_of}
 use Rattle.ld_explain.specs.Findings.{AreGates}
-use Rattle.ld_explain.specs.Laws.Lists.{take-item}
 use Rattle.ld_explain.proofs.ExplainingLemmas.{gates-nowhere}
 use Rattle.ld_explain.proofs.explainer.Explainer.gates.Goals as goal
 

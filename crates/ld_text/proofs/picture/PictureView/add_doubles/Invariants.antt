@@ -1,11 +1,7 @@
-use Rattle.std.proofs.Common.{take}
-use Rattle.ld_facts.specs.FactBits.{HasFact}
-use Rattle.ld_text.specs.Groups.{GrowsBy, InTurn}
-use Rattle.ld_text.specs.Picture.{ShowsDoubleLink}
+use Rattle.std.proofs.Common.{◌≡◌, ◌++◌, take}
+use Rattle.ld_text.specs.Picture.{double_links}
 use Rattle.ld_text.proofs.picture.PictureView.add_doubles.Given as goal
 
--- the lines of the states so far
-abbrev pub invariant-loop-irq : goal.invariant-loop-irq
-invariant-loop-irq l =
-    GrowsBy (InTurn (λ irq. InTurn (ShowsDoubleLink (HasFact l.self.settled.now) l.self.names.now.names irq) l.self.keys.now) (take l.irq-index l.irq-items))
-    l.initial.text.items l.text.items
+-- the lines so far
+abbrev pub invariant-loop-double : goal.invariant-loop-double
+invariant-loop-double l = l.text.items ≡ l.initial.text.items ++ double_links l.self.names.now.names (take l.double-index l.doubles)

@@ -1,5 +1,4 @@
-use Rattle.ld_text.proofs.GroupLemmas.{GrowsBy-none, GrowsBy-then}
-use Rattle.ld_text.proofs.LeafLemmas.{GrowsBy-is}
+use Rattle.ld_text.proofs.GroupLemmas.{GrowsBy-is, GrowsBy-none, GrowsBy-then}
 use Rattle.ld_text.proofs.report.ReportView.add_findings.Goals as goal
 
 pub returns : goal.returns

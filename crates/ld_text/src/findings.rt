@@ -1,0 +1,95 @@
+//! The text of what was found, in one of two formats.
+
+ghost use Rattle.std.specs.Prelude.{◌≡◌, ◌≤◌, ℕ, List, All, IfOk, IfErr, OnOk, length, map};
+ghost use Rattle.std.specs.Io.KnownBytes.{Appends};
+ghost use Rattle.ld_trace.specs.declared.raw_trace.TheConstants.{MAX_TRACES};
+ghost use Rattle.ld_task.specs.WellFormed.{IsWellFormed};
+ghost use Rattle.ld_facts.specs.FactBits.{HasFact};
+ghost use Rattle.ld_facts.specs.Facts.{AreSame};
+ghost use Rattle.ld_facts.specs.TraceFacts.{TracesHave};
+ghost use Rattle.ld_text.specs.Findings.{SaysFindings};
+ghost use Rattle.ld_text.specs.WriteFaults.{StopsWriting};
+
+use crate::explainer::Explainer;
+use crate::key_texts::KeyTexts;
+use crate::order::sorted_keys;
+use crate::output::write_text;
+use crate::write_fault::WriteFault;
+use ld_explain::findings_of;
+use ld_parts::Settled;
+use ld_trace::{KeyTable, RawTrace};
+use std::alloc::{AllocError, Global};
+use std::io::Write;
+
+/// How findings are written.
+#[derive(Clone, Copy, PartialEq, Eq, Debug)]
+pub enum Format {
+    /// As lines, for people to read.
+    Lines,
+    /// As a JSON object with an object for each finding, for programs to read. JSON is RFC 8259.
+    Json,
+}
+
+// The text.
+fn findings_text(
+    alloc: Global,
+    settled: &Settled,
+    traces: &[RawTrace],
+    names: &KeyTable,
+    files: &[&str],
+    format: Format,
+) -> Result<Vec<u8>, AllocError>
+    requires few { length traces.now ≤ MAX_TRACES }
+    requires well_formed { All IsWellFormed traces.now }
+    requires facts { AreSame (HasFact settled.now) (TracesHave traces.now) }
+    ensures { IfOk result (λ text. SaysFindings format (HasFact settled.now)
+        (record { traces = traces.now; names = names.now.names; files = map (λ file. file.now) files.entry.now })
+        text.items) }
+{
+    let keys = sorted_keys(alloc, names)?;
+    let findings = findings_of(alloc, settled, traces, &keys)?;
+    let texts = KeyTexts::of(alloc, names)?;
+    let explainer = Explainer {
+        traces,
+        names,
+        keys: &texts,
+        files,
+        alloc,
+    };
+    match format {
+        Format::Lines => explainer.explanation(&findings),
+        Format::Json => explainer.json(&findings),
+    }
+}
+
+/// Writes what was found in the traces of these files, and for each dependency and mark that a finding is made of the
+/// record where it first occurs. Names of keys are those in the table, and those of files as they were given.
+///
+/// Refusals: O3 if memory for the text or for the origins is refused, before its first byte; O1 if the writer returns an
+/// error and O2 if it takes nothing, after exactly a beginning of the text. This project's own.
+pub fn write_findings<W: Write>(
+    alloc: Global,
+    w: &mut W,
+    settled: &Settled,
+    traces: &[RawTrace],
+    names: &KeyTable,
+    files: &[&str],
+    format: Format,
+) -> Result<(), WriteFault>
+    requires few { length traces.now ≤ MAX_TRACES }
+    requires well_formed { All IsWellFormed traces.now }
+    requires facts { AreSame (HasFact settled.now) (TracesHave traces.now) }
+    ensures ok { OnOk result ((text : List ℕ)
+        × SaysFindings format (HasFact settled.now)
+        (record { traces = traces.now; names = names.now.names; files = map (λ file. file.now) files.entry.now }) text
+        × Appends (W.contents w.old) (W.contents w.new) text) }
+    ensures err { IfErr result (StopsWriting
+        (SaysFindings format (HasFact settled.now)
+        (record { traces = traces.now; names = names.now.names; files = map (λ file. file.now) files.entry.now }))
+        (W.contents w.old) (W.contents w.new)) }
+{
+    match findings_text(alloc, settled, traces, names, files, format) {
+        Ok(text) => write_text(w, text.as_slice()),
+        Err(_) => Err(WriteFault::Memory),
+    }
+}
