@@ -1,18 +1,17 @@
 -- Findings of what was chosen.
-use Rattle.std.proofs.Common.{◌≡◌, ◌↔◌, ℕ, zero, suc, ◌+◌, ◌<◌, ◌≤◌, List, [], ◌∷◌, ◌++◌, All, Contains, Option, Some, length, map, slice_index_or, refl, sym, ap, ◌∙◌, subst, inl, inr, arith}
+use Rattle.std.proofs.Common.{◌≡◌, ℕ, zero, suc, ◌<◌, ◌≤◌, List, [], ◌∷◌, ◌++◌, All, Contains, length, map, slice_index_or, refl, sym, ap, ◌∙◌, subst, inl, inr, arith}
 use Rattle.std.proofs.lemmas.List.{append-nil, map-append}
 use Rattle.std.proofs.lemmas.List.Elements.{All-contains, All-nil, All-push, Contains-push_cases}
-use Rattle.std.proofs.lemmas.Option.{none-some, same_Some}
 use Rattle.ld_trace.specs.declared.event.Irq.{Irq}
 use Rattle.ld_task.specs.Kinds.{is_r-kind_of_letters, is_s-kind_of_letters}
 use Rattle.ld_task.specs.declared.mark.Mark.TheVariants.{Enabled, UsedIn}
-use Rattle.ld_facts.specs.Arrows.{Arrow, arrow}
+use Rattle.ld_facts.specs.Arrows.{Arrow}
 use Rattle.ld_facts.specs.FactBits.{FactParts, HasFact}
 use Rattle.ld_facts.specs.Laws.Lists.{Contains-head, Contains-later}
 use Rattle.ld_facts.specs.declared.fact.Fact.{Fact}
 use Rattle.ld_facts.specs.declared.fact.Fact.TheVariants as fact
 use Rattle.ld_graph.specs.Links.{IsShortestInversion, link_by}
-use Rattle.ld_explain.specs.Findings.{Are, AreFindings, AreGates, AreOrders, GuardsTwo, IsCircle, IsTheDouble, IsTheInversion, members_of}
+use Rattle.ld_explain.specs.Findings.{Are, AreFindings, AreGates, AreOrders, GuardsTwo, IsCircle, IsTheDouble, IsTheInversion}
 use Rattle.ld_explain.specs.Found.{AreFound, AreThose, FoundParts}
 use Rattle.ld_explain.specs.Inside.Choosing.{AreChoices, IsCircleChoice, IsDoubleChoice, IsInversionChoice}
 use Rattle.ld_explain.specs.Inside.Explaining.{Explains}

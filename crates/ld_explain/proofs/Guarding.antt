@@ -1,7 +1,6 @@
 -- What guards occurrences, where more are seen.
 use Rattle.std.proofs.Common.{◌≡◌, ℕ, ◌⊎◌, ◌↔◌, List, Contains, Some, sym, ap, ◌∙◌, subst, inl, inr}
 use Rattle.std.proofs.lemmas.Option.{same_Some}
-use Rattle.ld_trace.specs.declared.event.Event.{Event}
 use Rattle.ld_facts.specs.declared.fact.Fact.{Fact}
 use Rattle.ld_explain.specs.Origins.{View}
 use Rattle.ld_explain.specs.Notes.{GuardParts, HasGuard}

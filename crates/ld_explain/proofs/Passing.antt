@@ -1,7 +1,6 @@
 -- What is taken in, slot by slot, event by event and trace by trace.
-use Rattle.std.proofs.Common.{◌≡◌, ◌≢◌, ℕ, zero, suc, ◌+◌, ◌<◌, ◌≤◌, ◌↔◌, Bool, List, [], ◌∷◌, Contains, IsFalse, IsTrue, length, Option, Some, None, refl, sym, ap, ◌∙◌, subst, inl, inr, arith}
+use Rattle.std.proofs.Common.{◌≡◌, ℕ, zero, suc, ◌+◌, ◌<◌, ◌≤◌, ◌↔◌, List, [], ◌∷◌, Contains, length, Option, Some, None, refl, sym, ap, ◌∙◌, subst, inl, inr, arith}
 use Rattle.std.specs.Prelude.{slice_get}
-use Rattle.std.proofs.lemmas.Bool.{cases_Bool}
 use Rattle.std.proofs.lemmas.Option.{same_Some, slice_get_within}
 use Rattle.ld_trace.specs.declared.event.Event.{Event}
 use Rattle.ld_task.specs.Chains.{ChainParts}
@@ -15,20 +14,17 @@ use Rattle.ld_facts.specs.Renaming.{RenamedFactsAreTheImage}
 use Rattle.ld_facts.specs.Renumbered.{arrow_by, fact_by}
 use Rattle.ld_facts.specs.ChainFacts.{fact_slots}
 use Rattle.ld_facts.specs.FactBits.{FactParts, HasFact}
-use Rattle.ld_facts.specs.Facts.{DependenciesOf}
 use Rattle.ld_facts.specs.Laws.{LaterSlotsAreOfNewerLocks, SlotsHaveWhatIsGiven}
 use Rattle.ld_facts.specs.declared.fact.Fact.{Fact}
 use Rattle.ld_facts.specs.declared.fact.Fact.TheVariants.{Dependency, Marked}
-use Rattle.ld_explain.specs.Notes.{AreGuardsOf, GuardParts, Guarded, HasGuard, IsAloneIn, IsGate}
+use Rattle.ld_explain.specs.Notes.{AreGuardsOf, GuardParts, Guarded, IsAloneIn, IsGate}
 use Rattle.ld_explain.specs.Origins.{AreOriginsOf, Gives, Occurs, OriginParts, View}
 use Rattle.ld_explain.specs.Inside.Firsts.{AreFirsts, PutsOrigin, SeenBefore, SeenFrom, SeenTo, named_fact, slot_origin}
-use Rattle.ld_explain.specs.Inside.Guarding.{Among, AreGuards, AsksOrder, GuardsAt, PutsGuard, is_among}
+use Rattle.ld_explain.specs.Inside.Guarding.{Among, AreGuards, AsksOrder, GuardsAt, PutsGuard}
 use Rattle.ld_explain.specs.Inside.Taking.{AreTakenIn}
-use Rattle.ld_explain.specs.declared.guard.Guard.{Guard}
 use Rattle.ld_explain.specs.declared.origins.Origin.{Origin}
 use Rattle.ld_explain.proofs.Firsts.{AreFirsts-put, AreFirsts-same}
 use Rattle.ld_explain.proofs.Guarding.{AreGuards-put, AreGuards-same}
-use Rattle.ld_explain.proofs.Lists.{is_among-decides}
 use Rattle.ld_explain.proofs.Slots.{From-all, less, more, no_later, seen_none}
 use Rattle.ld_explain.proofs.Traces.{occurs_somewhere, seen_end, seen_start}
 
@@ -240,4 +236,3 @@ module _ (view : View) (asked : FactParts) where
     where
       within : (x : Fact) (o : Origin) → Occurs view x o → o.trace < trace
       within x o occurs = omega (arith, past, slice_get_within view.traces o.trace occurs.t occurs.is_trace)
-

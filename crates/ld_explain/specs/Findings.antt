@@ -6,7 +6,6 @@ use Rattle.ld_task.specs.declared.mark.Mark.TheVariants.{UsedIn, Enabled}
 use Rattle.ld_facts.specs.Arrows.{Arrow}
 use Rattle.ld_facts.specs.declared.fact.Fact.{Fact}
 use Rattle.ld_facts.specs.declared.fact.Fact.TheVariants as fact
-use Rattle.ld_facts.specs.TraceFacts.{TracesHave}
 use Rattle.ld_graph.specs.Links.{IsDoubleBy, IsShortestInversion}
 use Rattle.ld_graph.specs.Walks.{IsShortestFrom}
 use Rattle.ld_explain.specs.Found.{AreFound, AreThose, FoundParts}
@@ -16,7 +15,6 @@ use Rattle.ld_explain.specs.declared.finding.Finding.{Finding}
 use Rattle.ld_explain.specs.declared.finding.Finding.TheVariants.{Circle, Double, Inversion}
 use Rattle.ld_explain.specs.declared.finding.GateNote.{GateNote}
 use Rattle.ld_explain.specs.declared.finding.Order.{Order}
-use Rattle.ld_explain.specs.declared.origins.Origin.{Origin}
 
 -- ---- which circles are reported
 -- the dependency is a member of one of these circles

@@ -8,7 +8,9 @@ use Rattle.ld_facts.specs.FactBits.{FactBelow, FactParts, HasFact}
 use Rattle.ld_facts.specs.Numbers.{fact_number}
 use Rattle.ld_facts.specs.declared.fact.Fact.{Fact}
 use Rattle.ld_facts.specs.declared.fact.Fact.TheVariants.{Dependency, Marked}
+use Rattle.ld_facts.specs.Facts.{AreSame}
 use Rattle.ld_facts.specs.Renaming.{TracesHaveBy}
+use Rattle.ld_facts.specs.TraceFacts.{TracesHave}
 use Rattle.ld_facts.specs.Renumbered.{fact_by}
 use Rattle.ld_explain.specs.declared.origins.Origin.{Origin}
 
@@ -33,6 +35,10 @@ plain traces = record { traces = traces; rename = λ key. key }
 -- the traces have the fact, by its keys' new names
 abbrev pub ViewHas : View → Fact → Type 0
 ViewHas view x = TracesHaveBy view.rename view.traces x
+
+-- by the keys' own names they have their facts
+abbrev pub OwnNamesChangeNothing : Type 0
+OwnNamesChangeNothing = (traces : List (List Event)) → AreSame (ViewHas (plain traces)) (TracesHave traces)
 
 -- one of the traces gives the fact there, by its keys' new names
 pub record Occurs (view : View) (x : Fact) (at : Origin) : Type 0 where

@@ -138,7 +138,15 @@ impl Evidence {
         }
         let slots = fact_slots(chain);
         for passed in 0..slots {
-            self.add_slot(naming, asked, trace, place, state, chain, slots - 1 - passed)?;
+            self.add_slot(
+                naming,
+                asked,
+                trace,
+                place,
+                state,
+                chain,
+                slots - 1 - passed,
+            )?;
         }
         Ok(())
     }

@@ -2,7 +2,6 @@
 
 ghost use Rattle.std.specs.Prelude.{◌≡◌, ◌≢◌, ◌↔◌, ℕ, [], Contains, IsFalse, IsTrue, Some, filter, slice_get};
 ghost use Rattle.ld_explain.specs.Inside.Guarding.{IsFirstGuard, IsGateBefore, Narrows, gate_in, is_among};
-
 ghost use Rattle.ld_explain.specs.Naming.{key_by};
 
 use crate::naming::Naming;
@@ -90,7 +89,11 @@ fn gate_at(chain: &Chain, naming: Naming<'_>, i: usize) -> Option<u16>
 }
 
 // The keys of the held locks of a chain that keep all others out, among this number of the oldest.
-pub(crate) fn gates_before(chain: &Chain, naming: Naming<'_>, held: usize) -> ArrayVec<u16, MAX_HELD>
+pub(crate) fn gates_before(
+    chain: &Chain,
+    naming: Naming<'_>,
+    held: usize,
+) -> ArrayVec<u16, MAX_HELD>
     ensures { (key : ℕ) → Contains result.items key ↔ IsGateBefore (key_by naming.entry) chain.now held key }
 {
     let mut gates = ArrayVec::new();

@@ -11,6 +11,7 @@ mod findings;
 mod found;
 mod guard;
 mod guards;
+mod laws;
 mod naming;
 mod origins;
 
@@ -21,5 +22,6 @@ pub use findings::findings_of;
 pub use found::{Dependency, Found, KINDS, has_dependency, is_used_in};
 pub use guard::Guard;
 pub use guards::Guards;
+pub use laws::own_names_change_nothing;
 pub use naming::Naming;
 pub use origins::{Origin, Origins};

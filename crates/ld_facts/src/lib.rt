@@ -18,8 +18,7 @@ pub use dependency::{Dependency, kind_at};
 pub use fact::{Fact, STATE_COUNT, STATES, fact_total, irq_number, word_total};
 pub use facts::Facts;
 pub use laws::{
-    adding_in_turn_unites, dependencies_have_one_number, facts_are_bits, renamed_facts_are_the_image,
-    slots_have_what_is_given,
-    trace_facts_are_the_chains,
+    adding_in_turn_unites, dependencies_have_one_number, facts_are_bits,
+    renamed_facts_are_the_image, slots_have_what_is_given, trace_facts_are_the_chains,
 };
 pub use ld_task::{Kind, Mark};

@@ -5,6 +5,7 @@ use Rattle.ld_trace.specs.declared.event.Event.{Event}
 use Rattle.ld_facts.specs.TraceFacts.{TracesHave}
 use Rattle.ld_facts.specs.declared.fact.Fact.{Fact}
 use Rattle.ld_explain.specs.Findings.{AreFindings}
+use Rattle.ld_explain.specs.Origins.{plain}
 use Rattle.ld_explain.specs.declared.finding.Finding.{Finding}
 use Rattle.ld_text.specs.Explanation.{Sources, explanation_text}
 use Rattle.ld_text.specs.Json.{json_text}
@@ -23,7 +24,7 @@ pub record SaysFindings (format : Format) (Has : Fact → Type 0) (sources : Sou
   pub keys : List ℕ
   pub keys_are : IsKeyOrder sources.names keys
   pub findings : List Finding
-  pub findings_are : AreFindings Has sources.traces keys findings
+  pub findings_are : AreFindings Has (plain sources.traces) keys findings
   pub text_is : text ≡ findings_text format sources findings
 
 -- the text says in this format what was found in these traces of these files

@@ -15,7 +15,7 @@ use crate::key_texts::KeyTexts;
 use crate::order::sorted_keys;
 use crate::output::write_text;
 use crate::write_fault::WriteFault;
-use ld_explain::findings_of;
+use ld_explain::{Naming, findings_of, own_names_change_nothing};
 use ld_parts::Settled;
 use ld_trace::{KeyTable, RawTrace};
 use std::alloc::{AllocError, Global};
@@ -47,7 +47,8 @@ fn findings_text(
         text.items) }
 {
     let keys = sorted_keys(alloc, names)?;
-    let findings = findings_of(alloc, settled, traces, &keys)?;
+    own_names_change_nothing();
+    let findings = findings_of(alloc, settled, traces, Naming::Own, &keys)?;
     let texts = KeyTexts::of(alloc, names)?;
     let explainer = Explainer {
         traces,

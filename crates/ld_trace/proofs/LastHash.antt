@@ -34,7 +34,7 @@ split_at_last byte text (Some x) (i, j, finds, before, after, order, before_len,
     let later : (k : ℕ) → i < k → k < length text → ¬ (get_or text k 0 ≡ byte) = λ k a l e.
     let back : j + (k - j) ≡ k = omega arith in
     NoCharPasses-char byte (drop j text) (k - j) finds.0 low (omega (arith, length-drop j text))
-        (get_or-drop j text (k - j) 0 ∙ ap (λ n. get_or text n 0) back ∙ e) in
+    (get_or-drop j text (k - j) 0 ∙ ap (λ n. get_or text n 0) back ∙ e) in
     let at = last-some byte text i (length text) (omega arith) (finds.1.byte low) later in
     let parts : option_map (λ k. (take k text, drop (k + 1) text)) (Some i) ≡ Some (x.0.now, x.1.now) =
     (λ t. Some (sym before t, (ap (λ n. drop n text) (sym next) ∙ sym after) t)) in

@@ -1,6 +1,5 @@
 -- What is taken in of the facts that are asked about. Only private clauses cite these words.
 use Rattle.std.specs.Prelude.{◌≡◌, ℕ, Bool, true, List, Some, length, slice_get}
-use Rattle.ld_trace.specs.declared.event.Event.{Event}
 use Rattle.ld_facts.specs.FactBits.{FactParts, HasFact}
 use Rattle.ld_facts.specs.declared.fact.Fact.{Fact}
 use Rattle.ld_facts.specs.declared.fact.Fact.TheVariants.{Dependency, Marked}

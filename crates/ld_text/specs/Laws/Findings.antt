@@ -2,6 +2,7 @@
 use Rattle.std.proofs.Common.{ℕ, List}
 use Rattle.ld_facts.specs.Facts.{AreSame}
 use Rattle.ld_facts.specs.declared.fact.Fact.{Fact}
+use Rattle.ld_explain.specs.Origins.{plain}
 use Rattle.ld_explain.specs.Laws.Findings.{AreFindings-same}
 use Rattle.ld_text.specs.Explanation.{Sources}
 use Rattle.ld_text.specs.Findings.{SaysFindings}
@@ -12,6 +13,6 @@ SaysFindings-same P Q same format sources text says = record {
   keys = says.keys;
   keys_are = says.keys_are;
   findings = says.findings;
-  findings_are = AreFindings-same P Q same sources.traces says.keys says.findings says.findings_are;
+  findings_are = AreFindings-same P Q same (plain sources.traces) says.keys says.findings says.findings_are;
   text_is = says.text_is;
 }

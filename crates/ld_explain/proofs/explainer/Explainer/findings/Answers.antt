@@ -1,4 +1,4 @@
-use Rattle.std.proofs.Common.{refl, subst, sym}
+use Rattle.std.proofs.Common.{subst, sym}
 use Rattle.ld_explain.specs.Naming.{view_of}
 use Rattle.ld_explain.specs.Findings.{Are}
 use Rattle.ld_explain.specs.Inside.Explaining.{Explains}

@@ -1,8 +1,7 @@
-use Rattle.std.proofs.Common.{◌≡◌, ◌∙◌, ◌<◌, Contains, Some, arith, refl, subst, sym, take}
+use Rattle.std.proofs.Common.{◌∙◌, arith, subst, sym, take}
 use Rattle.std.proofs.lemmas.Bool.{true≢false}
 use Rattle.std.proofs.lemmas.List.{take_all}
 use Rattle.std.proofs.lemmas.Option.{none-some}
-use Rattle.ld_facts.specs.Arrows.{Arrow}
 use Rattle.ld_explain.specs.Naming.{view_of}
 use Rattle.ld_explain.specs.Laws.Lists.{take-item}
 use Rattle.ld_explain.specs.Notes.{IsAloneIn}
