@@ -7,8 +7,8 @@ use Rattle.ld_explain.specs.declared.naming.Naming.TheVariants.{Own, Renamed}
 
 -- what a key of the traces is called
 abbrev pub key_by : Naming → ℕ → ℕ
-key_by Own key = key
-key_by (Renamed others) key = slice_index others.now key
+key_by Own = λ key. key
+key_by (Renamed others) = slice_index others.now
 
 -- traces with their keys called so
 abbrev pub view_of : Naming → List (List Event) → View
