@@ -9,4 +9,4 @@ pub mod PictureGrowing
 pub mod KeyTextLemmas
 pub mod WriteFaultLemmas
 pub mod JoinedLemmas
-pub mod Starts
+pub mod Turns

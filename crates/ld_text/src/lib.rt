@@ -1,6 +1,6 @@
 //! The texts: what was found is put into words here, as a report, as an explanation and as a picture, and the chains of a
 //! trace as lines; and a text is written out.
-#![tactic(auto, using(crate::proofs::Starts::starts))]
+#![tactic(auto, using(crate::proofs::Turns::turns))]
 
 mod because;
 mod blocks;

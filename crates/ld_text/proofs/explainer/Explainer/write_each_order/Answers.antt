@@ -1,6 +1,0 @@
-use Rattle.ld_text.specs.Json.{order_object}
-use Rattle.ld_text.proofs.JsonLemmas.{Adds-more}
-use Rattle.ld_text.proofs.explainer.Explainer.write_each_order.Goals as goal
-
-pub loop-order-preserved : goal.loop-order-preserved
-loop-order-preserved c = Adds-more (order_object c.args.self.now) _ _ _ _ _ _ c.order-item.is c.loop-order-test.true c.loop-order.invariant c.in_ok-write_order.ensures

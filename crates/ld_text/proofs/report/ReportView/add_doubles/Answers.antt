@@ -1,6 +1,0 @@
-use Rattle.ld_text.specs.Report.{double_line}
-use Rattle.ld_text.proofs.GroupLemmas.{flat_map-grows}
-use Rattle.ld_text.proofs.report.ReportView.add_doubles.Goals as goal
-
-pub loop-double-preserved : goal.loop-double-preserved
-loop-double-preserved c = flat_map-grows (λ x. double_line c.args.self.names.now.names x.0 x.1) _ _ _ _ _ _ c.double-item.is c.loop-double-test.true c.loop-double.invariant c.in_ok-add_double.ensures

@@ -1,5 +1,0 @@
-use Rattle.ld_text.proofs.GroupLemmas.{GrowsBy-more_item}
-use Rattle.ld_text.proofs.report.ReportView.add_usage.Goals as goal
-
-pub loop-key-preserved : goal.loop-key-preserved
-loop-key-preserved c = GrowsBy-more_item _ _ _ _ _ _ _ c.key-item.is c.loop-key-test.true c.loop-key.invariant c.in_ok-add_usage_line.ensures
