@@ -1,16 +1,7 @@
 -- One bit more: one fact more, and the counts.
-use Rattle.std.proofs.Common.{◌≡◌, ℕ, ◌+◌, ◌-◌, ◌/◌, ◌<◌, ◌≤◌, length, ap, sym, ◌∙◌, subst, inl, inr, arith, true, false, cond, not}
-use Rattle.std.proofs.lemmas.Bool.{cases_eq}
-use Rattle.ld_trace.specs.declared.key_id.TheConstants.{MAX_KEYS}
-use Rattle.ld_facts.specs.Inside.Bits.{has_bit, count_below}
-use Rattle.ld_facts.specs.Numbers.{fact_number, dependency_total, mark_total, bit_total}
-use Rattle.ld_facts.specs.Facts.{Adds}
-use Rattle.ld_facts.specs.FactBits.{FactParts, FactBelow, HasFact, AreFacts, AreCounted, SetsBit, dependency_count, mark_count, rows_allowed, rows_for}
-use Rattle.ld_facts.specs.declared.fact.Fact.{Fact}
-use Rattle.ld_facts.specs.declared.fact.Fact.TheVariants.{Dependency, Marked}
+use Rattle.ld_facts.proofs.Names.{◌+◌, ◌-◌, ◌/◌, ◌<◌, ◌∙◌, ◌≡◌, ◌≤◌, Adds, AreCounted, AreFacts, Dependency, Fact, FactBelow, FactParts, HasFact, MAX_KEYS, Marked, SetsBit, ap, arith, bit_total, cases_eq, cond, count_below-same, dependency-lt, dependency_count, dependency_total, fact_number, fact_number-same, false, has_bit, inl, inr, length, mark-lt, mark_count, mark_total, not, rows_allowed, rows_for, subst, sym, true, ℕ}
+use Rattle.ld_facts.specs.Inside.Bits.{count_below}
 use Rattle.ld_facts.proofs.BitLemmas.{count_below-set}
-use Rattle.ld_facts.specs.Laws.Bits.{count_below-same}
-use Rattle.ld_facts.specs.Laws.Numbers.{dependency-lt, mark-lt, fact_number-same}
 
 -- ---- the counts when a bit is set
 module _ (old new : FactParts) (n : ℕ) (sets : SetsBit old new n) where

@@ -1,14 +1,7 @@
 -- What a write, a union and the finding of a bit leave.
-use Rattle.std.proofs.Common.{◌≡◌, ◌≢◌, ℕ, suc, zero, ◌+◌, ◌-◌, ◌*◌, ◌/◌, ◌%◌, ◌^◌, ◌<◌, ◌≤◌, List, length, get_or, set, refl, ap, sym, ◌∙◌, inl, inr, subst, arith, Bool, true, false, cond, not, eqb, min, max, ◌||◌, ◌&&◌, bit_or, bit_and, count_ones, w64, get_or-set_same, get_or-set_other, eq-eqb, eqb-true, mod-lt}
-use Rattle.std.proofs.lemmas.Bool.{ne_eqb, cases_eq, cases_lt, cases_Bool}
-use Rattle.std.proofs.lemmas.List.{get_or_past}
-use Rattle.std.proofs.lemmas.Nat.{pow-add, pow_pos, mod-pow-add, ones_cat, zero_from_ones, ones_le_self}
-use Rattle.std.proofs.Math.Nat.{div-div-eq-div-mul, div-lt_iff_lt-mul}
-use Rattle.std.proofs.Math.Pow.{pow_mono}
-use Rattle.std.proofs.lemmas.Nat.Bits.{bit_at_set_same, bit_at_set_other, bit_at_or, bit_at_and, bit_at_not, bit_at-lt, bit_at-trailing_zeros, bit_at-zero, bit_at_above}
-use Rattle.std.specs.Int.{bit_at, bit_not, trailing_zeros}
-use Rattle.ld_facts.specs.Inside.Bits.{has_bit, count_below}
-use Rattle.ld_facts.specs.Laws.Bits.{count_below-same, count_below-one_more}
+use Rattle.ld_facts.proofs.Names.{◌%◌, ◌&&◌, ◌*◌, ◌+◌, ◌-◌, ◌/◌, ◌<◌, ◌^◌, ◌||◌, ◌∙◌, ◌≡◌, ◌≢◌, ◌≤◌, Bool, List, ap, arith, bit_and, bit_at, bit_at-lt, bit_at-trailing_zeros, bit_at-zero, bit_at_above, bit_at_and, bit_at_not, bit_at_or, bit_at_set_other, bit_at_set_same, bit_not, bit_or, cases_Bool, cases_eq, cases_lt, cond, count_below-one_more, count_below-same, count_ones, div-div-eq-div-mul, div-lt_iff_lt-mul, eq-eqb, eqb, eqb-true, false, get_or, get_or-set_other, get_or-set_same, get_or_past, has_bit, inl, inr, length, max, min, mod-pow-add, ne_eqb, not, ones_cat, ones_le_self, pow-add, pow_mono, pow_pos, refl, set, subst, suc, sym, trailing_zeros, true, w64, zero, zero_from_ones, ℕ}
+use Rattle.std.proofs.Common.{mod-lt}
+use Rattle.ld_facts.specs.Inside.Bits.{count_below}
 
 -- the word of bit n with bit n set
 abbrev pub with_bit : List ℕ → ℕ → ℕ

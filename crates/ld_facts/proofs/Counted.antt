@@ -1,19 +1,9 @@
 -- The numbers that pass a test, read as members of a set: as many as the test counts. And no set has two numbers.
-use Rattle.std.proofs.Common.{◌≡◌, ℕ, ◌+◌, ◌*◌, ◌/◌, ◌%◌, ◌<◌, ap, sym, ◌∙◌, subst, arith, Bool, true}
-use Rattle.std.specs.List.{Contains}
+use Rattle.ld_facts.proofs.Names.{◌%◌, ◌*◌, ◌+◌, ◌/◌, ◌<◌, ◌∙◌, ◌≡◌, Bool, Contains, DependenciesOf, Dependency, Fact, FactParts, HasFact, IsNumberOf, Mark, Marked, MarksOf, ap, arith, dependency-lt, dependency_count, dependency_of, dependency_of-is, dependency_total, fact_number, fact_number-same, has_bit, kind_of, listed, listed-from, listed-has, listed-length, listed-once, mark-lt, mark_count, mark_index, mark_of, mark_total, marked_of, marked_of-is, subst, sym, true, ℕ}
 use Rattle.ld_task.specs.declared.kind.Kind.TheVariants.{Er}
-use Rattle.ld_task.specs.declared.mark.Mark.{Mark}
 use Rattle.ld_task.specs.declared.mark.Mark.TheVariants.{Used}
 use Rattle.ld_facts.specs.Arrows.{Arrow, arrow}
-use Rattle.ld_facts.specs.Inside.Bits.{has_bit, count_below}
-use Rattle.ld_facts.specs.Numbers.{fact_number, mark_index, dependency_total, mark_total}
-use Rattle.ld_facts.specs.Facts.{DependenciesOf, MarksOf}
-use Rattle.ld_facts.specs.FactBits.{FactParts, HasFact, dependency_count, mark_count}
-use Rattle.ld_facts.specs.Counting.{IsNumberOf}
-use Rattle.ld_facts.specs.declared.fact.Fact.{Fact}
-use Rattle.ld_facts.specs.declared.fact.Fact.TheVariants.{Dependency, Marked}
-use Rattle.ld_facts.specs.Laws.Counting.{listed, listed-length, listed-from, listed-has, listed-once}
-use Rattle.ld_facts.specs.Laws.Numbers.{kind_of, mark_of, dependency_of, marked_of, dependency_of-is, marked_of-is, dependency-lt, mark-lt, fact_number-same}
+use Rattle.ld_facts.specs.Inside.Bits.{count_below}
 
 -- each number below n is a thing's and each member of the set has one, which passes: as many members as pass
 IsNumberOf-numbered : {A : Type 0} (In : A → Type 0) (n : ℕ) (test : ℕ → Bool) (read : ℕ → A) (number : A → ℕ) →

@@ -1,12 +1,6 @@
 -- No facts: words of zeros.
-use Rattle.std.proofs.Common.{◌≡◌, ℕ, ◌+◌, ◌*◌, ◌/◌, ◌≤◌, length, get_or, replicate, ap, sym, ◌∙◌, subst, false}
-use Rattle.std.proofs.lemmas.List.{length-replicate}
-use Rattle.ld_trace.specs.declared.key_id.TheConstants.{MAX_KEYS}
-use Rattle.ld_facts.specs.Inside.Bits.{has_bit}
-use Rattle.ld_facts.specs.Numbers.{dependency_total, bit_total}
-use Rattle.ld_facts.specs.FactBits.{FactParts, AreCounted, dependency_count, mark_count}
+use Rattle.ld_facts.proofs.Names.{◌*◌, ◌+◌, ◌/◌, ◌∙◌, ◌≡◌, ◌≤◌, AreCounted, FactParts, MAX_KEYS, ap, bit_total, dependency_count, dependency_total, false, get_or, has_bit, has_bit-zeros, length, length-replicate, mark_count, replicate, subst, sym, zeros_at, ℕ}
 use Rattle.ld_facts.proofs.BitLemmas.{count_below-none}
-use Rattle.ld_facts.specs.Laws.Bits.{has_bit-zeros, zeros_at}
 
 module _ (facts : FactParts) (n : ℕ) (zeros : facts.words ≡ replicate n 0) where
   pub none_set : (k : ℕ) → has_bit facts.words k ≡ false

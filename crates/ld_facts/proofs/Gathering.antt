@@ -1,31 +1,9 @@
 -- The facts of a chain are gathered in words, slot by slot.
-use Rattle.std.proofs.Common.{◌≡◌, ℕ, zero, suc, ◌∷◌, ◌+◌, ◌-◌, ◌*◌, ◌/◌, ◌%◌, ◌<◌, ◌≤◌, List, [], length, get_or, refl, ap, sym, ◌∙◌, subst, inl, inr, arith, Bool, Option, Some, None, w64}
-use Rattle.std.specs.Prelude.{slice_get}
-use Rattle.std.specs.Option.{ForSome, option_map}
-use Rattle.std.proofs.lemmas.Option.{same_Some, none-some}
-use Rattle.std.specs.Int.{bit_at, trailing_zeros}
-use Rattle.std.proofs.lemmas.Bool.{lt-ltb, le-ltb, cases_lt, cases_eq}
-use Rattle.std.proofs.lemmas.Nat.Bits.{bit_at-zero, bit_at-trailing_zeros}
-use Rattle.ld_task.specs.Chains.{ChainParts, ChainKeysBelow, key_and_mode}
-use Rattle.ld_task.specs.Marks.{marks_taken, marks_opened}
-use Rattle.ld_trace.specs.Modes.{is_read}
+use Rattle.ld_facts.proofs.Names.{[], ◌%◌, ◌*◌, ◌+◌, ◌-◌, ◌/◌, ◌<◌, ◌∙◌, ◌∷◌, ◌≡◌, ◌≤◌, AreWordsOf, Bool, ChainHas, ChainKeysBelow, ChainParts, Fact, FactBelow, FactBelow-chain, ForSome, Gathered, HasBit, IsRunOf, List, Lock, Mark, Marked, None, Option, Some, StandsIn-cases, StandsIn-later, TakesFact, TakesMarkBit, TakesRun, ap, arith, bit_at, bit_at-trailing_zeros, bit_at-zero, bit_or-bits, bit_total, bits_if, bits_if-same, bits_of, cases_eq, cases_lt, chain_fact, chain_fact-complete, chain_fact-sound, dependency_from, dependency_total, fact_number, fact_number-lt, fact_number-same, fact_slots, get_or, inl, inr, is_read, key_and_mode, le-ltb, length, lt-ltb, mark_by_opening, mark_by_taking, mark_if, mark_if-some, mark_index, mark_of_held, marks_opened, marks_taken, none-some, refl, same_Some, slice_get, subst, suc, sym, trailing_zeros, w64, word_total, zero, ℕ}
+use Rattle.std.specs.Option.{option_map}
 use Rattle.ld_trace.specs.declared.event.Mode.{Mode}
 use Rattle.ld_task.specs.declared.frame.Flags.{Flags}
 use Rattle.ld_task.specs.declared.frame.Frame.{Frame}
-use Rattle.ld_task.specs.declared.lock.Lock.{Lock}
-use Rattle.ld_facts.specs.Facts.{ChainHas}
-use Rattle.ld_facts.specs.FactBits.{FactBelow}
-use Rattle.ld_facts.specs.ChainFacts.{chain_fact, fact_slots, dependency_from, mark_if, mark_of_held, mark_by_taking, mark_by_opening}
-use Rattle.ld_facts.specs.Inside.WordTable.{HasBit, TakesFact, TakesRun, TakesMarkBit, IsRunOf, Gathered}
-use Rattle.ld_facts.specs.Numbers.{dependency_total, bit_total, fact_number, mark_index}
-use Rattle.ld_facts.specs.Laws.Words.{bits_if, bits_if-same, bit_or-bits}
-use Rattle.ld_facts.specs.WordPairs.{bits_of, word_total, AreWordsOf}
-use Rattle.ld_task.specs.declared.mark.Mark.{Mark}
-use Rattle.ld_facts.specs.declared.fact.Fact.{Fact}
-use Rattle.ld_facts.specs.declared.fact.Fact.TheVariants.{Marked}
-use Rattle.ld_facts.specs.Laws.Chains.{mark_if-some, FactBelow-chain, chain_fact-sound, chain_fact-complete}
-use Rattle.ld_facts.specs.Laws.Growing.{StandsIn-later, StandsIn-cases}
-use Rattle.ld_facts.specs.Laws.Numbers.{fact_number-lt, fact_number-same}
 
 -- ---- the facts in the slots
 pub chain_fact-dependency : (c : ChainParts) (lock : Lock) (frame : Frame) (i : ℕ) → c.new_lock ≡ Some (lock, frame) →

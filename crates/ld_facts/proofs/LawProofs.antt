@@ -1,9 +1,5 @@
 -- The proofs of the laws.
-use Rattle.std.proofs.Common.{◌≡◌, ℕ, suc, zero, ◌<◌, ◌⊎◌, List, [], ◌∷◌, length, get_or, refl, sym, ◌∙◌, subst, inl, inr, arith}
-use Rattle.std.specs.Prelude.{Any}
-use Rattle.ld_facts.specs.Facts.{ChainHas, ChainsHave, Adds}
-use Rattle.ld_facts.specs.FactBits.{FactParts, HasFact}
-use Rattle.ld_facts.specs.Laws.{AddingInTurnUnites}
+use Rattle.ld_facts.proofs.Names.{[], ◌<◌, ◌∙◌, ◌∷◌, ◌≡◌, ◌⊎◌, AddingInTurnUnites, Adds, Any, ChainHas, ChainsHave, FactParts, HasFact, List, arith, get_or, inl, inr, length, refl, subst, suc, sym, zero, ℕ}
 
 -- ---- chains one after the other
 Any-cases : {X : Type 0} (P : X → Type 0) (x : X) (xs : List X) → Any P (x ∷ xs) → P x ⊎ Any P xs

@@ -1,3 +1,4 @@
+pub mod Names
 pub mod BitLemmas
 pub mod Adding
 pub mod Counted
@@ -8,4 +9,5 @@ pub mod WordTables
 pub mod Gathering
 pub mod Meeting
 pub mod LawProofs
+pub mod RenamedChains
 pub mod Renaming

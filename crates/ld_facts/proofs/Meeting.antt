@@ -1,8 +1,5 @@
 -- A bit that is set in both of two rows.
-use Rattle.std.proofs.Common.{◌≡◌, ◌≢◌, ℕ, ◌+◌, ◌*◌, ◌/◌, ◌%◌, ◌^◌, ◌<◌, ◌≤◌, List, length, get_or, ap, sym, ◌∙◌, arith, true, min, eq-eqb, eqb-true, bit_and, w64}
-use Rattle.std.proofs.lemmas.Nat.Bits.{bit_at_and, bit_at-lt, bit_at-trailing_zeros, bit_at-zero}
-use Rattle.std.specs.Int.{bit_at, trailing_zeros}
-use Rattle.ld_facts.specs.Inside.Bits.{has_bit}
+use Rattle.ld_facts.proofs.Names.{◌%◌, ◌*◌, ◌+◌, ◌/◌, ◌<◌, ◌^◌, ◌∙◌, ◌≡◌, ◌≢◌, ◌≤◌, List, ap, arith, bit_and, bit_at, bit_at-lt, bit_at-trailing_zeros, bit_at-zero, bit_at_and, eq-eqb, eqb-true, get_or, has_bit, length, min, sym, trailing_zeros, true, w64, ℕ}
 use Rattle.ld_facts.proofs.BitLemmas.{has_bit-within}
 use Rattle.ld_facts.proofs.Uniting.{has_bit-at}
 

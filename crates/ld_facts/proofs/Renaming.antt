@@ -1,15 +1,5 @@
 -- Facts that are renamed one after the other, by their numbers.
-use Rattle.std.proofs.Common.{◌≡◌, ℕ, ◌+◌, ◌<◌, ◌≤◌, List, slice_index, sym, ap, ◌∙◌, subst, inl, inr, arith}
-use Rattle.std.specs.Prelude.{IsFalse, IsTrue}
-use Rattle.std.proofs.lemmas.Bool.{cases_lt}
-use Rattle.ld_facts.specs.FactBits.{FactBelow, FactParts, HasFact}
-use Rattle.ld_facts.specs.Facts.{Adds, AreSame}
-use Rattle.ld_facts.specs.Inside.Bits.{has_bit}
-use Rattle.ld_facts.specs.Laws.Numbers.{fact_number-lt, fact_number-same}
-use Rattle.ld_facts.specs.Numbers.{bit_total, fact_number}
-use Rattle.ld_facts.specs.Renaming.{ImageBelow}
-use Rattle.ld_facts.specs.Renumbered.{fact_by}
-use Rattle.ld_facts.specs.declared.fact.Fact.{Fact}
+use Rattle.ld_facts.proofs.Names.{◌+◌, ◌<◌, ◌∙◌, ◌≡◌, ◌≤◌, Adds, AreSame, Fact, FactBelow, FactParts, HasFact, ImageBelow, IsFalse, IsTrue, List, ap, arith, bit_total, cases_lt, fact_by, fact_number, fact_number-lt, fact_number-same, has_bit, inl, inr, slice_index, subst, sym, ℕ}
 
 -- the facts whose number is below n
 abbrev pub HasBefore : FactParts → (n : ℕ) → Fact → Type 0

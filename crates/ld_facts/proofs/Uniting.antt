@@ -1,17 +1,6 @@
 -- Facts word by word.
-use Rattle.std.proofs.Common.{◌≡◌, ℕ, ◌+◌, ◌*◌, ◌/◌, ◌%◌, ◌<◌, ◌≤◌, ◌||◌, List, [], ◌∷◌, length, get_or, ◌↔◌, refl, ap, sym, ◌∙◌, subst, inl, inr, arith, Bool, true, false, eqb, eq-eqb, eqb-true}
+use Rattle.ld_facts.proofs.Names.{[], ◌%◌, ◌*◌, ◌+◌, ◌/◌, ◌<◌, ◌||◌, ◌↔◌, ◌∙◌, ◌∷◌, ◌≡◌, ◌≤◌, Adds, AreFacts, AreSame, Bool, FactBelow, FactParts, HasFact, List, PairsHave, SetsBit, UnitesWord, ap, arith, bit_at, bit_at-zero, bit_total, bits_if, bits_if-other, bits_if-same, bits_of, cases_eq, cases_lt, eq-eqb, eqb, eqb-true, fact_number, fact_of, false, get_or, get_or_past, has_bit, inl, inr, length, or_cases, or_left, or_right, or_zero, refl, subst, sym, true, ℕ}
 use Rattle.std.specs.Cmp.{both_ways}
-use Rattle.std.specs.Int.{bit_at}
-use Rattle.std.proofs.lemmas.Bool.{cases_eq, cases_lt, or_cases, or_left, or_right}
-use Rattle.std.proofs.lemmas.List.{get_or_past}
-use Rattle.std.proofs.lemmas.Nat.Bits.{bit_at-zero}
-use Rattle.ld_facts.specs.Inside.Bits.{has_bit}
-use Rattle.ld_facts.specs.Numbers.{fact_number, bit_total}
-use Rattle.ld_facts.specs.Facts.{AreSame, Adds}
-use Rattle.ld_facts.specs.FactBits.{FactParts, FactBelow, HasFact, AreFacts, SetsBit, UnitesWord}
-use Rattle.ld_facts.specs.Laws.Words.{bits_if, bits_if-same, bits_if-other, or_zero}
-use Rattle.ld_facts.specs.WordPairs.{bits_of, PairsHave}
-use Rattle.ld_facts.specs.Laws.Numbers.{fact_of}
 
 -- a bit of a word
 pub has_bit-at : (words : List ℕ) (i k : ℕ) → k < 64 → has_bit words (i * 64 + k) ≡ eqb (bit_at (get_or words i 0) k) 1

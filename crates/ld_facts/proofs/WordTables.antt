@@ -1,21 +1,7 @@
 -- The table that words of facts are kept in, and the pairs that it holds.
-use Rattle.std.proofs.Common.{◌≡◌, ◌≢◌, ℕ, zero, suc, ◌+◌, ◌-◌, ◌*◌, ◌/◌, ◌%◌, ◌^◌, ◌<◌, ◌≤◌, ◌⊎◌, ◌↔◌, List, [], ◌∷◌, ◌++◌, length, get_or, set, take, refl, ap, sym, ◌∙◌, subst, inl, inr, arith, true, false, replicate, bit_or, eqb, get_or-set_same, get_or-set_other}
-use Rattle.std.specs.Prelude.{IsTrue}
-use Rattle.std.specs.Int.{bit_at}
-use Rattle.std.specs.List.{zip}
-use Rattle.std.proofs.lemmas.Bool.{cases_eq, cases_lt}
-use Rattle.std.proofs.lemmas.List.{length-take-le, get_or-take, take_more, get_or_default}
-use Rattle.std.proofs.lemmas.Nat.{le_or_l, or_comm, or_lt, pow_pos, div-add-mod'}
-use Rattle.std.proofs.lemmas.Nat.Bits.{bit_at-zero, bit_at-pow_same, bit_at-pow_other, bit_at_above, bit_at_cat_low, bit_at_cat_high}
-use Rattle.std.proofs.Math.Nat.{mod-lt, mod-eq_of_lt}
-use Rattle.std.proofs.Math.Pow.{pow-lt}
+use Rattle.ld_facts.proofs.Names.{[], ◌%◌, ◌*◌, ◌++◌, ◌+◌, ◌-◌, ◌/◌, ◌<◌, ◌^◌, ◌↔◌, ◌∙◌, ◌∷◌, ◌≡◌, ◌≢◌, ◌≤◌, ◌⊎◌, AreWords, HasBit, HasWord, IsAmong, IsTable, IsTrue, List, MAX_WORDS, SEEN_WORDS, StandsAt, TakesRun, UnitesPair, ap, arith, bit_at, bit_at-pow_other, bit_at-pow_same, bit_at-zero, bit_at_above, bit_at_cat_high, bit_at_cat_low, bit_or, bit_or-bits, bits_if, bits_if-other, bits_if-same, bits_of, bits_of-append, cases_eq, cases_lt, div-add-mod', eqb, false, get_or, get_or-set_other, get_or-set_same, get_or-take, get_or_default, has_bit, has_bit-zeros, inl, inr, le_or_l, length, length-take-le, mod-eq_of_lt, or_assoc, or_comm, or_lt, or_zero, pow-lt, pow_pos, refl, replicate, set, subst, suc, sym, take, take_more, true, zero, zeros_at, zip, ℕ}
+use Rattle.std.proofs.Math.Nat.{mod-lt}
 use Rattle.std.proofs.lemmas.Slice.Zip.{length-zip, get_or-zip}
-use Rattle.ld_facts.specs.Inside.Bits.{has_bit}
-use Rattle.ld_facts.specs.Inside.WordTable.{IsAmong, IsTable, HasWord, StandsAt, AreWords, UnitesPair, HasBit, TakesRun}
-use Rattle.ld_facts.specs.Laws.Words.{bits_if, bits_if-same, bits_if-other, bits_of-append, or_zero, or_assoc, bit_or-bits}
-use Rattle.ld_facts.specs.WordPairs.{bits_of}
-use Rattle.ld_facts.specs.Laws.Bits.{has_bit-zeros, zeros_at}
-use Rattle.ld_facts.specs.declared.chain_words.TheConstants.{MAX_WORDS, SEEN_WORDS}
 
 -- the pairs of the first n places
 abbrev pub pairs_at : List ℕ → List ℕ → ℕ → List (ℕ × ℕ)

@@ -1,10 +1,5 @@
 -- Words with the same bits are the same words.
-use Rattle.std.proofs.Common.{◌≡◌, ℕ, ◌+◌, ◌*◌, ◌/◌, ◌%◌, ◌^◌, ◌<◌, List, length, get_or, ap, sym, ◌∙◌, inl, inr, arith, eqb, eq-eqb, eqb-true}
-use Rattle.std.proofs.lemmas.Bool.{ne_eqb, cases_eq}
-use Rattle.std.proofs.lemmas.List.{ext_get_or}
-use Rattle.std.proofs.lemmas.Nat.Bits.{same_from_bits_below, bit_at-lt}
-use Rattle.std.specs.Int.{bit_at}
-use Rattle.ld_facts.specs.Inside.Bits.{has_bit}
+use Rattle.ld_facts.proofs.Names.{◌%◌, ◌*◌, ◌+◌, ◌/◌, ◌<◌, ◌^◌, ◌∙◌, ◌≡◌, List, ap, arith, bit_at, bit_at-lt, cases_eq, eq-eqb, eqb, eqb-true, ext_get_or, get_or, has_bit, inl, inr, length, ne_eqb, same_from_bits_below, sym, ℕ}
 
 same_bit : (x y : ℕ) → x < 2 → y < 2 → eqb x 1 ≡ eqb y 1 → x ≡ y
 same_bit x y lx ly e =

@@ -5,7 +5,6 @@ pub mod Counting
 pub mod Growing
 pub mod Lists
 pub mod Numbers
-pub mod Renaming
 pub mod Words
 use Rattle.std.specs.Prelude.{◌≡◌, ℕ, ◌<◌, ◌≤◌, ◌↔◌, Option, IfSome, List, [], ◌∷◌, Any}
 use Rattle.ld_trace.specs.declared.event.Event.{Event}

@@ -1,13 +1,5 @@
 -- Facts taken over by the keys of a list, each key by its place there, in the order of their numbers.
-use Rattle.std.proofs.Common.{◌≡◌, ℕ, ◌+◌, ◌<◌, List, length, slice_index, sym, ◌∙◌, subst, inl, inr, arith}
-use Rattle.std.specs.Prelude.{◌↔◌}
-use Rattle.std.proofs.lemmas.Bool.{cases_eq}
-use Rattle.ld_facts.specs.FactBits.{FactParts, FactBelow, HasFact}
-use Rattle.ld_facts.specs.Facts.{AreSame, Adds}
-use Rattle.ld_facts.specs.Numbers.{fact_number, bit_total}
-use Rattle.ld_facts.specs.Renumbered.{Renumbered, fact_by}
-use Rattle.ld_facts.specs.declared.fact.Fact.{Fact}
-use Rattle.ld_facts.specs.Laws.Numbers.{fact_number-lt, fact_number-same}
+use Rattle.ld_graph.proofs.Names.{◌+◌, ◌<◌, ◌↔◌, ◌∙◌, ◌≡◌, Adds, AreSame, Fact, FactBelow, FactParts, HasFact, List, Renumbered, arith, bit_total, cases_eq, fact_by, fact_number, fact_number-lt, fact_number-same, inl, inr, length, slice_index, subst, sym, ℕ}
 
 -- the facts with numbers below n have been taken over
 pub record TakenOver (facts now : FactParts) (listed : List ℕ) (n : ℕ) : Type 0 where

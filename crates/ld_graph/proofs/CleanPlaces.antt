@@ -1,21 +1,6 @@
 -- Clean facts, by places: no way leads from where a link arrives to where one of the same state leaves.
-use Rattle.std.proofs.Common.{◌≡◌, ℕ, ◌<◌, ◌⊎◌, ◌↔◌, refl, ap, sym, ◌∙◌, subst, inl, inr, Bool, true, false}
-use Rattle.ld_trace.specs.declared.event.Irq.{Irq}
-use Rattle.ld_task.specs.declared.kind.Kind.{Kind}
-use Rattle.ld_task.specs.declared.kind.Kind.TheVariants.{Er, En, Sr, Sn}
-use Rattle.ld_task.specs.declared.mark.Mark.{Mark}
-use Rattle.ld_task.specs.declared.mark.Mark.TheVariants.{Used, UsedIn, Enabled}
-use Rattle.ld_task.specs.Kinds.{is_s, is_r}
-use Rattle.ld_trace.specs.declared.key_id.TheConstants.{GRAPH_KEYS}
-use Rattle.ld_facts.specs.Arrows.{Arrow, MayFollow, arrow}
-use Rattle.ld_facts.specs.Facts.{Holds, Adds, DependenciesOf}
-use Rattle.ld_facts.specs.FactBits.{FactBelow}
-use Rattle.ld_graph.specs.Laws.Facts.{StrongWalk-more}
-use Rattle.ld_graph.specs.Walks.{OnCircle}
-use Rattle.ld_graph.specs.Links.{IsLink, IsClean}
-use Rattle.ld_facts.specs.Inside.Places.{place, arrival, Leaves, LeavesFrom, Leads, Path, none, Way, LinkArrives, LinkLeaves}
-use Rattle.ld_facts.specs.declared.fact.Fact.{Fact}
-use Rattle.ld_facts.specs.declared.fact.Fact.TheVariants.{Dependency, Marked}
+use Rattle.ld_graph.proofs.Names.{◌<◌, ◌↔◌, ◌∙◌, ◌≡◌, ◌⊎◌, Adds, Arrow, Bool, DependenciesOf, En, Enabled, Er, Fact, FactBelow, GRAPH_KEYS, Holds, Irq, IsClean, IsLink, Kind, Leads, Leaves, LeavesFrom, LinkArrives, LinkLeaves, Mark, Marked, MayFollow, OnCircle, Path, Sn, Sr, StrongWalk-more, Used, UsedIn, Way, ap, arrival, arrow, false, inl, inr, is_r, is_s, none, place, refl, subst, sym, true, ℕ}
+use Rattle.ld_facts.specs.declared.fact.Fact.TheVariants.{Dependency}
 use Rattle.ld_graph.proofs.Circles.{OnCircle-new}
 use Rattle.ld_graph.proofs.Paths.{IsWithin, Leaves-from_MayFollow, MayFollow-from_Leaves, OnCircle-iff, Path-more}
 use Rattle.ld_graph.proofs.Links.{ClosesWith-iff, IsInversion-iff}

@@ -1,24 +1,6 @@
 -- What a graph keeps is right when it is new, and after a dependency or a mark was added.
-use Rattle.std.proofs.Common.{◌≡◌, ℕ, ◌≤◌, ◌↔◌, List, refl, sym, ◌∙◌, subst, inl, inr, arith, Bool, true, false}
-use Rattle.ld_trace.specs.declared.event.Irq.{Irq}
-use Rattle.ld_task.specs.declared.mark.Mark.{Mark}
-use Rattle.ld_task.specs.declared.mark.Mark.TheVariants.{Used, UsedIn, Enabled}
-use Rattle.ld_task.specs.Kinds.{is_s}
-use Rattle.ld_trace.specs.declared.key_id.TheConstants.{GRAPH_KEYS}
-use Rattle.ld_facts.specs.Arrows.{Arrow}
-use Rattle.ld_facts.specs.Inside.Bits.{has_bit}
-use Rattle.ld_facts.specs.Facts.{Holds, Adds, DependenciesOf}
-use Rattle.ld_facts.specs.FactBits.{FactParts, FactBelow, HasFact, rows_allowed}
-use Rattle.ld_graph.specs.Laws.Facts.{IsClean-fewer}
-use Rattle.ld_graph.specs.Walks.{OnCircle}
-use Rattle.ld_graph.specs.Links.{IsClean}
-use Rattle.ld_facts.specs.Inside.Places.{arrival, Leads, Leaves, Path, Way}
-use Rattle.ld_graph.specs.Inside.Tables.{reaches, Comes, AreSpan, TakesArrow}
-use Rattle.ld_graph.specs.Inside.Kept.{IsGraph, AreEnds, TakesMark, JoinsLinks, LeavesTarget, StaysClean, MarkTurnsBack, arrives_at, departs_from}
-use Rattle.ld_graph.specs.declared.ends.Ends.{Ends}
-use Rattle.ld_facts.specs.declared.fact.Fact.{Fact}
-use Rattle.ld_facts.specs.declared.fact.Fact.TheVariants.{Dependency, Marked}
-use Rattle.ld_graph.specs.Laws.Facts.{OnCircle-member}
+use Rattle.ld_graph.proofs.Names.{◌↔◌, ◌∙◌, ◌≡◌, ◌≤◌, Adds, AreEnds, AreSpan, Arrow, Bool, Comes, DependenciesOf, Enabled, Ends, Fact, FactBelow, FactParts, GRAPH_KEYS, HasFact, Holds, Irq, IsClean, IsClean-fewer, IsGraph, JoinsLinks, Leads, Leaves, LeavesTarget, List, Mark, MarkTurnsBack, Marked, OnCircle, OnCircle-member, Path, StaysClean, TakesArrow, TakesMark, Used, UsedIn, Way, arith, arrival, arrives_at, departs_from, false, has_bit, inl, inr, is_s, reaches, refl, rows_allowed, subst, sym, true, ℕ}
+use Rattle.ld_facts.specs.declared.fact.Fact.TheVariants.{Dependency}
 use Rattle.ld_graph.proofs.Paths.{OnCircle-iff, Path-more}
 use Rattle.ld_graph.proofs.Ways.{Comes-path, Path-append, Path-from_way, Way-through, ways_taken}
 use Rattle.ld_graph.proofs.CleanPlaces.{CleanPlaces-from, IsClean-from_places, CleanPlaces-dependency, CleanPlaces-mark, ComesBack, Joins, TurnsBackBy, arrows_within, arrows_added, Leads-kept, LinkArrives-adds, LinkLeaves-adds, LinkArrives-kept, LinkLeaves-kept}

@@ -1,11 +1,5 @@
 -- One more row of those that are chosen.
-use Rattle.std.proofs.Common.{◌≡◌, ◌≢◌, ℕ, ◌-◌, ◌<◌, ◌||◌, ◌&&◌, List, [], length, get_or, replicate, set, refl, ap, sym, ◌∙◌, inl, inr, Bool, true, false, get_or-set_same, get_or-set_other}
-use Rattle.std.specs.Cmp.{both_ways}
-use Rattle.std.proofs.lemmas.Bool.{cases_eq}
-use Rattle.ld_facts.specs.declared.places.TheConstants.{ROW_WORDS}
-use Rattle.ld_facts.specs.Inside.Bits.{has_bit}
-use Rattle.ld_graph.specs.Inside.Tables.{reaches}
-use Rattle.ld_facts.specs.Laws.Bits.{has_bit-zeros, zeros_at}
+use Rattle.ld_graph.proofs.Names.{[], ◌&&◌, ◌<◌, ◌||◌, ◌∙◌, ◌≡◌, ◌≢◌, Bool, List, ROW_WORDS, ap, both_ways, cases_eq, false, get_or, get_or-set_other, get_or-set_same, has_bit, has_bit-zeros, inl, inr, length, reaches, refl, replicate, set, sym, true, zeros_at, ℕ}
 
 abbrev pub zero_row : List ℕ
 zero_row = replicate ROW_WORDS 0

@@ -1,17 +1,6 @@
 -- The proofs of the laws.
-use Rattle.std.proofs.Common.{◌⊎◌, List, [], ◌∷◌, ◌++◌, refl, ap, subst, inl, inr, Bool, append_assoc}
-use Rattle.std.proofs.lemmas.Bool.{cases_Bool}
-use Rattle.std.proofs.lemmas.List.{append-nil}
-use Rattle.ld_trace.specs.declared.event.Irq.{Irq}
-use Rattle.ld_task.specs.declared.mark.Mark.TheVariants.{UsedIn, Enabled}
-use Rattle.ld_task.specs.Kinds.{is_s, is_r}
-use Rattle.ld_facts.specs.Arrows.{Arrow}
-use Rattle.ld_facts.specs.Facts.{DependenciesOf}
-use Rattle.ld_graph.specs.Walks.{StrongWalk, ClosedWalk}
-use Rattle.ld_graph.specs.Links.{IsLink}
-use Rattle.ld_graph.specs.Laws.{In, HasNewEnd, HasNewMember, NewCirclesHaveNewMembers, NewDoublesHaveNewMarks, NewInversionsHaveNewParts}
-use Rattle.ld_facts.specs.declared.fact.Fact.{Fact}
-use Rattle.ld_facts.specs.declared.fact.Fact.TheVariants.{Dependency, Marked}
+use Rattle.ld_graph.proofs.Names.{[], ◌++◌, ◌∷◌, ◌⊎◌, Arrow, Bool, ClosedWalk, DependenciesOf, Enabled, Fact, HasNewEnd, HasNewMember, In, Irq, IsLink, List, Marked, NewCirclesHaveNewMembers, NewDoublesHaveNewMarks, NewInversionsHaveNewParts, StrongWalk, UsedIn, ap, append-nil, append_assoc, cases_Bool, inl, inr, is_r, is_s, refl, subst}
+use Rattle.ld_facts.specs.declared.fact.Fact.TheVariants.{Dependency}
 use Rattle.ld_graph.proofs.Circles.{ClosedWalk-turn}
 
 -- ---- a walk is one of the earlier set, or has a new member

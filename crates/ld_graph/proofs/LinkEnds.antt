@@ -1,18 +1,7 @@
 -- The ends of links by state, and what one more mark does to them.
-use Rattle.std.proofs.Common.{◌≡◌, ℕ, zero, suc, ◌<◌, ◌⊎◌, ◌↔◌, List, [], length, get_or, set, refl, ap, sym, ◌∙◌, subst, inl, inr, arith, Bool, true, false, get_or-set_same, get_or-set_other}
-use Rattle.std.proofs.lemmas.Bool.{cases_eq}
-use Rattle.ld_trace.specs.declared.event.Irq.{Irq}
+use Rattle.ld_graph.proofs.Names.{[], ◌<◌, ◌↔◌, ◌∙◌, ◌≡◌, ◌⊎◌, Bool, Enabled, Ends, Fact, Irq, LeavesFrom, LinkArrives, LinkLeaves, List, Mark, Marked, TakesMark, Used, UsedIn, ap, arith, cases_eq, false, get_or, get_or-set_other, get_or-set_same, has_bit, inl, inr, irq_number, length, reaches, refl, set, subst, suc, sym, true, zero, ℕ}
 use Rattle.ld_trace.specs.declared.event.Irq.TheVariants.{Hard, Soft}
-use Rattle.ld_task.specs.declared.mark.Mark.{Mark}
-use Rattle.ld_task.specs.declared.mark.Mark.TheVariants.{Used, UsedIn, Enabled}
-use Rattle.ld_facts.specs.Inside.Bits.{has_bit}
-use Rattle.ld_facts.specs.Numbers.{irq_number}
-use Rattle.ld_facts.specs.Inside.Places.{LeavesFrom, LinkArrives, LinkLeaves}
-use Rattle.ld_graph.specs.Inside.Tables.{reaches}
-use Rattle.ld_graph.specs.Inside.Kept.{TakesMark}
-use Rattle.ld_graph.specs.declared.ends.Ends.{Ends}
-use Rattle.ld_facts.specs.declared.fact.Fact.{Fact}
-use Rattle.ld_facts.specs.declared.fact.Fact.TheVariants.{Dependency, Marked}
+use Rattle.ld_facts.specs.declared.fact.Fact.TheVariants.{Dependency}
 
 -- ---- states by their numbers
 pub irq_number-lt : (irq : Irq) → irq_number irq < 2

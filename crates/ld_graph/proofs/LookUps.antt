@@ -1,21 +1,5 @@
 -- Doubles and inversions, looked up.
-use Rattle.std.proofs.Common.{◌≡◌, ℕ, ◌<◌, ◌⊎◌, ◌↔◌, List, refl, sym, ◌∙◌, subst, inl, inr, Bool, true, false, ◌||◌, ◌&&◌}
-use Rattle.std.proofs.lemmas.Bool.{or_cases, or_left, or_right, and_parts, and_from}
-use Rattle.ld_trace.specs.declared.event.Irq.{Irq}
-use Rattle.ld_task.specs.declared.kind.Kind.{Kind}
-use Rattle.ld_task.specs.declared.kind.Kind.TheVariants.{Er, En, Sr, Sn}
-use Rattle.ld_task.specs.declared.mark.Mark.TheVariants.{UsedIn, Enabled}
-use Rattle.ld_task.specs.Kinds.{is_s, is_r}
-use Rattle.ld_trace.specs.declared.key_id.TheConstants.{GRAPH_KEYS}
-use Rattle.ld_facts.specs.Arrows.{arrow}
-use Rattle.ld_facts.specs.Inside.Bits.{has_bit}
-use Rattle.ld_facts.specs.Facts.{Holds, DependenciesOf}
-use Rattle.ld_facts.specs.FactBits.{FactBelow}
-use Rattle.ld_graph.specs.Links.{IsLink, IsDouble}
-use Rattle.ld_facts.specs.Inside.Places.{place, Leads, Way}
-use Rattle.ld_graph.specs.Inside.Kept.{ClosesWith, IsInversionBy}
-use Rattle.ld_facts.specs.declared.fact.Fact.{Fact}
-use Rattle.ld_facts.specs.declared.fact.Fact.TheVariants.{Marked}
+use Rattle.ld_graph.proofs.Names.{◌&&◌, ◌<◌, ◌||◌, ◌↔◌, ◌∙◌, ◌≡◌, ◌⊎◌, Bool, ClosesWith, DependenciesOf, En, Enabled, Er, Fact, FactBelow, GRAPH_KEYS, Holds, Irq, IsDouble, IsInversionBy, IsLink, Kind, Leads, List, Marked, Sn, Sr, UsedIn, Way, and_from, and_parts, arrow, false, has_bit, inl, inr, is_r, is_s, or_cases, or_left, or_right, place, refl, subst, sym, true, ℕ}
 use Rattle.ld_graph.proofs.Links.{ClosesWith-iff, arrow-is}
 use Rattle.ld_graph.proofs.CleanPlaces.{arrows_within}
 

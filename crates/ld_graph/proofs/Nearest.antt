@@ -1,22 +1,6 @@
 -- Circles through a place, as the search finds them.
-use Rattle.std.proofs.Common.{◌≡◌, ◌≢◌, ℕ, suc, ◌+◌, ◌<◌, ◌≤◌, ◌⊎◌, ◌↔◌, ◌&&◌, List, [], ◌∷◌, length, refl, ap, sym, ◌∙◌, subst, inl, inr, arith, Bool, true, false, not}
-use Rattle.std.specs.Prelude.{Contains}
-use Rattle.std.proofs.lemmas.Bool.{cases_Bool, cases_eq, cases_lt, and_from, not_from_false}
-use Rattle.std.proofs.lemmas.List.{append-nil}
-use Rattle.ld_trace.specs.declared.key_id.TheConstants.{GRAPH_KEYS}
-use Rattle.ld_facts.specs.Arrows.{Arrow, MayFollow}
-use Rattle.ld_facts.specs.Facts.{DependenciesOf}
-use Rattle.ld_facts.specs.FactBits.{FactParts, HasFact}
-use Rattle.ld_graph.specs.Laws.Facts.{StrongWalk-more}
-use Rattle.ld_facts.specs.Inside.Bits.{has_bit}
-use Rattle.ld_task.specs.Kinds.{is_r}
-use Rattle.ld_facts.specs.declared.places.TheConstants.{PLACES}
-use Rattle.ld_facts.specs.Inside.Places.{place, arrival, Leaves, Leads, Path, none, step, Way}
-use Rattle.ld_graph.specs.Inside.Searching.{Edge, Reached, GoesTo, NoGoalBy, Avoids, LeastThrough}
-use Rattle.ld_graph.specs.Inside.Tables.{reaches}
-use Rattle.ld_graph.specs.Walks.{last, StrongWalk, ClosedWalk, IsCircle}
+use Rattle.ld_graph.proofs.Names.{[], ◌&&◌, ◌+◌, ◌<◌, ◌↔◌, ◌∙◌, ◌∷◌, ◌≡◌, ◌≢◌, ◌≤◌, ◌⊎◌, Arrow, Avoids, Bool, ClosedWalk, Contains, Contains-head, Contains-later, DependenciesOf, Edge, FactParts, GRAPH_KEYS, GoesTo, HasFact, IsCircle, Leads, LeastThrough, Leaves, List, MayFollow, NoGoalBy, PLACES, Path, Reached, StrongWalk, StrongWalk-more, Way, and_from, ap, append-nil, arith, arrival, cases_Bool, cases_eq, cases_lt, false, has_bit, inl, inr, is_r, last, length, none, not, not_from_false, place, reaches, refl, step, subst, suc, sym, true, ℕ}
 use Rattle.ld_graph.proofs.Circles.{StrongWalk-head, ClosedWalk-turn_to}
-use Rattle.ld_facts.specs.Laws.Lists.{Contains-head, Contains-later}
 use Rattle.ld_graph.proofs.Paths.{IsWithin, Leaves-from_MayFollow, MayFollow-from_Leaves, Path-from_walk}
 use Rattle.ld_graph.proofs.Ways.{Path-cases, Way-then_path}
 

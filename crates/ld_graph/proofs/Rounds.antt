@@ -1,22 +1,6 @@
 -- Walks that lead back to an arrow, as ways over places from where it arrives to a place that it leaves.
-use Rattle.std.proofs.Common.{◌≡◌, ℕ, suc, zero, ◌+◌, ◌*◌, ◌<◌, ◌≤◌, ◌⊎◌, ◌↔◌, Bool, List, [], ◌∷◌, ◌++◌, length, map, get_or, refl, ap, sym, ◌∙◌, subst, inl, inr, arith, true, false, if◌then◌else◌}
-use Rattle.std.specs.Prelude.{Contains, AllPairs}
-use Rattle.std.proofs.lemmas.Bool.{cases_lt}
-use Rattle.std.proofs.lemmas.List.{length-map}
-use Rattle.ld_task.specs.Kinds.{is_s, is_r}
-use Rattle.ld_trace.specs.declared.key_id.TheConstants.{GRAPH_KEYS}
-use Rattle.ld_facts.specs.Arrows.{Arrow, MayFollow}
-use Rattle.ld_facts.specs.Facts.{DependenciesOf}
-use Rattle.ld_facts.specs.FactBits.{FactParts, HasFact}
-use Rattle.ld_facts.specs.Inside.Bits.{has_bit}
-use Rattle.ld_facts.specs.Inside.Places.{place, arrival, Leaves, Leads, Path, none, step, Way}
-use Rattle.ld_graph.specs.Inside.Searching.{Edge, Reached, GoesTo, NoGoalBy, LeadsRound, LeastRound}
-use Rattle.ld_graph.specs.Inside.Tables.{reaches, IsSource}
-use Rattle.ld_graph.specs.Walks.{last, StrongWalk, ClosedWalk, OnCircle, IsShortestFrom}
-use Rattle.ld_facts.specs.declared.fact.Fact.{Fact}
+use Rattle.ld_graph.proofs.Names.{[], ◌*◌, ◌++◌, ◌+◌, ◌<◌, ◌↔◌, ◌∙◌, ◌∷◌, ◌≡◌, ◌≤◌, ◌⊎◌, AllPairs, Arrow, Bool, ClosedWalk, Contains, Contains-cases, DependenciesOf, Edge, Fact, FactParts, GRAPH_KEYS, GoesTo, HasFact, IsShortestFrom, IsSource, Leads, LeadsRound, LeastRound, Leaves, List, MayFollow, NoGoalBy, OnCircle, Path, Reached, StrongWalk, Way, ap, arith, arrival, cases_lt, distinct-few, false, get_or, has_bit, if◌then◌else◌, inl, inr, is_r, is_s, last, length, length-map, map, none, place, reaches, refl, step, subst, suc, sym, true, zero, ℕ}
 use Rattle.ld_graph.proofs.Circles.{ClosedWalk-from_circle}
-use Rattle.ld_facts.specs.Laws.Lists.{Contains-cases}
-use Rattle.ld_facts.specs.Laws.Counting.{distinct-few}
 use Rattle.ld_graph.proofs.Nearest.{GoesTo-walk}
 use Rattle.ld_graph.proofs.Paths.{IsWithin, Leaves-from_MayFollow, MayFollow-from_Leaves, StrongWalk-last}
 use Rattle.ld_graph.proofs.Ways.{Comes-path, Path-first}

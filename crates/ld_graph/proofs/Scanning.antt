@@ -1,23 +1,9 @@
 -- Steps of a search: what is added from one step, a dependency at a time.
-use Rattle.std.proofs.Common.{◌≡◌, ℕ, suc, zero, ◌+◌, ◌*◌, ◌-◌, ◌<◌, ◌≤◌, ◌⊎◌, List, [], ◌∷◌, ◌++◌, length, Some, slice_get, get_or, refl, ap, sym, ◌∙◌, subst, inl, inr, arith, Bool, true, false, length-append}
-use Rattle.std.proofs.lemmas.Bool.{cases_eq, cases_lt}
-use Rattle.std.proofs.lemmas.Option.{slice_get-get_or, same_Some}
+use Rattle.ld_graph.proofs.Names.{[], ◌*◌, ◌++◌, ◌+◌, ◌-◌, ◌<◌, ◌∙◌, ◌∷◌, ◌≡◌, ◌≤◌, ◌⊎◌, Bool, Er, FactParts, GRAPH_KEYS, HasFact, Hits, IsNextFrom, IsTakenFrom, Kind, Leaves, LeavesFrom, List, Misses, Pushes, SearchParts, SeesAllFrom, Some, StandsAt, Step, Takes, Visits, ap, arith, arrival, cases_eq, cases_lt, false, get_or, has_bit, inl, inr, is_r, is_s, kind_number, kind_number-lt, kind_of, kind_of-number, length, length-append, place, refl, row_place, same_Some, slice_get, slice_get-get_or, stands_at, subst, suc, sym, true, zero, ℕ}
 use Rattle.std.proofs.lemmas.Nat.{same_from_place}
-use Rattle.ld_task.specs.declared.kind.Kind.{Kind}
-use Rattle.ld_task.specs.declared.kind.Kind.TheVariants.{Er}
-use Rattle.ld_task.specs.Kinds.{is_s, is_r}
-use Rattle.ld_trace.specs.declared.key_id.TheConstants.{GRAPH_KEYS}
 use Rattle.ld_facts.specs.Inside.Rows.{arrow_of}
-use Rattle.ld_facts.specs.FactBits.{FactParts, HasFact}
-use Rattle.ld_facts.specs.Numbers.{kind_number}
-use Rattle.ld_facts.specs.Inside.Bits.{has_bit}
-use Rattle.ld_facts.specs.Inside.Places.{place, arrival, Leaves, LeavesFrom}
-use Rattle.ld_graph.specs.Inside.Searching.{SearchParts, stands_at, StandsAt, IsTakenFrom, Pushes, Visits, Takes, Misses, Hits, SeesAllFrom}
-use Rattle.ld_facts.specs.Inside.Rows.{row_place, IsNextFrom}
 use Rattle.ld_facts.specs.declared.fact.Fact.TheVariants.{Dependency as Depends}
 use Rattle.ld_facts.specs.declared.dependency.Dependency.{Dependency}
-use Rattle.ld_graph.specs.declared.search.Step.{Step}
-use Rattle.ld_facts.specs.Laws.Numbers.{kind_of, kind_of-number, kind_number-lt}
 use Rattle.ld_graph.proofs.Paths.{place_parts}
 
 -- ---- one more element

@@ -1,16 +1,7 @@
 -- The rounds of a search, and the way that it finds.
-use Rattle.std.proofs.Common.{◌≡◌, ℕ, suc, zero, ◌+◌, ◌-◌, ◌<◌, ◌≤◌, List, [], ◌∷◌, length, Some, slice_get, refl, ap, sym, ◌∙◌, subst, inl, inr, arith, true, false}
-use Rattle.std.proofs.lemmas.Bool.{cases_Bool, cases_lt}
-use Rattle.std.proofs.lemmas.Option.{slice_get_within, slice_get_cases, same_Some}
-use Rattle.ld_facts.specs.Arrows.{Arrow}
+use Rattle.ld_graph.proofs.Names.{[], ◌+◌, ◌-◌, ◌<◌, ◌∙◌, ◌∷◌, ◌≡◌, ◌≤◌, AreSteps, Arrow, DependenciesOf, Edge, FactParts, FindsGoal, GoesTo, HasFact, Hits, LeadsBack, List, Misses, NoGoalBy, Reached, SearchParts, SeesAllFrom, Some, StandsAt, Step, Takes, ap, arith, arrival, cases_Bool, cases_lt, false, has_bit, inl, inr, length, refl, same_Some, slice_get, slice_get_cases, slice_get_within, stands_at, subst, suc, sym, true, zero, ℕ}
 use Rattle.ld_facts.specs.Inside.Rows.{arrow_of}
-use Rattle.ld_facts.specs.Facts.{DependenciesOf}
-use Rattle.ld_facts.specs.FactBits.{FactParts, HasFact}
-use Rattle.ld_facts.specs.Inside.Bits.{has_bit}
-use Rattle.ld_facts.specs.Inside.Places.{arrival}
-use Rattle.ld_graph.specs.Inside.Searching.{Edge, Reached, GoesTo, SearchParts, stands_at, StandsAt, LeadsBack, Takes, Misses, Hits, SeesAllFrom, AreSteps, FindsGoal, NoGoalBy}
 use Rattle.ld_facts.specs.declared.dependency.Dependency.{Dependency}
-use Rattle.ld_graph.specs.declared.search.Step.{Step}
 
 -- ---- where steps arrive
 pub StandsAt-within : (steps : List Step) (i p : ℕ) → StandsAt steps i p → i < length steps

@@ -1,15 +1,5 @@
 -- What a dependency does to the tables.
-use Rattle.std.proofs.Common.{◌≡◌, ◌≢◌, ℕ, ◌⊎◌, ◌↔◌, ◌||◌, ◌&&◌, List, [], length, replicate, refl, ap, sym, ◌∙◌, subst, inl, inr, arith, true, false, not}
-use Rattle.std.specs.Cmp.{both_ways}
-use Rattle.std.proofs.lemmas.Bool.{cases_eq, cases_lt, cases_Bool, or_cases, or_left, or_right, and_parts, and_from, not_from_false}
-use Rattle.std.proofs.lemmas.List.{get_or_past, get_or-replicate, length-replicate}
-use Rattle.ld_task.specs.Kinds.{is_s, is_r}
-use Rattle.ld_facts.specs.declared.places.TheConstants.{PLACES, ROW_WORDS}
-use Rattle.ld_facts.specs.Arrows.{Arrow}
-use Rattle.ld_facts.specs.Inside.Bits.{has_bit}
-use Rattle.ld_facts.specs.Inside.Places.{place, arrival, Leaves}
-use Rattle.ld_graph.specs.Inside.Tables.{reaches, Comes, IsSource, IsTarget, AreSpan, IsTransitive, TakesArrow, AreTables}
-use Rattle.ld_facts.specs.Laws.Bits.{has_bit-zeros, zeros_at}
+use Rattle.ld_graph.proofs.Names.{[], ◌&&◌, ◌||◌, ◌↔◌, ◌∙◌, ◌≡◌, ◌≢◌, ◌⊎◌, AreSpan, AreTables, Arrow, Comes, IsSource, IsTarget, IsTransitive, Leaves, List, PLACES, ROW_WORDS, TakesArrow, and_from, and_parts, ap, arith, arrival, both_ways, cases_Bool, cases_eq, cases_lt, false, get_or-replicate, get_or_past, has_bit, has_bit-zeros, inl, inr, is_r, is_s, length, length-replicate, not, not_from_false, or_cases, or_left, or_right, place, reaches, refl, replicate, subst, sym, true, zeros_at, ℕ}
 use Rattle.ld_graph.proofs.Joining.{zero_row}
 
 -- ---- a table of zeros

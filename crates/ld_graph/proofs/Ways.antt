@@ -1,8 +1,5 @@
 -- Ways over places, and those that a new dependency opens.
-use Rattle.std.proofs.Common.{◌≡◌, ℕ, ◌⊎◌, ◌↔◌, List, refl, sym, subst, inl, inr, true}
-use Rattle.ld_facts.specs.Arrows.{Arrow}
-use Rattle.ld_facts.specs.Inside.Places.{arrival, Leaves, Leads, Path, none, step, Way}
-use Rattle.ld_graph.specs.Inside.Tables.{reaches, Comes, IsTransitive, TakesArrow}
+use Rattle.ld_graph.proofs.Names.{◌↔◌, ◌≡◌, ◌⊎◌, Arrow, Comes, IsTransitive, Leads, Leaves, List, Path, TakesArrow, Way, arrival, inl, inr, none, reaches, refl, step, subst, sym, true, ℕ}
 
 pub Path-append : (E : ℕ → ℕ → Type 0) {p q r : ℕ} → Path E p q → Path E q r → Path E p r
 Path-append E a none = a

@@ -1,17 +1,5 @@
 -- What is checked of ranks: the greatest and the least rank of the keys with a property, and arrows by their bits.
-use Rattle.std.proofs.Common.{◌≡◌, ℕ, ◌/◌, ◌%◌, ◌<◌, ◌≤◌, ◌⊎◌, Bool, true, false, refl, sym, ap, ◌∙◌, subst, inl, inr, arith}
-use Rattle.std.specs.Prelude.{◌↔◌}
-use Rattle.ld_trace.specs.declared.event.Irq.{Irq}
-use Rattle.ld_trace.specs.declared.event.Irq.TheVariants.{Hard, Soft}
-use Rattle.ld_task.specs.declared.mark.Mark.TheVariants.{UsedIn, Enabled}
-use Rattle.ld_task.specs.Kinds.{is_s, is_r, kind_of_letters}
-use Rattle.ld_facts.specs.Arrows.{Arrow, arrow}
-use Rattle.ld_facts.specs.FactBits.{FactParts, HasFact}
-use Rattle.ld_facts.specs.Inside.Bits.{has_bit}
-use Rattle.ld_facts.specs.Numbers.{dependency_total, fact_number}
-use Rattle.ld_parts.specs.Ranks.{DependenciesClimb, LinksClimb, NoneGoesDown}
-use Rattle.ld_facts.specs.declared.fact.Fact.{Fact}
-use Rattle.ld_facts.specs.declared.fact.Fact.TheVariants.{Dependency, Marked}
+use Rattle.ld_parts.proofs.Names.{◌%◌, ◌/◌, ◌<◌, ◌↔◌, ◌∙◌, ◌≡◌, ◌≤◌, ◌⊎◌, Arrow, Bool, DependenciesClimb, Dependency, Enabled, Fact, FactParts, Hard, HasFact, Irq, LinksClimb, Marked, NoneGoesDown, Soft, UsedIn, ap, arith, arrow, dependency_total, fact_number, false, has_bit, inl, inr, is_r, is_s, kind_of_letters, refl, subst, sym, true, ℕ}
 use Rattle.ld_facts.specs.Laws.Numbers.{dependency-lt, dependency_of, dependency_of-is, fact_number-same}
 
 -- ---- the greatest and the least

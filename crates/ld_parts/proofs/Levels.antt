@@ -1,14 +1,5 @@
 -- Walks and inversions keep to one rank: no arrow goes down, so none of theirs goes up.
-use Rattle.std.specs.Prelude.{◌≡◌, ℕ, ◌≤◌, List, [], ◌∷◌, Contains}
-use Rattle.std.proofs.Common.{ap, sym, ◌∙◌, subst, arith}
-use Rattle.ld_trace.specs.declared.event.Irq.{Irq}
-use Rattle.ld_facts.specs.Arrows.{Arrow}
-use Rattle.ld_facts.specs.Facts.{DependenciesOf}
-use Rattle.ld_facts.specs.declared.fact.Fact.{Fact}
-use Rattle.ld_graph.specs.Laws.Facts.{StrongWalk-members}
-use Rattle.ld_graph.specs.Links.{IsDouble, IsInversion, IsInversionWith, InInversion}
-use Rattle.ld_graph.specs.Walks.{last, StrongWalk, ClosedWalk, OnCircle}
-use Rattle.ld_parts.specs.Ranks.{NoneGoesDown, AmongRank}
+use Rattle.ld_parts.proofs.Names.{[], ◌∙◌, ◌∷◌, ◌≡◌, ◌≤◌, AmongRank, Arrow, ClosedWalk, Contains, DependenciesOf, Fact, InInversion, Irq, IsDouble, IsInversion, IsInversionWith, List, NoneGoesDown, OnCircle, StrongWalk, StrongWalk-members, ap, arith, last, subst, sym, ℕ}
 
 module _ (Has : Fact → Type 0) (rank : ℕ → ℕ) where
   -- a double has one key, so it is of that key's rank whatever the ranks are

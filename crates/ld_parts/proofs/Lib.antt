@@ -1,3 +1,4 @@
+pub mod Names
 pub mod Climbing
 pub mod Levels
 pub mod OneRank

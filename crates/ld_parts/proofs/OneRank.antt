@@ -1,10 +1,5 @@
 -- One rank for all keys of which there are few.
-use Rattle.std.proofs.Common.{◌≡◌, ◌⊎◌, ℕ, ◌<◌, ◌≤◌, arith, inl, inr}
-use Rattle.std.proofs.lemmas.List.Elements.{All-contains}
-use Rattle.ld_trace.specs.declared.key_id.TheConstants.{GRAPH_KEYS}
-use Rattle.ld_facts.specs.Laws.Counting.{distinct-few}
-use Rattle.ld_facts.specs.declared.fact.Fact.{Fact}
-use Rattle.ld_parts.specs.Ranks.{IsCrowded, NoneGoesDown}
+use Rattle.ld_parts.proofs.Names.{◌<◌, ◌≡◌, ◌≤◌, ◌⊎◌, All-contains, Fact, GRAPH_KEYS, IsCrowded, NoneGoesDown, arith, distinct-few, inl, inr, ℕ}
 
 one_rank : (Has : Fact → Type 0) (rank : ℕ → ℕ) → ((key : ℕ) → rank key ≡ 0) → NoneGoesDown Has rank
 one_rank Has rank none = record {

@@ -1,19 +1,9 @@
 -- Pairs of keys in the one graph, and in that of a part.
-use Rattle.std.specs.Prelude.{◌≡◌, ◌<◌, ℕ, List, length, Option, Some, None, slice_index}
+use Rattle.ld_parts.proofs.Names.{◌<◌, ◌≡◌, AreTogether, Arrow, FactParts, HasFact, IsPair, IsPart, List, None, NoneGoesDown, Option, Part, Some, arith, arrow, arrow_at, length, length-map, link_by, refl, slice_index, told_by, ℕ}
 use Rattle.std.specs.Borrow.{Bor}
-use Rattle.std.proofs.Common.{refl, arith}
-use Rattle.std.proofs.lemmas.List.{length-map}
-use Rattle.ld_facts.specs.Arrows.{Arrow, arrow}
-use Rattle.ld_facts.specs.FactBits.{FactParts, HasFact}
-use Rattle.ld_facts.specs.Renumbered.{arrow_at}
-use Rattle.ld_graph.specs.Links.{link_by}
 use Rattle.ld_graph.specs.declared.graph.Graph.{Graph}
-use Rattle.ld_parts.specs.Inside.Pairs.{IsPair, told_by}
-use Rattle.ld_parts.specs.Inside.Parts.{AreTogether, IsPart}
-use Rattle.ld_parts.specs.Ranks.{NoneGoesDown}
 use Rattle.ld_parts.specs.declared.pair.Pair.{Pair}
 use Rattle.ld_parts.proofs.Parts.{found_in_part}
-use Rattle.ld_parts.specs.declared.part.Part.{Part}
 
 -- in the one graph the numbers are the keys themselves
 pub pair_of_all : (graph : Bor Graph) (a b : ℕ) → IsPair graph.now.facts a b (record { graph = graph; keys = None; a = a; b = b })

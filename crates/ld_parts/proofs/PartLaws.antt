@@ -1,20 +1,5 @@
 -- The law of parts: what is found in parts is what is found among all facts.
-use Rattle.std.specs.Prelude.{◌≡◌, ℕ, ◌<◌, ◌≤◌, ◌↔◌, List, [], ◌∷◌, length, get_or, map, slice_index, AllPairs}
-use Rattle.std.proofs.Common.{refl, ap, sym, ◌∙◌, subst, inl, inr, arith}
-use Rattle.std.proofs.lemmas.Bool.{cases_eq, cases_lt}
-use Rattle.std.proofs.lemmas.List.{get_or-map, length-map}
-use Rattle.std.proofs.lemmas.List.Elements.{Contains-get_or}
-use Rattle.ld_trace.specs.declared.event.Irq.{Irq}
-use Rattle.ld_facts.specs.Arrows.{Arrow}
-use Rattle.ld_facts.specs.Facts.{AreSame, DependenciesOf}
-use Rattle.ld_facts.specs.Renumbered.{HasKeys, Renumbered, arrow_at, arrow_by, fact_by}
-use Rattle.ld_facts.specs.declared.fact.Fact.{Fact}
-use Rattle.ld_facts.specs.declared.fact.Fact.TheVariants.{Dependency, Marked}
-use Rattle.ld_graph.specs.Laws.Facts.{StrongWalk-members}
-use Rattle.ld_graph.specs.Links.{IsDouble, IsInversion, InInversion, IsShortestInversion, IsClean}
-use Rattle.ld_graph.specs.Walks.{ClosedWalk, OnCircle, IsCircle, IsShortestCircle, IsShortestFrom}
-use Rattle.ld_parts.specs.Ranks.{AmongRank, NoneGoesDown}
-use Rattle.ld_parts.specs.FoundInParts.{AreFoundInPart, AreFoundInParts, ListsRank}
+use Rattle.ld_parts.proofs.Names.{[], ◌<◌, ◌↔◌, ◌∙◌, ◌∷◌, ◌≡◌, ◌≤◌, AllPairs, AmongRank, AreFoundInPart, AreFoundInParts, AreSame, Arrow, ClosedWalk, Contains-get_or, DependenciesOf, Dependency, Fact, HasKeys, InInversion, Irq, IsCircle, IsClean, IsDouble, IsInversion, IsShortestCircle, IsShortestFrom, IsShortestInversion, List, ListsRank, Marked, NoneGoesDown, OnCircle, Renumbered, StrongWalk-members, ap, arith, arrow_at, arrow_by, cases_eq, cases_lt, fact_by, get_or, get_or-map, inl, inr, length, length-map, map, refl, slice_index, subst, sym, ℕ}
 use Rattle.ld_parts.proofs.Levels.{circle_level, closed_level, double_level, in_inversion_level, inversion_level, inversion_with_level}
 use Rattle.ld_parts.proofs.Renumbering.{ClosedWalk-by, InInversion-by, IsCircle-by, IsDouble-by, IsDoubleBy-by, IsInversion-by, IsInversionWith-by, OnCircle-by, place_in, place_in-stands}
 

@@ -1,22 +1,7 @@
 -- How parts and homes are made, one key or one part after the other.
-use Rattle.std.specs.Prelude.{◌≡◌, ℕ, ◌+◌, ◌<◌, ◌≤◌, ◌↔◌, Bool, IsTrue, IsFalse, List, [], ◌∷◌, ◌++◌, length, get_or, take, All, Contains, IsNone, IfSome}
-use Rattle.std.proofs.Common.{Option, Some, None, refl, ap, sym, ◌∙◌, subst, inl, inr, arith}
-use Rattle.std.proofs.lemmas.Bool.{cases_eq, cases_lt}
-use Rattle.std.proofs.lemmas.List.{get_or_append_left, get_or_push, get_or_default, get_or-take, length_push, length-map, length-take-le}
-use Rattle.std.proofs.lemmas.List.Elements.{All-push, All-take, Contains-append_left, Contains-push}
+use Rattle.ld_parts.proofs.Names.{[], ◌++◌, ◌+◌, ◌<◌, ◌↔◌, ◌∙◌, ◌∷◌, ◌≡◌, ◌≤◌, All, All-push, All-take, AreHomes, AreHoused, AreKeysOf, AreParts, Arrow, Bool, Contains, Contains-append_left, Contains-head, Contains-push, FactParts, GRAPH_KEYS, HasFact, Home, IfSome, IsCircle, IsCrowded, IsFalse, IsHome, IsNone, IsShortestOfFirst, IsToldBy, IsTrue, List, MAX_KEYS, None, OnCircle, Option, Part, Some, ap, arith, arrow_at, cases_eq, cases_lt, get_or, get_or-take, get_or_append_left, get_or_default, get_or_push, inl, inr, length, length-map, length-take-le, length_push, no_longer, refl, subst, sym, take, ℕ}
 use Rattle.std.proofs.lemmas.List.Quantifiers.{all_pairs_push}
-use Rattle.ld_trace.specs.declared.key_id.TheConstants.{GRAPH_KEYS, MAX_KEYS}
-use Rattle.ld_facts.specs.Arrows.{Arrow}
-use Rattle.ld_facts.specs.FactBits.{FactParts, HasFact}
-use Rattle.ld_parts.specs.Inside.Parts.{AreHomes, AreHoused, AreKeysOf, AreParts, IsHome, IsShortestOfFirst, IsToldBy}
-use Rattle.ld_parts.specs.Ranks.{IsCrowded}
-use Rattle.ld_facts.specs.Renumbered.{arrow_at}
-use Rattle.ld_graph.specs.Walks.{IsCircle, OnCircle}
-use Rattle.ld_facts.specs.Laws.Lists.{Contains-head}
-use Rattle.ld_facts.specs.Laws.Counting.{no_longer}
 use Rattle.ld_parts.proofs.Parts.{no_circle, some_part}
-use Rattle.ld_parts.specs.declared.home.Home.{Home}
-use Rattle.ld_parts.specs.declared.part.Part.{Part}
 
 -- ---- one more
 -- what holds of the first n, and of the next, holds of one more

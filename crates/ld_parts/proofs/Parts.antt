@@ -1,27 +1,6 @@
 -- The parts of a parted graph: where keys are, what isn't found between parts, and what is found in all of them.
-use Rattle.std.specs.Prelude.{◌≡◌, ℕ, ◌<◌, ◌≤◌, ◌↔◌, List, [], ◌∷◌, length, get_or, map, All}
-use Rattle.std.proofs.Common.{refl, ap, sym, ◌∙◌, subst, inl, inr, arith}
-use Rattle.std.proofs.lemmas.Bool.{cases_lt}
-use Rattle.std.proofs.lemmas.List.{get_or-map, get_or_past, length-map}
-use Rattle.ld_trace.specs.declared.event.Irq.{Irq}
+use Rattle.ld_parts.proofs.Names.{[], ◌<◌, ◌↔◌, ◌∙◌, ◌∷◌, ◌≡◌, ◌≤◌, All, AmongRank, AreApart, AreFoundInPart, AreFoundInParts, AreKeysOf, AreSame, Arrow, Contains-head, DependenciesOf, Dependency, Enabled, Fact, FactParts, HasFact, HasKeys, Home, InInversion, Irq, IsAtPlace, IsCircle, IsCircle-more, IsClean, IsClean-same, IsDouble, IsHome, IsInversion, IsPart, IsPartOf, IsParted, IsShortestCircle, IsShortestCircle-same, IsShortestOfFirst, List, ListsRank, Marked, NoneGoesDown, OnCircle, OnCircle-member, Part, Renumbered, StrongWalk-members, ap, arith, arrow, arrow_at, cases_lt, get_or, get_or-map, get_or_past, inl, inr, is_s, length, length-map, map, refl, subst, sym, ℕ}
 use Rattle.ld_task.specs.declared.kind.Kind.{Kind}
-use Rattle.ld_task.specs.declared.mark.Mark.TheVariants.{Enabled}
-use Rattle.ld_task.specs.Kinds.{is_s}
-use Rattle.ld_facts.specs.Arrows.{Arrow, arrow}
-use Rattle.ld_facts.specs.FactBits.{FactParts, HasFact}
-use Rattle.ld_facts.specs.Facts.{AreSame, DependenciesOf}
-use Rattle.ld_facts.specs.Laws.Lists.{Contains-head}
-use Rattle.ld_facts.specs.Renumbered.{HasKeys, Renumbered, arrow_at}
-use Rattle.ld_facts.specs.declared.fact.Fact.{Fact}
-use Rattle.ld_facts.specs.declared.fact.Fact.TheVariants.{Dependency, Marked}
-use Rattle.ld_graph.specs.Laws.Facts.{IsCircle-more, IsClean-same, IsShortestCircle-same, OnCircle-member, StrongWalk-members}
-use Rattle.ld_graph.specs.Links.{IsDouble, IsInversion, InInversion, IsClean}
-use Rattle.ld_graph.specs.Walks.{IsCircle, OnCircle, IsShortestCircle}
-use Rattle.ld_parts.specs.FoundInParts.{AreFoundInPart, AreFoundInParts, ListsRank}
-use Rattle.ld_parts.specs.Inside.Parts.{AreApart, AreKeysOf, IsParted, IsAtPlace, IsHome, IsPart, IsPartOf, IsShortestOfFirst}
-use Rattle.ld_parts.specs.Ranks.{AmongRank, NoneGoesDown}
-use Rattle.ld_parts.specs.declared.home.Home.{Home}
-use Rattle.ld_parts.specs.declared.part.Part.{Part}
 use Rattle.ld_parts.proofs.Levels.{circle_level, in_inversion_level, inversion_level}
 use Rattle.ld_parts.proofs.PartLaws.{are_found_in_part, are_found_in_parts, circle_placed}
 

@@ -1,19 +1,5 @@
 -- Facts with their keys replaced, and what is found among them; a key's place in a list.
-use Rattle.std.specs.Prelude.{◌≡◌, ℕ, zero, suc, ◌<◌, Bool, ◌==◌, if◌then◌else◌, List, [], ◌∷◌, length, get_or, map, Contains}
-use Rattle.std.proofs.Common.{refl, ap, sym, ◌∙◌, subst, inl, inr, arith}
-use Rattle.std.proofs.lemmas.Bool.{cases_eq, eq-eqb, ne_eqb}
-use Rattle.std.proofs.lemmas.List.{get_or-map, length-map}
-use Rattle.ld_trace.specs.declared.event.Irq.{Irq}
-use Rattle.ld_task.specs.declared.mark.Mark.TheVariants.{UsedIn, Enabled}
-use Rattle.ld_task.specs.Kinds.{is_s, is_r}
-use Rattle.ld_facts.specs.Arrows.{Arrow, MayFollow}
-use Rattle.ld_facts.specs.Facts.{DependenciesOf}
-use Rattle.ld_facts.specs.Renumbered.{arrow_by, fact_by}
-use Rattle.ld_facts.specs.declared.fact.Fact.{Fact}
-use Rattle.ld_facts.specs.declared.fact.Fact.TheVariants.{Dependency, Marked}
-use Rattle.ld_graph.specs.Links.{IsLink, IsDouble, IsDoubleBy, IsInversion, IsInversionWith, InInversion}
-use Rattle.ld_graph.specs.Walks.{last, StrongWalk, ClosedWalk, OnCircle, IsCircle}
-use Rattle.ld_parts.specs.Inside.Parts.{IsAtPlace}
+use Rattle.ld_parts.proofs.Names.{[], ◌<◌, ◌==◌, ◌∙◌, ◌∷◌, ◌≡◌, Arrow, Bool, ClosedWalk, Contains, DependenciesOf, Dependency, Enabled, Fact, InInversion, Irq, IsAtPlace, IsCircle, IsDouble, IsDoubleBy, IsInversion, IsInversionWith, IsLink, List, Marked, MayFollow, OnCircle, StrongWalk, UsedIn, ap, arith, arrow_by, cases_eq, eq-eqb, fact_by, get_or, get_or-map, if◌then◌else◌, inl, inr, is_r, is_s, last, length, length-map, map, ne_eqb, refl, subst, suc, sym, zero, ℕ}
 
 -- ---- facts with their keys replaced
 module _ (other : ℕ → ℕ) where

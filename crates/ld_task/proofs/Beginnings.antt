@@ -1,8 +1,6 @@
 -- What a beginning of a trace says is what the trace says there.
-use Rattle.std.proofs.Common.{◌≡◌, ℕ, zero, suc, ◌<◌, ◌≤◌, List, [], ◌∷◌, take, length, refl, sym, ◌∙◌, subst, Contains, arith}
-use Rattle.ld_trace.specs.declared.event.Event.{Event}
+use Rattle.ld_task.proofs.Names.{[], ◌<◌, ◌∙◌, ◌∷◌, ◌≡◌, ◌≤◌, BeginningsKeepTheirChains, BeginningsKeepTheirFaults, Contains, Event, List, arith, length, refl, subst, suc, sym, take, zero, ℕ}
 use Rattle.ld_task.specs.TraceChains.{chains}
-use Rattle.ld_task.specs.Laws.{BeginningsKeepTheirChains, BeginningsKeepTheirFaults}
 use Rattle.ld_task.proofs.ChainLists.{Any-chains, chains-Any, chain-agree}
 use Rattle.ld_task.proofs.Prefixes.{slice_get-take}
 use Rattle.ld_task.proofs.TraceLemmas.{Agree, fault-agree}

@@ -1,22 +1,9 @@
 -- The chains of a trace: where each one comes from, and what one more event adds.
-use Rattle.std.proofs.Common.{◌≡◌, ℕ, zero, suc, ◌<◌, ◌≤◌, true, List, [], ◌∷◌, ◌++◌, length, length-append, map, All, Contains, slice_index_or, ◌⊎◌, Option, Some, None, refl, sym, ap, ◌∙◌, subst, inl, inr, arith, option_and_then}
-use Rattle.std.specs.List.{filter_map, cons_option, Any}
-use Rattle.std.specs.Option.{option_to_list}
-use Rattle.std.proofs.lemmas.Bool.{cases_eq}
-use Rattle.std.proofs.lemmas.Option.{slice_get_within}
-use Rattle.std.proofs.lemmas.List.Elements.{filter_map-append, Contains-append_left, Contains-append_right, Contains-append_cases, Contains-get_or}
-use Rattle.ld_trace.specs.declared.event.Event.{Event}
-use Rattle.ld_trace.specs.declared.event.Event.TheVariants.{Acquire, Release, Enter, Leave, TurnOn, TurnOff}
-use Rattle.ld_trace.specs.declared.event.Mode.{Mode}
-use Rattle.ld_trace.specs.declared.event.Irq.{Irq}
-use Rattle.ld_trace.specs.declared.event.Irq.TheVariants.{Hard, Soft}
+use Rattle.ld_task.proofs.Names.{[], ◌++◌, ◌<◌, ◌∙◌, ◌∷◌, ◌≡◌, ◌≤◌, ◌⊎◌, Acquire, All, Any, ChainParts, Contains, Contains-append_cases, Contains-append_left, Contains-append_right, Contains-get_or, Enter, Event, Hard, Irq, Leave, List, Mode, None, Option, Release, Soft, Some, TurnOff, TurnOn, ap, arith, cases_eq, chain, cons_option, event, filter_map, filter_map-append, flags_at, inl, inr, length, length-append, lock_at, map, option_and_then, option_to_list, refl, slice_get_within, slice_index_or, subst, suc, sym, true, zero, ℕ}
 use Rattle.ld_task.specs.Positions.{positions_below}
-use Rattle.ld_task.specs.Events.{event}
 use Rattle.ld_task.specs.Frames.{kind}
-use Rattle.ld_task.specs.Flags.{flags_at}
 use Rattle.ld_task.specs.Held.{is_held}
-use Rattle.ld_task.specs.Chains.{ChainParts}
-use Rattle.ld_task.specs.TraceChains.{lock_at, held_locks_at, chain_of, chain, chains}
+use Rattle.ld_task.specs.TraceChains.{held_locks_at, chain_of, chains}
 use Rattle.ld_task.proofs.PositionLemmas.{map_below-cong, positions_below-cong}
 use Rattle.ld_task.proofs.TraceLemmas.{Agree, is_held-agree, kind-agree, flag-agree}
 use Rattle.ld_task.proofs.Places.{slice_get-append_left}

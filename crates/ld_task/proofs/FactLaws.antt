@@ -1,27 +1,12 @@
 -- The dependencies and the marks of a trace are those of its chains.
-use Rattle.std.proofs.Common.{◌≡◌, ℕ, suc, true, List, Contains, ◌⊎◌, Option, Some, None, refl, sym, ap, ◌∙◌, subst, inl, inr, IsTrue}
-use Rattle.std.specs.List.{Any}
-use Rattle.std.proofs.lemmas.Bool.{true≢false}
-use Rattle.std.proofs.lemmas.Option.{same_Some}
-use Rattle.ld_trace.specs.declared.event.Event.{Event}
-use Rattle.ld_trace.specs.declared.event.Event.TheVariants.{Acquire, Release, Enter, Leave, TurnOn, TurnOff}
-use Rattle.ld_trace.specs.declared.event.Mode.{Mode}
-use Rattle.ld_trace.specs.declared.event.Irq.{Irq}
-use Rattle.ld_task.specs.declared.frame.Frame.{Frame}
+use Rattle.ld_task.proofs.Names.{◌∙◌, ◌≡◌, ◌⊎◌, Acquire, Any, ChainHasDependency, ChainHasMark, ChainMarksHeld, ChainMarksNew, ChainParts, Contains, DependenciesAreTheChains, Enter, Event, Frame, Irq, IsDependency, IsMarked, IsMarkedOpening, IsMarkedTaking, IsTrue, Leave, List, Lock, MarksAreTheChains, Mode, None, Option, Release, Some, TurnOff, TurnOn, ap, event, flags_at, inl, inr, is_acquire, is_turn_on, key_taken, lock_at, marks_opened, marks_taken, mode_taken, refl, same_Some, subst, suc, sym, true, true≢false, ℕ}
 use Rattle.ld_task.specs.declared.kind.Kind.{Kind}
-use Rattle.ld_task.specs.declared.lock.Lock.{Lock}
 use Rattle.ld_task.specs.declared.mark.Mark.{Mark}
-use Rattle.ld_task.specs.Events.{event, is_acquire, is_turn_on, key_taken, mode_taken}
 use Rattle.ld_task.specs.Frames.{kind}
-use Rattle.ld_task.specs.Flags.{flags_at}
 use Rattle.ld_task.specs.Held.{is_held}
-use Rattle.ld_task.specs.Dependencies.{IsDependency}
 use Rattle.ld_trace.specs.Modes.{may_wait}
 use Rattle.ld_task.specs.Kinds.{kind_between}
-use Rattle.ld_task.specs.Marks.{IsMarked, IsMarkedTaking, IsMarkedOpening, marks_taken, marks_opened}
-use Rattle.ld_task.specs.Chains.{ChainParts, ChainHasDependency, ChainHasMark, ChainMarksNew, ChainMarksHeld}
-use Rattle.ld_task.specs.TraceChains.{lock_at, held_locks_at, chains}
-use Rattle.ld_task.specs.Laws.{DependenciesAreTheChains, MarksAreTheChains}
+use Rattle.ld_task.specs.TraceChains.{held_locks_at, chains}
 use Rattle.ld_task.proofs.TraceLemmas.{is_kept-true, is_held-parts}
 use Rattle.ld_task.proofs.Mapped.{Comes, Contains-mapped, mapped-comes}
 use Rattle.ld_task.proofs.ChainLists.{Any-chains, chains-Any, acquisition_at, opening_at, IsAcquisition, IsOpening, chain-acquire, chain-turn_on, chain-cases}

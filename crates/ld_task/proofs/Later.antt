@@ -1,12 +1,8 @@
 -- The acquisitions of one key in one frame that come after a given one.
-use Rattle.std.proofs.Common.{◌≡◌, ℕ, suc, ◌+◌, ◌<◌, ◌≤◌, true, ◌&&◌, ltb, eqb, List, Option, Some, None, refl, sym, ap, ◌∙◌, inl, inr, arith}
-use Rattle.std.proofs.lemmas.Bool.{and_parts, and_from, cases_lt, lt-ltb, le-ltb, ltb-true, eqb-true, eq-eqb, cases_eq, true≢false}
-use Rattle.ld_trace.specs.declared.event.Event.{Event}
-use Rattle.ld_trace.specs.declared.event.Event.TheVariants.{Acquire, Release, Enter, Leave, TurnOn, TurnOff}
-use Rattle.ld_task.specs.Events.{key_taken, is_acquire, takes, event}
+use Rattle.ld_task.proofs.Names.{◌&&◌, ◌+◌, ◌<◌, ◌∙◌, ◌≡◌, ◌≤◌, Acquire, Enter, Event, Leave, List, None, Option, Release, Some, TurnOff, TurnOn, acquisitions_since, and_from, and_parts, ap, arith, cases_eq, cases_lt, eq-eqb, eqb, eqb-true, event, inl, inr, is_acquire, key_at, key_taken, le-ltb, lt-ltb, ltb, ltb-true, refl, releases_since, suc, sym, takes, true, true≢false, ℕ}
 use Rattle.ld_task.specs.Positions.{count_below}
 use Rattle.ld_task.specs.Frames.{depth, one_frame}
-use Rattle.ld_task.specs.Held.{key_at, acquisitions_since, releases_since, is_kept}
+use Rattle.ld_task.specs.Held.{is_kept}
 use Rattle.ld_task.proofs.PositionLemmas.{count_below-none}
 use Rattle.ld_task.proofs.TraceLemmas.{one_frame-depth, one_frame-above, one_frame-from}
 

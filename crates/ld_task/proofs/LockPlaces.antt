@@ -1,24 +1,12 @@
 -- The positions of the locks that a task keeps, together with its state.
-use Rattle.std.proofs.Common.{◌≡◌, ℕ, zero, suc, ◌+◌, ◌<◌, ◌≤◌, Bool, true, false, ◌&&◌, not, eqb, List, [], ◌∷◌, ◌++◌, length, map, filter, drop, take, remove, get_or, slice_get, option_map, option_and_then, Option, Some, None, Result, Ok, Err, refl, sym, ap, ◌∙◌, subst, IsTrue, inl, inr, arith, if◌then◌else◌}
+use Rattle.ld_task.proofs.Names.{[], ◌&&◌, ◌++◌, ◌+◌, ◌<◌, ◌∙◌, ◌∷◌, ◌≡◌, ◌≤◌, Acquire, Bool, ChainParts, Does, DoesPlaced, Enter, Err, Event, GoesOnPlaced, IsPlacedAfter, IsTrue, IsWellFormed, KeptLock, Leave, List, None, Ok, Option, PlacedParts, Release, Result, Some, StepFault, TurnOff, TurnOn, ap, append-nil, arith, cases_Bool, drop, eqb, event, false, fault, filter, get_or, gives_back, held_positions, if◌then◌else◌, inl, inr, is_acquire, is_at, is_enter, is_leave, is_of, kept_lock_at, kept_positions, length, length-map, length-remove, level_of, makes_chain, map, newest, not, option_and_then, option_map, passes, places_after, places_at, refl, refusal, remove, slice_get, slice_get-map, subst, suc, sym, take, takes, true, true≢false, without_place, zero, ℕ}
 use Rattle.std.specs.Prelude.{OnErr}
-use Rattle.std.proofs.lemmas.Bool.{cases_Bool, true≢false}
-use Rattle.std.proofs.lemmas.List.{append-nil, length-map}
-use Rattle.std.proofs.lemmas.List.Edits.{length-remove}
-use Rattle.std.proofs.lemmas.Option.{slice_get-map}
-use Rattle.ld_trace.specs.declared.event.Event.{Event}
-use Rattle.ld_trace.specs.declared.event.Event.TheVariants.{Acquire, Release, Enter, Leave, TurnOn, TurnOff}
-use Rattle.ld_task.specs.Chains.{ChainParts}
-use Rattle.ld_task.specs.EndState.{state_at, kept_lock_at}
-use Rattle.ld_task.specs.Events.{event, is_acquire, is_enter, is_leave, gives_back, takes, makes_chain}
+use Rattle.ld_task.specs.EndState.{state_at}
 use Rattle.ld_task.specs.Frames.{depth}
 use Rattle.ld_task.specs.Held.{is_kept, is_held}
-use Rattle.ld_task.specs.Inside.Machine.{Does, is_at, is_of, last_place, level_of, newest, passes, refusal}
-use Rattle.ld_task.specs.Inside.Placing.{DoesPlaced, places_after, places_at, without_place}
-use Rattle.ld_task.specs.Placed.{GoesOnPlaced, IsPlacedAfter, PlacedParts, held_positions, kept_positions}
+use Rattle.ld_task.specs.Inside.Machine.{last_place}
 use Rattle.ld_task.specs.Positions.{last_below, positions_below}
-use Rattle.ld_task.specs.WellFormed.{IsWellFormed, fault, fault_of}
-use Rattle.ld_task.specs.declared.fault.StepFault.{StepFault}
-use Rattle.ld_task.specs.declared.lock.KeptLock.{KeptLock}
+use Rattle.ld_task.specs.WellFormed.{fault_of}
 use Rattle.ld_task.proofs.Counting.{counted, release-at}
 use Rattle.ld_task.proofs.NextPosition.{AllowedTo, depth-quiet, locks-acquire}
 use Rattle.ld_task.proofs.Places.{filter-append, filter-mapped, place-of, slice_get-append_left}

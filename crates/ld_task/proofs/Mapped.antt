@@ -1,8 +1,5 @@
 -- The elements of a list that maps positions.
-use Rattle.std.proofs.Common.{◌≡◌, ℕ, zero, suc, ◌<◌, Bool, true, ◌∷◌, ◌++◌, [], map, Contains, sym, subst, inl, inr, arith}
-use Rattle.std.proofs.lemmas.Bool.{cases_Bool, cases_eq}
-use Rattle.std.proofs.lemmas.List.{map-append}
-use Rattle.std.proofs.lemmas.List.Elements.{Contains-append_left, Contains-push, Contains-push_cases}
+use Rattle.ld_task.proofs.Names.{[], ◌++◌, ◌<◌, ◌∷◌, ◌≡◌, Bool, Contains, Contains-append_left, Contains-push, Contains-push_cases, arith, cases_Bool, cases_eq, inl, inr, map, map-append, subst, suc, sym, true, zero, ℕ}
 use Rattle.ld_task.specs.Positions.{positions_below}
 
 module _ {A : Type 0} (f : ℕ → A) (p : ℕ → Bool) where

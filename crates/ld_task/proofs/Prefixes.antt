@@ -1,17 +1,7 @@
 -- The first events of a trace, and how one more continues them.
-use Rattle.std.proofs.Common.{◌≡◌, ℕ, zero, suc, ◌+◌, ◌<◌, List, [], ◌∷◌, ◌++◌, length, take, slice_get, Option, Some, Result, Ok, Err, refl, sym, ap, ◌∙◌, subst, inl, inr, arith}
-use Rattle.std.specs.Option.{option_to_list}
-use Rattle.std.proofs.lemmas.Bool.{cases_eq}
-use Rattle.std.proofs.lemmas.List.{length-take-le}
-use Rattle.std.proofs.lemmas.Option.{slice_get_within}
-use Rattle.ld_trace.specs.declared.event.Event.{Event}
-use Rattle.ld_task.specs.declared.fault.StepFault.{StepFault}
-use Rattle.ld_task.specs.EndState.{EndState, end_state, state_at}
-use Rattle.ld_task.specs.WellFormed.{IsWellFormed, IsFirstFault, fault}
-use Rattle.ld_task.specs.Events.{event}
-use Rattle.ld_task.specs.Chains.{ChainParts}
-use Rattle.ld_task.specs.TraceChains.{chain, chains}
-use Rattle.ld_task.specs.Steps.{StepsTo, GoesOn}
+use Rattle.ld_task.proofs.Names.{[], ◌++◌, ◌+◌, ◌<◌, ◌∙◌, ◌∷◌, ◌≡◌, ChainParts, EndState, Err, Event, GoesOn, IsFirstFault, IsWellFormed, List, Ok, Option, Result, Some, StepFault, StepsTo, ap, arith, cases_eq, chain, end_state, event, fault, inl, inr, length, length-take-le, option_to_list, refl, slice_get, slice_get_within, subst, suc, sym, take, zero, ℕ}
+use Rattle.ld_task.specs.EndState.{state_at}
+use Rattle.ld_task.specs.TraceChains.{chains}
 use Rattle.ld_task.proofs.TraceLemmas.{Agree, fault-agree, state_at-agree}
 use Rattle.ld_task.proofs.NextPosition.{AllowedTo}
 use Rattle.ld_task.proofs.ChainLists.{chain-agree, chains-snoc}

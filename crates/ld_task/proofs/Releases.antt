@@ -1,13 +1,8 @@
 -- A release takes the newest held lock of its key, and nothing else.
-use Rattle.std.proofs.Common.{◌≡◌, ◌≢◌, ℕ, suc, ◌+◌, ◌<◌, ◌≤◌, Bool, true, false, cond, not, ◌&&◌, ltb, eqb, List, Some, refl, sym, ap, ◌∙◌, subst, inl, inr, arith}
-use Rattle.std.proofs.lemmas.Bool.{and_parts, and_from, and_left, and_right, cases_lt, eqb-true, eq-eqb, ne_eqb, cases_Bool, true≢false, false_from_ne_true, not_from_false, not_from_true}
-use Rattle.std.specs.Cmp.{both_ways}
-use Rattle.ld_trace.specs.declared.event.Event.{Event}
-use Rattle.ld_trace.specs.declared.event.Event.TheVariants.{Release}
-use Rattle.ld_task.specs.Events.{is_acquire, is_enter, is_leave, takes, gives_back, event}
+use Rattle.ld_task.proofs.Names.{◌&&◌, ◌+◌, ◌<◌, ◌∙◌, ◌≡◌, ◌≢◌, ◌≤◌, Bool, Event, List, Release, Some, acquisitions_since, and_from, and_left, and_parts, and_right, ap, arith, both_ways, cases_Bool, cases_lt, cond, eq-eqb, eqb, eqb-true, event, false, false_from_ne_true, gives_back, inl, inr, is_acquire, is_enter, is_leave, key_at, ltb, ne_eqb, not, not_from_false, not_from_true, refl, releases_since, subst, suc, sym, takes, true, true≢false, ℕ}
 use Rattle.ld_task.specs.Positions.{positions_below, count_below, last_below}
 use Rattle.ld_task.specs.Frames.{depth, one_frame}
-use Rattle.ld_task.specs.Held.{key_at, acquisitions_since, releases_since, is_kept, is_held}
+use Rattle.ld_task.specs.Held.{is_kept, is_held}
 use Rattle.ld_task.proofs.PositionLemmas.{last_below-lt, last_below-holds, last_below-last, count_below-none, count_below-hit, count_below-without, count_below-cong, positions_below-cong}
 use Rattle.ld_task.proofs.TraceLemmas.{is_kept-true, is_kept-from, is_held-from, is_held-parts}
 use Rattle.ld_task.proofs.NextPosition.{depth-quiet, count_since-suc, is_kept-back, is_kept-on, is_kept-not_acquired}

@@ -1,19 +1,7 @@
 -- The keys of the chains are keys of the trace, and what turning on a state does to the flags.
-use Rattle.std.proofs.Common.{◌≡◌, ◌≢◌, ℕ, ◌<◌, true, false, List, All, ◌⊎◌, slice_index_or, Option, Some, None, refl, sym, ap, ◌∙◌, subst, inl, inr}
-use Rattle.std.proofs.lemmas.Bool.{true≢false}
-use Rattle.std.proofs.lemmas.List.Elements.{Contains-get_or}
-use Rattle.std.proofs.lemmas.Option.{slice_get_within, get_or_from_slice_get}
+use Rattle.ld_task.proofs.Names.{◌<◌, ◌∙◌, ◌≡◌, ◌≢◌, ◌⊎◌, Acquire, All, ChainKeysAreTheTraces, ChainKeysBelow, ChainParts, Contains-get_or, Enter, Event, Hard, Irq, Leave, List, Lock, None, Option, Release, Soft, Some, TurnOff, TurnOn, TurningOnTurnsOn, ap, changes_flag, event, false, get_or_from_slice_get, inl, inr, is_acquire, is_enter, is_leave, is_turn_on, key_at, refl, same_irq, slice_get_within, slice_index_or, subst, sym, true, true≢false, ℕ}
 use Rattle.ld_trace.specs.Events.{KeyIsBelow, KeysBelow}
-use Rattle.ld_trace.specs.declared.event.Event.{Event}
-use Rattle.ld_trace.specs.declared.event.Event.TheVariants.{Acquire, Release, Enter, Leave, TurnOn, TurnOff}
-use Rattle.ld_trace.specs.declared.event.Irq.{Irq}
-use Rattle.ld_trace.specs.declared.event.Irq.TheVariants.{Hard, Soft}
-use Rattle.ld_task.specs.declared.lock.Lock.{Lock}
-use Rattle.ld_task.specs.Events.{event, is_acquire, is_enter, is_leave, changes_flag, is_turn_on, same_irq}
-use Rattle.ld_task.specs.Held.{key_at}
-use Rattle.ld_task.specs.Chains.{ChainParts, ChainKeysBelow}
 use Rattle.ld_task.specs.TraceChains.{held_locks_at}
-use Rattle.ld_task.specs.Laws.{ChainKeysAreTheTraces, TurningOnTurnsOn}
 use Rattle.ld_task.proofs.NextPosition.{depth-quiet}
 use Rattle.ld_task.proofs.Frames.{flag-changed, flag-quiet}
 use Rattle.ld_task.proofs.TraceLemmas.{is_kept-true, is_held-parts}

@@ -11,7 +11,6 @@ use Rattle.ld_task.specs.declared.mark.Mark.TheVariants.{Used, UsedIn, Enabled}
 use Rattle.ld_trace.specs.declared.event.Event.{Event}
 use Rattle.ld_trace.specs.declared.event.Mode.{Mode}
 use Rattle.ld_trace.specs.Modes.{is_read, may_wait}
-use Rattle.ld_trace.specs.declared.event.Irq.{Irq}
 
 -- both are in the read form, or neither is
 abbrev pub same_form : Bool → Bool → Bool

@@ -1,22 +1,9 @@
 -- A trace reads alike over its own names and over others.
-use Rattle.std.proofs.Common.{◌≡◌, ℕ, suc, ◌+◌, ◌≤◌, Bool, true, false, true≢false, List, [], ◌∷◌, ◌++◌, map, length, slice_get, nat_lt, Option, Some, None, Result, Ok, Err, refl, sym, ap, ◌∙◌, arith, append_assoc, if◌then◌else◌}
-use Rattle.std.specs.List.{list_all}
-use Rattle.std.proofs.lemmas.Bool.{and_parts, or_parts, or_left, or_right}
-use Rattle.std.proofs.lemmas.Bool.Decides.{nat_tests}
-use Rattle.std.proofs.lemmas.List.{append-nil}
-use Rattle.std.proofs.lemmas.List.Folds.{list_any-append}
-use Rattle.ld_trace.specs.declared.event.Event.{Event}
-use Rattle.ld_trace.specs.declared.event.Event.TheVariants.{Acquire, Release}
-use Rattle.ld_trace.specs.declared.raw_trace.TheConstants.{MAX_EVENTS}
-use Rattle.ld_trace.specs.declared.trace_fault.TraceFaultKind.{TraceFaultKind}
-use Rattle.ld_trace.specs.declared.trace_fault.TraceFaultKind.TheVariants.{TooManyRecords}
-use Rattle.ld_trace.specs.declared.version.Version.{Version}
-use Rattle.ld_trace.specs.Laws.{TracesReadAlike, lines_at, with_lines}
-use Rattle.ld_trace.specs.Lines.{Line, Record, takes, gives_back, enters, leaves, turns_on, turns_off, event_of, line_of_record, version_of, with_line}
-use Rattle.ld_trace.specs.Names.{Name, is_known, is_same, place_of, with_name}
-use Rattle.ld_trace.specs.Reading.{ReadsTo, fault_at, line_fault, names_before, record_fault, records_of, version_fault, version_in}
-use Rattle.ld_trace.specs.TakingIn.{Within, all_moved, with_all}
-use Rattle.ld_trace.specs.Writing.{line_at}
+use Rattle.ld_trace.proofs.Names.{[], ◌++◌, ◌+◌, ◌∙◌, ◌∷◌, ◌≡◌, ◌≤◌, Acquire, Bool, Err, Event, Line, List, MAX_EVENTS, Name, None, Ok, Option, ReadsTo, Record, Release, Result, Some, TooManyRecords, TraceFaultKind, TracesReadAlike, Version, Within, all_moved, and_parts, ap, append-nil, append_assoc, arith, enters, event_of, false, gives_back, if◌then◌else◌, is_known, is_same, leaves, length, line_at, line_fault, lines_at, list_all, list_any-append, map, names_before, nat_lt, nat_tests, or_left, or_parts, or_right, place_of, record_fault, records_of, refl, slice_get, suc, sym, takes, true, true≢false, turns_off, turns_on, version_fault, version_in, with_line, with_name, ℕ}
+use Rattle.ld_trace.specs.Laws.{with_lines}
+use Rattle.ld_trace.specs.Lines.{line_of_record, version_of}
+use Rattle.ld_trace.specs.Reading.{fault_at}
+use Rattle.ld_trace.specs.TakingIn.{with_all}
 use Rattle.ld_trace.proofs.KnownLemmas.{is_same-itself, same-name}
 use Rattle.ld_trace.proofs.LineLemmas.{Say, events_with, lines_at-events_with, taken-said, with_lines-added}
 use Rattle.ld_trace.proofs.ReadLemmas.{reads-to, taken-header}

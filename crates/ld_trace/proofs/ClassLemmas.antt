@@ -1,21 +1,10 @@
 -- What the names of classes and of types are: beginnings of names.
-use Rattle.std.proofs.Common.{◌≡◌, ℕ, ◌+◌, ◌<◌, ◌≤◌, ◌==◌, ◌&&◌, not, if◌then◌else◌, Bool, true, false, List, [], ◌∷◌, ◌++◌, map, zero, suc, length, take, drop, Option, Some, None, option_map, refl, sym, ap, ◌∙◌, subst, arith, inl, inr, append_assoc, length-append, take-append-drop}
-use Rattle.std.proofs.lemmas.Bool.{and_from, and_parts, cases_Bool}
-use Rattle.std.proofs.lemmas.Bool.Decides.{nat_tests}
-use Rattle.std.proofs.lemmas.List.{append-nil, length-map, take_all}
+use Rattle.ld_trace.proofs.Names.{[], ◌&&◌, ◌++◌, ◌+◌, ◌<◌, ◌==◌, ◌∙◌, ◌∷◌, ◌≡◌, ◌≤◌, Bool, IfSome, Leads, List, MAX_NAME, MAX_SUB, Name, None, Option, Some, and_from, and_parts, ap, append-nil, append_assoc, are_visible, arith, before_at, cases_Bool, class_by, class_of, drop, false, if◌then◌else◌, inl, inr, is_class_name, is_known, is_name, is_one_too_many, length, length-append, length-map, list_all-append, map, name_at, name_by, nat_le, nat_tests, not, numbers_at, option_map, place_of, position_or_len, refl, rfind_below, some_or, subst, suc, sym, take, take_all, text_at, true, with_name, zero, ℕ}
+use Rattle.std.proofs.Common.{take-append-drop}
 use Rattle.std.proofs.lemmas.Simd.{map-map}
-use Rattle.std.proofs.lemmas.List.Folds.{list_all-append}
-use Rattle.std.specs.List.{position_or_len}
-use Rattle.std.specs.Path.{rfind_below, rsplit_once}
-use Rattle.std.specs.Prelude.{IfSome, nat_le}
-use Rattle.ld_trace.specs.Classes.{before_at, class_by, class_of, name_by, numbers_at, some_or, text_at}
+use Rattle.std.specs.Path.{rsplit_once}
 use Rattle.ld_trace.specs.declared.level.Level.{Level}
 use Rattle.ld_trace.specs.declared.level.Level.TheVariants.{Locks, Classes, Types}
-use Rattle.ld_trace.specs.declared.key_table.TheConstants.{MAX_SUB}
-use Rattle.ld_trace.specs.declared.stored_name.TheConstants.{MAX_NAME}
-use Rattle.ld_trace.specs.Names.{Name, are_visible, is_class_name, is_known, is_name, is_one_too_many, place_of, with_name}
-use Rattle.ld_trace.specs.TakingIn.{Leads}
-use Rattle.ld_trace.specs.Writing.{name_at}
 
 -- the name begins with this text
 abbrev Begins : (name text : List ℕ) → Type 0

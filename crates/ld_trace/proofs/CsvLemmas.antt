@@ -1,16 +1,10 @@
 -- The records that a reader returned one after the other are the first records of its text.
-use Rattle.std.proofs.Common.{◌≡◌, ◌⊎◌, inl, inr, ℕ, zero, suc, ◌+◌, ◌-◌, ◌≤◌, ◌<◌, Bool, true, false, List, [], ◌∷◌, ◌++◌, length, Option, Some, None, IfSome, option_map, refl, sym, ap, ◌∙◌, append_assoc, arith, if◌then◌else◌}
-use Rattle.std.proofs.lemmas.List.{append-nil}
-use Rattle.csv.specs.Machine.{Read, ends_at_end, field_after, fields_after, is_end, next_record, step}
-use Rattle.csv.specs.Reading.{ReadRecord, Reached, default_config, records_from, reader_state, source_of, strip_bom}
+use Rattle.ld_trace.proofs.Names.{[], ◌++◌, ◌+◌, ◌-◌, ◌<◌, ◌∙◌, ◌∷◌, ◌≡◌, ◌≤◌, ◌⊎◌, Bool, Gives, HasGiven, IfSome, List, None, Option, ReadRecord, Reader, ReadsPlain, Record, Some, State, ap, append-nil, append_assoc, arith, default_config, ends_at_end, false, field_after, fields_after, if◌then◌else◌, inl, inr, is_end, length, option_map, reader_state, records_of, refl, source_of, step, suc, sym, true, zero, ℕ}
+use Rattle.csv.specs.Machine.{Read, next_record}
+use Rattle.csv.specs.Reading.{Reached, records_from, strip_bom}
 use Rattle.csv.specs.declared.parser.Config.{Config}
-use Rattle.csv.specs.declared.parser.State.{State}
 use Rattle.csv.specs.declared.parser.State.TheVariants as st
-use Rattle.csv.specs.declared.reader.Reader.{Reader}
 use Rattle.csv.proofs.ReadFacts.{rows-end, rows-more}
-use Rattle.ld_trace.specs.Lines.{Record}
-use Rattle.ld_trace.specs.Inside.Progress.{Gives, HasGiven, ReadsPlain}
-use Rattle.ld_trace.specs.Reading.{records_of}
 
 -- a record takes a byte, or it is the one that the end of the text ended
 abbrev pub Shortens : List ℕ → Read → Type 0

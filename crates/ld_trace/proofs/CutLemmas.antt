@@ -1,16 +1,8 @@
 -- A text may be cut at a newline if its records have no newline in a field: a quote that is open there shows in a record.
-use Rattle.std.specs.Prelude.{◌&&◌}
-use Rattle.std.specs.List.{list_all}
-use Rattle.std.proofs.Common.{◌≡◌, ℕ, not, Bool, true, false, true≢false, List, [], ◌∷◌, ◌++◌, ◌==◌, refl, sym, ap, ◌∙◌, if◌then◌else◌}
-use Rattle.std.proofs.lemmas.Bool.{and_parts}
-use Rattle.std.proofs.lemmas.List.Folds.{list_all-append}
-use Rattle.csv.specs.Machine.{field_after, fields_after, step}
-use Rattle.csv.specs.Reading.{default_config, is_bom, strip_bom}
+use Rattle.ld_trace.proofs.Names.{[], ◌&&◌, ◌++◌, ◌==◌, ◌∙◌, ◌∷◌, ◌≡◌, Bool, List, Record, State, and_parts, ap, default_config, false, field_after, fields_after, if◌then◌else◌, is_bom, is_line, is_one_line, list_all, list_all-append, not, refl, step, sym, true, true≢false, ℕ}
+use Rattle.csv.specs.Reading.{strip_bom}
 use Rattle.csv.specs.declared.parser.Action.TheVariants as act
-use Rattle.csv.specs.declared.parser.State.{State}
 use Rattle.csv.specs.declared.parser.State.TheVariants as st
-use Rattle.ld_trace.specs.Joining.{is_line, is_one_line}
-use Rattle.ld_trace.specs.Lines.{Record}
 use Rattle.ld_trace.proofs.RowLemmas.{IsKept, Does, ends, goes, skips, IsAt, at-skipped, at-start, at-within, does, first-row, is_between, rows-byte, rows-within, rows_from, rows_of}
 
 -- ---- a newline within quotes

@@ -1,16 +1,8 @@
 -- The fields of a record by their places, and what the record then says.
-use Rattle.std.proofs.Common.{◌≡◌, ◌≢◌, ℕ, zero, suc, ◌<◌, ◌&&◌, Bool, true, List, [], ◌∷◌, length, Some, None, Err, refl, arith, codes, nat_le, All, get_or, if◌then◌else◌}
-use Rattle.std.specs.Str.{IsUtf8, bytes_eq}
-use Rattle.std.proofs.lemmas.Str.{IsUtf8-from_ascii}
+use Rattle.ld_trace.proofs.Names.{[], ◌&&◌, ◌<◌, ◌∷◌, ◌≡◌, ◌≢◌, All, AllPass-from_list_all, BadRecord, Bool, Err, IsUtf8, IsUtf8-from_ascii, List, MAX_NAME, None, Record, Some, Version, acquire_line, are_visible, arith, bytes_eq, codes, get_or, if◌then◌else◌, irq_line, irq_of, is_class_name, leave_line, length, mode_of, name_of_fields, nat_le, nat_tests, refl, release_line, sub_of, suc, true, version_named, zero, ℕ}
 use Rattle.std.proofs.lemmas.Str.Ascii.{IsAscii-from_all}
-use Rattle.std.proofs.lemmas.List.Sums.{AllPass-from_list_all}
-use Rattle.std.proofs.lemmas.Bool.Decides.{nat_tests}
-use Rattle.ld_trace.specs.declared.stored_name.TheConstants.{MAX_NAME}
 use Rattle.csv.specs.Records.{field_at}
-use Rattle.ld_trace.specs.declared.trace_fault.TraceFaultKind.TheVariants.{BadRecord}
-use Rattle.ld_trace.specs.Lines.{Record, acquire_line, irq_of, leave_line, mode_of, name_of_fields, release_line, line_of_record, irq_line, sub_of, version_named, version_of}
-use Rattle.ld_trace.specs.declared.version.Version.{Version}
-use Rattle.ld_trace.specs.Names.{are_visible, is_class_name}
+use Rattle.ld_trace.specs.Lines.{line_of_record, version_of}
 
 -- a field within the record is there
 pub field-there : (fs : Record) (i : ℕ) → i < length fs → field_at fs i ≢ None

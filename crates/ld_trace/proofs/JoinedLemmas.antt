@@ -1,18 +1,9 @@
 -- The traces of several texts that were read as one.
-use Rattle.std.proofs.Common.{◌≡◌, ℕ, suc, Option, List, [], ◌∷◌, ◌++◌, All, length, take, map, refl, sym, ap, ◌∙◌, arith, append_assoc, length-append}
-use Rattle.std.proofs.Math.Seq.{take-append_seam}
-use Rattle.std.proofs.lemmas.List.{append-nil}
-use Rattle.std.proofs.lemmas.List.Elements.{All-cons, All-nil}
+use Rattle.ld_trace.proofs.Names.{[], ◌++◌, ◌∙◌, ◌∷◌, ◌≡◌, All, All-cons, All-nil, ArePlain, AreTaken, List, Name, Option, Reader, Record, Returns, Version, ap, append-nil, append_assoc, arith, length, length-append, map, point, records_of, refl, suc, sym, take, take-append_seam, ℕ}
 use Rattle.ld_trace.specs.declared.joining.NumberedTrace.{NumberedTrace}
-use Rattle.ld_trace.specs.declared.version.Version.{Version}
-use Rattle.csv.specs.declared.reader.Reader.{Reader}
-use Rattle.ld_trace.specs.Joining.{ArePlain, joined, joined_records, point}
+use Rattle.ld_trace.specs.Joining.{joined, joined_records}
 use Rattle.ld_trace.specs.JoinedTraces.{AreInTurn, AreReadTo, IsNumbered}
-use Rattle.ld_trace.specs.Lines.{Record}
-use Rattle.ld_trace.specs.Names.{Name}
 use Rattle.ld_trace.specs.Inside.Joined.{AreTakenInTurn, ended_records}
-use Rattle.ld_trace.specs.Inside.Progress.{AreTaken, Returns}
-use Rattle.ld_trace.specs.Reading.{records_of}
 use Rattle.ld_trace.proofs.Joins.{texts-come-apart}
 use Rattle.ld_trace.proofs.PlainLemmas.{taken-plain}
 use Rattle.ld_trace.proofs.ReadLemmas.{reads-to}

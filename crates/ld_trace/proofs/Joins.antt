@@ -1,16 +1,9 @@
 -- Texts that were read as one come apart again.
-use Rattle.std.specs.Prelude.{◌&&◌}
-use Rattle.std.specs.List.{list_all}
-use Rattle.std.proofs.Common.{◌≡◌, ℕ, ◌+◌, Bool, true, false, true≢false, List, [], ◌∷◌, ◌++◌, ◌==◌, All, length, map, slice_get, None, refl, sym, ap, ◌∙◌, arith, append_assoc, if◌then◌else◌}
-use Rattle.std.proofs.lemmas.Bool.{and_from, and_parts, eqb-true}
-use Rattle.std.proofs.lemmas.List.{length-map}
-use Rattle.std.proofs.lemmas.List.Elements.{All-head, All-tail}
-use Rattle.std.proofs.lemmas.List.Folds.{list_all-append}
-use Rattle.csv.specs.Reading.{is_bom, strip_bom}
+use Rattle.ld_trace.proofs.Names.{[], ◌&&◌, ◌++◌, ◌+◌, ◌==◌, ◌∙◌, ◌∷◌, ◌≡◌, All, All-head, All-tail, ArePlain, Bool, IsPlain, List, None, Record, TextsComeApart, and_from, and_parts, ap, append_assoc, arith, between, eqb-true, false, header_fault, if◌then◌else◌, is_bom, is_one_line, length, length-map, list_all, list_all-append, map, point, records_of, refl, slice_get, sym, true, true≢false, ℕ}
+use Rattle.csv.specs.Reading.{strip_bom}
 use Rattle.csv.specs.declared.parser.State.TheVariants as st
-use Rattle.ld_trace.specs.Joining.{ArePlain, IsPlain, TextsComeApart, between, is_one_line, joined, joined_records, point}
-use Rattle.ld_trace.specs.Lines.{Record, version_of}
-use Rattle.ld_trace.specs.Reading.{header_fault, records_of}
+use Rattle.ld_trace.specs.Joining.{joined, joined_records}
+use Rattle.ld_trace.specs.Lines.{version_of}
 use Rattle.ld_trace.proofs.CutLemmas.{cut-rows, lines-left, mark-first}
 use Rattle.ld_trace.proofs.RowLemmas.{IsKept, at-within, first-row, records-rows, rows_from, rows_of}
 

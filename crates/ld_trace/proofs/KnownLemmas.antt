@@ -1,19 +1,7 @@
 -- A name that stands in a table, and the record that names it.
-use Rattle.std.proofs.Common.{◌≡◌, ℕ, zero, suc, ◌==◌, Bool, true, false, List, [], ◌∷◌, slice_get, nat_le, Option, Some, None, IsSomeAnd, codes, refl, sym, ap, ◌∙◌, arith, true≢false}
+use Rattle.ld_trace.proofs.Names.{[], ◌==◌, ◌∙◌, ◌∷◌, ◌≡◌, Acquire, AllByRecursion, AreNumbered, Bool, Decides-eqb, Event, IsEventOf, IsSomeAnd, List, MAX_SUB, Mode, Name, None, Option, Release, Some, Table, Version, acquire_line, and_from, and_parts, ap, arith, bytes_eq, bytes_eq-Decides, codes, false, gives_back, is_class_name, is_known, is_name, is_same, list_all, mode_of, name_of_fields, nat_le, place_of, refl, release_line, slice_get, sub_of, suc, sym, takes, true, true≢false, zero, ℕ}
 use Rattle.std.specs.Cmp.{IsEquivalence}
-use Rattle.std.specs.List.{AllByRecursion, IsDistinct, list_all}
-use Rattle.std.specs.Str.{bytes_eq}
-use Rattle.std.proofs.lemmas.Bool.{and_from, and_parts}
-use Rattle.std.proofs.lemmas.Bool.Decides.{Decides-eqb}
-use Rattle.std.proofs.lemmas.Slice.Eq.{bytes_eq-Decides}
-use Rattle.ld_trace.specs.declared.event.Event.{Event}
-use Rattle.ld_trace.specs.declared.event.Event.TheVariants.{Acquire, Release}
-use Rattle.ld_trace.specs.declared.event.Mode.{Mode}
-use Rattle.ld_trace.specs.declared.key_table.TheConstants.{MAX_SUB}
-use Rattle.ld_trace.specs.declared.version.Version.{Version}
-use Rattle.ld_trace.specs.Lines.{acquire_line, gives_back, mode_of, name_of_fields, release_line, sub_of, takes}
-use Rattle.ld_trace.specs.Inside.Progress.{IsEventOf}
-use Rattle.ld_trace.specs.Names.{AreNumbered, Name, Table, is_class_name, is_known, is_name, is_same, place_of}
+use Rattle.std.specs.List.{IsDistinct}
 
 pub is_same-itself : (name : Name) → is_same name name ≡ true
 is_same-itself name = and_from (bytes_eq name.0 name.0) (name.1 == name.1) ((bytes_eq-Decides name.0 name.0).1 refl) ((Decides-eqb name.1 name.1).1 refl)

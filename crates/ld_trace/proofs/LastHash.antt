@@ -1,10 +1,7 @@
 -- A text that is split at its last byte of one value.
-use Rattle.std.proofs.Common.{◌≡◌, ℕ, zero, suc, ◌+◌, ◌-◌, ◌<◌, ◌≤◌, List, length, get_or, take, drop, Option, Some, None, MatchOption, Bor, refl, sym, ap, ◌∙◌, inl, inr, arith, ne_eqb, eq-eqb, length-drop, get_or-drop}
-use Rattle.std.proofs.lemmas.Bool.{cases_eq}
-use Rattle.std.proofs.lemmas.Str.{len_utf8_ascii}
+use Rattle.ld_trace.proofs.Names.{◌+◌, ◌-◌, ◌<◌, ◌∙◌, ◌≡◌, ◌≤◌, Bor, List, MatchOption, None, Option, Some, ap, arith, cases_eq, drop, eq-eqb, get_or, get_or-drop, inl, inr, len_utf8_ascii, length, length-drop, ne_eqb, option_map, refl, rfind_below, suc, sym, take, zero, ℕ}
 use Rattle.std.proofs.lemmas.Str.Pattern.{NoCharPasses-char}
-use Rattle.std.specs.Path.{rfind_below, rsplit_once}
-use Rattle.std.specs.Prelude.{option_map}
+use Rattle.std.specs.Path.{rsplit_once}
 use Rattle.std.specs.Str.Pattern.{RFindsChar}
 
 -- no byte below n is this one

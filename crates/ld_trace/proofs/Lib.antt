@@ -1,3 +1,4 @@
+pub mod Names
 pub mod CsvLemmas
 pub mod FieldLemmas
 mod ClassLemmas

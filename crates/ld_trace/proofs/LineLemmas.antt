@@ -1,18 +1,7 @@
 -- Lines over a table: the names after them, their events, and what these say.
-use Rattle.std.specs.Prelude.{⊤}
-use Rattle.std.proofs.Common.{◌≡◌, ℕ, suc, ◌+◌, ◌≤◌, ◌&&◌, not, Bool, true, false, true≢false, List, [], ◌∷◌, ◌++◌, length, slice_get, nat_le, unwrap_or, Some, Ok, refl, sym, ap, ◌∙◌, arith, append_assoc, length-append, if◌then◌else◌}
-use Rattle.std.proofs.lemmas.Bool.Decides.{nat_tests}
-use Rattle.std.proofs.lemmas.List.{append-nil}
-use Rattle.std.proofs.lemmas.Bool.{or_parts}
-use Rattle.ld_trace.specs.declared.event.Event.{Event}
-use Rattle.ld_trace.specs.declared.raw_trace.TheConstants.{MAX_EVENTS}
-use Rattle.ld_trace.specs.declared.version.Version.{Version}
-use Rattle.ld_trace.specs.Events.{KeyIsBelow, KeysBelow}
-use Rattle.ld_trace.specs.Laws.{lines_at, with_lines}
-use Rattle.ld_trace.specs.Lines.{Line, Record, takes, gives_back, enters, leaves, turns_on, turns_off, event_of, is_over, line_of_record, with_line}
-use Rattle.ld_trace.specs.Names.{Name, is_known, is_one_too_many, is_same, place_of, with_name}
-use Rattle.ld_trace.specs.Inside.Progress.{AreTaken, TakesLine}
-use Rattle.ld_trace.specs.Writing.{line_at, name_at}
+use Rattle.ld_trace.proofs.Names.{[], ◌&&◌, ◌++◌, ◌+◌, ◌∙◌, ◌∷◌, ◌≡◌, ◌≤◌, AreTaken, Bool, Event, KeyIsBelow, KeysBelow, Line, List, MAX_EVENTS, Name, Ok, Record, Some, TakesLine, Version, ap, append-nil, append_assoc, arith, enters, event_of, false, gives_back, if◌then◌else◌, is_known, is_one_too_many, is_over, is_same, leaves, length, length-append, line_at, lines_at, name_at, nat_le, nat_tests, not, or_parts, place_of, refl, slice_get, suc, sym, takes, true, true≢false, turns_off, turns_on, unwrap_or, with_line, with_name, ℕ, ⊤}
+use Rattle.ld_trace.specs.Laws.{with_lines}
+use Rattle.ld_trace.specs.Lines.{line_of_record}
 use Rattle.ld_trace.proofs.KnownLemmas.{same-name}
 use Rattle.ld_trace.proofs.TakenLemmas.{place-below, slice_get-front, taken-more, with_line-added}
 

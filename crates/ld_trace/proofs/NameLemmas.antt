@@ -1,12 +1,6 @@
 -- The names of a table, and a set of values that stand for them.
-use Rattle.std.proofs.Common.{◌≡◌, ℕ, ◌≤◌, ◌++◌, ◌∷◌, Bool, true, false, cond, List, [], map, length, refl, sym, ◌∙◌, arith, nat_lt, Some, None, position, if◌then◌else◌}
-use Rattle.std.specs.List.{AllByRecursion, IsDistinct, list_all, list_any, position_or_len}
-use Rattle.std.proofs.lemmas.Bool.Decides.{nat_tests}
-use Rattle.std.proofs.lemmas.List.{map-append}
-use Rattle.std.proofs.lemmas.List.Folds.{list_all-append}
-use Rattle.ld_trace.specs.declared.key_id.TheConstants.{MAX_KEYS}
-use Rattle.indexmap.specs.IndexSet.{insert_key}
-use Rattle.ld_trace.specs.Names.{AreNumbered, Name, is_known, is_name, is_one_too_many, is_same, place_of, with_name}
+use Rattle.ld_trace.proofs.Names.{[], ◌++◌, ◌∙◌, ◌∷◌, ◌≡◌, ◌≤◌, AllByRecursion, AreNumbered, Bool, List, MAX_KEYS, Name, None, Some, arith, cond, false, if◌then◌else◌, insert_key, is_known, is_name, is_one_too_many, is_same, length, list_all, list_all-append, list_any, map, map-append, nat_lt, nat_tests, place_of, position, position_or_len, refl, sym, true, with_name, ℕ}
+use Rattle.std.specs.List.{IsDistinct}
 
 module _ {X : Type 0} (f : X → Name) (eq : X → X → Bool) (says : (a b : X) → eq a b ≡ is_same (f a) (f b)) where
   -- a value is in the set exactly if its name is known

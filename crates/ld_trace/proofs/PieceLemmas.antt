@@ -1,23 +1,10 @@
 -- A trace of whole lines, and what is read after it.
-use Rattle.std.proofs.Common.{◌≡◌, ℕ, ◌+◌, ◌≤◌, true, List, [], ◌∷◌, ◌++◌, codes, length, Option, Some, None, IfSome, option_map, refl, sym, ap, ◌∙◌, arith, append_assoc}
-use Rattle.std.proofs.lemmas.List.{append-nil}
-use Rattle.std.specs.List.{list_all}
+use Rattle.ld_trace.proofs.Names.{[], ◌++◌, ◌+◌, ◌∙◌, ◌∷◌, ◌≡◌, ◌≤◌, AreLines, AreTaken, Event, HasTaken, HeadersRead, IfSome, IsFresh, List, MAX_EVENTS, Name, None, One, Option, PiecesJoin, Reader, ReadsTo, Some, Two, Version, ap, append-nil, append_assoc, arith, codes, header_line, header_of, is_one_line, length, list_all, option_map, records_of, refl, sym, true, version_of_trace, ℕ}
 use Rattle.csv.specs.Machine.{next_record}
 use Rattle.std.specs.Fmt.{option_append}
 use Rattle.csv.specs.Reading.{records_from, strip_bom}
-use Rattle.csv.specs.declared.reader.Reader.{Reader}
-use Rattle.ld_trace.specs.declared.event.Event.{Event}
-use Rattle.ld_trace.specs.declared.raw_trace.TheConstants.{MAX_EVENTS}
-use Rattle.ld_trace.specs.declared.version.Version.{Version}
-use Rattle.ld_trace.specs.declared.version.Version.TheVariants.{One, Two}
-use Rattle.ld_trace.specs.Inside.Progress.{AreTaken, HasTaken, IsFresh}
 use Rattle.ld_trace.specs.Laws.{with_lines}
 use Rattle.ld_trace.specs.Lines.{version_of}
-use Rattle.ld_trace.specs.Names.{Name}
-use Rattle.ld_trace.specs.Joining.{is_one_line}
-use Rattle.ld_trace.specs.Pieces.{AreLines, HeadersRead, PiecesJoin, header_line}
-use Rattle.ld_trace.specs.Reading.{ReadsTo, records_of, version_of_trace}
-use Rattle.ld_trace.specs.Writing.{header_of}
 use Rattle.ld_trace.proofs.Alike.{IsSaid, reads-said}
 use Rattle.ld_trace.proofs.CsvLemmas.{given-on}
 use Rattle.ld_trace.proofs.CutLemmas.{cut-rows, mark-first}

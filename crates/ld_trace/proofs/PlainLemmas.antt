@@ -1,25 +1,7 @@
 -- The records of a trace without fault are plain.
-use Rattle.std.specs.Prelude.{◌&&◌}
-use Rattle.std.specs.Str.{bytes_eq}
-use Rattle.std.proofs.Common.{◌≡◌, ℕ, zero, suc, ◌-◌, ◌<◌, not, Bool, true, false, List, [], ◌∷◌, ◌==◌, codes, length, get_or, slice_get, nat_le, nat_lt, Option, Some, None, Result, Ok, Err, refl, ap, ◌∙◌, arith, if◌then◌else◌}
-use Rattle.std.proofs.lemmas.Bool.{and_from, and_parts}
-use Rattle.std.proofs.lemmas.Bool.Decides.{nat_tests}
-use Rattle.std.proofs.lemmas.Option.{slice_get-get_or}
-use Rattle.std.proofs.lemmas.Slice.Eq.{bytes_eq-Decides}
-use Rattle.ld_trace.specs.declared.event.Event.{Event}
-use Rattle.ld_trace.specs.declared.event.Irq.{Irq}
-use Rattle.ld_trace.specs.declared.event.Mode.{Mode}
-use Rattle.ld_trace.specs.declared.raw_trace.TheConstants.{MAX_EVENTS}
-use Rattle.ld_trace.specs.declared.stored_name.TheConstants.{MAX_NAME}
-use Rattle.ld_trace.specs.declared.trace_fault.TraceFaultKind.{TraceFaultKind}
-use Rattle.ld_trace.specs.declared.trace_fault.TraceFaultKind.TheVariants.{BadName, BadRecord, BadSub, TooManyRecords}
-use Rattle.ld_trace.specs.declared.version.Version.{Version}
-use Rattle.ld_trace.specs.declared.version.Version.TheVariants.{One, Two}
-use Rattle.ld_trace.specs.Inside.Progress.{AreTaken}
-use Rattle.ld_trace.specs.Joining.{ArePlain, IsPlain, is_line, is_one_line}
-use Rattle.ld_trace.specs.Lines.{Line, Record, irq_line, irq_of, line_of_record, mode_of, name_of_fields, sub_of, taking, giving_back, try_mode_of, version_named, version_of}
-use Rattle.ld_trace.specs.Names.{Name, are_visible, is_class_name}
-use Rattle.ld_trace.specs.Reading.{fault_at, header_fault, line_fault, names_before, record_fault, version_fault}
+use Rattle.ld_trace.proofs.Names.{[], ◌&&◌, ◌-◌, ◌<◌, ◌==◌, ◌∙◌, ◌∷◌, ◌≡◌, ArePlain, AreTaken, BadName, BadRecord, BadSub, Bool, Err, Event, Irq, IsPlain, Line, List, MAX_EVENTS, MAX_NAME, Mode, Name, None, Ok, One, Option, Record, Result, Some, TooManyRecords, TraceFaultKind, Two, Version, and_from, and_parts, ap, are_visible, arith, bytes_eq, bytes_eq-Decides, codes, false, get_or, giving_back, header_fault, if◌then◌else◌, irq_line, irq_of, is_class_name, is_line, is_one_line, length, line_fault, mode_of, name_of_fields, names_before, nat_le, nat_lt, nat_tests, not, record_fault, refl, slice_get, slice_get-get_or, sub_of, suc, taking, true, try_mode_of, version_fault, version_named, zero, ℕ}
+use Rattle.ld_trace.specs.Lines.{line_of_record, version_of}
+use Rattle.ld_trace.specs.Reading.{fault_at}
 
 -- a word of the format has no newline
 word-line : (field word : List ℕ) → bytes_eq field word ≡ true → is_line word ≡ true → is_line field ≡ true

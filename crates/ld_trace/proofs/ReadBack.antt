@@ -1,34 +1,19 @@
 -- What is written of a trace reads back.
-use Rattle.std.specs.Prelude.{⊤}
-use Rattle.std.proofs.Common.{◌≡◌, ℕ, zero, suc, ◌+◌, ◌-◌, ◌≤◌, ◌<◌, ◌||◌, not, Bool, true, false, true≢false, List, [], ◌∷◌, ◌++◌, map, length, slice_get, nat_le, Some, None, Ok, refl, sym, ap, ◌∙◌, subst, arith, if◌then◌else◌}
-use Rattle.std.specs.List.{IsDistinct, flat_map, list_all, list_any}
-use Rattle.std.proofs.lemmas.Bool.{and_parts, or_parts}
-use Rattle.std.proofs.lemmas.Bool.Decides.{nat_tests}
-use Rattle.std.proofs.lemmas.List.{length-map}
-use Rattle.std.proofs.lemmas.List.Folds.{list_any-append}
+use Rattle.ld_trace.proofs.Names.{[], ◌++◌, ◌+◌, ◌-◌, ◌<◌, ◌||◌, ◌∙◌, ◌∷◌, ◌≡◌, ◌≤◌, Acquire, AreOfTable, Bool, Enter, Event, KeyIsBelow, KeysBelow, Leave, Line, List, MAX_EVENTS, MAX_SUB, Mode, Name, NewTablesHaveRoom, None, Ok, One, ReadsTo, Release, Some, Table, TextsReadBack, TextsReadThemselves, TurnOff, TurnOn, Two, Version, and_parts, ap, arith, default_config, enters, event_of, event_text, false, flat_map, gives_back, header_of, if◌then◌else◌, is_class_name, is_known, is_name, is_same, is_try, leaves, length, length-map, line_at, lines_at, list_all, list_any, list_any-append, map, mode_of, mode_word, name_at, nat_le, nat_tests, not, or_parts, read_back, record_of, record_text, records_of, refl, slice_get, sub_of, sub_word, subst, suc, sym, takes, true, true≢false, turns_off, turns_on, version_for, with_line, with_name, zero, ℕ, ⊤}
+use Rattle.std.specs.List.{IsDistinct}
 use Rattle.std.proofs.lemmas.Map.Keys.{IsDistinct-push}
 use Rattle.std.proofs.lemmas.Map.Made.{length-le_from_is_member}
 use Rattle.csv.specs.Machine.{next_record}
-use Rattle.csv.specs.Reading.{Reached, default_config, strip_bom}
-use Rattle.csv.specs.Writing.{escaped, fields_text, is_blank, read_back}
+use Rattle.csv.specs.Reading.{Reached, strip_bom}
+use Rattle.csv.specs.Writing.{escaped, fields_text, is_blank}
 use Rattle.csv.specs.declared.parser.State.TheVariants as st
 use Rattle.csv.proofs.RoundTrip.{read-write}
-use Rattle.ld_trace.specs.declared.event.Event.{Event}
-use Rattle.ld_trace.specs.declared.event.Event.TheVariants.{Acquire, Release, Enter, Leave, TurnOn, TurnOff}
 use Rattle.ld_trace.specs.declared.event.Irq.TheVariants.{Hard, Soft}
-use Rattle.ld_trace.specs.declared.event.Mode.{Mode}
 use Rattle.ld_trace.specs.declared.event.Mode.TheVariants.{Write, Read, RecRead, TryWrite, TryRead, TryRecRead}
-use Rattle.ld_trace.specs.declared.key_table.TheConstants.{MAX_SUB}
-use Rattle.ld_trace.specs.declared.raw_trace.TheConstants.{MAX_EVENTS}
-use Rattle.ld_trace.specs.declared.version.Version.{Version}
-use Rattle.ld_trace.specs.declared.version.Version.TheVariants.{One, Two}
-use Rattle.ld_trace.specs.Events.{KeyIsBelow, KeysBelow, is_try}
-use Rattle.ld_trace.specs.Laws.{AreOfTable, NewTablesHaveRoom, TextsReadBack, TextsReadThemselves, lines_at, with_lines}
-use Rattle.ld_trace.specs.Lines.{Line, takes, gives_back, enters, leaves, turns_on, turns_off, event_of, line_of_record, mode_of, sub_of, version_of, with_line}
+use Rattle.ld_trace.specs.Laws.{with_lines}
+use Rattle.ld_trace.specs.Lines.{line_of_record, version_of}
 use Rattle.ld_trace.specs.Modes.{may_wait}
-use Rattle.ld_trace.specs.Names.{Name, Table, is_class_name, is_known, is_name, is_same, with_name}
-use Rattle.ld_trace.specs.Reading.{ReadsTo, records_of}
-use Rattle.ld_trace.specs.Writing.{event_text, header_of, line_at, mode_word, name_at, record_of, record_text, sub_word, trace_text, version_for}
+use Rattle.ld_trace.specs.Writing.{trace_text}
 use Rattle.ld_trace.proofs.CsvLemmas.{records-all}
 use Rattle.ld_trace.proofs.KnownLemmas.{is_same-laws, named-there, place_of-there, same-name}
 use Rattle.ld_trace.proofs.ReadLemmas.{reads-to, taken-header}

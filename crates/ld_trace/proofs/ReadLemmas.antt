@@ -1,24 +1,7 @@
 -- What a trace that was read, or refused, says of its bytes.
-use Rattle.std.proofs.Common.{◌≡◌, ◌⊎◌, inl, inr, ℕ, suc, ◌+◌, ◌≤◌, ◌<◌, Bool, true, false, List, [], ◌∷◌, ◌++◌, length, Option, Some, None, Err, IfSome, nat_lt, codes, refl, sym, ap, ◌∙◌, arith, append_assoc, true≢false}
-use Rattle.std.proofs.lemmas.Bool.{cases_lt}
-use Rattle.std.proofs.lemmas.Bool.Decides.{nat_tests}
-use Rattle.std.proofs.lemmas.List.{append-nil}
-use Rattle.std.proofs.lemmas.List.Elements.{All-nil}
-use Rattle.std.proofs.lemmas.Slice.Eq.{bytes_eq-Decides}
-use Rattle.std.specs.Str.{bytes_eq}
-use Rattle.ld_trace.specs.declared.raw_trace.TheConstants.{MAX_EVENTS}
-use Rattle.csv.specs.Reading.{ReadRecord}
-use Rattle.csv.specs.declared.reader.Reader.{Reader}
-use Rattle.ld_trace.specs.declared.event.Event.{Event}
-use Rattle.ld_trace.specs.declared.trace_fault.TraceFaultKind.{TraceFaultKind}
-use Rattle.ld_trace.specs.declared.trace_fault.TraceFaultKind.TheVariants.{BadRecord, NoHeader}
-use Rattle.ld_trace.specs.Events.{KeyIsBelow, KeysBelow}
-use Rattle.ld_trace.specs.declared.version.Version.{Version}
-use Rattle.ld_trace.specs.Lines.{Record, irq_line, irq_of, line_of_record, version_of}
-use Rattle.ld_trace.specs.declared.event.Irq.{Irq}
-use Rattle.ld_trace.specs.Names.{Name}
-use Rattle.ld_trace.specs.Inside.Progress.{AreRead, AreRefused, AreTaken, HasGiven, HasTaken, ReadsPlain, TakesLine}
-use Rattle.ld_trace.specs.Reading.{ReadsTo, StopsAt, fault_at, names_after, record_fault, records_of, version_in}
+use Rattle.ld_trace.proofs.Names.{[], ◌++◌, ◌+◌, ◌<◌, ◌∙◌, ◌∷◌, ◌≡◌, ◌≤◌, ◌⊎◌, All-nil, AreRead, AreRefused, AreTaken, BadRecord, Bool, Err, Event, HasGiven, HasTaken, IfSome, Irq, KeyIsBelow, KeysBelow, List, MAX_EVENTS, Name, NoHeader, None, Option, ReadRecord, Reader, ReadsPlain, ReadsTo, Record, Some, StopsAt, TakesLine, TraceFaultKind, Version, ap, append-nil, append_assoc, arith, bytes_eq, bytes_eq-Decides, cases_lt, codes, false, inl, inr, irq_line, irq_of, length, nat_lt, nat_tests, record_fault, records_of, refl, suc, sym, true, true≢false, version_in, ℕ}
+use Rattle.ld_trace.specs.Lines.{line_of_record, version_of}
+use Rattle.ld_trace.specs.Reading.{fault_at, names_after}
 use Rattle.ld_trace.specs.TraceFaults.{is_of_text}
 use Rattle.ld_trace.proofs.CsvLemmas.{given-all, given-begin, given-more}
 use Rattle.ld_trace.proofs.TakenLemmas.{event_at-past, fault_at-front, fault_at-next, fault_at-past, names_before-all, taken-more, version_in-front}

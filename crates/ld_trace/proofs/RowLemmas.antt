@@ -1,13 +1,11 @@
 -- The records of a text, byte after byte, as the machine of the crate `csv` gives them with its defaults.
-use Rattle.std.proofs.Common.{◌≡◌, inl, inr, ℕ, zero, suc, ◌+◌, ◌<◌, Bool, true, false, true≢false, List, [], ◌∷◌, ◌++◌, ◌==◌, length, Option, Some, None, refl, sym, ap, subst, ◌∙◌, arith, if◌then◌else◌}
-use Rattle.csv.specs.Machine.{Read, after_end, ends_at_end, ends_with, field_after, fields_after, in_field, is_end, next_record, start_field, start_record, step}
-use Rattle.csv.specs.Reading.{default_config, records, records_from, records_next}
+use Rattle.ld_trace.proofs.Names.{[], ◌++◌, ◌+◌, ◌<◌, ◌==◌, ◌∙◌, ◌∷◌, ◌≡◌, Bool, List, None, Option, Record, Some, State, after_end, ap, arith, default_config, ends_at_end, ends_with, false, field_after, fields_after, if◌then◌else◌, in_field, inl, inr, is_end, length, records, records_next, refl, start_field, start_record, step, subst, suc, sym, true, true≢false, zero, ℕ}
+use Rattle.csv.specs.Machine.{Read, next_record}
+use Rattle.csv.specs.Reading.{records_from}
 use Rattle.csv.specs.declared.parser.Action.{Action}
 use Rattle.csv.specs.declared.parser.Action.TheVariants as act
-use Rattle.csv.specs.declared.parser.State.{State}
 use Rattle.csv.specs.declared.parser.State.TheVariants as st
 use Rattle.csv.specs.declared.parser.Terminator.TheVariants as term
-use Rattle.ld_trace.specs.Lines.{Record}
 use Rattle.ld_trace.proofs.CsvLemmas.{Shortens, next-shortens, records-none}
 
 -- ---- the records, by recursion over the bytes

@@ -1,14 +1,8 @@
 -- The names of a set of stored names.
-use Rattle.std.proofs.Common.{◌≡◌, ℕ, zero, suc, ◌≤◌, true, List, [], ◌∷◌, length, map, nat_le, slice_get, take, refl, sym, ap, arith, Some, position, ◌∙◌}
-use Rattle.std.specs.List.{IsDistinct, list_all, list_any, position_or_len}
-use Rattle.std.proofs.lemmas.Bool.{and_from, and_parts}
-use Rattle.std.proofs.lemmas.Bool.Decides.{nat_tests}
+use Rattle.ld_trace.proofs.Names.{[], ◌∙◌, ◌∷◌, ◌≡◌, ◌≤◌, AreNumbered, IndexSet, IsUnique, List, MAX_SUB, Name, Some, and_from, and_parts, ap, arith, insert_key, is_class_name, is_known, is_name, is_same, length, list_all, list_any, map, name_of, names_of, nat_le, nat_tests, place_of, position, position_or_len, refl, slice_get, suc, sym, take, true, with_name, zero, ℕ}
+use Rattle.std.specs.List.{IsDistinct}
 use Rattle.indexmap.proofs.MapLemmas.{distinct-take}
-use Rattle.indexmap.specs.IndexSet.{IndexSet, IsUnique, insert_key}
-use Rattle.ld_trace.specs.Names.{AreNumbered, Name, is_class_name, is_known, is_name, is_same, place_of, with_name}
-use Rattle.ld_trace.specs.Inside.Stored.{name_of, names_of}
 use Rattle.ld_trace.specs.contracts.stored_name.StoredNamePartialEq.TheImpl.{eq-value}
-use Rattle.ld_trace.specs.declared.key_table.TheConstants.{MAX_SUB}
 use Rattle.ld_trace.specs.declared.stored_name.StoredName.{StoredName}
 use Rattle.ld_trace.proofs.KnownLemmas.{is_same-laws}
 use Rattle.ld_trace.proofs.NameLemmas.{position-found, known-map, place-map, with_name-map, distinct-map}

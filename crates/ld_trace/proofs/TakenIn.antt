@@ -1,22 +1,7 @@
 -- Names and events that a table takes in.
-use Rattle.std.proofs.Common.{◌≡◌, ◌⊎◌, inl, inr, ℕ, zero, suc, ◌+◌, ◌≤◌, ◌<◌, ◌&&◌, not, Bool, true, false, true≢false, List, [], ◌∷◌, ◌++◌, map, length, take, drop, get_or, slice_index, nat_le, refl, sym, ap, ◌∙◌, arith, length-append, if◌then◌else◌}
-use Rattle.std.specs.List.{list_all}
-use Rattle.std.proofs.Math.Seq.{take-suc}
-use Rattle.std.proofs.lemmas.Bool.{and_from, and_parts}
-use Rattle.std.specs.Prelude.{All}
-use Rattle.std.proofs.lemmas.Bool.Decides.{nat_tests}
-use Rattle.std.proofs.lemmas.List.{length-map, map-append, take-append-drop}
-use Rattle.std.proofs.lemmas.List.Elements.{All-cons, All-nil}
-use Rattle.std.proofs.lemmas.List.Folds.{list_all-append}
-use Rattle.std.proofs.lemmas.Option.{get_or_from_slice_get}
-use Rattle.ld_trace.specs.declared.event.Event.{Event}
-use Rattle.ld_trace.specs.declared.event.Event.TheVariants.{Acquire, Release, Enter, Leave, TurnOn, TurnOff}
-use Rattle.ld_trace.specs.Events.{KeyIsBelow, KeysBelow}
-use Rattle.ld_trace.specs.Inside.Renumbered.{event_with}
-use Rattle.ld_trace.specs.Laws.{RenumberingsStay}
-use Rattle.ld_trace.specs.Names.{Name, is_known, is_one_too_many, place_of, with_name}
-use Rattle.ld_trace.specs.TakingIn.{Leads, Within, all_moved, moved, with_all}
-use Rattle.ld_trace.specs.Writing.{name_at}
+use Rattle.ld_trace.proofs.Names.{[], ◌&&◌, ◌++◌, ◌+◌, ◌<◌, ◌∙◌, ◌∷◌, ◌≡◌, ◌≤◌, ◌⊎◌, Acquire, All, All-cons, All-nil, Bool, Enter, Event, KeyIsBelow, KeysBelow, Leads, Leave, List, Name, Release, RenumberingsStay, TurnOff, TurnOn, Within, all_moved, and_from, and_parts, ap, arith, drop, event_with, false, get_or, get_or_from_slice_get, if◌then◌else◌, inl, inr, is_known, is_one_too_many, length, length-append, length-map, list_all, list_all-append, map, map-append, moved, name_at, nat_le, nat_tests, not, place_of, refl, slice_index, suc, sym, take, take-suc, true, true≢false, with_name, zero, ℕ}
+use Rattle.std.proofs.lemmas.List.{take-append-drop}
+use Rattle.ld_trace.specs.TakingIn.{with_all}
 use Rattle.ld_trace.proofs.Alike.{known-longer, place_of-longer, place_of-with_name, with_all-added, with_all-append, with_name-knows}
 use Rattle.ld_trace.proofs.LineLemmas.{head-below, tail-below}
 use Rattle.ld_trace.proofs.ReadBack.{name_at-there}

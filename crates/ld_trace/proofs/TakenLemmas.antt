@@ -1,23 +1,8 @@
 -- One more record, its fault and its event.
-use Rattle.std.proofs.Common.{◌≡◌, ◌⊎◌, inl, inr, ℕ, zero, suc, ◌+◌, ◌≤◌, ◌<◌, ◌||◌, not, cond, get_or, true≢false, Bool, true, false, List, [], ◌∷◌, ◌++◌, length, slice_get, Some, None, nat_lt, refl, sym, ap, ◌∙◌, arith, append_assoc, if◌then◌else◌, length-append}
-use Rattle.std.proofs.lemmas.Bool.{cases_lt}
+use Rattle.ld_trace.proofs.Names.{[], ◌++◌, ◌+◌, ◌<◌, ◌||◌, ◌∙◌, ◌∷◌, ◌≡◌, ◌≤◌, ◌⊎◌, Acquire, All-push, AreTaken, Bool, Enter, Event, KeyIsBelow, KeysBelow, Leave, Line, List, MAX_EVENTS, Name, None, Record, Release, Some, TakesLine, TurnOff, TurnOn, Version, ap, append-nil, append_assoc, arith, cases_lt, cond, enters, event_of, false, get_or, gives_back, header_fault, if◌then◌else◌, inl, inr, is_known, is_same, leaves, length, length-append, line_event, list_any, names_before, nat_lt, nat_tests, not, place_of, position_or_len, prefix_len-le-length, record_fault, refl, slice_get, slice_get_past, suc, sym, take-append-le, take-append_seam, takes, true, true≢false, turns_off, turns_on, version_in, with_line, with_name, with_read, zero, ℕ}
 use Rattle.std.proofs.Math.Nat.{eq-or-lt_of_le}
-use Rattle.std.proofs.lemmas.Bool.Decides.{nat_tests}
-use Rattle.std.proofs.lemmas.List.{append-nil, take-append-le}
-use Rattle.std.proofs.Math.Seq.{take-append_seam}
-use Rattle.std.specs.List.{list_any, position_or_len}
-use Rattle.std.proofs.lemmas.List.Sums.{prefix_len-le-length}
-use Rattle.std.proofs.lemmas.List.Elements.{All-push}
-use Rattle.std.proofs.lemmas.Option.{slice_get_past}
-use Rattle.ld_trace.specs.declared.raw_trace.TheConstants.{MAX_EVENTS}
-use Rattle.ld_trace.specs.declared.event.Event.{Event}
-use Rattle.ld_trace.specs.declared.event.Event.TheVariants.{Acquire, Release, Enter, Leave, TurnOn, TurnOff}
-use Rattle.ld_trace.specs.Events.{KeyIsBelow, KeysBelow}
-use Rattle.ld_trace.specs.Lines.{Line, takes, gives_back, enters, leaves, turns_on, turns_off, Record, event_of, line_of_record, with_line}
-use Rattle.ld_trace.specs.declared.version.Version.{Version}
-use Rattle.ld_trace.specs.Names.{Name, is_known, is_same, place_of, with_name}
-use Rattle.ld_trace.specs.Inside.Progress.{AreTaken, TakesLine}
-use Rattle.ld_trace.specs.Reading.{event_at, fault_at, header_fault, names_after, names_before, record_fault, line_event, version_in, with_read}
+use Rattle.ld_trace.specs.Lines.{line_of_record}
+use Rattle.ld_trace.specs.Reading.{event_at, fault_at, names_after}
 
 -- places in a longer list
 pub slice_get-front : {X : Type 0} (xs ys : List X) (i : ℕ) → i < length xs → slice_get (xs ++ ys) i ≡ slice_get xs i

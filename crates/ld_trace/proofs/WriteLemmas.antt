@@ -1,12 +1,8 @@
 -- Texts of records that are written one after the other.
-use Rattle.std.proofs.Common.{◌≡◌, ℕ, true, List, [], ◌∷◌, ◌++◌, refl}
-use Rattle.std.specs.List.{flat_map}
-use Rattle.csv.specs.Writing.{default_writer, escaped, field_text, fields_text, is_blank, row_text, with_flexible}
+use Rattle.ld_trace.proofs.Names.{[], ◌++◌, ◌∷◌, ◌≡◌, Event, List, Name, Record, default_writer, event_text, field_text, flat_map, header_of, record_text, refl, row_text, true, version_for, with_flexible, ℕ}
+use Rattle.csv.specs.Writing.{escaped, fields_text, is_blank}
 use Rattle.csv.specs.declared.writer.WriterBuilder.{WriterBuilder}
-use Rattle.ld_trace.specs.declared.event.Event.{Event}
-use Rattle.ld_trace.specs.Lines.{Record}
-use Rattle.ld_trace.specs.Names.{Name}
-use Rattle.ld_trace.specs.Writing.{event_text, header_of, record_text, trace_text, version_for}
+use Rattle.ld_trace.specs.Writing.{trace_text}
 
 -- ---- a writer of records of any length writes each as the default writer does
 abbrev pub flexible : WriterBuilder

@@ -1,7 +1,5 @@
-use Rattle.std.proofs.Common.{◌*◌, slice_index, refl, arith}
-use Rattle.std.proofs.lemmas.Nat.{ones-le}
-use Rattle.ld_facts.specs.Inside.Bits.{has_bit, count_below}
-use Rattle.ld_facts.specs.Laws.Bits.{count_below-le}
+use Rattle.ld_facts.proofs.Names.{◌*◌, arith, count_below-le, has_bit, ones-le, refl, slice_index}
+use Rattle.ld_facts.specs.Inside.Bits.{count_below}
 use Rattle.ld_facts.proofs.BitLemmas.{count_below-word}
 use Rattle.ld_facts.proofs.bits.count.Goals as goal
 

@@ -1,5 +1,5 @@
-use Rattle.std.proofs.Common.{◌≡◌, ◌*◌}
-use Rattle.ld_facts.specs.Inside.Bits.{has_bit, count_below}
+use Rattle.ld_facts.proofs.Names.{◌*◌, ◌≡◌, has_bit}
+use Rattle.ld_facts.specs.Inside.Bits.{count_below}
 use Rattle.ld_facts.proofs.bits.count.Given as goal
 
 abbrev pub invariant-loop-i : goal.invariant-loop-i

@@ -1,6 +1,4 @@
-use Rattle.std.proofs.Common.{◌/◌, ◌%◌, ◌^◌, ◌+◌, get_or, w64, inl, inr, arith, refl}
-use Rattle.std.specs.Int.{trailing_zeros}
-use Rattle.std.proofs.lemmas.Bool.{cases_lt}
+use Rattle.ld_facts.proofs.Names.{◌%◌, ◌+◌, ◌/◌, ◌^◌, arith, cases_lt, get_or, inl, inr, refl, trailing_zeros, w64}
 use Rattle.ld_facts.proofs.BitLemmas.{none_left, IsFirstFrom, first_left}
 use Rattle.ld_facts.proofs.bits.first_between.Goals as goal
 use Rattle.ld_facts.proofs.bits.first_between.Goals.{Then-rest-ne0}

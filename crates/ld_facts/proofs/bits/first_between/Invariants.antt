@@ -1,6 +1,4 @@
-use Rattle.std.proofs.Common.{◌-◌, ℕ, ◌<◌, ◌≤◌}
-use Rattle.std.specs.Prelude.{IsFalse}
-use Rattle.ld_facts.specs.Inside.Bits.{has_bit}
+use Rattle.ld_facts.proofs.Names.{◌-◌, ◌<◌, ◌≤◌, IsFalse, has_bit, ℕ}
 use Rattle.ld_facts.proofs.bits.first_between.Given as goal
 
 abbrev pub invariant-loop-at : goal.invariant-loop-at

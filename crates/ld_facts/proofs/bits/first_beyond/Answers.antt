@@ -1,4 +1,4 @@
-use Rattle.std.proofs.Common.{arith}
+use Rattle.ld_facts.proofs.Names.{arith}
 use Rattle.ld_facts.proofs.BitLemmas.{beyond_first, beyond_found, beyond_none}
 use Rattle.ld_facts.proofs.bits.first_beyond.Goals as goal
 

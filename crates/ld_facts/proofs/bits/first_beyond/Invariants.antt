@@ -1,5 +1,4 @@
-use Rattle.std.proofs.Common.{◌≡◌, ℕ, ◌<◌, slice_index, bit_and, w64}
-use Rattle.std.specs.Int.{bit_not}
+use Rattle.ld_facts.proofs.Names.{◌<◌, ◌≡◌, bit_and, bit_not, slice_index, w64, ℕ}
 use Rattle.ld_facts.proofs.bits.first_beyond.Given as goal
 
 abbrev pub invariant-loop-i : goal.invariant-loop-i

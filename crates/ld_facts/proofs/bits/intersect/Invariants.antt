@@ -1,4 +1,4 @@
-use Rattle.std.proofs.Common.{◌≡◌, ℕ, ◌<◌, ◌≤◌, slice_index, bit_and}
+use Rattle.ld_facts.proofs.Names.{◌<◌, ◌≡◌, ◌≤◌, bit_and, slice_index, ℕ}
 use Rattle.ld_facts.proofs.bits.intersect.Given as goal
 
 abbrev pub invariant-loop-i : goal.invariant-loop-i

@@ -1,6 +1,4 @@
-use Rattle.std.proofs.Common.{◌≡◌, ◌-◌, ◌∙◌, sym, ap, arith, min, bit_and, w64, eqb-true}
-use Rattle.std.proofs.lemmas.Nat.Bits.{bit_at-zero, bit_at-lt}
-use Rattle.std.specs.Int.{bit_at, bit_not}
+use Rattle.ld_facts.proofs.Names.{◌-◌, ◌∙◌, ◌≡◌, ap, arith, bit_and, bit_at, bit_at-lt, bit_at-zero, bit_not, eqb-true, min, sym, w64}
 use Rattle.ld_facts.proofs.BitLemmas.{bit_at_beyond}
 use Rattle.ld_facts.proofs.bits.is_within.Goals as goal
 

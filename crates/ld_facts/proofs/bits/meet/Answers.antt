@@ -1,4 +1,4 @@
-use Rattle.std.proofs.Common.{arith}
+use Rattle.ld_facts.proofs.Names.{arith}
 use Rattle.ld_facts.proofs.Meeting.{meet_found, meet_none}
 use Rattle.ld_facts.proofs.bits.meet.Goals as goal
 

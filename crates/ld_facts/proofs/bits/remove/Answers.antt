@@ -1,4 +1,4 @@
-use Rattle.std.proofs.Common.{arith}
+use Rattle.ld_facts.proofs.Names.{arith}
 use Rattle.ld_facts.proofs.BitLemmas.{has_bit-difference}
 use Rattle.ld_facts.proofs.bits.remove.Goals as goal
 

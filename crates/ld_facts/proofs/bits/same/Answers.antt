@@ -1,5 +1,4 @@
-use Rattle.std.proofs.Common.{ap, arith, get_or}
-use Rattle.std.proofs.lemmas.List.{ext_get_or}
+use Rattle.ld_facts.proofs.Names.{ap, arith, ext_get_or, get_or}
 use Rattle.ld_facts.proofs.Words.{same_words}
 use Rattle.ld_facts.proofs.bits.same.Goals as goal
 

@@ -1,4 +1,4 @@
-use Rattle.std.proofs.Common.{◌≡◌, ℕ, ◌<◌, slice_index}
+use Rattle.ld_facts.proofs.Names.{◌<◌, ◌≡◌, slice_index, ℕ}
 use Rattle.ld_facts.proofs.bits.same.Given as goal
 
 abbrev pub invariant-loop-i : goal.invariant-loop-i

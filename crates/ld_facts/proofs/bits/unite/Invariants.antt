@@ -1,4 +1,4 @@
-use Rattle.std.proofs.Common.{◌≡◌, ℕ, ◌<◌, ◌≤◌, slice_index, bit_or}
+use Rattle.ld_facts.proofs.Names.{◌<◌, ◌≡◌, ◌≤◌, bit_or, slice_index, ℕ}
 use Rattle.ld_facts.proofs.bits.unite.Given as goal
 
 abbrev pub invariant-loop-i : goal.invariant-loop-i

@@ -1,10 +1,4 @@
-use Rattle.std.proofs.Common.{arith, rules, ◌≡◌, ◌∙◌, ◌*◌, ◌%◌, ◌^◌, ◌<◌, ap, sym, subst, inl, inr, bit_or, Some, ◌↔◌, ◌⊎◌}
-use Rattle.std.proofs.lemmas.Nat.{or_lt}
-use Rattle.std.proofs.lemmas.Option.{same_Some}
-use Rattle.std.proofs.Math.Pow.{pow-lt}
-use Rattle.std.specs.Int.{bit_at}
-use Rattle.ld_facts.specs.Numbers.{mark_index}
-use Rattle.ld_facts.specs.declared.fact.Fact.TheVariants.{Marked}
+use Rattle.ld_facts.proofs.Names.{◌%◌, ◌*◌, ◌<◌, ◌^◌, ◌↔◌, ◌∙◌, ◌≡◌, ◌⊎◌, Marked, Some, ap, arith, bit_at, bit_or, inl, inr, mark_index, or_lt, pow-lt, rules, same_Some, subst, sym}
 use Rattle.ld_facts.proofs.WordTables.{one_shl, bit_or-pow}
 use Rattle.ld_facts.proofs.chain_words.with_mark.Goals as goal
 

@@ -1,6 +1,4 @@
-use Rattle.std.specs.Prelude.{Any}
-use Rattle.ld_facts.specs.Facts.{TraceHas, DependenciesOf}
-use Rattle.ld_facts.specs.Laws.Counting.{IsNumberOf-unique}
+use Rattle.ld_facts.proofs.Names.{Any, DependenciesOf, IsNumberOf-unique, TraceHas}
 use Rattle.ld_facts.proofs.laws.dependencies_have_one_number.Goals as goal
 
 pub returns : goal.returns

@@ -1,4 +1,4 @@
-use Rattle.ld_facts.specs.Laws.Numbers.{fact_number-lt, fact_of, fact_number-same}
+use Rattle.ld_facts.proofs.Names.{fact_number-lt, fact_number-same, fact_of}
 use Rattle.ld_facts.proofs.laws.facts_are_bits.Goals as goal
 
 pub returns-clause-below : goal.returns-clause-below

@@ -1,4 +1,4 @@
-use Rattle.ld_facts.specs.Laws.Renaming.{renamed_facts_are_the_image}
+use Rattle.ld_facts.proofs.RenamedChains.{renamed_facts_are_the_image}
 use Rattle.ld_facts.proofs.laws.renamed_facts_are_the_image.Goals as goal
 
 pub returns : goal.returns

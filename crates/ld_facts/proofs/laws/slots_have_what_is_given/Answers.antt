@@ -1,4 +1,4 @@
-use Rattle.ld_facts.specs.Laws.Chains.{chains_give_what_they_have, later_slots_are_of_newer_locks, slots_have_what_is_given}
+use Rattle.ld_facts.proofs.Names.{chains_give_what_they_have, later_slots_are_of_newer_locks, slots_have_what_is_given}
 use Rattle.ld_facts.proofs.laws.slots_have_what_is_given.Goals as goal
 
 pub returns-clause-given : goal.returns-clause-given

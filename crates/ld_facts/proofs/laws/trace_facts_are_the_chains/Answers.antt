@@ -1,5 +1,4 @@
-use Rattle.ld_facts.specs.declared.fact.Fact.TheVariants.{Dependency, Marked}
-use Rattle.ld_facts.specs.Laws.{TraceFactsAreTheChains}
+use Rattle.ld_facts.proofs.Names.{Dependency, Marked, TraceFactsAreTheChains}
 use Rattle.ld_facts.proofs.laws.trace_facts_are_the_chains.Goals as goal
 
 pub returns : goal.returns

@@ -1,7 +1,4 @@
-use Rattle.std.proofs.Common.{◌≡◌, ◌<◌, ◌+◌, arith, refl}
-use Rattle.ld_facts.specs.declared.places.TheConstants.{PLACES}
-use Rattle.ld_facts.specs.Inside.Bits.{has_bit, count_below}
-use Rattle.ld_facts.specs.Laws.Bits.{count_below-one_more, count_below-room}
+use Rattle.ld_graph.proofs.Names.{◌+◌, ◌<◌, ◌≡◌, PLACES, arith, count_below, count_below-one_more, count_below-room, has_bit, refl}
 use Rattle.ld_graph.proofs.Joining.{Joins-start, Joins-more, joined_all}
 use Rattle.ld_graph.proofs.reach.join.Goals as goal
 

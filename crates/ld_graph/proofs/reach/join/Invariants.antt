@@ -1,7 +1,5 @@
 use Rattle.ld_graph.proofs.Joining.{Joins}
-use Rattle.std.proofs.Common.{◌-◌}
-use Rattle.ld_facts.specs.declared.places.TheConstants.{PLACES}
-use Rattle.ld_facts.specs.Inside.Bits.{has_bit, count_below}
+use Rattle.ld_graph.proofs.Names.{◌-◌, PLACES, count_below, has_bit}
 use Rattle.ld_graph.proofs.reach.join.Given as goal
 
 abbrev pub invariant-loop-p : goal.invariant-loop-p

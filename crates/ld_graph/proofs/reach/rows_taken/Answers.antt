@@ -1,7 +1,4 @@
-use Rattle.std.proofs.Common.{arith}
-use Rattle.ld_facts.specs.declared.places.TheConstants.{PLACES}
-use Rattle.ld_facts.specs.Inside.Bits.{has_bit}
-use Rattle.ld_facts.specs.Laws.Bits.{count_below-le}
+use Rattle.ld_graph.proofs.Names.{PLACES, arith, count_below-le, has_bit}
 use Rattle.ld_graph.proofs.reach.rows_taken.Goals as goal
 
 pub returns : goal.returns

@@ -1,8 +1,5 @@
 use Rattle.ld_parts.proofs.Parting.{AreHomes-more}
-use Rattle.std.proofs.Common.{◌+◌, ◌<◌, ◌∙◌, length, get_or, slice_index, sym, subst, arith}
-use Rattle.std.specs.Prelude.{Contains}
-use Rattle.std.proofs.lemmas.List.{get_or_default}
-use Rattle.ld_parts.specs.Inside.Parts.{AreHomes, IsAtPlace}
+use Rattle.ld_parts.proofs.Names.{◌+◌, ◌<◌, ◌∙◌, AreHomes, Contains, IsAtPlace, arith, get_or, get_or_default, length, slice_index, subst, sym}
 use Rattle.ld_parts.proofs.home.homes_by_ranks.Goals as goal
 
 pub place_in-place-requires-clause-listed : goal.place_in-place-requires-clause-listed

@@ -1,5 +1,4 @@
-use Rattle.std.proofs.Common.{slice_index}
-use Rattle.ld_parts.specs.Inside.Parts.{AreHomes}
+use Rattle.ld_parts.proofs.Names.{AreHomes, slice_index}
 use Rattle.ld_parts.proofs.home.homes_by_ranks.Given as goal
 
 abbrev pub invariant-loop-key : goal.invariant-loop-key

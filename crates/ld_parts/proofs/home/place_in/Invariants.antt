@@ -1,4 +1,4 @@
-use Rattle.std.proofs.Common.{◌≡◌, ℕ, ◌<◌, slice_index}
+use Rattle.ld_parts.proofs.Names.{◌<◌, ◌≡◌, slice_index, ℕ}
 use Rattle.ld_parts.proofs.home.place_in.Given as goal
 
 -- none so far is the key

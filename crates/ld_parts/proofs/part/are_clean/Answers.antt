@@ -1,6 +1,5 @@
 use Rattle.ld_parts.proofs.Parting.{first_more}
-use Rattle.ld_facts.specs.FactBits.{HasFact}
-use Rattle.ld_graph.specs.Links.{IsClean}
+use Rattle.ld_parts.proofs.Names.{HasFact, IsClean}
 use Rattle.ld_parts.proofs.part.are_clean.Goals as goal
 
 pub loop-part-preserved : goal.loop-part-preserved

@@ -1,6 +1,5 @@
 use Rattle.ld_parts.proofs.Parting.{AreKeysOf-more, AreKeysOf-same}
-use Rattle.std.proofs.Common.{◌+◌, ◌∙◌, slice_index, sym, subst}
-use Rattle.ld_parts.specs.Inside.Parts.{AreKeysOf}
+use Rattle.ld_parts.proofs.Names.{◌+◌, ◌∙◌, AreKeysOf, slice_index, subst, sym}
 use Rattle.ld_parts.proofs.part.keys_of.Goals.{then-get-rank+in_ok-push, else-get-rank}
 use Rattle.ld_parts.proofs.part.keys_of.Goals as goal
 

@@ -1,5 +1,4 @@
-use Rattle.std.proofs.Common.{slice_index}
-use Rattle.ld_parts.specs.Inside.Parts.{AreKeysOf}
+use Rattle.ld_parts.proofs.Names.{AreKeysOf, slice_index}
 use Rattle.ld_parts.proofs.part.keys_of.Given as goal
 
 abbrev pub invariant-loop-key : goal.invariant-loop-key

@@ -1,8 +1,5 @@
 use Rattle.ld_parts.proofs.Parting.{pushed_more}
-use Rattle.std.proofs.Common.{◌+◌, ◌<◌, ◌∙◌, ℕ, List, length, get_or, slice_index, ap, sym, subst}
-use Rattle.std.proofs.lemmas.List.{length_push}
-use Rattle.ld_parts.specs.Inside.Parts.{IsPart}
-use Rattle.ld_parts.specs.declared.part.Part.{Part}
+use Rattle.ld_parts.proofs.Names.{◌+◌, ◌<◌, ◌∙◌, IsPart, List, Part, ap, get_or, length, length_push, slice_index, subst, sym, ℕ}
 use Rattle.ld_parts.proofs.part.parts_by_ranks.Goals as goal
 
 pub loop-rank-preserved : goal.loop-rank-preserved

@@ -1,6 +1,4 @@
-use Rattle.std.proofs.Common.{◌≡◌, ℕ, ◌<◌, length, get_or, slice_index}
-use Rattle.ld_parts.specs.Inside.Parts.{IsPart}
-use Rattle.ld_parts.specs.declared.part.Part.{Part}
+use Rattle.ld_parts.proofs.Names.{◌<◌, ◌≡◌, IsPart, Part, get_or, length, slice_index, ℕ}
 use Rattle.ld_parts.proofs.part.parts_by_ranks.Given as goal
 
 abbrev pub invariant-loop-rank : goal.invariant-loop-rank

@@ -1,4 +1,4 @@
-use Rattle.std.proofs.Common.{ℕ, ◌<◌, ◌≤◌, slice_index}
+use Rattle.ld_parts.proofs.Names.{◌<◌, ◌≤◌, slice_index, ℕ}
 use Rattle.ld_parts.proofs.part.rank_count.Given as goal
 
 abbrev pub invariant-loop-key : goal.invariant-loop-key

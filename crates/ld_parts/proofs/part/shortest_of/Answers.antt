@@ -1,6 +1,4 @@
-use Rattle.std.proofs.Common.{◌+◌, refl, sym, subst, arith}
-use Rattle.std.specs.Prelude.{IsNone, IfSome}
-use Rattle.ld_parts.specs.Inside.Parts.{IsShortestOfFirst}
+use Rattle.ld_parts.proofs.Names.{◌+◌, IfSome, IsNone, IsShortestOfFirst, arith, refl, subst, sym}
 use Rattle.ld_parts.proofs.Parting.{is_taken, none_more, stays_beside, stays_without}
 use Rattle.ld_parts.proofs.part.shortest_of.Goals.{in-Some+then-is_shorter, in-Some+else-is_shorter, in_default}
 use Rattle.ld_parts.proofs.part.shortest_of.Goals as goal

@@ -1,6 +1,4 @@
-use Rattle.std.proofs.Common.{◌∙◌, slice_index, sym}
-use Rattle.ld_trace.specs.declared.event.Irq.TheVariants.{Hard, Soft}
-use Rattle.ld_facts.specs.FactBits.{HasFact}
+use Rattle.ld_parts.proofs.Names.{◌∙◌, Hard, HasFact, Soft, slice_index, sym}
 use Rattle.ld_parts.proofs.Climbing.{NoneGoesDown-from}
 use Rattle.ld_parts.proofs.ranks.are_ranked.Goals as goal
 use Rattle.ld_parts.proofs.ranks.are_ranked.Goals.{then-dependencies_climb, else-dependencies_climb}

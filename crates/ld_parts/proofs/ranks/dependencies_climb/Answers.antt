@@ -1,5 +1,4 @@
-use Rattle.std.proofs.Common.{◌≡◌, ◌/◌, ◌%◌, ◌≤◌, ◌∙◌, slice_index, true, false, refl, sym, subst, inl, inr, arith}
-use Rattle.std.proofs.lemmas.Bool.{cases_lt}
+use Rattle.ld_parts.proofs.Names.{◌%◌, ◌/◌, ◌∙◌, ◌≡◌, ◌≤◌, arith, cases_lt, false, inl, inr, refl, slice_index, subst, sym, true}
 use Rattle.ld_parts.proofs.Climbing.{BitClimbs-from, DependenciesClimb-bits}
 use Rattle.ld_parts.proofs.ranks.dependencies_climb.Goals as goal
 

@@ -1,7 +1,4 @@
-use Rattle.std.proofs.Common.{ℕ, ◌-◌, ◌<◌, ◌≤◌, slice_index}
-use Rattle.std.specs.Prelude.{IsTrue}
-use Rattle.ld_facts.specs.Inside.Bits.{has_bit}
-use Rattle.ld_facts.specs.Numbers.{dependency_total}
+use Rattle.ld_parts.proofs.Names.{◌-◌, ◌<◌, ◌≤◌, IsTrue, dependency_total, has_bit, slice_index, ℕ}
 use Rattle.ld_parts.proofs.Climbing.{BitClimbs}
 use Rattle.ld_parts.proofs.ranks.dependencies_climb.Given as goal
 

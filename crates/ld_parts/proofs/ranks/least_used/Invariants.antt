@@ -1,4 +1,4 @@
-use Rattle.std.proofs.Common.{slice_index}
+use Rattle.ld_parts.proofs.Names.{slice_index}
 use Rattle.ld_parts.proofs.Climbing.{IsLeast, IsUsed}
 use Rattle.ld_parts.proofs.ranks.least_used.Given as goal
 

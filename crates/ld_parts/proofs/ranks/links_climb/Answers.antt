@@ -1,5 +1,4 @@
-use Rattle.std.proofs.Common.{slice_index, inl, inr, arith}
-use Rattle.std.proofs.lemmas.Bool.{leb-true, le-leb}
+use Rattle.ld_parts.proofs.Names.{arith, inl, inr, le-leb, leb-true, slice_index}
 use Rattle.ld_parts.proofs.Climbing.{IsEnabled, IsUsed, IsGreatest, IsLeast, LinksClimb-iff}
 use Rattle.ld_parts.proofs.ranks.links_climb.Goals as goal
 

@@ -1,7 +1,4 @@
-use Rattle.std.proofs.Common.{arith, ◌≡◌, ◌-◌, suc, length, Some, slice_get, drop, refl, sym, ap, ◌∙◌}
-use Rattle.std.proofs.lemmas.Bool.{eq-eqb, ne_eqb}
-use Rattle.std.proofs.lemmas.Option.{slice_get_read}
-use Rattle.ld_task.specs.Inside.Placing.{places_at}
+use Rattle.ld_task.proofs.Names.{◌-◌, ◌∙◌, ◌≡◌, Some, ap, arith, drop, eq-eqb, length, ne_eqb, places_at, refl, slice_get, slice_get_read, suc, sym}
 use Rattle.ld_task.proofs.LockPlaces.{slice_get-pass, slice_get-count}
 use Rattle.ld_task.proofs.kept_locks.place_at.Goals as goal
 

@@ -1,5 +1,4 @@
-use Rattle.std.proofs.Common.{◌≡◌, drop, slice_get}
-use Rattle.ld_task.specs.Inside.Placing.{places_at}
+use Rattle.ld_task.proofs.Names.{◌≡◌, drop, places_at, slice_get}
 use Rattle.ld_task.proofs.kept_locks.place_at.Given as goal
 
 -- what is searched for among all is what is left to find among the rest

@@ -1,5 +1,5 @@
+use Rattle.ld_task.proofs.Names.{chain_eq-decides}
 use Rattle.std.specs.Hash.{same_Alike}
-use Rattle.ld_task.specs.Inside.ChainEqualityLaws.{chain_eq-decides}
 use Rattle.ld_task.proofs.laws.equal_chains_hash_alike.Goals as goal
 
 pub returns : goal.returns

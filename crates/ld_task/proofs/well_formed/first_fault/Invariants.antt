@@ -1,4 +1,4 @@
-use Rattle.ld_task.specs.Steps.{IsStateAfter}
+use Rattle.ld_task.proofs.Names.{IsStateAfter}
 use Rattle.ld_task.proofs.well_formed.first_fault.Given as goal
 
 -- the events so far are well formed, and the state is the one after them

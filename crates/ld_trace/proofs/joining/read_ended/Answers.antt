@@ -1,5 +1,4 @@
-use Rattle.std.proofs.Common.{◌∙◌, ◌∷◌, ◌++◌, [], ap, append_assoc, arith, length-append, refl, sym}
-use Rattle.std.proofs.lemmas.List.{append-nil}
+use Rattle.ld_trace.proofs.Names.{[], ◌++◌, ◌∙◌, ◌∷◌, ap, append-nil, append_assoc, arith, length-append, refl, sym}
 use Rattle.ld_trace.proofs.JoinedLemmas.{returns-more, returns-none, turn-more, turn-none}
 use Rattle.ld_trace.proofs.joining.read_ended.Goals as goal
 

@@ -1,7 +1,4 @@
-use Rattle.std.proofs.Common.{◌≡◌, ◌++◌, List, length}
-use Rattle.ld_trace.specs.Names.{Name}
-use Rattle.ld_trace.specs.Inside.Joined.{TakesInTurn}
-use Rattle.ld_trace.specs.Inside.Progress.{ReadsPlain}
+use Rattle.ld_trace.proofs.Names.{◌++◌, ◌≡◌, List, Name, ReadsPlain, TakesInTurn, length}
 use Rattle.ld_trace.proofs.joining.read_ended.Given as goal
 
 -- as many traces as there were turns were read

@@ -1,4 +1,4 @@
-use Rattle.std.proofs.Common.{◌∙◌, ◌∷◌, ◌++◌, [], length, ap, arith, length-append, refl, sym}
+use Rattle.ld_trace.proofs.Names.{[], ◌++◌, ◌∙◌, ◌∷◌, ap, arith, length, length-append, refl, sym}
 use Rattle.ld_trace.specs.Inside.Joined.{ended_records}
 use Rattle.ld_trace.proofs.JoinedLemmas.{in_turn-none, joined-last, joined-reads, read-none, turn-in_turn, turn-more, turn-numbered}
 use Rattle.ld_trace.proofs.joining.read_joined.Goals as goal

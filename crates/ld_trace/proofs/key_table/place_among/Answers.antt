@@ -1,6 +1,4 @@
-use Rattle.std.proofs.Common.{◌∙◌, sym, true≢false, refl, arith}
-use Rattle.std.proofs.lemmas.List.{length-map}
-use Rattle.ld_trace.specs.Inside.Stored.{name_of, names_of}
+use Rattle.ld_trace.proofs.Names.{◌∙◌, arith, length-map, name_of, names_of, refl, sym, true≢false}
 use Rattle.ld_trace.proofs.NameLemmas.{fits-known, too-many-new}
 use Rattle.ld_trace.proofs.StoredLemmas.{known-stored, place-stored, position-stored, distinct-stored, with_name-stored}
 use Rattle.ld_trace.proofs.key_table.place_among.Goals as goal

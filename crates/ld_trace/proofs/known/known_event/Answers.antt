@@ -1,7 +1,4 @@
-use Rattle.std.proofs.Common.{◌∙◌, refl, sym}
-use Rattle.std.proofs.lemmas.Option.{IfSome_then}
-use Rattle.csv.specs.Records.{fields_of}
-use Rattle.ld_trace.specs.Lines.{mode_of}
+use Rattle.ld_trace.proofs.Names.{◌∙◌, IfSome_then, fields_of, mode_of, refl, sym}
 use Rattle.ld_trace.proofs.FieldLemmas.{line_of_record-three, line_of_record-four}
 use Rattle.ld_trace.proofs.KnownLemmas.{acquire-found, release-known}
 use Rattle.ld_trace.proofs.known.known_event.Goals as goal

@@ -1,4 +1,4 @@
-use Rattle.std.proofs.Common.{arith, rules}
+use Rattle.ld_trace.proofs.Names.{arith, rules}
 use Rattle.ld_trace.proofs.LastHash.{split_at_last}
 use Rattle.ld_trace.proofs.level.class_of.Goals as goal
 

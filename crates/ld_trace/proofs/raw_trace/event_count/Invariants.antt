@@ -1,6 +1,4 @@
-use Rattle.std.proofs.Common.{ℕ, List, ◌≡◌, ◌≤◌, ◌*◌, take, sum_by, length}
-use Rattle.ld_trace.specs.declared.event.Event.{Event}
-use Rattle.ld_trace.specs.declared.raw_trace.TheConstants.{MAX_EVENTS}
+use Rattle.ld_trace.proofs.Names.{◌*◌, ◌≡◌, ◌≤◌, Event, List, MAX_EVENTS, length, sum_by, take, ℕ}
 use Rattle.ld_trace.proofs.raw_trace.event_count.Given as goal
 
 -- the events of the traces so far, at most `MAX_EVENTS` each

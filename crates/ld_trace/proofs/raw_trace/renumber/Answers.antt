@@ -1,5 +1,4 @@
-use Rattle.std.proofs.Common.{arith}
-use Rattle.ld_trace.specs.Inside.Renumbered.{event_with}
+use Rattle.ld_trace.proofs.Names.{arith, event_with}
 use Rattle.ld_trace.proofs.TakenIn.{all-renumbered}
 use Rattle.ld_trace.proofs.raw_trace.renumber.Goals as goal
 

@@ -1,6 +1,4 @@
-use Rattle.std.proofs.Common.{◌≡◌, ◌≤◌, ◌<◌, ℕ, get_or}
-use Rattle.ld_trace.specs.declared.event.Event.TheVariants.{Leave}
-use Rattle.ld_trace.specs.Inside.Renumbered.{event_with}
+use Rattle.ld_trace.proofs.Names.{◌<◌, ◌≡◌, ◌≤◌, Leave, event_with, get_or, ℕ}
 use Rattle.ld_trace.proofs.raw_trace.renumber.Given as goal
 
 -- the events so far have their new keys, and the others are as they were

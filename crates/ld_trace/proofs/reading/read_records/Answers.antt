@@ -1,4 +1,4 @@
-use Rattle.std.proofs.Common.{[]}
+use Rattle.ld_trace.proofs.Names.{[]}
 use Rattle.ld_trace.proofs.ReadLemmas.{if-some, reads-to}
 use Rattle.ld_trace.proofs.reading.read_records.Goals as goal
 

@@ -1,4 +1,4 @@
-use Rattle.std.proofs.lemmas.Result.{IfOk-weaker, IfErr-weaker}
+use Rattle.ld_trace.proofs.Names.{IfErr-weaker, IfOk-weaker}
 use Rattle.ld_trace.proofs.reading.read_trace.Goals as goal
 
 pub returns-clause-ok : goal.returns-clause-ok

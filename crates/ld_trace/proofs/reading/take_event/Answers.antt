@@ -1,6 +1,4 @@
-use Rattle.std.proofs.Common.{refl, arith, length}
-use Rattle.std.proofs.lemmas.Result.{err_from_is_err_and}
-use Rattle.csv.specs.Records.{fields_of}
+use Rattle.ld_trace.proofs.Names.{arith, err_from_is_err_and, fields_of, length, refl}
 use Rattle.ld_trace.proofs.ReadLemmas.{event-refused, events-failed, past-last, within-last}
 use Rattle.ld_trace.proofs.reading.take_event.Goals as goal
 

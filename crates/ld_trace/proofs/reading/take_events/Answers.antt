@@ -1,6 +1,4 @@
-use Rattle.std.proofs.Common.{◌≡◌, ◌+◌, [], ◌∷◌, ◌++◌, arith, length, refl, sym, ap, ◌∙◌, append_assoc}
-use Rattle.std.proofs.lemmas.List.{append-nil}
-use Rattle.csv.specs.Records.{fields_of}
+use Rattle.ld_trace.proofs.Names.{[], ◌++◌, ◌+◌, ◌∙◌, ◌∷◌, ◌≡◌, ap, append-nil, append_assoc, arith, fields_of, length, refl, sym}
 use Rattle.ld_trace.proofs.CsvLemmas.{given-all, given-more}
 use Rattle.ld_trace.proofs.TakenLemmas.{taken-more}
 use Rattle.ld_trace.proofs.reading.take_events.Goals as goal

@@ -1,8 +1,4 @@
-use Rattle.std.proofs.Common.{◌≡◌, ◌≤◌, ◌+◌, ◌-◌, ◌++◌, List, length}
-use Rattle.ld_trace.specs.declared.raw_trace.TheConstants.{MAX_EVENTS}
-use Rattle.ld_trace.specs.Lines.{Record}
-use Rattle.ld_trace.specs.Names.{Name}
-use Rattle.ld_trace.specs.Inside.Progress.{ReadsPlain, Returns, TakesOn}
+use Rattle.ld_trace.proofs.Names.{◌++◌, ◌+◌, ◌-◌, ◌≡◌, ◌≤◌, List, MAX_EVENTS, Name, ReadsPlain, Record, Returns, TakesOn, length}
 use Rattle.ld_trace.proofs.reading.take_events.Given as goal
 
 abbrev pub invariant-records : goal.invariant-records

@@ -1,6 +1,4 @@
-use Rattle.std.proofs.Common.{◌∙◌, sym}
-use Rattle.std.proofs.lemmas.Result.{err_from_is_err_and}
-use Rattle.csv.specs.Records.{fields_of}
+use Rattle.ld_trace.proofs.Names.{◌∙◌, err_from_is_err_and, fields_of, sym}
 use Rattle.ld_trace.proofs.ReadLemmas.{header-failed, header-missing, header-refused}
 use Rattle.ld_trace.proofs.reading.take_header.Goals as goal
 

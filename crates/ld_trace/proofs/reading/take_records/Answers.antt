@@ -1,6 +1,4 @@
-use Rattle.std.proofs.Common.{[], ◌∷◌, ◌++◌, append_assoc}
-use Rattle.std.proofs.lemmas.Result.{IfOk-weaker, IfErr-weaker}
-use Rattle.csv.specs.Records.{fields_of}
+use Rattle.ld_trace.proofs.Names.{[], ◌++◌, ◌∷◌, IfErr-weaker, IfOk-weaker, append_assoc, fields_of}
 use Rattle.ld_trace.proofs.CsvLemmas.{given-more}
 use Rattle.ld_trace.proofs.ReadLemmas.{header-taken, taken-header}
 use Rattle.ld_trace.proofs.reading.take_records.Goals as goal

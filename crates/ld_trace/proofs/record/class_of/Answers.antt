@@ -1,4 +1,4 @@
-use Rattle.std.proofs.Common.{◌∙◌, sym}
+use Rattle.ld_trace.proofs.Names.{◌∙◌, sym}
 use Rattle.ld_trace.proofs.FieldLemmas.{utf8-class_name}
 use Rattle.ld_trace.proofs.record.class_of.Goals as goal
 

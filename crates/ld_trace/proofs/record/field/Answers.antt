@@ -1,5 +1,4 @@
-use Rattle.std.proofs.Common.{sym}
-use Rattle.csv.specs.Records.{fields_of}
+use Rattle.ld_trace.proofs.Names.{fields_of, sym}
 use Rattle.ld_trace.proofs.FieldLemmas.{field-there}
 use Rattle.ld_trace.proofs.record.field.Goals as goal
 

@@ -1,6 +1,4 @@
-use Rattle.std.proofs.Common.{◌≡◌, ◌∙◌, [], ◌∷◌, Some, ap, sym}
-use Rattle.std.proofs.lemmas.Slice.Eq.{bytes_eq-Decides}
-use Rattle.csv.specs.Records.{fields_of}
+use Rattle.ld_trace.proofs.Names.{[], ◌∙◌, ◌∷◌, ◌≡◌, Some, ap, bytes_eq-Decides, fields_of, sym}
 use Rattle.ld_trace.proofs.FieldLemmas.{one-field}
 use Rattle.ld_trace.proofs.record.is_point.Goals as goal
 

@@ -1,5 +1,4 @@
-use Rattle.std.proofs.Common.{◌∙◌, sym, arith}
-use Rattle.csv.specs.Records.{fields_of}
+use Rattle.ld_trace.proofs.Names.{◌∙◌, arith, fields_of, sym}
 use Rattle.ld_trace.proofs.FieldLemmas.{line_of_record-one, line_of_record-two, line_of_record-three, line_of_record-four, line_of_record-others}
 use Rattle.ld_trace.proofs.record.line_of.Goals as goal
 

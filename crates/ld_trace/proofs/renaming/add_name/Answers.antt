@@ -1,4 +1,4 @@
-use Rattle.std.proofs.Common.{◌∙◌, ap, arith, Err}
+use Rattle.ld_trace.proofs.Names.{◌∙◌, Err, ap, arith}
 use Rattle.ld_trace.proofs.ClassLemmas.{fits, name_by-named}
 use Rattle.ld_trace.proofs.renaming.add_name.Goals as goal
 

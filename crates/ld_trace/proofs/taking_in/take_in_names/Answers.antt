@@ -1,8 +1,4 @@
-use Rattle.std.proofs.Common.{◌∙◌, [], ◌∷◌, ◌++◌, append_assoc, ap, arith, length, refl, sym, take}
-use Rattle.std.proofs.lemmas.List.{append-nil}
-use Rattle.std.proofs.lemmas.Result.{err_from_is_err_and}
-use Rattle.ld_trace.specs.Names.{place_of}
-use Rattle.ld_trace.specs.Writing.{name_at}
+use Rattle.ld_trace.proofs.Names.{[], ◌++◌, ◌∙◌, ◌∷◌, ap, append-nil, append_assoc, arith, err_from_is_err_and, length, name_at, place_of, refl, sym, take}
 use Rattle.ld_trace.proofs.Alike.{with_all-added, with_all-within}
 use Rattle.ld_trace.proofs.TakenIn.{left-weaker, one-taken, too-many-later}
 use Rattle.ld_trace.proofs.taking_in.take_in_names.Goals as goal

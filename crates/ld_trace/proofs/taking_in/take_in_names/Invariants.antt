@@ -1,5 +1,5 @@
-use Rattle.std.proofs.Common.{◌≡◌, ◌++◌, ℕ, List, length, take}
-use Rattle.ld_trace.specs.TakingIn.{Leads, with_all}
+use Rattle.ld_trace.proofs.Names.{◌++◌, ◌≡◌, Leads, List, length, take, ℕ}
+use Rattle.ld_trace.specs.TakingIn.{with_all}
 use Rattle.ld_trace.proofs.taking_in.take_in_names.Given as goal
 
 -- the names before this place were taken in

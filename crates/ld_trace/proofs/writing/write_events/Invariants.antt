@@ -1,8 +1,5 @@
-use Rattle.std.proofs.Common.{take}
-use Rattle.std.specs.List.{flat_map}
+use Rattle.ld_trace.proofs.Names.{event_text, flat_map, take, text_written}
 use Rattle.std.specs.Io.KnownBytes.{Appends}
-use Rattle.csv.specs.Writing.{text_written}
-use Rattle.ld_trace.specs.Writing.{event_text}
 use Rattle.ld_trace.specs.Inside.Written.{IsBetween}
 use Rattle.ld_trace.proofs.writing.write_events.Given as goal
 

@@ -1,4 +1,4 @@
-use Rattle.std.proofs.Common.{◌≢◌, map}
+use Rattle.ld_trace.proofs.Names.{◌≢◌, map}
 use Rattle.csv.specs.declared.writer.QuoteStyle.TheVariants as style
 use Rattle.ld_trace.proofs.WriteLemmas.{row_text-flexible}
 use Rattle.ld_trace.proofs.writing.write_record.Goals as goal

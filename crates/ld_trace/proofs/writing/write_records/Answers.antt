@@ -1,8 +1,5 @@
-use Rattle.std.proofs.lemmas.Result.{on_ok_weaker}
-use Rattle.std.specs.List.{flat_map}
+use Rattle.ld_trace.proofs.Names.{event_text, flat_map, header_of, on_ok_weaker, record_text, text_written, version_for}
 use Rattle.std.proofs.KnownBytes.{Appends-trans}
-use Rattle.csv.specs.Writing.{text_written}
-use Rattle.ld_trace.specs.Writing.{event_text, header_of, record_text, version_for}
 use Rattle.ld_trace.proofs.WriteLemmas.{trace_text-parts}
 use Rattle.ld_trace.proofs.writing.write_records.Goals as goal
 

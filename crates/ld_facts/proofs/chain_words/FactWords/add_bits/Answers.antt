@@ -1,5 +1,4 @@
-use Rattle.std.proofs.Common.{subst, sym, ◌∙◌}
-use Rattle.ld_facts.specs.Inside.WordTable.{HasWord}
+use Rattle.ld_facts.proofs.Names.{◌∙◌, HasWord, subst, sym}
 use Rattle.ld_facts.proofs.WordTables.{room_for, HasWord-among, UnitesPair-none}
 use Rattle.ld_facts.proofs.chain_words.FactWords.add_bits.Goals as goal
 

@@ -1,6 +1,4 @@
-use Rattle.std.proofs.Common.{arith, ◌≡◌, ◌∙◌, sym, subst}
-use Rattle.ld_facts.specs.ChainFacts.{chain_fact}
-use Rattle.ld_facts.specs.Inside.WordTable.{Gathered}
+use Rattle.ld_facts.proofs.Names.{◌∙◌, ◌≡◌, Gathered, arith, chain_fact, subst, sym}
 use Rattle.ld_facts.proofs.Gathering.{Gathered-more, FactBelow-slot, chain_fact-dependency}
 use Rattle.ld_facts.proofs.chain_words.FactWords.add_dependencies.Goals as goal
 use Rattle.ld_facts.proofs.chain_words.FactWords.add_dependencies.Goals.{After-dependency_of}

@@ -1,4 +1,4 @@
-use Rattle.ld_facts.specs.Inside.WordTable.{Gathered}
+use Rattle.ld_facts.proofs.Names.{Gathered}
 use Rattle.ld_facts.proofs.chain_words.FactWords.add_dependencies.Given as goal
 
 abbrev pub invariant-loop-i : goal.invariant-loop-i

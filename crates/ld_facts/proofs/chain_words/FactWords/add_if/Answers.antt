@@ -1,6 +1,4 @@
-use Rattle.std.proofs.Common.{◌∙◌, ap, sym, inl, inr}
-use Rattle.std.proofs.lemmas.Option.{same_Some}
-use Rattle.ld_facts.specs.Numbers.{fact_number}
+use Rattle.ld_facts.proofs.Names.{◌∙◌, ap, fact_number, inl, inr, same_Some, sym}
 use Rattle.ld_facts.proofs.WordTables.{HasBit-unites}
 use Rattle.ld_facts.proofs.chain_words.FactWords.add_if.Goals as goal
 

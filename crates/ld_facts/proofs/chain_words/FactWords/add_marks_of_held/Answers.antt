@@ -1,12 +1,5 @@
-use Rattle.std.proofs.Common.{arith, ◌≡◌, ◌+◌, ◌*◌, ◌<◌, ◌∙◌, ap, sym, subst, length, Some, None, ℕ, List, [], ◌∷◌, get_or}
-use Rattle.std.proofs.lemmas.Option.{slice_get-get_or, none-some}
-use Rattle.ld_task.specs.declared.lock.Lock.{Lock}
-use Rattle.std.specs.Prelude.{slice_get}
+use Rattle.ld_facts.proofs.Names.{[], ◌*◌, ◌+◌, ◌<◌, ◌∙◌, ◌∷◌, ◌≡◌, Gathered, List, Lock, None, Some, TakesRun, ap, arith, chain_fact, dependency_total, get_or, key_and_mode, length, none-some, slice_get, slice_get-get_or, subst, sym, ℕ}
 use Rattle.std.specs.Option.{option_map}
-use Rattle.ld_task.specs.Chains.{key_and_mode}
-use Rattle.ld_facts.specs.ChainFacts.{chain_fact}
-use Rattle.ld_facts.specs.Inside.WordTable.{Gathered, TakesRun}
-use Rattle.ld_facts.specs.Numbers.{dependency_total}
 use Rattle.ld_facts.proofs.Gathering.{Gathered-run, IsRunOf-start, IsRunOf-more, IsMarkOf, IsMarkOf-held, chain_fact-held, fact_slots-opening}
 use Rattle.ld_facts.proofs.chain_words.FactWords.add_marks_of_held.Goals as goal
 use Rattle.ld_facts.proofs.chain_words.FactWords.add_marks_of_held.Goals.{in-Some, in_default}

@@ -1,5 +1,4 @@
-use Rattle.std.proofs.Common.{◌*◌}
-use Rattle.ld_facts.specs.Inside.WordTable.{Gathered}
+use Rattle.ld_facts.proofs.Names.{◌*◌, Gathered}
 use Rattle.ld_facts.proofs.chain_words.FactWords.add_marks_of_held.Given as goal
 
 abbrev pub invariant-loop-i : goal.invariant-loop-i

@@ -1,11 +1,4 @@
-use Rattle.std.proofs.Common.{arith, ◌≡◌, ◌+◌, ◌*◌, ◌<◌, ◌∙◌, ap, sym, subst, length}
-use Rattle.std.specs.Prelude.{IfSome}
-use Rattle.ld_task.specs.declared.lock.Lock.{Lock}
-use Rattle.ld_task.specs.Marks.{marks_taken}
-use Rattle.ld_trace.specs.Modes.{is_read}
-use Rattle.ld_facts.specs.ChainFacts.{chain_fact, mark_by_taking}
-use Rattle.ld_facts.specs.Inside.WordTable.{Gathered, IsRunOf, TakesRun}
-use Rattle.ld_facts.specs.Numbers.{dependency_total}
+use Rattle.ld_facts.proofs.Names.{◌*◌, ◌+◌, ◌<◌, ◌∙◌, ◌≡◌, Gathered, IfSome, IsRunOf, Lock, TakesRun, ap, arith, chain_fact, dependency_total, is_read, length, mark_by_taking, marks_taken, subst, sym}
 use Rattle.ld_facts.proofs.Gathering.{Gathered-run, IsRunOf-start, IsRunOf-more, IsMarkOf, IsMarkOf-if, chain_fact-mark_of_new, fact_slots-taking}
 use Rattle.ld_facts.proofs.chain_words.FactWords.add_marks_of_new.Goals as goal
 

@@ -1,5 +1,4 @@
-use Rattle.std.proofs.Common.{◌+◌, ◌<◌, ◌^◌, length}
-use Rattle.ld_facts.specs.Inside.WordTable.{IsRunOf}
+use Rattle.ld_facts.proofs.Names.{◌+◌, ◌<◌, ◌^◌, IsRunOf, length}
 use Rattle.ld_facts.proofs.chain_words.FactWords.add_marks_of_new.Given as goal
 
 abbrev pub invariant-loop-n : goal.invariant-loop-n

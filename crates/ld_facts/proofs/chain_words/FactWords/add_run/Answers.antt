@@ -1,4 +1,4 @@
-use Rattle.std.proofs.Common.{arith}
+use Rattle.ld_facts.proofs.Names.{arith}
 use Rattle.ld_facts.proofs.WordTables.{TakesRun-one, TakesRun-two}
 use Rattle.ld_facts.proofs.chain_words.FactWords.add_run.Goals as goal
 

@@ -1,6 +1,4 @@
-use Rattle.std.proofs.Common.{arith, ap, sym, ◌∙◌, ◌≡◌, inl, inr, ◌<◌, ◌/◌, get_or, length}
-use Rattle.std.proofs.lemmas.Bool.{cases_eq}
-use Rattle.std.proofs.lemmas.List.{length-set}
+use Rattle.ld_facts.proofs.Names.{◌/◌, ◌<◌, ◌∙◌, ◌≡◌, ap, arith, cases_eq, get_or, inl, inr, length, length-set, sym}
 use Rattle.ld_facts.proofs.WordTables.{IsTable-empty, has_bit-cleared}
 use Rattle.ld_facts.proofs.chain_words.FactWords.clear.Goals as goal
 use Rattle.ld_facts.proofs.chain_words.FactWords.clear.Goals.{After-from}

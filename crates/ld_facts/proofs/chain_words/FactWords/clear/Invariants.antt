@@ -1,6 +1,4 @@
-use Rattle.std.proofs.Common.{◌≡◌, ℕ, ◌<◌, ◌≤◌, length, slice_index}
-use Rattle.std.specs.Prelude.{IsTrue}
-use Rattle.ld_facts.specs.Inside.Bits.{has_bit}
+use Rattle.ld_facts.proofs.Names.{◌<◌, ◌≡◌, ◌≤◌, IsTrue, has_bit, length, slice_index, ℕ}
 use Rattle.ld_facts.proofs.chain_words.FactWords.clear.Given as goal
 
 -- what is still seen is at a later place

@@ -1,5 +1,4 @@
-use Rattle.std.proofs.Common.{arith, subst, sym}
-use Rattle.ld_facts.specs.Inside.WordTable.{HasWord, IsAmong, StandsAt}
+use Rattle.ld_facts.proofs.Names.{HasWord, IsAmong, StandsAt, arith, subst, sym}
 use Rattle.ld_facts.proofs.WordTables.{room_for, HasWord-among, StandsAt-place}
 use Rattle.ld_facts.proofs.chain_words.FactWords.find.Goals as goal
 

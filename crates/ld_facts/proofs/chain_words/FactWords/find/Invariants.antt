@@ -1,4 +1,4 @@
-use Rattle.std.proofs.Common.{◌≡◌, ℕ, ◌<◌, ◌≤◌, slice_index}
+use Rattle.ld_facts.proofs.Names.{◌<◌, ◌≡◌, ◌≤◌, slice_index, ℕ}
 use Rattle.ld_facts.proofs.chain_words.FactWords.find.Given as goal
 
 -- the word is at this place or before it

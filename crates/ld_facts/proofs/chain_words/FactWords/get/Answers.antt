@@ -1,6 +1,4 @@
-use Rattle.std.proofs.Common.{arith, ap, sym, ◌∙◌, length, Some, ◌<◌}
-use Rattle.std.specs.Prelude.{slice_get}
-use Rattle.std.proofs.lemmas.Option.{slice_get-get_or, slice_get_past}
+use Rattle.ld_facts.proofs.Names.{◌<◌, ◌∙◌, Some, ap, arith, length, slice_get, slice_get-get_or, slice_get_past, sym}
 use Rattle.ld_facts.proofs.WordTables.{HaveRoom, pairs_at, length-pairs_at, get_or-pairs_at}
 use Rattle.ld_facts.proofs.chain_words.FactWords.get.Goals as goal
 

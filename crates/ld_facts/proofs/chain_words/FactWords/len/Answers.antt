@@ -1,4 +1,4 @@
-use Rattle.std.proofs.Common.{arith, ap, sym, ◌∙◌, length}
+use Rattle.ld_facts.proofs.Names.{◌∙◌, ap, arith, length, sym}
 use Rattle.ld_facts.proofs.WordTables.{HaveRoom, length-pairs_at}
 use Rattle.ld_facts.proofs.chain_words.FactWords.len.Goals as goal
 

@@ -1,4 +1,4 @@
-use Rattle.std.proofs.Common.{replicate}
+use Rattle.ld_facts.proofs.Names.{replicate}
 use Rattle.ld_facts.proofs.WordTables.{IsTable-empty, none_seen}
 use Rattle.ld_facts.proofs.chain_words.FactWords.new.Goals as goal
 

@@ -1,10 +1,4 @@
-use Rattle.std.proofs.Common.{arith, ap, subst, ◌∙◌, length, ◌≡◌, ◌+◌, ◌<◌, set, [], ◌∷◌, ◌++◌}
-use Rattle.std.proofs.lemmas.List.{length-append}
-use Rattle.std.specs.Prelude.{IsTrue}
-use Rattle.ld_facts.specs.Inside.Bits.{has_bit}
-use Rattle.ld_facts.specs.Inside.WordTable.{HasWord, IsAmong, IsTable}
-use Rattle.ld_facts.specs.WordPairs.{bits_of}
-use Rattle.ld_facts.specs.declared.chain_words.TheConstants.{MAX_WORDS}
+use Rattle.ld_facts.proofs.Names.{[], ◌++◌, ◌+◌, ◌<◌, ◌∙◌, ◌∷◌, ◌≡◌, HasWord, IsAmong, IsTable, IsTrue, MAX_WORDS, ap, arith, bits_of, has_bit, length, length-append, set, subst}
 use Rattle.ld_facts.proofs.WordTables.{HaveRoom, pairs_at, room_for, room_for_more, length-value, pairs_at-push, set_room, IsTable-push, HasWord-among, UnitesPair-push, AreWords-table}
 use Rattle.ld_facts.proofs.chain_words.FactWords.push.Goals as goal
 use Rattle.ld_facts.proofs.chain_words.FactWords.push.Goals.{After-insert}

@@ -1,5 +1,4 @@
-use Rattle.std.proofs.Common.{ap, sym, subst, ◌∙◌, ◌≡◌, ◌<◌, length, get_or}
-use Rattle.ld_facts.specs.Inside.WordTable.{IsTable, StandsAt, UnitesPair}
+use Rattle.ld_facts.proofs.Names.{◌<◌, ◌∙◌, ◌≡◌, IsTable, StandsAt, UnitesPair, ap, get_or, length, subst, sym}
 use Rattle.ld_facts.proofs.WordTables.{HaveRoom, pairs_at, with_more, more_room, room_for, length-pairs_at, place-StandsAt, IsTable-unite, UnitesPair-unite, AreWords-table}
 use Rattle.ld_facts.proofs.chain_words.FactWords.unite.Goals as goal
 use Rattle.ld_facts.proofs.chain_words.FactWords.unite.Goals.{After-find-i}

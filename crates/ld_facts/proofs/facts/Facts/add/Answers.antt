@@ -1,5 +1,4 @@
-use Rattle.std.proofs.Common.{◌≡◌, ◌∙◌, sym, ap}
-use Rattle.ld_facts.specs.Numbers.{fact_number}
+use Rattle.ld_facts.proofs.Names.{◌∙◌, ◌≡◌, ap, fact_number, sym}
 use Rattle.ld_facts.proofs.Adding.{Adds-set, rows_allowed-set}
 use Rattle.ld_facts.proofs.facts.Facts.add.Goals as goal
 use Rattle.ld_facts.proofs.facts.Facts.add.Goals.{After-add_bit}

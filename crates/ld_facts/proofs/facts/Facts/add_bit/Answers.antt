@@ -1,12 +1,6 @@
-use Rattle.std.proofs.Common.{rules, ◌≡◌, ◌<◌, ◌≤◌, ◌∙◌, sym, ap, subst, refl, length, false}
-use Rattle.std.proofs.lemmas.List.{with_items_is}
+use Rattle.ld_facts.proofs.Names.{◌<◌, ◌∙◌, ◌≡◌, ◌≤◌, FactParts, MAX_KEYS, SetsBit, ap, bit_total, dependency_count-le, dependency_total, false, has_bit, length, mark_count-le, refl, rules, subst, sym, with_items_is}
 use Rattle.std.specs.Vec.{with_items}
-use Rattle.ld_facts.specs.Inside.Bits.{has_bit}
-use Rattle.ld_facts.specs.Numbers.{dependency_total, bit_total}
-use Rattle.ld_facts.specs.FactBits.{FactParts, SetsBit}
-use Rattle.ld_trace.specs.declared.key_id.TheConstants.{MAX_KEYS}
 use Rattle.ld_facts.proofs.Adding.{AreCounted-dependency, AreCounted-mark}
-use Rattle.ld_facts.specs.Laws.Counting.{dependency_count-le, mark_count-le}
 use Rattle.ld_facts.proofs.facts.Facts.add_bit.Goals as goal
 use Rattle.ld_facts.proofs.facts.Facts.add_bit.Goals.{After-insert}
 

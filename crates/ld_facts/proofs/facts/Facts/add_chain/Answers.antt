@@ -1,9 +1,4 @@
-use Rattle.std.proofs.Common.{◌≡◌, ◌∙◌, sym, subst, arith}
-use Rattle.std.proofs.lemmas.Option.{none-some}
-use Rattle.ld_facts.specs.ChainFacts.{fact_slots}
-use Rattle.ld_facts.specs.FactBits.{FactBelow}
-use Rattle.ld_facts.specs.Laws.Chains.{FactBelow-chain, chain_fact-sound}
-use Rattle.ld_facts.specs.Laws.Growing.{Grown-start, Grown-same, Grown-add, Adds-grown, Holds-grown}
+use Rattle.ld_facts.proofs.Names.{◌∙◌, ◌≡◌, Adds-grown, FactBelow, FactBelow-chain, Grown-add, Grown-same, Grown-start, Holds-grown, arith, chain_fact-sound, fact_slots, none-some, subst, sym}
 use Rattle.ld_facts.proofs.facts.Facts.add_chain.Goals as goal
 use Rattle.ld_facts.proofs.facts.Facts.add_chain.Goals.{After-loop-n, in-Some, in_default}
 

@@ -1,4 +1,4 @@
-use Rattle.ld_facts.specs.Laws.Growing.{Grown}
+use Rattle.ld_facts.proofs.Names.{Grown}
 use Rattle.ld_facts.proofs.facts.Facts.add_chain.Given as goal
 
 abbrev pub invariant-loop-n : goal.invariant-loop-n

@@ -1,7 +1,4 @@
-use Rattle.std.proofs.Common.{ap, sym, ◌∙◌, subst}
-use Rattle.ld_facts.specs.Counting.{IsNumberOf}
-use Rattle.ld_facts.specs.Facts.{DependenciesOf}
-use Rattle.ld_facts.specs.FactBits.{HasFact, dependency_count}
+use Rattle.ld_facts.proofs.Names.{◌∙◌, DependenciesOf, HasFact, IsNumberOf, ap, dependency_count, subst, sym}
 use Rattle.ld_facts.proofs.Counted.{IsNumberOf-dependencies}
 use Rattle.ld_facts.proofs.facts.Facts.dependencies.Goals as goal
 

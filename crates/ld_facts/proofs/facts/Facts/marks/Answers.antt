@@ -1,7 +1,4 @@
-use Rattle.std.proofs.Common.{ap, sym, ◌∙◌, subst}
-use Rattle.ld_facts.specs.Counting.{IsNumberOf}
-use Rattle.ld_facts.specs.Facts.{MarksOf}
-use Rattle.ld_facts.specs.FactBits.{HasFact, mark_count}
+use Rattle.ld_facts.proofs.Names.{◌∙◌, HasFact, IsNumberOf, MarksOf, ap, mark_count, subst, sym}
 use Rattle.ld_facts.proofs.Counted.{IsNumberOf-marks}
 use Rattle.ld_facts.proofs.facts.Facts.marks.Goals as goal
 

@@ -1,4 +1,4 @@
-use Rattle.std.proofs.Common.{rules, ◌≡◌, replicate}
+use Rattle.ld_facts.proofs.Names.{◌≡◌, replicate, rules}
 use Rattle.ld_facts.proofs.Empty.{AreCounted-zeros, dependency_count-zeros, mark_count-zeros}
 use Rattle.ld_facts.proofs.facts.Facts.new.Goals as goal
 use Rattle.ld_facts.proofs.facts.Facts.new.Goals.{In_ok-bits}

@@ -1,7 +1,4 @@
-use Rattle.std.proofs.Common.{◌≡◌, refl, subst}
-use Rattle.ld_facts.specs.FactBits.{FactBelow, HasFact}
-use Rattle.ld_facts.specs.Facts.{Adds}
-use Rattle.ld_facts.specs.Numbers.{fact_number}
+use Rattle.ld_facts.proofs.Names.{◌≡◌, Adds, FactBelow, HasFact, fact_number, refl, subst}
 use Rattle.ld_facts.proofs.Renaming.{IsRenamed-all, IsRenamed-more}
 use Rattle.ld_facts.proofs.facts.Facts.renamed.Goals as goal
 

@@ -1,5 +1,4 @@
-use Rattle.std.proofs.Common.{◌-◌}
-use Rattle.ld_facts.specs.Numbers.{bit_total}
+use Rattle.ld_facts.proofs.Names.{◌-◌, bit_total}
 use Rattle.ld_facts.proofs.Renaming.{IsRenamed}
 use Rattle.ld_facts.proofs.facts.Facts.renamed.Given as goal
 

@@ -1,8 +1,4 @@
-use Rattle.std.proofs.Common.{◌≡◌, ◌↔◌, ◌+◌, ◌/◌, ◌∙◌, sym, ap, subst, true, length}
-use Rattle.ld_facts.specs.Inside.Bits.{has_bit}
-use Rattle.ld_facts.specs.Numbers.{bit_total}
-use Rattle.ld_facts.specs.Facts.{AreSame}
-use Rattle.ld_facts.specs.FactBits.{FactParts, HasFact}
+use Rattle.ld_facts.proofs.Names.{◌+◌, ◌/◌, ◌↔◌, ◌∙◌, ◌≡◌, AreSame, FactParts, HasFact, ap, bit_total, has_bit, length, subst, sym, true}
 use Rattle.ld_facts.proofs.Uniting.{AreSame-bits}
 use Rattle.ld_facts.proofs.facts.Facts.same.Goals as goal
 use Rattle.ld_facts.proofs.facts.Facts.same.Goals.{After-same}

@@ -1,11 +1,4 @@
-use Rattle.std.proofs.Common.{◌≡◌, ◌+◌, ◌*◌, ◌/◌, ◌<◌, ◌∙◌, sym, ap, subst, arith, get_or, eq-eqb, true, inl, inr}
-use Rattle.std.proofs.lemmas.Bool.{cases_lt}
-use Rattle.std.proofs.lemmas.List.{get_or_default}
-use Rattle.std.specs.Int.{bit_at}
-use Rattle.ld_facts.specs.Inside.Bits.{has_bit}
-use Rattle.ld_facts.specs.Numbers.{bit_total}
-use Rattle.ld_facts.specs.Facts.{Adds}
-use Rattle.ld_facts.specs.FactBits.{FactParts, HasFact, UnitesWord}
+use Rattle.ld_facts.proofs.Names.{◌*◌, ◌+◌, ◌/◌, ◌<◌, ◌∙◌, ◌≡◌, Adds, FactParts, HasFact, UnitesWord, ap, arith, bit_at, bit_total, cases_lt, eq-eqb, get_or, get_or_default, has_bit, inl, inr, subst, sym, true}
 use Rattle.ld_facts.proofs.Uniting.{UnitesWords-start, UnitesWords-more, Adds-words, has_bit-at}
 use Rattle.ld_facts.proofs.facts.Facts.unite.Goals as goal
 use Rattle.ld_facts.proofs.facts.Facts.unite.Goals.{After-index}

@@ -1,9 +1,5 @@
-use Rattle.std.proofs.Common.{◌≡◌, ◌+◌, ◌*◌, ◌/◌, ◌<◌, ◌∙◌, sym, ap, subst, arith, get_or, length, eqb-true}
-use Rattle.std.specs.Int.{bit_at}
-use Rattle.std.proofs.lemmas.List.{get_or_default}
-use Rattle.ld_facts.specs.Numbers.{bit_total}
+use Rattle.ld_facts.proofs.Names.{◌*◌, ◌+◌, ◌/◌, ◌<◌, ◌∙◌, ◌≡◌, UnitesWord, ap, arith, bit_at, bit_total, eqb-true, get_or, get_or_default, length, subst, sym}
 use Rattle.ld_facts.proofs.Uniting.{UnitesWord-known, UnitesBits-start, UnitesBits-on, UnitesBits-off, UnitesWord-bits, Adds-word}
-use Rattle.ld_facts.specs.FactBits.{UnitesWord}
 use Rattle.ld_facts.proofs.facts.Facts.unite_word.Goals as goal
 use Rattle.ld_facts.proofs.facts.Facts.unite_word.Goals.{After-index, After-loop-k, then-is_set, else-is_set}
 

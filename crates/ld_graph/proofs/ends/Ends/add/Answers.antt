@@ -1,8 +1,4 @@
-use Rattle.std.proofs.Common.{rules, ◌≡◌, ◌⊎◌, ◌↔◌, ℕ, subst, true}
-use Rattle.ld_facts.specs.Inside.Bits.{has_bit}
-use Rattle.ld_facts.specs.Numbers.{irq_number}
-use Rattle.ld_facts.specs.Inside.Places.{LeavesFrom}
-use Rattle.ld_graph.specs.Inside.Tables.{reaches}
+use Rattle.ld_graph.proofs.Names.{◌↔◌, ◌≡◌, ◌⊎◌, LeavesFrom, has_bit, irq_number, reaches, rules, subst, true, ℕ}
 use Rattle.ld_graph.proofs.LinkEnds.{TakesMark-used, TakesMark-enabled}
 use Rattle.ld_graph.proofs.ends.Ends.add.Goals as goal
 

@@ -1,7 +1,4 @@
-use Rattle.std.proofs.Common.{◌≡◌, inl, inr, refl, sym, subst, arith, true}
-use Rattle.std.proofs.lemmas.Bool.{cases_eq}
-use Rattle.ld_graph.specs.Inside.Kept.{Joined}
-use Rattle.ld_facts.specs.Numbers.{irq_number}
+use Rattle.ld_graph.proofs.Names.{◌≡◌, Joined, arith, cases_eq, inl, inr, irq_number, refl, subst, sym, true}
 use Rattle.ld_graph.proofs.LinkEnds.{irq_numbered, irq_number-lt}
 use Rattle.ld_graph.proofs.ends.Ends.are_joined.Goals as goal
 use Rattle.ld_graph.proofs.ends.Ends.are_joined.Goals.{Joined-else-meet, else-meet-via-then-meet+else-meet-2, else-meet-via-else-meet}

@@ -1,5 +1,4 @@
-use Rattle.std.proofs.Common.{ℕ, ◌<◌}
-use Rattle.ld_graph.specs.Inside.Kept.{Joined}
+use Rattle.ld_graph.proofs.Names.{◌<◌, Joined, ℕ}
 use Rattle.ld_graph.proofs.ends.Ends.are_joined.Given as goal
 
 -- none of the states so far

@@ -1,12 +1,6 @@
-use Rattle.std.proofs.Common.{◌≡◌, ◌∙◌, sym, ap, subst, refl, arith, inl}
-use Rattle.std.proofs.lemmas.Option.{none-some}
-use Rattle.std.proofs.lemmas.Bool.{or_parts}
+use Rattle.ld_graph.proofs.Names.{◌∙◌, ◌≡◌, Adds-grown, FactBelow, Grown-add, Grown-same, Grown-start, HasFact, Holds-grown, IsClean, IsClean-fewer, ap, arith, inl, none-some, or_parts, refl, subst, sym}
 use Rattle.ld_facts.specs.ChainFacts.{fact_slots}
-use Rattle.ld_facts.specs.FactBits.{FactBelow, HasFact}
-use Rattle.ld_graph.specs.Laws.Facts.{IsClean-fewer}
-use Rattle.ld_graph.specs.Links.{IsClean}
 use Rattle.ld_facts.specs.Laws.Chains.{FactBelow-chain, chain_fact-sound}
-use Rattle.ld_facts.specs.Laws.Growing.{Grown-start, Grown-same, Grown-add, Adds-grown, Holds-grown}
 use Rattle.ld_graph.proofs.graph.Graph.add_chain.Goals as goal
 use Rattle.ld_graph.proofs.graph.Graph.add_chain.Goals.{After-loop-n, Joined-fact_in_slot, in-Some, in_default}
 

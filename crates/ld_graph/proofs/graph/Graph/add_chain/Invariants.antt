@@ -1,8 +1,4 @@
-use Rattle.std.proofs.Common.{◌≡◌}
-use Rattle.std.specs.Prelude.{IsFalse}
-use Rattle.ld_facts.specs.FactBits.{HasFact}
-use Rattle.ld_graph.specs.Links.{IsClean}
-use Rattle.ld_facts.specs.Laws.Growing.{Grown}
+use Rattle.ld_graph.proofs.Names.{◌≡◌, Grown, HasFact, IsClean, IsFalse}
 use Rattle.ld_graph.proofs.graph.Graph.add_chain.Given as goal
 
 abbrev pub invariant-loop-n : goal.invariant-loop-n

@@ -1,15 +1,5 @@
-use Rattle.std.proofs.Common.{rules, not, ◌≡◌, ◌+◌, ◌≤◌, ◌↔◌, ◌∙◌, ℕ, refl, sym, ap, subst, arith, Bool, true, false}
-use Rattle.ld_task.specs.Kinds.{is_s}
-use Rattle.ld_trace.specs.declared.key_id.TheConstants.{GRAPH_KEYS}
-use Rattle.ld_facts.specs.Arrows.{Arrow, arrow}
-use Rattle.ld_facts.specs.Inside.Bits.{has_bit}
-use Rattle.ld_facts.specs.Facts.{Adds, DependenciesOf}
-use Rattle.ld_facts.specs.FactBits.{FactParts, HasFact, rows_allowed, rows_for}
-use Rattle.ld_facts.specs.Inside.Places.{Leads}
-use Rattle.ld_graph.specs.Inside.Tables.{IsSource, IsTarget, AreSpan}
-use Rattle.ld_graph.specs.Inside.Kept.{IsGraph, StaysClean, MarkTurnsBack}
+use Rattle.ld_graph.proofs.Names.{◌+◌, ◌↔◌, ◌∙◌, ◌≡◌, ◌≤◌, Adds, AreSpan, Arrow, Bool, DependenciesOf, FactParts, GRAPH_KEYS, HasFact, IsGraph, IsSource, IsTarget, Leads, MarkTurnsBack, StaysClean, ap, arith, arrow, false, has_bit, is_s, not, refl, rows_allowed, rows_allowed-le, rows_for, rules, subst, sym, true, ℕ}
 use Rattle.ld_graph.specs.Graphs.{GraphParts}
-use Rattle.ld_facts.specs.Laws.Counting.{rows_allowed-le}
 use Rattle.ld_graph.proofs.Ways.{IsTransitive-ways}
 use Rattle.ld_graph.proofs.GraphSteps.{IsGraph-dependency, IsGraph-led, IsGraph-mark}
 use Rattle.ld_graph.proofs.graph.Graph.add_new.Goals as goal

@@ -1,15 +1,5 @@
-use Rattle.std.proofs.Common.{◌≡◌, ◌∙◌, ◌&&◌, ◌<◌, ℕ, length, sym, ap, subst, refl, inl, inr, arith, not, true}
-use Rattle.std.proofs.lemmas.Bool.{cases_eq}
+use Rattle.ld_graph.proofs.Names.{◌&&◌, ◌<◌, ◌∙◌, ◌≡◌, DependenciesOf, GoesTo, HasFact, IsCircle, LeastThrough, NoGoalBy, ROW_WORDS, ap, arith, arrival, cases_eq, has_bit, has_bit-zeros, inl, inr, length, not, reaches, refl, subst, sym, true, zeros_at, ℕ}
 use Rattle.ld_facts.specs.Inside.Rows.{arrow_of}
-use Rattle.ld_facts.specs.Facts.{DependenciesOf}
-use Rattle.ld_facts.specs.FactBits.{HasFact}
-use Rattle.ld_facts.specs.Inside.Bits.{has_bit}
-use Rattle.ld_facts.specs.Inside.Places.{arrival}
-use Rattle.ld_graph.specs.Inside.Searching.{GoesTo, NoGoalBy, LeastThrough}
-use Rattle.ld_graph.specs.Inside.Tables.{reaches}
-use Rattle.ld_graph.specs.Walks.{IsCircle}
-use Rattle.ld_facts.specs.declared.places.TheConstants.{ROW_WORDS}
-use Rattle.ld_facts.specs.Laws.Bits.{has_bit-zeros, zeros_at}
 use Rattle.ld_graph.proofs.Joining.{zero_row}
 use Rattle.ld_graph.proofs.Nearest.{IsCircle-from_way, LeastThrough-outside, LeastThrough-searched, arrows_below}
 use Rattle.ld_graph.proofs.graph.Graph.circle_at.Goals as goal

@@ -1,11 +1,4 @@
-use Rattle.std.proofs.Common.{◌∙◌, ◌*◌, ◌<◌, ◌≤◌, length, sym, ap, subst, refl, inl, inr, arith}
-use Rattle.ld_trace.specs.declared.key_id.TheConstants.{GRAPH_KEYS}
-use Rattle.ld_facts.specs.Arrows.{Arrow, arrow}
-use Rattle.ld_facts.specs.Facts.{DependenciesOf}
-use Rattle.ld_facts.specs.FactBits.{HasFact}
-use Rattle.ld_graph.specs.Inside.Searching.{LeastRound}
-use Rattle.ld_graph.specs.Walks.{IsShortestFrom}
-use Rattle.ld_graph.specs.Laws.Facts.{OnCircle-member}
+use Rattle.ld_graph.proofs.Names.{◌*◌, ◌<◌, ◌∙◌, ◌≤◌, Arrow, DependenciesOf, GRAPH_KEYS, HasFact, IsShortestFrom, LeastRound, OnCircle-member, ap, arith, arrow, inl, inr, length, refl, subst, sym}
 use Rattle.ld_graph.proofs.Nearest.{arrows_below}
 use Rattle.ld_graph.proofs.Rounds.{Closes, Closes-few, IsShortestFrom-closes, no_circle_through, no_round}
 use Rattle.ld_graph.proofs.graph.Graph.circle_through.Goals as goal

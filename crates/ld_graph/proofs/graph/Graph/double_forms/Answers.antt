@@ -1,5 +1,4 @@
-use Rattle.std.proofs.Common.{◌≡◌, refl, true, false}
-use Rattle.ld_facts.specs.Arrows.{arrow}
+use Rattle.ld_graph.proofs.Names.{◌≡◌, arrow, false, refl, true}
 use Rattle.ld_graph.proofs.graph.Graph.double_forms.Goals as goal
 
 pub returns-then-has_link-clause-none : goal.returns-then-has_link-clause-none

@@ -1,9 +1,4 @@
-use Rattle.std.proofs.Common.{◌<◌}
-use Rattle.ld_task.specs.declared.kind.Kind.{Kind}
-use Rattle.ld_facts.specs.Arrows.{arrow}
-use Rattle.ld_facts.specs.FactBits.{HasFact}
-use Rattle.ld_graph.specs.Links.{IsDoubleBy}
-use Rattle.ld_facts.specs.Numbers.{kind_number}
+use Rattle.ld_graph.proofs.Names.{◌<◌, HasFact, IsDoubleBy, Kind, arrow, kind_number}
 use Rattle.ld_graph.proofs.graph.Graph.double_forms.Given as goal
 
 -- none of the links so far

@@ -1,11 +1,4 @@
-use Rattle.std.proofs.Common.{◌≡◌, ◌↔◌, ℕ, subst, true, false}
-use Rattle.std.specs.Prelude.{IsTrue}
-use Rattle.ld_facts.specs.Arrows.{Arrow, arrow}
-use Rattle.ld_facts.specs.Facts.{DependenciesOf}
-use Rattle.ld_facts.specs.FactBits.{HasFact}
-use Rattle.ld_graph.specs.Links.{InInversion}
-use Rattle.ld_facts.specs.Inside.Bits.{has_bit}
-use Rattle.ld_graph.specs.Inside.Tables.{IsSource, IsTarget, AreSpan}
+use Rattle.ld_graph.proofs.Names.{◌↔◌, ◌≡◌, AreSpan, Arrow, DependenciesOf, HasFact, InInversion, IsSource, IsTarget, IsTrue, arrow, false, has_bit, subst, true, ℕ}
 use Rattle.ld_graph.proofs.GraphSteps.{JoinsLinks-iff, facts_within}
 use Rattle.ld_graph.proofs.Inversions.{InInversion-iff, InInversion-member}
 use Rattle.ld_graph.proofs.graph.Graph.in_inversion.Goals as goal

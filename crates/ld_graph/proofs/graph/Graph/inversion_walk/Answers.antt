@@ -1,19 +1,7 @@
-use Rattle.std.proofs.Common.{◌≡◌, ◌∙◌, ◌+◌, ◌*◌, ◌≤◌, ℕ, length, sym, ap, subst, refl, arith}
-use Rattle.std.specs.Prelude.{IsNone, IfSome}
-use Rattle.std.proofs.lemmas.Option.{IfSome_then}
-use Rattle.ld_trace.specs.declared.key_id.TheConstants.{GRAPH_KEYS}
-use Rattle.ld_task.specs.declared.kind.Kind.{Kind}
-use Rattle.ld_task.specs.Kinds.{is_r, kind_of_letters, kind_of_letters-letters}
-use Rattle.ld_facts.specs.Arrows.{arrow}
-use Rattle.ld_facts.specs.Facts.{Holds, DependenciesOf}
-use Rattle.ld_facts.specs.FactBits.{FactBelow, HasFact}
-use Rattle.ld_graph.specs.Links.{IsLink, link_by}
-use Rattle.ld_graph.specs.Inside.Searching.{LeadsRound, LeastRound}
+use Rattle.ld_graph.proofs.Names.{◌*◌, ◌+◌, ◌∙◌, ◌≡◌, ◌≤◌, DependenciesOf, FactBelow, GRAPH_KEYS, HasFact, Holds, IfSome, IfSome_then, IsLink, IsNone, Kind, LeadsRound, LeastRound, ap, arith, arrow, is_r, kind_number-lt, kind_of_letters, kind_of_letters-letters, length, link_by, none_of, refl, subst, sym, ℕ}
 use Rattle.ld_graph.specs.declared.shortest_walks.InversionWalk.{InversionWalk}
 use Rattle.ld_graph.proofs.GraphSteps.{facts_within}
 use Rattle.ld_graph.proofs.Inversions.{LeastLinks, LeastLinks-more, IsShortestInversion-round, no_inversion, some_inversion}
-use Rattle.ld_facts.specs.Laws.Numbers.{kind_number-lt}
-use Rattle.ld_facts.specs.Laws.Lists.{none_of}
 use Rattle.ld_graph.proofs.Rounds.{no_round}
 use Rattle.ld_graph.proofs.graph.Graph.inversion_walk.Goals as goal
 use Rattle.ld_graph.proofs.graph.Graph.inversion_walk.Goals.{Start, After-loop-n, in-Some, in_default}

@@ -1,9 +1,4 @@
-use Rattle.std.proofs.Common.{◌≡◌, ◌+◌, ◌*◌, ◌≤◌, length}
-use Rattle.std.specs.Prelude.{IsNone, IfSome}
-use Rattle.ld_facts.specs.Facts.{DependenciesOf}
-use Rattle.ld_facts.specs.FactBits.{HasFact}
-use Rattle.ld_graph.specs.Links.{IsLink, link_by}
-use Rattle.ld_graph.specs.Inside.Searching.{LeadsRound}
+use Rattle.ld_graph.proofs.Names.{◌*◌, ◌+◌, ◌≡◌, ◌≤◌, DependenciesOf, HasFact, IfSome, IsLink, IsNone, LeadsRound, length, link_by}
 use Rattle.ld_graph.proofs.Inversions.{LeastLinks}
 use Rattle.ld_graph.proofs.graph.Graph.inversion_walk.Given as goal
 

@@ -1,12 +1,4 @@
-use Rattle.std.proofs.Common.{◌≡◌, ◌<◌, ◌∙◌, ℕ, sym, subst, ap, arith, true}
-use Rattle.std.specs.Prelude.{◌↔◌, IsTrue}
-use Rattle.ld_trace.specs.declared.key_id.TheConstants.{GRAPH_KEYS}
-use Rattle.ld_facts.specs.Inside.Bits.{has_bit}
-use Rattle.ld_facts.specs.Facts.{DependenciesOf}
-use Rattle.ld_facts.specs.FactBits.{HasFact}
-use Rattle.ld_facts.specs.Inside.Places.{place, Leads, Way}
-use Rattle.ld_graph.specs.Inside.Kept.{IsInversionBy}
-use Rattle.ld_graph.specs.Inside.Tables.{reaches}
+use Rattle.ld_graph.proofs.Names.{◌<◌, ◌↔◌, ◌∙◌, ◌≡◌, DependenciesOf, GRAPH_KEYS, HasFact, IsInversionBy, IsTrue, Leads, Way, ap, arith, has_bit, place, reaches, subst, sym, true, ℕ}
 use Rattle.ld_graph.proofs.GraphSteps.{facts_within}
 use Rattle.ld_graph.proofs.LookUps.{IsInversionBy-row}
 use Rattle.ld_graph.proofs.graph.Graph.is_inversion_by.Goals as goal

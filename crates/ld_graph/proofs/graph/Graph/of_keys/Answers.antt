@@ -1,5 +1,4 @@
-use Rattle.std.proofs.Common.{sym, subst, arith}
-use Rattle.ld_facts.specs.FactBits.{FactBelow, HasFact}
+use Rattle.ld_graph.proofs.Names.{FactBelow, HasFact, arith, subst, sym}
 use Rattle.ld_graph.proofs.ByPlace.{TakenOver-start, TakenOver-known, TakenOver-more, AreSame-all}
 use Rattle.ld_graph.proofs.graph.Graph.of_keys.Goals as goal
 use Rattle.ld_graph.proofs.graph.Graph.of_keys.Goals.{then-has, else-has}

@@ -1,13 +1,5 @@
-use Rattle.std.proofs.Common.{◌≡◌, ◌∙◌, ◌≤◌, List, [], ◌∷◌, length, sym, subst, refl, arith}
-use Rattle.std.specs.Prelude.{IsNone, IfSome}
-use Rattle.std.proofs.lemmas.Option.{IfSome_then}
-use Rattle.ld_trace.specs.declared.key_id.TheConstants.{GRAPH_KEYS}
-use Rattle.ld_facts.specs.Arrows.{Arrow}
-use Rattle.ld_facts.specs.FactBits.{HasFact}
-use Rattle.ld_graph.specs.Walks.{IsCircle, IsShortestCircle, OnCircle}
-use Rattle.ld_facts.specs.Laws.Lists.{Contains-head}
+use Rattle.ld_graph.proofs.Names.{[], ◌∙◌, ◌∷◌, ◌≡◌, ◌≤◌, Arrow, Contains-head, GRAPH_KEYS, HasFact, IfSome, IfSome_then, IsCircle, IsNone, IsShortestCircle, List, OnCircle, arith, length, none_of, refl, subst, sym}
 use Rattle.ld_graph.proofs.Nearest.{LeastDone, LeastDone-more, LeastDone-all, done_more}
-use Rattle.ld_facts.specs.Laws.Lists.{none_of}
 use Rattle.ld_graph.proofs.Shortest.{IsShortestCircle-least, no_circle}
 use Rattle.ld_graph.proofs.graph.Graph.shortest_circle.Goals as goal
 use Rattle.ld_graph.proofs.graph.Graph.shortest_circle.Goals.{After-loop-place, in-Some, in_default}

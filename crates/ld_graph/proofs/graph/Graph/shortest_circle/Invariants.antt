@@ -1,8 +1,4 @@
-use Rattle.std.proofs.Common.{◌≡◌, ◌+◌, ◌<◌, ◌≤◌, ℕ, length}
-use Rattle.std.specs.Prelude.{IsTrue, IsNone, IfSome}
-use Rattle.ld_facts.specs.FactBits.{HasFact}
-use Rattle.ld_facts.specs.Inside.Bits.{has_bit}
-use Rattle.ld_graph.specs.Walks.{IsCircle}
+use Rattle.ld_graph.proofs.Names.{◌+◌, ◌<◌, ◌≡◌, ◌≤◌, HasFact, IfSome, IsCircle, IsNone, IsTrue, has_bit, length, ℕ}
 use Rattle.ld_graph.proofs.Nearest.{LeastDone}
 use Rattle.ld_graph.proofs.graph.Graph.shortest_circle.Given as goal
 

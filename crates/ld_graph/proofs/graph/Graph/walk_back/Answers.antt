@@ -1,14 +1,5 @@
-use Rattle.std.proofs.Common.{◌≡◌, ◌<◌, ◌⊎◌, ◌↔◌, ℕ, length, sym, subst, refl, inl, inr, arith, true}
-use Rattle.ld_task.specs.Kinds.{is_s}
+use Rattle.ld_graph.proofs.Names.{◌<◌, ◌↔◌, ◌≡◌, ◌⊎◌, DependenciesOf, GoesTo, HasFact, IsSource, LeadsRound, LeastRound, Leaves, LeavesFrom, NoGoalBy, ROW_WORDS, arith, arrival, has_bit, has_bit-zeros, inl, inr, is_s, length, refl, subst, sym, true, zeros_at, ℕ}
 use Rattle.ld_facts.specs.Inside.Rows.{arrow_of}
-use Rattle.ld_facts.specs.Facts.{DependenciesOf}
-use Rattle.ld_facts.specs.FactBits.{HasFact}
-use Rattle.ld_facts.specs.Inside.Bits.{has_bit}
-use Rattle.ld_facts.specs.Inside.Places.{arrival, Leaves, LeavesFrom}
-use Rattle.ld_graph.specs.Inside.Searching.{GoesTo, NoGoalBy, LeadsRound, LeastRound}
-use Rattle.ld_graph.specs.Inside.Tables.{IsSource}
-use Rattle.ld_facts.specs.declared.places.TheConstants.{ROW_WORDS}
-use Rattle.ld_facts.specs.Laws.Bits.{has_bit-zeros, zeros_at}
 use Rattle.ld_graph.proofs.Joining.{zero_row}
 use Rattle.ld_graph.proofs.Rounds.{LeastRound-searched}
 use Rattle.ld_graph.proofs.graph.Graph.walk_back.Goals as goal

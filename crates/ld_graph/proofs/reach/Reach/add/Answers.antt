@@ -1,10 +1,5 @@
-use Rattle.std.proofs.Common.{◌≡◌, ◌↔◌, ◌||◌, ◌&&◌, ◌∙◌, ℕ, List, length, sym, ap, subst, true}
-use Rattle.std.proofs.lemmas.List.{with_items_is}
+use Rattle.ld_graph.proofs.Names.{◌&&◌, ◌||◌, ◌↔◌, ◌∙◌, ◌≡◌, AreSpan, Arrow, IsTransitive, Leaves, LeavesFrom, List, TakesArrow, ap, arrival, arrow, has_bit, length, place, reaches, subst, sym, true, with_items_is, ℕ}
 use Rattle.std.specs.Vec.{with_items}
-use Rattle.ld_facts.specs.Arrows.{Arrow, arrow}
-use Rattle.ld_facts.specs.Inside.Bits.{has_bit}
-use Rattle.ld_facts.specs.Inside.Places.{place, arrival, LeavesFrom, Leaves}
-use Rattle.ld_graph.specs.Inside.Tables.{reaches, AreSpan, IsTransitive, TakesArrow}
 use Rattle.ld_graph.proofs.Tables.{TakesArrow-joined, AreTables-joined}
 use Rattle.ld_graph.proofs.reach.Reach.add.Goals as goal
 use Rattle.ld_graph.proofs.reach.Reach.add.Goals.{After-join-2}

@@ -1,5 +1,5 @@
+use Rattle.ld_graph.proofs.Names.{PLACES}
 use Rattle.std.proofs.lemmas.List.Elements.{same_from_all_zip}
-use Rattle.ld_facts.specs.declared.places.TheConstants.{PLACES}
 use Rattle.ld_graph.proofs.Joining.{zero_row}
 use Rattle.ld_graph.proofs.Tables.{AreTables-zeros, reaches-zeros}
 use Rattle.ld_graph.proofs.reach.Reach.new.Goals as goal

@@ -1,6 +1,4 @@
-use Rattle.std.proofs.Common.{◌≡◌, ◌↔◌, ℕ, sym, subst, true}
-use Rattle.ld_facts.specs.Inside.Bits.{has_bit}
-use Rattle.ld_graph.specs.Inside.Tables.{IsSource}
+use Rattle.ld_graph.proofs.Names.{◌↔◌, ◌≡◌, IsSource, has_bit, subst, sym, true, ℕ}
 use Rattle.ld_graph.proofs.Tables.{IsSource-both}
 use Rattle.ld_graph.proofs.reach.Reach.sources.Goals as goal
 

@@ -1,7 +1,4 @@
-use Rattle.std.proofs.Common.{◌≡◌, ◌∙◌, ◌+◌, ◌<◌, length, get_or, sym, ap, subst, refl, arith, true}
-use Rattle.std.proofs.lemmas.Option.{same_Some}
-use Rattle.ld_graph.specs.Inside.Searching.{Takes, Hits, Visits}
-use Rattle.ld_facts.specs.Inside.Rows.{row_place}
+use Rattle.ld_graph.proofs.Names.{◌+◌, ◌<◌, ◌∙◌, ◌≡◌, Hits, Takes, Visits, ap, arith, get_or, length, refl, row_place, same_Some, subst, sym, true}
 use Rattle.ld_facts.specs.declared.dependency.Dependency.{Dependency}
 use Rattle.ld_graph.proofs.Scanning.{Scans, Scans-skip, Scans-visit, Takes-hit, SeesAll-scanned, blank, step_read, row_place-lt}
 use Rattle.ld_graph.proofs.search.Search.expand.Goals as goal

@@ -1,5 +1,4 @@
-use Rattle.std.proofs.Common.{◌-◌, ◌*◌, ◌≤◌}
-use Rattle.ld_trace.specs.declared.key_id.TheConstants.{GRAPH_KEYS}
+use Rattle.ld_graph.proofs.Names.{◌*◌, ◌-◌, ◌≤◌, GRAPH_KEYS}
 use Rattle.ld_graph.proofs.Scanning.{Scans}
 use Rattle.ld_graph.proofs.search.Search.expand.Given as goal
 

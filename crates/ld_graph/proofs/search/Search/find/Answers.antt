@@ -1,7 +1,5 @@
-use Rattle.std.proofs.Common.{◌≡◌, ◌+◌, ◌-◌, ◌<◌, ◌∙◌, length, suc, sym, ap, subst, refl, arith}
+use Rattle.ld_graph.proofs.Names.{◌+◌, ◌-◌, ◌<◌, ◌∙◌, ◌≡◌, AreSteps, FindsGoal, ap, arith, arrival, length, refl, subst, suc, sym}
 use Rattle.ld_facts.specs.Inside.Rows.{arrow_of}
-use Rattle.ld_facts.specs.Inside.Places.{arrival}
-use Rattle.ld_graph.specs.Inside.Searching.{AreSteps, FindsGoal}
 use Rattle.ld_graph.proofs.Searches.{AreSteps-start, AreSteps-next, NoGoalBy-steps, NoGoalBy-done}
 use Rattle.ld_graph.proofs.search.Search.find.Goals as goal
 

@@ -1,7 +1,5 @@
-use Rattle.std.proofs.Common.{◌-◌, ◌<◌, ◌≤◌, length}
+use Rattle.ld_graph.proofs.Names.{◌-◌, ◌<◌, ◌≤◌, AreSteps, arrival, length}
 use Rattle.ld_facts.specs.Inside.Rows.{arrow_of}
-use Rattle.ld_facts.specs.Inside.Places.{arrival}
-use Rattle.ld_graph.specs.Inside.Searching.{AreSteps}
 use Rattle.ld_graph.proofs.search.Search.find.Given as goal
 
 abbrev pub invariant-loop-length : goal.invariant-loop-length

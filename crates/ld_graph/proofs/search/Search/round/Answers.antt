@@ -1,5 +1,4 @@
-use Rattle.std.proofs.Common.{◌≡◌, subst, refl, arith}
-use Rattle.ld_graph.specs.Inside.Searching.{AreSteps}
+use Rattle.ld_graph.proofs.Names.{◌≡◌, AreSteps, arith, refl, subst}
 use Rattle.ld_graph.proofs.Searches.{AreSteps-expanded, FindsGoal-hit}
 use Rattle.ld_graph.proofs.search.Search.round.Goals as goal
 

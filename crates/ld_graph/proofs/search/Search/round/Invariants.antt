@@ -1,5 +1,4 @@
-use Rattle.std.proofs.Common.{ℕ, ◌≤◌, length}
-use Rattle.ld_graph.specs.Inside.Searching.{AreSteps}
+use Rattle.ld_graph.proofs.Names.{◌≤◌, AreSteps, length, ℕ}
 use Rattle.ld_graph.proofs.search.Search.round.Given as goal
 
 abbrev pub invariant-loop-i : goal.invariant-loop-i

@@ -1,8 +1,4 @@
-use Rattle.std.proofs.Common.{◌≡◌, ◌<◌, ◌∙◌, sym, ap, length, inl, inr, subst, false, arith, slice_get}
-use Rattle.ld_facts.specs.Inside.Rows.{IsOfKeys}
-use Rattle.ld_facts.specs.declared.places.TheConstants.{PLACES}
-use Rattle.ld_facts.specs.Inside.Bits.{has_bit, count_below}
-use Rattle.ld_facts.specs.Laws.Bits.{count_below-room, count_below-one_more}
+use Rattle.ld_graph.proofs.Names.{◌<◌, ◌∙◌, ◌≡◌, IsOfKeys, PLACES, ap, arith, count_below, count_below-one_more, count_below-room, false, has_bit, inl, inr, length, slice_get, subst, sym}
 use Rattle.ld_graph.proofs.Scanning.{slice_get_push_cases}
 use Rattle.ld_graph.proofs.search.Search.visit.Goals as goal
 use Rattle.ld_graph.proofs.search.Search.visit.Goals.{After-insert}

@@ -1,4 +1,4 @@
-use Rattle.std.proofs.Common.{◌≡◌, ◌+◌, ◌-◌, ◌<◌, ◌∙◌, length, get_or, suc, sym, ap, subst, arith}
+use Rattle.ld_graph.proofs.Names.{◌+◌, ◌-◌, ◌<◌, ◌∙◌, ◌≡◌, ap, arith, get_or, length, subst, suc, sym}
 use Rattle.ld_graph.proofs.Scanning.{blank, step_read}
 use Rattle.ld_graph.proofs.Searches.{GoesBack, StandsAt-within, LeadsBack-stands, GoesBack-step}
 use Rattle.ld_graph.proofs.search.Search.way.Goals as goal

@@ -1,6 +1,4 @@
-use Rattle.std.proofs.Common.{◌≡◌, ℕ, ◌-◌, length}
-use Rattle.ld_facts.specs.FactBits.{FactParts}
-use Rattle.ld_graph.specs.Inside.Searching.{LeadsBack}
+use Rattle.ld_graph.proofs.Names.{◌-◌, ◌≡◌, FactParts, LeadsBack, length, ℕ}
 use Rattle.ld_graph.proofs.Searches.{GoesBack}
 use Rattle.ld_graph.proofs.search.Search.way.Given as goal
 

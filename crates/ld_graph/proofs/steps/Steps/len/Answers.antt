@@ -1,5 +1,4 @@
-use Rattle.std.proofs.Common.{◌∙◌, sym, ap, length, arith}
-use Rattle.std.proofs.lemmas.List.{length-take-le}
+use Rattle.ld_graph.proofs.Names.{◌∙◌, ap, arith, length, length-take-le, sym}
 use Rattle.ld_graph.proofs.steps.Steps.len.Goals as goal
 
 pub returns-clause-value : goal.returns-clause-value

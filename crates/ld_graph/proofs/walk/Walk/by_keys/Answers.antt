@@ -1,9 +1,5 @@
-use Rattle.std.proofs.Common.{◌≡◌, ℕ, ◌+◌, ◌<◌, ◌≤◌, ◌∙◌, List, [], ◌∷◌, length, get_or, map, reverse, take, sym, ap, arith}
-use Rattle.std.proofs.lemmas.List.{length-map, length-reverse, length-take-le, map-append, reverse-append, take_more}
-use Rattle.ld_task.specs.declared.kind.Kind.TheVariants.{Er}
-use Rattle.ld_graph.specs.Circles.{forwards}
+use Rattle.ld_graph.proofs.Names.{[], ◌+◌, ◌<◌, ◌∙◌, ◌∷◌, ◌≡◌, ◌≤◌, Er, List, ap, arith, arrow_at, forwards, get_or, length, length-map, length-reverse, length-take-le, map, map-append, reverse, reverse-append, sym, take, take_more, ℕ}
 use Rattle.ld_facts.specs.Inside.Rows.{arrow_of}
-use Rattle.ld_facts.specs.Renumbered.{arrow_at}
 use Rattle.ld_facts.specs.declared.dependency.Dependency.{Dependency}
 use Rattle.ld_graph.proofs.walk.Walk.by_keys.Goals as goal
 

@@ -1,6 +1,4 @@
-use Rattle.std.proofs.Common.{◌≡◌, map, take}
-use Rattle.ld_graph.specs.Circles.{forwards}
-use Rattle.ld_facts.specs.Renumbered.{arrow_at}
+use Rattle.ld_graph.proofs.Names.{◌≡◌, arrow_at, forwards, map, take}
 use Rattle.ld_graph.proofs.walk.Walk.by_keys.Given as goal
 
 abbrev pub invariant-loop-i : goal.invariant-loop-i

@@ -1,5 +1,4 @@
-use Rattle.std.proofs.Common.{◌∙◌, sym, ap, length, map, take, arith}
-use Rattle.std.proofs.lemmas.List.{length-map, length-reverse, length-take-le}
+use Rattle.ld_graph.proofs.Names.{◌∙◌, ap, arith, length, length-map, length-reverse, length-take-le, map, sym, take}
 use Rattle.ld_facts.specs.Inside.Rows.{arrow_of}
 use Rattle.ld_graph.proofs.walk.Walk.len.Goals as goal
 

@@ -1,5 +1,4 @@
-use Rattle.std.proofs.Common.{◌-◌, ◌≤◌}
-use Rattle.ld_facts.specs.Numbers.{dependency_total}
+use Rattle.ld_parts.proofs.Names.{◌-◌, ◌≤◌, dependency_total}
 use Rattle.ld_parts.proofs.node_arrows.NodeArrows.add_dependencies.Given as goal
 
 abbrev pub invariant-loop-number : goal.invariant-loop-number

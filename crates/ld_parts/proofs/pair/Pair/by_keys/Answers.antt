@@ -1,5 +1,4 @@
-use Rattle.std.proofs.Common.{◌∙◌, ap, sym}
-use Rattle.ld_parts.specs.Inside.Pairs.{told_by}
+use Rattle.ld_parts.proofs.Names.{◌∙◌, ap, sym, told_by}
 use Rattle.ld_parts.proofs.pair.Pair.by_keys.Goals as goal
 
 pub returns-in-Some : goal.returns-in-Some

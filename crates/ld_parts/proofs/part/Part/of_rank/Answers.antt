@@ -1,6 +1,5 @@
 use Rattle.ld_parts.proofs.Parting.{IsCrowded-keys}
-use Rattle.std.proofs.Common.{slice_index, subst, arith}
-use Rattle.ld_parts.specs.Ranks.{IsCrowded}
+use Rattle.ld_parts.proofs.Names.{IsCrowded, arith, slice_index, subst}
 use Rattle.ld_parts.proofs.part.Part.of_rank.Goals as goal
 
 pub returns-then-len-from-clause-tangled : goal.returns-then-len-from-clause-tangled

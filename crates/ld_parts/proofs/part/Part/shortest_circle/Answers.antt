@@ -1,4 +1,4 @@
-use Rattle.std.proofs.Common.{refl}
+use Rattle.ld_parts.proofs.Names.{refl}
 use Rattle.ld_parts.proofs.part.Part.shortest_circle.Goals as goal
 
 pub returns-in_err-circle-clause-none : goal.returns-in_err-circle-clause-none

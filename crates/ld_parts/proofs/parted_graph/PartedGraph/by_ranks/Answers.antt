@@ -1,5 +1,4 @@
-use Rattle.std.proofs.Common.{slice_index, sym, subst, arith}
-use Rattle.ld_parts.specs.Inside.Parts.{AreHoused}
+use Rattle.ld_parts.proofs.Names.{AreHoused, arith, slice_index, subst, sym}
 use Rattle.ld_parts.proofs.Parting.{AreHoused-parts, not_crowded}
 use Rattle.ld_parts.proofs.parted_graph.PartedGraph.by_ranks.Goals as goal
 

@@ -1,7 +1,4 @@
-use Rattle.std.proofs.Common.{sym, subst}
-use Rattle.std.specs.Prelude.{◌↔◌, All, IsTrue}
-use Rattle.ld_facts.specs.FactBits.{HasFact}
-use Rattle.ld_graph.specs.Links.{IsClean}
+use Rattle.ld_parts.proofs.Names.{◌↔◌, All, HasFact, IsClean, IsTrue, subst, sym}
 use Rattle.ld_parts.proofs.Parts.{clean_parts}
 use Rattle.ld_parts.proofs.parted_graph.PartedGraph.is_clean.Goals as goal
 

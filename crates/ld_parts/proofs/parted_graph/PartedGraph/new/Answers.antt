@@ -1,7 +1,4 @@
-use Rattle.std.proofs.Common.{inl, inr, slice_index}
-use Rattle.std.proofs.lemmas.Bool.{cases_lt}
-use Rattle.ld_trace.specs.declared.key_id.TheConstants.{GRAPH_KEYS}
-use Rattle.ld_facts.specs.FactBits.{HasFact}
+use Rattle.ld_parts.proofs.Names.{GRAPH_KEYS, HasFact, cases_lt, inl, inr, slice_index}
 use Rattle.ld_parts.proofs.OneRank.{one_rank-fits}
 use Rattle.ld_parts.proofs.parted_graph.PartedGraph.new.Goals as goal
 

@@ -1,11 +1,4 @@
-use Rattle.std.proofs.Common.{◌≤◌, length, subst}
-use Rattle.std.specs.Prelude.{◌↔◌, All, IsNone, IfSome}
-use Rattle.std.proofs.lemmas.Option.{IfSome_then}
-use Rattle.ld_facts.specs.Arrows.{Arrow}
-use Rattle.ld_facts.specs.FactBits.{FactParts, HasFact}
-use Rattle.ld_parts.specs.Inside.Parts.{IsShortestOfFirst}
-use Rattle.ld_graph.specs.Walks.{IsShortestCircle, OnCircle}
-use Rattle.ld_facts.specs.Laws.Lists.{none_of}
+use Rattle.ld_parts.proofs.Names.{◌↔◌, ◌≤◌, All, Arrow, FactParts, HasFact, IfSome, IfSome_then, IsNone, IsShortestCircle, IsShortestOfFirst, OnCircle, length, none_of, subst}
 use Rattle.ld_parts.proofs.Parts.{no_circle, on_circle_parts, shortest_few, shortest_of_parts}
 use Rattle.ld_parts.proofs.parted_graph.PartedGraph.shortest_circle.Goals as goal
 

@@ -1,6 +1,4 @@
-use Rattle.std.proofs.Common.{◌∙◌, ap, length, subst, arith}
-use Rattle.ld_facts.specs.FactBits.{FactParts}
-use Rattle.ld_parts.specs.Inside.Parts.{AreApart, IsPartOf}
+use Rattle.ld_parts.proofs.Names.{◌∙◌, AreApart, FactParts, IsPartOf, ap, arith, length, subst}
 use Rattle.ld_parts.proofs.Parts.{are_apart, home_read, part_read, place_read}
 use Rattle.ld_parts.proofs.parted_graph.PartedGraph.together.Goals as goal
 

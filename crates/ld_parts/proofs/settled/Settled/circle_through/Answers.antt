@@ -1,8 +1,4 @@
-use Rattle.std.specs.Prelude.{is_some}
-use Rattle.std.proofs.Common.{ap, arith, ◌≡◌, length, refl, sym, subst, true, false}
-use Rattle.ld_facts.specs.Arrows.{arrow}
-use Rattle.ld_facts.specs.FactBits.{HasFact}
-use Rattle.ld_graph.specs.Walks.{IsShortestFrom}
+use Rattle.ld_parts.proofs.Names.{◌≡◌, HasFact, IsShortestFrom, ap, arith, arrow, false, is_some, length, refl, subst, sym, true}
 use Rattle.ld_parts.proofs.Pairs.{length-told}
 use Rattle.ld_parts.proofs.Parts.{no_circle_apart}
 use Rattle.ld_parts.proofs.settled.Settled.circle_through.Goals as goal

@@ -1,6 +1,4 @@
-use Rattle.std.specs.Prelude.{is_some}
-use Rattle.std.proofs.Common.{ap, refl}
-use Rattle.std.proofs.lemmas.Option.{IfSome_then}
+use Rattle.ld_parts.proofs.Names.{IfSome_then, ap, is_some, refl}
 use Rattle.ld_parts.proofs.Parts.{no_double_apart}
 use Rattle.ld_parts.proofs.settled.Settled.double_forms.Goals as goal
 

@@ -1,7 +1,4 @@
-use Rattle.std.specs.Prelude.{is_some}
-use Rattle.std.proofs.Common.{ap, arith, ◌≡◌, length, refl, sym, subst, true, false}
-use Rattle.ld_facts.specs.FactBits.{HasFact}
-use Rattle.ld_graph.specs.Links.{IsShortestInversion, link_by}
+use Rattle.ld_parts.proofs.Names.{◌≡◌, HasFact, IsShortestInversion, ap, arith, false, is_some, length, link_by, refl, subst, sym, true}
 use Rattle.ld_parts.proofs.Pairs.{length-told}
 use Rattle.ld_parts.proofs.Parts.{no_inversion_apart}
 use Rattle.ld_parts.proofs.settled.Settled.inversion_walk.Goals as goal

@@ -1,4 +1,4 @@
-use Rattle.std.proofs.Common.{◌≡◌, refl, true, false}
+use Rattle.ld_parts.proofs.Names.{◌≡◌, false, refl, true}
 use Rattle.ld_parts.proofs.Parts.{no_double_apart}
 use Rattle.ld_parts.proofs.settled.Settled.is_double.Goals as goal
 

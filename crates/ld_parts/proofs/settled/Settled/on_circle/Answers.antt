@@ -1,4 +1,4 @@
-use Rattle.std.proofs.Common.{◌≡◌, refl, true, false}
+use Rattle.ld_parts.proofs.Names.{◌≡◌, false, refl, true}
 use Rattle.ld_parts.proofs.Parts.{no_circle_apart}
 use Rattle.ld_parts.proofs.settled.Settled.on_circle.Goals as goal
 

@@ -1,5 +1,4 @@
-use Rattle.std.proofs.Common.{◌∙◌, ap, refl, sym}
-use Rattle.ld_parts.specs.Inside.Pairs.{facts_in}
+use Rattle.ld_parts.proofs.Names.{◌∙◌, ap, facts_in, refl, sym}
 use Rattle.ld_parts.proofs.Pairs.{pair_of_all, pair_of_part}
 use Rattle.ld_parts.proofs.settled.Settled.pair.Goals as goal
 

@@ -1,9 +1,4 @@
-use Rattle.std.proofs.Common.{◌∙◌, ap, subst, sym}
-use Rattle.std.specs.Prelude.{◌↔◌, IsNone}
-use Rattle.ld_facts.specs.Arrows.{Arrow}
-use Rattle.ld_facts.specs.FactBits.{FactParts, HasFact}
-use Rattle.ld_graph.specs.Walks.{OnCircle}
-use Rattle.ld_parts.specs.Inside.Pairs.{facts_in}
+use Rattle.ld_parts.proofs.Names.{◌↔◌, ◌∙◌, Arrow, FactParts, HasFact, IsNone, OnCircle, ap, facts_in, subst, sym}
 use Rattle.ld_parts.proofs.settled.Settled.shortest_circle.Goals as goal
 
 pub returns-in-One-clause-none : goal.returns-in-One-clause-none

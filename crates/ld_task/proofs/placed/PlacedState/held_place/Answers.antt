@@ -1,7 +1,4 @@
-use Rattle.std.proofs.Common.{ap, ◌∙◌, slice_get}
-use Rattle.ld_task.specs.Inside.Machine.{level_of}
-use Rattle.ld_task.specs.Inside.Placing.{places_at}
-use Rattle.ld_task.specs.Placed.{PlacedParts}
+use Rattle.ld_task.proofs.Names.{◌∙◌, PlacedParts, ap, level_of, places_at, slice_get}
 use Rattle.ld_task.proofs.LockPlaces.{place_of_held}
 use Rattle.ld_task.proofs.placed.PlacedState.held_place.Goals as goal
 

@@ -1,4 +1,4 @@
-use Rattle.std.proofs.Common.{refl}
+use Rattle.ld_task.proofs.Names.{refl}
 use Rattle.ld_task.specs.Positions.{positions_below}
 use Rattle.ld_task.specs.EndState.{state_at}
 use Rattle.ld_task.proofs.placed.PlacedState.new.Goals as goal

@@ -1,6 +1,4 @@
-use Rattle.std.proofs.Common.{◌≡◌, ap, ◌∙◌, remove}
-use Rattle.ld_task.specs.EndState.{EndState}
-use Rattle.ld_task.specs.Inside.Machine.{without}
+use Rattle.ld_task.proofs.Names.{◌∙◌, ◌≡◌, EndState, ap, remove, without}
 use Rattle.ld_task.proofs.LockPlaces.{length-without}
 use Rattle.ld_task.proofs.placed.PlacedState.release.Goals as goal
 

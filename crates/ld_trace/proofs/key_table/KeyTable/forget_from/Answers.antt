@@ -1,6 +1,4 @@
-use Rattle.std.proofs.Common.{sym}
-use Rattle.std.proofs.lemmas.List.{take-map}
-use Rattle.ld_trace.specs.Inside.Stored.{name_of, names_of}
+use Rattle.ld_trace.proofs.Names.{name_of, names_of, sym, take-map}
 use Rattle.ld_trace.proofs.StoredLemmas.{AreNumbered-first}
 use Rattle.ld_trace.proofs.key_table.KeyTable.forget_from.Goals as goal
 

@@ -1,6 +1,4 @@
-use Rattle.std.proofs.Common.{arith}
-use Rattle.std.proofs.lemmas.List.{length-map}
-use Rattle.ld_trace.specs.Inside.Stored.{name_of, names_of}
+use Rattle.ld_trace.proofs.Names.{arith, length-map, name_of, names_of}
 use Rattle.ld_trace.proofs.NameLemmas.{named-with_name}
 use Rattle.ld_trace.proofs.key_table.KeyTable.number_name.Goals as goal
 

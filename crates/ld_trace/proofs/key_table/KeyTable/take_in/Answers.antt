@@ -1,6 +1,4 @@
-use Rattle.std.proofs.Common.{◌≤◌, ◌∙◌, length, take}
-use Rattle.ld_trace.specs.Events.{KeysBelow}
-use Rattle.ld_trace.specs.TakingIn.{Within}
+use Rattle.ld_trace.proofs.Names.{◌∙◌, ◌≤◌, KeysBelow, Within, length, take}
 use Rattle.ld_trace.proofs.Alike.{traces-read-alike}
 use Rattle.ld_trace.proofs.TakenIn.{all-moved-below, length-first, moved-by-numbers}
 use Rattle.ld_trace.proofs.key_table.KeyTable.take_in.Goals as goal

@@ -1,6 +1,4 @@
-use Rattle.std.proofs.Common.{◌≡◌, ◌≤◌, ◌++◌, length, refl}
-use Rattle.std.proofs.Math.Seq.{take-length}
-use Rattle.ld_trace.specs.Pieces.{header_line}
+use Rattle.ld_trace.proofs.Names.{◌++◌, ◌≡◌, ◌≤◌, header_line, length, refl, take-length}
 use Rattle.ld_trace.proofs.PieceLemmas.{pieces-join}
 use Rattle.ld_trace.proofs.key_table.KeyTable.take_in_piece.Goals as goal
 

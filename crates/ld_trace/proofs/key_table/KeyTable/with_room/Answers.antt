@@ -1,4 +1,4 @@
-use Rattle.std.proofs.Common.{arith}
+use Rattle.ld_trace.proofs.Names.{arith}
 use Rattle.ld_trace.proofs.NameLemmas.{AreNumbered-none}
 use Rattle.ld_trace.proofs.key_table.KeyTable.with_room.Goals as goal
 

@@ -1,8 +1,4 @@
-use Rattle.std.proofs.Common.{◌∙◌, ◌++◌, ◌∷◌, [], ap, arith, length, map, refl, sym}
-use Rattle.std.proofs.lemmas.List.{length-map}
-use Rattle.ld_trace.specs.Classes.{name_by}
-use Rattle.ld_trace.specs.Names.{place_of, with_name}
-use Rattle.ld_trace.specs.Writing.{name_at}
+use Rattle.ld_trace.proofs.Names.{[], ◌++◌, ◌∙◌, ◌∷◌, ap, arith, length, length-map, map, name_at, name_by, place_of, refl, sym, with_name}
 use Rattle.ld_trace.proofs.Alike.{with_all-within}
 use Rattle.ld_trace.proofs.ClassLemmas.{name_at-map, numbers-all, with_name-longer}
 use Rattle.ld_trace.proofs.TakenIn.{leads-below, one-taken}

@@ -1,7 +1,5 @@
-use Rattle.std.proofs.Common.{◌≡◌, ◌≤◌, [], length, map, take}
-use Rattle.ld_trace.specs.Classes.{name_by}
-use Rattle.ld_trace.specs.TakingIn.{Leads, with_all}
-use Rattle.ld_trace.specs.declared.key_id.TheConstants.{MAX_KEYS}
+use Rattle.ld_trace.proofs.Names.{[], ◌≡◌, ◌≤◌, Leads, MAX_KEYS, length, map, name_by, take}
+use Rattle.ld_trace.specs.TakingIn.{with_all}
 use Rattle.ld_trace.proofs.renaming.Renaming.of.Given as goal
 
 -- the names before this place have their numbers

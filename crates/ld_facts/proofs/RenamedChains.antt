@@ -1,20 +1,9 @@
 -- The facts under a renaming of keys are what the facts say with other keys.
-use Rattle.std.proofs.Common.{◌≡◌, ℕ, ◌<◌, List, [], ◌∷◌, Option, Some, None, refl, ap, sym, ◌∙◌, subst, inl, inr, arith}
-use Rattle.std.proofs.lemmas.List.{get_or-map, length-map}
-use Rattle.std.proofs.lemmas.Option.{none-some, same_Some}
-use Rattle.std.specs.Prelude.{Contains, IsTrue, map, option_map}
-use Rattle.ld_task.specs.Chains.{ChainParts}
+use Rattle.ld_facts.proofs.Names.{[], ◌<◌, ◌∙◌, ◌∷◌, ◌≡◌, ChainHas, ChainParts, Contains, Dependency, Fact, Image, IsTrue, List, Marked, None, Option, RenamedFactsAreTheImage, Some, TraceFactsAreTheChains, TraceHas, TraceHasBy, TracesHaveBy, ap, arith, chain_by, fact_by, get_or-map, inl, inr, length-map, lock_by, map, marks_opened, marks_taken, may_wait, none-some, refl, same_Some, subst, sym, ℕ}
+use Rattle.std.specs.Prelude.{option_map}
 use Rattle.ld_task.specs.TraceChains.{chains}
 use Rattle.ld_task.specs.Kinds.{kind_between}
-use Rattle.ld_task.specs.Marks.{marks_opened, marks_taken}
-use Rattle.ld_trace.specs.Modes.{may_wait}
-use Rattle.ld_facts.specs.Facts.{ChainHas, TraceHas}
-use Rattle.ld_facts.specs.Laws.{TraceFactsAreTheChains}
 use Rattle.ld_facts.specs.Laws.Lists.{Any-member, Contains-cases, Contains-head, Contains-later}
-use Rattle.ld_facts.specs.Renaming.{Image, TracesHaveBy, RenamedFactsAreTheImage, TraceHasBy, chain_by, lock_by}
-use Rattle.ld_facts.specs.Renumbered.{fact_by}
-use Rattle.ld_facts.specs.declared.fact.Fact.{Fact}
-use Rattle.ld_facts.specs.declared.fact.Fact.TheVariants.{Dependency, Marked}
 
 -- ---- lists and options
 Contains-map : {X Y : Type 0} (f : X → Y) (xs : List X) (x : X) → Contains xs x → Contains (map f xs) (f x)
