@@ -1,7 +1,6 @@
 //! The blocks of an explanation, one for each finding.
 
 ghost use Rattle.std.specs.Prelude.{◌≡◌, ◌++◌, IfOk, OnOk, codes, flat_map, string_bytes};
-ghost use Rattle.ld_explain.specs.declared.finding.Finding.{Finding};
 ghost use Rattle.ld_text.specs.Explanation.{block_text, circle_head, explanation_text};
 ghost use Rattle.ld_text.specs.Report.{double_line, inversion_line};
 
@@ -60,11 +59,7 @@ impl Explainer<'_> {
     }
 
     // The block of a finding.
-    pub(crate) fn add_block(
-        &self,
-        text: &mut String,
-        finding: &Finding,
-    ) -> Result<(), AllocError>
+    pub(crate) fn add_block(&self, text: &mut String, finding: &Finding) -> Result<(), AllocError>
         ensures { OnOk result (string_bytes text.new ≡ string_bytes text.old ++ block_text self.now finding.now) }
     {
         match finding {

@@ -2,7 +2,6 @@
 
 ghost use Rattle.std.specs.Prelude.{◌≡◌, ◌∷◌, [], OnOk, codes};
 ghost use Rattle.json.specs.Token.{string};
-ghost use Rattle.ld_explain.specs.declared.finding.Finding.{Finding};
 ghost use Rattle.ld_text.specs.Explanation.{event_of};
 ghost use Rattle.ld_text.specs.Json.{dependency_members, double_words, event_members, finding_members, held_members, inversion_words, list_member, object, object_member, occurrence_members, order_object, taken_mode, use_members};
 ghost use Rattle.ld_text.specs.Inside.Tokens.{Adds};

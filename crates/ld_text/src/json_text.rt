@@ -1,7 +1,6 @@
 //! The findings as JSON, for programs to read: what the explanation says, an object for each finding.
 
 ghost use Rattle.std.specs.Prelude.{◌≡◌, ◌++◌, [], IfOk, OnOk, codes, drop, flat_map};
-ghost use Rattle.ld_explain.specs.declared.finding.Finding.{Finding};
 ghost use Rattle.ld_text.specs.Json.{finding_line, json_text};
 
 use crate::explainer::Explainer;
@@ -46,11 +45,7 @@ fn begin_line(alloc: Global, text: &mut Vec<u8>) -> Result<Writer, AllocError>
 
 impl Explainer<'_> {
     // The line of a finding.
-    pub(crate) fn add_object(
-        &self,
-        text: &mut Vec<u8>,
-        finding: &Finding,
-    ) -> Result<(), AllocError>
+    pub(crate) fn add_object(&self, text: &mut Vec<u8>, finding: &Finding) -> Result<(), AllocError>
         ensures { OnOk result (text.new.items ≡ text.old.items ++ finding_line self.now finding.now) }
     {
         let mut w = begin_line(self.alloc, text)?;

@@ -228,9 +228,6 @@ impl Explainer<'_> {
         ensures { OnOk result (string_bytes text.new ≡ string_bytes text.old ++ comes_line self.now.names irq key) }
     {
         let (state, key) = (irq_word(irq), self.key(key));
-        writeln!(
-            text,
-            "  a {state} comes in at task 1 and waits for {key}"
-        )
+        writeln!(text, "  a {state} comes in at task 1 and waits for {key}")
     }
 }

@@ -34,11 +34,7 @@ impl Explainer<'_> {
     }
 
     // The note of a lock that is always held round dependencies.
-    pub(crate) fn add_gate_note(
-        &self,
-        text: &mut String,
-        gate: &GateNote,
-    ) -> Result<(), AllocError>
+    pub(crate) fn add_gate_note(&self, text: &mut String, gate: &GateNote) -> Result<(), AllocError>
         ensures { OnOk result (string_bytes text.new ≡ string_bytes text.old ++ gate_note self.now.names gate.now) }
     {
         text.push_str("always inside ")?;
@@ -47,11 +43,7 @@ impl Explainer<'_> {
     }
 
     // The line of such a note.
-    pub(crate) fn add_gate_line(
-        &self,
-        text: &mut String,
-        gate: &GateNote,
-    ) -> Result<(), AllocError>
+    pub(crate) fn add_gate_line(&self, text: &mut String, gate: &GateNote) -> Result<(), AllocError>
         ensures { OnOk result (string_bytes text.new
             ≡ string_bytes text.old ++ note_line (gate_note self.now.names gate.now)) }
     {
