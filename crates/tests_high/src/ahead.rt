@@ -2,7 +2,7 @@
 
 ghost use Rattle.std.specs.Prelude.{None};
 
-use ld_run::{ReadFault, Sources, Unread, read_all};
+use ld_read::{ReadFault, Sources, Unread, read_all};
 use ld_trace::{KeyId, KeyTable, RawTrace, TraceFault, TraceFaultKind, trace_text};
 use std::alloc::{AllocError, Global};
 use std::process::Abort;

@@ -1,6 +1,6 @@
 //! One trace that several threads read in pieces.
 
-use ld_run::read_in_pieces;
+use ld_read::read_in_pieces;
 use ld_trace::{KeyTable, RawTrace, TraceFault, read_trace};
 use std::alloc::Global;
 use std::thread::Threads;
