@@ -23,7 +23,8 @@ const ROUND: usize = 1_048_576;
 /// Reads the traces of the first `count` sources over one table, and puts them after the others. The result is that of reading them
 /// in turn, whatever the number of threads and the size of the groups: with more than one, later sources may be opened and read before
 /// an earlier one was read whole, each thread over a table of its own. A thread reads a group of short sources by one CSV reader; and
-/// the threads read pieces of a source that is the only one.
+/// the threads read pieces of a source that is the only one. What fails ahead of several sources is tried again, so it isn't told if it
+/// succeeds in its turn; a read of the only source that fails is always told.
 ///
 /// If a source can't be opened, or its trace is refused, the first such source is returned with its place and why it wasn't read; the
 /// traces before it are kept, and the names are those that reading in turn leaves.

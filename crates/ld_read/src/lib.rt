@@ -10,6 +10,7 @@ mod pieces;
 mod sources;
 mod taking;
 mod unread;
+mod until_failure;
 
 pub use in_turn::{read_all, read_into};
 pub use pieces::read_in_pieces;

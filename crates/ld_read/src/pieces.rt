@@ -11,6 +11,7 @@ ghost use Rattle.ld_trace.specs.Reading.{ReadsTo, StopsAt};
 ghost use Rattle.ld_read.specs.Inside.Pieces.{Advances, IsPiece, MayBePiece, ReadsOn, left_of};
 
 use crate::in_turn::no_room;
+use crate::until_failure::UntilFailure;
 use ld_trace::{
     KeyTable, MAX_KEYS, RawTrace, TraceFault, Version, headers_read, read_on, read_trace,
 };
@@ -33,7 +34,8 @@ pub(crate) struct Piece {
 
 /// Reads a trace as `read_trace` does, by as many threads, of which each reads about `size` bytes at a time. Whatever can't be read
 /// apart is read in turn: a header that isn't exactly `lockdep,1` or `lockdep,2` and a newline, and everything from a faulty record on.
-/// Faults are those of `read_trace`, and T9 at record 1 if memory for the pieces is refused.
+/// Faults are those of `read_trace`, and T9 at record 1 if memory for the pieces is refused. The reader isn't read again after a read
+/// that failed, so that this is T8 at the record at which it failed, and nothing else.
 pub fn read_in_pieces<R: Threads + Sync, S: Read + Drop>(
     rt: &R,
     alloc: Global,
@@ -54,7 +56,7 @@ pub fn read_in_pieces<R: Threads + Sync, S: Read + Drop>(
         return read_trace(alloc, reader, keys);
     }
     let room = threads.saturating_mul(size).max(1);
-    let Ok(mut source) = BufReader::with_capacity(alloc, room, reader) else {
+    let Ok(mut source) = BufReader::with_capacity(alloc, room, UntilFailure::new(reader)) else {
         return Err(no_room());
     };
     let mut line = Vec::new(alloc);
