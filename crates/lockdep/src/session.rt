@@ -85,7 +85,8 @@ impl Session {
     }
 
     /// Reads the traces of the first `count` sources by several threads, in groups of `group`, and keeps them after the others. The
-    /// result is that of reading them in turn by `add`, whatever the number of threads and the size of the groups; see `read_all`.
+    /// result is that of reading them in turn by `add`, whatever the number of threads and the size of the groups, but that what fails
+    /// ahead of several sources and then succeeds in its turn isn't told; see `read_all`.
     pub fn add_all<R: Threads + Sync, S: Sources + Sync>(
         &mut self,
         rt: &R,
