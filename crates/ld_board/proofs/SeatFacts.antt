@@ -48,7 +48,7 @@ module _ (keys : ℕ) (chain : ChainParts) (words : List (ℕ × ℕ)) (are : Ar
     (λ holds. Within-facts each keys words seen are.fits are.none_past (λ x p. holds x ((are.facts x).0 p))),
   )
 
-  -- in each of them all that was put was seen
+  -- what is in each of their words is in those of others
   pub saw_own : (put seen : List (ℕ × ℕ)) → All (λ p. Within (bits_of p.0 put) (bits_of p.0 seen)) words
       → (x y : Fact) → ChainHas chain x → ShareWord keys x y → PairsHave keys put y → PairsHave keys seen y
   saw_own put seen mine x y has share (below, on) =

@@ -36,10 +36,11 @@ abbrev pub ShareWord : (keys : ℕ) → Fact → Fact → Type 0
 ShareWord keys x y = fact_number keys x / 64 ≡ fact_number keys y / 64
 
 -- the seat looked at these words, and has now seen what was found in them and what it had seen before; the words of all
--- facts that Has names are among them
+-- facts that Has names are among them, and in those it found all that it had put or seen
 pub record HasLoaded (keys : ℕ) (Has : Fact → Type 0) (old new : View) (loaded : List (ℕ × ℕ)) : Type 0 where
   pub seen : new.seen ≡ loaded ++ old.seen
   pub each : (x : Fact) → Has x → Any (λ p. p.0 ≡ fact_number keys x / 64) loaded
+  pub own : (x y : Fact) → Has x → ShareWord keys x y → KnowsFact keys old y → PairsHave keys loaded y
 
 -- how often x stands in the list
 abbrev pub times : ℕ → List ℕ → ℕ

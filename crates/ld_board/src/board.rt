@@ -10,7 +10,7 @@ ghost use Rattle.ld_facts.specs.Facts.{Adds, AreSame, ChainHas, Holds};
 ghost use Rattle.ld_facts.specs.Numbers.{fact_number};
 ghost use Rattle.ld_facts.specs.WordPairs.{word_total, NonePast, PairsHave};
 ghost use Rattle.ld_facts.specs.declared.fact.Fact.{Fact};
-ghost use Rattle.ld_board.specs.Views.{newcomer, once_below, times, with_claim, HasLoaded, KnowsFact, PutHas, PutsOnly, SeenHas, ShareWord};
+ghost use Rattle.ld_board.specs.Views.{newcomer, once_below, times, with_claim, HasLoaded, KnowsFact, PutHas, PutsOnly, SeenHas};
 ghost use Rattle.ld_board.specs.Seats.{view, claims_of};
 ghost use Rattle.ld_board.specs.Inside.Gathered.{joined_onto};
 ghost use Rattle.ld_board.specs.declared.seat.TheConstants.{MAX_CLAIMS};
@@ -107,7 +107,7 @@ impl Board {
     }
 
     /// Loads the words that hold bits of the chain's facts, and returns whether all of these facts were found there.
-    /// The caller makes sure that the seat is one of this board, and that the chain's keys are below the board's bound.
+    /// What the seat had put or seen in these words was found as well. The caller makes sure that the seat is one of this board, and that the chain's keys are below the board's bound.
     pub fn covers(&self, seat: &mut Seat, chain: &Chain) -> bool
         requires seat { IsSeatOf self.now seat.old }
         requires below { ChainKeysBelow (keys_of self.now) chain.now }
@@ -115,8 +115,6 @@ impl Board {
         ensures answer { IsTrue result ↔ Holds (SeenHas (keys_of self.now) (view seat.new)) (ChainHas chain.now) }
         ensures loaded { (loaded : List (ℕ × ℕ)) × HasLoaded (keys_of self.now) (ChainHas chain.now) (view seat.old) (view seat.new) loaded
             × (IsTrue result ↔ Holds (PairsHave (keys_of self.now) loaded) (ChainHas chain.now)) }
-        ensures mine { (x y : Fact) → ChainHas chain.now x → ShareWord (keys_of self.now) x y
-            → PutHas (keys_of self.now) (view seat.old) y → SeenHas (keys_of self.now) (view seat.new) y }
         ensures put { (view seat.new).put ≡ (view seat.old).put }
         ensures claimed { (view seat.new).claimed ≡ (view seat.old).claimed }
         ensures seen { Holds (SeenHas (keys_of self.now) (view seat.new)) (SeenHas (keys_of self.now) (view seat.old)) }

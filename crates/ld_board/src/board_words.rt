@@ -167,8 +167,8 @@ impl Board {
         ensures answer { IsTrue result ↔ ((n : ℕ) → Within (bits_of n seat.old.words) (bits_of n (view seat.new).seen)) }
         ensures loaded { (loaded : List (ℕ × ℕ)) × ((view seat.new).seen ≡ loaded ++ (view seat.old).seen)
             × All (λ p. Any (λ q. q.0 ≡ p.0) loaded) seat.old.words
+            × All (λ p. Within (bits_of p.0 ((view seat.old).put ++ (view seat.old).seen)) (bits_of p.0 loaded)) seat.old.words
             × (IsTrue result ↔ ((n : ℕ) → Within (bits_of n seat.old.words) (bits_of n loaded))) }
-        ensures mine { All (λ p. Within (bits_of p.0 (view seat.old).put) (bits_of p.0 (view seat.new).seen)) seat.old.words }
         ensures put { (view seat.new).put ≡ (view seat.old).put }
         ensures claimed { (view seat.new).claimed ≡ (view seat.old).claimed }
         ensures seen { (n : ℕ) → Within (bits_of n (view seat.old).seen) (bits_of n (view seat.new).seen) }

@@ -7,7 +7,3 @@ pub mod Settlements
 pub mod Counts
 pub mod Working
 pub mod Crews
-pub mod AheadLemmas
-pub mod JoinedTexts
-pub mod AreReadLemmas
-pub mod PieceLemmas

@@ -10,6 +10,7 @@ use Rattle.ld_run.specs.Runs.{CompletesRun, EndsRun, IsCrew, StopsRun}
 use Rattle.ld_run.specs.Settling.{Settles}
 use Rattle.ld_run.specs.declared.fault.RunFault.{RunFault}
 use Rattle.ld_run.specs.declared.fault.RunFault.TheVariants.{Unsettled, Refused}
+use Rattle.ld_trace.specs.declared.key_id.TheConstants.{GRAPH_KEYS}
 use Rattle.ld_trace.specs.declared.raw_trace.TheConstants.{MAX_TRACES}
 
 pub settles-same : (book : BookParts) (facts tallies : FactParts) → facts.keys ≡ book.keys → AreSame (HasFact facts) (JournalHas book.journal) → ((facts.keys ≡ tallies.keys) × AreSame (HasFact facts) (HasFact tallies)) ↔ Settles book tallies
@@ -28,10 +29,10 @@ settles-same book facts tallies keys facts_are = (
 )
 
 -- settling with the tally of all traces ends the run
-pub settled_ends : (traces : List (List Event)) (keys workers : ℕ) (facts : FactParts) (r : Result FactParts RunFault) → IfOk r (λ settled. settled ≡ facts) → IfErr r (λ fault. fault ≡ Unsettled) → CompletesRun traces workers facts → EndsRun traces keys workers r
-settled_ends traces keys workers facts (Ok settled) same none completed = subst (CompletesRun traces workers) (sym same) completed
-settled_ends traces keys workers facts (Err fault) none is completed =
-    subst (StopsRun traces keys workers) (sym is) (completed.crew, completed.few, completed.well_formed)
+pub settled_ends : (traces : List (List Event)) (keys workers : ℕ) (facts : FactParts) (r : Result FactParts RunFault) → IfOk r (λ settled. settled ≡ facts) → IfErr r (λ fault. fault ≡ Unsettled) → keys ≤ GRAPH_KEYS → CompletesRun traces workers facts → EndsRun traces keys workers r
+settled_ends traces keys workers facts (Ok settled) same none low completed = subst (CompletesRun traces workers) (sym same) completed
+settled_ends traces keys workers facts (Err fault) none is low completed =
+    subst (StopsRun traces keys workers) (sym is) (completed.crew, completed.few, completed.well_formed, low)
 
 -- a trace that isn't well formed ends the run
 pub refused_ends : (traces : List (List Event)) (keys workers : ℕ) (trace : ℕ) (first : StepAt) (fault : RunFault) → fault ≡ Refused trace first.place first.fault → IsCrew workers → length traces ≤ MAX_TRACES → IsFirstRefused traces trace first → StopsRun traces keys workers fault

@@ -1,5 +1,3 @@
 pub mod Crews
 pub mod Walks
-pub mod Ahead
-pub mod Pieces
 pub mod Walked

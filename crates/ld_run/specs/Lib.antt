@@ -5,4 +5,3 @@ pub mod Settling
 pub mod Tallies
 pub mod Condensing
 pub mod Work
-pub mod Reading

@@ -24,12 +24,13 @@ pub record CompletesRun (traces : List (List Event)) (workers : ℕ) (facts : Fa
 
 -- the run of this many workers over these traces of this many keys was refused: because of the number of workers;
 -- because of the number of traces; at the first trace that isn't well formed, with its first event that isn't allowed;
--- because memory was refused; because the facts differ; or because the keys are tangled, and more than 256. The last two
--- only happen if all traces are well formed
+-- because memory was refused; because the facts differ, and at most 256 keys; or because the keys are tangled, and more
+-- than 256. The last two only happen if all traces are well formed
 abbrev pub StopsRun : List (List Event) → (keys workers : ℕ) → RunFault → Type 0
 StopsRun traces keys workers BadWorkers = ¬ IsCrew workers
 StopsRun traces keys workers TooManyTraces = IsCrew workers × (MAX_TRACES < length traces)
-StopsRun traces keys workers Unsettled = IsCrew workers × (length traces ≤ MAX_TRACES) × All IsWellFormed traces
+StopsRun traces keys workers Unsettled =
+    IsCrew workers × (length traces ≤ MAX_TRACES) × All IsWellFormed traces × (keys ≤ GRAPH_KEYS)
 StopsRun traces keys workers Memory = IsCrew workers × (length traces ≤ MAX_TRACES)
 StopsRun traces keys workers (Refused trace place fault) =
     IsCrew workers × (length traces ≤ MAX_TRACES) ×

@@ -136,8 +136,8 @@ fn conclude(
     together: &Facts,
     refused: Option<(usize, StepAt)>,
 ) -> Result<Settled, RunFault>
-    ensures ends { (traces : List (List Event)) (keys workers : ℕ) → IsCrew workers → length traces ≤ MAX_TRACES
-        → IsTally traces together.now refused → EndsRun traces keys workers result }
+    ensures ends { (traces : List (List Event)) (keys workers : ℕ) → keys ≤ GRAPH_KEYS → IsCrew workers
+        → length traces ≤ MAX_TRACES → IsTally traces together.now refused → EndsRun traces keys workers result }
     ensures keys { IfOk result (λ settled. settled.keys ≡ together.now.keys) }
     ensures allowed { ¬ IsErrOf result RunFault.BadWorkers × ¬ IsErrOf result RunFault.TooManyTraces }
 {

@@ -1,10 +1,11 @@
 -- The command line, as clap's own definition reads it [this project's own].
-use Rattle.std.specs.Prelude.{◌≡◌, ◌⊎◌, ⊤, ℕ, pos, Bool, true, IsTrue, IsFalse, List, [], ◌∷◌, Option, Some, map, option_map, unwrap_or, codes}
+use Rattle.std.specs.Prelude.{◌≡◌, ◌≢◌, ◌⊎◌, ⊤, ℕ, pos, Bool, true, IsTrue, IsFalse, List, [], ◌∷◌, Option, Some, map, option_map, unwrap_or, codes}
 use Rattle.std.specs.Str.Parse.{IsNumeral, digits_value, without_leading_plus}
 use Rattle.clap.specs.Lexer.{usize_max}
 use Rattle.clap.specs.Words.{App, Row, Rule, Shape, Text, IsAmong, all_of, fault_of, first_of, new_app, new_rule, one_of, subcommand_of, with_rule, with_subcommand}
 use Rattle.clap.specs.declared.builder.value_parser.ValueParser.TheVariants.{Signed}
 use Rattle.clap.specs.declared.builder.action.ArgAction.TheVariants.{SetTrue}
+use Rattle.clap.specs.declared.error.kind.ErrorKind.{ErrorKind}
 use Rattle.clap.specs.declared.error.kind.ErrorKind.TheVariants.{DisplayHelp, DisplayVersion}
 use Rattle.ld_words.specs.declared.words.LineFault.{LineFault}
 use Rattle.ld_words.specs.declared.words.LineFault.TheVariants.{Help, Refused, Memory}
@@ -127,8 +128,13 @@ abbrev pub AskForText : List Text → Type 0
 AskForText words =
     IsAmong DisplayHelp (fault_of lockdep_app words) ⊎ IsAmong DisplayVersion (fault_of lockdep_app words)
 
+-- the words are refused by clap's definition, and not because they ask for a text
+abbrev pub AreRefused : List Text → Type 0
+AreRefused words =
+    (kind : ErrorKind) × IsAmong kind (fault_of lockdep_app words) × (kind ≢ DisplayHelp) × (kind ≢ DisplayVersion)
+
 -- why the words ask for nothing that the program does with traces
 abbrev pub IsLineFault : List Text → LineFault → Type 0
 IsLineFault words (Help error) = AskForText words
-IsLineFault words Refused = ⊤
+IsLineFault words Refused = AreRefused words
 IsLineFault words Memory = ⊤

@@ -52,7 +52,7 @@ pub enum Line<'a> {
 pub enum LineFault {
     /// Help or the version was asked for. The error's text is what to write.
     Help(clap::Error),
-    /// P1: the words aren't a command line of the program.
+    /// P1: the words aren't a command line of the program, by `clap`'s definition.
     Refused,
     /// P4: memory was refused.
     Memory,
@@ -246,8 +246,9 @@ fn workers_and_files<'a>(
         (map (λ file. file.now) read.1.items)) }
     ensures no_help { IfErr result (λ fault. (words : List (List ℕ)) → IsLineFault words fault) }
 {
+    // There is always a number: the option has a default. P1 would be untrue of words that `clap` has taken.
     let Some(workers) = found.get_one::<u16>("workers") else {
-        return Err(LineFault::Refused);
+        return Err(LineFault::Memory);
     };
     match files_of(alloc, found) {
         Ok(files) => Ok((workers, files)),
@@ -307,8 +308,9 @@ fn line_of<'a>(alloc: Global, matches: &ArgMatches<'a>) -> Result<Line<'a>, Line
         let (workers, files) = workers_and_files(alloc, found)?;
         return Ok(Line::Condense { workers, files });
     }
+    // There is no other subcommand.
     let Some(found) = matches.subcommand_matches("chains") else {
-        return Err(LineFault::Refused);
+        return Err(LineFault::Memory);
     };
     let file = found.get_str("FILE");
     Ok(Line::Chains { file })

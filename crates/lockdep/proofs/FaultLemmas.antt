@@ -76,7 +76,7 @@ pub StopsText-crew : (output : OutputView) (traces : List (List Event)) (names :
 StopsText-crew output traces names some others old new same (Step trace at fault) stops = (stops.0, (same.0 stops.1.0, stops.1.1, stops.1.2), stops.2, stops.3)
 StopsText-crew output traces names some others old new same (Run run.BadWorkers) stops = (λ crew. stops.0 (same.1 crew), stops.1)
 StopsText-crew output traces names some others old new same (Run run.TooManyTraces) stops = ((same.0 stops.0.0, stops.0.1), stops.1)
-StopsText-crew output traces names some others old new same (Run run.Unsettled) stops = ((same.0 stops.0.0, stops.0.1, stops.0.2), stops.1)
+StopsText-crew output traces names some others old new same (Run run.Unsettled) stops = ((same.0 stops.0.0, stops.0.1, stops.0.2, stops.0.3), stops.1)
 StopsText-crew output traces names some others old new same (Run run.Memory) stops = ((same.0 stops.0.0, stops.0.1), stops.1)
 StopsText-crew output traces names some others old new same (Run (run.Refused trace place fault)) stops = absurd stops.0
 StopsText-crew output traces names some others old new same (Run run.TooTangled) stops = ((same.0 stops.0.0, stops.0.1, stops.0.2, stops.0.3), stops.1)

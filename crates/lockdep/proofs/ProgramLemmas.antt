@@ -1,5 +1,8 @@
--- Which traces a refusal names.
-use Rattle.std.proofs.Common.{◌≡◌, ◌==◌, true, Result, Ok, Err, IfErr, IsErr, IsErrAnd, ℕ, zero, suc, ◌<◌, List, [], ◌∷◌, Option, None, Bor, Contains, codes, length, map, slice_get, slice_index_or, Some, refl, sym, subst, arith, inl, inr}
+-- Which traces a refusal names, and what its line leaves.
+use Rattle.std.proofs.Common.{◌≡◌, ◌==◌, true, Result, Ok, Err, IfErr, IsErr, IsErrAnd, ℕ, zero, suc, ◌<◌, List, [], ◌∷◌, Option, None, Bor, Contains, codes, length, map, slice_get, slice_index_or, Some, refl, sym, ap, subst, arith, inl, inr}
+use Rattle.std.proofs.lemmas.List.{append-nil}
+use Rattle.std.specs.Io.KnownBytes.{Appends}
+use Rattle.ld_text.specs.Output.{AppendsBeginning}
 use Rattle.ld_text.specs.Words.{Text}
 use Rattle.ld_trace.specs.Names.{Name}
 use Rattle.lockdep.specs.Program.{IsReadingRefusal, StopsReading}
@@ -67,3 +70,9 @@ StopsReading-input room files input (Condensing fault) none h = absurd h
 pub IfErr-passed : {T E : Type 0} (r : Result T E) (e : E) (P : E → Type 0) → IsErr r × IsErrAnd r (λ x. x ≡ e) → P e → IfErr r P
 IfErr-passed (Ok x) e P is p = tt
 IfErr-passed (Err x) e P is p = subst P (sym is.1) p
+
+-- a whole text begins itself
+pub whole-begun : (old new : Option (List ℕ)) (text : List ℕ) → Appends old new text → AppendsBeginning old new text
+whole-begun None new text wrote = tt
+whole-begun (Some xs) None text wrote = absurd wrote
+whole-begun (Some xs) (Some ys) text wrote = (text, [], sym (append-nil text), ap Some wrote)

@@ -1,8 +1,11 @@
 -- The one line that says why the program refused. This project's own.
-use Rattle.std.specs.Prelude.{ℕ, List, ◌++◌, codes, decimal}
+use Rattle.std.specs.Prelude.{ℕ, List, ◌++◌, Option, Result, Ok, Err, codes, decimal}
+use Rattle.std.specs.Io.KnownBytes.{Appends}
 use Rattle.ld_trace.specs.TraceFaults.{code_of as trace_code_of}
 use Rattle.ld_task.specs.Faults.{code_of as step_code_of}
 use Rattle.ld_run.specs.Faults.{condense_code_of, run_code_of}
+use Rattle.ld_text.specs.Output.{AppendsBeginning}
+use Rattle.ld_text.specs.declared.write_fault.WriteFault.{WriteFault}
 use Rattle.lockdep.specs.declared.refusal.Refusal.{Refusal}
 use Rattle.lockdep.specs.declared.refusal.Refusal.TheVariants.{BadCommandLine, CannotOpen, Output, Memory, Reading, Step, Run, Condensing}
 
@@ -20,3 +23,8 @@ fault_line (Reading file fault) = record_line file.now fault.at (trace_code_of f
 fault_line (Step file at fault) = record_line file.now at (step_code_of fault)
 fault_line (Run fault) = codes "lockdep: " ++ (run_code_of fault ++ codes "\n")
 fault_line (Condensing fault) = codes "lockdep: " ++ (condense_code_of fault ++ codes "\n")
+
+-- how the line of a refusal was written, by the known bytes before and after: whole, or a beginning of it
+abbrev pub IsTold : (old new : Option (List ℕ)) → Refusal → Result ℕ WriteFault → Type 0
+IsTold old new refusal (Ok status) = Appends old new (fault_line refusal)
+IsTold old new refusal (Err fault) = AppendsBeginning old new (fault_line refusal)

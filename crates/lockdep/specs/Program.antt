@@ -12,7 +12,7 @@ use Rattle.ld_run.specs.Runs.{IsCrew}
 use Rattle.ld_trace.specs.declared.raw_trace.TheConstants.{MAX_TRACES}
 use Rattle.ld_text.specs.Words.{Text}
 use Rattle.ld_text.specs.ChainLines.{chains_text}
-use Rattle.ld_words.specs.CommandLine.{AskForText, IsLineOf}
+use Rattle.ld_words.specs.CommandLine.{AreRefused, AskForText, IsLineOf}
 use Rattle.lockdep.specs.Faults.{StopsText}
 use Rattle.ld_text.specs.Output.{AppendsBeginning}
 use Rattle.lockdep.specs.Texts.{OutputView, report, explanation, json, picture, condensed, IsTextOf}
@@ -220,10 +220,11 @@ abbrev pub RefusesHelp : (old new : Option (List ℕ)) → Refusal → Type 0
 RefusesHelp old new refusal =
     ((refusal ≡ Memory) × Keeps old new) ⊎ ((refusal ≡ Output) × ((text : List ℕ) × AppendsBeginning old new text))
 
--- the words ask for nothing that is done with traces, or for a text that wasn't written whole
+-- the words are refused by clap's definition, or memory was, or they ask for a text that wasn't written whole
 abbrev pub RefusesNoLine : List Text → (old new : Option (List ℕ)) → Refusal → Type 0
 RefusesNoLine words old new refusal =
-    (((refusal ≡ BadCommandLine) ⊎ (refusal ≡ Memory)) × Keeps old new) ⊎ (AskForText words × RefusesHelp old new refusal)
+    ((((refusal ≡ BadCommandLine) × AreRefused words) ⊎ (refusal ≡ Memory)) × Keeps old new)
+    ⊎ (AskForText words × RefusesHelp old new refusal)
 
 -- what the words ask for is refused in this way
 abbrev pub RefusesWords : List Text → (input old new : Option (List ℕ)) → Refusal → Type 0

@@ -1,7 +1,11 @@
 //! `lockdep`: checks recorded traces of tasks for lock orders that can deadlock.
 #![tactic(auto)]
 
-ghost use Rattle.std.specs.Prelude.{◌≡◌, IfOk, map, string_bytes};
+ghost use Rattle.std.specs.Prelude.{◌≡◌, ◌≤◌, ◌<◌, ◌⊎◌, ℕ, List, IfErr, IfOk, map, string_bytes};
+ghost use Rattle.ld_text.specs.Output.{AppendsBeginning};
+ghost use Rattle.lockdep.specs.FaultLines.{fault_line};
+ghost use Rattle.lockdep.specs.Program.{DoesWords};
+ghost use Rattle.lockdep.specs.declared.refusal.Refusal.{Refusal};
 
 use std::alloc::{AllocError, Global};
 use std::process::ExitCode;
@@ -30,8 +34,10 @@ use std::sync::Wait;
 use std::thread::Threads;
 use trace_files::{Adds, add_side_by_side};
 
-// The words of the command line, the program's name first.
-fn words_of(rt: &(impl Env + AllocGlobal)) -> Result<Vec<String>, Refusal<'static>> {
+// The words of the command line, the program's name first: P1 if one of them is no text, and P4 if memory is refused.
+fn words_of(rt: &(impl Env + AllocGlobal)) -> Result<Vec<String>, Refusal<'static>>
+    ensures { IfErr result (λ refusal. (refusal ≡ Refusal.BadCommandLine) ⊎ (refusal ≡ Refusal.Memory)) }
+{
     let words = match env::args(rt) {
         Ok(words) => words,
         Err(error) if error.kind() == io::ErrorKind::OutOfMemory => return Err(Refusal::Memory),
@@ -51,21 +57,37 @@ fn texts_of<'a>(alloc: Global, words: &'a [String]) -> Result<Vec<&'a str>, Allo
     Ok(texts)
 }
 
-// Runs the program over the process's own words, and returns its status.
+// Runs the program over the process's own words, which no contract can name, and returns its status. If they can't be read, that is
+// the refusal.
 fn run<R, I, O, E>(rt: &R, input: I, out: &mut O, err: &mut E) -> u8
 where
     R: Files + Adds + Env + Threads + Wait + Sync + AllocGlobal,
     I: Read + Drop,
     O: Write,
     E: Write,
+    ensures status { result ≤ 2 }
+    ensures done { result < 2 → (words : List (List ℕ)) × DoesWords words (I.remaining input) (O.contents out.old) (O.contents out.new) result }
+    ensures quiet { result < 2 → err.new ≡ err.old }
+    ensures refused { result ≡ 2 → (refusal : Refusal) × AppendsBeginning (E.contents err.old) (E.contents err.new) (fault_line refusal) }
 {
     let words = match words_of(rt) {
         Ok(words) => words,
-        Err(refusal) => return refuse(err, refusal).unwrap_or(REFUSED),
+        Err(refusal) => return refuse_words(err, refusal),
     };
     match texts_of(rt.alloc(), words.as_slice()) {
         Ok(texts) => program_side_by_side(rt, rt.alloc(), texts.as_slice(), input, out, err),
-        Err(_) => refuse(err, Refusal::Memory).unwrap_or(REFUSED),
+        Err(_) => refuse_words(err, Refusal::Memory),
+    }
+}
+
+// Writes the line of this refusal, as far as that can be written, and returns the status.
+fn refuse_words<E: Write>(err: &mut E, refusal: Refusal<'_>) -> u8
+    ensures status { result ≡ 2 }
+    ensures line { AppendsBeginning (E.contents err.old) (E.contents err.new) (fault_line refusal.entry) }
+{
+    match refuse(err, refusal) {
+        Ok(status) => status,
+        Err(_) => REFUSED,
     }
 }
 

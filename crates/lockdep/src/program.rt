@@ -1,6 +1,6 @@
 //! The program: a command line, the traces that it names, and what is written for them.
 
-ghost use Rattle.std.specs.Prelude.{◌≡◌, ◌<◌, ◌≤◌, [], ℕ, List, IfOk, IfErr, OnOk, OnErr, map};
+ghost use Rattle.std.specs.Prelude.{◌≡◌, ◌<◌, ◌≤◌, [], ℕ, List, Ok, Err, IfOk, IfErr, OnOk, OnErr, map};
 ghost use Rattle.std.specs.Io.KnownBytes.{Appends};
 ghost use Rattle.ld_trace.specs.declared.key_id.TheConstants.{MAX_KEYS};
 ghost use Rattle.lockdep.specs.Inside.Requests.{output_asked};
@@ -14,7 +14,7 @@ ghost use Rattle.lockdep.specs.declared.refusal.Refusal.{Refusal};
 use crate::chains::answer_chains;
 use crate::fault::ReportFault;
 use crate::output::Output;
-use crate::refusal::{REFUSED, Refusal, refuse};
+use crate::refusal::{REFUSED, Refusal, Tells};
 use crate::request::{OutputRequest, Request, request_of};
 use crate::session::Session;
 use crate::source::Source;
@@ -67,7 +67,8 @@ pub fn program<R: Files + Threads + Wait + Sync, I: Read + Drop, O: Write, E: Wr
 
 /// The same program, and the same in every word, but the runtime reads the files: with several workers, or many small
 /// files, later ones may be opened before an earlier one was read whole. What is written, and the status, are those of
-/// reading them in turn.
+/// reading them in turn; but if opening or reading one of several files fails ahead and then succeeds in its turn, that
+/// isn't told.
 pub fn program_side_by_side<
     R: Files + Adds + Threads + Wait + Sync,
     I: Read + Drop,
@@ -111,15 +112,15 @@ fn run_program<R: Files + Threads + Wait + Sync, A: Adds, I: Read + Drop, O: Wri
     }
 }
 
-// Does what the words ask for, or writes why not, and returns the status; or how `err` failed, if it did.
-fn answer_or_refuse<R: Files + Threads + Wait + Sync, A: Adds, I: Read + Drop, O: Write, E: Write>(
+// Does what the words ask for, or tells why not, and returns the status; or how telling it failed, if it did.
+fn answer_or_refuse<R: Files + Threads + Wait + Sync, A: Adds, I: Read + Drop, O: Write, T: Tells>(
     rt: &R,
     adds: &A,
     alloc: Global,
     words: &[&str],
     input: I,
     out: &mut O,
-    err: &mut E,
+    err: &mut T,
 ) -> Result<u8, WriteFault>
     ensures status { IfOk result (λ status. status ≤ 2) }
     ensures done { IfOk result (λ status. status < 2 → DoesWords (map (λ word. word.now) words.entry.now) (I.remaining input)
@@ -128,15 +129,17 @@ fn answer_or_refuse<R: Files + Threads + Wait + Sync, A: Adds, I: Read + Drop, O
     ensures refused { IfOk result (λ status. status ≡ 2 → (refusal : Refusal)
         × RefusesWords (map (λ word. word.now) words.entry.now) (I.remaining input)
         (O.contents out.old) (O.contents out.new) refusal
-        × Appends (E.contents err.old) (E.contents err.new) (fault_line refusal)) }
-    ensures untold { OnErr result ((refusal : Refusal)
+        × T.tells err.old refusal (Ok status) err.new) }
+
+    // Nothing but telling the refusal ends like this.
+    ensures untold { IfErr result (λ fault. (refusal : Refusal)
         × RefusesWords (map (λ word. word.now) words.entry.now) (I.remaining input)
         (O.contents out.old) (O.contents out.new) refusal
-        × AppendsBeginning (E.contents err.old) (E.contents err.new) (fault_line refusal)) }
+        × T.tells err.old refusal (Err fault) err.new) }
 {
     match answer(rt, adds, alloc, words, input, out) {
         Ok(status) => Ok(status),
-        Err(refusal) => refuse(err, refusal),
+        Err(refusal) => err.tell(refusal),
     }
 }
 

@@ -1,9 +1,11 @@
 //! Why the program refused, and the one line that says so.
 
-ghost use Rattle.std.specs.Prelude.{◌≡◌, IfOk, OnOk, OnErr};
+ghost use Rattle.std.specs.Prelude.{◌≡◌, ℕ, IfOk, OnOk, OnErr, Result};
 ghost use Rattle.std.specs.Io.KnownBytes.{Appends};
 ghost use Rattle.lockdep.specs.FaultLines.{fault_line, record_line};
 ghost use Rattle.ld_text.specs.Output.{AppendsBeginning};
+ghost use Rattle.ld_text.specs.declared.write_fault.WriteFault.{WriteFault};
+ghost use Rattle.lockdep.specs.declared.refusal.Refusal.{Refusal};
 
 use ld_run::{CondenseFault, RunFault};
 use ld_task::StepFault;
@@ -44,6 +46,27 @@ pub(crate) enum Refusal<'a> {
     Condensing(CondenseFault),
 }
 
+/// What a refusal is told to.
+pub(crate) trait Tells {
+    // How telling it may end, and what that leaves.
+    ghost tells: { Self → Refusal → Result ℕ WriteFault → Self → Type 0 };
+
+    /// Tells the refusal in its one line, and returns the status; or how telling it failed.
+    fn tell(&mut self, refusal: Refusal<'_>) -> Result<u8, WriteFault>
+        ensures status { IfOk result (λ status. status ≡ 2) }
+        ensures told { tells self.old refusal.entry result self.new };
+}
+
+impl<E: Write> Tells for E {
+    ghost use Rattle.lockdep.specs.FaultLines.{IsTold};
+
+    ghost tells = { λ old refusal result new. IsTold (E.contents old) (E.contents new) refusal result };
+
+    fn tell(&mut self, refusal: Refusal<'_>) -> Result<u8, WriteFault> {
+        refuse(self, refusal)
+    }
+}
+
 // Writes the line of a refused record.
 fn tell_record<W: Write>(w: &mut W, file: &str, at: usize, code: &str) -> Result<(), WriteFault>
     ensures ok { OnOk result (Appends (W.contents w.old) (W.contents w.new) (record_line file.now at code.now)) }
@@ -66,7 +89,7 @@ fn tell_record<W: Write>(w: &mut W, file: &str, at: usize, code: &str) -> Result
 }
 
 // Writes the line of a refusal.
-fn tell<W: Write>(w: &mut W, refusal: Refusal<'_>) -> Result<(), WriteFault>
+fn write_line<W: Write>(w: &mut W, refusal: Refusal<'_>) -> Result<(), WriteFault>
     ensures ok { OnOk result (Appends (W.contents w.old) (W.contents w.new) (fault_line refusal.entry)) }
     ensures err { OnErr result (AppendsBeginning (W.contents w.old) (W.contents w.new) (fault_line refusal.entry)) }
 {
@@ -89,7 +112,7 @@ pub(crate) fn refuse<W: Write>(w: &mut W, refusal: Refusal<'_>) -> Result<u8, Wr
     ensures line { OnOk result (Appends (W.contents w.old) (W.contents w.new) (fault_line refusal.entry)) }
     ensures err { OnErr result (AppendsBeginning (W.contents w.old) (W.contents w.new) (fault_line refusal.entry)) }
 {
-    match tell(w, refusal) {
+    match write_line(w, refusal) {
         Ok(()) => Ok(REFUSED),
         Err(fault) => Err(fault),
     }

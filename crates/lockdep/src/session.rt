@@ -5,7 +5,7 @@ ghost use Rattle.std.specs.Io.KnownBytes.{Appends};
 ghost use Rattle.ld_trace.specs.declared.event.Event.{Event};
 ghost use Rattle.ld_trace.specs.Events.{KeysBelow};
 ghost use Rattle.ld_trace.specs.Reading.{ReadsTo, StopsAt};
-ghost use Rattle.ld_run.specs.Reading.{AreRead, StopsAfter};
+ghost use Rattle.ld_read.specs.Reading.{AreRead, StopsAfter};
 ghost use Rattle.ld_task.specs.WellFormed.{IsWellFormed};
 ghost use Rattle.ld_graph.specs.Links.{IsClean};
 ghost use Rattle.ld_run.specs.Runs.{IsCrew};
@@ -17,7 +17,8 @@ ghost use Rattle.lockdep.specs.Texts.{IsTextOf, view_of};
 use crate::fault::ReportFault;
 use crate::output::{Output, write_output};
 use crate::settled::settled_of;
-use ld_run::{Gate, MAX_TRACES, MAX_WORKERS, RunFault, Sources, Unread, read_all, read_into};
+use ld_read::{Sources, Unread, read_all, read_into};
+use ld_run::{Gate, MAX_TRACES, MAX_WORKERS, RunFault};
 use ld_trace::{GRAPH_KEYS, KeyFault, KeyTable, MAX_KEYS, RawTrace, TraceFault, event_count};
 use std::alloc::Global;
 use std::io::{Read, Write};
@@ -84,7 +85,8 @@ impl Session {
     }
 
     /// Reads the traces of the first `count` sources by several threads, in groups of `group`, and keeps them after the others. The
-    /// result is that of reading them in turn by `add`, whatever the number of threads and the size of the groups; see `read_all`.
+    /// result is that of reading them in turn by `add`, whatever the number of threads and the size of the groups, but that what fails
+    /// ahead of several sources and then succeeds in its turn isn't told; see `read_all`.
     pub fn add_all<R: Threads + Sync, S: Sources + Sync>(
         &mut self,
         rt: &R,

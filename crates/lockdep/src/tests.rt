@@ -2,6 +2,7 @@
 
 mod chains;
 mod gates;
+mod groups;
 mod helpers;
 mod long;
 mod programs;

@@ -1,7 +1,7 @@
 //! How the traces of the files come into a session: in turn, or read ahead by several threads.
 
 ghost use denote.Param.Send.{IsSync};
-ghost use Rattle.std.specs.Prelude.{◌≡◌, ◌+◌, ◌<◌, ◌∷◌, ◌++◌, [], ℕ, List, Option, None, All, IfErr, IfSome, OnOk, OnErr, length, map};
+ghost use Rattle.std.specs.Prelude.{◌≡◌, ◌+◌, ◌<◌, ◌≤◌, ◌∷◌, ◌++◌, [], ℕ, List, Option, None, All, IfErr, IfSome, OnOk, OnErr, length, map, option_map, slice_get};
 ghost use Rattle.ld_trace.specs.Events.{KeysBelow};
 ghost use Rattle.ld_trace.specs.Reading.{ReadsTo};
 ghost use Rattle.ld_trace.specs.declared.event.Event.{Event};
@@ -11,7 +11,8 @@ ghost use Rattle.lockdep.specs.Program.{IsReadingRefusal, StopsReading};
 use crate::refusal::Refusal;
 use crate::session::Session;
 use crate::source::Source;
-use ld_run::{MAX_WORKERS, ReadFault, Sources, Unread};
+use ld_read::{ReadFault, Sources, Unread};
+use ld_run::MAX_WORKERS;
 use std::fs;
 use std::fs::File;
 use std::io::Read;
@@ -127,7 +128,7 @@ where
 
     // A pipe is neither opened early nor twice: opening it may wait, and what was read of it is gone.
     fn ahead(&self, place: usize) -> Option<Source<Stdin, R::File>> {
-        let file = *self.files.get(place)?;
+        let file = name_at(self.files, place)?;
         if !is_regular(self.rt, file) {
             return None;
         }
@@ -135,9 +136,16 @@ where
     }
 
     fn open(&self, place: usize) -> Option<Source<Stdin, R::File>> {
-        let file = *self.files.get(place)?;
+        let file = name_at(self.files, place)?;
         File::open(self.rt, file).ok().map(Source::File)
     }
+}
+
+// The name at this place, as it was given.
+fn name_at<'a>(files: &[&'a str], place: usize) -> Option<&'a str>
+    ensures { option_map (λ file. file.now) result ≡ slice_get (map (λ file. file.now) files.entry.now) place }
+{
+    files.get(place).copied()
 }
 
 // Whether the name is that of a regular file.
@@ -183,7 +191,9 @@ fn useful_threads(mean: u64, workers: u16, files: usize) -> usize {
 
 // How many files a thread claims at a time, and reads by one CSV reader: as many as have 64 KiB together, at most 64, and few enough
 // that each thread claims four times. One, unless the files are small.
-fn useful_group(mean: u64, threads: usize, files: usize) -> usize {
+pub(crate) fn useful_group(mean: u64, threads: usize, files: usize) -> usize
+    ensures { (1 ≤ result) × (result ≤ 64) }
+{
     if mean > SMALL_FILE {
         return 1;
     }

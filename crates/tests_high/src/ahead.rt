@@ -2,7 +2,7 @@
 
 ghost use Rattle.std.specs.Prelude.{None};
 
-use ld_run::{ReadFault, Sources, Unread, read_all};
+use ld_read::{ReadFault, Sources, Unread, read_all};
 use ld_trace::{KeyId, KeyTable, RawTrace, TraceFault, TraceFaultKind, trace_text};
 use std::alloc::{AllocError, Global};
 use std::process::Abort;
@@ -190,5 +190,61 @@ fn threads_read_as_one(rt: HostRuntime) {
             let opened = opened_in_turn(threads, case);
             assert_eq!(rt; got, Some((true, threads > 1, opened)));
         }
+    }
+}
+
+// Two texts in turn, at every place.
+#[derive(Clone, Copy)]
+struct InTurn;
+
+static IN_TURN: [&str; 2] = ["lockdep,1\nacq,A,0,w\n", "lockdep,1\nacq,B,0,w\nrel,B,0\n"];
+
+impl Sources for InTurn {
+    type Source = &'static [u8];
+
+    ghost holds = { λ texts place. None };
+
+    fn ahead(&self, place: usize) -> Option<&'static [u8]> {
+        self.open(place)
+    }
+
+    fn open(&self, place: usize) -> Option<&'static [u8]> {
+        Some(IN_TURN[place % 2].as_bytes())
+    }
+}
+
+// How many of 4,096 sources have the trace that is at its place, read by this many threads in groups of this size.
+fn right_ones<R: Threads + Sync>(
+    rt: &R,
+    alloc: Global,
+    threads: usize,
+    group: usize,
+) -> Option<usize> {
+    let mut keys = KeyTable::new(alloc).ok()?;
+    let mut traces = Vec::new(alloc);
+    read_all(
+        rt,
+        alloc,
+        threads,
+        group,
+        &InTurn,
+        4096,
+        &mut keys,
+        &mut traces,
+    )
+    .ok()?;
+    let events = traces.iter().map(|trace: &RawTrace| trace.len());
+    Some(
+        events
+            .enumerate()
+            .filter(|(place, len)| *len == place % 2 + 1)
+            .count(),
+    )
+}
+
+#[test]
+fn as_many_as_a_run_takes_are_read(rt: HostRuntime) {
+    for (threads, group) in [(1, 1), (1, 64), (4, 1)] {
+        assert_eq!(rt; right_ones(&rt, rt.alloc(), threads, group), Some(4096));
     }
 }

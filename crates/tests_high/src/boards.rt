@@ -19,7 +19,7 @@ use std::test::Fail;
 use std::thread;
 use std::thread::Threads;
 use tests_low::steps::Step::{Give, Write};
-use tests_low::steps::{A, B, C, chains_of};
+use tests_low::steps::{A, B, C, chains_of, last_chain};
 
 // The chains of one trace that takes the first lock, the second under it, releases the first and takes the third.
 fn released_between(alloc: Global) -> Result<Vec<Chain>, Fail> {
@@ -193,6 +193,22 @@ fn work_in_threads<R: Threads + Wait + Sync>(
     )
 }
 
+// Whether the book has the chain of each of the two traces, with its trace's number.
+fn are_recorded(book: &Book) -> Option<bool> {
+    let ((one, first), (other, second)) = (book.entry(0)?, book.entry(1)?);
+    let first_is_own = *first == own_chain(one)?;
+    Some(book.len() == 2 && one != other && first_is_own && *second == own_chain(other)?)
+}
+
+// The only chain of the trace with this number.
+fn own_chain(trace: u32) -> Option<Chain> {
+    match trace {
+        0 => last_chain(&[Write(A)]),
+        1 => last_chain(&[Write(B)]),
+        _ => None,
+    }
+}
+
 #[test]
 fn two_workers_in_threads_of_the_callers_own(rt: HostRuntime) -> Result<(), Fail> {
     let traces = one_lock_each(rt.alloc()).ok_or("no traces")?;
@@ -220,5 +236,6 @@ fn two_workers_in_threads_of_the_callers_own(rt: HostRuntime) -> Result<(), Fail
     } = two;
     let facts = close_two(rt.alloc(), board, one, two)?;
     assert!(rt; facts.has_mark(A, Mark::Used) && facts.has_mark(B, Mark::Used));
+    assert_eq!(rt; are_recorded(&book.into_book()), Some(true));
     Ok(())
 }

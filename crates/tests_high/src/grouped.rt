@@ -3,7 +3,7 @@
 ghost use Rattle.std.specs.Prelude.{None};
 
 use crate::ahead::{are_named, are_written};
-use ld_run::{ReadFault, Sources, Unread, read_all};
+use ld_read::{ReadFault, Sources, Unread, read_all};
 use ld_trace::{KeyTable, TraceFault, TraceFaultKind, read_joined};
 use std::alloc::Global;
 use std::process::Abort;

@@ -6,6 +6,8 @@ mod ahead;
 #[cfg(test)]
 mod boards;
 #[cfg(test)]
+mod books;
+#[cfg(test)]
 mod grouped;
 #[cfg(test)]
 mod lines;

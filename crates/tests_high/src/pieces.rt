@@ -1,8 +1,10 @@
 //! One trace that several threads read in pieces.
 
-use ld_run::read_in_pieces;
+use ld_read::read_in_pieces;
 use ld_trace::{KeyTable, RawTrace, TraceFault, read_trace};
 use std::alloc::Global;
+use std::io;
+use std::io::Read;
 use std::thread::Threads;
 
 // A text that is read: repeated, between a beginning and an end.
@@ -121,6 +123,71 @@ fn pieces_read_as_one(rt: HostRuntime) {
                 let alike = bytes.and_then(|bytes| reads(&rt, rt.alloc(), bytes, threads, size));
                 assert_eq!(rt; alike, Some(true));
             }
+        }
+    }
+}
+
+// A reader that gives at most seven bytes at a call, and fails once, when it has given some. The calls after that one succeed again.
+#[derive(Drop)]
+struct FailsOnce<'t> {
+    before: &'t [u8],
+    after: &'t [u8],
+    has_failed: bool,
+}
+
+impl FailsOnce<'_> {
+    fn new(text: &[u8], fails_after: usize) -> FailsOnce<'_> {
+        let (before, after) = text.split_at(fails_after.min(text.len()));
+        FailsOnce {
+            before,
+            after,
+            has_failed: false,
+        }
+    }
+}
+
+impl Read for FailsOnce<'_> {
+    fn read(&mut self, buf: &mut [u8]) -> io::Result<usize> {
+        if self.before.is_empty() && !self.has_failed {
+            self.has_failed = true;
+            self.before = self.after;
+            return Err(io::Error::from(io::ErrorKind::Other));
+        }
+        let count = self.before.len().min(buf.len()).min(7);
+        let (given, left) = self.before.split_at(count);
+        buf[..count].copy_from_slice(given);
+        self.before = left;
+        Ok(count)
+    }
+}
+
+// Whether a read that fails after this many bytes is told as T8 at the record that it was in, as reading in turn tells it, with the
+// same names.
+fn tells<R: Threads + Sync>(
+    rt: &R,
+    alloc: Global,
+    text: &[u8],
+    threads: usize,
+    bytes: usize,
+) -> Option<bool> {
+    let mut keys = KeyTable::new(alloc).ok()?;
+    let mut others = KeyTable::new(alloc).ok()?;
+    let failing = FailsOnce::new(text, bytes);
+    let apart = read_in_pieces(rt, alloc, threads, 50, failing, &mut keys);
+    let in_turn = read_trace(alloc, FailsOnce::new(text, bytes), &mut others);
+    let same = are_alike(&apart, &in_turn, &keys, &others);
+    let lines = text.iter().take(bytes).filter(|byte| **byte == b'\n');
+    let fault = apart.err()?;
+    Some(same && fault.code() == "T8 Source" && fault.at == lines.count().saturating_add(1))
+}
+
+#[test]
+fn a_read_that_fails_once_is_told(rt: HostRuntime) {
+    let text = text_of(rt.alloc(), &CASES[0]);
+    let text = text.as_ref().map(|text| text.as_bytes()).unwrap_or(b"");
+    for bytes in 0..239 {
+        for threads in [2, 4] {
+            assert_eq!(rt; tells(&rt, rt.alloc(), text, threads, bytes), Some(true));
         }
     }
 }

@@ -266,6 +266,50 @@ fn books_under_a_lock_say_the_same(rt: HostRuntime) {
     assert_eq!(rt; misfit_under_a_lock(&rt, rt.alloc()), None);
 }
 
+// What a book says about its size after the first trace of the two orders was recorded a hundred times.
+fn told_after_a_hundred(alloc: Global) -> Option<Size> {
+    let mut book = Book::new(alloc, 2, 1000).ok()?;
+    for trace in 0..100u32 {
+        book.record(trace, chain_at(0)?).ok()?;
+        book.record(trace, chain_at(1)?).ok()?;
+    }
+    Some(told(&book))
+}
+
+#[test]
+fn a_trace_that_is_recorded_a_hundred_times(rt: HostRuntime) {
+    assert_eq!(rt;
+        told_after_a_hundred(rt.alloc()),
+        Some((are(200, 200, 0, 1), 2, 200))
+    );
+}
+
+// What a book says to a chain that it knows, after each order of two of 256 keys was new to it, and its distinct chains then.
+fn said_after_many(alloc: Global) -> Option<(Said, u64)> {
+    let mut book = Book::new(alloc, GRAPH_KEYS, 100_000).ok()?;
+    for from in 0..GRAPH_KEYS {
+        for to in 0..GRAPH_KEYS {
+            let fresh = book
+                .record(0, last_chain(&[Write(from), Write(to)])?)
+                .ok()?
+                .fresh;
+            if !fresh {
+                return None;
+            }
+        }
+    }
+    let again = said(book.record(1, last_chain(&[Write(A), Write(B)])?));
+    Some((again, book.distinct()))
+}
+
+#[test]
+fn a_chain_that_is_known_after_65_536_new_ones(rt: HostRuntime) {
+    assert_eq!(rt;
+        said_after_many(rt.alloc()),
+        Some((Ok((false, false)), 65_536))
+    );
+}
+
 // Whether the graph of a book of both orders has both on circles.
 fn are_on_circles(alloc: Global) -> Option<bool> {
     let mut book = Book::new(alloc, 2, 10).ok()?;

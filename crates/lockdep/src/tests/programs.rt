@@ -1,8 +1,9 @@
 //! The program's status and what it writes; `tests/runs` runs it on many more lines, and on files.
 
-use crate::program::program;
+use crate::program::{program, program_side_by_side};
 use crate::tests::helpers::text_in;
 use crate::tests::writers::{FAILURES, Narrow};
+use crate::trace_files::Adds;
 use std::io;
 use std::process::Abort;
 use std::rt::Files;
@@ -98,15 +99,21 @@ static RUNS: [Run<'_>; 12] = [
     (&["lockdep"], "", (0, 9), (2, "", "lockdep:")),
 ];
 
-// Asserts how a run ends whose outputs fail in this way.
+// Asserts how a run ends whose outputs fail in this way, and whose files are read in turn, or side by side as `main` reads them.
 fn assert_run(
-    rt: &(impl Files + Threads + Wait + Sync + Abort + AllocGlobal),
+    rt: &(impl Files + Adds + Threads + Wait + Sync + Abort + AllocGlobal),
     (words, input, (out_fails_at, err_fails_at), ends): Run<'_>,
     failure: Option<io::ErrorKind>,
+    side_by_side: bool,
 ) {
+    let input = input.as_bytes();
     let mut out = Narrow::new(rt.alloc(), out_fails_at, failure);
     let mut err = Narrow::new(rt.alloc(), err_fails_at, failure);
-    let status = program(rt, rt.alloc(), words, input.as_bytes(), &mut out, &mut err);
+    let status = if side_by_side {
+        program_side_by_side(rt, rt.alloc(), words, input, &mut out, &mut err)
+    } else {
+        program(rt, rt.alloc(), words, input, &mut out, &mut err)
+    };
     let (out, err) = (text_in(out.taken.as_slice()), text_in(err.taken.as_slice()));
     assert_eq!(rt; (status, out, err), ends, "{words:?}");
 }
@@ -115,7 +122,9 @@ fn assert_run(
 fn runs_of_the_program(rt: HostRuntime) {
     for run in &RUNS {
         for (failure, _) in FAILURES {
-            assert_run(&rt, *run, failure);
+            for side_by_side in [false, true] {
+                assert_run(&rt, *run, failure, side_by_side);
+            }
         }
     }
 }

@@ -28,7 +28,7 @@ struct Run {
     used: &'static [u16],
 }
 
-static RUNS: [Run; 9] = [
+static RUNS: [Run; 10] = [
     Run {
         about: "two locks in both orders",
         keys: 2,
@@ -52,6 +52,20 @@ static RUNS: [Run; 9] = [
         fault: None,
         dependencies: &[(A, B, Kind::En)],
         clean: true,
+        used: &[A, B],
+    },
+    Run {
+        about: "two locks in both orders, with as many workers as are allowed at work",
+        keys: 2,
+        traces: &[
+            &[Write(A), Write(B), Give(B), Give(A)],
+            &[Write(B), Write(A), Give(A), Give(B)],
+        ],
+        times: 50,
+        workers: &[64],
+        fault: None,
+        dependencies: &[(A, B, Kind::En), (B, A, Kind::En)],
+        clean: false,
         used: &[A, B],
     },
     Run {

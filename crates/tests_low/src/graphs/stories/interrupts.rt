@@ -7,7 +7,7 @@ use ld_task::Kind::{En, Sn};
 use ld_trace::Irq::{Hard, Soft};
 
 // What is wrong with interrupts.
-static INTERRUPTS: [Story; 18] = [
+static INTERRUPTS: [Story; 15] = [
     Story {
         about: "a double of a writer, and none of readers alone",
         traces: &[
@@ -91,81 +91,6 @@ static INTERRUPTS: [Story; 18] = [
             key: B,
             forms: (false, false),
         }],
-        ..NOTHING
-    },
-    Story {
-        about: "an inversion in the order used, under, enabled",
-        traces: &[
-            &[Enter(Soft), Write(A), Give(A), Leave],
-            &[
-                TurnOff(Soft),
-                Write(A),
-                Write(B),
-                Give(B),
-                Give(A),
-                TurnOn(Soft),
-            ],
-            &[Write(B), Give(B)],
-        ],
-        dependencies: 1,
-        clean: 4,
-        inversions: &[Inversion {
-            irq: Soft,
-            ends: (A, B),
-            forms: (false, false),
-            walk: &[(A, B, En)],
-        }],
-        inverted: &[(A, B, En)],
-        ..NOTHING
-    },
-    Story {
-        about: "an inversion in the order enabled, under, used",
-        traces: &[
-            &[Write(B), Give(B)],
-            &[
-                TurnOff(Soft),
-                Write(A),
-                Write(B),
-                Give(B),
-                Give(A),
-                TurnOn(Soft),
-            ],
-            &[Enter(Soft), Write(A), Give(A), Leave],
-        ],
-        dependencies: 1,
-        clean: 4,
-        inversions: &[Inversion {
-            irq: Soft,
-            ends: (A, B),
-            forms: (false, false),
-            walk: &[(A, B, En)],
-        }],
-        inverted: &[(A, B, En)],
-        ..NOTHING
-    },
-    Story {
-        about: "an inversion in the order used, enabled, under",
-        traces: &[
-            &[Enter(Soft), Write(A), Give(A), Leave],
-            &[Write(B), Give(B)],
-            &[
-                TurnOff(Soft),
-                Write(A),
-                Write(B),
-                Give(B),
-                Give(A),
-                TurnOn(Soft),
-            ],
-        ],
-        dependencies: 1,
-        clean: 3,
-        inversions: &[Inversion {
-            irq: Soft,
-            ends: (A, B),
-            forms: (false, false),
-            walk: &[(A, B, En)],
-        }],
-        inverted: &[(A, B, En)],
         ..NOTHING
     },
     Story {
@@ -338,6 +263,90 @@ static INTERRUPTS: [Story; 18] = [
         ..NOTHING
     },
 ];
+
+// One inversion, whose two marks and dependency come in three orders: it is found with the last of them.
+static THREE_ORDERS: [Story; 3] = [
+    Story {
+        about: "an inversion in the order used, under, enabled",
+        traces: &[
+            &[Enter(Soft), Write(A), Give(A), Leave],
+            &[
+                TurnOff(Soft),
+                Write(A),
+                Write(B),
+                Give(B),
+                Give(A),
+                TurnOn(Soft),
+            ],
+            &[Write(B), Give(B)],
+        ],
+        dependencies: 1,
+        clean: 4,
+        inversions: &[Inversion {
+            irq: Soft,
+            ends: (A, B),
+            forms: (false, false),
+            walk: &[(A, B, En)],
+        }],
+        inverted: &[(A, B, En)],
+        ..NOTHING
+    },
+    Story {
+        about: "an inversion in the order enabled, under, used",
+        traces: &[
+            &[Write(B), Give(B)],
+            &[
+                TurnOff(Soft),
+                Write(A),
+                Write(B),
+                Give(B),
+                Give(A),
+                TurnOn(Soft),
+            ],
+            &[Enter(Soft), Write(A), Give(A), Leave],
+        ],
+        dependencies: 1,
+        clean: 4,
+        inversions: &[Inversion {
+            irq: Soft,
+            ends: (A, B),
+            forms: (false, false),
+            walk: &[(A, B, En)],
+        }],
+        inverted: &[(A, B, En)],
+        ..NOTHING
+    },
+    Story {
+        about: "an inversion in the order used, enabled, under",
+        traces: &[
+            &[Enter(Soft), Write(A), Give(A), Leave],
+            &[Write(B), Give(B)],
+            &[
+                TurnOff(Soft),
+                Write(A),
+                Write(B),
+                Give(B),
+                Give(A),
+                TurnOn(Soft),
+            ],
+        ],
+        dependencies: 1,
+        clean: 3,
+        inversions: &[Inversion {
+            irq: Soft,
+            ends: (A, B),
+            forms: (false, false),
+            walk: &[(A, B, En)],
+        }],
+        inverted: &[(A, B, En)],
+        ..NOTHING
+    },
+];
+
+#[test]
+fn three_orders(rt: HostRuntime) {
+    assert_eq!(rt; misfit(rt.alloc(), &THREE_ORDERS), None);
+}
 
 #[test]
 fn doubles_and_inversions_are_found(rt: HostRuntime) {

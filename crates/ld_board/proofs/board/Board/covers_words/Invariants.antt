@@ -16,7 +16,7 @@ invariant-loop-n l =
     × (now.claimed ≡ was.claimed)
     × ((n : ℕ) → Within (bits_of n was.seen) (bits_of n now.seen))
     × (IsTrue l.all ↔ ((k : ℕ) (d : ℕ × ℕ) → k < l.n → Within (slice_index_or words k d).1 (bits_of (slice_index_or words k d).0 now.seen)))
-    × ((k : ℕ) (d : ℕ × ℕ) → k < l.n → Within (bits_of (slice_index_or words k d).0 was.put) (bits_of (slice_index_or words k d).0 now.seen))
     × ((loaded : List (ℕ × ℕ)) × (now.seen ≡ loaded ++ was.seen)
     × ((k : ℕ) (d : ℕ × ℕ) → k < l.n → Any (λ q. q.0 ≡ (slice_index_or words k d).0) loaded)
+    × ((k : ℕ) (d : ℕ × ℕ) → k < l.n → Within (bits_of (slice_index_or words k d).0 (was.put ++ was.seen)) (bits_of (slice_index_or words k d).0 loaded))
     × (IsTrue l.all ↔ ((k : ℕ) (d : ℕ × ℕ) → k < l.n → Within (slice_index_or words k d).1 (bits_of (slice_index_or words k d).0 loaded))))

@@ -1,0 +1,4 @@
+pub mod AheadLemmas
+pub mod AreReadLemmas
+pub mod JoinedTexts
+pub mod PieceLemmas

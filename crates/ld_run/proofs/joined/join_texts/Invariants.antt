@@ -1,6 +1,0 @@
-use Rattle.ld_run.specs.Inside.Ahead.{AreJoined}
-use Rattle.ld_run.proofs.joined.join_texts.Given as goal
-
--- the texts before this place are there
-abbrev pub invariant-loop-place : goal.invariant-loop-place
-invariant-loop-place g l = AreJoined (g.S.Sources.holds l.sources) l.first l.place l.bytes.items
