@@ -77,7 +77,8 @@ abbrev pub double_words : List Name → Irq → (key : ℕ) → List ℕ
 double_words names irq lock = codes "double " ++ (irq_word irq ++ (codes " " ++ key_text (name_at names lock)))
 
 abbrev pub inversion_words : List Name → Irq → (a b : ℕ) → List ℕ
-inversion_words names irq a b = codes "inversion " ++ (irq_word irq ++ (codes " " ++ (key_text (name_at names a) ++ (codes " " ++ key_text (name_at names b)))))
+inversion_words names irq a b = codes "inversion " ++ (irq_word irq ++ (codes " " ++ (key_text (name_at names a)
+    ++ (codes " " ++ key_text (name_at names b)))))
 
 -- the keys that the members of a walk lead from, the report's line of each, and where each first occurs
 abbrev pub keys_member : List Name → List Order → List Token

@@ -4,14 +4,14 @@ ghost use Rattle.std.specs.Prelude.{◌≡◌, ◌++◌, IfOk, OnOk, codes, flat
 ghost use Rattle.ld_text.specs.Explanation.{block_text, circle_head, explanation_text};
 ghost use Rattle.ld_text.specs.Report.{double_line, inversion_line};
 
-use crate::explainer::Explainer;
 use crate::report::add_total;
+use crate::wording::Wording;
 use crate::words::irq_word;
 use ld_explain::{Finding, GateNote, Order, Origin};
 use ld_trace::{Irq, KeyId};
 use std::alloc::AllocError;
 
-impl Explainer<'_> {
+impl Wording<'_> {
     // The first line of a circle's block.
     pub(crate) fn add_circle_head(
         &self,

@@ -10,10 +10,10 @@ ghost use Rattle.ld_facts.specs.TraceFacts.{TracesHave};
 ghost use Rattle.ld_text.specs.Findings.{SaysFindings};
 ghost use Rattle.ld_text.specs.WriteFaults.{StopsWriting};
 
-use crate::explainer::Explainer;
 use crate::key_texts::KeyTexts;
 use crate::order::sorted_keys;
 use crate::output::write_text;
+use crate::wording::Wording;
 use crate::write_fault::WriteFault;
 use ld_explain::{Naming, findings_of, own_names_change_nothing};
 use ld_parts::Settled;
@@ -50,7 +50,7 @@ fn findings_text(
     own_names_change_nothing();
     let findings = findings_of(alloc, settled, traces, Naming::Own, &keys)?;
     let texts = KeyTexts::of(alloc, names)?;
-    let explainer = Explainer {
+    let wording = Wording {
         traces,
         names,
         keys: &texts,
@@ -58,8 +58,8 @@ fn findings_text(
         alloc,
     };
     match format {
-        Format::Lines => explainer.explanation(&findings),
-        Format::Json => explainer.json(&findings),
+        Format::Lines => wording.explanation(&findings),
+        Format::Json => wording.json(&findings),
     }
 }
 

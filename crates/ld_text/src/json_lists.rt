@@ -8,13 +8,13 @@ ghost use Rattle.ld_text.specs.Json.{circle_words, keys_member, lines_member, no
 ghost use Rattle.ld_text.specs.Inside.Tokens.{Adds};
 ghost use Rattle.ld_text.specs.Words.{key_text};
 
-use crate::explainer::Explainer;
+use crate::wording::Wording;
 use crate::words::file_of;
 use json::Writer;
 use ld_explain::{Dependency, GateNote, Order};
 use std::alloc::AllocError;
 
-impl Explainer<'_> {
+impl Wording<'_> {
     // The key that a dependency leads from.
     pub(crate) fn write_key(&self, w: &mut Writer, d: &Dependency) -> Result<(), AllocError>
         ensures { OnOk result (Adds w.old w.new (string (key_text (name_at self.now.names d.now.start)) ∷ [])) }

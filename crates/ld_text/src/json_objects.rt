@@ -6,15 +6,15 @@ ghost use Rattle.ld_text.specs.Explanation.{event_of};
 ghost use Rattle.ld_text.specs.Json.{dependency_members, double_words, event_members, finding_members, held_members, inversion_words, list_member, object, object_member, occurrence_members, order_object, taken_mode, use_members};
 ghost use Rattle.ld_text.specs.Inside.Tokens.{Adds};
 
-use crate::explainer::Explainer;
 use crate::json_members::{add_both, add_number, add_only, add_text};
+use crate::wording::Wording;
 use crate::words::{file_of, irq_word, kind_word, mode_word};
 use json::Writer;
 use ld_explain::{Dependency, Finding, Order, Origin};
 use ld_trace::{Event, Irq, KeyId};
 use std::alloc::AllocError;
 
-impl Explainer<'_> {
+impl Wording<'_> {
     // What the event at this place of a trace does.
     pub(crate) fn write_event(
         &self,

@@ -3,7 +3,7 @@
 ghost use Rattle.std.specs.Prelude.{◌≡◌, ◌++◌, [], IfOk, OnOk, codes, drop, flat_map};
 ghost use Rattle.ld_text.specs.Json.{finding_line, json_text};
 
-use crate::explainer::Explainer;
+use crate::wording::Wording;
 use json::Writer;
 use ld_explain::Finding;
 use std::alloc::{AllocError, Global};
@@ -43,7 +43,7 @@ fn begin_line(alloc: Global, text: &mut Vec<u8>) -> Result<Writer, AllocError>
     Ok(Writer::new(replace(text, Vec::new(alloc))))
 }
 
-impl Explainer<'_> {
+impl Wording<'_> {
     // The line of a finding.
     pub(crate) fn add_object(&self, text: &mut Vec<u8>, finding: &Finding) -> Result<(), AllocError>
         ensures { OnOk result (text.new.items ≡ text.old.items ++ finding_line self.now finding.now) }

@@ -6,7 +6,6 @@ mod because;
 mod blocks;
 mod chains_text;
 mod edges;
-mod explainer;
 mod findings;
 mod json_lists;
 mod json_members;
@@ -19,6 +18,7 @@ mod order;
 mod output;
 mod picture;
 mod report;
+mod wording;
 mod words;
 mod write_fault;
 

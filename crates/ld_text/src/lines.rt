@@ -4,13 +4,13 @@ ghost use Rattle.std.specs.Prelude.{◌≡◌, ◌++◌, ◌≤◌, OnOk, codes,
 ghost use Rattle.ld_text.specs.Explanation.{comes_line, dependency_text, does_text, event_of, holds_line, lock_of, occurrence_text, order_line, use_lines, waits_line, waits_text, while_text};
 ghost use Rattle.ld_text.specs.Report.{member_text};
 
-use crate::explainer::Explainer;
+use crate::wording::Wording;
 use crate::words::{file_of, irq_word, kind_word, mode_word};
 use ld_explain::{Dependency, Order, Origin};
 use ld_trace::{Event, Irq, KeyId};
 use std::alloc::AllocError;
 
-impl Explainer<'_> {
+impl Wording<'_> {
     // What the event at this place of a trace does.
     pub(crate) fn add_event(
         &self,

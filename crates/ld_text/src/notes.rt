@@ -3,12 +3,12 @@
 ghost use Rattle.std.specs.Prelude.{◌≡◌, ◌++◌, OnOk, codes, flat_map, string_bytes};
 ghost use Rattle.ld_text.specs.Explanation.{dependency_text, gate_lines, gate_note, listed_text, note_line, only_notes};
 
-use crate::explainer::Explainer;
+use crate::wording::Wording;
 use crate::words::file_of;
 use ld_explain::{Dependency, GateNote};
 use std::alloc::AllocError;
 
-impl Explainer<'_> {
+impl Wording<'_> {
     // Dependencies, each after a comma.
     pub(crate) fn add_further(&self, text: &mut String, ds: &[Dependency]) -> Result<(), AllocError>
         ensures { OnOk result (string_bytes text.new ≡ string_bytes text.old

@@ -2,7 +2,6 @@
 
 ghost use Rattle.std.specs.Prelude.{◌≡◌, ◌≤◌, ℕ, List, All, IfErr, OnOk, length};
 ghost use Rattle.std.specs.Io.KnownBytes.{Appends};
-ghost use Rattle.ld_trace.specs.Events.{KeysBelow};
 ghost use Rattle.ld_task.specs.WellFormed.{IsWellFormed};
 ghost use Rattle.ld_facts.specs.FactBits.{HasFact};
 ghost use Rattle.ld_facts.specs.Facts.{AreSame};
@@ -44,7 +43,6 @@ pub(crate) fn write_output<W: Write>(
     traces: &[RawTrace],
     keys: &KeyTable,
 ) -> Result<(), ReportFault>
-    requires below { All (KeysBelow (length keys.now.names)) traces.now }
     requires few { length traces.now ≤ MAX_TRACES }
     requires well_formed { All IsWellFormed traces.now }
     requires facts { AreSame (HasFact settled.now) (TracesHave traces.now) }
@@ -59,12 +57,14 @@ pub(crate) fn write_output<W: Write>(
             write_report(alloc, w, settled, traces, keys).map_err(ReportFault::Out)
         }
         Output::Explanation { files } => {
-            write_findings(alloc, w, settled, traces, keys, files, Format::Lines)
-                .map_err(ReportFault::Out)
+            write_findings(alloc, w, settled, traces, keys, files, Format::Lines).map_err(
+                ReportFault::Out,
+            )
         }
         Output::Json { files } => {
-            write_findings(alloc, w, settled, traces, keys, files, Format::Json)
-                .map_err(ReportFault::Out)
+            write_findings(alloc, w, settled, traces, keys, files, Format::Json).map_err(
+                ReportFault::Out,
+            )
         }
         Output::Picture { findings } => {
             write_picture(alloc, w, settled, keys, findings).map_err(ReportFault::Out)

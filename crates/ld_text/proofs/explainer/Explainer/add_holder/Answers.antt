@@ -1,4 +1,0 @@
-use Rattle.ld_text.proofs.explainer.Explainer.add_holder.Goals as goal
-
-pub returns : goal.returns
-returns c = rw c.key-key.ensures at c.writeln.ensures.bytes

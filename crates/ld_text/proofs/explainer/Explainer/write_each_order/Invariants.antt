@@ -1,9 +1,0 @@
-use Rattle.std.proofs.Common.{take}
-use Rattle.std.specs.List.{flat_map}
-use Rattle.ld_text.specs.Json.{order_object}
-use Rattle.ld_text.specs.Inside.Tokens.{Adds}
-use Rattle.ld_text.proofs.explainer.Explainer.write_each_order.Given as goal
-
--- the members so far
-abbrev pub invariant-loop-order : goal.invariant-loop-order
-invariant-loop-order l = Adds l.initial.w l.w (flat_map (order_object l.self) (take l.order-index l.walk))

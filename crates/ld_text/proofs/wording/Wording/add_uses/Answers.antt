@@ -1,0 +1,19 @@
+use Rattle.std.proofs.Common.{◌++◌, codes, string_bytes}
+use Rattle.std.proofs.lemmas.Result.{on_ok_weaker}
+use Rattle.ld_trace.specs.Writing.{irq_word}
+use Rattle.ld_text.specs.Explanation.{occurrence_text, origin_line}
+use Rattle.ld_text.proofs.PictureGrowing.{behind}
+use Rattle.ld_text.proofs.wording.Wording.add_uses.Goals as goal
+
+pub returns : goal.returns
+returns c =
+    let self = c.args.self.now in
+    let state = irq_word c.args.irq in
+    let used = codes ": " ++ (occurrence_text self c.args.used ++ codes "\n") in
+    let enabled = codes ": " ++ (occurrence_text self c.args.enabled ++ codes "\n") in
+    on_ok_weaker c.add_origin-2.result (λ last.
+    behind (string_bytes c.args.text.now) (string_bytes c.add_origin.new.text) _ (origin_line self (codes "used in " ++ state) c.args.used)
+    (origin_line self (codes "used with " ++ (state ++ codes "s on")) c.args.enabled)
+    (behind (string_bytes c.args.text.now) _ _ (codes "  used in " ++ state) used (rw c.irq_word-state.ensures at c.in_ok-write.ensures.bytes) c.in_ok-add_origin.ensures)
+    (behind (string_bytes c.add_origin.new.text) _ _ (codes "  used with " ++ (state ++ codes "s on")) enabled (rw c.irq_word-state.ensures at c.in_ok-write-2.ensures.bytes) last))
+    c.add_origin-2.ensures

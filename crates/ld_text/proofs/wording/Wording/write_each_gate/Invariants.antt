@@ -1,0 +1,9 @@
+use Rattle.std.proofs.Common.{map, take}
+use Rattle.json.specs.Token.{string}
+use Rattle.ld_text.specs.Explanation.{gate_note}
+use Rattle.ld_text.specs.Inside.Tokens.{Adds}
+use Rattle.ld_text.proofs.wording.Wording.write_each_gate.Given as goal
+
+-- the notes so far
+abbrev pub invariant-loop-gate : goal.invariant-loop-gate
+invariant-loop-gate l = Adds l.initial.w l.w (map (λ gate. string (gate_note l.self.names gate)) (take l.gate-index l.gates))

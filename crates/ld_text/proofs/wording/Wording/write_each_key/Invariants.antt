@@ -1,0 +1,10 @@
+use Rattle.std.proofs.Common.{map, take}
+use Rattle.json.specs.Token.{string}
+use Rattle.ld_trace.specs.Writing.{name_at}
+use Rattle.ld_text.specs.Words.{key_text}
+use Rattle.ld_text.specs.Inside.Tokens.{Adds}
+use Rattle.ld_text.proofs.wording.Wording.write_each_key.Given as goal
+
+-- the keys so far
+abbrev pub invariant-loop-order : goal.invariant-loop-order
+invariant-loop-order l = Adds l.initial.w l.w (map (λ order. string (key_text (name_at l.self.names order.dependency.start))) (take l.order-index l.walk))
