@@ -1,9 +1,7 @@
 -- What all views have of something, taken together by an operation with the laws of a sum.
-use Rattle.std.proofs.Common.{◌≡◌, ◌≢◌, ℕ, zero, suc, ◌+◌, ◌*◌, ◌≤◌, List, [], ◌∷◌, ◌++◌, set, refl, sym, ap, ◌∙◌, arith, zero-le, mul-add}
+use Rattle.ld_board.proofs.Names.{[], ◌*◌, ◌++◌, ◌+◌, ◌∙◌, ◌∷◌, ◌≡◌, ◌≢◌, ◌≤◌, List, View, ap, arith, gather, mul-add, plus, refl, set, suc, sym, total, zero, zero-le, ℕ}
 use mathlib.Core.Option.{some, some-injective, some-ne-none}
 use lib.ListN.{get_elem?}
-use Rattle.ld_board.specs.declared.view.View.{View}
-use Rattle.ld_board.specs.Inside.BoardRule.{gather, plus, total}
 
 module _ (op : ℕ → ℕ → ℕ) (unit : (a : ℕ) → op 0 a ≡ a) (comm : (a b : ℕ) → op a b ≡ op b a) (assoc : (a b c : ℕ) → op (op a b) c ≡ op a (op b c)) (f : View → ℕ) where
   unit_r : (a : ℕ) → op a 0 ≡ a

@@ -1,3 +1,4 @@
+pub mod Names
 pub mod Gather
 pub mod WordLists
 pub mod Moves

@@ -1,8 +1,5 @@
 -- Each step keeps the rule.
-use Rattle.std.proofs.Common.{◌≡◌, ◌≢◌, ℕ, zero, suc, ◌+◌, ◌-◌, ◌*◌, ◌%◌, ◌^◌, ◌<◌, ◌≤◌, cond, eqb, List, [], ◌∷◌, ◌++◌, length, set, refl, sym, ap, ◌∙◌, subst, ⊎_elim, arith, bit_or, length-set, get_or-set_other, get_or-set_same, length-append, add-zero, eq-eqb, ne_eqb, Bool}
-use Rattle.std.specs.Prelude.{slice_index}
-use Rattle.std.proofs.lemmas.Nat.{or_comm}
-use Rattle.std.proofs.lemmas.Bool.Decides.{nat_tests}
+use Rattle.ld_board.proofs.Names.{[], ◌%◌, ◌*◌, ◌++◌, ◌+◌, ◌-◌, ◌<◌, ◌^◌, ◌∙◌, ◌∷◌, ◌≡◌, ◌≢◌, ◌≤◌, Bool, Claimed, Fits, Kept, Knows, List, Looked, NonePast, Put, Seated, View, Within, add-zero, ap, arith, bit_or, bits_of, bits_of-append, cond, eq-eqb, eqb, first_view, get_or-set_other, get_or-set_same, joined, left_view, length, length-append, length-set, nat_tests, ne_eqb, once_below, or_assoc, or_comm, or_zero, plus, refl, right_view, set, slice_index, spent_view, subst, suc, sym, times, times_append, total, union, with_claim, with_look, with_put, word_total, zero, ℕ, ⊎_elim}
 use mathlib.Core.Option.{none, some, some-injective, some-ne-none}
 use mathlib.Core.Logic.{dite}
 use native.Mathlib.Decide.{ℕ_discrete}
@@ -10,14 +7,8 @@ use lib.Seq.{set-get_or}
 use lib.ListN.{get_elem?}
 use Rattle.atomic_table.specs.Table.{State, step, keeps, Allows, Splits, Joins, opening, Final, Seen}
 use Rattle.atomic_table.proofs.Lists.{at_set, at_snoc}
-use Rattle.ld_board.specs.declared.view.View.{View}
 use Rattle.ld_board.specs.declared.view.BoardSize.{BoardSize}
-use Rattle.ld_facts.specs.WordPairs.{bits_of, Within, NonePast, word_total}
-use Rattle.ld_board.specs.Views.{times, once_below, with_claim}
-use Rattle.ld_board.specs.Inside.BoardRule.{plus, total, union, Fits, Kept, first_view, left_view, right_view, joined, spent_view, Seated, with_put, with_look, Claimed, Put, Looked, Knows}
 use Rattle.ld_board.proofs.Gather.{gains, stays, moves, comes, plus_unit, plus_comm, plus_assoc, part_of, bounded, alone}
-use Rattle.ld_facts.specs.Laws.Words.{or_zero, or_assoc, bits_of-append}
-use Rattle.ld_board.specs.Laws.Seats.{times_append}
 use Rattle.ld_board.proofs.WordLists.{or_unit, or_self, within_more, within_both, past_none, past_with, past_append, once_more, all_below, part_in}
 
 -- each view fits if one is changed and the words are others

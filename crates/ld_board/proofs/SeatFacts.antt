@@ -1,23 +1,7 @@
 -- What seats have put and seen, in facts.
-use Rattle.std.proofs.Common.{◌≡◌, ◌↔◌, ℕ, zero, suc, ◌+◌, ◌<◌, ◌/◌, ◌%◌, List, [], ◌∷◌, ◌++◌, length, get_or, Any, All, Some, Bool, true, false, IsTrue, ◌&&◌, eqb, eqb-true, eq-eqb, true≢false, slice_get, slice_index, inl, inr, refl, sym, ap, ◌∙◌, subst, arith, bit_or}
-use Rattle.std.specs.Int.{bit_at}
-use Rattle.std.proofs.lemmas.Bool.{cases_eq}
-use Rattle.std.proofs.lemmas.Option.{get_or_from_slice_get, slice_get_within}
+use Rattle.ld_board.proofs.Names.{[], ◌%◌, ◌&&◌, ◌++◌, ◌+◌, ◌/◌, ◌<◌, ◌↔◌, ◌∙◌, ◌∷◌, ◌≡◌, Adds, All, Any, Any-cases, Any-here, Any-later, AreSame, AreWordsOf, Bool, ChainHas, Fact, FactBelow, FactParts, HasFact, Holds, IsTrue, Knows, List, PairsHave, PairsHave-append, PairsHave-within, PutHas, Seat, SeenHas, ShareWord, Some, View, Within, Within-bit, Within-facts, ap, arith, bit_at, bit_or, bit_or-bits, bits_of, bits_of-bit, cases_eq, claims_of, eq-eqb, eqb, eqb-true, fact_number, false, gathered, get_or, get_or_from_slice_get, inl, inr, joined, length, newcomer, none_has, once_below, refl, slice_get, slice_get_within, slice_index, subst, suc, sym, times, true, true≢false, view, zero, ℕ}
 use Rattle.ld_task.specs.Chains.{ChainParts}
-use Rattle.ld_facts.specs.FactBits.{FactParts, FactBelow, HasFact}
-use Rattle.ld_facts.specs.Facts.{Adds, AreSame, ChainHas, Holds}
 use Rattle.ld_facts.specs.Laws.{EachBitIsAFacts}
-use Rattle.ld_facts.specs.Numbers.{fact_number}
-use Rattle.ld_facts.specs.Laws.Words.{PairsHave-append, PairsHave-within, Within-bit, Within-facts, bit_or-bits, bits_of-bit}
-use Rattle.ld_facts.specs.WordPairs.{bits_of, Within, PairsHave, AreWordsOf}
-use Rattle.ld_facts.specs.declared.fact.Fact.{Fact}
-use Rattle.ld_board.specs.Views.{newcomer, times, once_below, PutHas, SeenHas, ShareWord}
-use Rattle.ld_board.specs.Seats.{view, claims_of}
-use Rattle.ld_board.specs.Inside.BoardRule.{joined, Knows}
-use Rattle.ld_board.specs.Inside.Gathered.{gathered}
-use Rattle.ld_board.specs.declared.view.View.{View}
-use Rattle.ld_board.specs.declared.seat.Seat.{Seat}
-use Rattle.ld_board.specs.Laws.Seats.{Any-cases, Any-here, Any-later, none_has}
 use Rattle.ld_board.proofs.WordLists.{bit_into}
 
 -- one pair of words

@@ -1,13 +1,7 @@
 -- The last seat of a list.
-use Rattle.std.proofs.Common.{◌≡◌, ℕ, List, [], ◌∷◌, ◌++◌, get_or, refl, sym, ap, ◌∙◌, zero-add, zero, suc}
+use Rattle.ld_board.proofs.Names.{[], ◌++◌, ◌∙◌, ◌∷◌, ◌≡◌, List, Seat, View, ap, gathered, get_or, joined, joined_onto, newcomer, refl, suc, sym, view, zero, zero-add, ℕ}
 use mathlib.Core.Option.{some, some-injective, some-ne-none}
 use lib.ListN.{get_elem?}
-use Rattle.ld_board.specs.declared.view.View.{View}
-use Rattle.ld_board.specs.declared.seat.Seat.{Seat}
-use Rattle.ld_board.specs.Inside.BoardRule.{joined}
-use Rattle.ld_board.specs.Views.{newcomer}
-use Rattle.ld_board.specs.Seats.{view}
-use Rattle.ld_board.specs.Inside.Gathered.{joined_onto, gathered}
 
 pub joined_onto_last : (v : View) (ss : List Seat) (s : Seat) → joined_onto v (ss ++ s ∷ []) ≡ joined_onto (joined v (view s)) ss
 joined_onto_last v [] s = refl

@@ -1,19 +1,10 @@
 -- Unions of bits, and how often a number is in a list.
-use Rattle.std.proofs.Common.{◌≡◌, ◌≢◌, ℕ, zero, suc, ◌+◌, ◌<◌, ◌≤◌, cond, eqb, List, [], ◌∷◌, ◌++◌, length, refl, sym, ap, ◌∙◌, subst, arith, bit_or, All, AllPairs, drop, get_or, drop-cons, eq-eqb, ne_eqb, Bool}
+use Rattle.ld_board.proofs.Names.{[], ◌++◌, ◌+◌, ◌<◌, ◌∙◌, ◌∷◌, ◌≡◌, ◌≢◌, ◌≤◌, All, AllPairs, Bool, List, NonePast, View, Within, ap, arith, bit_at, bit_at-lt, bit_at-zero, bit_at_or, bit_or, bits_of, bits_of-append, cond, drop, drop-cons, eq-eqb, eqb, get_or, length, nat_tests, ne_eqb, once_below, or_assoc, or_comm, or_zero, refl, same_from_bits, subst, suc, sym, times, union, zero, ℕ}
 use Rattle.std.proofs.lemmas.List.{get_or_default}
 use mathlib.Core.Logic.{dite}
 use native.Mathlib.Decide.{ℕ_discrete}
-use Rattle.std.proofs.lemmas.Nat.{or_comm}
-use Rattle.std.specs.Int.{bit_at}
-use Rattle.std.proofs.lemmas.Nat.Bits.{bit_at_or, bit_at-zero, bit_at-lt, same_from_bits}
-use Rattle.std.proofs.lemmas.Bool.Decides.{nat_tests}
 use mathlib.Core.Option.{some, some-injective, some-ne-none}
 use lib.ListN.{get_elem?}
-use Rattle.ld_board.specs.declared.view.View.{View}
-use Rattle.ld_facts.specs.Laws.Words.{or_zero, or_assoc, bits_of-append}
-use Rattle.ld_facts.specs.WordPairs.{bits_of, Within, NonePast}
-use Rattle.ld_board.specs.Views.{times, once_below}
-use Rattle.ld_board.specs.Inside.BoardRule.{union}
 
 pub or_unit : (a : ℕ) → bit_or 0 a ≡ a
 or_unit a = or_comm 0 a ∙ or_zero a

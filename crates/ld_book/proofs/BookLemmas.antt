@@ -1,14 +1,7 @@
 -- The facts and the totals of a journal, and what one more entry does to them.
-use Rattle.std.proofs.Common.{◌≡◌, ℕ, ◌+◌, ◌↔◌, List, [], ◌∷◌, ◌++◌, length, length-append, Bool, true, false, cond, Option, Some, None, is_some, refl, sym, ap, subst, ◌∙◌, inl, inr, arith}
-use Rattle.std.specs.Prelude.{is_none, option_map}
+use Rattle.ld_book.proofs.Names.{[], ◌++◌, ◌+◌, ◌↔◌, ◌∙◌, ◌∷◌, ◌≡◌, Adds, Any-push, AreSame, Bool, ChainHas, ChainParts, Fact, FactParts, HasFact, Holds, IsLawful, JournalHas, List, None, Option, Some, acquisition_count, ap, arith, cond, false, inl, inr, is_none, is_some, length, length-append, opening_count, option_map, refl, subst, sym, true, ℕ}
 use Rattle.std.specs.Int.{from_bool}
 use Rattle.std.proofs.lemmas.List.Sums.{sum_by_push, sum_by-cons}
-use Rattle.ld_task.specs.Chains.{ChainParts}
-use Rattle.ld_facts.specs.FactBits.{FactParts, HasFact}
-use Rattle.ld_facts.specs.Laws.Lists.{Any-push}
-use Rattle.ld_facts.specs.Facts.{Adds, AreSame, ChainHas, Holds}
-use Rattle.ld_facts.specs.declared.fact.Fact.{Fact}
-use Rattle.ld_book.specs.Books.{JournalHas, IsLawful, acquisition_count, opening_count}
 
 -- ---- facts
 -- no facts are those of a journal without entries

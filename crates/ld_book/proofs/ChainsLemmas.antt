@@ -1,18 +1,9 @@
 -- Distinct chains in order, and one more of them.
-use Rattle.std.proofs.Common.{◌≡◌, ℕ, ◌+◌, ◌<◌, List, [], ◌∷◌, ◌++◌, length, length-append, append_assoc, get_or, slice_get, position, true, false, ◌||◌, Some, refl, sym, ap, ◌∙◌, true≢false, inl, inr, arith, if◌then◌else◌}
-use Rattle.std.specs.Prelude.{Contains}
-use Rattle.std.specs.List.{list_any, AllByRecursion, IsDistinct}
+use Rattle.ld_book.proofs.Names.{[], ◌++◌, ◌+◌, ◌<◌, ◌||◌, ◌∙◌, ◌∷◌, ◌≡◌, AllByRecursion, AreChains, ChainParts, Contains, List, PutsChain, Some, ap, append-nil, append_assoc, arith, chain_eq, chain_eq-decides, chain_eq-equivalence, false, get_or, get_or_append_left, get_or_default, get_or_from_slice_get, get_or_push, if◌then◌else◌, inl, inr, insert_key, length, length-append, list_any, list_any-from_Contains, no_chain, position, refl, slice_get, slice_get_read, slice_get_within, sym, true, true≢false, ℕ}
+use Rattle.std.specs.List.{IsDistinct}
 use Rattle.std.proofs.lemmas.Bool.{cases_Bool, cases_lt}
-use Rattle.std.proofs.lemmas.List.{get_or_append_left, get_or_default, get_or_push, append-nil}
 use Rattle.std.proofs.lemmas.List.Quantifiers.{position-Some}
 use Rattle.std.proofs.lemmas.Map.Keys.{IsDistinct-push}
-use Rattle.std.proofs.lemmas.Map.Views.{list_any-from_Contains}
-use Rattle.std.proofs.lemmas.Option.{get_or_from_slice_get, slice_get_read, slice_get_within}
-use Rattle.indexmap.specs.IndexSet.{insert_key}
-use Rattle.ld_task.specs.Chains.{ChainParts}
-use Rattle.ld_task.specs.ChainEquality.{chain_eq}
-use Rattle.ld_task.specs.Inside.ChainEqualityLaws.{chain_eq-decides, chain_eq-equivalence}
-use Rattle.ld_book.specs.Inside.Journals.{no_chain, AreChains, PutsChain}
 
 -- ---- what distinct says of one of them
 differs-later : (k : ChainParts) (ks : List ChainParts) (x : ChainParts) (xs : List ChainParts) → AllByRecursion (λ y. chain_eq k y ≡ false) (ks ++ x ∷ xs) →

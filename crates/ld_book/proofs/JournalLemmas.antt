@@ -1,19 +1,8 @@
 -- A journal that keeps each distinct chain once, and one more entry in it.
-use Rattle.std.proofs.Common.{◌≡◌, ℕ, ◌<◌, ◌≤◌, ◌↔◌, List, [], ◌∷◌, ◌++◌, length, length-append, get_or, slice_get, true, Some, refl, sym, ap, ◌∙◌, inl, inr, arith}
-use Rattle.std.specs.Prelude.{All, Contains}
-use Rattle.std.specs.List.{list_any, IsDistinct}
-use Rattle.std.proofs.lemmas.List.{length-map, map-append, get_or-map, get_or_append_left, get_or_default}
+use Rattle.ld_book.proofs.Names.{[], ◌++◌, ◌<◌, ◌↔◌, ◌∙◌, ◌∷◌, ◌≡◌, ◌≤◌, All, Any-push, ChainParts, Contains, Contains-from_any, EntryParts, IsJournal, IsNumberOf, List, PutsChain, Some, StandsIn, ap, arith, chain_eq, chain_eq-decides, chain_eq-equivalence, entry_of, get_or, get_or-map, get_or_append_left, get_or_default, get_or_from_slice_get, inl, inr, journal_of, length, length-append, length-map, list_any, list_any-from_Contains, map-append, no_chain, refl, slice_get, slice_get_within, sym, true, ℕ}
+use Rattle.std.specs.List.{IsDistinct}
 use Rattle.std.proofs.lemmas.List.Elements.{All-head, All-tail, All-push, All-weaker}
 use Rattle.std.proofs.lemmas.Map.Made.{AllPairs-from_IsDistinct}
-use Rattle.std.proofs.lemmas.Map.Views.{Contains-from_any, list_any-from_Contains}
-use Rattle.std.proofs.lemmas.Option.{get_or_from_slice_get, slice_get_within}
-use Rattle.ld_task.specs.Chains.{ChainParts}
-use Rattle.ld_task.specs.ChainEquality.{chain_eq}
-use Rattle.ld_task.specs.Inside.ChainEqualityLaws.{chain_eq-decides, chain_eq-equivalence}
-use Rattle.ld_facts.specs.Counting.{IsNumberOf}
-use Rattle.ld_facts.specs.Laws.Lists.{Any-push}
-use Rattle.ld_book.specs.Books.{StandsIn}
-use Rattle.ld_book.specs.Inside.Journals.{EntryParts, no_chain, entry_of, journal_of, IsJournal, PutsChain}
 
 -- the entries mean the same if more chains follow
 journal_of-more : (chains more : List ChainParts) (entries : List EntryParts) → All (λ (e : EntryParts). e.number < length chains) entries →

@@ -1,3 +1,4 @@
+pub mod Names
 pub mod BookLemmas
 pub mod ChainsLemmas
 pub mod JournalLemmas

@@ -1,18 +1,11 @@
 -- What a thread has read ahead, when its table has more names, and when a part of it goes.
-use Rattle.std.proofs.Common.{◌≡◌, Bool, true, false, if◌then◌else◌, ℕ, suc, ◌+◌, List, [], ◌∷◌, ◌++◌, All, IfSome, length, take, get_or, Option, Some, None, ap, arith, length-append}
-use Rattle.std.proofs.Math.Seq.{take-append_seam, take-length}
-use Rattle.std.proofs.lemmas.List.{take-append-le}
-use Rattle.std.proofs.lemmas.List.Elements.{All-push}
-use Rattle.ld_trace.specs.declared.event.Event.{Event}
+use Rattle.ld_read.proofs.Names.{[], ◌++◌, ◌+◌, ◌∷◌, ◌≡◌, All, All-push, AreFrom, Bool, Event, IfSome, IsAhead, IsFrom, IsNumbered, IsPart, KeysBelow, List, Name, None, Option, ReadsTo, Some, ap, arith, false, get_or, if◌then◌else◌, length, length-append, suc, take, take-append-le, take-append_seam, take-length, true, ℕ}
 use Rattle.ld_trace.specs.declared.joining.NumberedTrace.{NumberedTrace}
-use Rattle.ld_trace.specs.Events.{KeysBelow}
-use Rattle.ld_trace.specs.JoinedTraces.{AreReadTo, IsNumbered}
-use Rattle.ld_trace.specs.Names.{Name}
-use Rattle.ld_trace.specs.Reading.{ReadsTo}
+use Rattle.ld_trace.specs.JoinedTraces.{AreReadTo}
 use Rattle.ld_trace.specs.Laws.{RenumberingsStay}
 use Rattle.ld_read.specs.declared.ahead.Ahead.{Ahead}
 use Rattle.ld_read.specs.declared.ahead.Part.{Part}
-use Rattle.ld_read.specs.Inside.Ahead.{AreFrom, AreHeld, IsAhead, IsFrom, IsPart}
+use Rattle.ld_read.specs.Inside.Ahead.{AreHeld}
 
 pub if-some : {X : Type 0} (known : Option X) (P Q : X → Type 0) → ((x : X) → P x → Q x) → IfSome known P → IfSome known Q
 if-some None P Q f h = tt

@@ -1,12 +1,8 @@
 -- Traces that are read in turn, one more and several more.
+use Rattle.ld_read.proofs.Names.{[], ◌++◌, ◌+◌, ◌∷◌, ◌≡◌, ◌≤◌, All, All-append, All-cons, All-nil, Err, Event, IfErr, IsRead, KeyIsBelow, KeysBelow, List, Name, Ok, OnOk, Option, Result, StopsAfter, ap, arith, get_or, length, length-append, refl, suc, ℕ}
 use Rattle.std.specs.Prelude.{⊤}
-use Rattle.std.proofs.Common.{◌≡◌, All, IfErr, OnOk, Result, Ok, Err, get_or, ℕ, suc, ◌+◌, ◌≤◌, List, [], ◌∷◌, ◌++◌, length, Option, refl, ap, arith, length-append}
-use Rattle.std.proofs.lemmas.List.Elements.{All-append, All-cons, All-nil}
-use Rattle.ld_trace.specs.declared.event.Event.{Event}
 use Rattle.ld_trace.specs.declared.event.Event.TheVariants.{Acquire, Release, Enter, Leave, TurnOn, TurnOff}
-use Rattle.ld_trace.specs.Events.{KeyIsBelow, KeysBelow}
-use Rattle.ld_trace.specs.Names.{Name}
-use Rattle.ld_read.specs.Reading.{AreRead, IsRead, StopsAfter}
+use Rattle.ld_read.specs.Reading.{AreRead}
 use Rattle.ld_read.specs.declared.unread.Unread.{Unread}
 
 module _ (room : ℕ) (holds : ℕ → Option (List ℕ)) where

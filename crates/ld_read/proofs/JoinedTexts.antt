@@ -1,9 +1,7 @@
 -- The texts of several sources as one, one more of them at a time.
-use Rattle.std.proofs.Common.{◌≡◌, ◌∙◌, ℕ, suc, ◌+◌, ◌≤◌, ◌<◌, min, List, [], ◌∷◌, ◌++◌, IfSome, Option, Some, None, option_map, length, take, drop, sym, ap, refl, arith, append_assoc, length-append}
-use Rattle.std.proofs.Math.Seq.{take-length}
-use Rattle.std.proofs.lemmas.List.{append_cancel_left, length-take, take-append-drop, take_min}
+use Rattle.ld_read.proofs.Names.{[], ◌++◌, ◌+◌, ◌<◌, ◌∙◌, ◌∷◌, ◌≡◌, ◌≤◌, AreJoined, IfSome, List, None, Option, Some, ap, append_assoc, append_cancel_left, arith, drop, length, length-append, length-take, min, option_map, refl, suc, sym, take, take-append-drop, take-length, take_min, ℕ}
 use Rattle.ld_trace.specs.Joining.{between, joined}
-use Rattle.ld_read.specs.Inside.Ahead.{AreHeld, AreJoined}
+use Rattle.ld_read.specs.Inside.Ahead.{AreHeld}
 
 joined-more : (texts : List (List ℕ)) (text : List ℕ) → 0 < length texts → joined (texts ++ text ∷ []) ≡ joined texts ++ between ++ text
 unfolding joined

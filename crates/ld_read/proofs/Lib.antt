@@ -1,3 +1,4 @@
+pub mod Names
 pub mod AheadLemmas
 pub mod AreReadLemmas
 pub mod JoinedTexts

@@ -1,17 +1,8 @@
 -- Lines that are read on, step by step.
-use Rattle.std.proofs.Common.{◌≡◌, ℕ, ◌+◌, ◌-◌, ◌≤◌, Bool, true, false, if◌then◌else◌, List, [], ◌∷◌, ◌++◌, length, take, drop, Option, Some, None, IfSome, refl, sym, ap, ◌∙◌, arith, append_assoc}
-use Rattle.std.proofs.lemmas.List.{append-nil, take-append-drop, take-append-le}
-use Rattle.std.proofs.Math.Seq.{take-add, take-length}
+use Rattle.ld_read.proofs.Names.{[], ◌++◌, ◌+◌, ◌-◌, ◌∙◌, ◌∷◌, ◌≡◌, ◌≤◌, Advances, AreLines, Bool, Consumes, Event, IfSome, IsPiece, KeysBelow, List, MayBePiece, Name, None, Option, ReadsOn, ReadsTo, Some, ap, append-nil, append_assoc, arith, bytes_of, drop, false, header_line, if◌then◌else◌, left_of, length, prepend_known, refl, sym, take, take-add, take-append-drop, take-append-le, take-length, true, ℕ}
 use Rattle.std.specs.Io.BufRead.{DropsConsumable}
-use Rattle.std.specs.Io.KnownBytes.{Consumes, prepend_known}
-use Rattle.ld_trace.specs.declared.event.Event.{Event}
 use Rattle.ld_trace.specs.declared.version.Version.{Version}
-use Rattle.ld_trace.specs.Events.{KeysBelow}
-use Rattle.ld_trace.specs.Names.{Name}
-use Rattle.ld_trace.specs.Pieces.{AreLines, header_line}
-use Rattle.ld_trace.specs.Reading.{ReadsTo}
 use Rattle.ld_read.specs.declared.pieces.Piece.{Piece}
-use Rattle.ld_read.specs.Inside.Pieces.{Advances, IsPiece, MayBePiece, ReadsOn, bytes_of, left_of}
 
 -- ---- reading on by nothing, and by one more
 pub on-nothing : (version : Version) (room : ℕ) (names : List Name) (whole : List Event) → ReadsOn version room names names whole whole []

@@ -1,16 +1,6 @@
 -- The facts of a trace before its first event that isn't allowed.
-use Rattle.std.proofs.Common.{◌≡◌, ℕ, zero, suc, ◌<◌, ◌≤◌, ◌⊎◌, List, [], ◌∷◌, take, slice_get, length, Some, None, refl, sym, ◌∙◌, subst, inl, inr, arith}
-use Rattle.std.proofs.lemmas.Bool.{cases_lt}
-use Rattle.std.proofs.lemmas.List.{take_all}
-use Rattle.ld_trace.specs.declared.event.Event.{Event}
-use Rattle.ld_task.specs.declared.fault.StepFault.{StepFault}
-use Rattle.ld_task.specs.Laws.{BeginningsKeepTheirChains, BeginningsKeepTheirFaults}
+use Rattle.ld_run.proofs.Names.{[], ◌<◌, ◌∙◌, ◌∷◌, ◌≡◌, ◌≤◌, ◌⊎◌, AreSame, BeginningsKeepTheirChains, BeginningsKeepTheirFaults, ChainsHave, Event, Fact, HasBeforeFault, Holds, IsFirstFault, IsWellFormed, List, None, Some, StepFault, TraceFactsAreTheChains, TraceHas, arith, cases_lt, inl, inr, length, refl, slice_get, subst, suc, sym, take, take_all, zero, ℕ}
 use Rattle.ld_task.specs.TraceChains.{chains}
-use Rattle.ld_task.specs.WellFormed.{IsWellFormed, IsFirstFault}
-use Rattle.ld_facts.specs.Facts.{TraceHas, ChainsHave, AreSame, Holds}
-use Rattle.ld_facts.specs.Laws.{TraceFactsAreTheChains}
-use Rattle.ld_facts.specs.declared.fact.Fact.{Fact}
-use Rattle.ld_run.specs.Tallies.{HasBeforeFault}
 
 pub slice_get-take : {A : Type 0} (xs : List A) (i k : ℕ) → k < i → slice_get (take i xs) k ≡ slice_get xs k
 slice_get-take [] zero k l = absurd (omega arith)

@@ -1,10 +1,6 @@
 -- How many events make a chain, with one more event.
-use Rattle.std.proofs.Common.{◌≡◌, ℕ, ◌+◌, ◌<◌, length, slice_index_or, Bool, true, false, List, Some, count_by, take, slice_get, refl, ap, ◌∙◌, arith}
-use Rattle.std.specs.Int.{from_bool}
+use Rattle.ld_run.proofs.Names.{◌+◌, ◌<◌, ◌∙◌, ◌≡◌, Bool, Event, List, Some, ap, arith, count_by, false, from_bool, get_or_from_slice_get, length, makes_chain, refl, slice_get, slice_get_within, slice_index_or, take, true, ℕ}
 use Rattle.std.proofs.lemmas.List.Sums.{count_by_more_yes, count_by_more_no}
-use Rattle.std.proofs.lemmas.Option.{slice_get_within, get_or_from_slice_get}
-use Rattle.ld_trace.specs.declared.event.Event.{Event}
-use Rattle.ld_task.specs.Events.{makes_chain}
 
 pub count_more : (t : List Event) (i : ℕ) (e : Event) → slice_get t i ≡ Some e →
     count_by makes_chain (take (i + 1) t) ≡ count_by makes_chain (take i t) + from_bool (makes_chain e)

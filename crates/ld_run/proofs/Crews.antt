@@ -1,24 +1,6 @@
 -- What all workers of a board return together.
-use Rattle.std.proofs.Common.{◌≡◌, ◌⊎◌, ℕ, ◌+◌, ◌<◌, ◌≤◌, cond, Bool, List, [], ◌∷◌, ◌++◌, Option, Some, None, All, Any, Contains, IsFalse, map, slice_get, slice_index_or, length, sym, ap, ◌∙◌, subst, inl, inr, arith, eq-eqb, ne_eqb}
-use Rattle.std.proofs.lemmas.List.{append-nil}
-use Rattle.std.proofs.lemmas.Bool.{cases_eq, cases_lt, lt-ltb, le-ltb}
+use Rattle.ld_run.proofs.Names.{[], ◌++◌, ◌+◌, ◌<◌, ◌∙◌, ◌∷◌, ◌≡◌, ◌≤◌, ◌⊎◌, All, Any, Any-cases, Any-here, Any-later, Any-push, AreSame, Bool, Contains, Contains-head, Event, Every, Fact, FactParts, HasBeforeFault, HasDrawn, HasFact, HasWorked, Holds, IsFalse, IsRefused, IsTally, KnowsFact, LeastRefusedIs, List, None, OfSome, Option, PutHas, Seat, SeenHas, Some, SomeHasDrawn, StepAt, View, Worked, ap, append-nil, arith, cases_eq, cases_lt, claims_of, cond, earlier_refused, eq-eqb, inl, inr, le-ltb, length, lt-ltb, map, ne_eqb, newcomer, none_has, once_below, slice_get, slice_get_within, slice_index_or, subst, sym, times, times_append, view, ℕ}
 use Rattle.std.proofs.lemmas.Bool.Decides.{nat_tests}
-use Rattle.std.proofs.lemmas.Option.{slice_get_within}
-use Rattle.ld_trace.specs.declared.event.Event.{Event}
-use Rattle.ld_task.specs.declared.fault.StepAt.{StepAt}
-use Rattle.ld_facts.specs.FactBits.{FactParts, HasFact}
-use Rattle.ld_facts.specs.Facts.{AreSame, Holds}
-use Rattle.ld_facts.specs.Laws.Lists.{Any-push, Contains-head}
-use Rattle.ld_facts.specs.declared.fact.Fact.{Fact}
-use Rattle.ld_board.specs.Seats.{view, claims_of}
-use Rattle.ld_board.specs.Views.{newcomer, times, once_below, PutHas, SeenHas, KnowsFact}
-use Rattle.ld_run.specs.Tallies.{Every, HasBeforeFault, IsRefused, IsTally, LeastRefusedIs, OfSome}
-use Rattle.ld_run.specs.Work.{HasWorked}
-use Rattle.ld_run.specs.Inside.Crews.{HasDrawn, SomeHasDrawn, earlier_refused}
-use Rattle.ld_board.specs.declared.view.View.{View}
-use Rattle.ld_board.specs.declared.seat.Seat.{Seat}
-use Rattle.ld_run.specs.declared.worker.Worked.{Worked}
-use Rattle.ld_board.specs.Laws.Seats.{Any-cases, Any-here, Any-later, none_has, times_append}
 use Rattle.ld_run.proofs.Working.{Contains-cases, Contains-later, least-same, no_member}
 
 -- ---- the first refused of two parts of the traces

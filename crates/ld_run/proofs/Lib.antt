@@ -1,3 +1,4 @@
+pub mod Names
 pub mod BeforeFaults
 pub mod Tallies
 pub mod Walking

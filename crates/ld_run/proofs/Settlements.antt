@@ -1,17 +1,10 @@
 -- A book settles exactly with tallies of the same facts.
-use Rattle.std.proofs.Common.{◌≡◌, ℕ, ◌≤◌, ◌↔◌, List, Result, Ok, Err, IfOk, IfErr, length, sym, subst, ◌∙◌}
-use Rattle.ld_trace.specs.declared.event.Event.{Event}
-use Rattle.ld_facts.specs.FactBits.{FactParts, HasFact}
-use Rattle.ld_facts.specs.Facts.{AreSame}
+use Rattle.ld_run.proofs.Names.{◌↔◌, ◌∙◌, ◌≡◌, ◌≤◌, AreSame, CompletesRun, EndsRun, Err, Event, FactParts, HasFact, IfErr, IfOk, IsCrew, IsFirstRefused, List, MAX_TRACES, Ok, Result, StepAt, StopsRun, length, subst, sym, ℕ}
 use Rattle.ld_book.specs.Books.{BookParts, JournalHas}
-use Rattle.ld_task.specs.declared.fault.StepAt.{StepAt}
-use Rattle.ld_facts.specs.TraceFacts.{IsFirstRefused}
-use Rattle.ld_run.specs.Runs.{CompletesRun, EndsRun, IsCrew, StopsRun}
 use Rattle.ld_run.specs.Settling.{Settles}
 use Rattle.ld_run.specs.declared.fault.RunFault.{RunFault}
 use Rattle.ld_run.specs.declared.fault.RunFault.TheVariants.{Unsettled, Refused}
 use Rattle.ld_trace.specs.declared.key_id.TheConstants.{GRAPH_KEYS}
-use Rattle.ld_trace.specs.declared.raw_trace.TheConstants.{MAX_TRACES}
 
 pub settles-same : (book : BookParts) (facts tallies : FactParts) → facts.keys ≡ book.keys → AreSame (HasFact facts) (JournalHas book.journal) → ((facts.keys ≡ tallies.keys) × AreSame (HasFact facts) (HasFact tallies)) ↔ Settles book tallies
 settles-same book facts tallies keys facts_are = (

@@ -1,19 +1,7 @@
 -- Going along a trace, and adding up the facts of its chains.
-use Rattle.std.proofs.Common.{◌≡◌, ◌⊎◌, ◌↔◌, ℕ, ◌+◌, ◌≤◌, List, [], ◌∷◌, ◌++◌, Option, Some, None, Result, Ok, take, length, refl, sym, ◌∙◌, subst, inl, inr}
-use Rattle.std.proofs.lemmas.List.{append-nil, take_all}
-use Rattle.ld_trace.specs.declared.event.Event.{Event}
-use Rattle.ld_task.specs.declared.fault.StepFault.{StepFault}
-use Rattle.ld_task.specs.Chains.{ChainParts}
+use Rattle.ld_run.proofs.Names.{[], ◌++◌, ◌+◌, ◌↔◌, ◌∙◌, ◌∷◌, ◌≡◌, ◌≤◌, ◌⊎◌, Adds, Any-push, ChainHas, ChainParts, ChainsHave, EndState, Event, Fact, FactParts, GoesOn, HasFact, IsStateAfter, IsWellFormed, List, None, Ok, Option, Result, Some, StepFault, TraceFactsAreTheChains, TraceHas, append-nil, inl, inr, length, refl, subst, sym, take, take_all, ℕ}
 use Rattle.ld_task.specs.Positions.{positions_below}
-use Rattle.ld_task.specs.EndState.{EndState}
-use Rattle.ld_task.specs.Steps.{GoesOn, IsStateAfter}
 use Rattle.ld_task.specs.TraceChains.{chains}
-use Rattle.ld_task.specs.WellFormed.{IsWellFormed}
-use Rattle.ld_facts.specs.FactBits.{FactParts, HasFact}
-use Rattle.ld_facts.specs.Laws.Lists.{Any-push}
-use Rattle.ld_facts.specs.Facts.{Adds, ChainHas, ChainsHave, TraceHas}
-use Rattle.ld_facts.specs.Laws.{TraceFactsAreTheChains}
-use Rattle.ld_facts.specs.declared.fact.Fact.{Fact}
 use Rattle.ld_run.proofs.Walking.{no_chains}
 
 -- the first n events of the trace were allowed, this is the state after them, and the facts of their chains were added

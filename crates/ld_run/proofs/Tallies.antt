@@ -1,17 +1,5 @@
 -- The tally of all traces, and what it says of them.
-use Rattle.std.proofs.Common.{ℕ, zero, suc, ◌<◌, ◌≤◌, ◌↔◌, List, [], ◌∷◌, Some, None, take, slice_index_or, length, refl, sym, ◌∙◌, Any, All, arith}
-use Rattle.std.proofs.lemmas.Option.{slice_get_within, slice_get_read, get_or_from_slice_get, slice_get-get_or}
-use Rattle.ld_trace.specs.declared.event.Event.{Event}
-use Rattle.ld_task.specs.declared.fault.StepAt.{StepAt}
-use Rattle.ld_task.specs.Laws.{BeginningsKeepTheirChains}
-use Rattle.ld_task.specs.WellFormed.{IsWellFormed}
-use Rattle.ld_facts.specs.FactBits.{FactParts}
-use Rattle.ld_facts.specs.Facts.{TraceHas}
-use Rattle.ld_facts.specs.Laws.{TraceFactsAreTheChains}
-use Rattle.ld_facts.specs.TraceFacts.{IsFirstRefused}
-use Rattle.ld_run.specs.Runs.{CompletesRun, IsCrew}
-use Rattle.ld_run.specs.Tallies.{AreWellFormed, Every, HasBeforeFault, IsTally, OfSome}
-use Rattle.ld_trace.specs.declared.raw_trace.TheConstants.{MAX_TRACES}
+use Rattle.ld_run.proofs.Names.{[], ◌<◌, ◌↔◌, ◌∙◌, ◌∷◌, ◌≤◌, All, Any, AreWellFormed, BeginningsKeepTheirChains, CompletesRun, Event, Every, FactParts, HasBeforeFault, IsCrew, IsFirstRefused, IsTally, IsWellFormed, List, MAX_TRACES, None, OfSome, Some, StepAt, TraceFactsAreTheChains, TraceHas, arith, get_or_from_slice_get, length, refl, slice_get-get_or, slice_get_read, slice_get_within, slice_index_or, suc, sym, take, zero, ℕ}
 use Rattle.ld_run.proofs.BeforeFaults.{before_fault-all, slice_get-take}
 
 module _ (traces : List (List Event)) (facts : FactParts) where

@@ -1,17 +1,5 @@
 -- Walking traces, and adding up their facts.
-use Rattle.std.proofs.Common.{◌≡◌, ◌⊎◌, ◌↔◌, ℕ, zero, suc, ◌+◌, ◌<◌, ◌≤◌, List, [], ◌∷◌, ◌++◌, Some, All, Any, drop, take, length, get_or, slice_get, refl, sym, ap, ◌∙◌, subst, inl, inr, arith}
-use Rattle.std.proofs.lemmas.List.{drop-take, get_or-drop, get_or-take, length-drop, length-take, take-append-drop, take_more}
-use Rattle.std.proofs.lemmas.List.Elements.{All-append, All-push, Contains-append_cases, Contains-append_left, Contains-append_right}
-use Rattle.std.proofs.lemmas.Option.{get_or_from_slice_get, slice_get-get_or, slice_get_within}
-use Rattle.ld_trace.specs.declared.event.Event.{Event}
-use Rattle.ld_task.specs.WellFormed.{IsWellFormed}
-use Rattle.ld_task.specs.declared.fault.StepAt.{StepAt}
-use Rattle.ld_facts.specs.FactBits.{FactParts, HasFact}
-use Rattle.ld_facts.specs.Laws.Lists.{Any-push}
-use Rattle.ld_facts.specs.Facts.{Adds, AreSame, TraceHas}
-use Rattle.ld_facts.specs.declared.fact.Fact.{Fact}
-use Rattle.ld_facts.specs.TraceFacts.{IsFirstRefused, TracesHave}
-use Rattle.ld_run.specs.Inside.Walked.{AreWalked, StopsWalk}
+use Rattle.ld_run.proofs.Names.{[], ◌++◌, ◌+◌, ◌<◌, ◌↔◌, ◌∙◌, ◌∷◌, ◌≡◌, ◌≤◌, ◌⊎◌, Adds, All, All-append, All-push, Any, Any-push, AreSame, AreWalked, Contains-append_cases, Contains-append_left, Contains-append_right, Event, Fact, FactParts, HasFact, IsFirstRefused, IsWellFormed, List, Some, StepAt, StopsWalk, TraceHas, TracesHave, ap, arith, drop, drop-take, get_or, get_or-drop, get_or-take, get_or_from_slice_get, inl, inr, length, length-drop, length-take, refl, slice_get, slice_get-get_or, slice_get_within, subst, suc, sym, take, take-append-drop, take_more, zero, ℕ}
 use Rattle.ld_run.specs.declared.shares.Unwalked.{Unwalked}
 use Rattle.ld_run.specs.declared.shares.Unwalked.TheVariants.{Memory, Refused}
 

@@ -1,22 +1,7 @@
 -- Going along a trace, and what is put on a board and known on the way.
-use Rattle.std.proofs.Common.{◌≡◌, ◌⊎◌, ◌↔◌, ℕ, zero, suc, ◌+◌, ◌<◌, ◌≤◌, List, [], ◌∷◌, ◌++◌, Option, Some, None, Result, Ok, Err, true≢false, IsErr, take, slice_get, length, refl, sym, ◌∙◌, subst, inl, inr, arith}
-use Rattle.std.proofs.lemmas.List.{append-nil}
-use Rattle.std.proofs.lemmas.List.Elements.{All-take, All-pop}
-use Rattle.ld_trace.specs.Events.{KeysBelow, KeyIsBelow}
-use Rattle.ld_trace.specs.declared.event.Event.{Event}
-use Rattle.ld_task.specs.declared.fault.StepFault.{StepFault}
-use Rattle.ld_task.specs.Chains.{ChainParts, ChainKeysBelow}
-use Rattle.ld_task.specs.Laws.{ChainKeysAreTheTraces}
+use Rattle.ld_run.proofs.Names.{[], ◌++◌, ◌+◌, ◌<◌, ◌↔◌, ◌∙◌, ◌∷◌, ◌≡◌, ◌≤◌, ◌⊎◌, All-pop, All-take, Any-push, AreSame, ChainHas, ChainKeysAreTheTraces, ChainKeysBelow, ChainParts, ChainsHave, ComesNext, EndState, Err, Event, Fact, GoesOn, HasGathered, Holds, IsErr, IsStateAfter, KeyIsBelow, KeysBelow, KnowsFact, List, None, Ok, Option, PutsOnly, Result, Some, StepFault, View, WalksOn, append-nil, arith, fault_in, inl, inr, length, refl, slice_get, subst, suc, sym, take, true≢false, zero, ℕ}
 use Rattle.ld_task.specs.Positions.{positions_below}
-use Rattle.ld_task.specs.EndState.{EndState}
-use Rattle.ld_task.specs.Steps.{GoesOn, IsStateAfter}
 use Rattle.ld_task.specs.TraceChains.{chains}
-use Rattle.ld_facts.specs.Laws.Lists.{Any-push}
-use Rattle.ld_facts.specs.Facts.{AreSame, ChainHas, ChainsHave, Holds}
-use Rattle.ld_facts.specs.declared.fact.Fact.{Fact}
-use Rattle.ld_board.specs.Views.{KnowsFact, PutsOnly}
-use Rattle.ld_run.specs.Inside.Walks.{ComesNext, HasGathered, WalksOn, fault_in}
-use Rattle.ld_board.specs.declared.view.View.{View}
 use Rattle.ld_run.specs.declared.worker.OutOfMemory.{OutOfMemory}
 
 -- the chain of an event of a trace has the trace's keys

@@ -1,17 +1,5 @@
 -- What a worker has drawn, put and found.
-use Rattle.std.proofs.Common.{◌≡◌, ◌⊎◌, ◌↔◌, ℕ, zero, suc, ◌<◌, ◌≤◌, List, [], ◌∷◌, ◌++◌, Option, Some, None, All, Contains, IfSome, slice_get, length, refl, sym, ap, ◌∙◌, subst, inl, inr, arith}
-use Rattle.std.proofs.lemmas.Option.{slice_get_within}
-use Rattle.ld_trace.specs.declared.event.Event.{Event}
-use Rattle.ld_task.specs.declared.fault.StepAt.{StepAt}
-use Rattle.ld_task.specs.WellFormed.{IsWellFormed}
-use Rattle.ld_facts.specs.Facts.{Holds}
-use Rattle.ld_facts.specs.declared.fact.Fact.{Fact}
-use Rattle.ld_facts.specs.Laws.Lists.{Contains-head}
-use Rattle.ld_board.specs.Views.{KnowsFact, with_claim, PutsOnly}
-use Rattle.ld_run.specs.Tallies.{HasBeforeFault, IsRefused, LeastRefusedIs, OfSome}
-use Rattle.ld_run.specs.Work.{DrawnHave, HasFinished}
-use Rattle.ld_run.specs.Inside.Walks.{FirstFaultIs, first_refused_of}
-use Rattle.ld_board.specs.declared.view.View.{View}
+use Rattle.ld_run.proofs.Names.{[], ◌++◌, ◌<◌, ◌↔◌, ◌∙◌, ◌∷◌, ◌≡◌, ◌≤◌, ◌⊎◌, All, Contains, Contains-head, DrawnHave, Event, Fact, FirstFaultIs, HasBeforeFault, HasFinished, Holds, IfSome, IsRefused, IsWellFormed, KnowsFact, LeastRefusedIs, List, None, OfSome, Option, PutsOnly, Some, StepAt, View, ap, arith, first_refused_of, inl, inr, length, refl, slice_get, slice_get_within, subst, suc, sym, with_claim, zero, ℕ}
 use Rattle.ld_run.proofs.Walking.{PutsOnly-more, PutsOnly-then}
 
 -- ---- members of a longer list

@@ -1,16 +1,11 @@
 -- Condensed traces of equal facts, and that their texts read back.
-use Rattle.std.proofs.Common.{◌≡◌, ◌≤◌, ℕ, List, [], Result, Ok, Err, IfOk, IsOkAnd, arith, length, subst}
-use Rattle.ld_trace.specs.Events.{KeysBelow}
+use Rattle.lockdep.proofs.Names.{[], ◌≡◌, ◌≤◌, AreNumbered, Err, Event, IfOk, IsCondensedText, IsOkAnd, KeysBelow, List, MAX_EVENTS, Name, Ok, ReadsBackAnew, Result, Table, arith, length, subst, ℕ}
 use Rattle.ld_trace.specs.Laws.{NewTablesHaveRoom, TextsReadBack}
-use Rattle.ld_trace.specs.Names.{AreNumbered, Name, Table}
 use Rattle.ld_trace.specs.Writing.{trace_text}
-use Rattle.ld_trace.specs.declared.event.Event.{Event}
-use Rattle.ld_trace.specs.declared.raw_trace.TheConstants.{MAX_EVENTS}
 use Rattle.ld_run.specs.Condensing.{IsCondensed}
 use Rattle.ld_run.specs.declared.condense_fault.CondenseFault.{CondenseFault}
 use Rattle.ld_facts.specs.Facts.{AreSame}
 use Rattle.ld_facts.specs.declared.fact.Fact.{Fact}
-use Rattle.lockdep.specs.Condensed.{IsCondensedText, ReadsBackAnew}
 
 -- a trace that has the one has the other
 pub IsCondensedText-same : (P Q : Fact → Type 0) → AreSame P Q → (names : List Name) (text : List ℕ) → IsCondensedText P names text → IsCondensedText Q names text

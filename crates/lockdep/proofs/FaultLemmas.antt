@@ -1,20 +1,12 @@
 -- What a refused output leaves.
-use Rattle.std.proofs.Common.{◌≡◌, ◌<◌, ◌≤◌, ◌↔◌, ℕ, Bool, List, Option, Result, All, Ok, Err, OnOk, IfErr, IsErrAnd, IsErrOf, MatchResult, length, refl, subst, sym, arith}
+use Rattle.lockdep.proofs.Names.{◌<◌, ◌↔◌, ◌≡◌, ◌≤◌, All, Appends, Bool, Err, Event, IfErr, IsCrew, IsErrAnd, IsErrOf, IsTextOf, IsWellFormed, List, MAX_TRACES, MatchResult, Name, Ok, OnOk, Option, OutputView, Result, StopsSettled, StopsText, arith, length, refl, subst, sym, ℕ}
 use Rattle.std.specs.Bool.{⊤}
-use Rattle.std.specs.Io.KnownBytes.{Appends}
-use Rattle.ld_trace.specs.Names.{Name}
-use Rattle.ld_trace.specs.declared.event.Event.{Event}
-use Rattle.ld_task.specs.WellFormed.{IsWellFormed}
-use Rattle.ld_run.specs.Runs.{IsCrew}
-use Rattle.ld_trace.specs.declared.raw_trace.TheConstants.{MAX_TRACES}
 use Rattle.ld_run.specs.declared.fault.RunFault.TheVariants as run
 use Rattle.lockdep.specs.declared.fault.ReportFault.{ReportFault}
 use Rattle.lockdep.specs.declared.fault.ReportFault.TheVariants.{Step, Run, Condensing, Out}
 use Rattle.ld_text.specs.declared.write_fault.WriteFault.{WriteFault}
-use Rattle.lockdep.specs.Faults.{StopsSettled, StopsText}
 use Rattle.ld_text.specs.WriteFaults.{StopsWriting}
 use Rattle.ld_text.specs.Laws.WriteFaults.{StopsWriting-same}
-use Rattle.lockdep.specs.Texts.{OutputView, IsTextOf}
 
 pub StopsSettled-same : (output : OutputView) (A B : List ℕ → Type 0) → ((text : List ℕ) → A text → B text) → (old new : Option (List ℕ)) (fault : ReportFault) → StopsSettled output A old new fault → StopsSettled output B old new fault
 StopsSettled-same output A B same old new (Step trace at fault) stops = absurd stops

@@ -1,3 +1,4 @@
+pub mod Names
 pub mod CondensedLemmas
 pub mod FaultLemmas
 pub mod ProgramLemmas

@@ -1,11 +1,8 @@
 -- Which traces a refusal names, and what its line leaves.
-use Rattle.std.proofs.Common.{◌≡◌, ◌==◌, true, Result, Ok, Err, IfErr, IsErr, IsErrAnd, ℕ, zero, suc, ◌<◌, List, [], ◌∷◌, Option, None, Bor, Contains, codes, length, map, slice_get, slice_index_or, Some, refl, sym, ap, subst, arith, inl, inr}
+use Rattle.lockdep.proofs.Names.{[], ◌<◌, ◌==◌, ◌∷◌, ◌≡◌, Appends, Bor, Contains, Err, IfErr, IsErr, IsErrAnd, IsReadingRefusal, List, Name, None, Ok, Option, Result, Some, StopsReading, ap, arith, codes, inl, inr, length, map, refl, slice_get, slice_index_or, subst, suc, sym, true, zero, ℕ}
 use Rattle.std.proofs.lemmas.List.{append-nil}
-use Rattle.std.specs.Io.KnownBytes.{Appends}
 use Rattle.ld_text.specs.Output.{AppendsBeginning}
 use Rattle.ld_text.specs.Words.{Text}
-use Rattle.ld_trace.specs.Names.{Name}
-use Rattle.lockdep.specs.Program.{IsReadingRefusal, StopsReading}
 use Rattle.lockdep.specs.declared.refusal.Refusal.{Refusal}
 use Rattle.lockdep.specs.declared.refusal.Refusal.TheVariants.{BadCommandLine, CannotOpen, Output, Memory, Reading, Step, Run, Condensing}
 

@@ -1,4 +1,4 @@
-use Rattle.std.proofs.Common.{◌≡◌, map, string_bytes, take}
+use Rattle.lockdep.proofs.Names.{◌≡◌, map, string_bytes, take}
 use Rattle.lockdep.proofs.texts_of.Given as goal
 
 -- the texts of the words so far

@@ -1,10 +1,5 @@
-use Rattle.std.proofs.Common.{◌≡◌, ◌+◌, sym, ap, ◌∙◌, arith}
-use Rattle.ld_board.specs.Inside.BoardRule.{joined}
-use Rattle.ld_board.specs.Inside.Gathered.{joined_onto}
-use Rattle.ld_board.specs.declared.view.View.{View}
-use Rattle.ld_board.specs.declared.seat.Seat.{Seat}
+use Rattle.ld_board.proofs.Names.{◌+◌, ◌∙◌, ◌≡◌, Seat, View, all_last, ap, arith, joined, joined_onto, sym}
 use Rattle.ld_board.proofs.Moves.{joins}
-use Rattle.ld_board.specs.Laws.Seats.{all_last}
 use Rattle.ld_board.proofs.SeatLists.{joined_onto_last}
 use Rattle.ld_board.proofs.board.gather.Goals as goal
 

@@ -1,5 +1,4 @@
-use Rattle.std.proofs.Common.{◌≡◌, ◌+◌, ◌<◌, All, vec_len}
-use Rattle.ld_board.specs.Inside.Gathered.{joined_onto}
+use Rattle.ld_board.proofs.Names.{◌+◌, ◌<◌, ◌≡◌, All, joined_onto, vec_len}
 use Rattle.ld_board.proofs.board.gather.Given as goal
 
 abbrev pub invariant-loop-next : goal.invariant-loop-next

@@ -1,8 +1,4 @@
-use Rattle.std.proofs.Common.{◌≡◌, ◌+◌, ◌∷◌, [], ℕ, refl, sym, ap, ◌∙◌, subst, arith, slice_index}
-use Rattle.std.specs.Mem.Slots.{slots_items}
-use Rattle.ld_facts.specs.FactBits.{HasFact}
-use Rattle.ld_facts.specs.Facts.{Adds}
-use Rattle.ld_facts.specs.WordPairs.{NonePast, PairsHave, word_total}
+use Rattle.ld_board.proofs.Names.{[], ◌+◌, ◌∙◌, ◌∷◌, ◌≡◌, Adds, HasFact, NonePast, PairsHave, ap, arith, refl, slice_index, slots_items, subst, sym, word_total, ℕ}
 use Rattle.ld_board.proofs.SeatFacts.{words_more}
 use Rattle.ld_board.proofs.SeatLists.{read_is}
 use Rattle.ld_board.proofs.board.unite_words.Goals.{After-word}

@@ -1,7 +1,4 @@
-use Rattle.std.proofs.Common.{◌≡◌}
-use Rattle.std.specs.Mem.Slots.{slots_items}
-use Rattle.ld_facts.specs.FactBits.{HasFact}
-use Rattle.ld_facts.specs.Facts.{AreSame}
+use Rattle.ld_board.proofs.Names.{◌≡◌, AreSame, HasFact, slots_items}
 use Rattle.ld_board.proofs.SeatFacts.{WordsHave}
 use Rattle.ld_board.proofs.board.unite_words.Given as goal
 

@@ -1,7 +1,5 @@
-use Rattle.std.proofs.Common.{◌≡◌, ◌++◌, ◌∷◌, ◌∙◌, sym, ap, subst, length, arith}
+use Rattle.ld_book.proofs.Names.{◌++◌, ◌∙◌, ◌∷◌, ◌≡◌, ap, arith, chain_eq, drain_items, length, subst, sym}
 use Rattle.std.specs.List.{IsDistinct}
-use Rattle.std.specs.Vec.Iter.{drain_items}
-use Rattle.ld_task.specs.ChainEquality.{chain_eq}
 use Rattle.ld_book.proofs.ChainsLemmas.{inserted-next}
 use Rattle.ld_book.proofs.chains.move_to_end.Goals as goal
 

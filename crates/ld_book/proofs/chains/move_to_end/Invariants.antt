@@ -1,8 +1,5 @@
-use Rattle.std.proofs.Common.{◌≡◌, ◌++◌, ◌≤◌, length}
+use Rattle.ld_book.proofs.Names.{◌++◌, ◌≡◌, ◌≤◌, chain_eq, drain_items, length, spare}
 use Rattle.std.specs.List.{IsDistinct}
-use Rattle.std.specs.Vec.Iter.{drain_items}
-use Rattle.indexmap.specs.IndexSet.{spare}
-use Rattle.ld_task.specs.ChainEquality.{chain_eq}
 use Rattle.ld_book.proofs.chains.move_to_end.Given as goal
 
 -- those that are in the set and those that aren't yet are those of before, and for those that aren't there is room

@@ -1,5 +1,4 @@
-use Rattle.std.proofs.Common.{◌≡◌, []}
-use Rattle.ld_read.specs.Inside.Ahead.{AreFrom, AreParts}
+use Rattle.ld_read.proofs.Names.{[], ◌≡◌, AreFrom, AreParts}
 use Rattle.ld_read.proofs.ahead.read_claimed.Given as goal
 
 -- what was read so far is from its sources, and nothing was taken in

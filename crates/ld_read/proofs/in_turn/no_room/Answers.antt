@@ -1,4 +1,4 @@
-use Rattle.std.proofs.Common.{refl, arith}
+use Rattle.ld_read.proofs.Names.{arith, refl}
 use Rattle.ld_trace.specs.Reading.{names_after}
 use Rattle.ld_read.proofs.in_turn.no_room.Goals as goal
 

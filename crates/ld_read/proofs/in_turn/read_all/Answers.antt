@@ -1,5 +1,4 @@
-use Rattle.std.proofs.Common.{◌≡◌, ◌∙◌, ◌+◌, ◌++◌, ap, append_assoc, arith, length, length-append}
-use Rattle.std.proofs.lemmas.Result.{IfErr-weaker, on_ok_weaker}
+use Rattle.ld_read.proofs.Names.{◌++◌, ◌+◌, ◌∙◌, ◌≡◌, IfErr-weaker, ap, append_assoc, arith, length, length-append, on_ok_weaker}
 use Rattle.ld_read.proofs.AreReadLemmas.{all-below, below-after, read-append, stopped-below, stops-append}
 use Rattle.ld_read.proofs.in_turn.read_all.Goals as goal
 

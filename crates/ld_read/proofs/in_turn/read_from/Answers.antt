@@ -1,5 +1,4 @@
-use Rattle.std.proofs.Common.{◌∙◌, ◌∷◌, ◌++◌, [], ap, append_assoc, arith, length-append, refl, sym}
-use Rattle.std.proofs.lemmas.List.{append-nil}
+use Rattle.ld_read.proofs.Names.{[], ◌++◌, ◌∙◌, ◌∷◌, ap, append-nil, append_assoc, arith, length-append, refl, sym}
 use Rattle.ld_read.proofs.AreReadLemmas.{read-none, read-one-more}
 use Rattle.ld_read.proofs.in_turn.read_from.Goals as goal
 

@@ -1,5 +1,4 @@
-use Rattle.std.proofs.Common.{◌≡◌, ◌+◌, ◌++◌, List, length}
-use Rattle.ld_trace.specs.declared.event.Event.{Event}
+use Rattle.ld_read.proofs.Names.{◌++◌, ◌+◌, ◌≡◌, Event, List, length}
 use Rattle.ld_read.specs.Reading.{AreRead}
 use Rattle.ld_read.proofs.in_turn.read_from.Given as goal
 

@@ -1,4 +1,4 @@
-use Rattle.std.proofs.Common.{arith, drop, length}
+use Rattle.ld_read.proofs.Names.{arith, drop, length}
 use Rattle.ld_read.proofs.JoinedTexts.{appended, short-known}
 use Rattle.ld_read.proofs.joined.append_text.Goals as goal
 

@@ -1,4 +1,4 @@
-use Rattle.std.proofs.Common.{refl, arith}
+use Rattle.ld_read.proofs.Names.{arith, refl}
 use Rattle.ld_read.proofs.JoinedTexts.{first-joined, next-joined}
 use Rattle.ld_read.proofs.joined.join_texts.Goals as goal
 

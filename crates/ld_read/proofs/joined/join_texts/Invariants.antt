@@ -1,4 +1,4 @@
-use Rattle.ld_read.specs.Inside.Ahead.{AreJoined}
+use Rattle.ld_read.proofs.Names.{AreJoined}
 use Rattle.ld_read.proofs.joined.join_texts.Given as goal
 
 -- the texts before this place are there

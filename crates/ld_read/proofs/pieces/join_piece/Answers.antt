@@ -1,5 +1,4 @@
-use Rattle.std.proofs.Common.{◌≡◌, arith, refl}
-use Rattle.ld_read.specs.Inside.Pieces.{IsPiece}
+use Rattle.ld_read.proofs.Names.{◌≡◌, IsPiece, arith, refl}
 use Rattle.ld_read.proofs.PieceLemmas.{on-piece}
 use Rattle.ld_read.proofs.pieces.join_piece.Goals as goal
 

@@ -1,6 +1,4 @@
-use Rattle.std.proofs.Common.{◌≡◌, ◌∙◌, ◌-◌, arith, ap, drop, refl, take}
-use Rattle.std.proofs.lemmas.List.Elements.{All-set}
-use Rattle.ld_read.specs.Inside.Pieces.{MayBePiece}
+use Rattle.ld_read.proofs.Names.{◌-◌, ◌∙◌, ◌≡◌, All-set, MayBePiece, ap, arith, drop, refl, take}
 use Rattle.ld_read.proofs.PieceLemmas.{found-below, on-more, on-nothing, take-on}
 use Rattle.ld_read.proofs.pieces.join_pieces.Goals as goal
 

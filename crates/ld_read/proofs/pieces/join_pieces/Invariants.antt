@@ -1,5 +1,4 @@
-use Rattle.std.proofs.Common.{◌≡◌, ◌≤◌, All, length, take}
-use Rattle.ld_read.specs.Inside.Pieces.{MayBePiece, ReadsOn}
+use Rattle.ld_read.proofs.Names.{◌≡◌, ◌≤◌, All, MayBePiece, ReadsOn, length, take}
 use Rattle.ld_read.proofs.pieces.join_pieces.Given as goal
 
 -- the lines before this place were taken in

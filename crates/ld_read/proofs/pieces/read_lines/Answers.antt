@@ -1,9 +1,4 @@
-use Rattle.std.proofs.Common.{◌≡◌, ◌++◌, [], ap, ◌∙◌}
-use Rattle.std.proofs.lemmas.Result.{IfOk-weaker, IfErr-weaker}
-use Rattle.std.specs.Io.Buffered.{reader_remaining}
-use Rattle.ld_trace.specs.Pieces.{header_line}
-use Rattle.ld_trace.specs.Reading.{ReadsTo, StopsAt}
-use Rattle.ld_read.specs.Inside.Pieces.{left_of}
+use Rattle.ld_read.proofs.Names.{[], ◌++◌, ◌∙◌, ◌≡◌, IfErr-weaker, IfOk-weaker, ReadsTo, StopsAt, ap, header_line, left_of, reader_remaining}
 use Rattle.ld_read.proofs.PieceLemmas.{whole-of}
 use Rattle.ld_read.proofs.pieces.read_lines.Goals as goal
 

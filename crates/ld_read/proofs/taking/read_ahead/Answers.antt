@@ -1,5 +1,4 @@
-use Rattle.std.proofs.Common.{[], refl, sym}
-use Rattle.std.proofs.lemmas.List.{append-nil}
+use Rattle.ld_read.proofs.Names.{[], append-nil, refl, sym}
 use Rattle.ld_read.proofs.AreReadLemmas.{read-none}
 use Rattle.ld_read.proofs.taking.read_ahead.Goals as goal
 

@@ -1,7 +1,5 @@
-use Rattle.std.proofs.Common.{◌≡◌, ◌++◌, ℕ, List, Option, All, length}
-use Rattle.ld_trace.specs.declared.event.Event.{Event}
+use Rattle.ld_read.proofs.Names.{◌++◌, ◌≡◌, All, AreFrom, Event, IsAhead, List, Option, length, ℕ}
 use Rattle.ld_read.specs.Reading.{AreRead}
-use Rattle.ld_read.specs.Inside.Ahead.{AreFrom, IsAhead}
 use Rattle.ld_read.proofs.taking.take_in_all.Given as goal
 
 -- the traces before this place were taken in

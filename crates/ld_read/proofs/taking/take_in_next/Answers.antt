@@ -1,6 +1,4 @@
-use Rattle.std.proofs.Common.{◌∙◌, ◌∷◌, ◌++◌, [], All, None, ap, arith, length}
-use Rattle.std.proofs.lemmas.List.Elements.{All-set}
-use Rattle.ld_read.specs.Inside.Ahead.{AreFrom, IsAhead}
+use Rattle.ld_read.proofs.Names.{[], ◌++◌, ◌∙◌, ◌∷◌, All, All-set, AreFrom, IsAhead, None, ap, arith, length}
 use Rattle.ld_read.proofs.AheadLemmas.{all-ahead-longer, none-known}
 use Rattle.ld_read.proofs.taking.take_in_next.Goals as goal
 

@@ -1,4 +1,4 @@
-use Rattle.std.proofs.Common.{◌≡◌}
+use Rattle.ld_read.proofs.Names.{◌≡◌}
 use Rattle.ld_read.proofs.taking.take_in_next.Given as goal
 
 -- nothing was changed yet

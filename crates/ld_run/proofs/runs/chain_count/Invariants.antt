@@ -1,6 +1,4 @@
-use Rattle.std.proofs.Common.{◌≡◌, ◌≤◌, ◌*◌, count_by, sum_by, take}
-use Rattle.ld_trace.specs.declared.raw_trace.TheConstants.{MAX_EVENTS}
-use Rattle.ld_task.specs.Events.{makes_chain}
+use Rattle.ld_run.proofs.Names.{◌*◌, ◌≡◌, ◌≤◌, MAX_EVENTS, count_by, makes_chain, sum_by, take}
 use Rattle.ld_run.proofs.runs.chain_count.Given as goal
 
 -- the traces so far were counted

@@ -1,5 +1,4 @@
-use Rattle.std.proofs.Common.{◌≤◌, ◌∙◌, Bool, true, false, ap, sym, arith}
-use Rattle.std.specs.Int.{from_bool}
+use Rattle.ld_run.proofs.Names.{◌∙◌, ◌≤◌, Bool, ap, arith, false, from_bool, sym, true}
 use Rattle.ld_run.proofs.Counts.{count_more}
 use Rattle.ld_run.proofs.runs.chains_of.Goals as goal
 

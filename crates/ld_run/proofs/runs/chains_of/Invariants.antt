@@ -1,5 +1,4 @@
-use Rattle.std.proofs.Common.{◌≡◌, ◌≤◌, count_by, take}
-use Rattle.ld_task.specs.Events.{makes_chain}
+use Rattle.ld_run.proofs.Names.{◌≡◌, ◌≤◌, count_by, makes_chain, take}
 use Rattle.ld_run.proofs.runs.chains_of.Given as goal
 
 -- the events so far were counted

@@ -1,5 +1,4 @@
-use Rattle.std.proofs.Common.{subst}
-use Rattle.ld_run.specs.Tallies.{IsTally}
+use Rattle.ld_run.proofs.Names.{IsTally, subst}
 use Rattle.ld_run.proofs.Tallies.{completes, first_refused}
 use Rattle.ld_run.proofs.Settlements.{settled_ends, refused_ends}
 use Rattle.ld_run.proofs.runs.conclude.Goals as goal

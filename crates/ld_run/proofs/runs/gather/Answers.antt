@@ -1,12 +1,5 @@
-use Rattle.std.proofs.Common.{◌≡◌, ◌<◌, ◌∷◌, ◌++◌, [], List, All, length, map, ap, ◌∙◌, sym, subst, arith}
-use Rattle.std.proofs.lemmas.List.Elements.{All-cons, All-map}
-use Rattle.ld_board.specs.Boards.{keys_of, IsSeatOf}
-use Rattle.ld_board.specs.Seats.{view}
-use Rattle.ld_board.specs.Views.{newcomer}
-use Rattle.ld_board.specs.declared.seat.Seat.{Seat}
-use Rattle.ld_run.specs.declared.worker.Worked.{Worked}
+use Rattle.ld_run.proofs.Names.{[], ◌++◌, ◌<◌, ◌∙◌, ◌∷◌, ◌≡◌, All, All-cons, All-map, IsSeatOf, List, Seat, Worked, all_last, ap, arith, keys_of, length, map, newcomer, subst, sym, view}
 use Rattle.ld_run.proofs.Crews.{IsDone, seats_of, tally_of_all}
-use Rattle.ld_board.specs.Laws.Seats.{all_last}
 use Rattle.ld_run.proofs.runs.gather.Goals as goal
 
 pub close-requires : goal.close-requires

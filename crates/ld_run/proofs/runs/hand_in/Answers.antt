@@ -1,11 +1,5 @@
-use Rattle.std.proofs.Common.{◌≡◌, ◌∷◌, ◌++◌, [], List, IsFalse, append_assoc, map, refl, sym, ap, ◌∙◌, subst}
-use Rattle.std.proofs.lemmas.List.Elements.{All-append, All-cons, All-nil}
-use Rattle.ld_run.specs.Tallies.{LeastRefusedIs}
-use Rattle.ld_run.specs.Inside.Crews.{HasDrawn, SomeHasDrawn}
-use Rattle.ld_board.specs.declared.seat.Seat.{Seat}
-use Rattle.ld_run.specs.declared.worker.Worked.{Worked}
+use Rattle.ld_run.proofs.Names.{[], ◌++◌, ◌∙◌, ◌∷◌, ◌≡◌, All-append, All-cons, All-nil, HasDrawn, IsFalse, LeastRefusedIs, List, Seat, SomeHasDrawn, Worked, all_last, ap, append_assoc, map, refl, subst, sym}
 use Rattle.ld_run.proofs.Crews.{least-push}
-use Rattle.ld_board.specs.Laws.Seats.{all_last}
 use Rattle.ld_run.proofs.runs.hand_in.Goals as goal
 
 seats_push : (ws : List Worked) (w : Worked) → map (λ (v : Worked). v.seat) ws ++ w.seat ∷ [] ≡ map (λ (v : Worked). v.seat) (ws ++ w ∷ [])

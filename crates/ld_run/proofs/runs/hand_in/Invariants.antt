@@ -1,8 +1,4 @@
-use Rattle.std.proofs.Common.{◌≡◌, ◌++◌, List, All, IsFalse, map, vec_capacity}
-use Rattle.ld_trace.specs.declared.event.Event.{Event}
-use Rattle.ld_run.specs.Tallies.{LeastRefusedIs}
-use Rattle.ld_run.specs.Inside.Crews.{HasDrawn, SomeHasDrawn}
-use Rattle.ld_run.specs.declared.worker.Worked.{Worked}
+use Rattle.ld_run.proofs.Names.{◌++◌, ◌≡◌, All, Event, HasDrawn, IsFalse, LeastRefusedIs, List, SomeHasDrawn, Worked, map, vec_capacity}
 use Rattle.ld_run.proofs.runs.hand_in.Given as goal
 
 -- the seats of the workers so far come after the others, and none of these workers was lost

@@ -1,6 +1,4 @@
-use Rattle.std.proofs.Common.{◌≡◌, sym, subst, refl}
-use Rattle.ld_facts.specs.FactBits.{HasFact}
-use Rattle.ld_facts.specs.Facts.{AreSame}
+use Rattle.ld_run.proofs.Names.{◌≡◌, AreSame, HasFact, refl, subst, sym}
 use Rattle.ld_run.proofs.Settlements.{settles-same}
 use Rattle.ld_run.proofs.settling.settle.Goals as goal
 

@@ -1,6 +1,4 @@
-use Rattle.std.proofs.Common.{List, subst}
-use Rattle.ld_trace.specs.declared.event.Event.{Event}
-use Rattle.ld_run.specs.Inside.Walked.{EndsWalk}
+use Rattle.ld_run.proofs.Names.{EndsWalk, Event, List, subst}
 use Rattle.ld_run.proofs.shares.+halves.Goals as goal
 
 pub united-requires-clause-parts : goal.united-requires-clause-parts

@@ -1,4 +1,4 @@
-use Rattle.std.proofs.Common.{◌+◌, ◌*◌}
+use Rattle.ld_run.proofs.Names.{◌*◌, ◌+◌}
 use Rattle.ld_run.proofs.shares.+halves.Given as goal
 
 abbrev pub decreases-facts_of_all : goal.decreases-facts_of_all

@@ -1,8 +1,4 @@
-use Rattle.std.proofs.Common.{arith, refl, length, subst, sym}
-use Rattle.std.proofs.lemmas.List.{take_all}
-use Rattle.std.proofs.lemmas.Option.{slice_get_read}
-use Rattle.ld_trace.specs.Events.{KeysBelow}
-use Rattle.ld_run.specs.Inside.Walked.{AreWalked}
+use Rattle.ld_run.proofs.Names.{AreWalked, KeysBelow, arith, length, refl, slice_get_read, subst, sym, take_all}
 use Rattle.ld_run.proofs.WalkedLemmas.{AreWalked-next, AreWalked-none}
 use Rattle.ld_run.proofs.shares.facts_in_turn.Goals as goal
 

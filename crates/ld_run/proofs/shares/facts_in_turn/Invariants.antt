@@ -1,5 +1,4 @@
-use Rattle.std.proofs.Common.{take}
-use Rattle.ld_run.specs.Inside.Walked.{AreWalked}
+use Rattle.ld_run.proofs.Names.{AreWalked, take}
 use Rattle.ld_run.proofs.shares.facts_in_turn.Given as goal
 
 -- the traces so far are well formed, and these are their facts

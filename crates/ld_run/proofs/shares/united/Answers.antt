@@ -1,6 +1,5 @@
-use Rattle.std.proofs.Common.{drop, subst, take}
+use Rattle.ld_run.proofs.Names.{EndsWalk, drop, subst, take}
 use Rattle.std.proofs.lemmas.Result.{err_from_is_err_and}
-use Rattle.ld_run.specs.Inside.Walked.{EndsWalk}
 use Rattle.ld_run.proofs.WalkedLemmas.{AreWalked-both, stops-low}
 use Rattle.ld_run.proofs.shares.united.Goals as goal
 

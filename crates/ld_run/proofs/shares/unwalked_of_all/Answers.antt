@@ -1,5 +1,4 @@
-use Rattle.std.proofs.Common.{drop, subst}
-use Rattle.ld_run.specs.Inside.Walked.{StopsWalk}
+use Rattle.ld_run.proofs.Names.{StopsWalk, drop, subst}
 use Rattle.ld_run.proofs.WalkedLemmas.{refused-high}
 use Rattle.ld_run.proofs.shares.unwalked_of_all.Goals as goal
 

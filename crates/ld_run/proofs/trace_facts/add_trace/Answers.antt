@@ -1,6 +1,4 @@
-use Rattle.std.proofs.Common.{◌∙◌, ◌+◌, ap, arith, sym, subst, Ok}
-use Rattle.ld_task.specs.Chains.{ChainKeysBelow}
-use Rattle.ld_task.specs.Steps.{GoesOn}
+use Rattle.ld_run.proofs.Names.{◌+◌, ◌∙◌, ChainKeysBelow, GoesOn, Ok, ap, arith, subst, sym}
 use Rattle.ld_run.proofs.Summing.{IsSumming, IsSumming-chain, IsSumming-none, IsSumming-same, IsSumming-well_formed, IsSumming-whole}
 use Rattle.ld_run.proofs.Walking.{chain_below, never_past}
 use Rattle.ld_run.proofs.trace_facts.add_trace.Goals as goal

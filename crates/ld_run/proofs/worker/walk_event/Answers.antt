@@ -1,7 +1,4 @@
-use Rattle.std.proofs.Common.{ap, ◌∙◌, sym, subst, Ok}
-use Rattle.ld_board.specs.Boards.{keys_of}
-use Rattle.ld_board.specs.Seats.{view}
-use Rattle.ld_run.specs.Inside.Walks.{WalksOn}
+use Rattle.ld_run.proofs.Names.{◌∙◌, Ok, WalksOn, ap, keys_of, subst, sym, view}
 use Rattle.ld_run.proofs.Walking.{chain_below, none_in, walks_on-chain, walks_on-none}
 use Rattle.ld_run.proofs.worker.walk_event.Goals as goal
 

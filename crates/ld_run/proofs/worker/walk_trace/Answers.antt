@@ -1,10 +1,5 @@
-use Rattle.std.proofs.Common.{◌∙◌, ◌+◌, sym, subst, take, arith}
+use Rattle.ld_run.proofs.Names.{◌+◌, ◌∙◌, ChainsHave, HasBeforeFault, WalksOn, arith, keys_of, subst, sym, take, view}
 use Rattle.ld_task.specs.TraceChains.{chains}
-use Rattle.ld_facts.specs.Facts.{ChainsHave}
-use Rattle.ld_board.specs.Boards.{keys_of}
-use Rattle.ld_board.specs.Seats.{view}
-use Rattle.ld_run.specs.Tallies.{HasBeforeFault}
-use Rattle.ld_run.specs.Inside.Walks.{WalksOn}
 use Rattle.ld_run.proofs.BeforeFaults.{before_fault-refused, before_fault-whole, beginning_has}
 use Rattle.ld_run.proofs.Walking.{PutsOnly-more, IsWalking-none, IsWalking-next, comes_next, gathered_knows, gathered_puts, never_past}
 use Rattle.ld_run.proofs.worker.walk_trace.Goals as goal

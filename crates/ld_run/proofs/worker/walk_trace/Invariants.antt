@@ -1,5 +1,4 @@
-use Rattle.ld_board.specs.Boards.{keys_of, IsSeatOf}
-use Rattle.ld_board.specs.Seats.{view}
+use Rattle.ld_run.proofs.Names.{IsSeatOf, keys_of, view}
 use Rattle.ld_run.proofs.Walking.{IsWalking}
 use Rattle.ld_run.proofs.worker.walk_trace.Given as goal
 

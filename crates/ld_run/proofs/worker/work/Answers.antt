@@ -1,11 +1,6 @@
-use Rattle.std.proofs.Common.{◌<◌, ◌∷◌, [], ℕ, List, length, All, true≢false, refl, sym, ap, ◌∙◌, subst, arith}
-use Rattle.std.proofs.lemmas.Option.{slice_get_read}
-use Rattle.ld_board.specs.Boards.{keys_of}
-use Rattle.ld_board.specs.Seats.{view}
-use Rattle.ld_board.specs.declared.view.View.{View}
+use Rattle.ld_run.proofs.Names.{[], ◌<◌, ◌∙◌, ◌∷◌, All, Contains-head, List, View, ap, arith, keys_of, length, refl, slice_get_read, subst, sym, true≢false, view, ℕ}
 use Rattle.ld_run.proofs.Working.{IsWorking, IsWorking-none, IsWorking-next, found_among, finishes, puts_among, walked_puts}
 use Rattle.ld_run.proofs.worker.work.Goals as goal
-use Rattle.ld_facts.specs.Laws.Lists.{Contains-head}
 
 pub loop-number-init : goal.loop-number-init
 loop-number-init g c =

@@ -1,6 +1,4 @@
-use Rattle.std.proofs.Common.{◌-◌, ◌≤◌, ◌+◌, ℕ, List, length}
-use Rattle.ld_board.specs.Boards.{keys_of, IsSeatOf}
-use Rattle.ld_board.specs.Seats.{view}
+use Rattle.ld_run.proofs.Names.{◌+◌, ◌-◌, ◌≤◌, IsSeatOf, List, keys_of, length, view, ℕ}
 use Rattle.ld_run.proofs.Working.{IsWorking}
 use Rattle.ld_run.proofs.worker.work.Given as goal
 

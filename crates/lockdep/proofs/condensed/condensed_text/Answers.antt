@@ -1,5 +1,4 @@
-use Rattle.std.proofs.lemmas.Result.{IfOk-weaker}
-use Rattle.ld_facts.specs.FactBits.{HasFact}
+use Rattle.lockdep.proofs.Names.{HasFact, IfOk-weaker}
 use Rattle.lockdep.proofs.CondensedLemmas.{IsCondensedText-made}
 use Rattle.lockdep.proofs.condensed.condensed_text.Goals as goal
 

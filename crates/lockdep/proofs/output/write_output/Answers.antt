@@ -1,22 +1,14 @@
-use Rattle.std.proofs.Common.{List, ℕ, IfErr, OnOk, ap, length, map, subst, sum_by, sym}
-use Rattle.std.proofs.lemmas.Result.{IfErr-weaker, IfOk-weaker}
-use Rattle.std.specs.Io.KnownBytes.{Appends}
-use Rattle.ld_facts.specs.FactBits.{HasFact}
-use Rattle.ld_facts.specs.TraceFacts.{TracesHave}
-use Rattle.lockdep.specs.Condensed.{IsCondensedOf, IsCondensedText}
+use Rattle.lockdep.proofs.Names.{Appends, HasFact, IfErr, IfErr-weaker, IfOk-weaker, IsCondensedOf, IsCondensedText, IsReport-same, IsTextOf, List, OnOk, StopsSettled, TracesHave, ap, condensed, explanation, json, length, map, picture, report, subst, sum_by, sym, view_of, ℕ}
 use Rattle.ld_text.specs.Explanation.{Sources}
 use Rattle.ld_text.specs.Findings.{SaysFindings}
-use Rattle.lockdep.specs.Faults.{StopsSettled}
 use Rattle.ld_text.specs.Picture.{IsPicture}
 use Rattle.ld_text.specs.Report.{IsReport}
 use Rattle.ld_text.specs.declared.findings.Format.TheVariants as format
-use Rattle.lockdep.specs.Texts.{report, explanation, json, picture, condensed, IsTextOf, view_of}
 use Rattle.lockdep.specs.declared.output.Output.{Output}
 use Rattle.lockdep.proofs.CondensedLemmas.{IsCondensedText-same}
 use Rattle.ld_text.specs.Laws.Findings.{SaysFindings-same}
 use Rattle.lockdep.proofs.FaultLemmas.{StopsSettled-same, written-err, written-ok}
 use Rattle.ld_text.specs.Laws.Picture.{IsPicture-same}
-use Rattle.ld_text.specs.Laws.Report.{IsReport-same}
 use Rattle.lockdep.proofs.output.write_output.Goals as goal
 
 pub returns-in-Report-clause-ok : goal.returns-in-Report-clause-ok

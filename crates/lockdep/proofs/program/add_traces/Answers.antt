@@ -1,4 +1,4 @@
-use Rattle.std.proofs.lemmas.Result.{IfErr-weaker}
+use Rattle.lockdep.proofs.Names.{IfErr-weaker}
 use Rattle.lockdep.proofs.ProgramLemmas.{StopsReading-input, none_named}
 use Rattle.lockdep.proofs.program.add_traces.Goals as goal
 

@@ -1,5 +1,4 @@
-use Rattle.std.proofs.Common.{inl, inr, map}
-use Rattle.std.proofs.lemmas.Result.{IfErr-weaker, IfOk-weaker}
+use Rattle.lockdep.proofs.Names.{IfErr-weaker, IfOk-weaker, inl, inr, map}
 use Rattle.lockdep.proofs.program.answer.Goals as goal
 
 pub returns-in-Ok-clause-ok : goal.returns-in-Ok-clause-ok

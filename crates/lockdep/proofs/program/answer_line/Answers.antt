@@ -1,5 +1,4 @@
-use Rattle.std.proofs.Common.{IfErr, IfOk, subst}
-use Rattle.lockdep.specs.Program.{Asked, DoesAsked, RefusesAsked}
+use Rattle.lockdep.proofs.Names.{Asked, DoesAsked, IfErr, IfOk, RefusesAsked, subst}
 use Rattle.lockdep.proofs.program.answer_line.Goals as goal
 
 pub returns-in-Output-clause-ok : goal.returns-in-Output-clause-ok

@@ -1,6 +1,5 @@
-use Rattle.std.proofs.Common.{◌≡◌, subst, sym}
+use Rattle.lockdep.proofs.Names.{◌≡◌, asked_by, subst, sym}
 use Rattle.lockdep.specs.Inside.Requests.{asked_of}
-use Rattle.lockdep.specs.Program.{asked_by}
 use Rattle.ld_words.specs.declared.words.Line.{Line}
 use Rattle.lockdep.proofs.request.request_of.Goals as goal
 

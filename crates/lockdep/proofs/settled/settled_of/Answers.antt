@@ -1,5 +1,4 @@
-use Rattle.std.proofs.Common.{subst}
-use Rattle.ld_run.specs.Runs.{StopsRun}
+use Rattle.lockdep.proofs.Names.{StopsRun, subst}
 use Rattle.lockdep.proofs.settled.settled_of.Goals as goal
 
 pub returns-in-Err-clause-refused : goal.returns-in-Err-clause-refused

@@ -1,5 +1,4 @@
-use Rattle.std.proofs.Common.{arith, refl}
-use Rattle.std.proofs.lemmas.Result.{IfErr-weaker}
+use Rattle.lockdep.proofs.Names.{IfErr-weaker, arith, refl}
 use Rattle.lockdep.proofs.ProgramLemmas.{StopsReading-one}
 use Rattle.lockdep.proofs.trace_files.add_file.Goals as goal
 

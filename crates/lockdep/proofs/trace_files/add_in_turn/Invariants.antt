@@ -1,5 +1,4 @@
-use Rattle.std.proofs.Common.{◌≡◌, ◌+◌, All, length}
-use Rattle.ld_trace.specs.Events.{KeysBelow}
+use Rattle.lockdep.proofs.Names.{◌+◌, ◌≡◌, All, KeysBelow, length}
 use Rattle.lockdep.proofs.trace_files.add_in_turn.Given as goal
 
 -- one trace of each file so far, and the keys of all are in the table

@@ -1,4 +1,4 @@
-use Rattle.std.proofs.Common.{ap, arith, length, length-append}
+use Rattle.lockdep.proofs.Names.{ap, arith, length, length-append}
 use Rattle.lockdep.proofs.trace_files.add_side_by_side.Goals as goal
 
 pub returns-in-Err-clause-named : goal.returns-in-Err-clause-named

@@ -1,4 +1,4 @@
-use Rattle.std.proofs.Common.{inl}
+use Rattle.lockdep.proofs.Names.{inl}
 use Rattle.lockdep.proofs.ProgramLemmas.{named_at, names_at}
 use Rattle.lockdep.proofs.trace_files.unread_refusal.Goals as goal
 

@@ -1,4 +1,4 @@
-use Rattle.std.proofs.Common.{arith}
+use Rattle.ld_board.proofs.Names.{arith}
 use Rattle.ld_board.proofs.Moves.{claims}
 use Rattle.ld_board.proofs.board.Board.claim.Goals as goal
 

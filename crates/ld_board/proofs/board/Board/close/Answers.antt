@@ -1,18 +1,6 @@
-use Rattle.std.proofs.Common.{◌≡◌, ◌+◌, ◌↔◌, ◌/◌, ◌%◌, ℕ, sym, ◌∙◌, subst, arith}
-use Rattle.std.specs.Prelude.{slice_index}
-use Rattle.std.specs.Int.{bit_at}
-use Rattle.std.specs.Mem.Slots.{slots_items}
-use Rattle.ld_facts.specs.FactBits.{FactBelow, HasFact}
-use Rattle.ld_facts.specs.Numbers.{fact_number}
-use Rattle.ld_facts.specs.WordPairs.{NonePast}
-use Rattle.ld_facts.specs.declared.fact.Fact.{Fact}
-use Rattle.ld_board.specs.Inside.BoardRule.{Knows}
-use Rattle.ld_board.specs.Inside.Gathered.{gathered}
-use Rattle.ld_board.specs.declared.view.View.{View}
-use Rattle.ld_board.specs.declared.seat.Seat.{Seat}
+use Rattle.ld_board.proofs.Names.{◌%◌, ◌+◌, ◌/◌, ◌↔◌, ◌∙◌, ◌≡◌, Fact, FactBelow, HasFact, Knows, NonePast, Seat, View, all_last, arith, bit_at, fact_number, gathered, slice_index, slots_items, subst, sym, ℕ}
 use Rattle.ld_board.proofs.Moves.{knows}
 use Rattle.ld_board.proofs.SeatFacts.{closed_put, closed_seen, closed_claims}
-use Rattle.ld_board.specs.Laws.Seats.{all_last}
 use Rattle.ld_board.proofs.SeatLists.{gathered_is}
 use Rattle.ld_board.proofs.board.Board.close.Goals.{After-closed-1, After-free}
 use Rattle.ld_board.proofs.board.Board.close.Goals as goal

@@ -1,7 +1,4 @@
-use Rattle.std.proofs.Common.{◌++◌}
-use Rattle.ld_facts.specs.Laws.Words.{PairsHave-append, PairsHave-within}
-use Rattle.ld_board.specs.Boards.{keys_of}
-use Rattle.ld_board.specs.Seats.{view}
+use Rattle.ld_board.proofs.Names.{◌++◌, PairsHave-append, PairsHave-within, keys_of, view}
 use Rattle.ld_board.proofs.SeatFacts.{covers_chain, loads_chain, saw_own}
 use Rattle.ld_board.proofs.board.Board.covers.Goals as goal
 

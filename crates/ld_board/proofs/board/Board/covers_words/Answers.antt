@@ -1,10 +1,4 @@
-use Rattle.std.proofs.Common.{rules, ◌≡◌, [], ◌∷◌, ◌++◌, Any, ◌+◌, ◌<◌, ℕ, List, get_or, bit_or, refl, sym, ap, ◌∙◌, subst, arith}
-use Rattle.ld_facts.specs.Laws.Words.{bits_of-append}
-use Rattle.ld_facts.specs.WordPairs.{bits_of, Within, word_total}
-use Rattle.ld_board.specs.Boards.{keys_of}
-use Rattle.ld_board.specs.Seats.{view}
-use Rattle.ld_board.specs.declared.view.View.{View}
-use Rattle.ld_board.specs.Laws.Seats.{Any-here, Any-later}
+use Rattle.ld_board.proofs.Names.{[], ◌++◌, ◌+◌, ◌<◌, ◌∙◌, ◌∷◌, ◌≡◌, Any, Any-here, Any-later, List, View, Within, ap, arith, bit_or, bits_of, bits_of-append, get_or, keys_of, refl, rules, subst, sym, view, word_total, ℕ}
 use Rattle.ld_board.proofs.SeatFacts.{and_true, pair_at}
 use Rattle.ld_board.proofs.WordLists.{or_self, all_from_pairs, pairs_from_all, each_next, each_step, each_back, within_both, within_cons, within_left, within_through}
 use Rattle.ld_board.proofs.board.Board.covers_words.Goals as goal

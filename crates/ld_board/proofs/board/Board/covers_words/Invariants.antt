@@ -1,7 +1,4 @@
-use Rattle.std.proofs.Common.{◌≡◌, ◌↔◌, ◌<◌, ℕ, Any, IsTrue, List, ◌++◌, slice_index_or}
-use Rattle.ld_facts.specs.WordPairs.{bits_of, Within}
-use Rattle.ld_board.specs.Boards.{IsSeatOf}
-use Rattle.ld_board.specs.Seats.{view}
+use Rattle.ld_board.proofs.Names.{◌++◌, ◌<◌, ◌↔◌, ◌≡◌, Any, IsSeatOf, IsTrue, List, Within, bits_of, slice_index_or, view, ℕ}
 use Rattle.ld_board.proofs.board.Board.covers_words.Given as goal
 
 -- the words so far were loaded

@@ -1,9 +1,4 @@
-use Rattle.std.proofs.Common.{◌≡◌, ◌∷◌, ◌/◌, ◌%◌, ◌^◌, ℕ, List, nat_eq, bit_and, refl, sym, ◌∙◌, subst, arith, eqb-true, true}
-use Rattle.std.specs.Int.{bit_at}
-use Rattle.std.proofs.lemmas.Nat.Bits.{shr_and_one}
-use Rattle.ld_facts.specs.WordPairs.{bits_of, Within}
-use Rattle.ld_board.specs.Seats.{view}
-use Rattle.ld_board.specs.declared.view.View.{View}
+use Rattle.ld_board.proofs.Names.{◌%◌, ◌/◌, ◌^◌, ◌∙◌, ◌∷◌, ◌≡◌, List, View, Within, arith, bit_and, bit_at, bits_of, eqb-true, nat_eq, refl, shr_and_one, subst, sym, true, view, ℕ}
 use Rattle.ld_board.proofs.WordLists.{bit_into, or_self, within_cons}
 use Rattle.ld_board.proofs.board.Board.has_fact.Goals as goal
 

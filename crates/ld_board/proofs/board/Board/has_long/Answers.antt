@@ -1,14 +1,6 @@
-use Rattle.std.proofs.Common.{◌≡◌, ◌+◌, ◌<◌, ℕ, Some, refl, sym, ap, ◌∙◌, subst, arith, unwrap_or}
+use Rattle.ld_board.proofs.Names.{◌+◌, ◌<◌, ◌∙◌, ◌≡◌, Fact, PairsHave-within, SeenHas, Some, View, ap, arith, chain_fact, keys_of, none-some, refl, subst, sym, unwrap_or, view, ℕ}
 use mathlib.Core.Logic.{dite}
 use native.Mathlib.Decide.{ℕ_discrete}
-use Rattle.std.proofs.lemmas.Option.{none-some}
-use Rattle.ld_facts.specs.ChainFacts.{chain_fact}
-use Rattle.ld_facts.specs.Laws.Words.{PairsHave-within}
-use Rattle.ld_facts.specs.declared.fact.Fact.{Fact}
-use Rattle.ld_board.specs.Boards.{keys_of}
-use Rattle.ld_board.specs.Seats.{view}
-use Rattle.ld_board.specs.Views.{SeenHas}
-use Rattle.ld_board.specs.declared.view.View.{View}
 use Rattle.ld_board.proofs.WordLists.{or_self, within_through}
 use Rattle.ld_board.proofs.board.Board.has_long.Goals as goal
 

@@ -1,10 +1,4 @@
-use Rattle.std.proofs.Common.{◌≡◌, ◌<◌, ℕ, Some}
-use Rattle.ld_facts.specs.ChainFacts.{chain_fact}
-use Rattle.ld_facts.specs.WordPairs.{bits_of, Within}
-use Rattle.ld_facts.specs.declared.fact.Fact.{Fact}
-use Rattle.ld_board.specs.Boards.{IsSeatOf, keys_of}
-use Rattle.ld_board.specs.Seats.{view}
-use Rattle.ld_board.specs.Views.{SeenHas}
+use Rattle.ld_board.proofs.Names.{◌<◌, ◌≡◌, Fact, IsSeatOf, SeenHas, Some, Within, bits_of, chain_fact, keys_of, view, ℕ}
 use Rattle.ld_board.proofs.board.Board.has_long.Given as goal
 
 -- the facts in the slots so far are there

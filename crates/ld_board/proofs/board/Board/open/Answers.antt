@@ -1,11 +1,5 @@
-use Rattle.std.proofs.Common.{◌≡◌, ◌-◌, ◌+◌, [], ◌∷◌, ℕ, List, refl, sym, ap, ◌∙◌, subst, arith, All, length, replicate, zero, suc}
-use Rattle.std.specs.Prelude.{slice_index}
+use Rattle.ld_board.proofs.Names.{[], ◌+◌, ◌-◌, ◌∙◌, ◌∷◌, ◌≡◌, All, List, Seat, View, ap, arith, left_view, length, newcomer, refl, replicate, slice_index, subst, suc, sym, word_total, zero, ℕ}
 use Rattle.std.proofs.lemmas.List.Elements.{All-append, All-cons, All-nil}
-use Rattle.ld_board.specs.declared.seat.Seat.{Seat}
-use Rattle.ld_board.specs.Views.{newcomer}
-use Rattle.ld_board.specs.Inside.BoardRule.{left_view}
-use Rattle.ld_board.specs.declared.view.View.{View}
-use Rattle.ld_facts.specs.WordPairs.{word_total}
 use Rattle.ld_board.proofs.Moves.{cuts, opens}
 use Rattle.ld_board.proofs.board.Board.open.Goals as goal
 

@@ -1,5 +1,4 @@
-use Rattle.std.proofs.Common.{◌≡◌, ◌+◌, ◌≤◌, [], All, vec_len, vec_capacity}
-use Rattle.ld_board.specs.Views.{newcomer}
+use Rattle.ld_board.proofs.Names.{[], ◌+◌, ◌≡◌, ◌≤◌, All, newcomer, vec_capacity, vec_len}
 use Rattle.ld_board.proofs.board.Board.open.Given as goal
 
 abbrev pub invariant-loop-made : goal.invariant-loop-made

@@ -1,6 +1,4 @@
-use Rattle.ld_facts.specs.Laws.Words.{PairsHave-within}
-use Rattle.ld_board.specs.Boards.{keys_of}
-use Rattle.ld_board.specs.Seats.{view}
+use Rattle.ld_board.proofs.Names.{PairsHave-within, keys_of, view}
 use Rattle.ld_board.proofs.SeatFacts.{puts_chain}
 use Rattle.ld_board.proofs.board.Board.put.Goals as goal
 

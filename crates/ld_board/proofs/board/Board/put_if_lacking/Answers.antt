@@ -1,8 +1,4 @@
-use Rattle.std.proofs.Common.{◌≡◌, ◌∷◌, ◌++◌, ℕ, List, length, sym, ap, ◌∙◌, subst, arith}
-use Rattle.ld_facts.specs.WordPairs.{bits_of, Within}
-use Rattle.ld_board.specs.Seats.{view}
-use Rattle.ld_board.specs.Inside.BoardRule.{with_look, with_put}
-use Rattle.ld_board.specs.declared.view.View.{View}
+use Rattle.ld_board.proofs.Names.{◌++◌, ◌∙◌, ◌∷◌, ◌≡◌, List, View, Within, ap, arith, bits_of, length, subst, sym, view, with_look, with_put, ℕ}
 use Rattle.ld_board.proofs.WordLists.{or_self, within_cons, within_here, within_left, within_right}
 use Rattle.ld_board.proofs.board.Board.put_if_lacking.Goals.{After-put_word}
 use Rattle.ld_board.proofs.board.Board.put_if_lacking.Goals as goal

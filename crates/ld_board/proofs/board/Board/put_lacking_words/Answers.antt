@@ -1,9 +1,4 @@
-use Rattle.std.proofs.Common.{◌≡◌, ◌∷◌, ◌++◌, ◌+◌, ◌<◌, ◌≤◌, ◌||◌, Bool, true, false, cond, IsTrue, ℕ, List, get_or, length, ap, refl, sym, ◌∙◌, subst, arith}
-use Rattle.std.proofs.lemmas.Bool.{or_parts}
-use Rattle.ld_facts.specs.WordPairs.{bits_of, Within, NonePast, word_total}
-use Rattle.ld_board.specs.Boards.{keys_of}
-use Rattle.ld_board.specs.Seats.{view}
-use Rattle.ld_board.specs.declared.view.View.{View}
+use Rattle.ld_board.proofs.Names.{◌++◌, ◌+◌, ◌<◌, ◌||◌, ◌∙◌, ◌∷◌, ◌≡◌, ◌≤◌, Bool, IsTrue, List, NonePast, View, Within, ap, arith, bits_of, cond, false, get_or, keys_of, length, or_parts, refl, subst, sym, true, view, word_total, ℕ}
 use Rattle.ld_board.proofs.SeatFacts.{pair_at}
 use Rattle.ld_board.proofs.WordLists.{or_self, all_from_pairs, each_next, only_step, within_appended, within_right, within_through}
 use Rattle.ld_board.proofs.board.Board.put_lacking_words.Goals.{After-loop-n}

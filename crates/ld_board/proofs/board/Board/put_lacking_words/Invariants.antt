@@ -1,7 +1,4 @@
-use Rattle.std.proofs.Common.{◌≡◌, ◌<◌, ◌≤◌, ◌++◌, ℕ, IsFalse, IsTrue, length, slice_index_or}
-use Rattle.ld_facts.specs.WordPairs.{bits_of, Within}
-use Rattle.ld_board.specs.Boards.{IsSeatOf}
-use Rattle.ld_board.specs.Seats.{view}
+use Rattle.ld_board.proofs.Names.{◌++◌, ◌<◌, ◌≡◌, ◌≤◌, IsFalse, IsSeatOf, IsTrue, Within, bits_of, length, slice_index_or, view, ℕ}
 use Rattle.ld_board.proofs.board.Board.put_lacking_words.Given as goal
 
 -- of the words so far those that lacked some bits were put, and the others were found

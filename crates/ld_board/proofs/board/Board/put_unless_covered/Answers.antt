@@ -1,11 +1,4 @@
-use Rattle.std.proofs.Common.{◌≡◌, ◌++◌, ◌<◌, ◌∙◌, ℕ, List, length, inl, inr, sym, subst}
-use Rattle.ld_facts.specs.Laws.Words.{PairsHave-append, PairsHave-within}
-use Rattle.ld_facts.specs.WordPairs.{bits_of, PairsHave, Within}
-use Rattle.ld_facts.specs.declared.fact.Fact.{Fact}
-use Rattle.ld_board.specs.Boards.{keys_of}
-use Rattle.ld_board.specs.Seats.{view}
-use Rattle.ld_board.specs.Views.{KnowsFact, PutHas}
-use Rattle.ld_board.specs.declared.view.View.{View}
+use Rattle.ld_board.proofs.Names.{◌++◌, ◌<◌, ◌∙◌, ◌≡◌, Fact, KnowsFact, List, PairsHave, PairsHave-append, PairsHave-within, PutHas, View, Within, bits_of, inl, inr, keys_of, length, subst, sym, view, ℕ}
 use Rattle.ld_board.proofs.board.Board.put_unless_covered.Goals as goal
 
 -- the board was only looked at

@@ -1,5 +1,4 @@
-use Rattle.std.proofs.Common.{◌≡◌, ℕ, ◌-◌, ◌<◌, ◌+◌, sym, subst, arith}
-use Rattle.ld_facts.specs.WordPairs.{word_total, NonePast}
+use Rattle.ld_board.proofs.Names.{◌+◌, ◌-◌, ◌<◌, ◌≡◌, NonePast, arith, subst, sym, word_total, ℕ}
 use Rattle.ld_board.proofs.Moves.{puts}
 use Rattle.ld_board.proofs.board.Board.put_word.Goals as goal
 

@@ -1,8 +1,4 @@
-use Rattle.std.proofs.Common.{◌+◌, ◌∷◌, ◌<◌, ℕ, List, drop, bit_or, refl, sym, ap, ◌∙◌, subst}
-use Rattle.ld_facts.specs.WordPairs.{bits_of, Within, NonePast, word_total}
-use Rattle.ld_board.specs.Boards.{keys_of}
-use Rattle.ld_board.specs.Seats.{view}
-use Rattle.ld_board.specs.declared.view.View.{View}
+use Rattle.ld_board.proofs.Names.{◌+◌, ◌<◌, ◌∙◌, ◌∷◌, List, NonePast, View, Within, ap, bit_or, bits_of, drop, keys_of, refl, subst, sym, view, word_total, ℕ}
 use Rattle.ld_board.proofs.SeatFacts.{pair_at}
 use Rattle.ld_board.proofs.WordLists.{or_self, put_step, within_cons}
 use Rattle.ld_board.proofs.board.Board.put_words.Goals as goal

@@ -1,7 +1,4 @@
-use Rattle.std.proofs.Common.{◌≡◌, ℕ, drop, bit_or}
-use Rattle.ld_facts.specs.WordPairs.{bits_of, Within}
-use Rattle.ld_board.specs.Boards.{IsSeatOf}
-use Rattle.ld_board.specs.Seats.{view}
+use Rattle.ld_board.proofs.Names.{◌≡◌, IsSeatOf, Within, bit_or, bits_of, drop, view, ℕ}
 use Rattle.ld_board.proofs.board.Board.put_words.Given as goal
 
 -- the words so far were put

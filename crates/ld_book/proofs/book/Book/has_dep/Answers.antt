@@ -1,9 +1,4 @@
-use Rattle.std.proofs.Common.{◌↔◌, subst}
-use Rattle.std.specs.Prelude.{IsTrue}
-use Rattle.ld_facts.specs.FactBits.{HasFact}
-use Rattle.ld_facts.specs.declared.fact.Fact.{Fact}
-use Rattle.ld_facts.specs.declared.fact.Fact.TheVariants.{Dependency}
-use Rattle.ld_book.specs.Books.{JournalHas}
+use Rattle.ld_book.proofs.Names.{◌↔◌, Dependency, Fact, HasFact, IsTrue, JournalHas, subst}
 use Rattle.ld_book.proofs.book.Book.has_dep.Goals as goal
 
 pub returns : goal.returns

@@ -1,9 +1,4 @@
-use Rattle.std.proofs.Common.{◌↔◌, subst}
-use Rattle.std.specs.Prelude.{IsTrue}
-use Rattle.ld_facts.specs.FactBits.{HasFact}
-use Rattle.ld_facts.specs.declared.fact.Fact.{Fact}
-use Rattle.ld_facts.specs.declared.fact.Fact.TheVariants.{Marked}
-use Rattle.ld_book.specs.Books.{JournalHas}
+use Rattle.ld_book.proofs.Names.{◌↔◌, Fact, HasFact, IsTrue, JournalHas, Marked, subst}
 use Rattle.ld_book.proofs.book.Book.has_mark.Goals as goal
 
 pub returns : goal.returns

@@ -1,7 +1,4 @@
-use Rattle.std.proofs.Common.{subst}
-use Rattle.ld_facts.specs.FactBits.{HasFact}
-use Rattle.ld_facts.specs.Facts.{AreSame}
-use Rattle.ld_book.specs.Books.{JournalHas}
+use Rattle.ld_book.proofs.Names.{AreSame, HasFact, JournalHas, subst}
 use Rattle.ld_book.proofs.book.Book.into_graph.Goals as goal
 
 pub returns-clause-facts : goal.returns-clause-facts

@@ -1,9 +1,6 @@
-use Rattle.std.proofs.Common.{◌↔◌, subst}
-use Rattle.std.specs.Prelude.{IsTrue}
-use Rattle.ld_facts.specs.FactBits.{HasFact}
+use Rattle.ld_book.proofs.Names.{◌↔◌, HasFact, IsTrue, JournalHas, subst}
 use Rattle.ld_graph.specs.Laws.Facts.{IsClean-same}
 use Rattle.ld_graph.specs.Links.{IsClean}
-use Rattle.ld_book.specs.Books.{JournalHas}
 use Rattle.ld_book.proofs.book.Book.is_clean.Goals as goal
 
 pub returns : goal.returns

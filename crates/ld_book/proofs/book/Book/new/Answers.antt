@@ -1,4 +1,4 @@
-use Rattle.std.proofs.Common.{refl, arith}
+use Rattle.ld_book.proofs.Names.{arith, refl}
 use Rattle.ld_book.proofs.BookLemmas.{AreSame-none}
 use Rattle.ld_book.proofs.book.Book.new.Goals as goal
 

@@ -1,8 +1,4 @@
-use Rattle.std.proofs.Common.{◌≡◌, ◌↔◌, ◌+◌, ◌++◌, ◌∷◌, [], length, sym, ap, subst, ◌∙◌}
-use Rattle.std.specs.Prelude.{IsFalse}
-use Rattle.ld_task.specs.Chains.{key_mode_and_frame}
-use Rattle.ld_facts.specs.Facts.{ChainHas, Holds}
-use Rattle.ld_book.specs.Books.{BookParts, JournalHas, IsLawful}
+use Rattle.ld_book.proofs.Names.{[], ◌++◌, ◌+◌, ◌↔◌, ◌∙◌, ◌∷◌, ◌≡◌, BookParts, ChainHas, Holds, IsFalse, IsLawful, JournalHas, ap, key_mode_and_frame, length, subst, sym}
 use Rattle.ld_book.proofs.BookLemmas.{AreSame-adds, Holds-iff, IsLawful-entered, from_bool-taken, has_room}
 use Rattle.ld_book.proofs.book.Book.record.Goals as goal
 

@@ -1,10 +1,5 @@
-use Rattle.std.proofs.Common.{◌≡◌, ◌-◌, ◌∙◌, ap, length, sym, subst, arith}
-use Rattle.ld_facts.specs.Counting.{IsNumberOf}
-use Rattle.ld_facts.specs.FactBits.{HasFact}
+use Rattle.ld_book.proofs.Names.{◌-◌, ◌∙◌, ◌≡◌, BookParts, DependenciesOf, Dependency, HasFact, IsNumberOf, JournalHas, ap, arith, length, opening_count, subst, sym}
 use Rattle.ld_facts.specs.Laws.Counting.{IsNumberOf-same}
-use Rattle.ld_facts.specs.Facts.{DependenciesOf}
-use Rattle.ld_facts.specs.declared.fact.Fact.TheVariants.{Dependency}
-use Rattle.ld_book.specs.Books.{BookParts, JournalHas, opening_count}
 use Rattle.ld_book.proofs.BookLemmas.{counts-length}
 use Rattle.ld_book.proofs.book.Book.totals.Goals as goal
 

@@ -1,8 +1,4 @@
-use Rattle.std.proofs.Common.{◌≡◌, ◌++◌, ℕ, Option, None, Some, slice_get, position, subst}
-use Rattle.std.specs.Prelude.{IfSome, List}
-use Rattle.ld_task.specs.Chains.{ChainParts}
-use Rattle.ld_task.specs.ChainEquality.{chain_eq}
-use Rattle.ld_book.specs.Inside.Journals.{ChainsParts}
+use Rattle.ld_book.proofs.Names.{◌++◌, ◌≡◌, ChainParts, ChainsParts, IfSome, List, None, Option, Some, chain_eq, position, slice_get, subst, ℕ}
 use Rattle.ld_book.proofs.ChainsLemmas.{found-at}
 use Rattle.ld_book.proofs.chains.Chains.find_indexed.Goals as goal
 

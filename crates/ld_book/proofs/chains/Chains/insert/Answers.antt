@@ -1,6 +1,4 @@
-use Rattle.std.proofs.Common.{◌++◌, ◌∙◌, sym, ap, subst}
-use Rattle.std.proofs.lemmas.List.{append-nil}
-use Rattle.ld_book.specs.Inside.Journals.{ChainsParts, PutsChain}
+use Rattle.ld_book.proofs.Names.{◌++◌, ◌∙◌, ChainsParts, PutsChain, ap, append-nil, subst, sym}
 use Rattle.ld_book.proofs.ChainsLemmas.{PutsChain-inserted}
 use Rattle.ld_book.proofs.chains.Chains.insert.Goals as goal
 

@@ -1,6 +1,4 @@
-use Rattle.std.proofs.Common.{length, subst}
-use Rattle.ld_facts.specs.Counting.{IsNumberOf}
-use Rattle.ld_book.specs.Books.{StandsIn}
+use Rattle.ld_book.proofs.Names.{IsNumberOf, StandsIn, length, subst}
 use Rattle.ld_book.proofs.JournalLemmas.{IsNumberOf-kept}
 use Rattle.ld_book.proofs.journal.Journal.distinct.Goals as goal
 

@@ -1,5 +1,4 @@
-use Rattle.std.proofs.Common.{sym, subst}
-use Rattle.ld_book.specs.Inside.Journals.{IsJournal}
+use Rattle.ld_book.proofs.Names.{IsJournal, subst, sym}
 use Rattle.ld_book.proofs.JournalLemmas.{IsJournal-push, journal_of-push}
 use Rattle.ld_book.proofs.journal.Journal.push.Goals as goal
 

@@ -1,6 +1,4 @@
-use Rattle.std.proofs.Common.{subst}
-use Rattle.ld_book.specs.Books.{StandsIn}
-use Rattle.ld_book.specs.Inside.Journals.{JournalParts}
+use Rattle.ld_book.proofs.Names.{JournalParts, StandsIn, subst}
 use Rattle.ld_book.proofs.ChainsLemmas.{PutsChain-there}
 use Rattle.ld_book.proofs.JournalLemmas.{IsJournal-push, StandsIn-at, journal_of-push}
 use Rattle.ld_book.proofs.journal.Journal.push_indexed.Goals as goal

@@ -1,6 +1,4 @@
-use Rattle.std.proofs.Common.{subst}
-use Rattle.ld_book.specs.Books.{StandsIn}
-use Rattle.ld_book.specs.Inside.Journals.{JournalParts}
+use Rattle.ld_book.proofs.Names.{JournalParts, StandsIn, subst}
 use Rattle.ld_book.proofs.ChainsLemmas.{AreChains-push, PutsChain-new}
 use Rattle.ld_book.proofs.JournalLemmas.{IsJournal-push, journal_of-push, list_any-iff}
 use Rattle.ld_book.proofs.journal.Journal.push_new.Goals as goal

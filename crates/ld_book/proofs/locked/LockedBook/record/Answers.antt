@@ -1,8 +1,4 @@
-use Rattle.std.proofs.Common.{ℕ, ◌↔◌, List, [], Result, Ok, Err}
-use Rattle.std.specs.Prelude.{IfOk, IsFalse}
-use Rattle.ld_task.specs.Chains.{ChainParts}
-use Rattle.ld_facts.specs.Facts.{ChainHas, Holds}
-use Rattle.ld_book.specs.Books.{JournalHas}
+use Rattle.ld_book.proofs.Names.{[], ◌↔◌, ChainHas, ChainParts, Err, Holds, IfOk, IsFalse, JournalHas, List, Ok, Result, ℕ}
 use Rattle.ld_book.specs.declared.book.News.{News}
 use Rattle.ld_book.specs.declared.fault.BookFault.{BookFault}
 use Rattle.ld_book.proofs.BookLemmas.{Holds-none}

@@ -1,6 +1,4 @@
-use Rattle.std.proofs.Common.{◌+◌, is_ok, refl}
-use Rattle.ld_trace.specs.JoinedTraces.{IsNumbered}
-use Rattle.ld_read.specs.Inside.Ahead.{IsFrom, IsPart}
+use Rattle.ld_read.proofs.Names.{◌+◌, IsFrom, IsNumbered, IsPart, is_ok, refl}
 use Rattle.ld_read.proofs.AheadLemmas.{all-head, all-pushed, all-tail, next-read, numbered-part}
 use Rattle.ld_read.proofs.ahead.Ahead.keep.Goals as goal
 

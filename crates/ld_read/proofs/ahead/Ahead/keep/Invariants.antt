@@ -1,6 +1,6 @@
-use Rattle.std.proofs.Common.{◌≡◌, ℕ, List, Option, All}
-use Rattle.ld_trace.specs.JoinedTraces.{AreReadTo, IsNumbered}
-use Rattle.ld_read.specs.Inside.Ahead.{AreFrom, AreHeld, AreParts}
+use Rattle.ld_read.proofs.Names.{◌≡◌, All, AreFrom, AreParts, IsNumbered, List, Option, ℕ}
+use Rattle.ld_trace.specs.JoinedTraces.{AreReadTo}
+use Rattle.ld_read.specs.Inside.Ahead.{AreHeld}
 use Rattle.ld_read.proofs.ahead.Ahead.keep.Given as goal
 
 -- the traces before this place were kept, and the others are those of the other texts

@@ -1,6 +1,4 @@
-use Rattle.std.proofs.Common.{IfSome, is_ok}
-use Rattle.ld_trace.specs.Reading.{ReadsTo}
-use Rattle.ld_read.specs.Inside.Ahead.{IsFrom, IsPart}
+use Rattle.ld_read.proofs.Names.{IfSome, IsFrom, IsPart, ReadsTo, is_ok}
 use Rattle.ld_read.proofs.AheadLemmas.{all-pushed, from-after, from-longer, held-read, part-after, parts-longer}
 use Rattle.ld_read.proofs.ahead.Ahead.read.Goals as goal
 

@@ -1,4 +1,4 @@
-use Rattle.std.proofs.Common.{Some, ap, arith}
+use Rattle.ld_read.proofs.Names.{Some, ap, arith}
 use Rattle.ld_read.proofs.AheadLemmas.{from-longer, parts-longer}
 use Rattle.ld_read.proofs.ahead.Ahead.read_as_one.Goals as goal
 

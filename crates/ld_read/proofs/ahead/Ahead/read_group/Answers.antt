@@ -1,4 +1,4 @@
-use Rattle.std.proofs.Common.{◌∙◌, refl}
+use Rattle.ld_read.proofs.Names.{◌∙◌, refl}
 use Rattle.ld_read.proofs.ahead.Ahead.read_group.Goals as goal
 
 pub loop-place-init : goal.loop-place-init

@@ -1,5 +1,4 @@
-use Rattle.std.proofs.Common.{◌≡◌}
-use Rattle.ld_read.specs.Inside.Ahead.{AreFrom, AreParts}
+use Rattle.ld_read.proofs.Names.{◌≡◌, AreFrom, AreParts}
 use Rattle.ld_read.proofs.ahead.Ahead.read_group.Given as goal
 
 -- the traces before this place were read

@@ -1,4 +1,4 @@
-use Rattle.ld_read.specs.Inside.Ahead.{IsFrom, IsPart}
+use Rattle.ld_read.proofs.Names.{IsFrom, IsPart}
 use Rattle.ld_read.proofs.AheadLemmas.{all-head, all-tail, if-some}
 use Rattle.ld_read.proofs.ahead.Ahead.take_in.Goals as goal
 

@@ -1,6 +1,4 @@
-use Rattle.std.proofs.Common.{◌==◌, take, refl}
-use Rattle.std.specs.Io.Buffered.{reader_buffer, reader_capacity, reader_remaining}
-use Rattle.std.specs.Io.KnownBytes.{Consumes}
+use Rattle.ld_read.proofs.Names.{◌==◌, Consumes, reader_buffer, reader_capacity, reader_remaining, refl, take}
 use Rattle.ld_read.proofs.PieceLemmas.{left-buffer, round-on}
 use Rattle.ld_read.proofs.pieces.Team.read_round.Goals as goal
 

@@ -1,6 +1,4 @@
-use Rattle.std.proofs.Common.{◌∙◌, refl}
-use Rattle.std.specs.Io.Buffered.{reader_remaining}
-use Rattle.ld_read.specs.Inside.Pieces.{left_of}
+use Rattle.ld_read.proofs.Names.{◌∙◌, left_of, reader_remaining, refl}
 use Rattle.ld_read.proofs.PieceLemmas.{advance-nothing, advance-on}
 use Rattle.ld_read.proofs.pieces.Team.read_rounds.Goals as goal
 

@@ -1,6 +1,4 @@
-use Rattle.std.proofs.Common.{◌≡◌, []}
-use Rattle.std.specs.Io.Buffered.{reader_remaining}
-use Rattle.ld_read.specs.Inside.Pieces.{Advances, left_of}
+use Rattle.ld_read.proofs.Names.{[], ◌≡◌, Advances, left_of, reader_remaining}
 use Rattle.ld_read.proofs.pieces.Team.read_rounds.Given as goal
 
 -- so far all went well

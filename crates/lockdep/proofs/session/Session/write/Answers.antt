@@ -1,14 +1,6 @@
-use Rattle.std.proofs.Common.{◌↔◌, List, ℕ, All, IfErr, IsTrue, subst}
-use Rattle.std.proofs.lemmas.Result.{IfOk-from_err}
-use Rattle.std.specs.Io.KnownBytes.{Appends}
-use Rattle.ld_task.specs.WellFormed.{IsWellFormed}
-use Rattle.ld_facts.specs.FactBits.{HasFact}
+use Rattle.lockdep.proofs.Names.{◌↔◌, All, Appends, HasFact, IfErr, IfOk-from_err, IsTextOf, IsTrue, IsWellFormed, List, StopsText, TracesHave, clean_is-same, subst, view_of, ℕ}
 use Rattle.ld_graph.specs.Links.{IsClean}
-use Rattle.ld_facts.specs.TraceFacts.{TracesHave}
-use Rattle.ld_text.specs.Laws.Report.{clean_is-same}
-use Rattle.lockdep.specs.Faults.{StopsText}
 use Rattle.lockdep.specs.Sessions.{SessionParts}
-use Rattle.lockdep.specs.Texts.{IsTextOf, view_of}
 use Rattle.lockdep.proofs.FaultLemmas.{StopsText-settled, bad_workers_is, too_many_is}
 use Rattle.lockdep.proofs.ProgramLemmas.{IfErr-passed}
 use Rattle.lockdep.proofs.session.Session.write.Goals as goal
