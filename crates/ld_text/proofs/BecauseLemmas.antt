@@ -1,21 +1,8 @@
 -- The line of a circle that is turned.
-use Rattle.std.proofs.Common.{◌≡◌, ℕ, suc, ◌+◌, ◌-◌, ◌<◌, ◌≤◌, List, ◌∷◌, ◌++◌, Some, take, drop, length, get_or, slice_get, sym, ap, ◌∙◌, subst, inl, inr, arith, false, codes}
-use Rattle.std.specs.List.{Contains, IsFirstBest, flat_map}
+use Rattle.ld_text.proofs.Names.{◌++◌, ◌+◌, ◌-◌, ◌<◌, ◌∙◌, ◌∷◌, ◌≡◌, ◌≤◌, Arrow, Contains, IsFirstBest, IsStrictWeakOrder, List, Name, Some, TellsTurned, ap, append_assoc, arith, codes, drop, false, flat_map, flat_map-append, flat_map-next, get_or, get_or-drop, get_or_from_slice_get, inl, inr, key_text, length, length-drop, member_text, name_at, ranks_by, slice_get, starts_before, subst, suc, sym, take, take-append-drop, take_all, ℕ}
 use Rattle.std.specs.Ordering.{is_lt}
-use Rattle.std.specs.Cmp.{IsStrictWeakOrder}
 use Rattle.std.proofs.Math.Seq.{drop-cons}
-use Rattle.std.proofs.lemmas.List.{append_assoc, get_or-drop, take_all, take-append-drop, length-drop}
 use Rattle.std.proofs.lemmas.List.Elements.{Contains-append_cases, Contains-append_left, Contains-append_right}
-use Rattle.std.proofs.lemmas.List.MinMax.{ranks_by}
-use Rattle.std.proofs.lemmas.Option.{get_or_from_slice_get}
-use Rattle.std.proofs.lemmas.List.Concat.{flat_map-append}
-use Rattle.ld_trace.specs.Names.{Name}
-use Rattle.ld_facts.specs.Arrows.{Arrow}
-use Rattle.ld_text.specs.Inside.Turning.{TellsTurned, starts_before}
-use Rattle.ld_text.specs.Report.{member_text}
-use Rattle.ld_trace.specs.Writing.{name_at}
-use Rattle.ld_text.specs.Words.{key_text}
-use Rattle.ld_explain.specs.Laws.Lists.{flat_map-next}
 use Rattle.ld_text.proofs.OrderLemmas.{name_cmp_total}
 
 pub starts_before_ranks : (names : List Name) → IsStrictWeakOrder (starts_before names)

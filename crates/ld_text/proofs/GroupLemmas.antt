@@ -1,9 +1,6 @@
 -- Groups of lines that grow.
-use Rattle.std.proofs.Common.{◌≡◌, ℕ, ◌+◌, ◌<◌, List, [], ◌∷◌, ◌++◌, take, length, slice_index_or, refl, sym, ap, ◌∙◌, subst}
-use Rattle.std.specs.List.{flat_map}
-use Rattle.std.proofs.lemmas.List.{append_assoc, append-nil, take_more}
-use Rattle.ld_explain.specs.Laws.Lists.{flat_map-next}
-use Rattle.ld_text.specs.Groups.{GrowsBy, InSequence, InTurn}
+use Rattle.ld_text.proofs.Names.{[], ◌++◌, ◌+◌, ◌<◌, ◌∙◌, ◌∷◌, ◌≡◌, GrowsBy, InTurn, List, ap, append-nil, append_assoc, flat_map, flat_map-next, length, refl, slice_index_or, subst, sym, take, take_more, ℕ}
+use Rattle.ld_text.specs.Groups.{InSequence}
 
 -- after the texts of the things of a list so far, that of one thing more
 pub flat_map-grows : {X Y : Type 0} (f : Y → List X) (xs : List Y) (i : ℕ) (y : Y) (old mid new : List X) → y ≡ slice_index_or xs i y → i < length xs →

@@ -1,16 +1,10 @@
 -- Which keys the dependencies of findings lead from and to.
-use Rattle.std.proofs.Common.{◌≡◌, ◌↔◌, ◌⊎◌, ◌≢◌, ℕ, ◌+◌, ◌<◌, ◌≤◌, Any, Bool, true, false, IsTrue, List, length, slice_index, slice_index_or, slice_set, take, replicate, refl, sym, ◌∙◌, subst, inl, inr, arith}
+use Rattle.ld_text.proofs.Names.{◌+◌, ◌<◌, ◌↔◌, ◌∙◌, ◌≡◌, ◌≢◌, ◌≤◌, ◌⊎◌, Any, Any-push, AreJoined, Arrow, Bool, IsFoundArrow, IsTrue, Leads, List, arith, arrow, false, get_or-replicate, get_or-set_other, get_or-set_same, get_or_default, inl, inr, kinds, length, refl, replicate, slice_index, slice_index_or, slice_set, subst, sym, take, take_all, take_more, true, ℕ}
 use mathlib.Core.Logic.{dite}
 use native.Mathlib.Decide.{ℕ_discrete}
-use Rattle.std.proofs.lemmas.List.{get_or-replicate, get_or-set_other, get_or-set_same, get_or_default, take_all, take_more}
-use Rattle.ld_facts.specs.Arrows.{Arrow, arrow}
 use Rattle.ld_facts.specs.Facts.{DependenciesOf}
 use Rattle.ld_graph.specs.Laws.Facts.{StrongWalk-members, OnCircle-member}
-use Rattle.ld_facts.specs.Laws.Lists.{Any-push}
 use Rattle.ld_facts.specs.declared.fact.Fact.{Fact}
-use Rattle.ld_text.specs.Inside.Joined.{Leads}
-use Rattle.ld_text.specs.Picture.{AreJoined, IsFoundArrow}
-use Rattle.ld_explain.specs.Found.{kinds}
 use Rattle.ld_text.proofs.PictureGrowing.{none-yet}
 
 -- what is part of a finding is a dependency

@@ -1,10 +1,6 @@
 -- What is written of JSON, token by token.
-use Rattle.std.proofs.Common.{◌≡◌, ℕ, ◌+◌, ◌<◌, List, [], ◌∷◌, ◌++◌, Result, Ok, Err, OnOk, length, map, slice_index_or, take, refl, sym, ap, ◌∙◌, subst}
-use Rattle.std.specs.List.{flat_map}
-use Rattle.std.proofs.lemmas.List.{append_assoc, append-nil, map-append, take_more}
-use Rattle.json.specs.Token.{Token}
+use Rattle.ld_text.proofs.Names.{[], ◌++◌, ◌+◌, ◌<◌, ◌∙◌, ◌∷◌, ◌≡◌, Adds, Err, List, Ok, OnOk, Result, Token, ap, append-nil, append_assoc, flat_map, length, map, map-append, refl, slice_index_or, subst, sym, take, take_more, ℕ}
 use Rattle.json.specs.Written.{Writes, Written}
-use Rattle.ld_text.specs.Inside.Tokens.{Adds}
 use Rattle.ld_text.proofs.GroupLemmas.{flat_map-grows}
 
 -- nothing was written

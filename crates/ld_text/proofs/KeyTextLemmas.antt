@@ -1,10 +1,5 @@
 -- The keys as lines name them.
-use Rattle.std.proofs.Common.{◌≡◌, ℕ, ◌+◌, ◌<◌, List, [], ◌∷◌, ◌++◌, get_or, length, map, take, sym, ap, ◌∙◌}
-use Rattle.std.proofs.lemmas.List.{map-append, take_more}
-use Rattle.std.proofs.lemmas.Option.{unwrap_or-slice_get}
-use Rattle.ld_trace.specs.Names.{Name}
-use Rattle.ld_trace.specs.Writing.{name_at}
-use Rattle.ld_text.specs.Words.{key_text}
+use Rattle.ld_text.proofs.Names.{[], ◌++◌, ◌+◌, ◌<◌, ◌∙◌, ◌∷◌, ◌≡◌, List, Name, ap, get_or, key_text, length, map, map-append, name_at, sym, take, take_more, unwrap_or-slice_get, ℕ}
 
 -- the texts for one key more
 pub texts_more : (names : List Name) (n : ℕ) (texts : List (List ℕ)) (text : List ℕ) → n < length names → texts ≡ map key_text (take n names) → text ≡ key_text (name_at names n) →

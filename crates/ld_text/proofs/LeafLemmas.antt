@@ -1,10 +1,6 @@
 -- The lines of tasks that wait.
-use Rattle.std.proofs.Common.{◌≡◌, ℕ, suc, ◌+◌, ◌<◌, List, [], ◌∷◌, ◌++◌, Some, length, slice_get, take, sym, ap, ◌∙◌, arith}
-use Rattle.std.proofs.lemmas.List.{append_assoc, append-nil, length-take-le}
-use Rattle.ld_trace.specs.Names.{Name}
-use Rattle.ld_explain.specs.Laws.Lists.{take-next}
+use Rattle.ld_text.proofs.Names.{[], ◌++◌, ◌+◌, ◌<◌, ◌∙◌, ◌∷◌, ◌≡◌, List, Name, Some, ap, append-nil, append_assoc, arith, length, length-take-le, slice_get, suc, sym, take, take-next, waits_line, waits_text, ℕ}
 use Rattle.ld_explain.specs.declared.finding.Order.{Order}
-use Rattle.ld_text.specs.Explanation.{waits_line, waits_text}
 
 waits_of_next : (names : List Name) (task : ℕ) (walk : List Order) (order : Order) →
     waits_text names task (walk ++ order ∷ []) ≡ waits_text names task walk ++ waits_line names (task + length walk) order.dependency

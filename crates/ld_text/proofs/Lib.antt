@@ -1,3 +1,4 @@
+pub mod Names
 pub mod OutputLemmas
 pub mod OrderLemmas
 pub mod GroupLemmas

@@ -1,9 +1,7 @@
 -- The keys of a table, numbered and in order.
-use Rattle.std.proofs.Common.{◌≡◌, ℕ, suc, ◌+◌, [], ◌∷◌, ◌++◌, refl, sym, arith, subst}
-use Rattle.std.specs.Cmp.{IsTotalOrder}
+use Rattle.ld_text.proofs.Names.{[], ◌++◌, ◌+◌, ◌∷◌, ◌≡◌, IsTotalOrder, Name, arith, name_cmp, refl, subst, suc, sym, ℕ}
 use Rattle.std.proofs.lemmas.Cmp.{nat_cmp_total, nat_list_cmp_total, on_total, then_total}
-use Rattle.ld_trace.specs.Names.{Name}
-use Rattle.ld_text.specs.Order.{numbers_below, name_cmp}
+use Rattle.ld_text.specs.Order.{numbers_below}
 
 pub numbers_below-more : (n : ℕ) → numbers_below (n + 1) ≡ numbers_below n ++ n ∷ []
 unfolding numbers_below

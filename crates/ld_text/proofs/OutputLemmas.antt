@@ -1,12 +1,5 @@
 -- Texts that are written or put onto a page, one after the other.
-use Rattle.std.proofs.Common.{◌≡◌, ℕ, ◌+◌, ◌<◌, List, [], ◌∷◌, ◌++◌, Option, Some, None, take, drop, length, slice_index_or, sym, ap, ◌∙◌, subst, Result, Ok, Err, OnErr}
-use Rattle.std.specs.List.{flat_map}
-use Rattle.std.specs.Io.KnownBytes.{Appends}
-use Rattle.std.proofs.lemmas.List.{append_assoc, append-nil, take-append-drop, drop_more}
-use Rattle.std.proofs.KnownBytes.{Appends-trans, Appends-nil}
-use Rattle.std.proofs.lemmas.List.Concat.{flat_map-append}
-use Rattle.ld_text.specs.Output.{AppendsBeginning, PutsBehind}
-use Rattle.ld_explain.specs.Laws.Lists.{flat_map-next}
+use Rattle.ld_text.proofs.Names.{[], ◌++◌, ◌+◌, ◌<◌, ◌∙◌, ◌∷◌, ◌≡◌, Appends, Appends-nil, Appends-trans, AppendsBeginning, Err, List, None, Ok, OnErr, Option, PutsBehind, Result, Some, ap, append-nil, append_assoc, drop, drop_more, flat_map, flat_map-append, flat_map-next, length, slice_index_or, subst, sym, take, take-append-drop, ℕ}
 
 -- what holds anyway holds of an error
 pub OnErr-anyway : {T E P : Type 0} (r : Result T E) → P → OnErr r P

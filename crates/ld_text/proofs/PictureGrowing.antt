@@ -1,9 +1,5 @@
 -- What grows a picture, and what is found by going through lists.
-use Rattle.std.proofs.Common.{◌≡◌, ◌↔◌, ◌⊎◌, ℕ, ◌+◌, ◌<◌, Any, Bool, true, false, IsTrue, IsFalse, List, [], ◌++◌, length, not, ◌||◌, slice_index_or, take, refl, sym, ap, ◌∙◌, subst, inl, inr, arith}
-use Rattle.std.proofs.lemmas.List.{append-nil, append_assoc, take_more}
-use Rattle.ld_facts.specs.Laws.Lists.{Any-push}
-use Rattle.ld_text.specs.Groups.{GrowsBy}
-use Rattle.ld_text.specs.Picture.{ShowsColoured}
+use Rattle.ld_text.proofs.Names.{[], ◌++◌, ◌+◌, ◌<◌, ◌||◌, ◌↔◌, ◌∙◌, ◌≡◌, ◌⊎◌, Any, Any-push, Bool, GrowsBy, IsFalse, IsTrue, List, ShowsColoured, ap, append-nil, append_assoc, arith, false, inl, inr, length, not, refl, slice_index_or, subst, sym, take, take_more, true, ℕ}
 
 -- one text after another
 pub behind : (old mid new a b : List ℕ) → mid ≡ old ++ a → new ≡ mid ++ b → new ≡ old ++ (a ++ b)

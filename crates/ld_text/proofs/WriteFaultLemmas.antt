@@ -1,6 +1,5 @@
 -- What a refused write leaves.
-use Rattle.std.proofs.Common.{◌≡◌, ℕ, List, Option, Result, Ok, Err, OnErr, IfErr, refl}
-use Rattle.ld_text.specs.Output.{AppendsBeginning}
+use Rattle.ld_text.proofs.Names.{◌≡◌, AppendsBeginning, Err, IfErr, List, Ok, OnErr, Option, Result, refl, ℕ}
 use Rattle.ld_text.specs.WriteFaults.{StopsWriting}
 use Rattle.ld_text.specs.declared.write_fault.WriteFault.{WriteFault}
 use Rattle.ld_text.specs.declared.write_fault.WriteFault.TheVariants.{Failed, Stuck, Memory}

@@ -1,10 +1,4 @@
-use Rattle.std.proofs.Common.{◌≡◌, ◌-◌, ◌++◌, arith, codes, drop, subst, string_bytes, take}
-use Rattle.std.specs.List.{flat_map}
-use Rattle.std.proofs.lemmas.Grind.{common_steps}
-use Rattle.ld_facts.specs.Arrows.{Arrow, arrow}
-use Rattle.ld_text.specs.Report.{member_text}
-use Rattle.ld_trace.specs.Writing.{name_at}
-use Rattle.ld_text.specs.Words.{key_text}
+use Rattle.ld_text.proofs.Names.{◌++◌, ◌-◌, ◌≡◌, Arrow, arith, arrow, codes, common_steps, drop, flat_map, key_text, member_text, name_at, string_bytes, subst, take}
 use Rattle.ld_text.proofs.BecauseLemmas.{TellsTurned-from}
 use Rattle.ld_text.proofs.because.add_line.Goals as goal
 

@@ -1,9 +1,4 @@
-use Rattle.std.proofs.Common.{◌≡◌, ◌∙◌, ◌<◌, ◌≤◌, ◌-◌, ◌++◌, sym, ap, arith, length, drop, take, string_bytes}
-use Rattle.std.specs.List.{flat_map}
-use Rattle.std.proofs.lemmas.Grind.{common_steps}
-use Rattle.std.proofs.lemmas.List.{append_assoc}
-use Rattle.ld_facts.specs.Arrows.{Arrow, arrow}
-use Rattle.ld_text.specs.Report.{member_text}
+use Rattle.ld_text.proofs.Names.{◌++◌, ◌-◌, ◌<◌, ◌∙◌, ◌≡◌, ◌≤◌, Arrow, ap, append_assoc, arith, arrow, common_steps, drop, flat_map, length, member_text, string_bytes, sym, take}
 use Rattle.ld_text.proofs.BecauseLemmas.{members_next}
 use Rattle.ld_text.proofs.because.add_members.Goals as goal
 

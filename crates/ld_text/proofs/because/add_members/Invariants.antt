@@ -1,6 +1,4 @@
-use Rattle.std.proofs.Common.{◌≡◌, ◌-◌, ◌++◌, drop, take, string_bytes}
-use Rattle.std.specs.List.{flat_map}
-use Rattle.ld_text.specs.Report.{member_text}
+use Rattle.ld_text.proofs.Names.{◌++◌, ◌-◌, ◌≡◌, drop, flat_map, member_text, string_bytes, take}
 use Rattle.ld_text.proofs.because.add_members.Given as goal
 
 -- the members so far

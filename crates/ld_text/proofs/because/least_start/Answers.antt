@@ -1,10 +1,5 @@
-use Rattle.std.proofs.Common.{◌≡◌, ◌∙◌, ◌+◌, ◌<◌, length, sym, ap, subst, arith}
-use Rattle.std.specs.List.{IsFirstBest}
+use Rattle.ld_text.proofs.Names.{◌+◌, ◌<◌, ◌∙◌, ◌≡◌, Arrow, IsFirstBest, IsFirstBest-keeps, IsFirstBest-none, IsFirstBest-takes, ap, arith, arrow, get_or_from_slice_get, length, starts_before, subst, sym}
 use Rattle.std.specs.Ordering.{is_lt}
-use Rattle.std.proofs.lemmas.List.MinMax.{IsFirstBest-none, IsFirstBest-keeps, IsFirstBest-takes}
-use Rattle.std.proofs.lemmas.Option.{get_or_from_slice_get}
-use Rattle.ld_facts.specs.Arrows.{Arrow, arrow}
-use Rattle.ld_text.specs.Inside.Turning.{starts_before}
 use Rattle.ld_text.proofs.BecauseLemmas.{starts_before_ranks}
 use Rattle.ld_text.proofs.because.least_start.Goals as goal
 use Rattle.ld_text.proofs.because.least_start.Goals.{then-is_lt, else-is_lt}

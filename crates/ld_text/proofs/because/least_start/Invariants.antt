@@ -1,5 +1,4 @@
-use Rattle.std.specs.List.{IsFirstBest}
-use Rattle.ld_text.specs.Inside.Turning.{starts_before}
+use Rattle.ld_text.proofs.Names.{IsFirstBest, starts_before}
 use Rattle.ld_text.proofs.because.least_start.Given as goal
 
 -- the least so far

@@ -1,7 +1,5 @@
-use Rattle.std.proofs.Common.{◌≡◌, ◌<◌, ◌∙◌, ◌++◌, ap, sym, arith, codes, decimal, length, take, List, ℕ}
-use Rattle.std.specs.List.{flat_map}
-use Rattle.std.proofs.lemmas.List.{append_assoc, take_all}
-use Rattle.ld_text.specs.ChainLines.{chain_line, head_text, held_text, lock_text}
+use Rattle.ld_text.proofs.Names.{◌++◌, ◌<◌, ◌∙◌, ◌≡◌, List, ap, append_assoc, arith, codes, decimal, flat_map, head_text, held_text, length, lock_text, sym, take, take_all, ℕ}
+use Rattle.ld_text.specs.ChainLines.{chain_line}
 use Rattle.ld_text.proofs.ChainLemmas.{locks_text-next, held-none}
 use Rattle.ld_text.proofs.chains_text.add_line.Goals as goal
 

@@ -1,8 +1,4 @@
-use Rattle.std.proofs.Common.{◌≡◌, ◌≤◌, ◌+◌, ◌*◌, ◌++◌, List, ℕ, codes, decimal, length, take}
-use Rattle.std.specs.List.{flat_map}
-use Rattle.ld_trace.specs.Names.{Name}
-use Rattle.ld_task.specs.Chains.{ChainParts}
-use Rattle.ld_text.specs.ChainLines.{head_text, lock_text}
+use Rattle.ld_text.proofs.Names.{◌*◌, ◌++◌, ◌+◌, ◌≡◌, ◌≤◌, ChainParts, List, Name, codes, decimal, flat_map, head_text, length, lock_text, take, ℕ}
 use Rattle.ld_text.proofs.chains_text.add_line.Given as goal
 
 -- the line up to its first n held locks

@@ -1,13 +1,6 @@
-use Rattle.std.proofs.Common.{◌<◌, ◌∙◌, ◌++◌, List, ℕ, [], Some, None, Ok, Option, Result, ap, subst, sym, arith, length}
-use Rattle.std.proofs.lemmas.List.{append-nil}
-use Rattle.std.proofs.lemmas.Result.{on_ok_weaker, on_err_weaker}
-use Rattle.std.specs.Io.KnownBytes.{Appends}
-use Rattle.std.proofs.KnownBytes.{Appends-trans}
-use Rattle.ld_task.specs.Chains.{ChainParts}
-use Rattle.ld_task.specs.Steps.{GoesOn}
+use Rattle.ld_text.proofs.Names.{[], ◌++◌, ◌<◌, ◌∙◌, Appends, Appends-trans, AppendsBeginning, ChainParts, GoesOn, List, None, Ok, Option, PutsBehind, Result, Some, ap, append-nil, arith, length, on_err_weaker, on_ok_weaker, subst, sym, ℕ}
 use Rattle.ld_task.specs.declared.fault.StepFault.{StepFault}
 use Rattle.ld_text.specs.ChainLines.{chain_line}
-use Rattle.ld_text.specs.Output.{AppendsBeginning, PutsBehind}
 use Rattle.ld_text.proofs.OutputLemmas.{AppendsBeginning-page, OnErr-anyway, PutsBehind-nothing}
 use Rattle.ld_text.proofs.ChainLemmas.{PutsLines-next, PutsLines-stopped, event-none, lines_before-all, lines_before-none}
 use Rattle.ld_text.proofs.chains_text.write_chains.Goals.{in-Some-chain+in_ok-put, in_default-chain}

@@ -1,5 +1,4 @@
-use Rattle.std.proofs.Common.{◌≡◌, ◌∙◌, ◌++◌, ap, codes, drop}
-use Rattle.std.proofs.lemmas.List.{append_assoc}
+use Rattle.ld_text.proofs.Names.{◌++◌, ◌∙◌, ◌≡◌, ap, append_assoc, codes, drop}
 use Rattle.ld_text.proofs.json_text.text_with.Goals as goal
 
 pub returns : goal.returns

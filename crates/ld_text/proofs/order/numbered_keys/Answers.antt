@@ -1,4 +1,4 @@
-use Rattle.std.proofs.Common.{arith, ◌<◌}
+use Rattle.ld_text.proofs.Names.{◌<◌, arith}
 use Rattle.ld_text.proofs.OrderLemmas.{numbers_below-zero, numbers_below-more}
 use Rattle.ld_text.proofs.order.numbered_keys.Goals.{in-Some+in_ok-push, in_default}
 use Rattle.ld_text.proofs.order.numbered_keys.Goals as goal

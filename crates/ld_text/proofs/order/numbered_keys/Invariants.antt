@@ -1,4 +1,4 @@
-use Rattle.std.proofs.Common.{◌≡◌}
+use Rattle.ld_text.proofs.Names.{◌≡◌}
 use Rattle.ld_text.specs.Order.{numbers_below}
 use Rattle.ld_text.proofs.order.numbered_keys.Given as goal
 

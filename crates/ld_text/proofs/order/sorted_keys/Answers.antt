@@ -1,8 +1,6 @@
-use Rattle.std.proofs.Common.{ℕ, List, subst, rules, IsPermutation, is_lt}
-use Rattle.std.proofs.lemmas.List.MinMax.{ranks_by}
+use Rattle.ld_text.proofs.Names.{IsPermutation, List, name_at, name_cmp, ranks_by, rules, subst, ℕ}
+use Rattle.std.proofs.Common.{is_lt}
 use Rattle.std.proofs.lemmas.Fn.{always_returns_same}
-use Rattle.ld_text.specs.Order.{name_cmp}
-use Rattle.ld_trace.specs.Writing.{name_at}
 use Rattle.ld_text.proofs.OrderLemmas.{name_cmp_total}
 use Rattle.ld_text.proofs.order.sorted_keys.Goals as goal
 

@@ -1,8 +1,5 @@
-use Rattle.std.proofs.Common.{subst, sym, List, ℕ}
-use Rattle.std.proofs.lemmas.Result.{on_ok_weaker, on_err_weaker}
-use Rattle.std.specs.Io.KnownBytes.{Appends}
+use Rattle.ld_text.proofs.Names.{Appends, List, PutsBehind, on_err_weaker, on_ok_weaker, subst, sym, ℕ}
 use Rattle.arrayvec.specs.ArrayString.{ArrayString}
-use Rattle.ld_text.specs.Output.{PutsBehind}
 use Rattle.ld_text.proofs.OutputLemmas.{PutsBehind-written, AppendsBeginning-after}
 use Rattle.ld_text.proofs.output.put.Given.{Over}
 use Rattle.ld_text.proofs.output.put.Goals as goal

@@ -1,6 +1,4 @@
-use Rattle.std.proofs.Common.{[], List, ℕ, subst, sym}
-use Rattle.std.proofs.lemmas.List.{take_rest}
-use Rattle.ld_text.specs.Output.{PutsBehind}
+use Rattle.ld_text.proofs.Names.{[], List, PutsBehind, subst, sym, take_rest, ℕ}
 use Rattle.ld_text.proofs.OutputLemmas.{PutsBehind-more}
 use Rattle.ld_text.proofs.output.write_text.Goals as goal
 

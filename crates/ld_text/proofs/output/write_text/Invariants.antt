@@ -1,5 +1,4 @@
-use Rattle.std.proofs.Common.{[], length}
-use Rattle.ld_text.specs.Output.{PutsBehind}
+use Rattle.ld_text.proofs.Names.{[], PutsBehind, length}
 use Rattle.ld_text.proofs.output.write_text.Given as goal
 
 -- the text is what was written, and then the rest

@@ -1,6 +1,4 @@
-use Rattle.std.proofs.Common.{take, []}
-use Rattle.std.specs.List.{flat_map}
-use Rattle.ld_text.specs.Output.{PutsBehind}
+use Rattle.ld_text.proofs.Names.{[], PutsBehind, flat_map, take}
 use Rattle.ld_text.proofs.output.write_texts.Given as goal
 
 -- the texts so far were put

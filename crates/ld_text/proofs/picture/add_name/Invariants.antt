@@ -1,5 +1,4 @@
-use Rattle.std.proofs.Common.{◌≡◌, ◌++◌, flat_map, take}
-use Rattle.ld_text.specs.Picture.{escaped}
+use Rattle.ld_text.proofs.Names.{◌++◌, ◌≡◌, escaped, flat_map, take}
 use Rattle.ld_text.proofs.picture.add_name.Given as goal
 
 -- the bytes so far

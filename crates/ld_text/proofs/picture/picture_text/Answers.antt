@@ -1,5 +1,4 @@
-use Rattle.std.proofs.Common.{◌≡◌, ◌∙◌, ◌++◌, List, ℕ, [], ap, codes, sym, subst}
-use Rattle.ld_text.specs.Groups.{GrowsBy}
+use Rattle.ld_text.proofs.Names.{[], ◌++◌, ◌∙◌, ◌≡◌, GrowsBy, List, ap, codes, subst, sym, ℕ}
 use Rattle.ld_text.proofs.GroupLemmas.{GrowsBy-is, GrowsBy-none, GrowsBy-then}
 use Rattle.ld_text.proofs.picture.picture_text.Goals as goal
 

@@ -1,5 +1,4 @@
-use Rattle.ld_facts.specs.FactBits.{HasFact}
-use Rattle.ld_text.specs.Picture.{IsPicture}
+use Rattle.ld_text.proofs.Names.{HasFact, IsPicture}
 use Rattle.ld_text.proofs.WriteFaultLemmas.{StopsWriting-begun}
 use Rattle.ld_text.proofs.picture.write_picture.Goals as goal
 

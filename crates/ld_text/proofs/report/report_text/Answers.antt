@@ -1,5 +1,4 @@
-use Rattle.std.proofs.Common.{◌≡◌, ◌∙◌, ◌++◌, List, ℕ, [], ap, sym, subst}
-use Rattle.ld_text.specs.Groups.{GrowsBy}
+use Rattle.ld_text.proofs.Names.{[], ◌++◌, ◌∙◌, ◌≡◌, GrowsBy, List, ap, subst, sym, ℕ}
 use Rattle.ld_text.proofs.GroupLemmas.{GrowsBy-then}
 use Rattle.ld_text.proofs.report.report_text.Goals as goal
 

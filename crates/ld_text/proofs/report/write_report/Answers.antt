@@ -1,6 +1,4 @@
-use Rattle.std.proofs.Common.{sum_by, length, string_bytes, subst}
-use Rattle.ld_facts.specs.FactBits.{HasFact}
-use Rattle.ld_text.specs.Report.{IsReport}
+use Rattle.ld_text.proofs.Names.{HasFact, IsReport, length, string_bytes, subst, sum_by}
 use Rattle.ld_text.proofs.WriteFaultLemmas.{StopsWriting-begun}
 use Rattle.ld_text.proofs.report.write_report.Goals as goal
 

@@ -1,6 +1,4 @@
-use Rattle.std.proofs.Common.{◌≡◌, ◌≤◌, ◌<◌, ◌+◌, ◌^◌, ◌/◌, ◌%◌, ◌++◌, ◌∷◌, [], ◌∙◌, ℕ, List, ap, arith, decimal, length, length-append, rules, sym}
-use Rattle.std.proofs.lemmas.Fmt.{decimal_digit, decimal_step}
-use Rattle.std.proofs.lemmas.List.{append_assoc}
+use Rattle.ld_text.proofs.Names.{[], ◌%◌, ◌++◌, ◌+◌, ◌/◌, ◌<◌, ◌^◌, ◌∙◌, ◌∷◌, ◌≡◌, ◌≤◌, List, ap, append_assoc, arith, decimal, decimal_digit, decimal_step, length, length-append, rules, sym, ℕ}
 use Rattle.ld_text.proofs.words.+add_digits.Goals as goal
 
 -- one digit more than without the last

@@ -1,5 +1,4 @@
-use Rattle.std.proofs.Common.{◌≤◌, ◌+◌, ◌++◌, ℕ, List, ap, arith, decimal, length, sym, subst, ◌∙◌}
-use Rattle.std.proofs.lemmas.Fmt.{length-decimal-le}
+use Rattle.ld_text.proofs.Names.{◌++◌, ◌+◌, ◌∙◌, ◌≤◌, List, ap, arith, decimal, length, length-decimal-le, subst, sym, ℕ}
 use Rattle.ld_text.proofs.words.digits_of.Goals as goal
 
 pub add_digits-requires : goal.add_digits-requires

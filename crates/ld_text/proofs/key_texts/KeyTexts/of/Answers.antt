@@ -1,7 +1,4 @@
-use Rattle.std.proofs.Common.{◌<◌, ◌∷◌, [], ◌∙◌, ap, arith, map, string_bytes}
-use Rattle.std.proofs.lemmas.List.{map-append}
-use Rattle.ld_trace.specs.Writing.{name_at}
-use Rattle.ld_text.specs.Words.{key_text}
+use Rattle.ld_text.proofs.Names.{[], ◌<◌, ◌∙◌, ◌∷◌, ap, arith, key_text, map, map-append, name_at, string_bytes}
 use Rattle.ld_text.proofs.KeyTextLemmas.{texts_more}
 use Rattle.ld_text.proofs.key_texts.KeyTexts.of.Goals.{in-Some+in_ok-text_of+in_ok-push, in_default}
 use Rattle.ld_text.proofs.key_texts.KeyTexts.of.Goals as goal

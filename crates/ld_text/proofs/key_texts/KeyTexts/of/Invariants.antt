@@ -1,5 +1,4 @@
-use Rattle.std.proofs.Common.{◌≡◌, map, string_bytes, take}
-use Rattle.ld_text.specs.Words.{key_text}
+use Rattle.ld_text.proofs.Names.{◌≡◌, key_text, map, string_bytes, take}
 use Rattle.ld_text.proofs.key_texts.KeyTexts.of.Given as goal
 
 -- the texts of the keys so far

@@ -1,7 +1,4 @@
-use Rattle.std.proofs.Common.{◌≡◌, ◌≤◌, ◌∷◌, ◌∙◌, None, ap, arith, decimal, length, option_map, slice_get, string_bytes, subst, sym, unwrap_or}
-use Rattle.std.proofs.lemmas.Bool.{ltb-false}
-use Rattle.std.proofs.lemmas.Fmt.{decimal_digit}
-use Rattle.std.proofs.lemmas.Option.{slice_get-map, slice_get_past}
+use Rattle.ld_text.proofs.Names.{◌∙◌, ◌∷◌, ◌≡◌, ◌≤◌, None, ap, arith, decimal, decimal_digit, length, ltb-false, option_map, slice_get, slice_get-map, slice_get_past, string_bytes, subst, sym, unwrap_or}
 use Rattle.ld_text.proofs.key_texts.KeyTexts.text.Goals as goal
 
 pub returns-in-None : goal.returns-in-None

@@ -1,7 +1,4 @@
-use Rattle.std.proofs.Common.{codes}
-use Rattle.std.proofs.lemmas.Result.{on_ok_weaker}
-use Rattle.ld_text.specs.Picture.{quoted_key}
-use Rattle.ld_trace.specs.Writing.{name_at}
+use Rattle.ld_text.proofs.Names.{codes, name_at, on_ok_weaker, quoted_key}
 use Rattle.ld_text.proofs.PictureGrowing.{seven_behind}
 use Rattle.ld_text.proofs.picture.PictureView.add_arrow.Goals as goal
 

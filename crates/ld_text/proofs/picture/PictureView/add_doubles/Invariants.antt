@@ -1,5 +1,4 @@
-use Rattle.std.proofs.Common.{◌≡◌, ◌++◌, take}
-use Rattle.ld_text.specs.Picture.{double_links}
+use Rattle.ld_text.proofs.Names.{◌++◌, ◌≡◌, double_links, take}
 use Rattle.ld_text.proofs.picture.PictureView.add_doubles.Given as goal
 
 -- the lines so far

@@ -1,8 +1,4 @@
-use Rattle.std.proofs.Common.{◌≡◌, inl, refl}
-use Rattle.ld_facts.specs.Arrows.{arrow}
-use Rattle.ld_facts.specs.FactBits.{HasFact}
-use Rattle.ld_text.specs.Picture.{IsFoundArrow, arrow_text, edge_line, end_text}
-use Rattle.ld_text.specs.Words.{kind_text}
+use Rattle.ld_text.proofs.Names.{◌≡◌, HasFact, IsFoundArrow, arrow, arrow_text, edge_line, end_text, inl, kind_text, refl}
 use Rattle.ld_text.proofs.JoinedLemmas.{IsFoundArrow-dependency}
 use Rattle.ld_text.proofs.PictureGrowing.{GrowsBy-coloured, GrowsBy-uncoloured, behind, says-false}
 use Rattle.ld_text.proofs.picture.PictureView.add_edge.Goals as goal

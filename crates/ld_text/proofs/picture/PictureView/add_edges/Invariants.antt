@@ -1,10 +1,4 @@
-use Rattle.std.proofs.Common.{◌≡◌, ◌↔◌, ◌⊎◌, ℕ, ◌<◌, Any, IsTrue, false, length, slice_index, slice_index_or, take}
-use Rattle.ld_facts.specs.FactBits.{HasFact}
-use Rattle.ld_facts.specs.Arrows.{arrow}
-use Rattle.ld_text.specs.Groups.{GrowsBy, InTurn}
-use Rattle.ld_text.specs.Inside.Joined.{Leads}
-use Rattle.ld_text.specs.Picture.{ShowsEdge}
-use Rattle.ld_explain.specs.Found.{kinds}
+use Rattle.ld_text.proofs.Names.{◌<◌, ◌↔◌, ◌≡◌, ◌⊎◌, Any, GrowsBy, HasFact, InTurn, IsTrue, Leads, ShowsEdge, arrow, false, kinds, length, slice_index, slice_index_or, take, ℕ}
 use Rattle.ld_text.proofs.picture.PictureView.add_edges.Given as goal
 
 -- the lines from the keys so far; these are marked if one leads from them, and all that one of them leads to

@@ -1,7 +1,4 @@
-use Rattle.std.proofs.Common.{◌<◌, true, length, slice_index, slice_index_or, ◌∙◌, refl, arith}
-use Rattle.std.proofs.lemmas.List.{length-set, take_all}
-use Rattle.ld_facts.specs.FactBits.{HasFact}
-use Rattle.ld_text.specs.Inside.Joined.{Leads}
+use Rattle.ld_text.proofs.Names.{◌<◌, ◌∙◌, HasFact, Leads, arith, length, length-set, refl, slice_index, slice_index_or, take_all, true}
 use Rattle.ld_text.proofs.GroupLemmas.{GrowsBy-more, GrowsBy-none}
 use Rattle.ld_text.proofs.JoinedLemmas.{at-place, done-kept, done-set, from-place, next-same, next-true, rest-set}
 use Rattle.ld_text.proofs.PictureGrowing.{none-yet, says-false}

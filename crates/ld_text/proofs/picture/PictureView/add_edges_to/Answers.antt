@@ -1,11 +1,5 @@
-use Rattle.std.proofs.Common.{inr, refl, arith}
-use Rattle.std.proofs.lemmas.List.{take_all}
-use Rattle.ld_facts.specs.Arrows.{arrow}
-use Rattle.ld_facts.specs.FactBits.{HasFact}
+use Rattle.ld_text.proofs.Names.{HasFact, IsFoundArrow, Leads, ShowsEdge, arith, arrow, inr, kinds, refl, take_all}
 use Rattle.ld_task.specs.declared.kind.Kind.{Kind}
-use Rattle.ld_text.specs.Inside.Joined.{Leads}
-use Rattle.ld_text.specs.Picture.{IsFoundArrow, ShowsEdge}
-use Rattle.ld_explain.specs.Found.{kinds}
 use Rattle.ld_text.proofs.GroupLemmas.{GrowsBy-more, GrowsBy-none, GrowsBy-nothing, InTurn-nothing}
 use Rattle.ld_text.proofs.JoinedLemmas.{IsFoundArrow-dependency, next-same, next-true}
 use Rattle.ld_text.proofs.PictureGrowing.{none-yet, says-false}

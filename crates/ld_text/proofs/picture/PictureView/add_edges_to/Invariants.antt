@@ -1,8 +1,4 @@
-use Rattle.std.proofs.Common.{◌↔◌, Any, IsTrue, take}
-use Rattle.ld_facts.specs.FactBits.{HasFact}
-use Rattle.ld_facts.specs.Arrows.{arrow}
-use Rattle.ld_text.specs.Groups.{GrowsBy, InTurn}
-use Rattle.ld_text.specs.Picture.{IsFoundArrow, ShowsEdge}
+use Rattle.ld_text.proofs.Names.{◌↔◌, Any, GrowsBy, HasFact, InTurn, IsFoundArrow, IsTrue, ShowsEdge, arrow, take}
 use Rattle.ld_text.proofs.picture.PictureView.add_edges_to.Given as goal
 
 -- the lines of the kinds so far, and whether one of these is part of a finding

@@ -1,5 +1,4 @@
-use Rattle.std.proofs.Common.{◌≡◌, ◌++◌, take}
-use Rattle.ld_text.specs.Picture.{inversion_links}
+use Rattle.ld_text.proofs.Names.{◌++◌, ◌≡◌, inversion_links, take}
 use Rattle.ld_text.proofs.picture.PictureView.add_inversions.Given as goal
 
 -- the lines so far

@@ -1,7 +1,4 @@
-use Rattle.std.proofs.Common.{◌↔◌, Any, IsTrue, false, slice_index_or, subst}
-use Rattle.std.proofs.lemmas.List.{get_or_default}
-use Rattle.ld_facts.specs.FactBits.{HasFact}
-use Rattle.ld_text.specs.Picture.{AreJoined}
+use Rattle.ld_text.proofs.Names.{◌↔◌, Any, AreJoined, HasFact, IsTrue, false, get_or_default, slice_index_or, subst}
 use Rattle.ld_text.proofs.GroupLemmas.{GrowsBy-more}
 use Rattle.ld_text.proofs.picture.PictureView.add_keys.Goals as goal
 

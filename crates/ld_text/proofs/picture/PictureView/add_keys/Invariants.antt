@@ -1,7 +1,4 @@
-use Rattle.std.proofs.Common.{take}
-use Rattle.ld_facts.specs.FactBits.{HasFact}
-use Rattle.ld_text.specs.Groups.{GrowsBy, InTurn}
-use Rattle.ld_text.specs.Picture.{ShowsKey}
+use Rattle.ld_text.proofs.Names.{GrowsBy, HasFact, InTurn, ShowsKey, take}
 use Rattle.ld_text.proofs.picture.PictureView.add_keys.Given as goal
 
 -- the lines of the keys so far

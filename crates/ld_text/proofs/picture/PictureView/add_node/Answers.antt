@@ -1,7 +1,4 @@
-use Rattle.std.proofs.Common.{◌++◌, codes, refl}
-use Rattle.std.proofs.lemmas.Result.{on_ok_weaker}
-use Rattle.ld_text.specs.Picture.{end_text, node_line, quoted_key}
-use Rattle.ld_trace.specs.Writing.{name_at}
+use Rattle.ld_text.proofs.Names.{◌++◌, codes, end_text, name_at, node_line, on_ok_weaker, quoted_key, refl}
 use Rattle.ld_text.proofs.PictureGrowing.{behind, seven_behind}
 use Rattle.ld_text.proofs.picture.PictureView.add_node.Goals as goal
 

@@ -1,5 +1,4 @@
-use Rattle.ld_facts.specs.FactBits.{HasFact}
-use Rattle.ld_text.specs.Picture.{IsFoundKey, IsNode}
+use Rattle.ld_text.proofs.Names.{HasFact, IsFoundKey, IsNode}
 use Rattle.ld_text.proofs.PictureGrowing.{GrowsBy-coloured, GrowsBy-uncoloured}
 use Rattle.ld_text.proofs.picture.PictureView.add_shown_key.Goals as goal
 use Rattle.ld_text.proofs.picture.PictureView.add_shown_key.Goals.{then-red-via-then-red, then-red-via-else-red+then-not-self}

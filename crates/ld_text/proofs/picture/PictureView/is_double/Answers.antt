@@ -1,6 +1,4 @@
-use Rattle.ld_facts.specs.FactBits.{HasFact}
-use Rattle.ld_graph.specs.Links.{IsDouble}
-use Rattle.ld_explain.specs.Found.{states}
+use Rattle.ld_text.proofs.Names.{HasFact, IsDouble, states}
 use Rattle.ld_text.proofs.PictureGrowing.{none-more}
 use Rattle.ld_text.proofs.picture.PictureView.is_double.Goals as goal
 

@@ -1,6 +1,4 @@
-use Rattle.std.proofs.Common.{Any, take}
-use Rattle.ld_facts.specs.FactBits.{HasFact}
-use Rattle.ld_graph.specs.Links.{IsDouble}
+use Rattle.ld_text.proofs.Names.{Any, HasFact, IsDouble, take}
 use Rattle.ld_text.proofs.picture.PictureView.is_double.Given as goal
 
 -- none of the states so far

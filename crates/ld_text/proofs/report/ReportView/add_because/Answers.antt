@@ -1,9 +1,5 @@
-use Rattle.std.proofs.Common.{[], refl, sym, subst, inl, inr}
-use Rattle.std.proofs.lemmas.List.{append-nil}
-use Rattle.std.proofs.lemmas.Result.{on_ok_weaker}
-use Rattle.ld_facts.specs.FactBits.{HasFact}
+use Rattle.ld_text.proofs.Names.{[], HasFact, append-nil, because_line, inl, inr, on_ok_weaker, refl, subst, sym}
 use Rattle.ld_graph.specs.Walks.{IsShortestCircle}
-use Rattle.ld_text.specs.Report.{because_line}
 use Rattle.ld_text.proofs.report.ReportView.add_because.Goals as goal
 
 pub returns-in-Some : goal.returns-in-Some

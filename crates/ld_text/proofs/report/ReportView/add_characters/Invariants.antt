@@ -1,7 +1,4 @@
-use Rattle.std.proofs.Common.{take, string_bytes}
-use Rattle.ld_facts.specs.FactBits.{HasFact}
-use Rattle.ld_text.specs.Groups.{GrowsBy, InTurn}
-use Rattle.ld_text.specs.Report.{IsUsageCharacter}
+use Rattle.ld_text.proofs.Names.{GrowsBy, HasFact, InTurn, IsUsageCharacter, string_bytes, take}
 use Rattle.ld_text.proofs.report.ReportView.add_characters.Given as goal
 
 -- the characters so far

@@ -1,6 +1,4 @@
-use Rattle.std.proofs.Common.{◌≡◌, ◌++◌, take, string_bytes}
-use Rattle.std.specs.List.{flat_map}
-use Rattle.ld_text.specs.Report.{double_line}
+use Rattle.ld_text.proofs.Names.{◌++◌, ◌≡◌, double_line, flat_map, string_bytes, take}
 use Rattle.ld_text.proofs.report.ReportView.add_doubles.Given as goal
 
 -- the lines so far

@@ -1,7 +1,4 @@
-use Rattle.std.proofs.Common.{◌≡◌, ◌∙◌, ◌++◌, ap, refl, codes, length, string_bytes, List, ℕ}
-use Rattle.std.proofs.lemmas.List.{append_assoc}
-use Rattle.std.proofs.lemmas.Result.{on_ok_weaker}
-use Rattle.ld_text.specs.Report.{clean_line, total_line}
+use Rattle.ld_text.proofs.Names.{◌++◌, ◌∙◌, ◌≡◌, List, ap, append_assoc, clean_line, codes, length, on_ok_weaker, refl, string_bytes, total_line, ℕ}
 use Rattle.ld_text.proofs.report.ReportView.add_totals.Goals as goal
 
 -- five texts, one after the other

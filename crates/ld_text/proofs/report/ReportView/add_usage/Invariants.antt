@@ -1,7 +1,4 @@
-use Rattle.std.proofs.Common.{take, string_bytes}
-use Rattle.ld_facts.specs.FactBits.{HasFact}
-use Rattle.ld_text.specs.Groups.{GrowsBy, InTurn}
-use Rattle.ld_text.specs.Report.{IsUsageLine}
+use Rattle.ld_text.proofs.Names.{GrowsBy, HasFact, InTurn, IsUsageLine, string_bytes, take}
 use Rattle.ld_text.proofs.report.ReportView.add_usage.Given as goal
 
 -- the lines of the keys so far

@@ -1,9 +1,4 @@
-use Rattle.std.proofs.Common.{◌≡◌, ◌∙◌, ◌++◌, ap, arith, refl, codes, string_bytes, List, ℕ}
-use Rattle.std.proofs.lemmas.List.{append_assoc}
-use Rattle.std.proofs.lemmas.Grind.{common_steps}
-use Rattle.ld_trace.specs.Writing.{name_at}
-use Rattle.ld_text.specs.Words.{key_text}
-use Rattle.ld_text.specs.Report.{usage_line}
+use Rattle.ld_text.proofs.Names.{◌++◌, ◌∙◌, ◌≡◌, List, ap, append_assoc, arith, codes, common_steps, key_text, name_at, refl, string_bytes, usage_line, ℕ}
 use Rattle.ld_text.proofs.report.ReportView.add_usage_line.Goals as goal
 
 -- three texts, one after the other

@@ -1,8 +1,4 @@
-use Rattle.std.proofs.Common.{◌++◌, codes, string_bytes}
-use Rattle.std.specs.List.{flat_map}
-use Rattle.std.proofs.lemmas.Result.{on_ok_weaker}
-use Rattle.ld_text.specs.Explanation.{comes_line, gate_lines, holds_line, order_line, use_lines, waits_text}
-use Rattle.ld_text.specs.Report.{double_line, inversion_line}
+use Rattle.ld_text.proofs.Names.{◌++◌, codes, comes_line, double_line, flat_map, gate_lines, holds_line, inversion_line, on_ok_weaker, order_line, string_bytes, use_lines, waits_text}
 use Rattle.ld_text.proofs.PictureGrowing.{behind}
 use Rattle.ld_text.proofs.wording.Wording.add_block.Goals as goal
 

@@ -1,6 +1,4 @@
-use Rattle.std.proofs.Common.{◌≡◌, ◌++◌, take, string_bytes}
-use Rattle.std.specs.List.{flat_map}
-use Rattle.ld_text.specs.Explanation.{block_text}
+use Rattle.ld_text.proofs.Names.{◌++◌, ◌≡◌, block_text, flat_map, string_bytes, take}
 use Rattle.ld_text.proofs.wording.Wording.add_blocks.Given as goal
 
 -- the blocks so far

@@ -1,6 +1,4 @@
-use Rattle.std.proofs.Common.{◌≡◌, ◌++◌, take, string_bytes, codes}
-use Rattle.std.specs.List.{flat_map}
-use Rattle.ld_text.specs.Explanation.{dependency_text}
+use Rattle.ld_text.proofs.Names.{◌++◌, ◌≡◌, codes, dependency_text, flat_map, string_bytes, take}
 use Rattle.ld_text.proofs.wording.Wording.add_further.Given as goal
 
 -- the dependencies so far

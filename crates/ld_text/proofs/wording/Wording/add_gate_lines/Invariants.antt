@@ -1,6 +1,4 @@
-use Rattle.std.proofs.Common.{◌≡◌, ◌++◌, take, string_bytes}
-use Rattle.std.specs.List.{flat_map}
-use Rattle.ld_text.specs.Explanation.{gate_note, note_line}
+use Rattle.ld_text.proofs.Names.{◌++◌, ◌≡◌, flat_map, gate_note, note_line, string_bytes, take}
 use Rattle.ld_text.proofs.wording.Wording.add_gate_lines.Given as goal
 
 -- the lines so far

@@ -1,6 +1,4 @@
-use Rattle.std.proofs.Common.{◌≡◌, ◌++◌, take}
-use Rattle.std.specs.List.{flat_map}
-use Rattle.ld_text.specs.Json.{finding_line}
+use Rattle.ld_text.proofs.Names.{◌++◌, ◌≡◌, finding_line, flat_map, take}
 use Rattle.ld_text.proofs.wording.Wording.add_objects.Given as goal
 
 -- the lines so far

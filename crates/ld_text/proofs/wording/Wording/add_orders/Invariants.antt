@@ -1,6 +1,4 @@
-use Rattle.std.proofs.Common.{◌≡◌, ◌++◌, take, string_bytes}
-use Rattle.std.specs.List.{flat_map}
-use Rattle.ld_text.specs.Explanation.{order_line}
+use Rattle.ld_text.proofs.Names.{◌++◌, ◌≡◌, flat_map, order_line, string_bytes, take}
 use Rattle.ld_text.proofs.wording.Wording.add_orders.Given as goal
 
 -- the lines of the members so far

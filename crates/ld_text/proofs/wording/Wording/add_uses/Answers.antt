@@ -1,7 +1,4 @@
-use Rattle.std.proofs.Common.{◌++◌, codes, string_bytes}
-use Rattle.std.proofs.lemmas.Result.{on_ok_weaker}
-use Rattle.ld_trace.specs.Writing.{irq_word}
-use Rattle.ld_text.specs.Explanation.{occurrence_text, origin_line}
+use Rattle.ld_text.proofs.Names.{◌++◌, codes, irq_word, occurrence_text, on_ok_weaker, origin_line, string_bytes}
 use Rattle.ld_text.proofs.PictureGrowing.{behind}
 use Rattle.ld_text.proofs.wording.Wording.add_uses.Goals as goal
 

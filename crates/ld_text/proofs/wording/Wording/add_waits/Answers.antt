@@ -1,5 +1,4 @@
-use Rattle.std.proofs.Common.{length, refl}
-use Rattle.std.proofs.lemmas.Option.{slice_get_read}
+use Rattle.ld_text.proofs.Names.{length, refl, slice_get_read}
 use Rattle.ld_text.proofs.LeafLemmas.{waits_more}
 use Rattle.ld_text.proofs.wording.Wording.add_waits.Goals as goal
 

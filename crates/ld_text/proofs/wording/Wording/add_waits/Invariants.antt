@@ -1,5 +1,4 @@
-use Rattle.std.proofs.Common.{◌≡◌, ◌++◌, take, string_bytes}
-use Rattle.ld_text.specs.Explanation.{waits_text}
+use Rattle.ld_text.proofs.Names.{◌++◌, ◌≡◌, string_bytes, take, waits_text}
 use Rattle.ld_text.proofs.wording.Wording.add_waits.Given as goal
 
 -- the tasks so far

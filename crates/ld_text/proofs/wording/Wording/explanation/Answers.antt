@@ -1,7 +1,5 @@
-use Rattle.std.proofs.Common.{◌∙◌, ◌++◌, ap, codes, length}
-use Rattle.std.specs.List.{flat_map}
-use Rattle.ld_text.specs.Explanation.{block_text, explanation_text}
-use Rattle.ld_text.specs.Report.{total_line}
+use Rattle.ld_text.proofs.Names.{◌++◌, ◌∙◌, ap, block_text, codes, flat_map, length, total_line}
+use Rattle.ld_text.specs.Explanation.{explanation_text}
 use Rattle.ld_text.proofs.wording.Wording.explanation.Goals as goal
 
 pub returns : goal.returns

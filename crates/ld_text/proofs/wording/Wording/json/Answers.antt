@@ -1,7 +1,5 @@
-use Rattle.std.proofs.Common.{◌∙◌, ◌++◌, ap, codes, drop}
-use Rattle.std.specs.List.{flat_map}
-use Rattle.std.proofs.lemmas.Result.{IfOk-weaker}
-use Rattle.ld_text.specs.Json.{finding_line, json_text}
+use Rattle.ld_text.proofs.Names.{◌++◌, ◌∙◌, IfOk-weaker, ap, codes, drop, finding_line, flat_map}
+use Rattle.ld_text.specs.Json.{json_text}
 use Rattle.ld_text.proofs.wording.Wording.json.Goals as goal
 
 pub returns : goal.returns

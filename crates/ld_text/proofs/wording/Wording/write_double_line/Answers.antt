@@ -1,9 +1,4 @@
-use Rattle.std.proofs.Common.{◌≡◌, ◌∷◌, [], arith, codes, subst}
-use Rattle.std.proofs.lemmas.Grind.{common_steps}
-use Rattle.std.proofs.lemmas.Result.{on_ok_weaker}
-use Rattle.json.specs.Token.{string}
-use Rattle.ld_text.specs.Inside.Tokens.{Adds}
-use Rattle.ld_text.specs.Json.{double_words, list_member}
+use Rattle.ld_text.proofs.Names.{[], ◌∷◌, ◌≡◌, Adds, arith, codes, common_steps, double_words, list_member, on_ok_weaker, string, subst}
 use Rattle.ld_text.proofs.wording.Wording.write_double_line.Goals as goal
 
 pub returns : goal.returns

@@ -1,7 +1,4 @@
-use Rattle.std.proofs.Common.{map, take}
-use Rattle.json.specs.Token.{string}
-use Rattle.ld_text.specs.Explanation.{gate_note}
-use Rattle.ld_text.specs.Inside.Tokens.{Adds}
+use Rattle.ld_text.proofs.Names.{Adds, gate_note, map, string, take}
 use Rattle.ld_text.proofs.wording.Wording.write_each_gate.Given as goal
 
 -- the notes so far

@@ -1,8 +1,4 @@
-use Rattle.std.proofs.Common.{map, take}
-use Rattle.json.specs.Token.{string}
-use Rattle.ld_trace.specs.Writing.{name_at}
-use Rattle.ld_text.specs.Words.{key_text}
-use Rattle.ld_text.specs.Inside.Tokens.{Adds}
+use Rattle.ld_text.proofs.Names.{Adds, key_text, map, name_at, string, take}
 use Rattle.ld_text.proofs.wording.Wording.write_each_key.Given as goal
 
 -- the keys so far

@@ -1,7 +1,4 @@
-use Rattle.std.proofs.Common.{map, take}
-use Rattle.json.specs.Token.{string}
-use Rattle.ld_text.specs.Json.{circle_words}
-use Rattle.ld_text.specs.Inside.Tokens.{Adds}
+use Rattle.ld_text.proofs.Names.{Adds, circle_words, map, string, take}
 use Rattle.ld_text.proofs.wording.Wording.write_each_line.Given as goal
 
 -- the lines so far

@@ -1,7 +1,4 @@
-use Rattle.std.proofs.Common.{take}
-use Rattle.std.specs.List.{flat_map}
-use Rattle.ld_text.specs.Json.{order_object}
-use Rattle.ld_text.specs.Inside.Tokens.{Adds}
+use Rattle.ld_text.proofs.Names.{Adds, flat_map, order_object, take}
 use Rattle.ld_text.proofs.wording.Wording.write_each_order.Given as goal
 
 -- the members so far

@@ -1,4 +1,4 @@
-use Rattle.std.proofs.lemmas.Result.{on_ok_weaker}
+use Rattle.ld_text.proofs.Names.{on_ok_weaker}
 use Rattle.ld_text.proofs.JsonLemmas.{Adds-ok, Adds-then, Adds-token}
 use Rattle.ld_text.proofs.wording.Wording.write_order.Goals as goal
 
