@@ -12,8 +12,10 @@ mod found;
 mod guard;
 mod guards;
 mod laws;
+mod levels;
 mod naming;
 mod origins;
+mod verdict;
 
 pub use asked::Asked;
 pub use evidence::Evidence;
@@ -23,5 +25,7 @@ pub use found::{Dependency, Found, KINDS, has_dependency, is_used_in};
 pub use guard::Guard;
 pub use guards::Guards;
 pub use laws::own_names_change_nothing;
+pub use levels::Levels;
 pub use naming::Naming;
 pub use origins::{Origin, Origins};
+pub use verdict::{Between, Verdict};
