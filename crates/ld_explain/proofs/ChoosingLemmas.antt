@@ -14,7 +14,7 @@ use Rattle.ld_graph.specs.Laws.Facts.{StrongWalk-members}
 use Rattle.ld_graph.specs.Links.{IsLink, IsShortestInversion, link_by}
 use Rattle.ld_graph.specs.Walks.{IsShortestFrom}
 use Rattle.ld_explain.specs.Findings.{Are, AreReported}
-use Rattle.ld_explain.specs.Inside.Choosing.{AddsChoice, AddsEach, AddsFor, AreAsked, ChoosesCircle, ChoosesCircles, IsAmong, IsCircleChoice, IsDoubleChoice, IsInversionChoice, IsMark, IsMember, IsPart}
+use Rattle.ld_explain.specs.Inside.Choosing.{AddsChoice, AddsEach, AddsFor, AreAsked, ChoosesCircle, ChoosesCircles, IsAmong, IsChoiceFrom, IsCircleChoice, IsDoubleChoice, IsInversionChoice, IsMark, IsMember, IsPart}
 use Rattle.ld_explain.specs.declared.choices.Choice.TheVariants.{ByBoth, ByLink, ByWalk}
 use Rattle.ld_task.specs.declared.mark.Mark.TheVariants.{Enabled, UsedIn}
 use Rattle.ld_explain.specs.declared.choices.Choice.{Choice}
@@ -212,7 +212,11 @@ module _ (facts : FactParts) (ds : List Arrow) (d : Arrow) (old new : Choices) (
 
   pub circles-more : ChoosesCircle facts d old new → ChoosesCircles facts (ds ++ d ∷ []) new
   circles-more (inl (was, same)) = subst (ChoosesCircles facts (ds ++ d ∷ [])) (sym same) (circles-pass was)
-  circles-more (inr (not, (circle, shortest, (choice, is, adds)))) = circles-choose circle choice not shortest is adds
+  circles-more (inr (not, (choice, (circle, shortest, is), adds))) = circles-choose circle choice not shortest is adds
+
+-- the same of a shortest one
+pub from-among : (facts : FactParts) (d : Arrow) (choice : Choice) → IsChoiceFrom (HasFact facts) d choice → IsAmong facts choice
+from-among facts d choice (circle, shortest, is) = circle-among facts circle choice is (shortest-are (HasFact facts) d circle shortest)
 
 -- ---- doubles and inversions
 pub double-among : (facts : FactParts) (x : Irq × ℕ) (choice : Choice) → IsDoubleChoice (HasFact facts) x choice → IsAmong facts choice
