@@ -6,7 +6,8 @@ pub mod Guarding
 pub mod Keys
 pub mod Kept
 pub mod Passing
-pub mod Lists
+pub mod Asking
+mod Lists
 pub mod Slots
 pub mod Traces
 pub mod FindingLemmas

@@ -3,6 +3,7 @@
 #![tactic(auto, using(crate::proofs::Starts::starts))]
 
 mod asked;
+mod asker;
 mod choices;
 mod evidence;
 mod explainer;
