@@ -1,4 +1,5 @@
 pub mod Puts
+pub mod Seeing
 pub mod Firsts
 pub mod Gates
 pub mod Giving

@@ -1,7 +1,8 @@
 -- Between what the findings between types were seen: single locks, classes, or types alone [this project's own].
-use Rattle.std.specs.Prelude.{◌≡◌, ◌⊎◌, ℕ, Bool, List, All, Contains, IsFalse, IsSomeAnd, IsTrue, is_some, map, slice_index}
+use Rattle.std.specs.Prelude.{◌≡◌, ◌⊎◌, ℕ, Bool, List, All, Contains, IsFalse, IsSomeAnd, IsTrue, Option, is_some, map, slice_index}
+use Rattle.std.specs.Borrow.{Bor}
 use Rattle.ld_facts.specs.Arrows.{Arrow}
-use Rattle.ld_facts.specs.FactBits.{HasFact}
+use Rattle.ld_facts.specs.FactBits.{FactParts, HasFact}
 use Rattle.ld_facts.specs.Facts.{DependenciesOf}
 use Rattle.ld_facts.specs.Renumbered.{arrow_by}
 use Rattle.ld_facts.specs.declared.fact.Fact.{Fact}
@@ -31,16 +32,16 @@ pub record AllLevels : Type 1 where
   pub classes : Level
   pub type : ℕ → ℕ
 
+-- a level of these facts, where it is settled
+abbrev pub level_by : Option (Bor FactParts) → (name : ℕ → ℕ) → Level
+level_by settled name = record { is_settled = is_some settled; Has = λ x. IsSomeAnd settled (λ facts. HasFact facts.now x); name = name }
+
 -- those of settled facts
 abbrev pub levels_of : Levels → AllLevels
 levels_of levels = record {
-  sure = record { is_settled = is_some levels.sure; Has = λ x. IsSomeAnd levels.sure (λ facts. HasFact facts.now x); name = λ lock. lock };
-  locks = record { is_settled = is_some levels.locks; Has = λ x. IsSomeAnd levels.locks (λ facts. HasFact facts.now x); name = λ lock. lock };
-  classes = record {
-    is_settled = is_some levels.classes;
-    Has = λ x. IsSomeAnd levels.classes (λ facts. HasFact facts.now x);
-    name = slice_index levels.class_of.now;
-  };
+  sure = level_by levels.sure (λ lock. lock);
+  locks = level_by levels.locks (λ lock. lock);
+  classes = level_by levels.classes (slice_index levels.class_of.now);
   type = slice_index levels.type_of.now;
 }
 
@@ -70,6 +71,13 @@ IsNestedIn Has view locks type (Inversion irq a b orders used enabled gates) nes
     (k l : ℕ) × Contains locks k × Contains locks l × (type k ≡ a) × (type l ≡ b) × IsTheInversion Has view locks (irq, (k, l)) nested
 
 -- ---- verdicts
+-- the level that would be asked next isn't settled: the finding is unseen at each before it
+abbrev pub IsBetweenUnknown : AllLevels → (locks : List ℕ) → Finding → Type 0
+IsBetweenUnknown levels locks finding = IsFalse levels.sure.is_settled
+    ⊎ (IsUnseenAt locks levels.sure.Has levels.type levels.sure finding × IsFalse levels.locks.is_settled)
+    ⊎ (IsUnseenAt locks levels.sure.Has levels.type levels.sure finding × IsUnseenAt locks levels.locks.Has levels.type levels.locks finding
+        × IsFalse levels.classes.is_settled)
+
 -- the finding was seen so, with a finding between single locks where it was seen between these: the levels are asked in turn, as far as
 -- they are settled
 abbrev pub IsBetween : AllLevels → View → (locks : List ℕ) → Finding → Between → Type 0
@@ -82,10 +90,7 @@ IsBetween levels view locks finding between.Classes =
 IsBetween levels view locks finding between.Types =
     IsUnseenAt locks levels.sure.Has levels.type levels.sure finding × IsUnseenAt locks levels.locks.Has levels.type levels.locks finding
     × IsUnseenAt locks levels.locks.Has levels.type levels.classes finding
-IsBetween levels view locks finding between.Unknown = IsFalse levels.sure.is_settled
-    ⊎ (IsUnseenAt locks levels.sure.Has levels.type levels.sure finding × IsFalse levels.locks.is_settled)
-    ⊎ (IsUnseenAt locks levels.sure.Has levels.type levels.sure finding × IsUnseenAt locks levels.locks.Has levels.type levels.locks finding
-        × IsFalse levels.classes.is_settled)
+IsBetween levels view locks finding between.Unknown = IsBetweenUnknown levels locks finding
 
 -- these are the findings between types in their order, each with what it was seen between
 pub record AreVerdicts (Types : Fact → Type 0) (types : View) (type_keys : List ℕ) (levels : AllLevels) (view : View) (locks : List ℕ)

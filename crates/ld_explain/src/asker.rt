@@ -47,7 +47,7 @@ pub(crate) struct Asker<'a> {
 impl Asker<'_> {
     // The locks' dependencies that are on circles at the level.
     pub(crate) fn circles(self, alloc: Global) -> Result<Vec<Dependency>, AllocError>
-        ensures { IfOk result (λ circles. AreCircles self.entry circles.items) }
+        ensures { IfOk result (λ circles. AreCircles self.entry.locks.now self.entry.settled.now (key_by self.entry.naming) circles.items) }
     {
         let mut circles = Vec::new(alloc);
         let facts = self.locks.facts();
@@ -85,7 +85,7 @@ impl Asker<'_> {
 
     // What makes such a finding at the level.
     pub(crate) fn case(self, circles: &[Dependency], finding: &Finding) -> Option<Case>
-        requires { AreCircles self circles.now }
+        requires { AreCircles self.locks.now self.settled.now (key_by self.naming) circles.now }
         ensures none { IsNone result
             → ¬ IsSeenAt self.entry.keys.now (HasFact self.entry.locks.now) (slice_index self.entry.type_of.now) (level_of self.entry) finding.now }
         ensures some { IfSome result (IsCaseAt self.entry finding.now) }

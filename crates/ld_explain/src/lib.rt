@@ -16,7 +16,10 @@ mod laws;
 mod levels;
 mod naming;
 mod origins;
+mod plan;
+mod questions;
 mod verdict;
+mod verdicts;
 
 pub use asked::Asked;
 pub use evidence::Evidence;
@@ -30,3 +33,4 @@ pub use levels::Levels;
 pub use naming::Naming;
 pub use origins::{Origin, Origins};
 pub use verdict::{Between, Verdict};
+pub use verdicts::verdicts_of;

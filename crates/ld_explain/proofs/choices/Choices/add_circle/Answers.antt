@@ -1,12 +1,13 @@
 use Rattle.std.proofs.Common.{◌∙◌, inr, sym}
 use Rattle.std.proofs.lemmas.Bool.{true≢false}
 use Rattle.std.proofs.lemmas.Result.{on_ok_weaker}
+use Rattle.ld_facts.specs.FactBits.{HasFact}
 use Rattle.ld_explain.proofs.ChoosingLemmas.{from-among}
 use Rattle.ld_explain.proofs.choices.Choices.add_circle.Goals as goal
 
 pub add-requires : goal.add-requires
 add-requires c x part =
-    rw c.requires.bound ((from-among c.args.settled.now c.args.d.now c.in_ok-circle_choice.field-0 c.in_ok-circle_choice.ensures).0 x part).0
+    rw c.requires.bound ((from-among (HasFact c.args.settled.now) c.args.d.now c.in_ok-circle_choice.field-0 c.in_ok-circle_choice.ensures).0 x part).0
 
 pub returns : goal.returns
 returns c = on_ok_weaker c.add.result (λ adds. inr (
