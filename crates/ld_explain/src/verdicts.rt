@@ -29,12 +29,12 @@ use std::alloc::{AllocError, Global};
 /// its own first occurrences and what speaks against it.
 ///
 /// It fails only if memory is refused. If the types' facts are clean it takes none and reads no trace.
-pub fn verdicts_of(
+pub fn verdicts_of<'a>(
     alloc: Global,
-    levels: &Levels<'_>,
-    traces: &[RawTrace],
-    type_keys: &[KeyId],
-    lock_keys: &[KeyId],
+    levels: &Levels<'a>,
+    traces: &'a [RawTrace],
+    type_keys: &'a [KeyId],
+    lock_keys: &'a [KeyId],
 ) -> Result<Vec<Verdict>, AllocError>
     requires few { length traces.now ≤ MAX_TRACES }
     requires well_formed { All IsWellFormed traces.now }
@@ -45,6 +45,7 @@ pub fn verdicts_of(
         (levels_of levels.now) (plain traces.now) lock_keys.now verdicts.items) }
 {
     let by_type = Naming::Renamed(levels.type_of);
+    let own = Naming::Own;
     let findings = findings_of(alloc, levels.types, traces, by_type, type_keys)?;
     if findings.is_empty() {
         return Ok(Vec::new(alloc));
@@ -52,10 +53,10 @@ pub fn verdicts_of(
     let questions = Questions::of(alloc, levels, lock_keys)?;
     let keys = keys_between(levels);
     let plan = Plan::of(alloc, &questions, keys, findings.as_slice())?;
-    let evidence = Evidence::of(alloc, traces, Naming::Own, &plan.asked)?;
+    let evidence = Evidence::of(alloc, traces, own, &plan.asked)?;
     let explainer = Explainer {
         traces,
-        naming: Naming::Own,
+        naming: own,
         asked: &plan.asked,
         evidence: &evidence,
         keys: lock_keys,
