@@ -15,3 +15,4 @@ pub mod FindingLemmas
 pub mod Starts
 pub mod ChoosingLemmas
 pub mod ExplainingLemmas
+pub mod VerdictLemmas

@@ -1,12 +1,13 @@
 //! Findings between types, and between what they were seen.
 
-ghost use Rattle.std.specs.Prelude.{◌≡◌, ◌≤◌, All, IfOk, IfSome, length};
+ghost use Rattle.std.specs.Prelude.{◌≡◌, ◌≤◌, All, IfOk, IfSome, length, map};
 ghost use Rattle.ld_trace.specs.declared.key_id.TheConstants.{MAX_KEYS};
 ghost use Rattle.ld_trace.specs.declared.raw_trace.TheConstants.{MAX_TRACES};
 ghost use Rattle.ld_task.specs.WellFormed.{IsWellFormed};
 ghost use Rattle.ld_facts.specs.FactBits.{FactBelow, HasFact};
 ghost use Rattle.ld_facts.specs.Facts.{AreSame, Holds};
-ghost use Rattle.ld_explain.specs.Inside.Seeing.{HasBetween};
+ghost use Rattle.ld_explain.specs.Inside.Seeing.{HasBetween, IsSeenAmong, SaysSeen};
+ghost use Rattle.ld_explain.specs.Findings.{Are};
 ghost use Rattle.ld_explain.specs.Naming.{view_of};
 ghost use Rattle.ld_explain.specs.Origins.{ViewHas, plain};
 ghost use Rattle.ld_explain.specs.Verdicts.{AreVerdicts, levels_of};
@@ -14,6 +15,7 @@ ghost use Rattle.ld_explain.specs.declared.naming.Naming.{Naming};
 
 use crate::evidence::Evidence;
 use crate::explainer::Explainer;
+use crate::finding::Finding;
 use crate::findings::findings_of;
 use crate::levels::Levels;
 use crate::naming::Naming;
@@ -32,8 +34,8 @@ use std::alloc::{AllocError, Global};
 pub fn verdicts_of<'a>(
     alloc: Global,
     levels: &Levels<'a>,
-    traces: &'a [RawTrace],
-    type_keys: &'a [KeyId],
+    traces: &[RawTrace],
+    type_keys: &[KeyId],
     lock_keys: &'a [KeyId],
 ) -> Result<Vec<Verdict>, AllocError>
     requires few { length traces.now ≤ MAX_TRACES }
@@ -45,7 +47,6 @@ pub fn verdicts_of<'a>(
         (levels_of levels.now) (plain traces.now) lock_keys.now verdicts.items) }
 {
     let by_type = Naming::Renamed(levels.type_of);
-    let own = Naming::Own;
     let findings = findings_of(alloc, levels.types, traces, by_type, type_keys)?;
     if findings.is_empty() {
         return Ok(Vec::new(alloc));
@@ -53,13 +54,33 @@ pub fn verdicts_of<'a>(
     let questions = Questions::of(alloc, levels, lock_keys)?;
     let keys = keys_between(levels);
     let plan = Plan::of(alloc, &questions, keys, findings.as_slice())?;
-    let evidence = Evidence::of(alloc, traces, own, &plan.asked)?;
+    explained(alloc, traces, Naming::Own, lock_keys, &plan, findings)
+}
+
+// The findings, each with what the plan says that it was seen between.
+fn explained(
+    alloc: Global,
+    traces: &[RawTrace],
+    naming: Naming<'_>,
+    keys: &[KeyId],
+    plan: &Plan,
+    findings: Vec<Finding>,
+) -> Result<Vec<Verdict>, AllocError>
+    requires few { length traces.now ≤ MAX_TRACES }
+    requires well_formed { All IsWellFormed traces.now }
+    requires has { Holds (ViewHas (view_of naming traces.now)) (HasFact plan.now.asked) }
+    requires among { All (IsSeenAmong plan.now.asked) plan.now.list.items }
+    requires each { length findings.items ≡ length plan.now.list.items }
+    ensures findings { IfOk result (λ verdicts. map (λ v. v.finding) verdicts.items ≡ findings.items) }
+    ensures between { IfOk result (λ verdicts. Are (SaysSeen (view_of naming.entry traces.now) keys.now) plan.now.list.items verdicts.items) }
+{
+    let evidence = Evidence::of(alloc, traces, naming, &plan.asked)?;
     let explainer = Explainer {
         traces,
-        naming: own,
+        naming,
         asked: &plan.asked,
         evidence: &evidence,
-        keys: lock_keys,
+        keys,
         alloc,
     };
     explainer.verdicts(findings, plan.list.as_slice())
