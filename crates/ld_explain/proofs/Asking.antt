@@ -1,5 +1,5 @@
 -- What is asked of each thing of a list in turn, and dependencies by their numbers.
-use Rattle.std.proofs.Common.{◌≡◌, ◌↔◌, ◌⊎◌, ℕ, ◌+◌, ◌<◌, ◌≤◌, List, [], ◌∷◌, ◌++◌, All, Contains, length, map, slice_index_or, take, refl, sym, ap, ◌∙◌, subst, inl, inr, arith}
+use Rattle.std.proofs.Common.{◌≡◌, ◌↔◌, ℕ, ◌+◌, ◌<◌, ◌≤◌, List, [], ◌∷◌, ◌++◌, All, Contains, length, slice_index_or, take, sym, ap, ◌∙◌, subst, inl, inr, arith}
 use Rattle.std.specs.Prelude.{IsFalse, IsTrue}
 use Rattle.std.proofs.lemmas.Bool.{cases_lt}
 use Rattle.std.proofs.lemmas.List.{take_all}
@@ -8,30 +8,15 @@ use Rattle.ld_facts.specs.Arrows.{Arrow, arrow}
 use Rattle.ld_facts.specs.FactBits.{FactBelow, FactParts, HasFact}
 use Rattle.ld_facts.specs.Facts.{DependenciesOf}
 use Rattle.ld_facts.specs.Inside.Bits.{has_bit}
-use Rattle.ld_facts.specs.Laws.Lists.{Contains-cases, Contains-head, Contains-later}
 use Rattle.ld_facts.specs.Laws.Numbers.{dependency-lt, fact_number-same}
 use Rattle.ld_facts.specs.Numbers.{dependency_total, fact_number}
 use Rattle.ld_facts.specs.Renumbered.{arrow_by}
 use Rattle.ld_facts.specs.declared.fact.Fact.{Fact}
 use Rattle.ld_facts.specs.declared.fact.Fact.TheVariants.{Dependency, Marked}
-use Rattle.ld_explain.specs.Inside.Seeing.{AreCircles, GrowsBy}
+use Rattle.ld_explain.specs.Inside.Seeing.{GrowsBy}
 use Rattle.ld_explain.specs.Laws.Lists.{take-item}
 
 -- ---- lists
-pub Contains-map : {X Y : Type 0} (f : X → Y) (xs : List X) (x : X) → Contains xs x → Contains (map f xs) (f x)
-Contains-map f [] x (k, l, e) = absurd (omega (arith, l))
-Contains-map f (y ∷ ys) x has = elim (Contains-cases y ys x has) [
-  | inl same ↦ subst (λ z. Contains (f y ∷ map f ys) (f z)) same (Contains-head (f y) (map f ys))
-  | inr there ↦ Contains-later (f y) (map f ys) (f x) (Contains-map f ys x there)
-]
-
-pub Contains-unmap : {X Y : Type 0} (f : X → Y) (xs : List X) (y : Y) → Contains (map f xs) y → (x : X) × Contains xs x × (f x ≡ y)
-Contains-unmap f [] y (k, l, e) = absurd (omega (arith, l))
-Contains-unmap f (x ∷ xs) y has = elim (Contains-cases (f x) (map f xs) y has) [
-  | inl same ↦ (x, Contains-head x xs, same)
-  | inr there ↦ let (z, in_rest, is) = Contains-unmap f xs y there in (z, Contains-later x xs z in_rest, is)
-]
-
 module _ {X : Type 0} (N : X → Type 0) (xs : List X) where
   -- it holds of one thing more
   pub all-more : (i : ℕ) (x : X) → x ≡ slice_index_or xs i x → i < length xs → All N (take i xs) → N x → All N (take (i + 1) xs)

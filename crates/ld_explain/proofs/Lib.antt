@@ -16,3 +16,4 @@ pub mod Starts
 pub mod ChoosingLemmas
 pub mod ExplainingLemmas
 pub mod VerdictLemmas
+pub mod NothingLost

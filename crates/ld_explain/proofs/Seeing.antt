@@ -1,5 +1,5 @@
 -- What makes a finding at a level, and what is chosen for it.
-use Rattle.std.proofs.Common.{◌≡◌, ◌↔◌, ◌⊎◌, ℕ, ◌≤◌, ◌<◌, List, [], ◌∷◌, ◌++◌, All, Some, true, slice_index, refl, sym, ap, ◌∙◌, subst, inl, inr, arith}
+use Rattle.std.proofs.Common.{◌≡◌, ◌↔◌, ℕ, ◌≤◌, List, [], ◌∷◌, ◌++◌, All, Some, true, slice_index, sym, ◌∙◌, subst, inl, inr, arith}
 use Rattle.std.specs.Prelude.{Option, None, IfSome, IsSomeAnd}
 use Rattle.std.specs.Borrow.{Bor}
 use Rattle.ld_facts.specs.FactBits.{FactBelow, FactParts, HasFact}
@@ -10,7 +10,7 @@ use Rattle.std.proofs.lemmas.List.Elements.{All-nil, All-push, All-weaker}
 use Rattle.ld_graph.specs.Links.{IsDouble, IsInversion}
 use Rattle.ld_explain.specs.Inside.Choosing.{HasMembers, IsDoubleChoice, IsInversionChoice, IsPart}
 use Rattle.ld_explain.specs.Inside.Seeing.{AddsSeen, HasBetween, IsCaseAt, IsChoiceFor, IsNestedChoice, IsPlan, IsSeenAmong, IsSeenAs, Makes, SeenHas, level_of}
-use Rattle.ld_explain.specs.Verdicts.{IsSeenAt, Level, level_by, levels_of}
+use Rattle.ld_explain.specs.Verdicts.{IsSeenAt, level_by, levels_of}
 use Rattle.ld_explain.specs.Findings.{Are}
 use Rattle.ld_explain.specs.declared.levels.Levels.{Levels}
 use Rattle.ld_explain.specs.declared.plan.Plan.{Plan}

@@ -3,13 +3,16 @@ use Rattle.std.specs.Prelude.{◌≡◌, ◌⊎◌, ℕ, Bool, List, All, Contai
 use Rattle.std.specs.Borrow.{Bor}
 use Rattle.ld_facts.specs.Arrows.{Arrow}
 use Rattle.ld_facts.specs.FactBits.{FactParts, HasFact}
-use Rattle.ld_facts.specs.Facts.{DependenciesOf}
+use Rattle.ld_facts.specs.Facts.{AreSame, DependenciesOf, Holds}
 use Rattle.ld_facts.specs.Renumbered.{arrow_by}
 use Rattle.ld_facts.specs.declared.fact.Fact.{Fact}
 use Rattle.ld_graph.specs.Links.{IsDouble, IsInversion}
 use Rattle.ld_graph.specs.Walks.{IsShortestFrom, OnCircle}
 use Rattle.ld_explain.specs.Findings.{AreFindings, IsCircle, IsTheDouble, IsTheInversion, members_of}
-use Rattle.ld_explain.specs.Origins.{View}
+use Rattle.ld_explain.specs.Origins.{View, ViewHas, plain}
+use Rattle.ld_explain.specs.Naming.{view_of}
+use Rattle.ld_explain.specs.declared.naming.Naming.TheVariants.{Renamed}
+use Rattle.ld_trace.specs.declared.event.Event.{Event}
 use Rattle.ld_explain.specs.declared.finding.Finding.{Finding}
 use Rattle.ld_explain.specs.declared.finding.Finding.TheVariants.{Circle, Double, Inversion}
 use Rattle.ld_explain.specs.declared.levels.Levels.{Levels}
@@ -97,3 +100,21 @@ pub record AreVerdicts (Types : Fact → Type 0) (types : View) (type_keys : Lis
     (verdicts : List Verdict) : Type 0 where
   pub findings : AreFindings Types types type_keys (map (λ v. v.finding) verdicts)
   pub between : All (λ v. IsBetween levels view locks v.finding v.between) verdicts
+
+-- ---- nothing is lost
+-- the finding is a circle with this member
+abbrev pub HasMember : Finding → Arrow → Type 0
+HasMember (Circle orders gates only) d = Contains (members_of orders.items) d
+HasMember _ d = ⊥
+
+-- each dependency on a circle of single locks, none of which stands for several, is by its types a member of a finding that was seen
+-- between single locks
+abbrev pub CirclesOfLocksAreSeen : Type 0
+CirclesOfLocksAreSeen = (levels : Levels) (traces : List (List Event)) (type_keys locks : List ℕ) (verdicts : List Verdict) →
+    AreSame (HasFact levels.types.now) (ViewHas (view_of (Renamed levels.type_of) traces)) →
+    Holds (ViewHas (plain traces)) (levels_of levels).sure.Has →
+    AreVerdicts (HasFact levels.types.now) (view_of (Renamed levels.type_of) traces) type_keys (levels_of levels) (plain traces) locks verdicts →
+    (e : Arrow) → OnCircle (levels_of levels).sure.Has e →
+    Contains type_keys ((levels_of levels).type e.start) → Contains type_keys ((levels_of levels).type e.end) →
+    (v : Verdict) × Contains verdicts v × HasMember v.finding (arrow_by (levels_of levels).type e)
+    × ((nested : Finding) × (v.between ≡ between.Locks nested))

@@ -28,7 +28,7 @@ pub use findings::findings_of;
 pub use found::{Dependency, Found, KINDS, has_dependency, is_used_in};
 pub use guard::Guard;
 pub use guards::Guards;
-pub use laws::own_names_change_nothing;
+pub use laws::{circles_of_locks_are_seen, own_names_change_nothing};
 pub use levels::Levels;
 pub use naming::Naming;
 pub use origins::{Origin, Origins};

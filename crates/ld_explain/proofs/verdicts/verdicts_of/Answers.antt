@@ -1,5 +1,4 @@
 use Rattle.ld_facts.specs.FactBits.{HasFact}
-use Rattle.ld_explain.specs.Findings.{AreFindings}
 use Rattle.ld_explain.specs.Inside.Seeing.{IsPlan, IsSeenAs}
 use Rattle.ld_explain.specs.Naming.{view_of}
 use Rattle.ld_explain.specs.Origins.{plain}

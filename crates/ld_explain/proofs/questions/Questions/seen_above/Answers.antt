@@ -1,5 +1,5 @@
-use Rattle.std.proofs.Common.{◌≡◌, Some, refl, slice_index, subst, sym}
-use Rattle.std.specs.Prelude.{IfSome, IsTrue, is_some, true}
+use Rattle.std.proofs.Common.{refl, slice_index, subst, sym}
+use Rattle.std.specs.Prelude.{IfSome, IsTrue, is_some}
 use Rattle.ld_explain.specs.Inside.Seeing.{AreCircles}
 use Rattle.ld_explain.specs.declared.naming.Naming.TheVariants.{Renamed}
 use Rattle.ld_explain.proofs.Seeing.{case-seen, seen-by}
