@@ -69,8 +69,13 @@ module _ (locks : FactParts) (On : Arrow → Type 0) (name : ℕ → ℕ) (circl
     exact = λ e. (
       (λ h. elim ((grows e).0 h) [
         | inl old ↦ let ((has, l), circled) = (was.exact e).0 old in ((has, omega (arith, l, onwards)), circled)
-        | inr (same, circled) ↦ ((subst (HasFact locks) (sym same) (below, subst (λ k. IsTrue (has_bit locks.words k)) (sym is) on),
-            let e2 = ap (fact_number locks.keys) same ∙ is in omega (arith, e2)), circled)
+        | inr (same, circled) ↦ (
+          (
+            subst (HasFact locks) (sym same) (below, subst (λ k. IsTrue (has_bit locks.words k)) (sym is) on),
+            let e2 = ap (fact_number locks.keys) same ∙ is in omega (arith, e2),
+          ),
+          circled,
+        )
       ]),
       (λ ((has, l), circled). elim (cases_lt (fact_number locks.keys (Dependency e.start e.end e.kind)) n) [
         | inl before ↦ (grows e).1 (inl ((was.exact e).1 ((has, before), circled)))

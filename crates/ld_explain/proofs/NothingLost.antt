@@ -124,13 +124,17 @@ circles-are-seen own image levels traces type_keys locks verdicts types sure are
     let Types = HasFact levels.types.now in
     let between_locks = OnCircle-more (levels_of levels).sure.Has (TracesHave traces) (λ x has. (own traces x).0 (sure x has)) e on in
     let found : OnCircle Types d = (OnCircle-same _ Types (λ x. ((types x).1, (types x).0)) d).0
-        ((OnCircle-same _ _ (λ x. ((image type traces x).1, (image type traces x).0)) d).0 (OnCircle-image (TracesHave traces) type e between_locks)) in
+    ((OnCircle-same _ _ (λ x. ((image type traces x).1, (image type traces x).0)) d).0 (OnCircle-image (TracesHave traces) type e between_locks)) in
     let there = AreThose-has (OnCircle Types) (arrows_among type_keys) are.findings.found.circles are.findings.found_are.circles d (has-arrow type_keys d starts ends) found in
     let (walk, reported, member) = reported-all Types [] are.findings.found.circles are.findings.walks are.findings.walks_are d there in
     let (finding, among, is) = Are-has (IsCircle (view_of (Renamed levels.type_of) traces) type_keys) are.findings.walks are.findings.circles are.findings.circles_are walk reported in
     let listed = subst (λ fs. Contains fs finding) (sym are.findings.are)
-        (Contains-append_left are.findings.circles (are.findings.doubles ++ are.findings.inversions) finding among) in
+    (Contains-append_left are.findings.circles (are.findings.doubles ++ are.findings.inversions) finding among) in
     let (v, has, same) = Contains-unmap (λ (x : Verdict). x.finding) verdicts finding listed in
-    let so = subst (λ f. HasMember f d) (sym same) (circle-has (view_of (Renamed levels.type_of) traces) type_keys walk d member finding is) in
-    (v, has, so, is-locks levels (plain traces) locks e on v.finding so v.between
-        (All-contains (λ (x : Verdict). IsBetween (levels_of levels) (plain traces) locks x.finding x.between) verdicts v are.between has))
+    let so = subst (λ f. HasMember f d) (sym same) (circle-has (view_of (Renamed levels.type_of) traces) type_keys walk d member finding is) in (
+      v,
+      has,
+      so,
+      is-locks levels (plain traces) locks e on v.finding so v.between
+          (All-contains (λ (x : Verdict). IsBetween (levels_of levels) (plain traces) locks x.finding x.between) verdicts v are.between has),
+    )

@@ -79,7 +79,7 @@ abbrev pub IsBetweenUnknown : AllLevels → (locks : List ℕ) → Finding → T
 IsBetweenUnknown levels locks finding = IsFalse levels.sure.is_settled
     ⊎ (IsUnseenAt locks levels.sure.Has levels.type levels.sure finding × IsFalse levels.locks.is_settled)
     ⊎ (IsUnseenAt locks levels.sure.Has levels.type levels.sure finding × IsUnseenAt locks levels.locks.Has levels.type levels.locks finding
-        × IsFalse levels.classes.is_settled)
+    × IsFalse levels.classes.is_settled)
 
 -- the finding was seen so, with a finding between single locks where it was seen between these: the levels are asked in turn, as far as
 -- they are settled

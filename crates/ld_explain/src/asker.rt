@@ -70,8 +70,15 @@ impl Asker<'_> {
         let (Some(lower), Some(upper)) = (KeyId::of_many(from), KeyId::of_many(to)) else {
             unreachable!();
         };
-        if self.settled.on_circle(self.naming.of(from), self.naming.of(to), kind) {
-            circles.push(Dependency { from: lower, to: upper, kind })?;
+        if self
+            .settled
+            .on_circle(self.naming.of(from), self.naming.of(to), kind)
+        {
+            circles.push(Dependency {
+                from: lower,
+                to: upper,
+                kind,
+            })?;
         }
         Ok(())
     }
@@ -181,7 +188,11 @@ impl Asker<'_> {
     {
         self.type_of(lock.get()) == a.get()
             && self.type_of(other.get()) == b.get()
-            && self.settled.is_inversion(irq, self.naming.of(lock.get()), self.naming.of(other.get()))
+            && self.settled.is_inversion(
+                irq,
+                self.naming.of(lock.get()),
+                self.naming.of(other.get()),
+            )
     }
 }
 

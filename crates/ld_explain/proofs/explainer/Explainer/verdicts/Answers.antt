@@ -28,7 +28,7 @@ loop-finding-preserved c =
     let long : length vs ≡ vec_len c.loop-finding.verdicts = search rules in
     let mapped : length (map f vs) ≡ length vs = length-map vs f in
     let all : length (map f vs) + length (into_iter_items c.loop-finding.finding-iterator) ≡ length c.args.findings.items =
-        sym (length-append (map f vs) (into_iter_items c.loop-finding.finding-iterator)) ∙ ap length whole in
+    sym (length-append (map f vs) (into_iter_items c.loop-finding.finding-iterator)) ∙ ap length whole in
     let each = c.requires.each in
     let one = ap length first in
     let within : length vs < length seen = omega (arith, mapped, all, each, one) in (

@@ -20,14 +20,14 @@ returns-in-Some-case c =
       c.requires.sure,
       c.requires.locks,
       (seen-by q.keys.now (slice_index q.levels.type_of.now) (slice_index q.levels.class_of.now) c.args.finding.now q.levels.locks q.levels.classes
-      c.in-Some.locks c.in-Some-classes.classes c.in-Some.is c.in-Some-classes.is).1
-      (case-seen (record {
-        locks = c.in-Some.locks;
-        settled = c.in-Some-classes.classes;
-        naming = Renamed q.levels.class_of;
-        type_of = q.levels.type_of;
-        keys = q.keys;
-      }) c.args.finding.now c.in-Some-case.field-0 c.in-Some-case.ensures.some),
+          c.in-Some.locks c.in-Some-classes.classes c.in-Some.is c.in-Some-classes.is).1
+          (case-seen (record {
+            locks = c.in-Some.locks;
+            settled = c.in-Some-classes.classes;
+            naming = Renamed q.levels.class_of;
+            type_of = q.levels.type_of;
+            keys = q.keys;
+          }) c.args.finding.now c.in-Some-case.field-0 c.in-Some-case.ensures.some),
     )
 
 pub returns-in-None : goal.returns-in-None

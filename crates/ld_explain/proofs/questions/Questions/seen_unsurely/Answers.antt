@@ -20,6 +20,8 @@ seen_above-requires-clause-locks c =
 pub returns-in-Some-2 : goal.returns-in-Some-2
 returns-in-Some-2 c =
     let q = c.args.self.now in
-    let type = slice_index q.levels.type_of.now in
-    (c.requires.unseen, nested-by q.keys.now type c.args.finding.now c.in-Some-2.choice q.levels.locks c.in-Some.locks c.in-Some.is
-    (subst (λ o. IfSome o (IsNestedChoice (HasFact c.in-Some.locks.now) q.keys.now type c.args.finding.now)) c.in-Some-2.is c.in_ok-choice.ensures.some))
+    let type = slice_index q.levels.type_of.now in (
+      c.requires.unseen,
+      nested-by q.keys.now type c.args.finding.now c.in-Some-2.choice q.levels.locks c.in-Some.locks c.in-Some.is
+          (subst (λ o. IfSome o (IsNestedChoice (HasFact c.in-Some.locks.now) q.keys.now type c.args.finding.now)) c.in-Some-2.is c.in_ok-choice.ensures.some),
+    )
