@@ -14,7 +14,7 @@ use Rattle.ld_graph.specs.Laws.Facts.{StrongWalk-members}
 use Rattle.ld_graph.specs.Links.{IsLink, IsShortestInversion, link_by}
 use Rattle.ld_graph.specs.Walks.{IsShortestFrom}
 use Rattle.ld_explain.specs.Findings.{Are, AreReported}
-use Rattle.ld_explain.specs.Inside.Choosing.{AddsChoice, AddsEach, AddsFor, AreAsked, ChoosesCircle, ChoosesCircles, IsAmong, IsCircleChoice, IsDoubleChoice, IsInversionChoice, IsMark, IsMember, IsPart}
+use Rattle.ld_explain.specs.Inside.Choosing.{AddsChoice, AddsEach, AddsFor, AreAsked, ChoosesCircle, ChoosesCircles, IsAmong, IsChoiceFrom, IsCircleChoice, HasMembers, IsDoubleChoice, IsInversionChoice, IsMark, IsMember, IsPart}
 use Rattle.ld_explain.specs.declared.choices.Choice.TheVariants.{ByBoth, ByLink, ByWalk}
 use Rattle.ld_task.specs.declared.mark.Mark.TheVariants.{Enabled, UsedIn}
 use Rattle.ld_explain.specs.declared.choices.Choice.{Choice}
@@ -166,11 +166,11 @@ circles-none facts choices keys nothing empty = record {
 }
 
 -- a choice for a circle has its members
-circle-among : (facts : FactParts) (circle : List Arrow) (choice : Choice) → IsCircleChoice circle choice → Holds (HasFact facts) (IsMember circle) → IsAmong facts choice
-circle-among facts circle (ByWalk walk) (is, some) are =
-    (subst (λ w. Holds (HasFact facts) (IsMember w)) (sym is) are, subst (λ w. 0 < length w) (sym is) some)
-circle-among facts circle (ByLink l) none are = absurd none
-circle-among facts circle (ByBoth walk l) none are = absurd none
+circle-among : (Has : Fact → Type 0) (circle : List Arrow) (choice : Choice) → IsCircleChoice circle choice → Holds Has (IsMember circle) → Holds Has (IsPart choice) × HasMembers choice
+circle-among Has circle (ByWalk walk) (is, some) are =
+    (subst (λ w. Holds Has (IsMember w)) (sym is) are, subst (λ w. 0 < length w) (sym is) some)
+circle-among Has circle (ByLink l) none are = absurd none
+circle-among Has circle (ByBoth walk l) none are = absurd none
 
 circle-members : (circle : List Arrow) (choice : Choice) → IsCircleChoice circle choice → (d : Arrow) → IsPart choice (Dependency d.start d.end d.kind) ↔ Contains circle d
 circle-members circle (ByWalk walk) (is, some) d = (subst (λ w. Contains w d) is, subst (λ w. Contains w d) (sym is))
@@ -207,26 +207,30 @@ module _ (facts : FactParts) (ds : List Arrow) (d : Arrow) (old new : Choices) (
         | inr has ↦ inr ((circle-members circle choice is e).1 has)
       ])),
     );
-    asked = asked-more facts old new choice adds (circle-among facts circle choice is (shortest-are (HasFact facts) d circle shortest)) so_far.asked;
+    asked = asked-more facts old new choice adds (circle-among (HasFact facts) circle choice is (shortest-are (HasFact facts) d circle shortest)) so_far.asked;
   }
 
   pub circles-more : ChoosesCircle facts d old new → ChoosesCircles facts (ds ++ d ∷ []) new
   circles-more (inl (was, same)) = subst (ChoosesCircles facts (ds ++ d ∷ [])) (sym same) (circles-pass was)
-  circles-more (inr (not, (circle, shortest, (choice, is, adds)))) = circles-choose circle choice not shortest is adds
+  circles-more (inr (not, (choice, (circle, shortest, is), adds))) = circles-choose circle choice not shortest is adds
+
+-- the same of a shortest one
+pub from-among : (Has : Fact → Type 0) (d : Arrow) (choice : Choice) → IsChoiceFrom Has d choice → Holds Has (IsPart choice) × HasMembers choice
+from-among Has d choice (circle, shortest, is) = circle-among Has circle choice is (shortest-are Has d circle shortest)
 
 -- ---- doubles and inversions
-pub double-among : (facts : FactParts) (x : Irq × ℕ) (choice : Choice) → IsDoubleChoice (HasFact facts) x choice → IsAmong facts choice
-double-among facts x (ByLink l) (is, by) = (link-are (HasFact facts) l by.0, tt)
-double-among facts x (ByWalk walk) none = absurd none
-double-among facts x (ByBoth walk l) none = absurd none
+pub double-among : (Has : Fact → Type 0) (x : Irq × ℕ) (choice : Choice) → IsDoubleChoice Has x choice → Holds Has (IsPart choice) × HasMembers choice
+double-among Has x (ByLink l) (is, by) = (link-are Has l by.0, tt)
+double-among Has x (ByWalk walk) none = absurd none
+double-among Has x (ByBoth walk l) none = absurd none
 
-pub inversion-among : (facts : FactParts) (x : Irq × (ℕ × ℕ)) (choice : Choice) → IsInversionChoice (HasFact facts) x choice → IsAmong facts choice
-inversion-among facts x (ByBoth walk l) (is, by) = (
+pub inversion-among : (Has : Fact → Type 0) (x : Irq × (ℕ × ℕ)) (choice : Choice) → IsInversionChoice Has x choice → Holds Has (IsPart choice) × HasMembers choice
+inversion-among Has x (ByBoth walk l) (is, by) = (
   λ y part. elim part [
-    | inl member ↦ inversion-are (HasFact facts) l.irq l.a l.b (link_by l.b l.a l.enabled_read l.used_read) walk.items by y member
-    | inr mark ↦ link-are (HasFact facts) l by.closed.1 y mark
+    | inl member ↦ inversion-are Has l.irq l.a l.b (link_by l.b l.a l.enabled_read l.used_read) walk.items by y member
+    | inr mark ↦ link-are Has l by.closed.1 y mark
   ],
   tt,
 )
-inversion-among facts x (ByWalk walk) none = absurd none
-inversion-among facts x (ByLink l) none = absurd none
+inversion-among Has x (ByWalk walk) none = absurd none
+inversion-among Has x (ByLink l) none = absurd none

@@ -116,12 +116,12 @@ Are-then R S T both (x ∷ xs) ys zs (y, rest, r, are, is) then =
 
 -- ---- the findings of choices
 module _ (Has : Fact → Type 0) (view : View) (keys : List ℕ) where
-  circle-is : (walk : List Arrow) (choice : Choice) (finding : Finding) → IsCircleChoice walk choice → Explains view keys choice finding → IsCircle view keys walk finding
+  pub circle-is : (walk : List Arrow) (choice : Choice) (finding : Finding) → IsCircleChoice walk choice → Explains view keys choice finding → IsCircle view keys walk finding
   circle-is walk (ByWalk w) finding (is, some) explains = subst (λ x. IsCircle view keys x finding) is explains
   circle-is walk (ByLink l) finding none explains = absurd none
   circle-is walk (ByBoth w l) finding none explains = absurd none
 
-  double-is : (x : Irq × ℕ) (choice : Choice) (finding : Finding) → IsDoubleChoice Has x choice → Explains view keys choice finding → IsTheDouble Has view x finding
+  pub double-is : (x : Irq × ℕ) (choice : Choice) (finding : Finding) → IsDoubleChoice Has x choice → Explains view keys choice finding → IsTheDouble Has view x finding
   double-is x (ByLink l) (Double irq key used enabled) (is, by) (irq_is, key_is, first, also) =
       subst (λ i. IsTheDouble Has view x (Double i key used enabled)) (sym irq_is) (subst (λ k. IsTheDouble Has view x (Double l.irq k used enabled)) (sym key_is) (
         is,
@@ -138,7 +138,7 @@ module _ (Has : Fact → Type 0) (view : View) (keys : List ℕ) where
   double-is x (ByWalk w) finding none explains = absurd none
   double-is x (ByBoth w l) finding none explains = absurd none
 
-  inversion-is : (x : Irq × (ℕ × ℕ)) (choice : Choice) (finding : Finding) → IsInversionChoice Has x choice → Explains view keys choice finding → IsTheInversion Has view keys x finding
+  pub inversion-is : (x : Irq × (ℕ × ℕ)) (choice : Choice) (finding : Finding) → IsInversionChoice Has x choice → Explains view keys choice finding → IsTheInversion Has view keys x finding
   inversion-is x (ByBoth w l) (Inversion irq a b orders used enabled gates) (is, by) (irq_is, a_is, b_is, are, first, also, gates_are) =
       subst (λ i. IsTheInversion Has view keys x (Inversion i a b orders used enabled gates)) (sym irq_is)
       (subst (λ k. IsTheInversion Has view keys x (Inversion l.irq k b orders used enabled gates)) (sym a_is)

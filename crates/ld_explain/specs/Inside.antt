@@ -2,5 +2,6 @@ pub mod Choosing
 pub mod Finding
 pub mod Firsts
 pub mod Guarding
+pub mod Seeing
 pub mod Taking
 pub mod Explaining

@@ -2,3 +2,4 @@
 pub mod Findings
 pub mod Found
 pub mod Lists
+pub mod Verdicts

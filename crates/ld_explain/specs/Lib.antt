@@ -5,3 +5,4 @@ pub mod Naming
 pub mod Laws
 pub mod Notes
 pub mod Origins
+pub mod Verdicts

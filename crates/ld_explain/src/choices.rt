@@ -7,7 +7,7 @@ ghost use Rattle.ld_facts.specs.Facts.{Adds, DependenciesOf, Holds};
 ghost use Rattle.ld_graph.specs.Links.{IsDouble, IsInversion};
 ghost use Rattle.ld_graph.specs.Walks.{OnCircle};
 ghost use Rattle.ld_explain.specs.Found.{AreFound};
-ghost use Rattle.ld_explain.specs.Inside.Choosing.{AddsChoice, AddsEach, AddsFor, AreAsked, AreChoices, ChoosesCircle, ChoosesCircles, IsDoubleChoice, IsInversionChoice, IsMark, IsMember, IsPart, enabled_of, used_of};
+ghost use Rattle.ld_explain.specs.Inside.Choosing.{AddsChoice, AddsEach, AddsFor, AreAsked, AreChoices, ChoosesCircle, ChoosesCircles, IsChoiceFrom, IsDoubleChoice, IsInversionChoice, IsMark, IsMember, IsPart, enabled_of, used_of};
 
 use crate::asked::Asked;
 use crate::found::{Dependency, Found};
@@ -112,10 +112,7 @@ impl Choices {
         if self.asked.has(d.fact()) {
             return Ok(());
         }
-        let Some(walk) = settled.circle_through(d.from.get(), d.to.get(), d.kind) else {
-            unreachable!();
-        };
-        self.add(Choice::ByWalk(members(alloc, &walk)?))
+        self.add(circle_choice(alloc, settled, d)?)
     }
 
     // The circles.
@@ -141,16 +138,7 @@ impl Choices {
         requires is { IsDouble (HasFact settled.now) irq key }
         ensures { OnOk result (AddsFor (IsDoubleChoice (HasFact settled.now)) (irq, key) self.old self.new) }
     {
-        let Some((enabled_read, used_read)) = settled.double_forms(irq, key.get()) else {
-            unreachable!();
-        };
-        self.add(Choice::ByLink(Link {
-            irq,
-            a: key,
-            b: key,
-            used_read,
-            enabled_read,
-        }))
+        self.add(double_choice(settled, irq, key))
     }
 
     // The doubles.
@@ -178,18 +166,7 @@ impl Choices {
         requires is { IsInversion (HasFact settled.now) irq a b }
         ensures { OnOk result (AddsFor (IsInversionChoice (HasFact settled.now)) (irq, (a, b)) self.old self.new) }
     {
-        let Some(found) = settled.inversion_walk(irq, a.get(), b.get()) else {
-            unreachable!();
-        };
-        let walk = members(alloc, &found.walk)?;
-        let link = Link {
-            irq,
-            a,
-            b,
-            used_read: found.used_read,
-            enabled_read: found.enabled_read,
-        };
-        self.add(Choice::ByBoth(walk, link))
+        self.add(inversion_choice(alloc, settled, irq, a, b)?)
     }
 
     // The inversions.
@@ -209,6 +186,63 @@ impl Choices {
         }
         Ok(())
     }
+}
+
+// A shortest circle of those that begin with a dependency that is on one.
+pub(crate) fn circle_choice(
+    alloc: Global,
+    settled: &Settled,
+    d: &Dependency,
+) -> Result<Choice, AllocError>
+    requires { OnCircle (HasFact settled.now) d.now }
+    ensures { IfOk result (IsChoiceFrom (HasFact settled.now) d.now) }
+{
+    let Some(walk) = settled.circle_through(d.from.get(), d.to.get(), d.kind) else {
+        unreachable!();
+    };
+    Ok(Choice::ByWalk(members(alloc, &walk)?))
+}
+
+// The link of a double.
+pub(crate) fn double_choice(settled: &Settled, irq: Irq, key: KeyId) -> Choice
+    requires { IsDouble (HasFact settled.now) irq key }
+    ensures { IsDoubleChoice (HasFact settled.now) (irq, key) result }
+{
+    let Some((enabled_read, used_read)) = settled.double_forms(irq, key.get()) else {
+        unreachable!();
+    };
+    Choice::ByLink(Link {
+        irq,
+        a: key,
+        b: key,
+        used_read,
+        enabled_read,
+    })
+}
+
+// A shortest walk of an inversion, and the link that closes it.
+pub(crate) fn inversion_choice(
+    alloc: Global,
+    settled: &Settled,
+    irq: Irq,
+    a: KeyId,
+    b: KeyId,
+) -> Result<Choice, AllocError>
+    requires { IsInversion (HasFact settled.now) irq a b }
+    ensures { IfOk result (IsInversionChoice (HasFact settled.now) (irq, (a, b))) }
+{
+    let Some(found) = settled.inversion_walk(irq, a.get(), b.get()) else {
+        unreachable!();
+    };
+    let walk = members(alloc, &found.walk)?;
+    let link = Link {
+        irq,
+        a,
+        b,
+        used_read: found.used_read,
+        enabled_read: found.enabled_read,
+    };
+    Ok(Choice::ByBoth(walk, link))
 }
 
 // Asks about the members of a walk.
@@ -233,7 +267,7 @@ fn ask_link(asked: &mut Asked, link: &Link)
 }
 
 // Asks about the facts of a choice.
-fn ask(asked: &mut Asked, choice: &Choice)
+pub(crate) fn ask(asked: &mut Asked, choice: &Choice)
     requires { Holds (FactBelow asked.old.keys) (IsPart choice.now) }
     ensures keys { asked.new.keys ≡ asked.old.keys }
     ensures adds { Adds (HasFact asked.old) (HasFact asked.new) (IsPart choice.now) }

@@ -1,12 +1,13 @@
 //! Where what was chosen comes from, and what speaks against it.
 
-ghost use Rattle.std.specs.Prelude.{◌≡◌, ◌↔◌, ◌<◌, ◌++◌, ◌∷◌, [], ℕ, List, All, IfOk, IsFalse, IsTrue, OnOk, Some, length};
+ghost use Rattle.std.specs.Prelude.{◌≡◌, ◌↔◌, ◌<◌, ◌++◌, ◌∷◌, [], ℕ, List, All, IfOk, IsFalse, IsTrue, OnOk, Some, length, map};
 ghost use Rattle.ld_facts.specs.Facts.{DependenciesOf, Holds};
 ghost use Rattle.ld_facts.specs.FactBits.{HasFact};
 ghost use Rattle.ld_explain.specs.Findings.{Are, AreGates, AreOrders, IsCircle, IsOnly};
 ghost use Rattle.ld_explain.specs.Found.{AreThose};
 ghost use Rattle.ld_explain.specs.Inside.Choosing.{IsAmong, IsMark, enabled_of, used_of};
 ghost use Rattle.ld_explain.specs.Inside.Explaining.{Explains, IsGuardOf, IsOfBoth, IsOfLink, Knows};
+ghost use Rattle.ld_explain.specs.Inside.Seeing.{ExplainsSeen, IsSeenAmong, SaysSeen};
 ghost use Rattle.ld_explain.specs.Inside.Finding.{AddsThose};
 ghost use Rattle.ld_explain.specs.Naming.{view_of};
 ghost use Rattle.ld_explain.specs.Notes.{IsGate};
@@ -21,6 +22,8 @@ use crate::found::Dependency;
 use crate::guard::Guard;
 use crate::naming::Naming;
 use crate::origins::Origin;
+use crate::questions::Seen;
+use crate::verdict::{Between, Verdict};
 use ld_facts::Fact;
 use ld_trace::{KeyId, RawTrace};
 use std::alloc::{AllocError, Global};
@@ -277,5 +280,40 @@ impl Explainer<'_> {
             findings.push(self.finding(choice)?)?;
         }
         Ok(findings)
+    }
+
+    // Between what a finding was seen.
+    fn between(&self, seen: &Seen) -> Result<Between, AllocError>
+        requires knows { Knows self.now }
+        requires among { IsSeenAmong self.now.asked.now seen.now }
+        ensures { IfOk result (ExplainsSeen (view_of self.now.naming self.now.traces.now) self.now.keys.now seen.now) }
+    {
+        match seen {
+            Seen::Locks(choice) => Ok(Between::Locks(self.finding(choice)?)),
+            Seen::Perhaps(choice) => Ok(Between::Perhaps(self.finding(choice)?)),
+            Seen::Unknown => Ok(Between::Unknown),
+            Seen::Classes => Ok(Between::Classes),
+            Seen::Types => Ok(Between::Types),
+        }
+    }
+
+    // The findings, each with what it was seen between, which stands at its place of the other list.
+    pub(crate) fn verdicts(
+        &self,
+        findings: Vec<Finding>,
+        seen: &[Seen],
+    ) -> Result<Vec<Verdict>, AllocError>
+        requires knows { Knows self.now }
+        requires among { All (IsSeenAmong self.now.asked.now) seen.now }
+        requires each { length findings.items ≡ length seen.now }
+        ensures findings { IfOk result (λ verdicts. map (λ v. v.finding) verdicts.items ≡ findings.items) }
+        ensures between { IfOk result (λ verdicts. Are (SaysSeen (view_of self.now.naming self.now.traces.now) self.now.keys.now) seen.now verdicts.items) }
+    {
+        let mut verdicts = Vec::new(self.alloc);
+        for finding in findings {
+            let between = self.between(&seen[verdicts.len()])?;
+            verdicts.push(Verdict { finding, between })?;
+        }
+        Ok(verdicts)
     }
 }

@@ -1,7 +1,11 @@
 //! What was found, as values: everything that any text says of a finding.
 
+ghost use Rattle.std.specs.Prelude.{◌≡◌, ◌↔◌, IsTrue};
+ghost use Rattle.ld_facts.specs.Arrows.{arrow};
+
 use crate::found::Dependency;
 use crate::origins::Origin;
+use ld_task::Kind;
 use ld_trace::{Irq, KeyId};
 
 /// A dependency of a finding, and where it first occurs.
@@ -11,6 +15,17 @@ pub struct Order {
     pub dependency: Dependency,
     /// Its first occurrence in the traces.
     pub origin: Origin,
+}
+
+impl Order {
+    // Whether it is this dependency.
+    pub(crate) fn is(&self, from: u16, to: u16, kind: Kind) -> bool
+        ensures { IsTrue result ↔ (self.now.dependency ≡ arrow from to kind) }
+    {
+        self.dependency.from.get() == from
+            && self.dependency.to.get() == to
+            && self.dependency.kind == kind
+    }
 }
 
 /// A lock class of which a lock is held round several dependencies of a finding wherever they occur.

@@ -1,10 +1,20 @@
 //! Laws of the definitions, each carried by a function that does nothing.
 
 ghost use Rattle.ld_explain.specs.Origins.{OwnNamesChangeNothing};
+ghost use Rattle.ld_explain.specs.Verdicts.{CirclesOfLocksAreSeen};
 
 /// The facts of traces by their own keys are their facts.
 pub fn own_names_change_nothing()
     ensures { OwnNamesChangeNothing }
 {
+    ld_facts::renamed_facts_are_the_image();
+}
+
+/// Each dependency on a circle of single locks, none of which stands for several, is by its types a member of a finding whose
+/// verdict is that it was seen between single locks: no circle of theirs is lost among the findings between types.
+pub fn circles_of_locks_are_seen()
+    ensures { CirclesOfLocksAreSeen }
+{
+    own_names_change_nothing();
     ld_facts::renamed_facts_are_the_image();
 }

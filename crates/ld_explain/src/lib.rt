@@ -3,6 +3,7 @@
 #![tactic(auto, using(crate::proofs::Starts::starts))]
 
 mod asked;
+mod asker;
 mod choices;
 mod evidence;
 mod explainer;
@@ -12,8 +13,13 @@ mod found;
 mod guard;
 mod guards;
 mod laws;
+mod levels;
 mod naming;
 mod origins;
+mod plan;
+mod questions;
+mod verdict;
+mod verdicts;
 
 pub use asked::Asked;
 pub use evidence::Evidence;
@@ -22,6 +28,9 @@ pub use findings::findings_of;
 pub use found::{Dependency, Found, KINDS, has_dependency, is_used_in};
 pub use guard::Guard;
 pub use guards::Guards;
-pub use laws::own_names_change_nothing;
+pub use laws::{circles_of_locks_are_seen, own_names_change_nothing};
+pub use levels::Levels;
 pub use naming::Naming;
 pub use origins::{Origin, Origins};
+pub use verdict::{Between, Verdict};
+pub use verdicts::verdicts_of;

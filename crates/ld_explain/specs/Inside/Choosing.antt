@@ -76,6 +76,10 @@ abbrev pub IsCircleChoice : List Arrow → Choice → Type 0
 IsCircleChoice circle (ByWalk walk) = (walk.items ≡ circle) × (0 < length circle)
 IsCircleChoice circle _ = ⊥
 
+-- for a dependency a shortest circle of those that begin with it
+abbrev pub IsChoiceFrom : (Fact → Type 0) → Arrow → Choice → Type 0
+IsChoiceFrom Has d choice = (circle : List Arrow) × IsShortestFrom Has d circle × IsCircleChoice circle choice
+
 -- for a double its link
 abbrev pub IsDoubleChoice : (Fact → Type 0) → Irq × ℕ → Choice → Type 0
 IsDoubleChoice Has double (ByLink l) = ((l.irq, l.a) ≡ double) × IsDoubleBy Has l.irq l.a (link_by l.b l.a l.enabled_read l.used_read)
@@ -90,8 +94,7 @@ IsInversionChoice Has inversion _ = ⊥
 -- a shortest circle through the dependency is chosen, unless that is asked about
 abbrev pub ChoosesCircle : FactParts → Arrow → (old new : Choices) → Type 0
 ChoosesCircle facts d old new = (DependenciesOf (HasFact old.asked) d × (new ≡ old))
-    ⊎ (¬ DependenciesOf (HasFact old.asked) d × ((circle : List Arrow) × IsShortestFrom (HasFact facts) d circle
-    × AddsFor IsCircleChoice circle old new))
+    ⊎ (¬ DependenciesOf (HasFact old.asked) d × AddsFor (IsChoiceFrom (HasFact facts)) d old new)
 
 -- the circles that are reported for these dependencies are chosen, and exactly their members are asked about
 pub record ChoosesCircles (facts : FactParts) (ds : List Arrow) (choices : Choices) : Type 0 where

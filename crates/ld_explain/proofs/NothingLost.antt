@@ -1,0 +1,140 @@
+-- Circles of single locks are seen.
+use Rattle.std.proofs.Common.{◌≡◌, ◌∙◌, ℕ, List, [], ◌∷◌, ◌++◌, Contains, Some, true, map, refl, sym, ap, subst, inl, inr, arith}
+use Rattle.std.specs.Borrow.{Bor}
+use Rattle.std.specs.Prelude.{Option, None, IsSomeAnd, is_some}
+use Rattle.std.proofs.lemmas.Bool.{true≢false}
+use Rattle.std.proofs.lemmas.List.{append_assoc}
+use Rattle.std.proofs.lemmas.List.Elements.{All-contains, Contains-append_left, Contains-append_right}
+use Rattle.ld_task.specs.declared.kind.Kind.{Kind}
+use Rattle.ld_task.specs.declared.kind.Kind.TheVariants.{Er, En, Sr, Sn}
+use Rattle.ld_facts.specs.Arrows.{Arrow, arrow}
+use Rattle.ld_facts.specs.FactBits.{FactParts, HasFact}
+use Rattle.ld_facts.specs.Laws.Lists.{Any-member, Contains-cases, Contains-head, Contains-later}
+use Rattle.ld_facts.specs.Renaming.{RenamedFactsAreTheImage}
+use Rattle.ld_facts.specs.Renumbered.{arrow_by}
+use Rattle.ld_facts.specs.TraceFacts.{TracesHave}
+use Rattle.ld_facts.specs.declared.fact.Fact.{Fact}
+use Rattle.ld_facts.specs.declared.fact.Fact.TheVariants.{Dependency}
+use Rattle.ld_graph.specs.Laws.Facts.{OnCircle-member, OnCircle-more, OnCircle-same}
+use Rattle.ld_graph.specs.Walks.{OnCircle}
+use Rattle.ld_explain.specs.Findings.{Are, AreReported, IsCircle, IsReported}
+use Rattle.ld_explain.specs.Found.{AreThose, arrows_among, kinds}
+use Rattle.ld_explain.specs.Laws.Lists.{Contains-flat_map, Contains-map, Contains-unmap}
+use Rattle.ld_explain.specs.Laws.Verdicts.{OnCircle-image}
+use Rattle.ld_explain.specs.Naming.{view_of}
+use Rattle.ld_explain.specs.Origins.{OwnNamesChangeNothing, View, plain}
+use Rattle.ld_explain.specs.Verdicts.{CirclesOfLocksAreSeen, HasMember, IsBetween, IsSeenAt, levels_of}
+use Rattle.ld_explain.specs.declared.finding.Finding.{Finding}
+use Rattle.ld_explain.specs.declared.finding.Finding.TheVariants.{Circle, Double, Inversion}
+use Rattle.ld_explain.specs.declared.levels.Levels.{Levels}
+use Rattle.ld_explain.specs.declared.naming.Naming.TheVariants.{Renamed}
+use Rattle.ld_explain.specs.declared.verdict.Between.{Between}
+use Rattle.ld_explain.specs.declared.verdict.Between.TheVariants as between
+use Rattle.ld_explain.specs.declared.verdict.Verdict.{Verdict}
+
+-- ---- what is found
+has-kind : (kind : Kind) → Contains kinds kind
+has-kind Er = Contains-head Er (En ∷ Sr ∷ Sn ∷ [])
+has-kind En = Contains-later Er (En ∷ Sr ∷ Sn ∷ []) En (Contains-head En (Sr ∷ Sn ∷ []))
+has-kind Sr = Contains-later Er (En ∷ Sr ∷ Sn ∷ []) Sr (Contains-later En (Sr ∷ Sn ∷ []) Sr (Contains-head Sr (Sn ∷ [])))
+has-kind Sn = Contains-later Er (En ∷ Sr ∷ Sn ∷ []) Sn (Contains-later En (Sr ∷ Sn ∷ []) Sn (Contains-later Sr (Sn ∷ []) Sn (Contains-head Sn [])))
+
+has-arrow : (keys : List ℕ) (d : Arrow) → Contains keys d.start → Contains keys d.end → Contains (arrows_among keys) d
+has-arrow keys d starts ends = Contains-flat_map (λ from. _) keys d.start d starts
+    (Contains-flat_map (λ to. map (arrow d.start to) kinds) keys d.end d ends (Contains-map (arrow d.start d.end) kinds d.kind (has-kind d.kind)))
+
+AreThose-has : {X : Type 0} (P : X → Type 0) (xs those : List X) → AreThose P xs those → (x : X) → Contains xs x → P x → Contains those x
+AreThose-has P [] those none x (k, l, e) p = absurd (omega (arith, l))
+AreThose-has P (y ∷ ys) those (inl (q, (rest, is, more))) x has p = subst (λ ts. Contains ts x) (sym is) (elim (Contains-cases y ys x has) [
+  | inl same ↦ subst (Contains (y ∷ rest)) same (Contains-head y rest)
+  | inr later ↦ Contains-later y rest x (AreThose-has P ys rest more x later p)
+])
+AreThose-has P (y ∷ ys) those (inr (not, more)) x has p = elim (Contains-cases y ys x has) [
+  | inl same ↦ absurd (not (subst P (sym same) p))
+  | inr later ↦ AreThose-has P ys those more x later p
+]
+
+-- each dependency is a member of a circle that is reported
+module _ (Has : Fact → Type 0) where
+  member-of : (circles : List (List Arrow)) (d : Arrow) → IsReported circles d → (c : List Arrow) × Contains circles c × Contains c d
+  member-of circles d = (Any-member (λ c. Contains c d) circles).0
+
+  reported-all : (before : List (List Arrow)) (ds : List Arrow) (circles : List (List Arrow)) → AreReported Has before ds circles → (d : Arrow) → Contains ds d →
+      (c : List Arrow) × Contains (before ++ circles) c × Contains c d
+  reported-all before [] circles none d (k, l, e) = absurd (omega (arith, l))
+  reported-all before (x ∷ ds) circles (inl (left, (circle, rest, shortest, is, more))) d has = elim (Contains-cases x ds d has) [
+    | inl same ↦ (
+      circle,
+      Contains-append_right before circles circle (subst (λ cs. Contains cs circle) (sym is) (Contains-head circle rest)),
+      subst (λ c. Contains c d) (sym shortest.walk_is) (subst (Contains (x ∷ shortest.rest)) same (Contains-head x shortest.rest)),
+    )
+    | inr later ↦
+        let (c, there, member) = reported-all (before ++ circle ∷ []) ds rest more d later in
+        (c, subst (λ cs. Contains cs c) (append_assoc before (circle ∷ []) rest ∙ ap (λ t. before ++ t) (sym is)) there, member)
+  ]
+  reported-all before (x ∷ ds) circles (inr (was, more)) d has = elim (Contains-cases x ds d has) [
+    | inl same ↦
+        let (c, there, member) = member-of before x was in
+        (c, Contains-append_left before circles c there, subst (Contains c) same member)
+    | inr later ↦ reported-all before ds circles more d later
+  ]
+
+-- ---- its verdict
+Are-has : {X Y : Type 0} (R : X → Y → Type 0) (xs : List X) (ys : List Y) → Are R xs ys → (x : X) → Contains xs x → (y : Y) × Contains ys y × R x y
+unfolding Are
+Are-has R [] ys none x (k, l, e) = absurd (omega (arith, l))
+Are-has R (z ∷ zs) ys (y, rest, is, are, at) x has = elim (Contains-cases z zs x has) [
+  | inl same ↦ (y, subst (λ ts. Contains ts y) (sym at) (Contains-head y rest), subst (λ w. R w y) same is)
+  | inr later ↦
+      let (w, there, so) = Are-has R zs rest are x later in
+      (w, subst (λ ts. Contains ts w) (sym at) (Contains-later y rest w there), so)
+]
+
+circle-has : (view : View) (keys : List ℕ) (walk : List Arrow) (d : Arrow) → Contains walk d → (finding : Finding) → IsCircle view keys walk finding → HasMember finding d
+circle-has view keys walk d member (Circle orders gates only) is = subst (λ w. Contains w d) (sym is.0.members) member
+circle-has view keys walk d member (Double irq key used enabled) none = none
+circle-has view keys walk d member (Inversion irq a b orders used enabled gates) none = none
+
+some-level : (o : Option (Bor FactParts)) (x : Fact) → IsSomeAnd o (λ s. HasFact s.now x) → is_some o ≡ true
+some-level None x none = absurd none
+some-level (Some s) x has = refl
+
+module _ (levels : Levels) (view : View) (keys : List ℕ) (e : Arrow) (on : OnCircle (levels_of levels).sure.Has e) where
+  seen-sure : (finding : Finding) → HasMember finding (arrow_by (levels_of levels).type e) →
+      IsSeenAt keys (levels_of levels).sure.Has (levels_of levels).type (levels_of levels).sure finding
+  seen-sure (Circle orders gates only) member = (e, OnCircle-member (levels_of levels).sure.Has e on, on, member)
+  seen-sure (Double irq key used enabled) none = absurd none
+  seen-sure (Inversion irq a b orders used enabled gates) none = absurd none
+
+  is-locks : (finding : Finding) → HasMember finding (arrow_by (levels_of levels).type e) → (b : Between) → IsBetween (levels_of levels) view keys finding b →
+      (nested : Finding) × (b ≡ between.Locks nested)
+  is-locks finding member (between.Locks nested) is = (nested, refl)
+  is-locks finding member (between.Perhaps nested) (unseen, is) = absurd (unseen.1 (seen-sure finding member))
+  is-locks finding member between.Classes (unseen, also, is) = absurd (unseen.1 (seen-sure finding member))
+  is-locks finding member between.Types (unseen, also, is) = absurd (unseen.1 (seen-sure finding member))
+  is-locks finding member between.Unknown (inl not) =
+      absurd (true≢false (sym (some-level levels.sure (Dependency e.start e.end e.kind) (OnCircle-member (levels_of levels).sure.Has e on)) ∙ not))
+  is-locks finding member between.Unknown (inr (inl (unseen, is))) = absurd (unseen.1 (seen-sure finding member))
+  is-locks finding member between.Unknown (inr (inr (unseen, also, is))) = absurd (unseen.1 (seen-sure finding member))
+
+pub circles-are-seen : OwnNamesChangeNothing → RenamedFactsAreTheImage → CirclesOfLocksAreSeen
+circles-are-seen own image levels traces type_keys locks verdicts types sure are e on starts ends =
+    let type = (levels_of levels).type in
+    let d = arrow_by type e in
+    let Types = HasFact levels.types.now in
+    let between_locks = OnCircle-more (levels_of levels).sure.Has (TracesHave traces) (λ x has. (own traces x).0 (sure x has)) e on in
+    let found : OnCircle Types d = (OnCircle-same _ Types (λ x. ((types x).1, (types x).0)) d).0
+    ((OnCircle-same _ _ (λ x. ((image type traces x).1, (image type traces x).0)) d).0 (OnCircle-image (TracesHave traces) type e between_locks)) in
+    let there = AreThose-has (OnCircle Types) (arrows_among type_keys) are.findings.found.circles are.findings.found_are.circles d (has-arrow type_keys d starts ends) found in
+    let (walk, reported, member) = reported-all Types [] are.findings.found.circles are.findings.walks are.findings.walks_are d there in
+    let (finding, among, is) = Are-has (IsCircle (view_of (Renamed levels.type_of) traces) type_keys) are.findings.walks are.findings.circles are.findings.circles_are walk reported in
+    let listed = subst (λ fs. Contains fs finding) (sym are.findings.are)
+    (Contains-append_left are.findings.circles (are.findings.doubles ++ are.findings.inversions) finding among) in
+    let (v, has, same) = Contains-unmap (λ (x : Verdict). x.finding) verdicts finding listed in
+    let so = subst (λ f. HasMember f d) (sym same) (circle-has (view_of (Renamed levels.type_of) traces) type_keys walk d member finding is) in (
+      v,
+      has,
+      so,
+      is-locks levels (plain traces) locks e on v.finding so v.between
+          (All-contains (λ (x : Verdict). IsBetween (levels_of levels) (plain traces) locks x.finding x.between) verdicts v are.between has),
+    )

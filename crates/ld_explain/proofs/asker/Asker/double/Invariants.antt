@@ -1,0 +1,7 @@
+use Rattle.std.proofs.Common.{All, take}
+use Rattle.ld_explain.specs.Inside.Seeing.{IsLoneDouble}
+use Rattle.ld_explain.proofs.asker.Asker.double.Given as goal
+
+-- no lock so far is one
+abbrev pub invariant-loop-lock : goal.invariant-loop-lock
+invariant-loop-lock l = All (λ k. ¬ IsLoneDouble l.self l.irq l.key k) (take l.lock-index l.self.keys.now)

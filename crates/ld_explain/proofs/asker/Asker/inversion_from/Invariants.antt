@@ -1,0 +1,7 @@
+use Rattle.std.proofs.Common.{All, take}
+use Rattle.ld_explain.specs.Inside.Seeing.{IsLoneInversion}
+use Rattle.ld_explain.proofs.asker.Asker.inversion_from.Given as goal
+
+-- no lock so far is the second of one
+abbrev pub invariant-loop-other : goal.invariant-loop-other
+invariant-loop-other l = All (λ other. ¬ IsLoneInversion l.self l.irq l.a l.b l.lock other) (take l.other-index l.self.keys.now)

@@ -1,0 +1,8 @@
+use Rattle.std.proofs.Common.{All, Contains, slice_index, take}
+use Rattle.ld_facts.specs.Renumbered.{arrow_by}
+use Rattle.ld_explain.specs.Findings.{members_of}
+use Rattle.ld_explain.proofs.asker.Asker.member.Given as goal
+
+-- no dependency so far is one
+abbrev pub invariant-loop-e : goal.invariant-loop-e
+invariant-loop-e l = All (λ e. ¬ Contains (members_of l.walk) (arrow_by (slice_index l.self.type_of.now) e)) (take l.e-index l.circles)

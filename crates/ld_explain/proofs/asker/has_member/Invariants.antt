@@ -1,0 +1,7 @@
+use Rattle.std.proofs.Common.{◌≡◌, All, take}
+use Rattle.ld_facts.specs.Arrows.{arrow}
+use Rattle.ld_explain.proofs.asker.has_member.Given as goal
+
+-- no member so far is the dependency
+abbrev pub invariant-loop-order : goal.invariant-loop-order
+invariant-loop-order l = All (λ o. ¬ (o.dependency ≡ arrow l.from l.to l.kind)) (take l.order-index l.walk)

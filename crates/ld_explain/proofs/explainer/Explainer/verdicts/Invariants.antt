@@ -1,0 +1,15 @@
+use Rattle.std.proofs.Common.{◌≡◌, ◌++◌, length, map, take}
+use Rattle.std.specs.Vec.Iter.{into_iter_items}
+use Rattle.ld_explain.specs.Findings.{Are}
+use Rattle.ld_explain.specs.Inside.Seeing.{SaysSeen}
+use Rattle.ld_explain.specs.Naming.{view_of}
+use Rattle.ld_explain.specs.declared.verdict.Verdict.{Verdict}
+use Rattle.ld_explain.proofs.explainer.Explainer.verdicts.Given as goal
+
+-- the verdicts are those of the findings so far
+abbrev pub invariant-loop-finding : goal.invariant-loop-finding
+invariant-loop-finding l =
+    (goal.iterator-loop-finding).can_next l.finding-iterator
+    × (goal.iterator-loop-finding).is_finite l.finding-iterator
+    × (map (λ (v : Verdict). v.finding) l.verdicts.items ++ into_iter_items l.finding-iterator ≡ l.fn.findings.items)
+    × Are (SaysSeen (view_of l.self.naming l.self.traces.now) l.self.keys.now) (take (length l.verdicts.items) l.seen) l.verdicts.items
