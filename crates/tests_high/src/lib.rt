@@ -10,6 +10,8 @@ mod books;
 #[cfg(test)]
 mod grouped;
 #[cfg(test)]
+mod levels;
+#[cfg(test)]
 mod lines;
 #[cfg(test)]
 mod origins;

@@ -6,7 +6,7 @@ ghost use Rattle.std.specs.Prelude.{◌≤◌, All, IsTrue, length};
 ghost use Rattle.ld_task.specs.WellFormed.{IsWellFormed};
 ghost use Rattle.ld_trace.specs.declared.raw_trace.TheConstants.{MAX_TRACES};
 
-use ld_explain::{Asked, Evidence, Origin, Origins};
+use ld_explain::{Asked, Evidence, Naming, Origin, Origins};
 use ld_facts::Fact;
 use ld_graph::Kind::{En, Er, Sn, Sr};
 use ld_graph::{Kind, Mark};
@@ -296,7 +296,7 @@ fn evidence_of<R: Threads + Wait + Sync + Abort>(
 ) -> Option<Evidence> {
     let asked = asked_about(alloc, facts)?;
     if are_run(rt, alloc, traces) {
-        Evidence::of(alloc, traces, &asked).ok()
+        Evidence::of(alloc, traces, Naming::Own, &asked).ok()
     } else {
         None
     }

@@ -2,7 +2,7 @@
 //! first request refused, its second, and so on, and counts the lines that it prints.
 
 use crate::origins::are_run;
-use ld_explain::{Asked, Evidence, Origin};
+use ld_explain::{Asked, Evidence, Naming, Origin};
 use ld_facts::Fact;
 use ld_graph::Kind;
 use ld_trace::RawTrace;
@@ -43,7 +43,7 @@ fn origin(
     if !are_run(rt, rt.alloc(), traces) {
         return None;
     }
-    let evidence = Evidence::of(rt.alloc(), traces, &asked).ok()?;
+    let evidence = Evidence::of(rt.alloc(), traces, Naming::Own, &asked).ok()?;
     Some(evidence.origins.origin(ORDER))
 }
 
