@@ -1,5 +1,5 @@
 -- Between what the findings between types were seen: single locks, classes, or types alone [this project's own].
-use Rattle.std.specs.Prelude.{◌≡◌, ◌⊎◌, ℕ, Bool, List, All, Contains, IsFalse, IsSomeAnd, IsTrue, Option, is_some, map, slice_index}
+use Rattle.std.specs.Prelude.{◌≡◌, ◌⊎◌, ℕ, Bool, List, All, Contains, IsFalse, IsSomeAnd, IsTrue, Option, is_some, map, slice_index, flat_map, filter, nat_eq, [], ◌∷◌}
 use Rattle.std.specs.Borrow.{Bor}
 use Rattle.ld_facts.specs.Arrows.{Arrow}
 use Rattle.ld_facts.specs.FactBits.{FactParts, HasFact}
@@ -100,6 +100,19 @@ pub record AreVerdicts (Types : Fact → Type 0) (types : View) (type_keys : Lis
     (verdicts : List Verdict) : Type 0 where
   pub findings : AreFindings Types types type_keys (map (λ v. v.finding) verdicts)
   pub between : All (λ v. IsBetween levels view locks v.finding v.between) verdicts
+
+-- ---- their order
+-- what was seen between single locks comes first
+abbrev pub rank : Between → ℕ
+rank (between.Locks nested) = 0
+rank (between.Perhaps nested) = 1
+rank between.Unknown = 2
+rank between.Classes = 3
+rank between.Types = 4
+
+-- the verdicts by rank, and those of one rank as they come
+abbrev pub by_rank : List Verdict → List Verdict
+by_rank verdicts = flat_map (λ r. filter (λ v. nat_eq (rank v.between) r) verdicts) (0 ∷ 1 ∷ 2 ∷ 3 ∷ 4 ∷ [])
 
 -- ---- nothing is lost
 -- the finding is a circle with this member
