@@ -67,7 +67,8 @@ IsUnseenAt locks Locks type level finding = IsTrue level.is_settled × ¬ IsSeen
 -- those that begin with the dependency, the double or the inversion
 abbrev pub IsNestedIn : (Fact → Type 0) → View → (locks : List ℕ) → (type : ℕ → ℕ) → (finding nested : Finding) → Type 0
 IsNestedIn Has view locks type (Circle orders gates only) nested =
-    (e : Arrow) × Contains (members_of orders.items) (arrow_by type e) × (walk : List Arrow) × IsShortestFrom Has e walk × IsCircle view locks walk nested
+    (e : Arrow) × Contains (members_of orders.items) (arrow_by type e) × (walk : List Arrow) × IsShortestFrom Has e walk
+    × IsCircle view locks walk nested
 IsNestedIn Has view locks type (Double irq key used enabled) nested =
     (k : ℕ) × Contains locks k × (type k ≡ key) × IsTheDouble Has view (irq, k) nested
 IsNestedIn Has view locks type (Inversion irq a b orders used enabled gates) nested =
@@ -126,7 +127,8 @@ abbrev pub CirclesOfLocksAreSeen : Type 0
 CirclesOfLocksAreSeen = (levels : Levels) (traces : List (List Event)) (type_keys locks : List ℕ) (verdicts : List Verdict) →
     AreSame (HasFact levels.types.now) (ViewHas (view_of (Renamed levels.type_of) traces)) →
     Holds (ViewHas (plain traces)) (levels_of levels).sure.Has →
-    AreVerdicts (HasFact levels.types.now) (view_of (Renamed levels.type_of) traces) type_keys (levels_of levels) (plain traces) locks verdicts →
+    AreVerdicts (HasFact levels.types.now) (view_of (Renamed levels.type_of) traces) type_keys (levels_of levels) (plain traces) locks
+    verdicts →
     (e : Arrow) → OnCircle (levels_of levels).sure.Has e →
     Contains type_keys ((levels_of levels).type e.start) → Contains type_keys ((levels_of levels).type e.end) →
     (v : Verdict) × Contains verdicts v × HasMember v.finding (arrow_by (levels_of levels).type e)
