@@ -1,5 +1,5 @@
 -- Between what the findings between types were seen: single locks, classes, or types alone [this project's own].
-use Rattle.std.specs.Prelude.{◌≡◌, ◌⊎◌, ℕ, Bool, List, All, Contains, IsFalse, IsSomeAnd, IsTrue, Option, is_some, map, slice_index}
+use Rattle.std.specs.Prelude.{◌≡◌, ◌⊎◌, ℕ, Bool, List, All, Contains, IsFalse, IsSomeAnd, IsTrue, Option, is_some, map, slice_index, flat_map, filter, nat_eq, [], ◌∷◌}
 use Rattle.std.specs.Borrow.{Bor}
 use Rattle.ld_facts.specs.Arrows.{Arrow}
 use Rattle.ld_facts.specs.FactBits.{FactParts, HasFact}
@@ -67,7 +67,8 @@ IsUnseenAt locks Locks type level finding = IsTrue level.is_settled × ¬ IsSeen
 -- those that begin with the dependency, the double or the inversion
 abbrev pub IsNestedIn : (Fact → Type 0) → View → (locks : List ℕ) → (type : ℕ → ℕ) → (finding nested : Finding) → Type 0
 IsNestedIn Has view locks type (Circle orders gates only) nested =
-    (e : Arrow) × Contains (members_of orders.items) (arrow_by type e) × (walk : List Arrow) × IsShortestFrom Has e walk × IsCircle view locks walk nested
+    (e : Arrow) × Contains (members_of orders.items) (arrow_by type e) × (walk : List Arrow) × IsShortestFrom Has e walk
+    × IsCircle view locks walk nested
 IsNestedIn Has view locks type (Double irq key used enabled) nested =
     (k : ℕ) × Contains locks k × (type k ≡ key) × IsTheDouble Has view (irq, k) nested
 IsNestedIn Has view locks type (Inversion irq a b orders used enabled gates) nested =
@@ -101,6 +102,19 @@ pub record AreVerdicts (Types : Fact → Type 0) (types : View) (type_keys : Lis
   pub findings : AreFindings Types types type_keys (map (λ v. v.finding) verdicts)
   pub between : All (λ v. IsBetween levels view locks v.finding v.between) verdicts
 
+-- ---- their order
+-- what was seen between single locks comes first
+abbrev pub rank : Between → ℕ
+rank (between.Locks nested) = 0
+rank (between.Perhaps nested) = 1
+rank between.Unknown = 2
+rank between.Classes = 3
+rank between.Types = 4
+
+-- the verdicts by rank, and those of one rank as they come
+abbrev pub by_rank : List Verdict → List Verdict
+by_rank verdicts = flat_map (λ r. filter (λ v. nat_eq (rank v.between) r) verdicts) (0 ∷ 1 ∷ 2 ∷ 3 ∷ 4 ∷ [])
+
 -- ---- nothing is lost
 -- the finding is a circle with this member
 abbrev pub HasMember : Finding → Arrow → Type 0
@@ -113,7 +127,8 @@ abbrev pub CirclesOfLocksAreSeen : Type 0
 CirclesOfLocksAreSeen = (levels : Levels) (traces : List (List Event)) (type_keys locks : List ℕ) (verdicts : List Verdict) →
     AreSame (HasFact levels.types.now) (ViewHas (view_of (Renamed levels.type_of) traces)) →
     Holds (ViewHas (plain traces)) (levels_of levels).sure.Has →
-    AreVerdicts (HasFact levels.types.now) (view_of (Renamed levels.type_of) traces) type_keys (levels_of levels) (plain traces) locks verdicts →
+    AreVerdicts (HasFact levels.types.now) (view_of (Renamed levels.type_of) traces) type_keys (levels_of levels) (plain traces) locks
+    verdicts →
     (e : Arrow) → OnCircle (levels_of levels).sure.Has e →
     Contains type_keys ((levels_of levels).type e.start) → Contains type_keys ((levels_of levels).type e.end) →
     (v : Verdict) × Contains verdicts v × HasMember v.finding (arrow_by (levels_of levels).type e)

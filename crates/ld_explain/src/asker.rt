@@ -62,7 +62,8 @@ impl Asker<'_> {
     // The fact, if it is a dependency that is on a circle at the level.
     fn add_circle(self, circles: &mut Vec<Dependency>, fact: Fact) -> Result<(), AllocError>
         requires { FactBelow MAX_KEYS fact }
-        ensures { OnOk result (GrowsBy (OnCircle (HasFact self.entry.settled.now)) (key_by self.entry.naming) fact circles.old.items circles.new.items) }
+        ensures { OnOk result (GrowsBy (OnCircle (HasFact self.entry.settled.now)) (key_by self.entry.naming) fact
+            circles.old.items circles.new.items) }
     {
         let Fact::Dependency { from, to, kind } = fact else {
             return Ok(());
@@ -94,7 +95,8 @@ impl Asker<'_> {
     pub(crate) fn case(self, circles: &[Dependency], finding: &Finding) -> Option<Case>
         requires { AreCircles self.locks.now self.settled.now (key_by self.naming) circles.now }
         ensures none { IsNone result
-            → ¬ IsSeenAt self.entry.keys.now (HasFact self.entry.locks.now) (slice_index self.entry.type_of.now) (level_of self.entry) finding.now }
+            → ¬ IsSeenAt self.entry.keys.now (HasFact self.entry.locks.now) (slice_index self.entry.type_of.now)
+            (level_of self.entry) finding.now }
         ensures some { IfSome result (IsCaseAt self.entry finding.now) }
     {
         match finding {

@@ -307,7 +307,8 @@ impl Explainer<'_> {
         requires among { All (IsSeenAmong self.now.asked.now) seen.now }
         requires each { length findings.items ≡ length seen.now }
         ensures findings { IfOk result (λ verdicts. map (λ v. v.finding) verdicts.items ≡ findings.items) }
-        ensures between { IfOk result (λ verdicts. Are (SaysSeen (view_of self.now.naming self.now.traces.now) self.now.keys.now) seen.now verdicts.items) }
+        ensures between { IfOk result (λ verdicts.
+            Are (SaysSeen (view_of self.now.naming self.now.traces.now) self.now.keys.now) seen.now verdicts.items) }
     {
         let mut verdicts = Vec::new(self.alloc);
         for finding in findings {

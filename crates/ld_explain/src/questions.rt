@@ -156,7 +156,8 @@ fn circles_by<'a>(
     settled: Option<&'a Settled>,
     naming: Naming<'a>,
 ) -> Result<Vec<Dependency>, AllocError>
-    ensures { IfOk result (λ circles. IfSome locks.entry (λ l. IfSome settled.entry (λ s. AreCircles l.now s.now (key_by naming.entry) circles.items))) }
+    ensures { IfOk result (λ circles. IfSome locks.entry (λ l. IfSome settled.entry (λ s.
+        AreCircles l.now s.now (key_by naming.entry) circles.items))) }
 {
     let (Some(locks), Some(settled)) = (locks, settled) else {
         return Ok(Vec::new(alloc));

@@ -1,5 +1,8 @@
 //! Findings between types, and between what they were seen.
 
+ghost use Rattle.std.specs.Prelude.{◌≡◌};
+ghost use Rattle.ld_explain.specs.Verdicts.{rank};
+
 use crate::finding::Finding;
 
 /// Between what a finding between types was seen.
@@ -15,6 +18,21 @@ pub enum Between {
     Classes,
     /// Between types alone.
     Types,
+}
+
+impl Between {
+    /// The place of such verdicts in a report, from 0 to 4: what was seen between single locks comes first.
+    pub fn rank(&self) -> u8
+        ensures { result ≡ rank self.now }
+    {
+        match self {
+            Between::Locks(_) => 0,
+            Between::Perhaps(_) => 1,
+            Between::Unknown => 2,
+            Between::Classes => 3,
+            Between::Types => 4,
+        }
+    }
 }
 
 /// A finding between types, and between what it was seen.

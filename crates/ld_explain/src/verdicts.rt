@@ -43,8 +43,8 @@ pub fn verdicts_of<'a>(
     requires types { AreSame (HasFact levels.now.types.now) (ViewHas (view_of (Naming.Renamed levels.now.type_of) traces.now)) }
     requires sure { Holds (ViewHas (plain traces.now)) (levels_of levels.now).sure.Has }
     requires locks { Holds (ViewHas (plain traces.now)) (levels_of levels.now).locks.Has }
-    ensures { IfOk result (λ verdicts. AreVerdicts (HasFact levels.now.types.now) (view_of (Naming.Renamed levels.now.type_of) traces.now) type_keys.now
-        (levels_of levels.now) (plain traces.now) lock_keys.now verdicts.items) }
+    ensures { IfOk result (λ verdicts. AreVerdicts (HasFact levels.now.types.now)
+        (view_of (Naming.Renamed levels.now.type_of) traces.now) type_keys.now (levels_of levels.now) (plain traces.now) lock_keys.now verdicts.items) }
 {
     let by_type = Naming::Renamed(levels.type_of);
     let findings = findings_of(alloc, levels.types, traces, by_type, type_keys)?;
@@ -72,7 +72,8 @@ fn explained(
     requires among { All (IsSeenAmong plan.now.asked) plan.now.list.items }
     requires each { length findings.items ≡ length plan.now.list.items }
     ensures findings { IfOk result (λ verdicts. map (λ v. v.finding) verdicts.items ≡ findings.items) }
-    ensures between { IfOk result (λ verdicts. Are (SaysSeen (view_of naming.entry traces.now) keys.now) plan.now.list.items verdicts.items) }
+    ensures between { IfOk result (λ verdicts.
+        Are (SaysSeen (view_of naming.entry traces.now) keys.now) plan.now.list.items verdicts.items) }
 {
     let evidence = Evidence::of(alloc, traces, naming, &plan.asked)?;
     let explainer = Explainer {

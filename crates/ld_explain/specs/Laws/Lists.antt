@@ -36,7 +36,8 @@ Contains-unmap f (x ∷ xs) y has = elim (Contains-cases (f x) (map f xs) y has)
   | inr there ↦ let (z, in_rest, is) = Contains-unmap f xs y there in (z, Contains-later x xs z in_rest, is)
 ]
 
-pub Contains-flat_map : {X Y : Type 0} (f : X → List Y) (xs : List X) (x : X) (y : Y) → Contains xs x → Contains (f x) y → Contains (flat_map f xs) y
+pub Contains-flat_map : {X Y : Type 0} (f : X → List Y) (xs : List X) (x : X) (y : Y) → Contains xs x → Contains (f x) y →
+    Contains (flat_map f xs) y
 Contains-flat_map f [] x y (k, l, e) has = absurd (omega (arith, l))
 Contains-flat_map f (z ∷ zs) x y there has = elim (Contains-cases z zs x there) [
   | inl same ↦ Contains-append_left (f z) (flat_map f zs) y (subst (λ w. Contains (f w) y) (sym same) has)
