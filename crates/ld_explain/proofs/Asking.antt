@@ -1,20 +1,7 @@
 -- What is asked of each thing of a list in turn, and dependencies by their numbers.
-use Rattle.std.proofs.Common.{◌≡◌, ◌↔◌, ℕ, ◌+◌, ◌<◌, ◌≤◌, List, [], ◌∷◌, ◌++◌, All, Contains, length, slice_index_or, take, sym, ap, ◌∙◌, subst, inl, inr, arith}
-use Rattle.std.specs.Prelude.{IsFalse, IsTrue}
-use Rattle.std.proofs.lemmas.Bool.{cases_lt}
-use Rattle.std.proofs.lemmas.List.{take_all}
-use Rattle.std.proofs.lemmas.List.Elements.{All-contains, All-push, Contains-append_left, Contains-push, Contains-push_cases}
-use Rattle.ld_facts.specs.Arrows.{Arrow, arrow}
-use Rattle.ld_facts.specs.FactBits.{FactBelow, FactParts, HasFact}
-use Rattle.ld_facts.specs.Facts.{DependenciesOf}
+use Rattle.ld_explain.proofs.Names.{[], ◌++◌, ◌+◌, ◌<◌, ◌↔◌, ◌∙◌, ◌∷◌, ◌≡◌, ◌≤◌, All, All-contains, All-push, Arrow, Contains, Contains-append_left, Contains-push, Contains-push_cases, DependenciesOf, Dependency, Fact, FactBelow, FactParts, GrowsBy, HasFact, IsFalse, IsTrue, List, Marked, ap, arith, arrow, arrow_by, cases_lt, dependency_total, fact_number, inl, inr, length, slice_index_or, subst, sym, take, take-item, take_all, ℕ}
 use Rattle.ld_facts.specs.Inside.Bits.{has_bit}
 use Rattle.ld_facts.specs.Laws.Numbers.{dependency-lt, fact_number-same}
-use Rattle.ld_facts.specs.Numbers.{dependency_total, fact_number}
-use Rattle.ld_facts.specs.Renumbered.{arrow_by}
-use Rattle.ld_facts.specs.declared.fact.Fact.{Fact}
-use Rattle.ld_facts.specs.declared.fact.Fact.TheVariants.{Dependency, Marked}
-use Rattle.ld_explain.specs.Inside.Seeing.{GrowsBy}
-use Rattle.ld_explain.specs.Laws.Lists.{take-item}
 
 -- ---- lists
 module _ {X : Type 0} (N : X → Type 0) (xs : List X) where

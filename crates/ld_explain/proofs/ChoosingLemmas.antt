@@ -1,24 +1,6 @@
 -- How walks and links are chosen, and what is asked about for them.
-use Rattle.std.proofs.Common.{◌≡◌, ◌↔◌, ◌⊎◌, ℕ, ◌<◌, List, [], ◌∷◌, ◌++◌, All, Contains, length, refl, sym, ap, ◌∙◌, subst, inl, inr, arith}
-use Rattle.std.proofs.lemmas.List.{append_assoc, append-nil}
-use Rattle.std.proofs.lemmas.List.Elements.{All-contains, All-contains_itself, All-nil, All-push, All-weaker, Contains-append_left, Contains-push, Contains-push_cases}
-use Rattle.ld_trace.specs.declared.event.Irq.{Irq}
-use Rattle.ld_task.specs.Kinds.{is_r-kind_of_letters, is_s-kind_of_letters}
-use Rattle.ld_facts.specs.Arrows.{Arrow, arrow}
-use Rattle.ld_facts.specs.FactBits.{FactParts, HasFact}
-use Rattle.ld_facts.specs.Facts.{Adds, DependenciesOf, Holds}
-use Rattle.ld_facts.specs.Laws.Lists.{Any-push}
-use Rattle.ld_facts.specs.declared.fact.Fact.{Fact}
-use Rattle.ld_facts.specs.declared.fact.Fact.TheVariants.{Dependency, Marked}
-use Rattle.ld_graph.specs.Laws.Facts.{StrongWalk-members}
-use Rattle.ld_graph.specs.Links.{IsLink, IsShortestInversion, link_by}
-use Rattle.ld_graph.specs.Walks.{IsShortestFrom}
-use Rattle.ld_explain.specs.Findings.{Are, AreReported}
-use Rattle.ld_explain.specs.Inside.Choosing.{AddsChoice, AddsEach, AddsFor, AreAsked, ChoosesCircle, ChoosesCircles, IsAmong, IsChoiceFrom, IsCircleChoice, HasMembers, IsDoubleChoice, IsInversionChoice, IsMark, IsMember, IsPart}
-use Rattle.ld_explain.specs.declared.choices.Choice.TheVariants.{ByBoth, ByLink, ByWalk}
-use Rattle.ld_task.specs.declared.mark.Mark.TheVariants.{Enabled, UsedIn}
-use Rattle.ld_explain.specs.declared.choices.Choice.{Choice}
-use Rattle.ld_explain.specs.declared.choices.Choices.{Choices}
+use Rattle.ld_explain.proofs.Names.{[], ◌++◌, ◌<◌, ◌↔◌, ◌∙◌, ◌∷◌, ◌≡◌, ◌⊎◌, Adds, AddsChoice, AddsEach, AddsFor, All, All-contains, All-contains_itself, All-nil, All-push, All-weaker, Any-push, AreAsked, AreReported, Arrow, ByBoth, ByLink, ByWalk, Choice, Choices, ChoosesCircle, ChoosesCircles, Contains, Contains-append_left, Contains-push, Contains-push_cases, DependenciesOf, Dependency, Enabled, Fact, FactParts, HasFact, HasMembers, Holds, Irq, IsAmong, IsChoiceFrom, IsCircleChoice, IsDoubleChoice, IsInversionChoice, IsLink, IsMark, IsMember, IsPart, IsShortestFrom, IsShortestInversion, List, Marked, StrongWalk-members, UsedIn, ap, append-nil, append_assoc, arith, arrow, inl, inr, is_r-kind_of_letters, is_s-kind_of_letters, length, link_by, refl, subst, sym, ℕ}
+use Rattle.ld_explain.specs.Findings.{Are}
 use Rattle.ld_explain.specs.declared.choices.Link.{Link}
 
 -- ---- adding

@@ -1,29 +1,8 @@
 -- Findings of what was chosen.
-use Rattle.std.proofs.Common.{◌≡◌, ℕ, zero, suc, ◌<◌, ◌≤◌, List, [], ◌∷◌, ◌++◌, All, Contains, length, map, slice_index_or, refl, sym, ap, ◌∙◌, subst, inl, inr, arith}
-use Rattle.std.proofs.lemmas.List.{append-nil, map-append}
-use Rattle.std.proofs.lemmas.List.Elements.{All-contains, All-nil, All-push, Contains-push_cases}
-use Rattle.ld_trace.specs.declared.event.Irq.{Irq}
-use Rattle.ld_task.specs.Kinds.{is_r-kind_of_letters, is_s-kind_of_letters}
-use Rattle.ld_task.specs.declared.mark.Mark.TheVariants.{Enabled, UsedIn}
-use Rattle.ld_facts.specs.Arrows.{Arrow}
-use Rattle.ld_facts.specs.FactBits.{FactParts, HasFact}
-use Rattle.ld_facts.specs.Laws.Lists.{Contains-head, Contains-later}
-use Rattle.ld_facts.specs.declared.fact.Fact.{Fact}
+use Rattle.ld_explain.proofs.Names.{[], ◌++◌, ◌<◌, ◌∙◌, ◌∷◌, ◌≡◌, ◌≤◌, All, All-contains, All-nil, All-push, AreChoices, AreFindings, AreFound, AreGates, AreOrders, AreThose, Arrow, ByBoth, ByLink, ByWalk, Choice, Choices, Circle, Contains, Contains-head, Contains-later, Contains-push_cases, Double, Enabled, Explains, Fact, FactParts, Finding, FoundParts, GuardsTwo, HasFact, Inversion, Irq, IsAloneIn, IsCircle, IsCircleChoice, IsDoubleChoice, IsFirst, IsGate, IsInversionChoice, IsShortestInversion, IsTheDouble, IsTheInversion, List, Order, UsedIn, View, ap, append-nil, arith, inl, inr, is_r-kind_of_letters, is_s-kind_of_letters, length, link_by, map, map-append, refl, slice_index_or, subst, suc, sym, zero, ℕ}
 use Rattle.ld_facts.specs.declared.fact.Fact.TheVariants as fact
-use Rattle.ld_graph.specs.Links.{IsShortestInversion, link_by}
-use Rattle.ld_explain.specs.Findings.{Are, AreFindings, AreGates, AreOrders, GuardsTwo, IsCircle, IsTheDouble, IsTheInversion}
-use Rattle.ld_explain.specs.Found.{AreFound, AreThose, FoundParts}
-use Rattle.ld_explain.specs.Inside.Choosing.{AreChoices, IsCircleChoice, IsDoubleChoice, IsInversionChoice}
-use Rattle.ld_explain.specs.Inside.Explaining.{Explains}
-use Rattle.ld_explain.specs.Notes.{IsAloneIn, IsGate}
-use Rattle.ld_explain.specs.Origins.{IsFirst, View}
-use Rattle.ld_explain.specs.declared.choices.Choice.{Choice}
-use Rattle.ld_explain.specs.declared.choices.Choice.TheVariants.{ByBoth, ByLink, ByWalk}
-use Rattle.ld_explain.specs.declared.choices.Choices.{Choices}
-use Rattle.ld_explain.specs.declared.finding.Finding.{Finding}
-use Rattle.ld_explain.specs.declared.finding.Finding.TheVariants.{Circle, Double, Inversion}
+use Rattle.ld_explain.specs.Findings.{Are}
 use Rattle.ld_explain.specs.declared.finding.GateNote.{GateNote}
-use Rattle.ld_explain.specs.declared.finding.Order.{Order}
 use Rattle.ld_explain.proofs.FindingLemmas.{AreThose-append, AreThose-nothing}
 
 -- ---- origins

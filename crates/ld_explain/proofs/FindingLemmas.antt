@@ -1,14 +1,5 @@
 -- Those of a list that something holds of.
-use Rattle.std.proofs.Common.{◌≡◌, ℕ, ◌+◌, ◌<◌, List, [], ◌∷◌, ◌++◌, All, length, map, slice_index_or, take, refl, sym, ap, ◌∙◌, subst, inl, inr}
-use Rattle.std.specs.List.{flat_map}
-use Rattle.std.proofs.lemmas.List.{append_assoc, append-nil, map-append, take_more}
-use Rattle.std.proofs.lemmas.List.Elements.{All-cons, All-nil}
-use Rattle.ld_graph.specs.Links.{IsClean, IsDouble, IsInversion}
-use Rattle.ld_graph.specs.Walks.{OnCircle}
-use Rattle.ld_facts.specs.declared.fact.Fact.{Fact}
-use Rattle.ld_explain.specs.Found.{AreFound, AreThose, arrows_among, doubles_among, inversions_among}
-use Rattle.ld_explain.specs.Inside.Finding.{AddsThose}
-use Rattle.ld_explain.specs.Laws.Lists.{flat_map-next}
+use Rattle.ld_explain.proofs.Names.{[], ◌++◌, ◌+◌, ◌<◌, ◌∙◌, ◌∷◌, ◌≡◌, AddsThose, All, All-cons, All-nil, AreFound, AreThose, Fact, IsClean, IsDouble, IsInversion, List, OnCircle, ap, append-nil, append_assoc, arrows_among, doubles_among, flat_map, flat_map-next, inl, inr, inversions_among, length, map, map-append, refl, slice_index_or, subst, sym, take, take_more, ℕ}
 
 -- one thing more of a list
 pub map-next : {X Y : Type 0} (f : X → Y) (xs : List X) (i : ℕ) (d : X) → i < length xs → map f (take (i + 1) xs) ≡ map f (take i xs) ++ f (slice_index_or xs i d) ∷ []

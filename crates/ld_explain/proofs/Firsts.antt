@@ -1,9 +1,5 @@
 -- First occurrences, where more is seen.
-use Rattle.std.proofs.Common.{◌≡◌, ℕ, ◌⊎◌, ◌↔◌, Option, Some, None, refl, sym, subst, inl, inr, arith}
-use Rattle.ld_facts.specs.declared.fact.Fact.{Fact}
-use Rattle.ld_explain.specs.Origins.{AsNew, NoLater, OriginParts}
-use Rattle.ld_explain.specs.Inside.Firsts.{AreFirsts, IsKnown, PutsOrigin}
-use Rattle.ld_explain.specs.declared.origins.Origin.{Origin}
+use Rattle.ld_explain.proofs.Names.{◌↔◌, ◌≡◌, ◌⊎◌, AreFirsts, AsNew, Fact, IsKnown, NoLater, None, Option, Origin, OriginParts, PutsOrigin, Some, arith, inl, inr, refl, subst, sym, ℕ}
 
 AsNew-itself : (held : Option ℕ) → AsNew held held
 AsNew-itself None = tt

@@ -1,22 +1,7 @@
 -- The gates in a chain are the keys that guard an occurrence.
-use Rattle.std.proofs.Common.{◌≡◌, ℕ, zero, suc, ◌<◌, ◌≤◌, ◌↔◌, Bool, false, List, [], ◌∷◌, ◌++◌, length, Option, Some, None, option_and_then, refl, sym, ap, ◌∙◌, subst, inl, inr, arith}
-use Rattle.std.specs.Prelude.{slice_get}
-use Rattle.std.proofs.lemmas.Bool.{cases_Bool, cases_lt}
-use Rattle.std.proofs.lemmas.Option.{same_Some}
-use Rattle.ld_trace.specs.declared.event.Event.{Event}
-use Rattle.ld_trace.specs.Modes.{is_read}
-use Rattle.ld_task.specs.Chains.{ChainParts}
+use Rattle.ld_explain.proofs.Names.{[], ◌++◌, ◌<◌, ◌↔◌, ◌∙◌, ◌∷◌, ◌≡◌, ◌≤◌, Bool, ChainParts, Event, Guarded, GuardsAt, IsGateBefore, List, Lock, None, Option, Origin, Some, ap, arith, cases_Bool, cases_lt, chain, fact_slots, false, gate_in, held_positions, inl, inr, is_read, length, lock_at, option_and_then, positions_below-ascend, positions_below-pass, refl, same_Some, slice_get, slot_held, slot_origin, slot_position, subst, suc, sym, zero, ℕ}
 use Rattle.ld_task.specs.Held.{is_held}
-use Rattle.ld_task.specs.Placed.{held_positions}
-use Rattle.ld_task.specs.Laws.Positions.{positions_below-ascend, positions_below-pass}
 use Rattle.ld_task.specs.Positions.{positions_below}
-use Rattle.ld_task.specs.TraceChains.{chain, lock_at}
-use Rattle.ld_task.specs.declared.lock.Lock.{Lock}
-use Rattle.ld_facts.specs.ChainFacts.{fact_slots, slot_held}
-use Rattle.ld_explain.specs.Notes.{Guarded}
-use Rattle.ld_explain.specs.Inside.Firsts.{slot_origin, slot_position}
-use Rattle.ld_explain.specs.Inside.Guarding.{GuardsAt, IsGateBefore, gate_in}
-use Rattle.ld_explain.specs.declared.origins.Origin.{Origin}
 use Rattle.ld_explain.proofs.Giving.{chain_held, held_there, position_there, slot_within}
 use Rattle.ld_explain.proofs.Keys.{never_past}
 

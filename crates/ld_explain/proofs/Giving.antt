@@ -1,33 +1,13 @@
 -- What the event at a place gives is what its chain gives.
-use Rattle.std.proofs.Common.{◌≡◌, ℕ, suc, ◌<◌, true, false, ◌&&◌, ltb, ◌/◌, List, Contains, length, option_map, option_and_then, Option, Some, None, IsTrue, refl, sym, ap, ◌∙◌, subst, inl, inr, arith, if◌then◌else◌}
-use Rattle.std.specs.Prelude.{slice_get}
-use Rattle.std.proofs.lemmas.Bool.{and_parts, cases_lt, le-ltb, ltb-true, true≢false}
-use Rattle.std.proofs.lemmas.List.{length-map}
-use Rattle.std.proofs.lemmas.Option.{get_or_from_slice_get, slice_get-map, slice_get_within, same_Some}
-use Rattle.ld_trace.specs.declared.event.Event.{Event}
+use Rattle.ld_explain.proofs.Names.{◌&&◌, ◌/◌, ◌<◌, ◌∙◌, ◌≡◌, ChainMarksNew, ChainParts, Contains, Dependency, Event, Fact, Frame, GivenBy, Gives, Irq, IsDependency, IsTrue, Kind, List, Lock, Mark, Marked, None, Option, Some, and_parts, ap, arith, cases_lt, chain, fact_slots, false, get_or_from_slice_get, held_by, held_positions, if◌then◌else◌, inl, inr, kind_between, le-ltb, length, length-map, lock_at, ltb, ltb-true, may_wait, option_and_then, option_map, positions_below-has, positions_below-pass, refl, same_Some, slice_get, slice_get-map, slice_get_within, slot_held, slots_by, subst, suc, sym, true, true≢false, ℕ}
 use Rattle.ld_trace.specs.declared.event.Event.TheVariants.{Acquire, Release, Enter, Leave, TurnOn, TurnOff}
-use Rattle.ld_trace.specs.declared.event.Irq.{Irq}
 use Rattle.ld_trace.specs.declared.event.Mode.{Mode}
-use Rattle.ld_trace.specs.Modes.{may_wait}
-use Rattle.ld_task.specs.Chains.{ChainMarksNew, ChainParts}
-use Rattle.ld_task.specs.Dependencies.{IsDependency}
 use Rattle.ld_task.specs.Events.{event, is_acquire, is_turn_on, key_taken, makes_chain, mode_taken}
 use Rattle.ld_task.specs.Flags.{flags_at}
 use Rattle.ld_task.specs.Frames.{kind, one_frame}
 use Rattle.ld_task.specs.Held.{is_held, is_kept}
-use Rattle.ld_task.specs.Kinds.{kind_between}
 use Rattle.ld_task.specs.Marks.{IsMarkedOpening, IsMarkedTaking, marks_opened, marks_taken}
-use Rattle.ld_task.specs.Placed.{held_positions}
-use Rattle.ld_task.specs.Laws.Positions.{positions_below-has, positions_below-pass}
-use Rattle.ld_task.specs.TraceChains.{chain, chain_of, held_locks_at, lock_at}
-use Rattle.ld_task.specs.declared.frame.Frame.{Frame}
-use Rattle.ld_task.specs.declared.kind.Kind.{Kind}
-use Rattle.ld_task.specs.declared.lock.Lock.{Lock}
-use Rattle.ld_task.specs.declared.mark.Mark.{Mark}
-use Rattle.ld_facts.specs.ChainFacts.{GivenBy, fact_slots, held_by, slot_held, slots_by}
-use Rattle.ld_facts.specs.declared.fact.Fact.{Fact}
-use Rattle.ld_facts.specs.declared.fact.Fact.TheVariants.{Dependency, Marked}
-use Rattle.ld_explain.specs.Origins.{Gives}
+use Rattle.ld_task.specs.TraceChains.{chain_of, held_locks_at}
 
 -- the new lock of an acquisition's chain
 new_is : (a b : Lock) (f g : Frame) → (let x : Lock × Frame = (a, f) in let y : Lock × Frame = (b, g) in Some x ≡ Some y) → a ≡ b

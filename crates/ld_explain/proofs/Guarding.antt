@@ -1,12 +1,5 @@
 -- What guards occurrences, where more are seen.
-use Rattle.std.proofs.Common.{◌≡◌, ℕ, ◌⊎◌, ◌↔◌, List, Contains, Some, sym, ap, ◌∙◌, subst, inl, inr}
-use Rattle.std.proofs.lemmas.Option.{same_Some}
-use Rattle.ld_facts.specs.declared.fact.Fact.{Fact}
-use Rattle.ld_explain.specs.Origins.{View}
-use Rattle.ld_explain.specs.Notes.{GuardParts, HasGuard}
-use Rattle.ld_explain.specs.Inside.Guarding.{AreGuards, GuardsAt, IsKept, PutsGuard}
-use Rattle.ld_explain.specs.declared.guard.Guard.{Guard}
-use Rattle.ld_explain.specs.declared.origins.Origin.{Origin}
+use Rattle.ld_explain.proofs.Names.{◌↔◌, ◌∙◌, ◌≡◌, ◌⊎◌, AreGuards, Contains, Fact, Guard, GuardParts, GuardsAt, HasGuard, IsKept, List, Origin, PutsGuard, Some, View, ap, inl, inr, same_Some, subst, sym, ℕ}
 
 module _ (view : View) (P Q : Fact → Origin → Type 0) where
   -- the same occurrences

@@ -1,16 +1,6 @@
 -- One guard more among those that are kept, or another in its place.
-use Rattle.std.proofs.Common.{◌≡◌, ◌⊎◌, ℕ, cond, eqb, Bor, List, Option, Some, None, option_map, refl, sym, ap, ◌∙◌, subst, inl, inr}
-use Rattle.std.specs.Prelude.{IfSome}
-use Rattle.std.specs.Map.{lookup}
-use Rattle.std.proofs.lemmas.Bool.{cases_Bool, eq-eqb, eqb-true, true≢false}
-use Rattle.std.proofs.lemmas.Option.{same_Some}
-use Rattle.ld_facts.specs.FactBits.{FactBelow}
-use Rattle.ld_facts.specs.Laws.{FactsHaveDifferentBits}
-use Rattle.ld_facts.specs.Numbers.{fact_number}
-use Rattle.ld_facts.specs.declared.fact.Fact.{Fact}
-use Rattle.ld_explain.specs.Notes.{GuardParts, HasGuard}
-use Rattle.ld_explain.specs.Inside.Guarding.{IsGuardWith, IsKept, PutsGuard}
-use Rattle.ld_explain.specs.declared.guard.Guard.{Guard}
+use Rattle.ld_explain.proofs.Names.{◌∙◌, ◌≡◌, ◌⊎◌, Fact, FactBelow, FactsHaveDifferentBits, Guard, GuardParts, HasGuard, IfSome, IsGuardWith, IsKept, List, None, Option, PutsGuard, Some, ap, cases_Bool, cond, eq-eqb, eqb, eqb-true, fact_number, inl, inr, lookup, option_map, refl, same_Some, subst, sym, true≢false, ℕ}
+use Rattle.std.proofs.Common.{Bor}
 
 -- what a look-up finds
 pub found_guard : (parts : GuardParts) (x : Fact) → FactBelow parts.keys x → (r : Option (Bor Guard)) →

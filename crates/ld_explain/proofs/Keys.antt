@@ -1,6 +1,5 @@
 -- Elements of lists.
-use Rattle.std.proofs.Common.{◌≡◌, ℕ, zero, suc, ◌<◌, List, [], ◌∷◌, length, None, arith}
-use Rattle.std.specs.Prelude.{slice_get}
+use Rattle.ld_explain.proofs.Names.{[], ◌<◌, ◌∷◌, ◌≡◌, List, None, arith, length, slice_get, suc, zero, ℕ}
 
 -- an element below the length is there
 pub never_past : {A : Type 0} (xs : List A) (k : ℕ) → k < length xs → slice_get xs k ≡ None → ⊥

@@ -1,3 +1,4 @@
+pub mod Names
 pub mod Puts
 pub mod Seeing
 pub mod Firsts

@@ -1,11 +1,5 @@
 -- What lists of keys have.
-use Rattle.std.proofs.Common.{◌≡◌, ℕ, zero, suc, ◌+◌, ◌<◌, ◌≤◌, ◌⊎◌, ◌↔◌, true, false, eqb, List, [], ◌∷◌, ◌++◌, Contains, Some, None, filter, length, slice_index_or, take, refl, sym, ap, ◌∙◌, subst, inl, inr, arith}
-use Rattle.std.specs.Prelude.{slice_get}
-use Rattle.std.proofs.lemmas.Bool.{cases_Bool, cases_eq, cases_lt, eq-eqb, eqb-true, true≢false}
-use Rattle.std.proofs.lemmas.List.{append-nil, take_more}
-use Rattle.std.proofs.lemmas.List.Elements.{Contains-append_left, Contains-push, Contains-push_cases, filter-append}
-use Rattle.ld_task.specs.Chains.{ChainParts}
-use Rattle.ld_explain.specs.Inside.Guarding.{IsGateBefore, gate_in, is_among}
+use Rattle.ld_explain.proofs.Names.{[], ◌++◌, ◌+◌, ◌<◌, ◌↔◌, ◌∙◌, ◌∷◌, ◌≡◌, ◌≤◌, ◌⊎◌, ChainParts, Contains, Contains-append_left, Contains-push, Contains-push_cases, IsGateBefore, List, None, Some, ap, append-nil, arith, cases_Bool, cases_eq, cases_lt, eq-eqb, eqb, eqb-true, false, filter, filter-append, gate_in, inl, inr, is_among, length, refl, slice_get, slice_index_or, subst, suc, sym, take, take_more, true, true≢false, zero, ℕ}
 
 -- ---- one element more in front
 pub has_first : (x : ℕ) (xs : List ℕ) → Contains (x ∷ xs) x

@@ -1,36 +1,9 @@
 -- Circles of single locks are seen.
-use Rattle.std.proofs.Common.{◌≡◌, ◌∙◌, ℕ, List, [], ◌∷◌, ◌++◌, Contains, Some, true, map, refl, sym, ap, subst, inl, inr, arith}
+use Rattle.ld_explain.proofs.Names.{[], ◌++◌, ◌∙◌, ◌∷◌, ◌≡◌, All-contains, Any-member, AreReported, AreThose, Arrow, Between, Circle, CirclesOfLocksAreSeen, Contains, Contains-append_left, Contains-append_right, Contains-cases, Contains-flat_map, Contains-head, Contains-later, Contains-map, Contains-unmap, Dependency, Double, En, Er, Fact, FactParts, Finding, HasFact, HasMember, Inversion, IsBetween, IsCircle, IsReported, IsSeenAt, IsSomeAnd, Kind, Levels, List, None, OnCircle, OnCircle-member, OnCircle-more, OnCircle-same, Option, OwnNamesChangeNothing, Renamed, RenamedFactsAreTheImage, Sn, Some, Sr, TracesHave, Verdict, View, ap, append_assoc, arith, arrow, arrow_by, arrows_among, inl, inr, is_some, kinds, levels_of, map, plain, refl, subst, sym, true, true≢false, view_of, ℕ}
 use Rattle.std.specs.Borrow.{Bor}
-use Rattle.std.specs.Prelude.{Option, None, IsSomeAnd, is_some}
-use Rattle.std.proofs.lemmas.Bool.{true≢false}
-use Rattle.std.proofs.lemmas.List.{append_assoc}
-use Rattle.std.proofs.lemmas.List.Elements.{All-contains, Contains-append_left, Contains-append_right}
-use Rattle.ld_task.specs.declared.kind.Kind.{Kind}
-use Rattle.ld_task.specs.declared.kind.Kind.TheVariants.{Er, En, Sr, Sn}
-use Rattle.ld_facts.specs.Arrows.{Arrow, arrow}
-use Rattle.ld_facts.specs.FactBits.{FactParts, HasFact}
-use Rattle.ld_facts.specs.Laws.Lists.{Any-member, Contains-cases, Contains-head, Contains-later}
-use Rattle.ld_facts.specs.Renaming.{RenamedFactsAreTheImage}
-use Rattle.ld_facts.specs.Renumbered.{arrow_by}
-use Rattle.ld_facts.specs.TraceFacts.{TracesHave}
-use Rattle.ld_facts.specs.declared.fact.Fact.{Fact}
-use Rattle.ld_facts.specs.declared.fact.Fact.TheVariants.{Dependency}
-use Rattle.ld_graph.specs.Laws.Facts.{OnCircle-member, OnCircle-more, OnCircle-same}
-use Rattle.ld_graph.specs.Walks.{OnCircle}
-use Rattle.ld_explain.specs.Findings.{Are, AreReported, IsCircle, IsReported}
-use Rattle.ld_explain.specs.Found.{AreThose, arrows_among, kinds}
-use Rattle.ld_explain.specs.Laws.Lists.{Contains-flat_map, Contains-map, Contains-unmap}
+use Rattle.ld_explain.specs.Findings.{Are}
 use Rattle.ld_explain.specs.Laws.Verdicts.{OnCircle-image}
-use Rattle.ld_explain.specs.Naming.{view_of}
-use Rattle.ld_explain.specs.Origins.{OwnNamesChangeNothing, View, plain}
-use Rattle.ld_explain.specs.Verdicts.{CirclesOfLocksAreSeen, HasMember, IsBetween, IsSeenAt, levels_of}
-use Rattle.ld_explain.specs.declared.finding.Finding.{Finding}
-use Rattle.ld_explain.specs.declared.finding.Finding.TheVariants.{Circle, Double, Inversion}
-use Rattle.ld_explain.specs.declared.levels.Levels.{Levels}
-use Rattle.ld_explain.specs.declared.naming.Naming.TheVariants.{Renamed}
-use Rattle.ld_explain.specs.declared.verdict.Between.{Between}
 use Rattle.ld_explain.specs.declared.verdict.Between.TheVariants as between
-use Rattle.ld_explain.specs.declared.verdict.Verdict.{Verdict}
 
 -- ---- what is found
 has-kind : (kind : Kind) → Contains kinds kind

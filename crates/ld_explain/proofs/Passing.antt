@@ -1,28 +1,5 @@
 -- What is taken in, slot by slot, event by event and trace by trace.
-use Rattle.std.proofs.Common.{◌≡◌, ℕ, zero, suc, ◌+◌, ◌<◌, ◌≤◌, ◌↔◌, List, [], ◌∷◌, Contains, length, Option, Some, None, refl, sym, ap, ◌∙◌, subst, inl, inr, arith}
-use Rattle.std.specs.Prelude.{slice_get}
-use Rattle.std.proofs.lemmas.Option.{same_Some, slice_get_within}
-use Rattle.ld_trace.specs.declared.event.Event.{Event}
-use Rattle.ld_task.specs.Chains.{ChainParts}
-use Rattle.ld_task.specs.Dependencies.{IsDependency}
-use Rattle.ld_task.specs.TraceChains.{chain}
-use Rattle.ld_task.specs.declared.mark.Mark.{Mark}
-use Rattle.ld_facts.specs.Arrows.{Arrow, arrow}
-use Rattle.ld_task.specs.declared.kind.Kind.{Kind}
-use Rattle.ld_task.specs.declared.kind.Kind.TheVariants.{En}
-use Rattle.ld_facts.specs.Renaming.{RenamedFactsAreTheImage}
-use Rattle.ld_facts.specs.Renumbered.{arrow_by, fact_by}
-use Rattle.ld_facts.specs.ChainFacts.{fact_slots}
-use Rattle.ld_facts.specs.FactBits.{FactParts, HasFact}
-use Rattle.ld_facts.specs.Laws.{LaterSlotsAreOfNewerLocks, SlotsHaveWhatIsGiven}
-use Rattle.ld_facts.specs.declared.fact.Fact.{Fact}
-use Rattle.ld_facts.specs.declared.fact.Fact.TheVariants.{Dependency, Marked}
-use Rattle.ld_explain.specs.Notes.{AreGuardsOf, GuardParts, Guarded, IsAloneIn, IsGate}
-use Rattle.ld_explain.specs.Origins.{AreOriginsOf, Gives, Occurs, OriginParts, View}
-use Rattle.ld_explain.specs.Inside.Firsts.{AreFirsts, PutsOrigin, SeenBefore, SeenFrom, SeenTo, named_fact, slot_origin}
-use Rattle.ld_explain.specs.Inside.Guarding.{Among, AreGuards, AsksOrder, GuardsAt, PutsGuard}
-use Rattle.ld_explain.specs.Inside.Taking.{AreTakenIn}
-use Rattle.ld_explain.specs.declared.origins.Origin.{Origin}
+use Rattle.ld_explain.proofs.Names.{[], ◌+◌, ◌<◌, ◌↔◌, ◌∙◌, ◌∷◌, ◌≡◌, ◌≤◌, Among, AreFirsts, AreGuards, AreGuardsOf, AreOriginsOf, AreTakenIn, Arrow, AsksOrder, ChainParts, Contains, Dependency, En, Event, Fact, FactParts, Gives, GuardParts, Guarded, GuardsAt, HasFact, IsAloneIn, IsDependency, IsGate, Kind, LaterSlotsAreOfNewerLocks, List, Mark, Marked, None, Occurs, Option, Origin, OriginParts, PutsGuard, PutsOrigin, RenamedFactsAreTheImage, SeenBefore, SeenFrom, SeenTo, SlotsHaveWhatIsGiven, Some, View, ap, arith, arrow, arrow_by, chain, fact_by, fact_slots, inl, inr, length, named_fact, refl, same_Some, slice_get, slice_get_within, slot_origin, subst, suc, sym, zero, ℕ}
 use Rattle.ld_explain.proofs.Firsts.{AreFirsts-put, AreFirsts-same}
 use Rattle.ld_explain.proofs.Guarding.{AreGuards-put, AreGuards-same}
 use Rattle.ld_explain.proofs.Slots.{From-all, less, more, no_later, seen_none}

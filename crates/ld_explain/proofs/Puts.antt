@@ -1,15 +1,5 @@
 -- One origin more among those that are kept.
-use Rattle.std.proofs.Common.{◌≡◌, ℕ, true, false, cond, eqb, List, Option, Some, None, is_some, refl, sym, ap, ◌∙◌, subst, inl, inr}
-use Rattle.std.specs.Map.{lookup}
-use Rattle.std.proofs.lemmas.Bool.{cases_Bool, eq-eqb, eqb-true, true≢false}
-use Rattle.std.proofs.lemmas.Option.{none-some, same_Some}
-use Rattle.ld_facts.specs.FactBits.{FactBelow}
-use Rattle.ld_facts.specs.Laws.{FactsHaveDifferentBits}
-use Rattle.ld_facts.specs.Numbers.{fact_number}
-use Rattle.ld_facts.specs.declared.fact.Fact.{Fact}
-use Rattle.ld_explain.specs.Origins.{HasOrigin, OriginParts}
-use Rattle.ld_explain.specs.Inside.Firsts.{IsKnown, PutsOrigin}
-use Rattle.ld_explain.specs.declared.origins.Origin.{Origin}
+use Rattle.ld_explain.proofs.Names.{◌∙◌, ◌≡◌, Fact, FactBelow, FactsHaveDifferentBits, HasOrigin, IsKnown, List, None, Option, Origin, OriginParts, PutsOrigin, Some, ap, cases_Bool, cond, eq-eqb, eqb, eqb-true, fact_number, false, inl, inr, is_some, lookup, none-some, refl, same_Some, subst, sym, true, true≢false, ℕ}
 
 -- what is found is some origin
 found : (o : Option Origin) → is_some o ≡ true → (x : Origin) × (o ≡ Some x)

@@ -1,29 +1,12 @@
 -- What makes a finding at a level, and what is chosen for it.
-use Rattle.std.proofs.Common.{◌≡◌, ◌↔◌, ℕ, ◌≤◌, List, [], ◌∷◌, ◌++◌, All, Some, true, slice_index, sym, ◌∙◌, subst, inl, inr, arith}
-use Rattle.std.specs.Prelude.{Option, None, IfSome, IsSomeAnd}
+use Rattle.ld_explain.proofs.Names.{[], ◌++◌, ◌↔◌, ◌∙◌, ◌∷◌, ◌≡◌, ◌≤◌, AddsSeen, All, All-nil, All-push, All-weaker, Choice, Circle, Dependency, Double, Fact, FactBelow, FactParts, Finding, HasBetween, HasFact, HasMembers, Holds, IfSome, Inversion, IsCaseAt, IsChoiceFor, IsDouble, IsDoubleChoice, IsInversion, IsInversionChoice, IsNestedChoice, IsPart, IsPlan, IsSeenAmong, IsSeenAs, IsSeenAt, IsSomeAnd, Levels, List, Makes, Marked, None, Option, Own, Plan, Seen, SeenHas, Some, arith, inl, inr, level_by, level_of, levels_of, slice_index, subst, sym, true, ℕ}
 use Rattle.std.specs.Borrow.{Bor}
-use Rattle.ld_facts.specs.FactBits.{FactBelow, FactParts, HasFact}
-use Rattle.ld_facts.specs.Facts.{Holds}
-use Rattle.ld_facts.specs.declared.fact.Fact.{Fact}
-use Rattle.ld_facts.specs.declared.fact.Fact.TheVariants.{Dependency, Marked}
-use Rattle.std.proofs.lemmas.List.Elements.{All-nil, All-push, All-weaker}
-use Rattle.ld_graph.specs.Links.{IsDouble, IsInversion}
-use Rattle.ld_explain.specs.Inside.Choosing.{HasMembers, IsDoubleChoice, IsInversionChoice, IsPart}
-use Rattle.ld_explain.specs.Inside.Seeing.{AddsSeen, HasBetween, IsCaseAt, IsChoiceFor, IsNestedChoice, IsPlan, IsSeenAmong, IsSeenAs, Makes, SeenHas, level_of}
-use Rattle.ld_explain.specs.Verdicts.{IsSeenAt, level_by, levels_of}
 use Rattle.ld_explain.specs.Findings.{Are}
-use Rattle.ld_explain.specs.declared.levels.Levels.{Levels}
-use Rattle.ld_explain.specs.declared.plan.Plan.{Plan}
-use Rattle.ld_explain.specs.declared.questions.Seen.{Seen}
 use Rattle.ld_explain.specs.declared.questions.Seen.TheVariants as seen
 use Rattle.ld_explain.proofs.ChoosingLemmas.{Are-more, double-among, from-among, inversion-among}
 use Rattle.ld_explain.specs.declared.asker.Asker.{Asker}
 use Rattle.ld_explain.specs.declared.asker.Case.{Case}
 use Rattle.ld_explain.specs.declared.asker.Case.TheVariants as case
-use Rattle.ld_explain.specs.declared.choices.Choice.{Choice}
-use Rattle.ld_explain.specs.declared.finding.Finding.{Finding}
-use Rattle.ld_explain.specs.declared.finding.Finding.TheVariants.{Circle, Double, Inversion}
-use Rattle.ld_explain.specs.declared.naming.Naming.TheVariants.{Own}
 
 -- what makes a finding at a level is seen there
 pub case-seen : (asker : Asker) (finding : Finding) (c : Case) → IsCaseAt asker finding c →

@@ -1,22 +1,7 @@
 -- The slots of a chain, from the last one on.
-use Rattle.std.proofs.Common.{◌≡◌, ℕ, ◌+◌, ◌<◌, ◌≤◌, ◌⊎◌, ◌↔◌, List, Option, Some, None, option_and_then, option_map, refl, sym, ap, ◌∙◌, subst, inl, inr, arith}
-use Rattle.std.specs.Prelude.{IfSome, OnOk, Result, Ok, Err, slice_get}
+use Rattle.ld_explain.proofs.Names.{◌+◌, ◌<◌, ◌↔◌, ◌∙◌, ◌≡◌, ◌≤◌, ◌⊎◌, AsNew, ChainParts, Err, Event, Fact, Gives, IfSome, LaterSlotsAreOfNewerLocks, List, NoLater, None, Occurs, Ok, OnOk, Option, Origin, Result, SeenFrom, SeenTo, SlotsHaveWhatIsGiven, Some, View, ap, arith, cases_eq, chain, chain_fact, fact_by, fact_slots, held_positions, inl, inr, named_fact, none-some, option_and_then, option_map, positions_below-ascend, refl, same_Some, slice_get, slot_held, slot_origin, slot_position, subst, sym, ℕ}
 use Rattle.std.specs.declared.alloc.AllocError.{AllocError}
-use Rattle.std.proofs.lemmas.Bool.{cases_eq}
-use Rattle.std.proofs.lemmas.Option.{none-some, same_Some}
-use Rattle.ld_trace.specs.declared.event.Event.{Event}
-use Rattle.ld_task.specs.Chains.{ChainParts}
 use Rattle.ld_task.specs.Held.{is_held}
-use Rattle.ld_task.specs.Placed.{held_positions}
-use Rattle.ld_task.specs.Laws.Positions.{positions_below-ascend}
-use Rattle.ld_task.specs.TraceChains.{chain}
-use Rattle.ld_facts.specs.ChainFacts.{chain_fact, fact_slots, slot_held}
-use Rattle.ld_facts.specs.Laws.{LaterSlotsAreOfNewerLocks, SlotsHaveWhatIsGiven}
-use Rattle.ld_facts.specs.Renumbered.{fact_by}
-use Rattle.ld_facts.specs.declared.fact.Fact.{Fact}
-use Rattle.ld_explain.specs.Origins.{AsNew, Gives, NoLater, Occurs, View}
-use Rattle.ld_explain.specs.Inside.Firsts.{SeenFrom, SeenTo, named_fact, slot_origin, slot_position}
-use Rattle.ld_explain.specs.declared.origins.Origin.{Origin}
 use Rattle.ld_explain.proofs.Giving.{giving, nothing_given}
 
 -- the fact that is given another name

@@ -1,18 +1,5 @@
 -- First occurrences, trace by trace, and what is returned of them at the end.
-use Rattle.std.proofs.Common.{◌≡◌, ℕ, zero, ◌+◌, ◌≤◌, ◌↔◌, List, length, Option, Some, None, refl, sym, ap, ◌∙◌, subst, inl, inr, arith}
-use Rattle.std.specs.Prelude.{IfSome, IsNone, slice_get}
-use Rattle.std.proofs.lemmas.Bool.{cases_eq}
-use Rattle.std.proofs.lemmas.Option.{get_or_from_slice_get, same_Some, slice_get-get_or, slice_get_within}
-use Rattle.ld_trace.specs.declared.event.Event.{Event}
-use Rattle.ld_facts.specs.FactBits.{FactParts, HasFact}
-use Rattle.ld_facts.specs.Facts.{TraceHas}
-use Rattle.ld_facts.specs.declared.fact.Fact.{Fact}
-use Rattle.ld_facts.specs.declared.fact.Fact.TheVariants.{Dependency, Marked}
-use Rattle.ld_facts.specs.Renaming.{Image, RenamedFactsAreTheImage}
-use Rattle.ld_facts.specs.TraceFacts.{TracesHave}
-use Rattle.ld_explain.specs.Origins.{AreOriginsOf, Gives, HasOrigin, IsOriginOf, Occurs, OriginParts, View}
-use Rattle.ld_explain.specs.Inside.Firsts.{IsKnown, SeenBefore, SeenTo}
-use Rattle.ld_explain.specs.declared.origins.Origin.{Origin}
+use Rattle.ld_explain.proofs.Names.{◌+◌, ◌↔◌, ◌∙◌, ◌≡◌, ◌≤◌, AreOriginsOf, Dependency, Event, Fact, FactParts, Gives, HasFact, HasOrigin, IfSome, Image, IsKnown, IsNone, IsOriginOf, List, Marked, None, Occurs, Option, Origin, OriginParts, RenamedFactsAreTheImage, SeenBefore, SeenTo, Some, TraceHas, TracesHave, View, ap, arith, cases_eq, get_or_from_slice_get, inl, inr, length, refl, same_Some, slice_get, slice_get-get_or, slice_get_within, subst, sym, zero, ℕ}
 use Rattle.ld_explain.proofs.Giving.{gives_within}
 
 -- at the start of a trace the same was seen as before it

@@ -1,22 +1,7 @@
 -- Verdicts of what was seen and is explained.
-use Rattle.std.proofs.Common.{◌≡◌, ℕ, List, [], ◌∷◌, All, Result, Ok, Err, length, map, sym, ap, subst, arith}
-use Rattle.std.specs.Prelude.{IfOk}
-use Rattle.std.proofs.lemmas.List.Elements.{All-cons, All-nil}
-use Rattle.ld_facts.specs.declared.fact.Fact.{Fact}
-use Rattle.ld_explain.specs.Findings.{Are, AreFindings}
-use Rattle.ld_explain.specs.Inside.Explaining.{Explains}
-use Rattle.ld_explain.specs.Inside.Seeing.{ExplainsSeen, IsNestedChoice, IsPlan, IsSeenAs, SaysSeen}
-use Rattle.ld_explain.specs.Origins.{View}
-use Rattle.ld_explain.specs.Verdicts.{AllLevels, AreVerdicts, IsBetween, IsNestedIn, levels_of}
-use Rattle.ld_explain.specs.declared.choices.Choice.{Choice}
-use Rattle.ld_explain.specs.declared.finding.Finding.{Finding}
-use Rattle.ld_explain.specs.declared.finding.Finding.TheVariants.{Circle, Double, Inversion}
-use Rattle.ld_explain.specs.declared.levels.Levels.{Levels}
-use Rattle.ld_explain.specs.declared.plan.Plan.{Plan}
-use Rattle.ld_explain.specs.declared.questions.Seen.{Seen}
+use Rattle.ld_explain.proofs.Names.{[], ◌∷◌, ◌≡◌, All, All-cons, All-nil, AllLevels, AreFindings, AreVerdicts, Between, Choice, Circle, Double, Err, Explains, ExplainsSeen, Fact, Finding, IfOk, Inversion, IsBetween, IsNestedChoice, IsNestedIn, IsPlan, IsSeenAs, Levels, List, Ok, Plan, Result, SaysSeen, Seen, Verdict, View, ap, arith, length, levels_of, map, subst, sym, ℕ}
+use Rattle.ld_explain.specs.Findings.{Are}
 use Rattle.ld_explain.specs.declared.questions.Seen.TheVariants as seen
-use Rattle.ld_explain.specs.declared.verdict.Between.{Between}
-use Rattle.ld_explain.specs.declared.verdict.Verdict.{Verdict}
 use Rattle.ld_explain.proofs.ExplainingLemmas.{Are-then, circle-is, double-is, inversion-is}
 
 nested-is : (Has : Fact → Type 0) (view : View) (keys : List ℕ) (type : ℕ → ℕ) (finding : Finding) (choice : Choice) (nested : Finding) →

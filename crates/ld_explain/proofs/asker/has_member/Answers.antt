@@ -1,8 +1,4 @@
-use Rattle.std.proofs.Common.{◌≡◌, arith, sym}
-use Rattle.std.proofs.lemmas.Bool.{true≢false}
-use Rattle.ld_facts.specs.Arrows.{arrow}
-use Rattle.ld_explain.specs.declared.finding.Order.{Order}
-use Rattle.ld_explain.specs.Laws.Lists.{Contains-unmap}
+use Rattle.ld_explain.proofs.Names.{◌≡◌, Contains-unmap, Order, arith, arrow, sym, true≢false}
 use Rattle.ld_explain.proofs.Asking.{all-each}
 use Rattle.ld_explain.proofs.asker.has_member.Goals as goal
 

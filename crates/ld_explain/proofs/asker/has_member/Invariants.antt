@@ -1,5 +1,4 @@
-use Rattle.std.proofs.Common.{◌≡◌, All, take}
-use Rattle.ld_facts.specs.Arrows.{arrow}
+use Rattle.ld_explain.proofs.Names.{◌≡◌, All, arrow, take}
 use Rattle.ld_explain.proofs.asker.has_member.Given as goal
 
 -- no member so far is the dependency

@@ -1,8 +1,4 @@
-use Rattle.std.proofs.Common.{◌∙◌, subst, sym, take}
-use Rattle.ld_facts.specs.FactBits.{HasFact}
-use Rattle.ld_facts.specs.Facts.{Adds}
-use Rattle.ld_explain.specs.Inside.Choosing.{IsMember}
-use Rattle.ld_explain.specs.Laws.Lists.{take-item}
+use Rattle.ld_explain.proofs.Names.{◌∙◌, Adds, HasFact, IsMember, subst, sym, take, take-item}
 use Rattle.ld_explain.proofs.ChoosingLemmas.{members-more}
 use Rattle.ld_explain.proofs.choices.ask_walk.Goals as goal
 

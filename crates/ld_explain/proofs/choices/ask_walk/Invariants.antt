@@ -1,7 +1,4 @@
-use Rattle.std.proofs.Common.{◌≡◌, take}
-use Rattle.ld_facts.specs.FactBits.{HasFact}
-use Rattle.ld_facts.specs.Facts.{Adds}
-use Rattle.ld_explain.specs.Inside.Choosing.{IsMember}
+use Rattle.ld_explain.proofs.Names.{◌≡◌, Adds, HasFact, IsMember, take}
 use Rattle.ld_explain.proofs.choices.ask_walk.Given as goal
 
 -- the members so far are asked about

@@ -1,6 +1,4 @@
-use Rattle.std.proofs.Common.{subst}
-use Rattle.ld_facts.specs.FactBits.{HasFact}
-use Rattle.ld_graph.specs.Walks.{IsShortestFrom}
+use Rattle.ld_explain.proofs.Names.{HasFact, IsShortestFrom, subst}
 use Rattle.ld_explain.proofs.ChoosingLemmas.{shortest-some}
 use Rattle.ld_explain.proofs.choices.circle_choice.Goals as goal
 

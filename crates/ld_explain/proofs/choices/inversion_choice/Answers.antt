@@ -1,6 +1,4 @@
-use Rattle.std.proofs.Common.{refl, subst, sym}
-use Rattle.ld_facts.specs.FactBits.{HasFact}
-use Rattle.ld_graph.specs.Links.{IsShortestInversion, link_by}
+use Rattle.ld_explain.proofs.Names.{HasFact, IsShortestInversion, link_by, refl, subst, sym}
 use Rattle.ld_explain.proofs.choices.inversion_choice.Goals as goal
 
 pub returns : goal.returns

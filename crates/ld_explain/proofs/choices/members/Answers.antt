@@ -1,6 +1,4 @@
-use Rattle.std.proofs.Common.{◌∙◌, ◌<◌, ◌++◌, ◌∷◌, [], ap, arith, length, sym}
-use Rattle.std.proofs.lemmas.List.{take_all}
-use Rattle.ld_explain.specs.Laws.Lists.{take-next}
+use Rattle.ld_explain.proofs.Names.{[], ◌++◌, ◌<◌, ◌∙◌, ◌∷◌, ap, arith, length, sym, take-next, take_all}
 use Rattle.ld_explain.proofs.choices.members.Goals as goal
 
 pub loop-i-preserved : goal.loop-i-preserved

@@ -1,4 +1,4 @@
-use Rattle.std.proofs.Common.{◌≡◌, take}
+use Rattle.ld_explain.proofs.Names.{◌≡◌, take}
 use Rattle.ld_explain.proofs.choices.members.Given as goal
 
 -- the members so far

@@ -1,8 +1,5 @@
-use Rattle.std.proofs.Common.{[], refl}
-use Rattle.std.proofs.lemmas.Result.{IfOk-weaker}
-use Rattle.ld_facts.specs.FactBits.{HasFact}
+use Rattle.ld_explain.proofs.Names.{[], HasFact, IfOk-weaker, refl, view_of}
 use Rattle.ld_explain.specs.Findings.{Are}
-use Rattle.ld_explain.specs.Naming.{view_of}
 use Rattle.ld_explain.proofs.ExplainingLemmas.{findings-are}
 use Rattle.ld_explain.proofs.FindingLemmas.{AreFound-nothing}
 use Rattle.ld_explain.proofs.findings.findings_of.Goals as goal

@@ -1,9 +1,4 @@
-use Rattle.std.proofs.Common.{◌≡◌, ◌↔◌, ℕ, Bool, false, IsTrue}
-use Rattle.ld_facts.specs.FactBits.{HasFact}
-use Rattle.ld_facts.specs.declared.fact.Fact.{Fact}
-use Rattle.ld_facts.specs.declared.fact.Fact.TheVariants.{Dependency}
-use Rattle.ld_task.specs.declared.kind.Kind.{Kind}
-use Rattle.ld_task.specs.declared.kind.Kind.TheVariants.{Er, En, Sr, Sn}
+use Rattle.ld_explain.proofs.Names.{◌↔◌, ◌≡◌, Bool, Dependency, En, Er, Fact, HasFact, IsTrue, Kind, Sn, Sr, false, ℕ}
 use Rattle.ld_explain.proofs.found.has_dependency.Goals as goal
 
 -- a dependency has one of the four kinds

@@ -1,5 +1,4 @@
-use Rattle.std.proofs.Common.{◌≡◌, ◌++◌, ◌+◌, ◌<◌, ◌≤◌, ◌∷◌, [], ◌∙◌, ap, arith, length, slice_index_or, sym}
-use Rattle.ld_explain.specs.Inside.Guarding.{is_among}
+use Rattle.ld_explain.proofs.Names.{[], ◌++◌, ◌+◌, ◌<◌, ◌∙◌, ◌∷◌, ◌≡◌, ◌≤◌, ap, arith, is_among, length, slice_index_or, sym}
 use Rattle.ld_explain.proofs.Lists.{common-hit, common-miss}
 use Rattle.ld_explain.proofs.guard.common.Goals as goal
 use Rattle.ld_explain.proofs.guard.common.Goals.{else-contains, then-contains}

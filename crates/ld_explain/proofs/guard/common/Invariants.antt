@@ -1,5 +1,4 @@
-use Rattle.std.proofs.Common.{◌≡◌, ◌≤◌, filter, length, take}
-use Rattle.ld_explain.specs.Inside.Guarding.{is_among}
+use Rattle.ld_explain.proofs.Names.{◌≡◌, ◌≤◌, filter, is_among, length, take}
 use Rattle.ld_explain.proofs.guard.common.Given as goal
 
 -- the keys so far that are in both, and no more than were seen

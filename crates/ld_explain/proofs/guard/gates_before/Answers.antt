@@ -1,6 +1,4 @@
-use Rattle.std.proofs.Common.{◌≡◌, ◌+◌, ◌≤◌, ◌∙◌, arith, length, sym}
-use Rattle.std.proofs.lemmas.Option.{slice_get_past}
-use Rattle.ld_explain.specs.Naming.{key_by}
+use Rattle.ld_explain.proofs.Names.{◌+◌, ◌∙◌, ◌≡◌, ◌≤◌, arith, key_by, length, slice_get_past, sym}
 use Rattle.ld_explain.proofs.Lists.{gates-all, gates-none, gates-pass, gates-push}
 use Rattle.ld_explain.proofs.guard.gates_before.Goals as goal
 use Rattle.ld_explain.proofs.guard.gates_before.Goals.{in-Some, in_default}

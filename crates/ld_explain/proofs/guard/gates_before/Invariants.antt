@@ -1,6 +1,4 @@
-use Rattle.std.proofs.Common.{◌↔◌, ℕ, ◌≤◌, Contains, length}
-use Rattle.ld_explain.specs.Inside.Guarding.{IsGateBefore}
-use Rattle.ld_explain.specs.Naming.{key_by}
+use Rattle.ld_explain.proofs.Names.{◌↔◌, ◌≤◌, Contains, IsGateBefore, key_by, length, ℕ}
 use Rattle.ld_explain.proofs.guard.gates_before.Given as goal
 
 -- the gates among the locks so far, and no more than there are of these

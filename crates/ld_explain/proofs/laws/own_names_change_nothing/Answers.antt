@@ -1,8 +1,4 @@
-use Rattle.std.proofs.Common.{◌≡◌, ◌∙◌, refl, subst, sym}
-use Rattle.ld_facts.specs.Renumbered.{fact_by}
-use Rattle.ld_facts.specs.TraceFacts.{TracesHave}
-use Rattle.ld_facts.specs.declared.fact.Fact.{Fact}
-use Rattle.ld_facts.specs.declared.fact.Fact.TheVariants.{Dependency, Marked}
+use Rattle.ld_explain.proofs.Names.{◌∙◌, ◌≡◌, Dependency, Fact, Marked, TracesHave, fact_by, refl, subst, sym}
 use Rattle.ld_explain.proofs.laws.own_names_change_nothing.Goals as goal
 
 own_name : (x : Fact) → fact_by (λ key. key) x ≡ x

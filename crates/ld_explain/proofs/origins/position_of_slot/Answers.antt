@@ -1,6 +1,4 @@
-use Rattle.std.proofs.Common.{◌≡◌, Some, ap, option_and_then, slice_get, sym, ◌∙◌}
-use Rattle.ld_task.specs.Placed.{held_positions}
-use Rattle.ld_facts.specs.ChainFacts.{slot_held}
+use Rattle.ld_explain.proofs.Names.{◌∙◌, ◌≡◌, Some, ap, held_positions, option_and_then, slice_get, slot_held, sym}
 use Rattle.ld_explain.proofs.Giving.{chain_event, slot_within}
 use Rattle.ld_explain.proofs.origins.position_of_slot.Goals as goal
 

@@ -1,9 +1,4 @@
-use Rattle.ld_facts.specs.FactBits.{HasFact}
-use Rattle.ld_explain.specs.Inside.Seeing.{IsPlan, IsSeenAs}
-use Rattle.ld_explain.specs.Naming.{view_of}
-use Rattle.ld_explain.specs.Origins.{plain}
-use Rattle.ld_explain.specs.Verdicts.{levels_of}
-use Rattle.ld_explain.specs.declared.naming.Naming.TheVariants.{Renamed}
+use Rattle.ld_explain.proofs.Names.{HasFact, IsPlan, IsSeenAs, Renamed, levels_of, plain, view_of}
 use Rattle.ld_explain.proofs.VerdictLemmas.{Are-length, IfOk-both, verdicts-are}
 use Rattle.ld_explain.proofs.verdicts.verdicts_of.Goals as goal
 

@@ -1,16 +1,5 @@
-use Rattle.std.proofs.Common.{◌≡◌, ℕ, ◌∙◌, Some, None, refl, sym, ap, inl, inr}
-use Rattle.std.proofs.lemmas.Option.{same_Some}
-use Rattle.ld_task.specs.Chains.{ChainParts, key_mode_and_frame}
-use Rattle.ld_task.specs.declared.frame.Frame.{Frame}
-use Rattle.ld_task.specs.declared.lock.Lock.{Lock}
-use Rattle.ld_facts.specs.ChainFacts.{chain_fact}
-use Rattle.ld_facts.specs.Facts.{ChainHas}
+use Rattle.ld_explain.proofs.Names.{◌∙◌, ◌≡◌, ChainHas, ChainParts, Dependency, Fact, Frame, Lock, Marked, None, Some, ap, chain_fact, fact_by, inl, inr, key_by, key_mode_and_frame, last_key, refl, same_Some, sym, ℕ}
 use Rattle.ld_facts.specs.Laws.Chains.{chain_fact-sound}
-use Rattle.ld_facts.specs.Renumbered.{fact_by}
-use Rattle.ld_facts.specs.declared.fact.Fact.{Fact}
-use Rattle.ld_facts.specs.declared.fact.Fact.TheVariants.{Dependency, Marked}
-use Rattle.ld_explain.specs.Inside.Taking.{last_key}
-use Rattle.ld_explain.specs.Naming.{key_by}
 use Rattle.ld_explain.proofs.Slots.{named_there}
 use Rattle.ld_explain.proofs.asked.Asked.may_be_given.Goals as goal
 

@@ -1,8 +1,4 @@
-use Rattle.std.proofs.Common.{sym}
-use Rattle.ld_facts.specs.Arrows.{arrow}
-use Rattle.ld_facts.specs.FactBits.{HasFact}
-use Rattle.ld_graph.specs.Walks.{OnCircle}
-use Rattle.ld_explain.specs.Naming.{key_by}
+use Rattle.ld_explain.proofs.Names.{HasFact, OnCircle, arrow, key_by, sym}
 use Rattle.ld_explain.proofs.Asking.{grows-by}
 use Rattle.ld_explain.proofs.asker.Asker.add_circle.Goals as goal
 

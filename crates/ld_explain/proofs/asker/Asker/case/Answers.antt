@@ -1,7 +1,4 @@
-use Rattle.std.proofs.Common.{refl, slice_index, subst}
-use Rattle.ld_facts.specs.FactBits.{HasFact}
-use Rattle.ld_explain.specs.Inside.Seeing.{level_of}
-use Rattle.ld_explain.specs.Verdicts.{IsSeenAt}
+use Rattle.ld_explain.proofs.Names.{HasFact, IsSeenAt, level_of, refl, slice_index, subst}
 use Rattle.ld_explain.proofs.asker.Asker.case.Goals as goal
 
 pub returns-in_err-member-in-Circle-clause-none : goal.returns-in_err-member-in-Circle-clause-none

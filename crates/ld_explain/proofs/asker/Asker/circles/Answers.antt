@@ -1,7 +1,4 @@
-use Rattle.std.proofs.Common.{refl}
-use Rattle.ld_facts.specs.FactBits.{HasFact}
-use Rattle.ld_graph.specs.Walks.{OnCircle}
-use Rattle.ld_explain.specs.Naming.{key_by}
+use Rattle.ld_explain.proofs.Names.{HasFact, OnCircle, key_by, refl}
 use Rattle.ld_explain.proofs.Asking.{circles-all, circles-next}
 use Rattle.ld_explain.proofs.asker.Asker.circles.Goals as goal
 

@@ -1,8 +1,4 @@
-use Rattle.std.proofs.Common.{◌-◌}
-use Rattle.ld_facts.specs.FactBits.{HasFact}
-use Rattle.ld_facts.specs.Numbers.{dependency_total}
-use Rattle.ld_graph.specs.Walks.{OnCircle}
-use Rattle.ld_explain.specs.Naming.{key_by}
+use Rattle.ld_explain.proofs.Names.{◌-◌, HasFact, OnCircle, dependency_total, key_by}
 use Rattle.ld_explain.proofs.Asking.{AreCirclesBelow}
 use Rattle.ld_explain.proofs.asker.Asker.circles.Given as goal
 

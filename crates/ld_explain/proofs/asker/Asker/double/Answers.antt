@@ -1,6 +1,4 @@
-use Rattle.std.proofs.Common.{◌∙◌, arith, sym}
-use Rattle.std.proofs.lemmas.Bool.{true≢false}
-use Rattle.ld_explain.specs.Inside.Seeing.{IsLoneDouble}
+use Rattle.ld_explain.proofs.Names.{◌∙◌, IsLoneDouble, arith, sym, true≢false}
 use Rattle.ld_explain.proofs.Asking.{all-each, all-more}
 use Rattle.ld_explain.proofs.asker.Asker.double.Goals as goal
 

@@ -1,5 +1,4 @@
-use Rattle.std.proofs.Common.{All, take}
-use Rattle.ld_explain.specs.Inside.Seeing.{IsLoneDouble}
+use Rattle.ld_explain.proofs.Names.{All, IsLoneDouble, take}
 use Rattle.ld_explain.proofs.asker.Asker.double.Given as goal
 
 -- no lock so far is one

@@ -1,5 +1,4 @@
-use Rattle.std.proofs.Common.{ℕ, Contains, arith, refl}
-use Rattle.ld_explain.specs.Inside.Seeing.{IsLoneInversion}
+use Rattle.ld_explain.proofs.Names.{Contains, IsLoneInversion, arith, refl, ℕ}
 use Rattle.ld_explain.proofs.Asking.{all-each, all-more}
 use Rattle.ld_explain.proofs.asker.Asker.inversion.Goals as goal
 

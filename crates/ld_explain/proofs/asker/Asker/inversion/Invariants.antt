@@ -1,5 +1,4 @@
-use Rattle.std.proofs.Common.{ℕ, All, Contains, take}
-use Rattle.ld_explain.specs.Inside.Seeing.{IsLoneInversion}
+use Rattle.ld_explain.proofs.Names.{All, Contains, IsLoneInversion, take, ℕ}
 use Rattle.ld_explain.proofs.asker.Asker.inversion.Given as goal
 
 -- no lock so far is the first of one

@@ -1,5 +1,4 @@
-use Rattle.std.proofs.Common.{All, take}
-use Rattle.ld_explain.specs.Inside.Seeing.{IsLoneInversion}
+use Rattle.ld_explain.proofs.Names.{All, IsLoneInversion, take}
 use Rattle.ld_explain.proofs.asker.Asker.inversion_from.Given as goal
 
 -- no lock so far is the second of one

@@ -1,7 +1,4 @@
-use Rattle.std.proofs.Common.{◌∙◌, Contains, arith, slice_index, subst, sym}
-use Rattle.std.proofs.lemmas.Bool.{true≢false}
-use Rattle.ld_facts.specs.Renumbered.{arrow_by}
-use Rattle.ld_explain.specs.Findings.{members_of}
+use Rattle.ld_explain.proofs.Names.{◌∙◌, Contains, arith, arrow_by, members_of, slice_index, subst, sym, true≢false}
 use Rattle.ld_explain.proofs.Asking.{all-each, all-more}
 use Rattle.ld_explain.proofs.asker.Asker.member.Goals as goal
 

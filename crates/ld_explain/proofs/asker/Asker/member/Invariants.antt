@@ -1,6 +1,4 @@
-use Rattle.std.proofs.Common.{All, Contains, slice_index, take}
-use Rattle.ld_facts.specs.Renumbered.{arrow_by}
-use Rattle.ld_explain.specs.Findings.{members_of}
+use Rattle.ld_explain.proofs.Names.{All, Contains, arrow_by, members_of, slice_index, take}
 use Rattle.ld_explain.proofs.asker.Asker.member.Given as goal
 
 -- no dependency so far is one

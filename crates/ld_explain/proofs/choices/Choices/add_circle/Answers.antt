@@ -1,7 +1,4 @@
-use Rattle.std.proofs.Common.{◌∙◌, inr, sym}
-use Rattle.std.proofs.lemmas.Bool.{true≢false}
-use Rattle.std.proofs.lemmas.Result.{on_ok_weaker}
-use Rattle.ld_facts.specs.FactBits.{HasFact}
+use Rattle.ld_explain.proofs.Names.{◌∙◌, HasFact, inr, on_ok_weaker, sym, true≢false}
 use Rattle.ld_explain.proofs.ChoosingLemmas.{from-among}
 use Rattle.ld_explain.proofs.choices.Choices.add_circle.Goals as goal
 

@@ -1,8 +1,4 @@
-use Rattle.std.proofs.Common.{subst, sym}
-use Rattle.ld_facts.specs.FactBits.{HasFact}
-use Rattle.ld_graph.specs.Walks.{OnCircle}
-use Rattle.ld_explain.specs.Inside.Choosing.{ChoosesCircles}
-use Rattle.ld_explain.specs.Laws.Lists.{take-item}
+use Rattle.ld_explain.proofs.Names.{ChoosesCircles, HasFact, OnCircle, subst, sym, take-item}
 use Rattle.ld_explain.proofs.ChoosingLemmas.{circles-more}
 use Rattle.ld_explain.proofs.choices.Choices.add_circles.Goals as goal
 

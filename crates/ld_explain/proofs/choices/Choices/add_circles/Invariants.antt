@@ -1,5 +1,4 @@
-use Rattle.std.proofs.Common.{take}
-use Rattle.ld_explain.specs.Inside.Choosing.{ChoosesCircles}
+use Rattle.ld_explain.proofs.Names.{ChoosesCircles, take}
 use Rattle.ld_explain.proofs.choices.Choices.add_circles.Given as goal
 
 -- circles are chosen for the dependencies so far

@@ -1,5 +1,4 @@
-use Rattle.std.proofs.lemmas.Result.{on_ok_weaker}
-use Rattle.ld_facts.specs.FactBits.{HasFact}
+use Rattle.ld_explain.proofs.Names.{HasFact, on_ok_weaker}
 use Rattle.ld_explain.proofs.ChoosingLemmas.{double-among}
 use Rattle.ld_explain.proofs.choices.Choices.add_double.Goals as goal
 

@@ -1,6 +1,4 @@
-use Rattle.std.proofs.Common.{take}
-use Rattle.ld_facts.specs.FactBits.{HasFact}
-use Rattle.ld_explain.specs.Inside.Choosing.{AddsEach, IsDoubleChoice}
+use Rattle.ld_explain.proofs.Names.{AddsEach, HasFact, IsDoubleChoice, take}
 use Rattle.ld_explain.proofs.choices.Choices.add_doubles.Given as goal
 
 -- those of the doubles so far

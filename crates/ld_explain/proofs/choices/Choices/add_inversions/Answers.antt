@@ -1,7 +1,4 @@
-use Rattle.std.proofs.Common.{subst, sym}
-use Rattle.ld_facts.specs.FactBits.{HasFact}
-use Rattle.ld_explain.specs.Inside.Choosing.{AddsEach, IsInversionChoice}
-use Rattle.ld_explain.specs.Laws.Lists.{take-item}
+use Rattle.ld_explain.proofs.Names.{AddsEach, HasFact, IsInversionChoice, subst, sym, take-item}
 use Rattle.ld_explain.proofs.ChoosingLemmas.{inversion-among, each-more, each-none}
 use Rattle.ld_explain.proofs.choices.Choices.add_inversions.Goals as goal
 

@@ -1,6 +1,4 @@
-use Rattle.std.proofs.Common.{take}
-use Rattle.ld_facts.specs.FactBits.{HasFact}
-use Rattle.ld_explain.specs.Inside.Choosing.{AddsEach, IsInversionChoice}
+use Rattle.ld_explain.proofs.Names.{AddsEach, HasFact, IsInversionChoice, take}
 use Rattle.ld_explain.proofs.choices.Choices.add_inversions.Given as goal
 
 -- those of the inversions so far

@@ -1,7 +1,4 @@
-use Rattle.std.proofs.Common.{◌∙◌, ap}
-use Rattle.ld_facts.specs.FactBits.{HasFact}
-use Rattle.ld_graph.specs.Links.{IsDouble, IsInversion}
-use Rattle.ld_graph.specs.Walks.{OnCircle}
+use Rattle.ld_explain.proofs.Names.{◌∙◌, HasFact, IsDouble, IsInversion, OnCircle, ap}
 use Rattle.ld_explain.proofs.ChoosingLemmas.{circles-none}
 use Rattle.ld_explain.proofs.FindingLemmas.{AreThose-all}
 use Rattle.ld_explain.proofs.choices.Choices.of.Goals as goal

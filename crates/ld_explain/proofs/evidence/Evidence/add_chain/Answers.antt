@@ -1,10 +1,4 @@
-use Rattle.std.proofs.Common.{◌≡◌, ℕ, ◌+◌, ◌-◌, ◌∙◌, arith, refl, subst}
-use Rattle.ld_facts.specs.ChainFacts.{fact_slots}
-use Rattle.ld_explain.specs.Naming.{view_of}
-use Rattle.ld_explain.specs.Notes.{GuardParts}
-use Rattle.ld_explain.specs.Origins.{OriginParts}
-use Rattle.ld_explain.specs.Inside.Firsts.{SeenFrom}
-use Rattle.ld_explain.specs.Inside.Taking.{AreTakenIn}
+use Rattle.ld_explain.proofs.Names.{◌+◌, ◌-◌, ◌∙◌, ◌≡◌, AreTakenIn, GuardParts, OriginParts, SeenFrom, arith, fact_slots, refl, subst, view_of, ℕ}
 use Rattle.ld_explain.proofs.Passing.{taken_chain, taken_last, taken_skip}
 use Rattle.ld_explain.proofs.evidence.Evidence.add_chain.Goals as goal
 

@@ -1,10 +1,4 @@
-use Rattle.std.proofs.Common.{◌≡◌, ◌+◌, ◌∙◌, List, Some, slice_get, sym}
-use Rattle.ld_trace.specs.declared.event.Event.{Event}
-use Rattle.ld_task.specs.Placed.{IsPlacedAfter}
-use Rattle.ld_task.specs.TraceChains.{chain}
-use Rattle.ld_explain.specs.Naming.{view_of}
-use Rattle.ld_explain.specs.Inside.Firsts.{ComesNext, SeenTo}
-use Rattle.ld_explain.specs.Inside.Taking.{AreTakenIn}
+use Rattle.ld_explain.proofs.Names.{◌+◌, ◌∙◌, ◌≡◌, AreTakenIn, ComesNext, Event, IsPlacedAfter, List, SeenTo, Some, chain, slice_get, sym, view_of}
 use Rattle.ld_explain.proofs.Passing.{taken_none}
 use Rattle.ld_explain.proofs.Slots.{after_ok}
 use Rattle.ld_explain.proofs.evidence.Evidence.add_event.Goals as goal

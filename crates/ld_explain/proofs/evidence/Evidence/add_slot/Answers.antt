@@ -1,14 +1,4 @@
-use Rattle.std.proofs.Common.{◌≡◌, ◌+◌, ◌∙◌, List, Some, slice_get, subst, sym}
-use Rattle.std.proofs.lemmas.Bool.{true≢false}
-use Rattle.std.proofs.lemmas.Option.{none-some, same_Some}
-use Rattle.ld_trace.specs.declared.event.Event.{Event}
-use Rattle.ld_task.specs.Placed.{IsPlacedAfter}
-use Rattle.ld_task.specs.TraceChains.{chain}
-use Rattle.ld_facts.specs.FactBits.{FactBelow, HasFact}
-use Rattle.ld_explain.specs.Naming.{view_of}
-use Rattle.ld_explain.specs.Inside.Firsts.{PutsOrigin, SeenFrom, slot_position}
-use Rattle.ld_explain.specs.Inside.Guarding.{Among, AreGuards, AsksOrder}
-use Rattle.ld_explain.specs.Inside.Taking.{AreTakenIn}
+use Rattle.ld_explain.proofs.Names.{◌+◌, ◌∙◌, ◌≡◌, Among, AreGuards, AreTakenIn, AsksOrder, Event, FactBelow, HasFact, IsPlacedAfter, List, PutsOrigin, SeenFrom, Some, chain, none-some, same_Some, slice_get, slot_position, subst, sym, true≢false, view_of}
 use Rattle.ld_explain.proofs.Passing.{firsts_take, taken_pass}
 use Rattle.ld_explain.proofs.Slots.{after_ok}
 use Rattle.ld_explain.proofs.evidence.Evidence.add_slot.Goals as goal

@@ -1,6 +1,4 @@
-use Rattle.std.proofs.Common.{◌≤◌, ◌∙◌, arith, length, refl, sym}
-use Rattle.ld_explain.specs.Naming.{view_of}
-use Rattle.ld_explain.specs.Inside.Firsts.{ComesNext}
+use Rattle.ld_explain.proofs.Names.{◌∙◌, ◌≤◌, ComesNext, arith, length, refl, sym, view_of}
 use Rattle.ld_explain.proofs.Keys.{never_past}
 use Rattle.ld_explain.proofs.Passing.{taken_end, taken_start}
 use Rattle.ld_explain.proofs.evidence.Evidence.add_trace.Goals as goal

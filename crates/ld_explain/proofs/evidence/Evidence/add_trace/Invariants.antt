@@ -1,9 +1,4 @@
-use Rattle.std.proofs.Common.{◌≡◌, List, Some, slice_get}
-use Rattle.ld_trace.specs.declared.event.Event.{Event}
-use Rattle.ld_task.specs.Placed.{IsPlacedAfter}
-use Rattle.ld_explain.specs.Naming.{view_of}
-use Rattle.ld_explain.specs.Inside.Firsts.{SeenBefore, SeenTo}
-use Rattle.ld_explain.specs.Inside.Taking.{AreTakenIn}
+use Rattle.ld_explain.proofs.Names.{◌≡◌, AreTakenIn, Event, IsPlacedAfter, List, SeenBefore, SeenTo, Some, slice_get, view_of}
 use Rattle.ld_explain.proofs.evidence.Evidence.add_trace.Given as goal
 
 -- the occurrences that the events so far give are taken in

@@ -1,6 +1,4 @@
-use Rattle.std.proofs.Common.{◌≤◌, ◌∙◌, arith, length, refl}
-use Rattle.std.proofs.lemmas.Option.{slice_get_read}
-use Rattle.ld_explain.specs.Naming.{view_of}
+use Rattle.ld_explain.proofs.Names.{◌∙◌, ◌≤◌, arith, length, refl, slice_get_read, view_of}
 use Rattle.ld_explain.proofs.Passing.{AreGuardsOf-end, AreOriginsOf-end}
 use Rattle.ld_explain.proofs.evidence.Evidence.of.Goals as goal
 

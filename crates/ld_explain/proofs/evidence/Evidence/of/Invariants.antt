@@ -1,7 +1,4 @@
-use Rattle.std.proofs.Common.{◌≡◌}
-use Rattle.ld_explain.specs.Inside.Firsts.{SeenBefore}
-use Rattle.ld_explain.specs.Naming.{view_of}
-use Rattle.ld_explain.specs.Inside.Taking.{AreTakenIn}
+use Rattle.ld_explain.proofs.Names.{◌≡◌, AreTakenIn, SeenBefore, view_of}
 use Rattle.ld_explain.proofs.evidence.Evidence.of.Given as goal
 
 -- the occurrences in the traces so far are taken in

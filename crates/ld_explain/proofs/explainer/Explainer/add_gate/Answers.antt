@@ -1,5 +1,4 @@
-use Rattle.std.proofs.Common.{refl, arith}
-use Rattle.ld_explain.specs.Naming.{view_of}
+use Rattle.ld_explain.proofs.Names.{arith, refl, view_of}
 use Rattle.ld_explain.proofs.ExplainingLemmas.{gates-more, gates-pass}
 use Rattle.ld_explain.proofs.explainer.Explainer.add_gate.Goals as goal
 

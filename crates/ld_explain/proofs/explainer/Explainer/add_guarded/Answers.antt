@@ -1,5 +1,4 @@
-use Rattle.std.proofs.Common.{◌∙◌, sym}
-use Rattle.std.proofs.lemmas.Bool.{true≢false}
+use Rattle.ld_explain.proofs.Names.{◌∙◌, sym, true≢false}
 use Rattle.ld_explain.proofs.FindingLemmas.{AddsThose-off, AddsThose-on}
 use Rattle.ld_explain.proofs.explainer.Explainer.add_guarded.Goals as goal
 

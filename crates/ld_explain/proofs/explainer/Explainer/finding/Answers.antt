@@ -1,5 +1,4 @@
-use Rattle.std.proofs.Common.{inl}
-use Rattle.ld_facts.specs.FactBits.{HasFact}
+use Rattle.ld_explain.proofs.Names.{HasFact, inl}
 use Rattle.ld_explain.proofs.ChoosingLemmas.{members-all}
 use Rattle.ld_explain.proofs.explainer.Explainer.finding.Goals as goal
 

@@ -1,8 +1,5 @@
-use Rattle.std.proofs.Common.{subst, sym}
-use Rattle.ld_explain.specs.Naming.{view_of}
+use Rattle.ld_explain.proofs.Names.{Explains, subst, sym, take-item, view_of}
 use Rattle.ld_explain.specs.Findings.{Are}
-use Rattle.ld_explain.specs.Inside.Explaining.{Explains}
-use Rattle.ld_explain.specs.Laws.Lists.{take-item}
 use Rattle.ld_explain.proofs.ChoosingLemmas.{Are-more}
 use Rattle.ld_explain.proofs.explainer.Explainer.findings.Goals as goal
 

@@ -1,7 +1,5 @@
-use Rattle.std.proofs.Common.{take}
-use Rattle.ld_explain.specs.Naming.{view_of}
+use Rattle.ld_explain.proofs.Names.{Explains, take, view_of}
 use Rattle.ld_explain.specs.Findings.{Are}
-use Rattle.ld_explain.specs.Inside.Explaining.{Explains}
 use Rattle.ld_explain.proofs.explainer.Explainer.findings.Given as goal
 
 -- the findings of the choices so far

@@ -1,6 +1,4 @@
-use Rattle.std.proofs.Common.{subst, sym}
-use Rattle.ld_explain.specs.Naming.{view_of}
-use Rattle.ld_explain.specs.Findings.{AreGates}
+use Rattle.ld_explain.proofs.Names.{AreGates, subst, sym, view_of}
 use Rattle.ld_explain.proofs.ExplainingLemmas.{gates-nowhere}
 use Rattle.ld_explain.proofs.explainer.Explainer.gates.Goals as goal
 

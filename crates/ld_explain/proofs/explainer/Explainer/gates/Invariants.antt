@@ -1,6 +1,4 @@
-use Rattle.std.proofs.Common.{take}
-use Rattle.ld_explain.specs.Naming.{view_of}
-use Rattle.ld_explain.specs.Findings.{AreGates}
+use Rattle.ld_explain.proofs.Names.{AreGates, take, view_of}
 use Rattle.ld_explain.proofs.explainer.Explainer.gates.Given as goal
 
 -- those of the keys so far

@@ -1,5 +1,4 @@
-use Rattle.std.proofs.Common.{refl}
-use Rattle.ld_facts.specs.declared.fact.Fact.TheVariants.{Dependency}
+use Rattle.ld_explain.proofs.Names.{Dependency, refl}
 use Rattle.ld_explain.proofs.explainer.Explainer.guard.Goals as goal
 
 pub unreachable-requires : goal.unreachable-requires

@@ -1,7 +1,4 @@
-use Rattle.std.proofs.Common.{[], take}
-use Rattle.ld_explain.specs.Naming.{view_of}
-use Rattle.ld_explain.specs.Inside.Finding.{AddsThose}
-use Rattle.ld_explain.specs.Notes.{IsGate}
+use Rattle.ld_explain.proofs.Names.{[], AddsThose, IsGate, take, view_of}
 use Rattle.ld_explain.proofs.explainer.Explainer.guarded.Given as goal
 
 -- those of the members so far

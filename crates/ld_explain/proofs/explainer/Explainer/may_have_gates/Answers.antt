@@ -1,10 +1,4 @@
-use Rattle.std.proofs.Common.{ℕ, All, Contains, arith, subst, sym}
-use Rattle.std.proofs.lemmas.List.{take_all}
-use Rattle.std.proofs.lemmas.List.Elements.{All-push}
-use Rattle.ld_facts.specs.Arrows.{Arrow}
-use Rattle.ld_explain.specs.Naming.{view_of}
-use Rattle.ld_explain.specs.Laws.Lists.{take-item}
-use Rattle.ld_explain.specs.Notes.{IsGate}
+use Rattle.ld_explain.proofs.Names.{All, All-push, Arrow, Contains, IsGate, arith, subst, sym, take-item, take_all, view_of, ℕ}
 use Rattle.ld_explain.proofs.explainer.Explainer.may_have_gates.Goals as goal
 
 pub loop-d-preserved : goal.loop-d-preserved

@@ -1,6 +1,4 @@
-use Rattle.std.proofs.Common.{ℕ, All, take}
-use Rattle.ld_explain.specs.Naming.{view_of}
-use Rattle.ld_explain.specs.Notes.{IsGate}
+use Rattle.ld_explain.proofs.Names.{All, IsGate, take, view_of, ℕ}
 use Rattle.ld_explain.proofs.explainer.Explainer.may_have_gates.Given as goal
 
 -- no key is a gate of a member so far

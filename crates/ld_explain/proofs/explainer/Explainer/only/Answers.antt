@@ -1,10 +1,4 @@
-use Rattle.std.proofs.Common.{◌∙◌, arith, subst, sym, take}
-use Rattle.std.proofs.lemmas.Bool.{true≢false}
-use Rattle.std.proofs.lemmas.List.{take_all}
-use Rattle.std.proofs.lemmas.Option.{none-some}
-use Rattle.ld_explain.specs.Naming.{view_of}
-use Rattle.ld_explain.specs.Laws.Lists.{take-item}
-use Rattle.ld_explain.specs.Notes.{IsAloneIn}
+use Rattle.ld_explain.proofs.Names.{◌∙◌, IsAloneIn, arith, none-some, subst, sym, take, take-item, take_all, true≢false, view_of}
 use Rattle.ld_explain.proofs.ExplainingLemmas.{alone-member, alone-more}
 use Rattle.ld_explain.proofs.explainer.Explainer.only.Goals as goal
 

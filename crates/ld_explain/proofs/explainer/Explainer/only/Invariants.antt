@@ -1,6 +1,4 @@
-use Rattle.std.proofs.Common.{◌≡◌, ℕ, Some, take}
-use Rattle.ld_explain.specs.Naming.{view_of}
-use Rattle.ld_explain.specs.Notes.{IsAloneIn}
+use Rattle.ld_explain.proofs.Names.{◌≡◌, IsAloneIn, Some, take, view_of, ℕ}
 use Rattle.ld_explain.proofs.explainer.Explainer.only.Given as goal
 
 -- the trace has the members so far alone

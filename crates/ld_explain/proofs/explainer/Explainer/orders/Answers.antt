@@ -1,7 +1,4 @@
-use Rattle.std.proofs.Common.{subst, sym}
-use Rattle.ld_explain.specs.Naming.{view_of}
-use Rattle.ld_explain.specs.Findings.{AreOrders}
-use Rattle.ld_explain.specs.Laws.Lists.{take-item}
+use Rattle.ld_explain.proofs.Names.{AreOrders, subst, sym, take-item, view_of}
 use Rattle.ld_explain.proofs.ExplainingLemmas.{orders-more}
 use Rattle.ld_explain.proofs.explainer.Explainer.orders.Goals as goal
 

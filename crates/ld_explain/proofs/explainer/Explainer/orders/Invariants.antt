@@ -1,6 +1,4 @@
-use Rattle.std.proofs.Common.{take}
-use Rattle.ld_explain.specs.Naming.{view_of}
-use Rattle.ld_explain.specs.Findings.{AreOrders}
+use Rattle.ld_explain.proofs.Names.{AreOrders, take, view_of}
 use Rattle.ld_explain.proofs.explainer.Explainer.orders.Given as goal
 
 -- the members so far

@@ -1,11 +1,5 @@
-use Rattle.std.proofs.Common.{arith, rules, ◌≡◌, ◌+◌, ◌<◌, ◌∷◌, ◌++◌, ◌∙◌, [], ap, length, map, refl, subst, sym, take, vec_len}
-use Rattle.std.proofs.lemmas.List.{append_assoc, length-append, length-map, length_push, map-append}
-use Rattle.std.specs.Vec.Iter.{into_iter_items}
+use Rattle.ld_explain.proofs.Names.{[], ◌++◌, ◌+◌, ◌<◌, ◌∙◌, ◌∷◌, ◌≡◌, SaysSeen, Verdict, ap, append_assoc, arith, into_iter_items, length, length-append, length-map, length_push, map, map-append, refl, rules, subst, sym, take, take-item, vec_len, view_of}
 use Rattle.ld_explain.specs.Findings.{Are}
-use Rattle.ld_explain.specs.Inside.Seeing.{SaysSeen}
-use Rattle.ld_explain.specs.Laws.Lists.{take-item}
-use Rattle.ld_explain.specs.Naming.{view_of}
-use Rattle.ld_explain.specs.declared.verdict.Verdict.{Verdict}
 use Rattle.ld_explain.proofs.ChoosingLemmas.{Are-more}
 use Rattle.ld_explain.proofs.explainer.Explainer.verdicts.Goals as goal
 

@@ -1,9 +1,5 @@
-use Rattle.std.proofs.Common.{◌≡◌, ◌++◌, length, map, take}
-use Rattle.std.specs.Vec.Iter.{into_iter_items}
+use Rattle.ld_explain.proofs.Names.{◌++◌, ◌≡◌, SaysSeen, Verdict, into_iter_items, length, map, take, view_of}
 use Rattle.ld_explain.specs.Findings.{Are}
-use Rattle.ld_explain.specs.Inside.Seeing.{SaysSeen}
-use Rattle.ld_explain.specs.Naming.{view_of}
-use Rattle.ld_explain.specs.declared.verdict.Verdict.{Verdict}
 use Rattle.ld_explain.proofs.explainer.Explainer.verdicts.Given as goal
 
 -- the verdicts are those of the findings so far

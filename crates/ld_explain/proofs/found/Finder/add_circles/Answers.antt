@@ -1,7 +1,4 @@
-use Rattle.std.proofs.Common.{map}
-use Rattle.std.specs.List.{flat_map}
-use Rattle.ld_facts.specs.Arrows.{arrow}
-use Rattle.ld_explain.specs.Found.{kinds}
+use Rattle.ld_explain.proofs.Names.{arrow, flat_map, kinds, map}
 use Rattle.ld_explain.proofs.FindingLemmas.{AddsThose-next_item}
 use Rattle.ld_explain.proofs.found.Finder.add_circles.Goals as goal
 

@@ -1,6 +1,4 @@
-use Rattle.std.proofs.Common.{map}
-use Rattle.ld_facts.specs.Arrows.{arrow}
-use Rattle.ld_explain.specs.Found.{kinds}
+use Rattle.ld_explain.proofs.Names.{arrow, kinds, map}
 use Rattle.ld_explain.proofs.FindingLemmas.{AddsThose-next_item}
 use Rattle.ld_explain.proofs.found.Finder.add_circles_from.Goals as goal
 

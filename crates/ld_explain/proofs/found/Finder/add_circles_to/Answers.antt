@@ -1,9 +1,6 @@
-use Rattle.ld_facts.specs.Arrows.{arrow}
-use Rattle.ld_explain.specs.Found.{kinds}
-use Rattle.ld_facts.specs.FactBits.{HasFact}
+use Rattle.ld_explain.proofs.Names.{HasFact, OnCircle-member, arrow, kinds}
 use Rattle.ld_explain.proofs.FindingLemmas.{AddsThose-map_never, AddsThose-map_next}
 use Rattle.ld_explain.proofs.found.Finder.add_circles_to.Goals as goal
-use Rattle.ld_graph.specs.Laws.Facts.{OnCircle-member}
 
 pub returns-then-not-has_dependency : goal.returns-then-not-has_dependency
 returns-then-not-has_dependency c =

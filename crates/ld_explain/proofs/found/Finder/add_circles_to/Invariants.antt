@@ -1,8 +1,4 @@
-use Rattle.std.proofs.Common.{map, take}
-use Rattle.ld_facts.specs.FactBits.{HasFact}
-use Rattle.ld_graph.specs.Walks.{OnCircle}
-use Rattle.ld_facts.specs.Arrows.{arrow}
-use Rattle.ld_explain.specs.Inside.Finding.{AddsThose}
+use Rattle.ld_explain.proofs.Names.{AddsThose, HasFact, OnCircle, arrow, map, take}
 use Rattle.ld_explain.proofs.found.Finder.add_circles_to.Given as goal
 
 -- those of the things so far

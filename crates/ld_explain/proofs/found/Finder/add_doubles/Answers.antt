@@ -1,4 +1,4 @@
-use Rattle.std.proofs.Common.{map}
+use Rattle.ld_explain.proofs.Names.{map}
 use Rattle.ld_explain.proofs.FindingLemmas.{AddsThose-next}
 use Rattle.ld_explain.proofs.found.Finder.add_doubles.Goals as goal
 

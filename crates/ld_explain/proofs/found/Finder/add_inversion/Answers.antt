@@ -1,4 +1,4 @@
-use Rattle.std.proofs.Common.{refl}
+use Rattle.ld_explain.proofs.Names.{refl}
 use Rattle.ld_explain.proofs.FindingLemmas.{AddsThose-off, AddsThose-on}
 use Rattle.ld_explain.proofs.found.Finder.add_inversion.Goals as goal
 

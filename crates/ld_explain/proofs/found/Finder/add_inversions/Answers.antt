@@ -1,9 +1,4 @@
-use Rattle.std.proofs.Common.{◌≡◌, arith, map, subst, take}
-use Rattle.std.specs.List.{flat_map}
-use Rattle.ld_facts.specs.FactBits.{HasFact}
-use Rattle.ld_graph.specs.Links.{IsInversion}
-use Rattle.ld_explain.specs.Inside.Finding.{AddsThose}
-use Rattle.ld_explain.specs.Found.{states}
+use Rattle.ld_explain.proofs.Names.{◌≡◌, AddsThose, HasFact, IsInversion, arith, flat_map, map, states, subst, take}
 use Rattle.ld_explain.proofs.FindingLemmas.{AddsThose-next}
 use Rattle.ld_explain.proofs.found.Finder.add_inversions.Goals as goal
 

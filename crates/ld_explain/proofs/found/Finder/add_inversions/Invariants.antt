@@ -1,8 +1,4 @@
-use Rattle.std.proofs.Common.{map, take}
-use Rattle.std.specs.List.{flat_map}
-use Rattle.ld_facts.specs.FactBits.{HasFact}
-use Rattle.ld_graph.specs.Links.{IsInversion}
-use Rattle.ld_explain.specs.Inside.Finding.{AddsThose}
+use Rattle.ld_explain.proofs.Names.{AddsThose, HasFact, IsInversion, flat_map, map, take}
 use Rattle.ld_explain.proofs.found.Finder.add_inversions.Given as goal
 
 -- those of the things so far

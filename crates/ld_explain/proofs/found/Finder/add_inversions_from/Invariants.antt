@@ -1,7 +1,4 @@
-use Rattle.std.proofs.Common.{map, take}
-use Rattle.ld_facts.specs.FactBits.{HasFact}
-use Rattle.ld_graph.specs.Links.{IsInversion}
-use Rattle.ld_explain.specs.Inside.Finding.{AddsThose}
+use Rattle.ld_explain.proofs.Names.{AddsThose, HasFact, IsInversion, map, take}
 use Rattle.ld_explain.proofs.found.Finder.add_inversions_from.Given as goal
 
 -- those of the things so far

@@ -1,6 +1,4 @@
-use Rattle.std.proofs.Common.{subst, sym}
-use Rattle.ld_facts.specs.FactBits.{HasFact}
-use Rattle.ld_explain.specs.Found.{AreFound}
+use Rattle.ld_explain.proofs.Names.{AreFound, HasFact, subst, sym}
 use Rattle.ld_explain.proofs.FindingLemmas.{AreFound-nothing}
 use Rattle.ld_explain.proofs.found.Found.of.Goals as goal
 

@@ -1,4 +1,4 @@
-use Rattle.std.proofs.Common.{◌↔◌, Contains, subst, sym}
+use Rattle.ld_explain.proofs.Names.{◌↔◌, Contains, subst, sym}
 use Rattle.ld_explain.proofs.Lists.{filter-common}
 use Rattle.ld_explain.proofs.guard.Guard.narrowed.Goals as goal
 

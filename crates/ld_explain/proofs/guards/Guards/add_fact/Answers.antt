@@ -1,11 +1,4 @@
-use Rattle.std.proofs.Common.{◌≡◌, ℕ, ◌+◌, ◌∙◌, Contains, List, Some, ap, refl, slice_get, unwrap_or, ◌↔◌}
-use Rattle.ld_trace.specs.declared.event.Event.{Event}
-use Rattle.ld_task.specs.TraceChains.{chain}
-use Rattle.ld_facts.specs.ChainFacts.{slot_held}
-use Rattle.ld_facts.specs.FactBits.{FactParts, HasFact}
-use Rattle.ld_explain.specs.Naming.{key_by, view_of}
-use Rattle.ld_explain.specs.Inside.Firsts.{SeenFrom, slot_origin}
-use Rattle.ld_explain.specs.Inside.Guarding.{Among, AreGuards, AsksOrder, GuardsAt, PutsGuard}
+use Rattle.ld_explain.proofs.Names.{◌+◌, ◌↔◌, ◌∙◌, ◌≡◌, Among, AreGuards, AsksOrder, Contains, Event, FactParts, GuardsAt, HasFact, List, PutsGuard, SeenFrom, Some, ap, chain, key_by, refl, slice_get, slot_held, slot_origin, unwrap_or, view_of, ℕ}
 use Rattle.ld_explain.proofs.Gates.{gates-guard}
 use Rattle.ld_explain.proofs.Passing.{guards_mark, guards_take}
 use Rattle.ld_explain.proofs.Slots.{after_ok}

@@ -1,7 +1,4 @@
-use Rattle.std.proofs.Common.{◌∙◌, ap, eqb, subst}
-use Rattle.std.specs.Prelude.{IfSome}
-use Rattle.std.specs.Map.{lookup}
-use Rattle.ld_explain.specs.Notes.{GuardParts, HasGuard}
+use Rattle.ld_explain.proofs.Names.{◌∙◌, GuardParts, HasGuard, IfSome, ap, eqb, lookup, subst}
 use Rattle.ld_explain.proofs.Kept.{found_guard}
 use Rattle.ld_explain.proofs.guards.Guards.guard_of.Goals as goal
 

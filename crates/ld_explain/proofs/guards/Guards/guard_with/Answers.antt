@@ -1,4 +1,4 @@
-use Rattle.std.proofs.Common.{inl, inr, refl}
+use Rattle.ld_explain.proofs.Names.{inl, inr, refl}
 use Rattle.ld_explain.proofs.guards.Guards.guard_with.Goals as goal
 
 pub returns-in-Some : goal.returns-in-Some

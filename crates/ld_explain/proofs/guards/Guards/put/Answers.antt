@@ -1,8 +1,4 @@
-use Rattle.std.proofs.Common.{◌∙◌, ap, cond, eqb, subst, sym, Some}
-use Rattle.std.specs.Map.{lookup}
-use Rattle.ld_facts.specs.FactBits.{FactBelow}
-use Rattle.ld_explain.specs.Notes.{GuardParts}
-use Rattle.ld_explain.specs.Inside.Guarding.{IsGuardWith, PutsGuard}
+use Rattle.ld_explain.proofs.Names.{◌∙◌, FactBelow, GuardParts, IsGuardWith, PutsGuard, Some, ap, cond, eqb, lookup, subst, sym}
 use Rattle.ld_explain.proofs.Kept.{puts-guard}
 use Rattle.ld_explain.proofs.guards.Guards.put.Goals as goal
 use Rattle.ld_explain.proofs.guards.Guards.put.Goals.{in-Err, in-Ok}

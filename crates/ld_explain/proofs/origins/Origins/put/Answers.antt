@@ -1,8 +1,4 @@
-use Rattle.std.proofs.Common.{◌∙◌, Some, ap, cond, eqb, is_some, subst, sym}
-use Rattle.std.specs.Map.{lookup}
-use Rattle.ld_facts.specs.FactBits.{FactBelow}
-use Rattle.ld_explain.specs.Origins.{OriginParts}
-use Rattle.ld_explain.specs.Inside.Firsts.{PutsOrigin}
+use Rattle.ld_explain.proofs.Names.{◌∙◌, FactBelow, OriginParts, PutsOrigin, Some, ap, cond, eqb, is_some, lookup, subst, sym}
 use Rattle.ld_explain.proofs.Puts.{none_there, puts-known, puts-new}
 use Rattle.ld_explain.proofs.origins.Origins.put.Goals as goal
 use Rattle.ld_explain.proofs.origins.Origins.put.Goals.{in-Err, in-Ok}

@@ -1,7 +1,4 @@
-use Rattle.std.proofs.Common.{subst, sym}
-use Rattle.ld_facts.specs.FactBits.{FactBelow}
-use Rattle.ld_explain.specs.Inside.Seeing.{IsPlan}
-use Rattle.ld_explain.specs.Laws.Lists.{take-item}
+use Rattle.ld_explain.proofs.Names.{FactBelow, IsPlan, subst, sym, take-item}
 use Rattle.ld_explain.proofs.Seeing.{plan-more, plan-none, seen-are}
 use Rattle.ld_explain.proofs.plan.Plan.of.Goals as goal
 

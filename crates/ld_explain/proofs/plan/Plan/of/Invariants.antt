@@ -1,5 +1,4 @@
-use Rattle.std.proofs.Common.{take}
-use Rattle.ld_explain.specs.Inside.Seeing.{IsPlan}
+use Rattle.ld_explain.proofs.Names.{IsPlan, take}
 use Rattle.ld_explain.proofs.plan.Plan.of.Given as goal
 
 -- what was seen of the findings so far

@@ -1,7 +1,4 @@
-use Rattle.std.proofs.Common.{refl, slice_index, subst, sym}
-use Rattle.std.specs.Prelude.{IfSome, IsTrue, is_some}
-use Rattle.ld_explain.specs.Inside.Seeing.{AreCircles}
-use Rattle.ld_explain.specs.declared.naming.Naming.TheVariants.{Renamed}
+use Rattle.ld_explain.proofs.Names.{AreCircles, IfSome, IsTrue, Renamed, is_some, refl, slice_index, subst, sym}
 use Rattle.ld_explain.proofs.Seeing.{case-seen, seen-by}
 use Rattle.ld_explain.proofs.questions.Questions.seen_above.Goals as goal
 

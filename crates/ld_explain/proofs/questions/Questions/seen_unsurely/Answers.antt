@@ -1,7 +1,4 @@
-use Rattle.std.proofs.Common.{refl, slice_index, subst, sym}
-use Rattle.std.specs.Prelude.{IfSome, IsNone, IsTrue, is_some}
-use Rattle.ld_facts.specs.FactBits.{HasFact}
-use Rattle.ld_explain.specs.Inside.Seeing.{AreCircles, IsNestedChoice}
+use Rattle.ld_explain.proofs.Names.{AreCircles, HasFact, IfSome, IsNestedChoice, IsNone, IsTrue, is_some, refl, slice_index, subst, sym}
 use Rattle.ld_explain.proofs.Seeing.{nested-by, seen-by}
 use Rattle.ld_explain.proofs.questions.Questions.seen_unsurely.Goals as goal
 
