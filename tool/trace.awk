@@ -108,9 +108,12 @@ function enter(irq) {
     soft_off[frame] = first
 }
 
+# The line that turned a state off, or 0: one that is off already stays off since the first of such lines.
+function since(off, line) { return line && off ? off : line }
+
 function turn(irq, line) {
-    if (irq == "hardirq") hard_off[frame] = line
-    else soft_off[frame] = line
+    if (irq == "hardirq") hard_off[frame] = since(hard_off[frame], line)
+    else soft_off[frame] = since(soft_off[frame], line)
 }
 
 function step() {
@@ -277,6 +280,7 @@ BEGIN {
     FS = "\001"
     for (i = 1; i < 256; i++) number_of[sprintf("%c", i)] = i
     needs_events = substr(code, 1, 1) == "S"
+    frame = 0
 }
 
 NR == 1 && substr($0, 1, 3) == "\357\273\277" { $0 = substr($0, 4) }
