@@ -260,6 +260,12 @@ class Level:
         for dependency in self.dependencies:
             self.from_key.setdefault(dependency.start, []).append(dependency)
         self.circles: Dict[Dependency, Optional[Walk]] = {}
+        self.settled: Optional[bool] = None
+
+    def is_settled(self) -> bool:
+        if self.settled is None:
+            self.settled = not is_tangled(self)
+        return self.settled
 
     def keys_marked(self, state: str, use: str) -> List[Key]:
         return sorted({mark.key for mark in self.marks if (mark.state, mark.use) == (state, use)})
@@ -323,8 +329,9 @@ def is_tangled(level: Level) -> bool:
     for dependency in level.dependencies:
         arrows.setdefault(dependency.start, set()).add(dependency.end)
     for state in STATES:
+        used = level.keys_marked(state, "used")
         for enabled in level.keys_marked(state, "enabled"):
-            arrows.setdefault(enabled, set()).update(level.keys_marked(state, "used"))
+            arrows.setdefault(enabled, set()).update(used)
     if len(arrows) <= MOST_TOGETHER:
         return False
     reached = {key: reached_from(key, arrows) for key in arrows}
@@ -440,11 +447,16 @@ def verdict_of(levels: Levels, finding: Finding) -> str:
     """The levels are asked in turn. One that isn't settled can't be asked, and so ends it."""
     for verdict in ("locks", "perhaps", "classes"):
         level = getattr(levels, verdict)
-        if is_tangled(level):
+        if not level.is_settled():
             return "unknown"
         if witnesses(level, finding):
             return verdict
     return "nested" if is_one_nested(finding) else "types"
+
+
+def rank(verdict: str) -> int:
+    """The place of a verdict among findings. Those with one verdict are in the order of `explain`."""
+    return VERDICTS.index(verdict)
 
 
 def status_of(verdicts: Sequence[str]) -> int:
@@ -586,7 +598,7 @@ def answer(levels: Levels, files: Sequence[str], rng: Optional[random.Random] = 
     for finding in findings_of(levels.types, rng):
         between = between_of(levels, files, finding, rng)
         said.append(dict(object_of(levels.types, files, finding), between=between))
-    said.sort(key=lambda one: VERDICTS.index(one["between"]["kind"]))
+    said.sort(key=lambda one: rank(one["between"]["kind"]))
     verdicts = [one["between"]["kind"] for one in said]
     return Answer(text_of(head_of(verdicts), said), status_of(verdicts), status_confirmed(verdicts))
 
@@ -790,7 +802,7 @@ def judge(levels: Levels, files: Sequence[str], output: Answer) -> List[str]:
         return faults
     in_turn = sorted(told, key=lambda one: in_explain(one.finding))
     faults = faults_of_list(levels.types, [one.finding for one in in_turn])
-    if told != sorted(in_turn, key=lambda one: VERDICTS.index(one.verdict)):
+    if told != sorted(in_turn, key=lambda one: rank(one.verdict)):
         faults.append("the order of findings")
     verdicts = [one.verdict for one in told]
     faults += ["the first line: " + fault for fault in compare(head_of(verdicts), head)]
@@ -826,7 +838,7 @@ def main(words: Sequence[str]) -> int:
     """Answers `explain --json FILE...` and `explain --locks --json FILE...`, with or without `--confirmed-only` and `--workers=N`."""
     files = [word for word in words[1:] if not word.startswith("--")]
     levels = levels_of([read_records(file) for file in files])
-    if "--locks" in words and is_tangled(levels.types):
+    if "--locks" in words and not levels.types.is_settled():
         print("lockdep: M1 TooTangled", file=sys.stderr)
         return 2
     said = answer(levels, files) if "--locks" in words else answer_plain(levels.perhaps, files)
