@@ -63,6 +63,7 @@ class Case(NamedTuple):
 AB, BA = "a#1 b#1 -b#1 -a#1", "b#1 a#1 -a#1 -b#1"
 CIRCLE, SEEN = "circle a/0 EN b/0 EN a/0", "  seen circle a#1/0 EN b#1/0 EN a#1/0"
 XY, SEEN_XY = "circle x/0 EN y/0 EN x/0", "  seen circle x#1/0 EN y#1/0 EN x#1/0"
+MOST_NAMES = {"one": [record for n in range(8190) for record in task("t%d@p#1 -t%d@p#1" % (n, n))] + task("x#1 y#1 -x#1 x#1")}
 TANGLED = {"one": ring(["a%d#1" % n for n in range(LIMIT + 1)])}
 
 CIRCLES = (

@@ -20,6 +20,7 @@ STATES = ("hardirq", "softirq")
 KINDS = ("ER", "EN", "SR", "SN")
 VERDICTS = ("locks", "perhaps", "unknown", "classes", "types", "nested")
 MOST_TOGETHER = 256
+MOST_KEYS = 8192
 
 Record = List[str]
 Object = Dict[str, Any]
@@ -179,7 +180,8 @@ def release(frame: Frame, key: Key) -> None:
 # ---- Where facts occur.
 
 class Occurrence(NamedTuple):
-    """A moment of a trace that gives a fact, the held lock that it is given through, and who holds what round that lock, as writers."""
+    """A moment of a trace that gives a fact, the held lock through which it does, if it is one, and the keys that writers hold round
+    that lock."""
     trace: int
     moment: Moment
     held: Optional[Lock]
@@ -834,12 +836,26 @@ def judge_plain(level: Level, files: Sequence[str], text: str, status: int) -> L
 
 # ---- The model in the place of the program, to try the tests themselves.
 
+def refusal_of(files: Sequence[str], traces: Sequence[Sequence[Record]]) -> str:
+    """The record at which there are too many keys, if there is one."""
+    keys: Set[Tuple[str, ...]] = set()
+    for file, records in zip(files, traces):
+        for number, record in enumerate(records, 1):
+            if record[0] in ("acq", "rel"):
+                keys.add(tuple(record[1:3]))
+            if len(keys) > MOST_KEYS:
+                return "%s: record %d: T6 TooManyKeys" % (file, number)
+    return ""
+
+
 def main(words: Sequence[str]) -> int:
     """Answers `explain --json FILE...` and `explain --locks --json FILE...`, with or without `--confirmed-only` and `--workers=N`."""
     files = [word for word in words[1:] if not word.startswith("--")]
-    levels = levels_of([read_records(file) for file in files])
-    if "--locks" in words and not levels.types.is_settled():
-        print("lockdep: M1 TooTangled", file=sys.stderr)
+    traces = [read_records(file) for file in files]
+    levels = levels_of(traces)
+    refusal = refusal_of(files, traces) or ("" if levels.types.is_settled() else "M1 TooTangled")
+    if refusal:
+        print("lockdep: " + refusal, file=sys.stderr)
         return 2
     said = answer(levels, files) if "--locks" in words else answer_plain(levels.perhaps, files)
     sys.stdout.write(said.text)
