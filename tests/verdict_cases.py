@@ -93,6 +93,11 @@ CIRCLES = (
          {"one": task("a#1 b#rest -b#rest b#1"), "two": task("b#rest a#1"), "three": task("b#1 c#1 -b#1 a#1")},
          ["locks: " + CIRCLE, "  seen circle a#1/0 EN b#1/0 EN c#1/0 EN a#1/0",
           "locks: circle b/0 EN c/0 EN a/0 EN b/0", "  seen circle a#1/0 EN b#1/0 EN c#1/0 EN a#1/0"], 1, 1),
+    Case("a sure one that leads round several locks, through which there is a shorter one",
+         {"one": task("a#1 b#1"), "two": task("b#1 x#rest"), "three": task("x#rest a#1"), "four": task("b#1 c#1"),
+          "five": task("c#1 d#1"), "six": task("d#1 a#1")},
+         [line for types in ("a/0 EN b/0 EN x/0 EN a/0", "b/0 EN c/0 EN d/0 EN a/0 EN b/0")
+          for line in ("locks: circle " + types, "  seen circle a#1/0 EN b#1/0 EN c#1/0 EN d#1/0 EN a#1/0")], 1, 1),
     Case("the second member of the walk is seen, and the first isn't",
          {"one": task("a#2 b#2"), "two": task(BA), "three": task("a#1 c#1 -a#1 b#1")},
          ["locks: " + CIRCLE, "  seen circle a#1/0 EN c#1/0 EN b#1/0 EN a#1/0",

@@ -295,7 +295,8 @@ class Level:
 def shortest_walk(level: Level, firsts: Sequence[Dependency], is_end: Callable[[Dependency], bool],
                   rng: Optional[random.Random] = None) -> Optional[Walk]:
     """A shortest strong walk that begins with one of some dependencies and ends with one that is an end, if there is one. What may
-    follow a walk depends on its last dependency alone, so no dependency has to be gone through twice. With an `rng` it is any of them."""
+    follow a walk depends on its last dependency alone, so no dependency has to be gone through twice. With an `rng` one of several is
+    drawn."""
     walks = [(first,) for first in firsts]
     seen = set(firsts)
     while walks:
@@ -368,14 +369,14 @@ def circle_of(walk: Walk) -> Finding:
     return Finding("circle", "", tuple(dependency.start for dependency in walk), walk, "")
 
 
-def doubles_of(level: Level) -> List[Finding]:
-    """The doubles in the report's order, each with the first link that makes it one."""
+def doubles_of(level: Level, rng: Optional[random.Random] = None) -> List[Finding]:
+    """The doubles in the report's order, each with a link that makes it one."""
     found = []
     for state in STATES:
         for key in level.keys_marked(state, "used"):
             links = [link for link in level.links(state, key, key) if is_double_by(link)]
             if links:
-                found.append(Finding("double", state, (key,), (), links[0]))
+                found.append(Finding("double", state, (key,), (), rng.choice(links) if rng else links[0]))
     return found
 
 
@@ -387,6 +388,8 @@ def inversions_of(level: Level, rng: Optional[random.Random] = None) -> List[Fin
             for enabled in level.keys_marked(state, "enabled"):
                 walks = [(walk, link) for link in level.links(state, enabled, used)
                          for walk in [inversion_walk(level, used, enabled, link, rng)] if walk]
+                if rng:
+                    rng.shuffle(walks)
                 if walks:
                     walk, link = min(walks, key=lambda found: len(found[0]))
                     found.append(Finding("inversion", state, (used, enabled), walk, link))
@@ -406,7 +409,7 @@ def circles_of(level: Level, rng: Optional[random.Random] = None) -> List[Findin
 
 def findings_of(level: Level, rng: Optional[random.Random] = None) -> List[Finding]:
     """What `explain` tells, in its order."""
-    return circles_of(level, rng) + doubles_of(level) + inversions_of(level, rng)
+    return circles_of(level, rng) + doubles_of(level, rng) + inversions_of(level, rng)
 
 
 # ---- Verdicts.
@@ -429,13 +432,13 @@ def levels_of(traces: Sequence[Sequence[Record]]) -> Levels:
         types=Level(facts, type_of, lambda name: name))
 
 
-def witnesses(level: Level, finding: Finding) -> List[Finding]:
+def witnesses(level: Level, finding: Finding, rng: Optional[random.Random] = None) -> List[Finding]:
     """What of a level makes a finding between types: the circles from dependencies that are members of its walk by their types, or
     the doubles or inversions that are it by their types."""
     if finding.type == "circle":
         return [circle_of(walk) for walk in map(level.circle_from, level.dependencies)
                 if walk and renamed(walk[0], level.to_type) in finding.walk]
-    found = doubles_of(level) if finding.type == "double" else inversions_of(level)
+    found = doubles_of(level, rng) if finding.type == "double" else inversions_of(level, rng)
     return [other for other in found
             if other.state == finding.state and tuple(renamed_key(key, level.to_type) for key in other.keys) == finding.keys]
 
@@ -589,7 +592,7 @@ def between_of(levels: Levels, files: Sequence[str], finding: Finding, rng: Opti
     if verdict not in ("locks", "perhaps"):
         return {"kind": verdict}
     level = getattr(levels, verdict)
-    choices = witnesses(level, finding)
+    choices = witnesses(level, finding, rng)
     nested = rng.choice(choices) if rng else choices[0]
     return {"kind": verdict, "finding": object_of(level, files, nested)}
 
