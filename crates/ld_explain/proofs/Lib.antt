@@ -16,5 +16,6 @@ pub mod FindingLemmas
 pub mod Starts
 pub mod ChoosingLemmas
 pub mod ExplainingLemmas
+pub mod SettlingLemmas
 pub mod VerdictLemmas
 pub mod NothingLost

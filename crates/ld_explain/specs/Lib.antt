@@ -5,4 +5,5 @@ pub mod Naming
 pub mod Laws
 pub mod Notes
 pub mod Origins
+pub mod Settling
 pub mod Verdicts

@@ -1,5 +1,6 @@
 -- Between what the findings between types were seen: single locks, classes, or types alone [this project's own].
-use Rattle.std.specs.Prelude.{◌≡◌, ◌⊎◌, ℕ, Bool, List, All, Contains, IsFalse, IsSomeAnd, IsTrue, Option, is_some, map, slice_index, flat_map, filter, nat_eq, [], ◌∷◌}
+use Rattle.std.specs.Prelude.{◌≡◌, ◌⊎◌, ◌==◌, ◌||◌, ℕ, Bool, false, List, All, Contains, IsFalse, IsSomeAnd, IsTrue, Option, count_by, if◌then◌else◌, is_some, map, not, slice_index}
+use Rattle.std.specs.List.{list_all, list_any}
 use Rattle.std.specs.Borrow.{Bor}
 use Rattle.ld_facts.specs.Arrows.{Arrow}
 use Rattle.ld_facts.specs.FactBits.{FactParts, HasFact}
@@ -103,17 +104,33 @@ pub record AreVerdicts (Types : Fact → Type 0) (types : View) (type_keys : Lis
   pub between : All (λ v. IsBetween levels view locks v.finding v.between) verdicts
 
 -- ---- their order
--- what was seen between single locks comes first
-abbrev pub rank : Between → ℕ
-rank (between.Locks nested) = 0
-rank (between.Perhaps nested) = 1
-rank between.Unknown = 2
-rank between.Classes = 3
-rank between.Types = 4
+-- each member of the walk leads from a key to itself: one type is nested in itself, and nothing else
+abbrev pub is_nesting : Finding → Bool
+is_nesting (Circle orders gates only) = list_all (λ o. o.dependency.start == o.dependency.end) orders.items
+is_nesting _ = false
 
--- the verdicts by rank, and those of one rank as they come
-abbrev pub by_rank : List Verdict → List Verdict
-by_rank verdicts = flat_map (λ r. filter (λ v. nat_eq (rank v.between) r) verdicts) (0 ∷ 1 ∷ 2 ∷ 3 ∷ 4 ∷ [])
+-- what was seen between single locks comes first, and one type that is nested in itself, by locks of several classes, last
+abbrev pub rank_by : (is_nesting : Bool) → Between → ℕ
+rank_by is_nesting (between.Locks nested) = 0
+rank_by is_nesting (between.Perhaps nested) = 1
+rank_by is_nesting between.Unknown = 2
+rank_by is_nesting between.Classes = 3
+rank_by is_nesting between.Types = if is_nesting then 5 else 4
+
+abbrev pub rank : Verdict → ℕ
+rank v = rank_by (is_nesting v.finding) v.between
+
+-- how many of the verdicts have this rank
+abbrev pub count_ranked : List Verdict → (r : ℕ) → ℕ
+count_ranked verdicts r = count_by (λ v. rank v == r) verdicts
+
+-- whether the verdict counts as a finding: all do but the last, or only what was seen between single locks or isn't known
+abbrev pub counts : (confirmed_only : Bool) → Verdict → Bool
+counts confirmed_only v = if confirmed_only then (rank v == 0 || rank v == 2) else not (rank v == 5)
+
+-- whether one of the verdicts does
+abbrev pub has_finding : (confirmed_only : Bool) → List Verdict → Bool
+has_finding confirmed_only verdicts = list_any (counts confirmed_only) verdicts
 
 -- ---- nothing is lost
 -- the finding is a circle with this member

@@ -1,7 +1,9 @@
 //! What was found, as values: everything that any text says of a finding.
 
-ghost use Rattle.std.specs.Prelude.{◌≡◌, ◌↔◌, IsTrue};
+ghost use Rattle.std.specs.Prelude.{◌≡◌, ◌==◌, ◌↔◌, IsTrue};
+ghost use Rattle.std.specs.List.{list_all};
 ghost use Rattle.ld_facts.specs.Arrows.{arrow};
+ghost use Rattle.ld_explain.specs.Verdicts.{is_nesting};
 
 use crate::found::Dependency;
 use crate::origins::Origin;
@@ -25,6 +27,13 @@ impl Order {
         self.dependency.from.get() == from
             && self.dependency.to.get() == to
             && self.dependency.kind == kind
+    }
+
+    // Whether it leads from a key to itself.
+    fn is_nesting(&self) -> bool
+        ensures { result ≡ (self.now.dependency.start == self.now.dependency.end) }
+    {
+        self.dependency.from.get() == self.dependency.to.get()
     }
 }
 
@@ -77,4 +86,23 @@ pub enum Finding {
         /// The locks that are always held round several members, in the order of the keys.
         gates: Vec<GateNote>,
     },
+}
+
+impl Finding {
+    /// Whether it is a circle of which each member leads from a key to itself.
+    pub fn is_nesting(&self) -> bool
+        ensures { result ≡ is_nesting self.now }
+    {
+        match self {
+            Finding::Circle { walk, .. } => are_nestings(walk),
+            _ => false,
+        }
+    }
+}
+
+// Whether each of the dependencies leads from a key to itself.
+fn are_nestings(walk: &[Order]) -> bool
+    ensures { result ≡ list_all (λ o. o.dependency.start == o.dependency.end) walk.now }
+{
+    walk.iter().all(|order| order.is_nesting())
 }

@@ -18,6 +18,7 @@ mod naming;
 mod origins;
 mod plan;
 mod questions;
+mod settling;
 mod verdict;
 mod verdicts;
 
@@ -32,5 +33,6 @@ pub use laws::{circles_of_locks_are_seen, own_names_change_nothing};
 pub use levels::Levels;
 pub use naming::Naming;
 pub use origins::{Origin, Origins};
-pub use verdict::{Between, Verdict};
+pub use settling::SettledLevels;
+pub use verdict::{Between, Verdict, count_ranked, has_finding};
 pub use verdicts::verdicts_of;

@@ -1,5 +1,6 @@
 -- A book settles exactly with tallies of the same facts.
-use Rattle.ld_run.proofs.Names.{◌↔◌, ◌∙◌, ◌≡◌, ◌≤◌, AreSame, CompletesRun, EndsRun, Err, Event, FactParts, HasFact, IfErr, IfOk, IsCrew, IsFirstRefused, List, MAX_TRACES, Ok, Result, StepAt, StopsRun, length, subst, sym, ℕ}
+use Rattle.ld_run.proofs.Names.{◌↔◌, ◌∙◌, ◌≡◌, ◌≤◌, AreSame, CompletesRun, EndsRun, Err, Event, FactParts, HasFact, IfErr, IfOk, IsCrew, IsFirstRefused, List, MAX_TRACES, Ok, Result, StepAt, StopsRun, length, subst, sym, ℕ, IsErr}
+use Rattle.std.specs.Prelude.{IsErrAnd}
 use Rattle.ld_book.specs.Books.{BookParts, JournalHas}
 use Rattle.ld_run.specs.Settling.{Settles}
 use Rattle.ld_run.specs.declared.fault.RunFault.{RunFault}
@@ -39,3 +40,9 @@ ends_ok traces keys workers (Err fault) ends = tt
 pub ends_err : (traces : List (List Event)) (keys workers : ℕ) (r : Result FactParts RunFault) → EndsRun traces keys workers r → IfErr r (StopsRun traces keys workers)
 ends_err traces keys workers (Ok facts) ends = tt
 ends_err traces keys workers (Err fault) ends = ends
+
+-- a fault that is passed on ends the run in the same way
+pub passed_err : {T : Type 0} (passed : Result T RunFault) (fault : RunFault) (P : RunFault → Type 0) →
+    IsErr passed × IsErrAnd passed (λ e. e ≡ fault) → P fault → IfErr passed P
+passed_err (Ok x) fault P is stops = tt
+passed_err (Err e) fault P is stops = subst P (sym is.1) stops

@@ -21,4 +21,5 @@ pub use ld_parts::Settled;
 pub use ld_trace::MAX_TRACES;
 pub use runs::{MAX_WORKERS, run};
 pub use settling::settle;
+pub use surveys::facts_of;
 pub use worker::{Worked, work};

@@ -1,6 +1,6 @@
 //! A run: workers over many traces.
 
-ghost use Rattle.std.specs.Prelude.{◌≡◌, ◌+◌, ◌≤◌, ◌<◌, ◌↔◌, ◌++◌, ℕ, List, All, IfOk, IfErr, IsErrOf, IsFalse, count_by, length, map, sum_by, vec_capacity, vec_len};
+ghost use Rattle.std.specs.Prelude.{◌≡◌, ◌+◌, ◌≤◌, ◌<◌, ◌↔◌, ◌++◌, ℕ, List, All, IfOk, IfErr, IsErrOf, IsFalse, OnOk, count_by, length, map, sum_by, vec_capacity, vec_len};
 ghost use Rattle.ld_trace.specs.declared.event.Event.{Event};
 ghost use Rattle.ld_trace.specs.declared.key_id.TheConstants.{MAX_KEYS};
 ghost use Rattle.ld_trace.specs.Events.{KeysBelow};
@@ -74,17 +74,29 @@ pub fn run<R: Threads + Wait + Sync, G: Gate + Sync>(
     ensures too_many { IsErrOf result RunFault.TooManyTraces ↔ (IsCrew workers × (MAX_TRACES < length traces.now)) }
     ensures refused { IfErr result (StopsRun traces.now keys workers) }
 {
+    allow(workers, traces)?;
+    if keys > GRAPH_KEYS {
+        survey(rt, alloc, traces, keys, usize::from(workers))
+    } else {
+        complete(rt, alloc, traces, keys, usize::from(workers), gate)
+    }
+}
+
+// Refuses numbers of workers and traces that a run doesn't take.
+pub(crate) fn allow(workers: u16, traces: &[RawTrace]) -> Result<(), RunFault>
+    ensures ok { OnOk result (IsCrew workers × (length traces.now ≤ MAX_TRACES)) }
+    ensures bad_workers { IsErrOf result RunFault.BadWorkers ↔ (¬ IsCrew workers) }
+    ensures too_many { IsErrOf result RunFault.TooManyTraces ↔ (IsCrew workers × (MAX_TRACES < length traces.now)) }
+    ensures nothing_else { ¬ IsErrOf result RunFault.Unsettled × ¬ IsErrOf result RunFault.TooTangled }
+    ensures refused { (keys : ℕ) → IfErr result (StopsRun traces.now keys workers) }
+{
     if workers == 0 || workers > MAX_WORKERS {
         return Err(RunFault::BadWorkers);
     }
     if traces.len() > MAX_TRACES {
         return Err(RunFault::TooManyTraces);
     }
-    if keys > GRAPH_KEYS {
-        survey(rt, alloc, traces, keys, usize::from(workers))
-    } else {
-        complete(rt, alloc, traces, keys, usize::from(workers), gate)
-    }
+    Ok(())
 }
 
 // The run of at most 256 keys, for numbers of workers and traces that are allowed.

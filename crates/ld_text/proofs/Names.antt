@@ -22,7 +22,7 @@ pub use Rattle.ld_graph.specs.Links.{IsDouble}
 pub use Rattle.ld_task.specs.Chains.{ChainParts, key_and_mode}
 pub use Rattle.ld_task.specs.Steps.{GoesOn, IsStateAfter}
 pub use Rattle.ld_text.specs.ChainLines.{head_text, held_text, lines_before, lock_text, taken_text}
-pub use Rattle.ld_text.specs.Explanation.{block_text, comes_line, dependency_text, gate_lines, gate_note, holds_line, note_line, occurrence_text, order_line, origin_line, use_lines, waits_line, waits_text}
+pub use Rattle.ld_text.specs.Explanation.{block_text, comes_line, deadlock_text, dependency_text, gate_lines, gate_note, holds_line, note_line, occurrence_text, order_line, origin_line, use_lines, waits_line, waits_text}
 pub use Rattle.ld_text.specs.Groups.{GrowsBy, InTurn}
 pub use Rattle.ld_text.specs.Inside.Joined.{Leads}
 pub use Rattle.ld_text.specs.Inside.Tokens.{Adds}

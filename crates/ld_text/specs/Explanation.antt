@@ -16,11 +16,18 @@ use Rattle.ld_text.specs.ChainLines.{taken_text}
 use Rattle.ld_text.specs.Report.{double_line, inversion_line, member_text, total_line}
 use Rattle.ld_text.specs.Words.{Text, file_at, key_text}
 
--- what findings are put into words by: the traces, the names of their keys, and the files that they were read from
+-- what findings are put into words by: the traces, the names of the keys that findings are about and those of the locks in the traces,
+-- the files that the traces were read from, and what the lines of a block begin with
 pub record Sources : Type 0 where
   pub traces : List (List Event)
   pub names : List Name
+  pub locks : List Name
   pub files : List Text
+  pub margin : Text
+
+-- where findings are about the locks of the traces
+abbrev pub sources_of : List (List Event) → List Name → List Text → Sources
+sources_of traces names files = record { traces = traces; names = names; locks = names; files = files; margin = codes "  " }
 
 -- Where a fact comes from.
 
@@ -42,17 +49,17 @@ lock_of names _ = []
 -- the lock that is held meanwhile, and since when. A record's number counts the header: it is the event's place and two more
 abbrev pub while_text : Sources → (trace : ℕ) → Option ℕ → List ℕ
 while_text sources trace None = []
-while_text sources trace (Some held) = codes ", with " ++ (lock_of sources.names (event_of sources.traces trace held)
+while_text sources trace (Some held) = codes ", with " ++ (lock_of sources.locks (event_of sources.traces trace held)
     ++ (codes " held since record " ++ decimal (held + 2)))
 
 -- an occurrence: its file and record, what the event does, and what is held meanwhile
 abbrev pub occurrence_text : Sources → Origin → List ℕ
 occurrence_text sources origin = file_at sources.files origin.trace ++ (codes ": record " ++ (decimal (origin.place + 2)
-    ++ (does_text sources.names (event_of sources.traces origin.trace origin.place) ++ while_text sources origin.trace origin.held)))
+    ++ (does_text sources.locks (event_of sources.traces origin.trace origin.place) ++ while_text sources origin.trace origin.held)))
 
 -- where a fact first occurs, after the words for it
 abbrev pub origin_line : Sources → (words : List ℕ) → Origin → List ℕ
-origin_line sources words origin = codes "  " ++ (words ++ (codes ": " ++ (occurrence_text sources origin ++ codes "\n")))
+origin_line sources words origin = sources.margin ++ (words ++ (codes ": " ++ (occurrence_text sources origin ++ codes "\n")))
 
 -- the two keys of a dependency, and its kind between them
 abbrev pub dependency_text : List Name → Arrow → List ℕ
@@ -106,32 +113,51 @@ only_notes files None = []
 only_notes files (Some trace) = (codes "only in " ++ file_at files trace) ∷ []
 
 -- the line of a note
-abbrev pub note_line : Text → List ℕ
-note_line note = codes "  note: " ++ (note ++ codes "\n")
+abbrev pub note_line : (margin : Text) → Text → List ℕ
+note_line margin note = margin ++ (codes "note: " ++ (note ++ codes "\n"))
 
-abbrev pub gate_lines : List Name → List GateNote → List ℕ
-gate_lines names = flat_map (λ gate. note_line (gate_note names gate))
+abbrev pub gate_lines : Sources → List GateNote → List ℕ
+gate_lines sources = flat_map (λ gate. note_line sources.margin (gate_note sources.names gate))
 
 -- What is reported.
 
--- the first line of a circle, from the key that its first member starts at
-abbrev pub circle_head : List Name → List Order → List ℕ
-circle_head names [] = []
-circle_head names (first ∷ rest) = codes "\ncircle " ++ (key_text (name_at names first.dependency.start)
-    ++ (flat_map (λ order. member_text names order.dependency) (first ∷ rest) ++ codes "\n"))
+-- a walk, from the key that its first member starts at
+abbrev pub walk_text : List Name → List Order → List ℕ
+walk_text names [] = []
+walk_text names (first ∷ rest) =
+    key_text (name_at names first.dependency.start) ++ flat_map (λ order. member_text names order.dependency) (first ∷ rest)
 
--- a finding, after an empty line
+-- the first line of a finding, after an empty line
+abbrev pub head_text : List Name → Finding → List ℕ
+head_text names (Circle walk gates only) = codes "\ncircle " ++ (walk_text names walk.items ++ codes "\n")
+head_text names (Double irq key used enabled) = codes "\n" ++ double_line names irq key
+head_text names (Inversion irq a b walk used enabled gates) = codes "\n" ++ inversion_line names irq a b
+
+-- where it comes from
+abbrev pub origins_text : Sources → Finding → List ℕ
+origins_text sources (Circle walk gates only) = flat_map (order_line sources) walk.items
+origins_text sources (Double irq key used enabled) = use_lines sources irq used enabled
+origins_text sources (Inversion irq a b walk used enabled gates) =
+    flat_map (order_line sources) walk.items ++ use_lines sources irq used enabled
+
+-- how it ends in a deadlock
+abbrev pub deadlock_text : List Name → Finding → List ℕ
+deadlock_text names (Circle walk gates only) = waits_text names 1 walk.items
+deadlock_text names (Double irq key used enabled) = holds_line names key ++ comes_line names irq key
+deadlock_text names (Inversion irq a b walk used enabled gates) =
+    holds_line names b ++ (waits_text names 2 walk.items ++ comes_line names irq a)
+
+-- what speaks against it
+abbrev pub notes_text : Sources → Finding → List ℕ
+notes_text sources (Circle walk gates only) =
+    gate_lines sources gates.items ++ flat_map (note_line sources.margin) (only_notes sources.files only)
+notes_text sources (Double irq key used enabled) = []
+notes_text sources (Inversion irq a b walk used enabled gates) = gate_lines sources gates.items
+
+-- a finding
 abbrev pub block_text : Sources → Finding → List ℕ
-block_text sources (Circle walk gates only) =
-    circle_head sources.names walk.items ++ (flat_map (order_line sources) walk.items ++ (waits_text sources.names 1 walk.items
-    ++ (gate_lines sources.names gates.items ++ flat_map note_line (only_notes sources.files only))))
-block_text sources (Double irq key used enabled) =
-    codes "\n" ++ (double_line sources.names irq key ++ (use_lines sources irq used enabled
-    ++ (holds_line sources.names key ++ comes_line sources.names irq key)))
-block_text sources (Inversion irq a b walk used enabled gates) =
-    codes "\n" ++ (inversion_line sources.names irq a b ++ (flat_map (order_line sources) walk.items
-    ++ (use_lines sources irq used enabled ++ (holds_line sources.names b ++ (waits_text sources.names 2 walk.items
-    ++ (comes_line sources.names irq a ++ gate_lines sources.names gates.items))))))
+block_text sources finding = head_text sources.names finding ++ (origins_text sources finding
+    ++ (deadlock_text sources.names finding ++ notes_text sources finding))
 
 -- how many findings there are, and each of them
 unfoldable pub explanation_text : Sources → List Finding → List ℕ

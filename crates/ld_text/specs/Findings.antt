@@ -7,7 +7,7 @@ use Rattle.ld_facts.specs.declared.fact.Fact.{Fact}
 use Rattle.ld_explain.specs.Findings.{AreFindings}
 use Rattle.ld_explain.specs.Origins.{plain}
 use Rattle.ld_explain.specs.declared.finding.Finding.{Finding}
-use Rattle.ld_text.specs.Explanation.{Sources, explanation_text}
+use Rattle.ld_text.specs.Explanation.{Sources, explanation_text, sources_of}
 use Rattle.ld_text.specs.Json.{json_text}
 use Rattle.ld_text.specs.Order.{IsKeyOrder}
 use Rattle.ld_text.specs.Words.{Text}
@@ -30,4 +30,4 @@ pub record SaysFindings (format : Format) (Has : Fact → Type 0) (sources : Sou
 -- the text says in this format what was found in these traces of these files
 abbrev pub SaysFindingsOf : Format → List (List Event) → List Name → List Text → List ℕ → Type 0
 SaysFindingsOf format traces names files =
-    SaysFindings format (TracesHave traces) (record { traces = traces; names = names; files = files })
+    SaysFindings format (TracesHave traces) (sources_of traces names files)

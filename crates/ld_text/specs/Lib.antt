@@ -9,5 +9,6 @@ pub mod Order
 pub mod Output
 pub mod Picture
 pub mod Report
+pub mod Verdicts
 pub mod Words
 pub mod WriteFaults

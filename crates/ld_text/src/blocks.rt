@@ -1,104 +1,125 @@
 //! The blocks of an explanation, one for each finding.
 
 ghost use Rattle.std.specs.Prelude.{◌≡◌, ◌++◌, IfOk, OnOk, codes, flat_map, string_bytes};
-ghost use Rattle.ld_text.specs.Explanation.{block_text, circle_head, explanation_text};
-ghost use Rattle.ld_text.specs.Report.{double_line, inversion_line};
+ghost use Rattle.ld_text.specs.Explanation.{block_text, deadlock_text, explanation_text, head_text, notes_text, origins_text, walk_text};
 
 use crate::report::add_total;
 use crate::wording::Wording;
 use crate::words::irq_word;
-use ld_explain::{Finding, GateNote, Order, Origin};
-use ld_trace::{Irq, KeyId};
+use ld_explain::{Finding, Order};
 use std::alloc::AllocError;
 
 impl Wording<'_> {
-    // The first line of a circle's block.
+    // A walk.
+    pub(crate) fn add_walk(&self, text: &mut String, walk: &[Order]) -> Result<(), AllocError>
+        ensures { OnOk result (string_bytes text.new ≡ string_bytes text.old ++ walk_text self.now.names walk.now) }
+    {
+        let Some(first) = walk.first() else {
+            return Ok(());
+        };
+        text.push_str(self.key(first.dependency.from))?;
+        self.add_members(text, walk)
+    }
+
+    // The first line of a circle.
     pub(crate) fn add_circle_head(
         &self,
         text: &mut String,
         walk: &[Order],
     ) -> Result<(), AllocError>
-        ensures { OnOk result (string_bytes text.new ≡ string_bytes text.old ++ circle_head self.now.names walk.now) }
+        ensures { OnOk result (string_bytes text.new ≡ string_bytes text.old
+            ++ (codes "\ncircle " ++ (walk_text self.now.names walk.now ++ codes "\n"))) }
     {
-        let Some(first) = walk.first() else {
-            return Ok(());
-        };
-        let key = self.key(first.dependency.from);
-        write!(text, "\ncircle {key}")?;
-        self.add_members(text, walk)?;
+        text.push_str("\ncircle ")?;
+        self.add_walk(text, walk)?;
         text.push_str("\n")
     }
 
-    // The first line of a double's block.
-    pub(crate) fn add_double_head(
-        &self,
-        text: &mut String,
-        irq: Irq,
-        key: KeyId,
-    ) -> Result<(), AllocError>
-        ensures { OnOk result (string_bytes text.new
-            ≡ string_bytes text.old ++ (codes "\n" ++ double_line self.now.names irq key)) }
-    {
-        let (state, key) = (irq_word(irq), self.key(key));
-        writeln!(text, "\ndouble {state} {key}")
-    }
-
-    // The first line of an inversion's block.
-    pub(crate) fn add_inversion_head(
-        &self,
-        text: &mut String,
-        irq: Irq,
-        a: KeyId,
-        b: KeyId,
-    ) -> Result<(), AllocError>
-        ensures { OnOk result (string_bytes text.new
-            ≡ string_bytes text.old ++ (codes "\n" ++ inversion_line self.now.names irq a b)) }
-    {
-        let (state, a, b) = (irq_word(irq), self.key(a), self.key(b));
-        writeln!(text, "\ninversion {state} {a} {b}")
-    }
-
-    // The block of a finding.
-    pub(crate) fn add_block(&self, text: &mut String, finding: &Finding) -> Result<(), AllocError>
-        ensures { OnOk result (string_bytes text.new ≡ string_bytes text.old ++ block_text self.now finding.now) }
+    // The first line of a finding.
+    pub(crate) fn add_head(&self, text: &mut String, finding: &Finding) -> Result<(), AllocError>
+        ensures { OnOk result (string_bytes text.new ≡ string_bytes text.old ++ head_text self.now.names finding.now) }
     {
         match finding {
-            Finding::Circle { walk, gates, only } => {
-                self.add_circle_head(text, walk)?;
-                self.add_orders(text, walk)?;
-                self.add_waits(text, 1, walk)?;
-                self.add_gate_lines(text, gates)?;
-                self.add_only_line(text, *only)
+            Finding::Circle { walk, .. } => self.add_circle_head(text, walk),
+            Finding::Double { irq, key, .. } => {
+                let (state, key) = (irq_word(*irq), self.key(*key));
+                writeln!(text, "\ndouble {state} {key}")
             }
+            Finding::Inversion { irq, a, b, .. } => {
+                let (state, a, b) = (irq_word(*irq), self.key(*a), self.key(*b));
+                writeln!(text, "\ninversion {state} {a} {b}")
+            }
+        }
+    }
+
+    // Where a finding comes from.
+    pub(crate) fn add_origins(&self, text: &mut String, finding: &Finding) -> Result<(), AllocError>
+        ensures { OnOk result (string_bytes text.new ≡ string_bytes text.old ++ origins_text self.now finding.now) }
+    {
+        match finding {
+            Finding::Circle { walk, .. } => self.add_orders(text, walk),
             Finding::Double {
+                irq, used, enabled, ..
+            } => self.add_uses(text, *irq, *used, *enabled),
+            Finding::Inversion {
                 irq,
-                key,
+                walk,
                 used,
                 enabled,
+                ..
             } => {
-                self.add_double_head(text, *irq, *key)?;
-                self.add_uses(text, *irq, *used, *enabled)?;
+                self.add_orders(text, walk)?;
+                self.add_uses(text, *irq, *used, *enabled)
+            }
+        }
+    }
+
+    // How a finding ends in a deadlock.
+    pub(crate) fn add_deadlock(
+        &self,
+        text: &mut String,
+        finding: &Finding,
+    ) -> Result<(), AllocError>
+        ensures { OnOk result (string_bytes text.new ≡ string_bytes text.old ++ deadlock_text self.now.names finding.now) }
+    {
+        match finding {
+            Finding::Circle { walk, .. } => self.add_waits(text, 1, walk),
+            Finding::Double { irq, key, .. } => {
                 self.add_holder(text, *key)?;
                 self.add_interrupt(text, *irq, *key)
             }
             Finding::Inversion {
-                irq,
-                a,
-                b,
-                walk,
-                used,
-                enabled,
-                gates,
+                irq, a, b, walk, ..
             } => {
-                self.add_inversion_head(text, *irq, *a, *b)?;
-                self.add_orders(text, walk)?;
-                self.add_uses(text, *irq, *used, *enabled)?;
                 self.add_holder(text, *b)?;
                 self.add_waits(text, 2, walk)?;
-                self.add_interrupt(text, *irq, *a)?;
-                self.add_gate_lines(text, gates)
+                self.add_interrupt(text, *irq, *a)
             }
         }
+    }
+
+    // What speaks against a finding.
+    pub(crate) fn add_notes(&self, text: &mut String, finding: &Finding) -> Result<(), AllocError>
+        ensures { OnOk result (string_bytes text.new ≡ string_bytes text.old ++ notes_text self.now finding.now) }
+    {
+        match finding {
+            Finding::Circle { gates, only, .. } => {
+                self.add_gate_lines(text, gates)?;
+                self.add_only_line(text, *only)
+            }
+            Finding::Double { .. } => Ok(()),
+            Finding::Inversion { gates, .. } => self.add_gate_lines(text, gates),
+        }
+    }
+
+    // A finding.
+    pub(crate) fn add_block(&self, text: &mut String, finding: &Finding) -> Result<(), AllocError>
+        ensures { OnOk result (string_bytes text.new ≡ string_bytes text.old ++ block_text self.now finding.now) }
+    {
+        self.add_head(text, finding)?;
+        self.add_origins(text, finding)?;
+        self.add_deadlock(text, finding)?;
+        self.add_notes(text, finding)
     }
 
     // The blocks of all findings.

@@ -7,13 +7,14 @@ ghost use Rattle.ld_task.specs.WellFormed.{IsWellFormed};
 ghost use Rattle.ld_facts.specs.FactBits.{HasFact};
 ghost use Rattle.ld_facts.specs.Facts.{AreSame};
 ghost use Rattle.ld_facts.specs.TraceFacts.{TracesHave};
+ghost use Rattle.ld_text.specs.Explanation.{sources_of};
 ghost use Rattle.ld_text.specs.Findings.{SaysFindings};
 ghost use Rattle.ld_text.specs.WriteFaults.{StopsWriting};
 
 use crate::key_texts::KeyTexts;
 use crate::order::sorted_keys;
 use crate::output::write_text;
-use crate::wording::Wording;
+use crate::wording::{MARGIN, Wording};
 use crate::write_fault::WriteFault;
 use ld_explain::{Naming, findings_of, own_names_change_nothing};
 use ld_parts::Settled;
@@ -43,7 +44,7 @@ fn findings_text(
     requires well_formed { All IsWellFormed traces.now }
     requires facts { AreSame (HasFact settled.now) (TracesHave traces.now) }
     ensures { IfOk result (λ text. SaysFindings format (HasFact settled.now)
-        (record { traces = traces.now; names = names.now.names; files = map (λ file. file.now) files.entry.now })
+        (sources_of traces.now names.now.names (map (λ file. file.now) files.entry.now))
         text.items) }
 {
     let keys = sorted_keys(alloc, names)?;
@@ -54,7 +55,10 @@ fn findings_text(
         traces,
         names,
         keys: &texts,
+        lock_names: names,
+        locks: &texts,
         files,
+        margin: MARGIN,
         alloc,
     };
     match format {
@@ -82,11 +86,11 @@ pub fn write_findings<W: Write>(
     requires facts { AreSame (HasFact settled.now) (TracesHave traces.now) }
     ensures ok { OnOk result ((text : List ℕ)
         × SaysFindings format (HasFact settled.now)
-        (record { traces = traces.now; names = names.now.names; files = map (λ file. file.now) files.entry.now }) text
+        (sources_of traces.now names.now.names (map (λ file. file.now) files.entry.now)) text
         × Appends (W.contents w.old) (W.contents w.new) text) }
     ensures err { IfErr result (StopsWriting
         (SaysFindings format (HasFact settled.now)
-        (record { traces = traces.now; names = names.now.names; files = map (λ file. file.now) files.entry.now }))
+        (sources_of traces.now names.now.names (map (λ file. file.now) files.entry.now)))
         (W.contents w.old) (W.contents w.new)) }
 {
     match findings_text(alloc, settled, traces, names, files, format) {

@@ -17,7 +17,7 @@ const BETWEEN: &str = ",\n";
 const TAIL: &str = "\n]}\n";
 
 // These bytes without the first.
-fn without_first(bytes: &[u8]) -> &[u8]
+pub(crate) fn without_first(bytes: &[u8]) -> &[u8]
     ensures { result.now ≡ drop 1 bytes.now }
 {
     bytes.get(1..).unwrap_or(&[])
@@ -36,7 +36,7 @@ fn text_with(alloc: Global, lines: &[u8]) -> Result<Vec<u8>, AllocError>
 }
 
 // A writer after the text, on a line of its own, which takes the text.
-fn begin_line(alloc: Global, text: &mut Vec<u8>) -> Result<Writer, AllocError>
+pub(crate) fn begin_line(alloc: Global, text: &mut Vec<u8>) -> Result<Writer, AllocError>
     ensures { IfOk result (λ w. (w.before ≡ text.old.items ++ codes ",\n") × (w.tokens ≡ [])) }
 {
     text.extend_from_slice(BETWEEN.as_bytes())?;

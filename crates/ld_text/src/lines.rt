@@ -11,6 +11,13 @@ use ld_trace::{Event, Irq, KeyId};
 use std::alloc::AllocError;
 
 impl Wording<'_> {
+    // What lines about a finding begin with.
+    pub(crate) fn add_margin(&self, text: &mut String) -> Result<(), AllocError>
+        ensures { OnOk result (string_bytes text.new ≡ string_bytes text.old ++ self.now.margin) }
+    {
+        text.push_str(self.margin)
+    }
+
     // What the event at this place of a trace does.
     pub(crate) fn add_event(
         &self,
@@ -19,14 +26,14 @@ impl Wording<'_> {
         place: u32,
     ) -> Result<(), AllocError>
         ensures { OnOk result (string_bytes text.new ≡ string_bytes text.old
-            ++ does_text self.now.names (event_of self.now.traces trace place)) }
+            ++ does_text self.now.locks (event_of self.now.traces trace place)) }
     {
         let Some(event) = self.event(trace, place) else {
             return Ok(());
         };
         match event {
             Event::Acquire { mode, key } => {
-                let (key, mode) = (self.key(key), mode_word(mode));
+                let (key, mode) = (self.lock(key), mode_word(mode));
                 write!(text, " takes {key} {mode}")
             }
             Event::TurnOn { irq } => {
@@ -45,14 +52,14 @@ impl Wording<'_> {
         place: u32,
     ) -> Result<(), AllocError>
         ensures { OnOk result (string_bytes text.new ≡ string_bytes text.old
-            ++ lock_of self.now.names (event_of self.now.traces trace place)) }
+            ++ lock_of self.now.locks (event_of self.now.traces trace place)) }
     {
         let Some(event) = self.event(trace, place) else {
             return Ok(());
         };
         match event {
             Event::Acquire { mode, key } => {
-                let (key, mode) = (self.key(key), mode_word(mode));
+                let (key, mode) = (self.lock(key), mode_word(mode));
                 write!(text, "{key} {mode}")
             }
             _ => Ok(()),
@@ -116,7 +123,8 @@ impl Wording<'_> {
     pub(crate) fn add_order(&self, text: &mut String, order: &Order) -> Result<(), AllocError>
         ensures { OnOk result (string_bytes text.new ≡ string_bytes text.old ++ order_line self.now order.now) }
     {
-        self.add_dependency(text, "  ", &order.dependency)?;
+        self.add_margin(text)?;
+        self.add_dependency(text, "", &order.dependency)?;
         self.add_origin(text, order.origin)
     }
 
@@ -142,9 +150,11 @@ impl Wording<'_> {
         ensures { OnOk result (string_bytes text.new ≡ string_bytes text.old ++ use_lines self.now irq used enabled) }
     {
         let state = irq_word(irq);
-        write!(text, "  used in {state}")?;
+        self.add_margin(text)?;
+        write!(text, "used in {state}")?;
         self.add_origin(text, used)?;
-        write!(text, "  used with {state}s on")?;
+        self.add_margin(text)?;
+        write!(text, "used with {state}s on")?;
         self.add_origin(text, enabled)
     }
 

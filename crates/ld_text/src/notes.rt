@@ -1,6 +1,7 @@
 //! What speaks against a finding, in words.
 
 ghost use Rattle.std.specs.Prelude.{◌≡◌, ◌++◌, OnOk, codes, flat_map, string_bytes};
+ghost use Rattle.ld_text.specs.Words.{file_at};
 ghost use Rattle.ld_text.specs.Explanation.{dependency_text, gate_lines, gate_note, listed_text, note_line, only_notes};
 
 use crate::wording::Wording;
@@ -45,9 +46,10 @@ impl Wording<'_> {
     // The line of such a note.
     pub(crate) fn add_gate_line(&self, text: &mut String, gate: &GateNote) -> Result<(), AllocError>
         ensures { OnOk result (string_bytes text.new
-            ≡ string_bytes text.old ++ note_line (gate_note self.now.names gate.now)) }
+            ≡ string_bytes text.old ++ note_line self.now.margin (gate_note self.now.names gate.now)) }
     {
-        text.push_str("  note: ")?;
+        self.add_margin(text)?;
+        text.push_str("note: ")?;
         self.add_gate_note(text, gate)?;
         text.push_str("\n")
     }
@@ -58,7 +60,7 @@ impl Wording<'_> {
         text: &mut String,
         gates: &[GateNote],
     ) -> Result<(), AllocError>
-        ensures { OnOk result (string_bytes text.new ≡ string_bytes text.old ++ gate_lines self.now.names gates.now) }
+        ensures { OnOk result (string_bytes text.new ≡ string_bytes text.old ++ gate_lines self.now gates.now) }
     {
         for gate in gates {
             self.add_gate_line(text, gate)?;
@@ -66,19 +68,28 @@ impl Wording<'_> {
         Ok(())
     }
 
-    // The line of the note that one trace has all occurrences, if one has.
+    // The line of the note that this trace has all occurrences.
+    pub(crate) fn add_only_note(&self, text: &mut String, trace: u32) -> Result<(), AllocError>
+        ensures { OnOk result (string_bytes text.new ≡ string_bytes text.old
+            ++ note_line self.now.margin (codes "only in " ++ file_at self.now.files trace)) }
+    {
+        let file = file_of(self.files, trace as usize);
+        self.add_margin(text)?;
+        writeln!(text, "note: only in {file}")
+    }
+
+    // That line, if one trace has all occurrences.
     pub(crate) fn add_only_line(
         &self,
         text: &mut String,
         only: Option<u32>,
     ) -> Result<(), AllocError>
         ensures { OnOk result (string_bytes text.new
-            ≡ string_bytes text.old ++ flat_map note_line (only_notes self.now.files only)) }
+            ≡ string_bytes text.old ++ flat_map (note_line self.now.margin) (only_notes self.now.files only)) }
     {
-        let Some(trace) = only else {
-            return Ok(());
-        };
-        let file = file_of(self.files, trace as usize);
-        writeln!(text, "  note: only in {file}")
+        match only {
+            Some(trace) => self.add_only_note(text, trace),
+            None => Ok(()),
+        }
     }
 }

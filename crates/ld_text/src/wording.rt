@@ -10,14 +10,25 @@ use ld_trace::{Event, KeyId, KeyTable, RawTrace};
 use std::alloc::Global;
 use std::marker::Model;
 
-/// The traces that findings come from, the names of their keys, and the files that they were read from.
+/// What the lines of a block begin with.
+pub(crate) const MARGIN: &str = "  ";
+
+/// What the lines of a finding inside a block begin with.
+pub(crate) const DEEPER: &str = "    ";
+
+/// The traces that findings come from, the names of the keys that they are about and those of the locks in the traces, and the files
+/// that the traces were read from.
 #[derive(Drop)]
 pub(crate) struct Wording<'a> {
     pub traces: &'a [RawTrace],
     pub names: &'a KeyTable,
     // The keys as lines name them.
     pub keys: &'a KeyTexts,
+    pub lock_names: &'a KeyTable,
+    // The locks as lines name them.
+    pub locks: &'a KeyTexts,
     pub files: &'a [&'a str],
+    pub margin: &'a str,
     pub alloc: Global,
 }
 
@@ -28,9 +39,15 @@ impl<'a> Model for Wording<'a> {
 
     ghost Value = { Sources };
 
-    ghost view = { λ e. record { traces = e.traces.now; names = e.names.now.names; files = map (λ file. file.now) e.files.now } };
+    ghost view = { λ e. record {
+      traces = e.traces.now;
+      names = e.names.now.names;
+      locks = e.lock_names.now.names;
+      files = map (λ file. file.now) e.files.now;
+      margin = e.margin.now;
+    } };
 
-    ghost invariant = { λ e. e.keys.now ≡ map key_text e.names.now.names };
+    ghost invariant = { λ e. (e.keys.now ≡ map key_text e.names.now.names) × (e.locks.now ≡ map key_text e.lock_names.now.names) };
 }
 
 impl Wording<'_> {
@@ -39,6 +56,13 @@ impl Wording<'_> {
         ensures { result.now ≡ key_text (name_at self.now.names key) }
     {
         self.keys.text(key)
+    }
+
+    /// A lock of the traces.
+    pub(crate) fn lock(&self, key: KeyId) -> &str
+        ensures { result.now ≡ key_text (name_at self.now.locks key) }
+    {
+        self.locks.text(key)
     }
 
     /// The event at this place of a trace.

@@ -46,6 +46,14 @@ many_rule = flag_rule (codes "many")
 abbrev pub json_rule : Rule
 json_rule = flag_rule (codes "json")
 
+-- `--locks`
+abbrev pub locks_rule : Rule
+locks_rule = flag_rule (codes "locks")
+
+-- `--confirmed-only`
+abbrev pub confirmed_rule : Rule
+confirmed_rule = flag_rule (codes "confirmed-only")
+
 -- `--findings`
 abbrev pub findings_rule : Rule
 findings_rule = flag_rule (codes "findings")
@@ -58,9 +66,9 @@ many_app name = with_rule (with_rule (new_app name) workers_rule) many_rule
 abbrev pub check_shape : Shape
 check_shape = (with_rule (many_app (codes "check")) files_rule).top
 
--- `explain [--workers N] [--many] [--json] [FILE...]`
+-- `explain [--workers N] [--many] [--json] [--locks] [--confirmed-only] [FILE...]`
 abbrev pub explain_shape : Shape
-explain_shape = (with_rule (with_rule (many_app (codes "explain")) json_rule) files_rule).top
+explain_shape = (with_rule (with_rule (with_rule (with_rule (many_app (codes "explain")) json_rule) locks_rule) confirmed_rule) files_rule).top
 
 -- `graph [--workers N] [--many] [--findings] [FILE...]`
 abbrev pub graph_shape : Shape
@@ -97,7 +105,7 @@ pub record ReadsFlag (name : Text) (rows : List Row) (is_set : Bool) : Type 0 wh
 -- the word of the subcommand
 abbrev pub subcommand_word : Line → Text
 subcommand_word (Check workers many files) = codes "check"
-subcommand_word (Explain workers many json files) = codes "explain"
+subcommand_word (Explain workers many json locks confirmed_only files) = codes "explain"
 subcommand_word (Graph workers many findings files) = codes "graph"
 subcommand_word (Condense workers files) = codes "condense"
 subcommand_word (Chains file) = codes "chains"
@@ -106,9 +114,10 @@ subcommand_word (Chains file) = codes "chains"
 abbrev pub ReadsLine : List Row → Line → Type 0
 ReadsLine rows (Check workers many files) =
     ReadsCheck rows workers (map (λ file. file.now) files.items) × ReadsFlag (codes "many") rows many
-ReadsLine rows (Explain workers many json files) =
+ReadsLine rows (Explain workers many json locks confirmed_only files) =
     ReadsCheck rows workers (map (λ file. file.now) files.items) × ReadsFlag (codes "many") rows many
-    × ReadsFlag (codes "json") rows json
+    × ReadsFlag (codes "json") rows json × ReadsFlag (codes "locks") rows locks
+    × ReadsFlag (codes "confirmed-only") rows confirmed_only
 ReadsLine rows (Graph workers many findings files) =
     ReadsCheck rows workers (map (λ file. file.now) files.items) × ReadsFlag (codes "many") rows many
     × ReadsFlag (codes "findings") rows findings

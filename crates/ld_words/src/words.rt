@@ -3,7 +3,7 @@
 ghost use Rattle.std.specs.Prelude.{◌≡◌, ◌↔◌, [], false, ℕ, List, IfOk, IfErr, map, unwrap_or, codes};
 ghost use Rattle.clap.specs.Words.{App, HasKind, Shape, all_of, app_of, fault_of as clap_faults, found_of, kind_of, rows_of, rule_of, shape_of, subcommand_rows_of, with_subcommand};
 ghost use Rattle.clap.specs.declared.builder.command.Command.TheViews.{out-Command};
-ghost use Rattle.ld_words.specs.CommandLine.{IsLineFault, IsLineIn, IsLineOf, ReadsCheck, ReadsFlag, chains_shape, check_shape, condense_shape, explain_shape, file_rule, files_rule, findings_rule, graph_shape, json_rule, lockdep_app, many_app, many_rule, workers_rule};
+ghost use Rattle.ld_words.specs.CommandLine.{IsLineFault, IsLineIn, IsLineOf, ReadsCheck, ReadsFlag, chains_shape, check_shape, condense_shape, explain_shape, file_rule, files_rule, confirmed_rule, findings_rule, graph_shape, json_rule, locks_rule, lockdep_app, many_app, many_rule, workers_rule};
 
 use clap::error::ErrorKind;
 use clap::{Arg, ArgAction, ArgMatches, Command, value_parser};
@@ -22,11 +22,15 @@ pub enum Line<'a> {
         many: bool,
         files: Vec<&'a str>,
     },
-    /// What was found in these traces, and the records that cause it; as JSON if `json` is set.
+    /// What was found in these traces, and the records that cause it; as JSON if `json` is set. If `locks` or `confirmed_only` is
+    /// set, what was found between types of locks, each with what it was seen between; if `confirmed_only` is, the status is that of
+    /// what was seen between single locks.
     Explain {
         workers: u16,
         many: bool,
         json: bool,
+        locks: bool,
+        confirmed_only: bool,
         files: Vec<&'a str>,
     },
     /// Their facts as a picture; only what is part of a finding, if `findings` is set.
@@ -113,6 +117,28 @@ fn json_option<'a>(alloc: Global) -> Arg<'a>
         .help("Write the findings as JSON")
 }
 
+// Whether it is asked what findings were seen between, `--locks`.
+fn locks_option<'a>(alloc: Global) -> Arg<'a>
+    ensures rule { rule_of result ≡ locks_rule }
+    ensures local { result.global ≡ false }
+{
+    Arg::new(alloc, "locks")
+        .long("locks")
+        .action(ArgAction::SetTrue)
+        .help("Say of each finding whether it was seen between single locks (NAME#1, NAME#2), and take up to 8192 names")
+}
+
+// Whether the status is that of what was seen between single locks, `--confirmed-only`.
+fn confirmed_option<'a>(alloc: Global) -> Arg<'a>
+    ensures rule { rule_of result ≡ confirmed_rule }
+    ensures local { result.global ≡ false }
+{
+    Arg::new(alloc, "confirmed-only")
+        .long("confirmed-only")
+        .action(ArgAction::SetTrue)
+        .help("As --locks, with status 1 only if a finding was seen between single locks, or isn't known")
+}
+
 // Whether only findings are asked for, `--findings`.
 fn findings_option<'a>(alloc: Global) -> Arg<'a>
     ensures rule { rule_of result ≡ findings_rule }
@@ -159,6 +185,8 @@ fn explain_command<'a>(alloc: Global) -> Result<Command<'a>, AllocError>
         "Reads traces and writes what was found, with the records that it comes from",
     )?
     .arg(json_option(alloc))?
+    .arg(locks_option(alloc))?
+    .arg(confirmed_option(alloc))?
     .arg(files_argument(alloc))
 }
 
@@ -286,11 +314,12 @@ fn line_of<'a>(alloc: Global, matches: &ArgMatches<'a>) -> Result<Line<'a>, Line
     }
     if let Some(found) = matches.subcommand_matches("explain") {
         let (workers, many, files) = many_words(alloc, found)?;
-        let json = found.get_flag("json");
         return Ok(Line::Explain {
             workers,
             many,
-            json,
+            json: found.get_flag("json"),
+            locks: found.get_flag("locks"),
+            confirmed_only: found.get_flag("confirmed-only"),
             files,
         });
     }
@@ -331,7 +360,7 @@ fn fault_of(error: clap::Error) -> LineFault
 
 /// What the command line asks for. The words begin with the program's name, and are read as `clap` defines it: `check
 /// [--workers N] [--many] [FILE...]`, with N a whole number from 0 to 65,535 and 4 if it isn't given, `explain
-/// [--workers N] [--many] [--json] [FILE...]`, `graph [--workers N] [--many] [--findings] [FILE...]`, `condense
+/// [--workers N] [--many] [--json] [--locks] [--confirmed-only] [FILE...]`, `graph [--workers N] [--many] [--findings] [FILE...]`, `condense
 /// [--workers N] [FILE...]` and `chains [FILE]`.
 ///
 /// Refusals: `Help` if help or the version is asked for, `Memory` if memory is refused, and `Refused` for every other

@@ -1,3 +1,4 @@
 pub mod CondensedFaults
 pub mod Requests
 pub mod Sources
+pub mod Tangled

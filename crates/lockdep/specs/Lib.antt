@@ -5,3 +5,4 @@ pub mod Inside
 pub mod Program
 pub mod Sessions
 pub mod Texts
+pub mod Verdicts

@@ -1,5 +1,5 @@
 -- What the program does for a command line [this project's own].
-use Rattle.std.specs.Prelude.{◌≡◌, ◌↔◌, ◌⊎◌, ⊤, ◌+◌, ◌<◌, ◌≤◌, ℕ, Bool, false, if◌then◌else◌, List, [], ◌∷◌, Option, None, Some, All, Contains, IfSome, IsTrue, codes, length, map, option_map, unwrap_or}
+use Rattle.std.specs.Prelude.{◌≡◌, ◌↔◌, ◌⊎◌, ◌||◌, ⊤, ◌+◌, ◌<◌, ◌≤◌, ℕ, Bool, false, if◌then◌else◌, List, [], ◌∷◌, Option, None, Some, All, Contains, IfSome, IsTrue, codes, length, map, option_map, unwrap_or}
 use Rattle.std.specs.Io.KnownBytes.{Appends, Keeps}
 use Rattle.ld_trace.specs.Events.{KeysBelow}
 use Rattle.ld_trace.specs.Names.{Name}
@@ -17,6 +17,9 @@ use Rattle.lockdep.specs.Faults.{StopsText}
 use Rattle.ld_text.specs.Output.{AppendsBeginning}
 use Rattle.lockdep.specs.Texts.{OutputView, report, explanation, json, picture, condensed, IsTextOf}
 use Rattle.ld_text.specs.Words.{file_at}
+use Rattle.ld_text.specs.declared.findings.Format.{Format}
+use Rattle.ld_text.specs.declared.findings.Format.TheVariants as format
+use Rattle.lockdep.specs.Verdicts.{StopsVerdicts, WritesVerdicts}
 use Rattle.ld_facts.specs.TraceFacts.{TracesHave}
 use Rattle.ld_words.specs.declared.words.Line.{Line}
 use Rattle.ld_words.specs.declared.words.Line.TheVariants.{Check, Chains, Condense, Explain, Graph}
@@ -37,21 +40,39 @@ pub record OutputOf : Type 0 where
   pub workers : ℕ
   pub files : List Text
 
--- that, or the chains of the trace in this file, or on standard input if there is none
+-- the findings between types of these traces, each with what it was seen between, in this format, where all of them count or only
+-- what was seen between single locks
+pub record VerdictsOf : Type 0 where
+  pub format : Format
+  pub confirmed_only : Bool
+  pub workers : ℕ
+  pub files : List Text
+
+-- one of these, or the chains of the trace in this file, or on standard input if there is none
 pub data Asked : Type 0 where
   output_of : OutputOf → Asked
+  verdicts_of : VerdictsOf → Asked
   chains_of : Option Text → Asked
 
 -- how an explanation is written: as JSON, if that is asked for
 abbrev pub explanation_as : (as_json : Bool) → (files : List Text) → OutputView
 explanation_as as_json files = if as_json then json files else explanation files
 
+abbrev pub format_as : (as_json : Bool) → Format
+format_as as_json = if as_json then format.Json else format.Lines
+
+-- an explanation, or if it is asked what findings were seen between, verdicts
+abbrev pub explanation_asked : (many as_json is_between confirmed_only : Bool) (workers : ℕ) (files : List Text) → Asked
+explanation_asked many as_json is_between confirmed_only workers files = if is_between
+    then verdicts_of (record { format = format_as as_json; confirmed_only = confirmed_only; workers = workers; files = files })
+    else output_of (record { output = explanation_as as_json files; many = many; workers = workers; files = files })
+
 -- what a line asks for
 abbrev pub asked_by : Line → Asked
 asked_by (Check workers many files) = let named = map (λ file. file.now) files.items in
     output_of (record { output = report; many = many; workers = workers; files = named })
-asked_by (Explain workers many as_json files) = let named = map (λ file. file.now) files.items in
-    output_of (record { output = explanation_as as_json named; many = many; workers = workers; files = named })
+asked_by (Explain workers many as_json locks confirmed_only files) =
+    explanation_asked many as_json (locks || confirmed_only) confirmed_only workers (map (λ file. file.now) files.items)
 asked_by (Graph workers many findings files) = let named = map (λ file. file.now) files.items in
     output_of (record { output = picture findings; many = many; workers = workers; files = named })
 asked_by (Condense workers files) = let named = map (λ file. file.now) files.items in
@@ -96,6 +117,18 @@ pub record WritesOutput (asked : OutputOf) (input old new : Option (List ℕ)) (
   pub read : AreTracesOf (room_of asked.many) asked.files input names traces
   pub writes : WritesText asked.output asked.workers names traces old new status
 
+-- the verdicts of the traces of the files were written, with room for many keys; the status is 1 if one of them counts
+pub record DoesVerdicts (asked : VerdictsOf) (input old new : Option (List ℕ)) (status : ℕ) : Type 0 where
+  pub names : List Name
+  pub traces : List (List Event)
+  pub read : AreTracesOf MAX_KEYS asked.files input names traces
+  pub crew : IsCrew asked.workers
+  pub few : length traces ≤ MAX_TRACES
+  pub well_formed : All IsWellFormed traces
+  pub found : Bool
+  pub writes : WritesVerdicts asked.format asked.confirmed_only asked.files names traces old new found
+  pub status_is : status ≡ (if found then 1 else 0)
+
 -- what is known of the bytes of a trace: those that standard input holds, and nothing about a file's
 abbrev pub known_of : Option Text → (input : Option (List ℕ)) → Option (List ℕ)
 known_of None input = input
@@ -118,6 +151,7 @@ pub record WritesChains (bytes old new : Option (List ℕ)) (status : ℕ) : Typ
 -- what was asked for was done
 abbrev pub DoesAsked : Asked → (input old new : Option (List ℕ)) → ℕ → Type 0
 DoesAsked (output_of asked) input = WritesOutput asked input
+DoesAsked (verdicts_of asked) input = DoesVerdicts asked input
 DoesAsked (chains_of file) input = WritesChains (known_of file input)
 
 -- what the line asks for was done
@@ -188,6 +222,18 @@ RefusesOutput asked input old new refusal = (StopsReading (room_of asked.many) a
     ⊎ ((names : List Name) × (traces : List (List Event)) × AreTracesOf (room_of asked.many) asked.files input names traces
     × RefusesTraces asked.output asked.workers asked.files names traces old new refusal)
 
+-- these traces of the files have no verdicts, or they weren't written whole
+pub record RefusesVerdictsOf (asked : VerdictsOf) (names : List Name) (traces : List (List Event)) (old new : Option (List ℕ)) (refusal : Refusal) : Type 0 where
+  pub fault : ReportFault
+  pub stops : StopsVerdicts asked.format asked.files names traces asked.workers old new fault
+  pub refusal_is : IsReportRefusal asked.files fault refusal
+
+-- no verdicts were written whole: it was refused while the traces were read, and then nothing was written, or after that
+abbrev pub RefusesVerdicts : VerdictsOf → (input old new : Option (List ℕ)) → Refusal → Type 0
+RefusesVerdicts asked input old new refusal = (StopsReading MAX_KEYS asked.files input refusal × Keeps old new)
+    ⊎ ((names : List Name) × (traces : List (List Event)) × AreTracesOf MAX_KEYS asked.files input names traces
+    × RefusesVerdictsOf asked names traces old new refusal)
+
 -- the trace isn't well formed, or its chains weren't written whole
 abbrev pub RefusesTrace : (file : Text) → List Name → List Event → (old new : Option (List ℕ)) → Refusal → Type 0
 RefusesTrace file names trace old new refusal = (IsStepRefusal file trace refusal × Keeps old new)
@@ -209,6 +255,7 @@ RefusesChains file input old new refusal =
 -- what was asked for is refused in this way
 abbrev pub RefusesAsked : Asked → (input old new : Option (List ℕ)) → Refusal → Type 0
 RefusesAsked (output_of asked) = RefusesOutput asked
+RefusesAsked (verdicts_of asked) = RefusesVerdicts asked
 RefusesAsked (chains_of file) = RefusesChains file
 
 -- what the line asks for is refused in this way

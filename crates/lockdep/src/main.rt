@@ -24,6 +24,7 @@ mod source;
 #[cfg(test)]
 mod tests;
 mod trace_files;
+mod verdicts;
 
 use program::program_side_by_side;
 use refusal::{REFUSED, Refusal, refuse};

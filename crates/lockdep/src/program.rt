@@ -1,13 +1,17 @@
 //! The program: a command line, the traces that it names, and what is written for them.
 
-ghost use Rattle.std.specs.Prelude.{◌≡◌, ◌<◌, ◌≤◌, [], ℕ, List, Ok, Err, IfOk, IfErr, OnOk, map};
+ghost use Rattle.std.specs.Prelude.{◌≡◌, ◌<◌, ◌≤◌, [], ℕ, Bool, List, Ok, Err, All, IfOk, IfErr, OnOk, if◌then◌else◌, length, map};
 ghost use Rattle.std.specs.Io.KnownBytes.{Appends};
 ghost use Rattle.ld_trace.specs.declared.key_id.TheConstants.{MAX_KEYS};
-ghost use Rattle.lockdep.specs.Inside.Requests.{output_asked};
+ghost use Rattle.lockdep.specs.Inside.Requests.{output_asked, verdicts_asked};
+ghost use Rattle.lockdep.specs.Verdicts.{WritesVerdicts};
+ghost use Rattle.ld_task.specs.WellFormed.{IsWellFormed};
+ghost use Rattle.ld_run.specs.Runs.{IsCrew};
+ghost use Rattle.ld_trace.specs.declared.raw_trace.TheConstants.{MAX_TRACES};
 ghost use Rattle.ld_words.specs.CommandLine.{IsLineFault};
 ghost use Rattle.lockdep.specs.FaultLines.{fault_line};
 ghost use Rattle.ld_text.specs.Output.{AppendsBeginning};
-ghost use Rattle.lockdep.specs.Program.{AreTracesOf, DoesLine, DoesWords, IsReportRefusal, RefusesHelp, RefusesLine, RefusesNoLine, RefusesOutput, RefusesTraces, RefusesWords, StopsReading, WritesHelp, WritesOutput, WritesText, room_of, status_of, write_refusal_of};
+ghost use Rattle.lockdep.specs.Program.{AreTracesOf, DoesLine, DoesVerdicts, DoesWords, IsReportRefusal, RefusesHelp, RefusesLine, RefusesNoLine, RefusesOutput, RefusesTraces, RefusesVerdicts, RefusesVerdictsOf, RefusesWords, StopsReading, WritesHelp, WritesOutput, WritesText, room_of, status_of, write_refusal_of};
 ghost use Rattle.lockdep.specs.Texts.{view_of};
 ghost use Rattle.lockdep.specs.declared.refusal.Refusal.{Refusal};
 
@@ -15,7 +19,7 @@ use crate::chains::answer_chains;
 use crate::fault::ReportFault;
 use crate::output::Output;
 use crate::refusal::{REFUSED, Refusal, Tells};
-use crate::request::{OutputRequest, Request, request_of};
+use crate::request::{OutputRequest, Request, VerdictRequest, request_of};
 use crate::session::Session;
 use crate::source::Source;
 use crate::trace_files::{Adds, InTurn, add_trace};
@@ -37,7 +41,7 @@ const NOT_CLEAN: u8 = 1;
 
 /// The program. The words begin with its name, `input` stands for standard input, `out` for standard output and `err` for
 /// standard error. `lockdep check [--workers N] [--many] [FILE...]` writes the report of the traces in these files, `lockdep
-/// explain [--json]` what was found in them and the records that it comes from, `lockdep graph [--findings]` a picture of their
+/// explain [--json]` what was found in them and the records that it comes from, with `--locks` what each finding was seen between, `lockdep graph [--findings]` a picture of their
 /// facts, `lockdep condense` one trace that has exactly their facts, and `lockdep chains [FILE]` the chains of a trace. Without a
 /// file one trace is read from the input. Each file is opened and read before the next one is. `lockdep --version` writes the
 /// version, and `lockdep help` how the program is called.
@@ -179,6 +183,7 @@ fn answer_line<'a, R: Files + Threads + Wait + Sync, A: Adds, I: Read + Drop, O:
 {
     match request_of(line) {
         Request::Output(request) => answer_output(rt, adds, alloc, request, input, out),
+        Request::Verdicts(request) => answer_verdicts(rt, adds, alloc, request, input, out),
         Request::Chains(file) => answer_chains(rt, alloc, file, input, out),
     }
 }
@@ -249,6 +254,69 @@ fn answer_output<'a, R: Files + Threads + Wait + Sync, A: Adds, I: Read + Drop, 
     ) {
         Ok(()) => write_session(rt, alloc, request, session, out),
         Err(refusal) => Err(refusal),
+    }
+}
+
+// Writes the verdicts of the traces in the files, or of the one on standard input if there are no files.
+fn answer_verdicts<'a, R: Files + Threads + Wait + Sync, A: Adds, I: Read + Drop, O: Write>(
+    rt: &R,
+    adds: &A,
+    alloc: Global,
+    request: VerdictRequest<'_, 'a>,
+    input: I,
+    out: &mut O,
+) -> Result<u8, Refusal<'a>>
+    ensures ok { IfOk result (DoesVerdicts (verdicts_asked request.entry) (I.remaining input)
+        (O.contents out.old) (O.contents out.new)) }
+    ensures few { IfOk result (λ status. status ≤ 1) }
+    ensures err { IfErr result (RefusesVerdicts (verdicts_asked request.entry) (I.remaining input)
+        (O.contents out.old) (O.contents out.new)) }
+{
+    let Ok(mut session) = Session::with_room(alloc, MAX_KEYS) else {
+        return Err(Refusal::Memory);
+    };
+    match add_traces(
+        rt,
+        adds,
+        &mut session,
+        request.workers,
+        request.files,
+        input,
+    ) {
+        Ok(()) => write_session_verdicts(rt, alloc, request, session, out),
+        Err(refusal) => Err(refusal),
+    }
+}
+
+// Writes the verdicts of the session's traces, which are those of the files, by as many of the workers as are worth their threads.
+fn write_session_verdicts<'a, R: Threads + Sync, O: Write>(
+    rt: &R,
+    alloc: Global,
+    request: VerdictRequest<'_, 'a>,
+    session: Session,
+    out: &mut O,
+) -> Result<u8, Refusal<'a>>
+    ensures ok { IfOk result (λ status. IsCrew request.entry.workers × (length session.traces ≤ MAX_TRACES)
+        × All IsWellFormed session.traces × ((found : Bool)
+        × WritesVerdicts request.entry.format request.entry.confirmed_only (map (λ file. file.now) request.entry.files.now)
+        session.names session.traces (O.contents out.old) (O.contents out.new) found
+        × (status ≡ (if found then 1 else 0)))) }
+    ensures few { IfOk result (λ status. status ≤ 1) }
+    ensures err { IfErr result (RefusesVerdictsOf (verdicts_asked request.entry) session.names session.traces
+        (O.contents out.old) (O.contents out.new)) }
+{
+    let workers = session.useful_workers(request.workers);
+    match session.write_verdicts(
+        rt,
+        alloc,
+        workers,
+        request.format,
+        request.confirmed_only,
+        request.files,
+        out,
+    ) {
+        Ok(found) => Ok(if found { NOT_CLEAN } else { DONE }),
+        Err(fault) => Err(report_refusal(request.files, fault)),
     }
 }
 

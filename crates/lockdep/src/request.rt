@@ -2,10 +2,11 @@
 
 ghost use Rattle.std.specs.Prelude.{◌≡◌, map};
 ghost use Rattle.lockdep.specs.Inside.Requests.{asked_of};
-ghost use Rattle.lockdep.specs.Program.{asked_by, explanation_as, output_of};
+ghost use Rattle.lockdep.specs.Program.{asked_by, explanation_as, explanation_asked, format_as, output_of, verdicts_of};
 ghost use Rattle.lockdep.specs.Texts.{view_of};
 
 use crate::output::Output;
+use ld_text::Format;
 use ld_words::Line;
 
 /// An output of the traces in these files together, or of the one on standard input if there are no files.
@@ -18,11 +19,23 @@ pub(crate) struct OutputRequest<'l, 'a> {
     pub(crate) files: &'l [&'a str],
 }
 
+/// The findings between types of the traces in these files, each with what it was seen between.
+#[derive(Clone, Copy)]
+pub(crate) struct VerdictRequest<'l, 'a> {
+    pub(crate) format: Format,
+    /// Whether only what was seen between single locks, or isn't known, counts.
+    pub(crate) confirmed_only: bool,
+    pub(crate) workers: u16,
+    pub(crate) files: &'l [&'a str],
+}
+
 /// What a command line asks for.
 #[derive(Clone, Copy)]
 pub(crate) enum Request<'l, 'a> {
     /// An output of traces together.
     Output(OutputRequest<'l, 'a>),
+    /// The findings with what they were seen between.
+    Verdicts(VerdictRequest<'l, 'a>),
     /// The chains of the trace in this file, or of the one on standard input if there is no file.
     Chains(Option<&'a str>),
 }
@@ -41,10 +54,12 @@ pub(crate) fn request_of<'l, 'a>(line: &'l Line<'a>) -> Request<'l, 'a>
             workers,
             many,
             json,
+            locks,
+            confirmed_only,
             files,
         } => {
-            let output = explanation_as(*json, files.as_slice());
-            output_request(output, *many, *workers, files.as_slice())
+            let is_between = *locks || *confirmed_only;
+            explanation_request(is_between, *many, *json, *confirmed_only, *workers, files)
         }
         Line::Graph {
             workers,
@@ -84,6 +99,57 @@ fn output_request<'l, 'a>(
         workers,
         files,
     })
+}
+
+// The request for an explanation, or for verdicts if it is asked what findings were seen between.
+fn explanation_request<'l, 'a>(
+    is_between: bool,
+    many: bool,
+    json: bool,
+    confirmed_only: bool,
+    workers: u16,
+    files: &'l [&'a str],
+) -> Request<'l, 'a>
+    ensures { asked_of result ≡ explanation_asked many json is_between confirmed_only workers (map (λ file. file.now) files.entry.now) }
+{
+    if is_between {
+        return verdict_request(json, confirmed_only, workers, files);
+    }
+    let output = explanation_as(json, &*files);
+    output_request(output, many, workers, files)
+}
+
+// The request for verdicts of the traces in these files, as JSON if that is asked for.
+fn verdict_request<'l, 'a>(
+    json: bool,
+    confirmed_only: bool,
+    workers: u16,
+    files: &'l [&'a str],
+) -> Request<'l, 'a>
+    ensures { asked_of result ≡ verdicts_of (record {
+      format = format_as json;
+      confirmed_only = confirmed_only;
+      workers = workers;
+      files = map (λ file. file.now) files.entry.now;
+    }) }
+{
+    Request::Verdicts(VerdictRequest {
+        format: format_as(json),
+        confirmed_only,
+        workers,
+        files,
+    })
+}
+
+// The format of verdicts.
+fn format_as(as_json: bool) -> Format
+    ensures { result ≡ format_as as_json }
+{
+    if as_json {
+        Format::Json
+    } else {
+        Format::Lines
+    }
 }
 
 // The explanation, as JSON if that is asked for.

@@ -1,6 +1,6 @@
 //! A session: traces, in their order, and what is written of all of them together.
 
-ghost use Rattle.std.specs.Prelude.{◌≡◌, ◌+◌, ◌<◌, ◌≤◌, ◌∷◌, ◌++◌, [], ℕ, List, All, length, IfOk, IfErr, IfSome, IsErrOf, IsOkAnd, IsTrue, OnOk, ◌↔◌};
+ghost use Rattle.std.specs.Prelude.{◌≡◌, ◌+◌, ◌<◌, ◌≤◌, ◌∷◌, ◌++◌, [], ℕ, List, All, length, IfOk, IfErr, IfSome, IsErrOf, IsOkAnd, IsTrue, OnOk, map, ◌↔◌};
 ghost use Rattle.std.specs.Io.KnownBytes.{Appends};
 ghost use Rattle.ld_trace.specs.declared.event.Event.{Event};
 ghost use Rattle.ld_trace.specs.Events.{KeysBelow};
@@ -13,12 +13,15 @@ ghost use Rattle.ld_facts.specs.TraceFacts.{TracesHave};
 ghost use Rattle.ld_text.specs.Report.{IsReportOf};
 ghost use Rattle.lockdep.specs.Faults.{StopsReport, StopsText};
 ghost use Rattle.lockdep.specs.Texts.{IsTextOf, view_of};
+ghost use Rattle.lockdep.specs.Verdicts.{StopsVerdicts, WritesVerdicts};
 
 use crate::fault::ReportFault;
 use crate::output::{Output, write_output};
 use crate::settled::settled_of;
+use crate::verdicts::write_verdicts_of;
 use ld_read::{Sources, Unread, read_all, read_into};
 use ld_run::{Gate, MAX_TRACES, MAX_WORKERS, RunFault};
+use ld_text::Format;
 use ld_trace::{GRAPH_KEYS, KeyFault, KeyTable, MAX_KEYS, RawTrace, TraceFault, event_count};
 use std::alloc::Global;
 use std::io::{Read, Write};
@@ -162,6 +165,42 @@ impl Session {
         let settled = settled_of(rt, alloc, workers, gate, traces, &self.keys)?;
         write_output(alloc, w, output, &settled, traces, &self.keys)?;
         Ok(settled.is_clean())
+    }
+
+    /// Checks all traces by `workers` workers, writes the findings between types of their locks, each with what it was seen between,
+    /// and returns whether one of them counts: all but notes do, or if `confirmed_only` is set, what was seen between single locks
+    /// and what isn't known. `files` are the names of the traces. The session is consumed in every case.
+    ///
+    /// Refusals are those of `write` for an explanation, but that M1 means that more than 256 types lead to one another, whatever
+    /// the number of keys.
+    pub fn write_verdicts<R: Threads + Sync, W: Write>(
+        self,
+        rt: &R,
+        alloc: Global,
+        workers: u16,
+        format: Format,
+        confirmed_only: bool,
+        files: &[&str],
+        w: &mut W,
+    ) -> Result<bool, ReportFault>
+        ensures ok { IfOk result (WritesVerdicts format confirmed_only (map (λ file. file.now) files.entry.now)
+            self.names self.traces (W.contents w.old) (W.contents w.new)) }
+        ensures crew { OnOk result (IsCrew workers × (length self.traces ≤ MAX_TRACES) × All IsWellFormed self.traces) }
+        ensures refused { IfErr result (StopsVerdicts format (map (λ file. file.now) files.entry.now) self.names self.traces workers
+            (W.contents w.old) (W.contents w.new)) }
+    {
+        let traces = self.traces.as_slice();
+        write_verdicts_of(
+            rt,
+            alloc,
+            workers,
+            traces,
+            &self.keys,
+            format,
+            confirmed_only,
+            files,
+            w,
+        )
     }
 
     /// Checks all traces by `workers` workers, writes the report of all of them together, and returns whether their facts are

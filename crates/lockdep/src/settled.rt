@@ -6,6 +6,9 @@ ghost use Rattle.ld_trace.specs.Events.{KeysBelow};
 ghost use Rattle.ld_run.specs.Runs.{CompletesRun, StopsRun};
 ghost use Rattle.lockdep.specs.Faults.{StopsText};
 ghost use Rattle.lockdep.specs.Texts.{OutputView};
+ghost use Rattle.lockdep.specs.Verdicts.{StopsVerdicts};
+ghost use Rattle.ld_text.specs.Words.{Text};
+ghost use Rattle.ld_text.specs.declared.findings.Format.{Format};
 
 use crate::fault::ReportFault;
 use ld_run::{Gate, RunFault, Settled, run};
@@ -36,11 +39,14 @@ pub(crate) fn settled_of<R: Threads + Wait + Sync, G: Gate + Sync>(
 }
 
 // The fault of a session whose run was refused.
-fn run_fault(fault: RunFault, traces: &[RawTrace]) -> ReportFault
+pub(crate) fn run_fault(fault: RunFault, traces: &[RawTrace]) -> ReportFault
     requires { (keys : ℕ) × (workers : ℕ) × StopsRun traces.now keys workers fault }
-    ensures { (workers : ℕ) (known : Option (List ℕ)) (names : List Name) (output : OutputView)
+    ensures text { (workers : ℕ) (known : Option (List ℕ)) (names : List Name) (output : OutputView)
         → StopsRun traces.now (length names) workers fault
         → StopsText output traces.now names workers known known result }
+    ensures verdicts { (workers : ℕ) (known : Option (List ℕ)) (names : List Name) (format : Format) (files : List Text)
+        → StopsRun traces.now (length names) workers fault
+        → StopsVerdicts format files names traces.now workers known known result }
 {
     match fault {
         RunFault::Refused {

@@ -1,10 +1,11 @@
 -- What a request asks for, with the names of the files as texts. No public clause speaks of these.
 use Rattle.std.specs.Prelude.{map, option_map}
-use Rattle.lockdep.specs.Program.{Asked, OutputOf, output_of, chains_of}
+use Rattle.lockdep.specs.Program.{Asked, OutputOf, VerdictsOf, chains_of, output_of, verdicts_of}
 use Rattle.lockdep.specs.Texts.{view_of}
 use Rattle.lockdep.specs.declared.request.OutputRequest.{OutputRequest}
 use Rattle.lockdep.specs.declared.request.Request.{Request}
-use Rattle.lockdep.specs.declared.request.Request.TheVariants.{Output, Chains}
+use Rattle.lockdep.specs.declared.request.Request.TheVariants.{Output, Verdicts, Chains}
+use Rattle.lockdep.specs.declared.request.VerdictRequest.{VerdictRequest}
 
 -- an output with its many, workers and files
 abbrev pub output_asked : OutputRequest → OutputOf
@@ -15,7 +16,17 @@ output_asked r = record {
   files = map (λ file. file.now) r.files.now;
 }
 
--- that, or chains
+-- verdicts with their workers and files
+abbrev pub verdicts_asked : VerdictRequest → VerdictsOf
+verdicts_asked r = record {
+  format = r.format;
+  confirmed_only = r.confirmed_only;
+  workers = r.workers;
+  files = map (λ file. file.now) r.files.now;
+}
+
+-- one of these, or chains
 abbrev pub asked_of : Request → Asked
 asked_of (Output r) = output_of (output_asked r)
+asked_of (Verdicts r) = verdicts_of (verdicts_asked r)
 asked_of (Chains file) = chains_of (option_map (λ word. word.now) file)

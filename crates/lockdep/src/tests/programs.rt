@@ -19,7 +19,7 @@ type Run<'t> = (
     (u8, &'t str, &'t str),
 );
 
-static RUNS: [Run<'_>; 12] = [
+static RUNS: [Run<'_>; 15] = [
     (
         &["lockdep", "check"],
         "lockdep,1\nacq,A,0,w\nenter,hardirq\nacq,B,0,w\nrel,B,0\nleave\n",
@@ -37,6 +37,37 @@ static RUNS: [Run<'_>; 12] = [
         (
             1,
             "traces 1\nevents 2\nkeys 1\ndependencies 1\nclean no\nusage A/0 {++++}\ncircle A/0 ER A/0\nbecause A/0 ER A/0\n",
+            "",
+        ),
+    ),
+    // Two locks that were taken both ways, and an order of one of them with another lock of that class.
+    (
+        &["lockdep", "explain", "--locks"],
+        "lockdep,1\nacq,a#1,0,w\nacq,b#1,0,w\nrel,b#1,0\nrel,a#1,0\nacq,b#1,0,w\nacq,a#1,0,w\n",
+        (0, 0),
+        (
+            1,
+            "findings 1\n\ncircle a/0 EN b/0 EN a/0\n  a/0 EN b/0: stdin: record 3 takes b#1/0 w, with a#1/0 w held since record 2\n  b/0 EN a/0: stdin: record 7 takes a#1/0 w, with b#1/0 w held since record 6\n  task 1 holds a/0 and waits for b/0\n  task 2 holds b/0 and waits for a/0\n  seen between locks: a#1/0 EN b#1/0 EN a#1/0\n    a#1/0 EN b#1/0: stdin: record 3 takes b#1/0 w, with a#1/0 w held since record 2\n    b#1/0 EN a#1/0: stdin: record 7 takes a#1/0 w, with b#1/0 w held since record 6\n    note: only in stdin\n  note: only in stdin\n",
+            "",
+        ),
+    ),
+    (
+        &["lockdep", "explain", "--confirmed-only"],
+        "lockdep,1\nacq,a#1,0,w\nacq,b#1,0,w\nrel,b#1,0\nrel,a#1,0\nacq,b#2,0,w\nacq,a#1,0,w\n",
+        (0, 0),
+        (
+            0,
+            "findings 1\n\ncircle a/0 EN b/0 EN a/0\n  a/0 EN b/0: stdin: record 3 takes b#1/0 w, with a#1/0 w held since record 2\n  b/0 EN a/0: stdin: record 7 takes a#1/0 w, with b#2/0 w held since record 6\n  task 1 holds a/0 and waits for b/0\n  task 2 holds b/0 and waits for a/0\n  seen only between classes, not between single locks\n  note: only in stdin\n",
+            "",
+        ),
+    ),
+    (
+        &["lockdep", "explain", "--locks", "--json"],
+        "lockdep,1\nacq,a#1,0,w\nacq,b#1,0,w\nrel,b#1,0\nrel,a#1,0\nacq,b#2,0,w\nacq,a#1,0,w\n",
+        (0, 0),
+        (
+            1,
+            "{\"lockdep\":2,\"counts\":{\"locks\":0,\"perhaps\":0,\"unknown\":0,\"classes\":1,\"types\":0,\"nested\":0},\"findings\":[\n{\"type\":\"circle\",\"keys\":[\"a/0\",\"b/0\"],\"lines\":[\"circle a/0 EN b/0\",\"circle b/0 EN a/0\"],\"orders\":[{\"from\":\"a/0\",\"kind\":\"EN\",\"to\":\"b/0\",\"file\":\"stdin\",\"record\":3,\"takes\":\"w\",\"held\":\"w\",\"since\":2},{\"from\":\"b/0\",\"kind\":\"EN\",\"to\":\"a/0\",\"file\":\"stdin\",\"record\":7,\"takes\":\"w\",\"held\":\"w\",\"since\":6}],\"notes\":[\"only in stdin\"],\"gates\":[],\"only\":\"stdin\",\"between\":{\"kind\":\"classes\"}}\n]}\n",
             "",
         ),
     ),

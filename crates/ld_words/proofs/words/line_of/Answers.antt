@@ -11,7 +11,13 @@ returns-in-Some-subcommand_matches-clause-ok c =
     let read = c.in_ok-workers-2.ensures in (
       rows_of (found_of found.now),
       subcommand_met _ (codes "explain") (rows_of (found_of found.now)) (met.found.0 refl) met.rows,
-      (read.check, read.many, flag-read (found_of found.now) (codes "json") c.get_flag-json.result c.get_flag-json.ensures.value c.get_flag-json.ensures.other),
+      (
+        read.check,
+        read.many,
+        flag-read (found_of found.now) (codes "json") c.get_flag.result c.get_flag.ensures.value c.get_flag.ensures.other,
+        flag-read (found_of found.now) (codes "locks") c.get_flag-in-Some-subcommand_matches.result c.get_flag-in-Some-subcommand_matches.ensures.value c.get_flag-in-Some-subcommand_matches.ensures.other,
+        flag-read (found_of found.now) (codes "confirmed-only") c.get_flag-in-Some-subcommand_matches-2.result c.get_flag-in-Some-subcommand_matches-2.ensures.value c.get_flag-in-Some-subcommand_matches-2.ensures.other,
+      ),
     )
 
 pub returns-in-Some-subcommand_matches-2-clause-ok : goal.returns-in-Some-subcommand_matches-2-clause-ok

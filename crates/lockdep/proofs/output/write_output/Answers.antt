@@ -1,5 +1,5 @@
 use Rattle.lockdep.proofs.Names.{Appends, HasFact, IfErr, IfErr-weaker, IfOk-weaker, IsCondensedOf, IsCondensedText, IsReport-same, IsTextOf, List, OnOk, StopsSettled, TracesHave, ap, condensed, explanation, json, length, map, picture, report, subst, sum_by, sym, view_of, ℕ}
-use Rattle.ld_text.specs.Explanation.{Sources}
+use Rattle.ld_text.specs.Explanation.{Sources, sources_of}
 use Rattle.ld_text.specs.Findings.{SaysFindings}
 use Rattle.ld_text.specs.Picture.{IsPicture}
 use Rattle.ld_text.specs.Report.{IsReport}
@@ -27,28 +27,28 @@ returns-in-Report-clause-err g c =
 
 pub returns-in-Explanation-clause-ok : goal.returns-in-Explanation-clause-ok
 returns-in-Explanation-clause-ok g c =
-    let sources : Sources = record { traces = c.args.traces.now; names = c.args.keys.now.names; files = map (λ file. file.now) c.in-Explanation.files.now } in
+    let sources : Sources = sources_of c.args.traces.now c.args.keys.now.names (map (λ file. file.now) c.in-Explanation.files.now) in
     written-ok _ (explanation sources.files) (ap view_of c.in-Explanation.is) (SaysFindings format.Lines (HasFact c.args.settled.now) sources)
     c.args.traces.now c.args.keys.now.names (SaysFindings-same (HasFact c.args.settled.now) (TracesHave c.args.traces.now) c.requires.facts format.Lines sources)
     _ _ c.write_findings.result c.map_err-in-Explanation.result c.map_err-in-Explanation.ensures.cases c.write_findings.ensures.ok
 
 pub returns-in-Explanation-clause-err : goal.returns-in-Explanation-clause-err
 returns-in-Explanation-clause-err g c =
-    let sources : Sources = record { traces = c.args.traces.now; names = c.args.keys.now.names; files = map (λ file. file.now) c.in-Explanation.files.now } in
+    let sources : Sources = sources_of c.args.traces.now c.args.keys.now.names (map (λ file. file.now) c.in-Explanation.files.now) in
     written-err _ (explanation sources.files) (ap view_of c.in-Explanation.is) (SaysFindings format.Lines (HasFact c.args.settled.now) sources)
     c.args.traces.now c.args.keys.now.names (SaysFindings-same (HasFact c.args.settled.now) (TracesHave c.args.traces.now) c.requires.facts format.Lines sources)
     _ _ c.write_findings.result c.map_err-in-Explanation.result c.map_err-in-Explanation.ensures.cases c.write_findings.ensures.err
 
 pub returns-in-Json-clause-ok : goal.returns-in-Json-clause-ok
 returns-in-Json-clause-ok g c =
-    let sources : Sources = record { traces = c.args.traces.now; names = c.args.keys.now.names; files = map (λ file. file.now) c.in-Json.files.now } in
+    let sources : Sources = sources_of c.args.traces.now c.args.keys.now.names (map (λ file. file.now) c.in-Json.files.now) in
     written-ok _ (json sources.files) (ap view_of c.in-Json.is) (SaysFindings format.Json (HasFact c.args.settled.now) sources)
     c.args.traces.now c.args.keys.now.names (SaysFindings-same (HasFact c.args.settled.now) (TracesHave c.args.traces.now) c.requires.facts format.Json sources)
     _ _ c.write_findings-in-Json.result c.map_err-in-Json.result c.map_err-in-Json.ensures.cases c.write_findings-in-Json.ensures.ok
 
 pub returns-in-Json-clause-err : goal.returns-in-Json-clause-err
 returns-in-Json-clause-err g c =
-    let sources : Sources = record { traces = c.args.traces.now; names = c.args.keys.now.names; files = map (λ file. file.now) c.in-Json.files.now } in
+    let sources : Sources = sources_of c.args.traces.now c.args.keys.now.names (map (λ file. file.now) c.in-Json.files.now) in
     written-err _ (json sources.files) (ap view_of c.in-Json.is) (SaysFindings format.Json (HasFact c.args.settled.now) sources)
     c.args.traces.now c.args.keys.now.names (SaysFindings-same (HasFact c.args.settled.now) (TracesHave c.args.traces.now) c.requires.facts format.Json sources)
     _ _ c.write_findings-in-Json.result c.map_err-in-Json.result c.map_err-in-Json.ensures.cases c.write_findings-in-Json.ensures.err

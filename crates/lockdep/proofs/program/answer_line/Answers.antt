@@ -20,3 +20,13 @@ pub returns-in-Chains-clause-err : goal.returns-in-Chains-clause-err
 returns-in-Chains-clause-err g c =
     subst (λ (asked : Asked). IfErr c.answer_chains.result (RefusesAsked asked (g.I.Read.remaining c.args.input) (g.O.Write.contents c.args.out.now) (g.O.Write.contents c.answer_chains.new.out)))
     c.in-Chains.ensures c.answer_chains.ensures.err
+
+pub returns-in-Verdicts-clause-ok : goal.returns-in-Verdicts-clause-ok
+returns-in-Verdicts-clause-ok g c =
+    subst (λ (asked : Asked). IfOk c.answer_verdicts.result (DoesAsked asked (g.I.Read.remaining c.args.input) (g.O.Write.contents c.args.out.now) (g.O.Write.contents c.answer_verdicts.new.out)))
+    c.in-Verdicts.ensures c.answer_verdicts.ensures.ok
+
+pub returns-in-Verdicts-clause-err : goal.returns-in-Verdicts-clause-err
+returns-in-Verdicts-clause-err g c =
+    subst (λ (asked : Asked). IfErr c.answer_verdicts.result (RefusesAsked asked (g.I.Read.remaining c.args.input) (g.O.Write.contents c.args.out.now) (g.O.Write.contents c.answer_verdicts.new.out)))
+    c.in-Verdicts.ensures c.answer_verdicts.ensures.err

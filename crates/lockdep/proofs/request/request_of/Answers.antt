@@ -7,10 +7,6 @@ pub returns-in-Check : goal.returns-in-Check
 returns-in-Check c = subst (λ (line : Line). asked_of c.output_request.result ≡ asked_by line)
     (sym c.in-Check.is) (rw c.as_slice.ensures.value at c.output_request.ensures)
 
-pub returns-in-Explain : goal.returns-in-Explain
-returns-in-Explain c = subst (λ (line : Line). asked_of c.output_request-in-Explain.result ≡ asked_by line)
-    (sym c.in-Explain.is) (rw (c.explanation_as-output.ensures, c.as_slice-in-Explain.ensures.value, c.as_slice-in-Explain-2.ensures.value) at c.output_request-in-Explain.ensures)
-
 pub returns-in-Graph : goal.returns-in-Graph
 returns-in-Graph c = subst (λ (line : Line). asked_of c.output_request-in-Graph.result ≡ asked_by line)
     (sym c.in-Graph.is) (rw c.as_slice-in-Graph.ensures.value at c.output_request-in-Graph.ensures)

@@ -1,0 +1,6 @@
+use Rattle.ld_explain.specs.Inside.Sure.{AreSureNumbers}
+use Rattle.ld_explain.proofs.settling.sure_keys.Given as goal
+
+-- the keys so far
+abbrev pub invariant-loop-number : goal.invariant-loop-number
+invariant-loop-number l = AreSureNumbers l.names.names l.number l.keys.items

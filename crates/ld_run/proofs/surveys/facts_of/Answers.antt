@@ -1,0 +1,5 @@
+use Rattle.ld_run.proofs.Settlements.{passed_err}
+use Rattle.ld_run.proofs.surveys.facts_of.Goals as goal
+
+pub returns-in_err-allow-clause-refused : goal.returns-in_err-allow-clause-refused
+returns-in_err-allow-clause-refused g c = passed_err _ _ _ c.from_residual.ensures (c.in_err-allow.ensures.refused c.args.keys)

@@ -1,0 +1,146 @@
+-- The texts of verdicts: findings between types, each with what it was seen between [this project's own].
+use Rattle.std.specs.Prelude.{◌-◌, ◌==◌, ℕ, Bool, List, [], ◌++◌, None, Option, Some, codes, drop, flat_map, if◌then◌else◌, length}
+use Rattle.json.specs.Token.{Token}
+use Rattle.json.specs.Print.{print}
+use Rattle.ld_trace.specs.Names.{Name}
+use Rattle.ld_trace.specs.Writing.{name_at}
+use Rattle.ld_trace.specs.declared.event.Event.{Event}
+use Rattle.ld_facts.specs.Arrows.{Arrow}
+use Rattle.ld_explain.specs.Settling.{AreLevels, AreVerdictsAt, LevelParts}
+use Rattle.ld_explain.specs.Verdicts.{count_ranked, is_nesting, rank}
+use Rattle.ld_explain.specs.declared.finding.Finding.{Finding}
+use Rattle.ld_explain.specs.declared.finding.Finding.TheVariants.{Circle, Double, Inversion}
+use Rattle.ld_explain.specs.declared.finding.GateNote.{GateNote}
+use Rattle.ld_explain.specs.declared.verdict.Between.{Between}
+use Rattle.ld_explain.specs.declared.verdict.Between.TheVariants.{Locks, Perhaps, Unknown, Classes, Types}
+use Rattle.ld_explain.specs.declared.verdict.Verdict.{Verdict}
+use Rattle.ld_text.specs.Explanation.{Sources, deadlock_text, head_text, notes_text, origins_text, walk_text}
+use Rattle.ld_text.specs.Json.{dependency_members, finding_members, list_member, number_member, object, object_member, text_member}
+use Rattle.ld_text.specs.Order.{IsKeyOrder}
+use Rattle.ld_text.specs.Report.{total_line}
+use Rattle.ld_text.specs.Words.{Text, file_at, key_text}
+use Rattle.ld_text.specs.declared.findings.Format.{Format}
+use Rattle.ld_text.specs.declared.findings.Format.TheVariants as format
+
+-- ---- what the texts are of
+-- these are the verdicts of these traces: the findings between the types of their locks, with the types and the locks in the order of
+-- their names
+pub record AreVerdictsOf (traces : List (List Event)) (names : List Name) (verdicts : List Verdict) : Type 0 where
+  pub levels : LevelParts
+  pub levels_are : AreLevels traces names levels
+  pub keys : List ℕ
+  pub keys_are : IsKeyOrder levels.type_names keys
+  pub locks : List ℕ
+  pub locks_are : IsKeyOrder names locks
+  pub verdicts_are : AreVerdictsAt traces levels keys locks verdicts
+
+-- words for findings between types, whose records take the traces' locks, and for those between single locks, which stand deeper
+abbrev pub type_sources : List (List Event) → (types names : List Name) → List Text → Sources
+type_sources traces types names files = record { traces = traces; names = types; locks = names; files = files; margin = codes "  " }
+
+abbrev pub lock_sources : List (List Event) → (names : List Name) → List Text → Sources
+lock_sources traces names files = record { traces = traces; names = names; locks = names; files = files; margin = codes "    " }
+
+-- ---- lines for people
+-- what was seen: a walk, or a key
+abbrev pub seen_text : List Name → Finding → List ℕ
+seen_text names (Circle walk gates only) = walk_text names walk.items
+seen_text names (Double irq key used enabled) = key_text (name_at names key)
+seen_text names (Inversion irq a b walk used enabled gates) = walk_text names walk.items
+
+-- where a finding between single locks comes from, and what speaks against it
+abbrev pub nested_text : Sources → Finding → List ℕ
+nested_text sources nested = origins_text sources nested ++ notes_text sources nested
+
+-- what a finding was seen between
+abbrev pub between_text : Sources → (is_nesting : Bool) → Between → List ℕ
+between_text locks is_nesting (Locks nested) =
+    codes "  seen between locks: " ++ (seen_text locks.names nested ++ (codes "\n" ++ nested_text locks nested))
+between_text locks is_nesting (Perhaps nested) = codes "  perhaps seen between locks: "
+    ++ (seen_text locks.names nested ++ (codes "; #rest is several locks\n" ++ nested_text locks nested))
+between_text locks is_nesting Unknown = codes "  not known whether seen between locks: more than 256 keys lead to one another\n"
+between_text locks is_nesting Classes = codes "  seen only between classes, not between single locks\n"
+between_text locks is_nesting Types = if is_nesting
+    then codes "  seen only between types, as one type nested in itself: a note, and no finding\n"
+    else codes "  seen only between types, not between classes\n"
+
+-- a finding, and what it was seen between before what speaks against it
+abbrev pub verdict_block : (types locks : Sources) → Verdict → List ℕ
+verdict_block types locks v = head_text types.names v.finding ++ (origins_text types v.finding ++ (deadlock_text types.names v.finding
+    ++ (between_text locks (is_nesting v.finding) v.between ++ notes_text types v.finding)))
+
+-- the text of a verdict, if it has this rank
+abbrev pub ranked : (Verdict → List ℕ) → (r : ℕ) → Verdict → List ℕ
+ranked f r v = if rank v == r then f v else []
+
+-- the texts of all verdicts, by rank
+abbrev pub in_order : (Verdict → List ℕ) → List Verdict → List ℕ
+in_order f verdicts = flat_map (ranked f 0) verdicts ++ (flat_map (ranked f 1) verdicts ++ (flat_map (ranked f 2) verdicts
+    ++ (flat_map (ranked f 3) verdicts ++ (flat_map (ranked f 4) verdicts ++ flat_map (ranked f 5) verdicts))))
+
+-- how many findings there are, without notes, and each verdict
+unfoldable pub verdict_lines : (types locks : Sources) → List Verdict → List ℕ
+verdict_lines types locks verdicts =
+    total_line (codes "findings") (length verdicts - count_ranked verdicts 5) ++ in_order (verdict_block types locks) verdicts
+
+-- ---- JSON, version 2
+-- a dependency without its occurrence
+abbrev pub dependency_object : List Name → Arrow → List Token
+dependency_object names d = object (dependency_members names d)
+
+-- a gate, with the dependencies that it is held round
+abbrev pub gate_object : List Name → GateNote → List Token
+gate_object names gate = object (text_member (codes "gate") (key_text (name_at names gate.key))
+    ++ list_member (codes "orders") (flat_map (dependency_object names) gate.guarded.items))
+
+-- the file that alone has all occurrences, if one has
+abbrev pub only_member : List Text → Option ℕ → List Token
+only_member files None = []
+only_member files (Some trace) = text_member (codes "only") (file_at files trace)
+
+-- the notes as objects
+abbrev pub note_members : Sources → Finding → List Token
+note_members sources (Circle walk gates only) =
+    list_member (codes "gates") (flat_map (gate_object sources.names) gates.items) ++ only_member sources.files only
+note_members sources (Double irq key used enabled) = []
+note_members sources (Inversion irq a b walk used enabled gates) =
+    list_member (codes "gates") (flat_map (gate_object sources.names) gates.items)
+
+-- a finding's members of version 1, and its notes as objects
+abbrev pub noted_members : Sources → Finding → List Token
+noted_members sources finding = finding_members sources finding ++ note_members sources finding
+
+-- what a finding was seen between
+abbrev pub between_members : Sources → (is_nesting : Bool) → Between → List Token
+between_members locks is_nesting (Locks nested) =
+    text_member (codes "kind") (codes "locks") ++ object_member (codes "finding") (noted_members locks nested)
+between_members locks is_nesting (Perhaps nested) =
+    text_member (codes "kind") (codes "perhaps") ++ object_member (codes "finding") (noted_members locks nested)
+between_members locks is_nesting Unknown = text_member (codes "kind") (codes "unknown")
+between_members locks is_nesting Classes = text_member (codes "kind") (codes "classes")
+between_members locks is_nesting Types = text_member (codes "kind") (if is_nesting then codes "nested" else codes "types")
+
+-- a verdict on a line of its own, after a comma
+abbrev pub verdict_members : (types locks : Sources) → Verdict → List Token
+verdict_members types locks v = noted_members types v.finding
+    ++ object_member (codes "between") (between_members locks (is_nesting v.finding) v.between)
+
+abbrev pub verdict_line : (types locks : Sources) → Verdict → List ℕ
+verdict_line types locks v = codes ",\n" ++ print (object (verdict_members types locks v))
+
+-- how many verdicts there are of each rank
+abbrev pub count_members : List Verdict → List Token
+count_members verdicts = number_member (codes "locks") (count_ranked verdicts 0) ++ (number_member (codes "perhaps") (count_ranked verdicts 1)
+    ++ (number_member (codes "unknown") (count_ranked verdicts 2) ++ (number_member (codes "classes") (count_ranked verdicts 3)
+    ++ (number_member (codes "types") (count_ranked verdicts 4) ++ number_member (codes "nested") (count_ranked verdicts 5)))))
+
+-- one object with the counts and all verdicts; the first line has no comma before it
+unfoldable pub verdict_json : (types locks : Sources) → List Verdict → List ℕ
+verdict_json types locks verdicts = codes "{\"lockdep\":2,\"counts\":" ++ (print (object (count_members verdicts))
+    ++ (codes ",\"findings\":[" ++ (drop 1 (in_order (verdict_line types locks) verdicts) ++ codes "\n]}\n")))
+
+-- ---- the text
+-- verdicts as lines for people, or as JSON
+abbrev pub verdicts_text : Format → (types locks : Sources) → List Verdict → List ℕ
+verdicts_text format.Lines = verdict_lines
+verdicts_text format.Json = verdict_json

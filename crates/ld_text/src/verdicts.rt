@@ -1,0 +1,116 @@
+//! The verdicts of traces, and the text of them in one of two formats.
+
+ghost use Rattle.std.specs.Prelude.{◌≡◌, ◌≤◌, All, IfErr, IfOk, List, OnOk, length, map, ℕ};
+ghost use Rattle.std.specs.Io.KnownBytes.{Appends};
+ghost use Rattle.ld_trace.specs.declared.raw_trace.TheConstants.{MAX_TRACES};
+ghost use Rattle.ld_task.specs.WellFormed.{IsWellFormed};
+ghost use Rattle.ld_explain.specs.Settling.{AreLevels};
+ghost use Rattle.ld_text.specs.Verdicts.{AreVerdictsOf, lock_sources, type_sources, verdicts_text};
+ghost use Rattle.ld_text.specs.WriteFaults.{StopsWriting};
+
+use crate::findings::Format;
+use crate::key_texts::KeyTexts;
+use crate::order::sorted_keys;
+use crate::output::write_text;
+use crate::wording::{DEEPER, MARGIN, Wording};
+use crate::write_fault::WriteFault;
+use ld_explain::{SettledLevels, Verdict};
+use ld_trace::{KeyTable, RawTrace};
+use std::alloc::{AllocError, Global};
+use std::io::Write;
+
+/// What verdicts are put into words by: findings between types by the one, and those between single locks by the other.
+#[derive(Drop)]
+pub(crate) struct VerdictWording<'a> {
+    pub types: &'a Wording<'a>,
+    pub locks: &'a Wording<'a>,
+}
+
+/// The verdicts of the traces, at most 4,096, whose facts are settled so: the findings between the types of their locks, each with
+/// what it was seen between; types and locks come in the order of their names. It fails only if memory is refused.
+pub fn verdicts_of_traces(
+    alloc: Global,
+    levels: &SettledLevels,
+    traces: &[RawTrace],
+    names: &KeyTable,
+) -> Result<Vec<Verdict>, AllocError>
+    requires few { length traces.now ≤ MAX_TRACES }
+    requires well_formed { All IsWellFormed traces.now }
+    requires levels { AreLevels traces.now names.now.names levels.now }
+    ensures { IfOk result (λ verdicts. AreVerdictsOf traces.now names.now.names verdicts.items) }
+{
+    let keys = sorted_keys(alloc, levels.type_names())?;
+    let locks = sorted_keys(alloc, names)?;
+    levels.verdicts(alloc, traces, names, &keys, &locks)
+}
+
+// The text.
+fn verdicts_text(
+    alloc: Global,
+    verdicts: &[Verdict],
+    traces: &[RawTrace],
+    types: &KeyTable,
+    names: &KeyTable,
+    files: &[&str],
+    format: Format,
+) -> Result<Vec<u8>, AllocError>
+    ensures { IfOk result (λ text. text.items ≡ verdicts_text format
+        (type_sources traces.now types.now.names names.now.names (map (λ file. file.now) files.entry.now))
+        (lock_sources traces.now names.now.names (map (λ file. file.now) files.entry.now)) verdicts.now) }
+{
+    let type_texts = KeyTexts::of(alloc, types)?;
+    let lock_texts = KeyTexts::of(alloc, names)?;
+    let between_types = Wording {
+        traces,
+        names: types,
+        keys: &type_texts,
+        lock_names: names,
+        locks: &lock_texts,
+        files,
+        margin: MARGIN,
+        alloc,
+    };
+    let between_locks = Wording {
+        names,
+        keys: &lock_texts,
+        margin: DEEPER,
+        ..between_types
+    };
+    let wording = VerdictWording {
+        types: &between_types,
+        locks: &between_locks,
+    };
+    match format {
+        Format::Lines => wording.lines(verdicts),
+        Format::Json => wording.json(verdicts),
+    }
+}
+
+/// Writes these verdicts of traces in these files, whose locks' types have the one names and the locks the other. Names of files are
+/// as they were given.
+///
+/// Refusals: O3 if memory for the text is refused, before its first byte; O1 if the writer returns an error and O2 if it takes
+/// nothing, after exactly a beginning of the text. This project's own.
+pub fn write_verdicts<W: Write>(
+    alloc: Global,
+    w: &mut W,
+    verdicts: &[Verdict],
+    traces: &[RawTrace],
+    types: &KeyTable,
+    names: &KeyTable,
+    files: &[&str],
+    format: Format,
+) -> Result<(), WriteFault>
+    ensures ok { OnOk result (Appends (W.contents w.old) (W.contents w.new) (verdicts_text format
+        (type_sources traces.now types.now.names names.now.names (map (λ file. file.now) files.entry.now))
+        (lock_sources traces.now names.now.names (map (λ file. file.now) files.entry.now)) verdicts.now)) }
+    ensures err { IfErr result (StopsWriting (λ text. text ≡ verdicts_text format
+        (type_sources traces.now types.now.names names.now.names (map (λ file. file.now) files.entry.now))
+        (lock_sources traces.now names.now.names (map (λ file. file.now) files.entry.now)) verdicts.now)
+        (W.contents w.old) (W.contents w.new)) }
+{
+    match verdicts_text(alloc, verdicts, traces, types, names, files, format) {
+        Ok(text) => write_text(w, text.as_slice()),
+        Err(_) => Err(WriteFault::Memory),
+    }
+}

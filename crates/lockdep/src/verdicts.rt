@@ -1,0 +1,112 @@
+//! The verdicts of a session's traces: the findings between types of locks, each with what it was seen between.
+
+ghost use Rattle.std.specs.Prelude.{◌≡◌, ◌<◌, ◌≤◌, Err, List, Option, All, IfErr, IfOk, OnOk, length, map, ℕ};
+ghost use Rattle.ld_trace.specs.Events.{KeysBelow};
+ghost use Rattle.ld_task.specs.WellFormed.{IsWellFormed};
+ghost use Rattle.ld_run.specs.Runs.{IsCrew};
+ghost use Rattle.ld_explain.specs.Settling.{AreLevels};
+ghost use Rattle.ld_text.specs.Words.{Text};
+ghost use Rattle.ld_text.specs.declared.findings.Format.{Format};
+ghost use Rattle.ld_text.specs.WriteFaults.{StopsWriting};
+ghost use Rattle.lockdep.specs.Verdicts.{SaysVerdicts, StopsVerdicts, WritesVerdicts};
+ghost use Rattle.lockdep.specs.Inside.Tangled.{fault_of_parting};
+
+use crate::fault::ReportFault;
+use crate::settled::run_fault;
+use ld_explain::{SettledLevels, has_finding};
+use ld_parts::PartingFault;
+use ld_run::{MAX_TRACES, RunFault, facts_of};
+use ld_text::{Format, WriteFault, verdicts_of_traces, write_verdicts};
+use ld_trace::{KeyTable, RawTrace};
+use std::alloc::Global;
+use std::io::Write;
+use std::thread::Threads;
+
+// The facts of the traces, settled at each level of what their locks are called.
+fn levels_of<R: Threads + Sync>(
+    rt: &R,
+    alloc: Global,
+    workers: u16,
+    traces: &[RawTrace],
+    keys: &KeyTable,
+) -> Result<SettledLevels, ReportFault>
+    requires { All (KeysBelow (length keys.now.names)) traces.now }
+    ensures levels { IfOk result (AreLevels traces.now keys.now.names) }
+    ensures ok { OnOk result (IsCrew workers × (length traces.now ≤ MAX_TRACES) × All IsWellFormed traces.now) }
+    ensures refused { IfErr result (λ fault. (known : Option (List ℕ)) (format : Format) (files : List Text)
+        → StopsVerdicts format files keys.now.names traces.now workers known known fault) }
+{
+    let facts = match facts_of(rt, alloc, traces, keys.len() as u16, workers) {
+        Ok(facts) => facts,
+        Err(fault) => return Err(run_fault(fault, traces)),
+    };
+    match SettledLevels::of(alloc, facts, keys) {
+        Ok(levels) => Ok(levels),
+        Err(fault) => Err(ReportFault::Run(fault_of_parting(fault))),
+    }
+}
+
+// The fault of a run whose types can't be settled.
+fn fault_of_parting(fault: PartingFault) -> RunFault
+    ensures { result ≡ fault_of_parting fault }
+{
+    match fault {
+        PartingFault::TooTangled => RunFault::TooTangled,
+        PartingFault::Memory => RunFault::Memory,
+    }
+}
+
+/// Writes the verdicts of these traces of the files, and returns whether one of them counts. Refusals are those of `Session::write`
+/// for an explanation, but that M1 is of the types alone.
+pub(crate) fn write_verdicts_of<R: Threads + Sync, W: Write>(
+    rt: &R,
+    alloc: Global,
+    workers: u16,
+    traces: &[RawTrace],
+    keys: &KeyTable,
+    format: Format,
+    confirmed_only: bool,
+    files: &[&str],
+    w: &mut W,
+) -> Result<bool, ReportFault>
+    requires { All (KeysBelow (length keys.now.names)) traces.now }
+    ensures ok { IfOk result (WritesVerdicts format confirmed_only (map (λ file. file.now) files.entry.now) keys.now.names
+        traces.now (W.contents w.old) (W.contents w.new)) }
+    ensures crew { OnOk result (IsCrew workers × (length traces.now ≤ MAX_TRACES) × All IsWellFormed traces.now) }
+    ensures refused { IfErr result (StopsVerdicts format (map (λ file. file.now) files.entry.now) keys.now.names
+        traces.now workers (W.contents w.old) (W.contents w.new)) }
+{
+    let levels = levels_of(rt, alloc, workers, traces, keys)?;
+    match write_levels(alloc, &levels, traces, keys, format, confirmed_only, files, w) {
+        Ok(found) => Ok(found),
+        Err(fault) => Err(ReportFault::Out(fault)),
+    }
+}
+
+// Writes the verdicts of traces that are settled so, and returns whether one of them counts.
+fn write_levels<W: Write>(
+    alloc: Global,
+    levels: &SettledLevels,
+    traces: &[RawTrace],
+    keys: &KeyTable,
+    format: Format,
+    confirmed_only: bool,
+    files: &[&str],
+    w: &mut W,
+) -> Result<bool, WriteFault>
+    requires few { length traces.now ≤ MAX_TRACES }
+    requires well_formed { All IsWellFormed traces.now }
+    requires levels { AreLevels traces.now keys.now.names levels.now }
+    ensures ok { IfOk result (WritesVerdicts format confirmed_only (map (λ file. file.now) files.entry.now) keys.now.names
+        traces.now (W.contents w.old) (W.contents w.new)) }
+    ensures err { IfErr result (StopsWriting
+        (SaysVerdicts format traces.now keys.now.names (map (λ file. file.now) files.entry.now))
+        (W.contents w.old) (W.contents w.new)) }
+{
+    let Ok(verdicts) = verdicts_of_traces(alloc, levels, traces, keys) else {
+        return Err(WriteFault::Memory);
+    };
+    let types = levels.type_names();
+    write_verdicts(alloc, w, &verdicts, traces, types, keys, files, format)?;
+    Ok(has_finding(&verdicts, confirmed_only))
+}
