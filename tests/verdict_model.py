@@ -515,17 +515,23 @@ def object_of_dependency(dependency: Dependency) -> Object:
     return {"from": dependency.start.text(), "kind": dependency.kind, "to": dependency.end.text()}
 
 
+def text_of_gate(gate: Gate) -> str:
+    return "always inside %s: %s" % (gate.key.text(), ", ".join(dependency.text() for dependency in gate.guarded))
+
+
 def object_of_gate(gate: Gate) -> Object:
-    text = "always inside %s: %s" % (gate.key.text(), ", ".join(dependency.text() for dependency in gate.guarded))
-    return {"text": text, "gate": gate.key.text(), "orders": [object_of_dependency(dependency) for dependency in gate.guarded]}
+    return {"gate": gate.key.text(), "orders": [object_of_dependency(dependency) for dependency in gate.guarded]}
 
 
-def notes_of(level: Level, files: Sequence[str], finding: Finding) -> List[Object]:
-    notes = [object_of_gate(gate) for gate in gates_of(level, finding.walk)]
+def notes_of(level: Level, files: Sequence[str], finding: Finding) -> Object:
+    """The members of a circle or an inversion that speak against it: its notes in words, and then as objects."""
+    gates = gates_of(level, finding.walk)
     only = only_trace(level, finding.walk) if finding.type == "circle" else None
+    words = [text_of_gate(gate) for gate in gates] + ([] if only is None else ["only in " + files[only]])
+    said: Object = {"notes": words, "gates": [object_of_gate(gate) for gate in gates]}
     if only is not None:
-        notes.append({"text": "only in " + files[only], "only": files[only]})
-    return notes
+        said["only"] = files[only]
+    return said
 
 
 def lines_of(finding: Finding) -> List[str]:
@@ -556,7 +562,7 @@ def object_of(level: Level, files: Sequence[str], finding: Finding) -> Object:
     if finding.type != "circle":
         said["used"], said["enabled"] = (object_of_fact(level, files, mark) for mark in marks_of(finding))
     if finding.type != "double":
-        said["notes"] = notes_of(level, files, finding)
+        said.update(notes_of(level, files, finding))
     return said
 
 
@@ -575,8 +581,8 @@ def text_of(head: str, objects: Sequence[Object]) -> str:
 
 
 def with_plain_notes(said: Object) -> Object:
-    """A finding as version 1 of the format has it, where a note is its text."""
-    return dict(said, notes=[note["text"] for note in said["notes"]]) if "notes" in said else said
+    """A finding as version 1 of the format has it, with notes in words alone."""
+    return {name: value for name, value in said.items() if name not in ("gates", "only")}
 
 
 # ---- A right output.
