@@ -3,7 +3,7 @@
 _lockdep_options() {
     case $1 in
         check) echo --workers --many --help ;;
-        explain) echo --workers --many --json --help ;;
+        explain) echo --workers --many --json --locks --confirmed-only --help ;;
         graph) echo --workers --many --findings --help ;;
         condense) echo --workers --help ;;
         chains | where) echo --help ;;

@@ -28,6 +28,8 @@ complete -c lockdep -n '__lockdep_in help' -f -a 'run check explain graph conden
 complete -c lockdep -n '__lockdep_in check explain graph condense' -l workers -x -d 'How many workers check the traces, from 1 to 64'
 complete -c lockdep -n '__lockdep_in check explain graph' -l many -d 'Take up to 8192 lock keys'
 complete -c lockdep -n '__lockdep_in explain' -l json -d 'Write the findings as JSON'
+complete -c lockdep -n '__lockdep_in explain' -l locks -d 'Say whether single locks make a finding'
+complete -c lockdep -n '__lockdep_in explain' -l confirmed-only -d 'Status 1 only for what was seen between locks'
 complete -c lockdep -n '__lockdep_in graph' -l findings -d 'Show only what is part of a finding'
 
 complete -c lockdep -n '__lockdep_in run record' -s o -x -a '(__fish_complete_directories)' -d 'Where the recording is kept'
