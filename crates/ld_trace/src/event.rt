@@ -20,8 +20,9 @@ pub enum Mode {
 }
 
 impl Mode {
-    ghost use Rattle.std.specs.Prelude.{◌≡◌};
+    ghost use Rattle.std.specs.Prelude.{◌≡◌, ◌≤◌, length};
     ghost use Rattle.ld_trace.specs.Modes.{is_read, is_recursive, may_wait};
+    ghost use Rattle.ld_trace.specs.Writing.{mode_word};
 
     /// Whether a lock in this mode is taken by a reader of either kind.
     pub fn is_read(self) -> bool
@@ -43,6 +44,21 @@ impl Mode {
     {
         matches!(self, Mode::Write | Mode::Read | Mode::RecRead)
     }
+
+    /// The word for it in a trace.
+    pub fn word(self) -> &'static str
+        ensures word { result.now ≡ mode_word self }
+        ensures short { length result.now ≤ 3 }
+    {
+        match self {
+            Mode::Write => "w",
+            Mode::Read => "r",
+            Mode::RecRead => "rr",
+            Mode::TryWrite => "tw",
+            Mode::TryRead => "tr",
+            Mode::TryRecRead => "trr",
+        }
+    }
 }
 
 impl Default for Mode {
@@ -63,6 +79,21 @@ pub enum Irq {
     Hard,
     /// Software interrupts.
     Soft,
+}
+
+impl Irq {
+    ghost use Rattle.std.specs.Prelude.{◌≡◌};
+    ghost use Rattle.ld_trace.specs.Writing.{irq_word};
+
+    /// The word for it in a trace.
+    pub fn word(self) -> &'static str
+        ensures { result.now ≡ irq_word self }
+    {
+        match self {
+            Irq::Hard => "hardirq",
+            Irq::Soft => "softirq",
+        }
+    }
 }
 
 /// One event of a task's trace.

@@ -1,4 +1,4 @@
-//! Reading one record of a trace, and the words for what it says.
+//! Reading one record of a trace.
 
 ghost use Rattle.std.specs.Prelude.{◌≡◌, ◌<◌, codes, length, true, Ok, Err, IfErr, IsTrue, Some, option_map, if◌then◌else◌};
 ghost use Rattle.std.specs.Str.{bytes_eq};
@@ -6,7 +6,6 @@ ghost use Rattle.csv.specs.Records.{field_at, fields_of};
 ghost use Rattle.ld_trace.specs.Joining.{point};
 ghost use Rattle.ld_trace.specs.Lines.{acquire_line, irq_of, leave_line, mode_of, name_of_fields, release_line, line_of_record, irq_line, sub_of, try_mode_of, version_named, version_of};
 ghost use Rattle.ld_trace.specs.Names.{is_class_name};
-ghost use Rattle.ld_trace.specs.Writing.{irq_word, mode_word};
 ghost use Rattle.ld_trace.specs.Inside.ReadLines.{Says, SaysName};
 ghost use Rattle.ld_trace.specs.TraceFaults.{is_of_text};
 
@@ -215,20 +214,6 @@ fn try_mode_of(version: Version, word: &[u8]) -> Option<Mode>
     }
 }
 
-// The word of a mode.
-pub(crate) fn mode_word(mode: Mode) -> &'static [u8]
-    ensures { result.now ≡ mode_word mode }
-{
-    match mode {
-        Mode::Write => b"w",
-        Mode::Read => b"r",
-        Mode::RecRead => b"rr",
-        Mode::TryWrite => b"tw",
-        Mode::TryRead => b"tr",
-        Mode::TryRecRead => b"trr",
-    }
-}
-
 // The state of this field.
 fn irq_of(word: &[u8]) -> Option<Irq>
     ensures { result ≡ irq_of word.now }
@@ -239,16 +224,6 @@ fn irq_of(word: &[u8]) -> Option<Irq>
         Some(Irq::Soft)
     } else {
         None
-    }
-}
-
-// The word of a state.
-pub(crate) fn irq_word(irq: Irq) -> &'static [u8]
-    ensures { result.now ≡ irq_word irq }
-{
-    match irq {
-        Irq::Hard => b"hardirq",
-        Irq::Soft => b"softirq",
     }
 }
 

@@ -8,7 +8,6 @@ ghost use Rattle.ld_trace.specs.Writing.{event_text, header_of, name_at, record_
 ghost use Rattle.ld_trace.specs.Inside.Written.{IsBetween};
 ghost use Rattle.ld_trace.specs.declared.key_table.TheConstants.{MAX_SUB};
 
-use crate::record::{irq_word, mode_word};
 use crate::version::Version;
 use crate::{Event, KeyId, KeyTable, RawTrace};
 use csv::{Writer, WriterBuilder};
@@ -100,16 +99,16 @@ fn write_event<W: Write + Drop>(
     match event {
         Event::Acquire { mode, key } => {
             let (class, sub) = name_of(keys, key);
-            write_four(rows, b"acq", class, &[b'0' + sub], mode_word(mode))
+            write_four(rows, b"acq", class, &[b'0' + sub], mode.word().as_bytes())
         }
         Event::Release { key } => {
             let (class, sub) = name_of(keys, key);
             write_three(rows, b"rel", class, &[b'0' + sub])
         }
-        Event::Enter { irq } => write_record(rows, &[b"enter", irq_word(irq)]),
+        Event::Enter { irq } => write_record(rows, &[b"enter", irq.word().as_bytes()]),
         Event::Leave => write_record(rows, &[b"leave"]),
-        Event::TurnOn { irq } => write_record(rows, &[b"on", irq_word(irq)]),
-        Event::TurnOff { irq } => write_record(rows, &[b"off", irq_word(irq)]),
+        Event::TurnOn { irq } => write_record(rows, &[b"on", irq.word().as_bytes()]),
+        Event::TurnOff { irq } => write_record(rows, &[b"off", irq.word().as_bytes()]),
     }
 }
 
