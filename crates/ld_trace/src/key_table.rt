@@ -124,11 +124,7 @@ impl KeyTable {
     {
         let place = self.recent[slot_of(name, sub)] as usize;
         let stored = self.names.get_index(place)?;
-        if stored.is(name, sub) {
-            Some(KeyId::from_place(place))
-        } else {
-            None
-        }
+        stored.is(name, sub).then_some(KeyId::from_place(place))
     }
 
     // The class's name and the subclass at this place. None exactly if there is none.

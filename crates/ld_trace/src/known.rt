@@ -36,11 +36,7 @@ pub(crate) fn known_event(version: Version, row: &ByteRecord, keys: &KeyTable) -
 fn release_of(verb: &[u8], key: KeyId) -> Option<Event>
     ensures { IfSome result (λ event. (bytes_eq verb.now (codes "rel") ≡ true) × (event ≡ Event.Release key)) }
 {
-    if is_release(verb) {
-        Some(Event::Release { key })
-    } else {
-        None
-    }
+    is_release(verb).then_some(Event::Release { key })
 }
 
 // The acquisition of this key, if the verb is that of one and the mode is one of this version.

@@ -100,8 +100,6 @@ pub fn read_on<R: Read + Drop>(
     let mut source = plain_reader(alloc, newline.chain(reader));
     let mut row = ByteRecord::new(alloc);
     let mut events = events.into_events();
-    match take_events(version, &mut source, &mut row, &mut events, keys) {
-        Ok(()) => Ok(RawTrace::of_few(events)),
-        Err(fault) => Err(fault),
-    }
+    take_events(version, &mut source, &mut row, &mut events, keys)?;
+    Ok(RawTrace::of_few(events))
 }

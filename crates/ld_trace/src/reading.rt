@@ -78,10 +78,8 @@ fn read_records<R: Read>(
 {
     let mut row = ByteRecord::new(alloc);
     let mut events = Vec::new(alloc);
-    match take_records(source, &mut row, &mut events, keys) {
-        Ok(()) => Ok(RawTrace::of_few(events)),
-        Err(fault) => Err(fault),
-    }
+    take_records(source, &mut row, &mut events, keys)?;
+    Ok(RawTrace::of_few(events))
 }
 
 // Takes records as those of a trace, up to the end or to one that is refused, which then stands in the row.

@@ -4,7 +4,7 @@ ghost use Rattle.std.specs.Prelude.{◌≡◌, ◌<◌, codes, length, true, Ok,
 ghost use Rattle.std.specs.Str.{bytes_eq};
 ghost use Rattle.csv.specs.Records.{field_at, fields_of};
 ghost use Rattle.ld_trace.specs.Joining.{point};
-ghost use Rattle.ld_trace.specs.Lines.{acquire_line, irq_of, leave_line, mode_of, name_of_fields, release_line, line_of_record, irq_line, sub_of, try_mode_of, version_named, version_of};
+ghost use Rattle.ld_trace.specs.Lines.{acquire_line, irq_of, leave_line, mode_of, name_of_fields, release_line, line_of_record, irq_line, sub_of, version_named, version_of};
 ghost use Rattle.ld_trace.specs.Names.{is_class_name};
 ghost use Rattle.ld_trace.specs.Inside.ReadLines.{Says, SaysName};
 ghost use Rattle.ld_trace.specs.TraceFaults.{is_of_text};
@@ -88,9 +88,7 @@ fn irq_line<'r>(verb: &[u8], irq: &'r [u8]) -> Result<Line<'r>, TraceFaultKind>
     ensures says { Says (irq_line verb.now (irq_of irq.now)) result }
     ensures text { IfErr result (λ kind. is_of_text kind ≡ true) }
 {
-    let Some(irq) = irq_of(irq) else {
-        return Err(TraceFaultKind::BadRecord);
-    };
+    let irq = irq_of(irq).ok_or(TraceFaultKind::BadRecord)?;
     if is_word(verb, b"enter") {
         Ok(Line::Enters(irq))
     } else if is_word(verb, b"on") {
@@ -143,10 +141,8 @@ fn acquire_line<'r>(
         return Err(TraceFaultKind::BadRecord);
     }
     let name = name_of(class, sub)?;
-    match mode_of(version, mode) {
-        Some(mode) => Ok(Line::Takes(name, mode)),
-        None => Err(TraceFaultKind::BadMode),
-    }
+    let mode = mode_of(version, mode).ok_or(TraceFaultKind::BadMode)?;
+    Ok(Line::Takes(name, mode))
 }
 
 // The name in these two fields; the class's name is checked first.
@@ -154,13 +150,9 @@ fn name_of<'r>(class: &'r [u8], sub: &[u8]) -> Result<LineName<'r>, TraceFaultKi
     ensures says { SaysName (name_of_fields class.now (sub_of sub.now)) result }
     ensures text { IfErr result (λ kind. is_of_text kind ≡ true) }
 {
-    let Some(class) = class_of(class) else {
-        return Err(TraceFaultKind::BadName);
-    };
-    match sub_of(sub) {
-        Some(sub) => Ok(LineName { class, sub }),
-        None => Err(TraceFaultKind::BadSub),
-    }
+    let class = class_of(class).ok_or(TraceFaultKind::BadName)?;
+    let sub = sub_of(sub).ok_or(TraceFaultKind::BadSub)?;
+    Ok(LineName { class, sub })
 }
 
 // The class's name of this field: 1 to 64 bytes, each 0x21 to 0x7E.
@@ -185,32 +177,18 @@ pub(crate) fn sub_of(sub: &[u8]) -> Option<u8>
     }
 }
 
+// The mode of this field; version 1 has no tries.
 pub(crate) fn mode_of(version: Version, word: &[u8]) -> Option<Mode>
     ensures { result ≡ mode_of version word.now }
 {
-    match word {
-        [b'w'] => Some(Mode::Write),
-        [b'r'] => Some(Mode::Read),
-        [b'r', b'r'] => Some(Mode::RecRead),
-        _ => try_mode_of(version, word),
-    }
-}
-
-// The mode of a try, which version 1 doesn't have.
-fn try_mode_of(version: Version, word: &[u8]) -> Option<Mode>
-    ensures { result ≡ try_mode_of version word.now }
-{
-    if version == Version::One {
-        return None;
-    }
-    if is_word(word, b"tw") {
-        Some(Mode::TryWrite)
-    } else if is_word(word, b"tr") {
-        Some(Mode::TryRead)
-    } else if is_word(word, b"trr") {
-        Some(Mode::TryRecRead)
-    } else {
-        None
+    match (version, word) {
+        (_, [b'w']) => Some(Mode::Write),
+        (_, [b'r']) => Some(Mode::Read),
+        (_, [b'r', b'r']) => Some(Mode::RecRead),
+        (Version::Two, [b't', b'w']) => Some(Mode::TryWrite),
+        (Version::Two, [b't', b'r']) => Some(Mode::TryRead),
+        (Version::Two, [b't', b'r', b'r']) => Some(Mode::TryRecRead),
+        _ => None,
     }
 }
 

@@ -27,10 +27,7 @@ pub fn trace_text(alloc: Global, events: &RawTrace, keys: &KeyTable) -> Result<V
         .flexible(true)
         .from_writer(Vec::new(alloc));
     write_records(&mut rows, events, keys)?;
-    match rows.into_inner() {
-        Ok(text) => Ok(text),
-        Err(_) => Err(AllocError),
-    }
+    rows.into_inner().map_err(|_| AllocError)
 }
 
 // Writes the header and a record for each event.
