@@ -52,14 +52,9 @@ starts_on Soft Task = true
 starts_on Soft Softirq = false
 starts_on Soft Hardirq = false
 
--- a frame of this kind may change the flag of this state
+-- a frame of this kind may change the flag of this state: one that is off at the start of a frame stays off in it
 abbrev pub may_change : Irq → Frame → Bool
-may_change Hard Task = true
-may_change Hard Softirq = true
-may_change Hard Hardirq = false
-may_change Soft Task = true
-may_change Soft Softirq = false
-may_change Soft Hardirq = false
+may_change irq frame = starts_on irq frame
 
 -- the last change of a state's flag before j in j's frame
 unfoldable pub last_change : List Event → Irq → ℕ → Option ℕ

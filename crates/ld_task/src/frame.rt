@@ -37,16 +37,11 @@ impl Frame {
         }
     }
 
-    // Whether the flag of this state may change in it.
+    // Whether the flag of this state may change in it: one that is off at its start stays off.
     pub(crate) fn may_change(self, irq: Irq) -> bool
         ensures { result ≡ may_change irq self }
     {
-        match (irq, self) {
-            (_, Frame::Task) => true,
-            (Irq::Hard, Frame::Softirq) => true,
-            (Irq::Soft, Frame::Softirq) => false,
-            (_, Frame::Hardirq) => false,
-        }
+        self.starts_on(irq)
     }
 }
 

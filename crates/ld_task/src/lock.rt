@@ -88,17 +88,8 @@ fn number_of(mode: Mode) -> u16
 }
 
 /// A lock that is kept, with the number of frames outside the one that it was taken in.
-#[derive(Clone, Copy, PartialEq, Eq, Debug)]
+#[derive(Clone, Copy, PartialEq, Eq, Debug, Default)]
 pub struct KeptLock {
     pub level: u8,
     pub lock: Lock,
-}
-
-impl Default for KeptLock {
-    fn default() -> Self {
-        KeptLock {
-            level: 0,
-            lock: Lock::default(),
-        }
-    }
 }
