@@ -16,7 +16,7 @@ pub use Rattle.ld_facts.specs.Counting.{IsNumberOf}
 pub use Rattle.ld_facts.specs.FactBits.{AreCounted, AreFacts, FactBelow, FactParts, HasFact, SetsBit, UnitesWord, dependency_count, mark_count, rows_allowed, rows_for}
 pub use Rattle.ld_facts.specs.Facts.{Adds, AreSame, ChainHas, ChainsHave, DependenciesOf, MarksOf, TraceHas}
 pub use Rattle.ld_facts.specs.Inside.Bits.{has_bit}
-pub use Rattle.ld_facts.specs.Inside.WordTable.{AreWords, Gathered, HasBit, HasWord, IsAmong, IsRunOf, IsTable, StandsAt, TakesFact, TakesMarkBit, TakesRun, UnitesPair}
+pub use Rattle.ld_facts.specs.Inside.WordTable.{AreWords, Gathered, HasBit, HasWord, IsRunOf, IsTable, StandsAt, TakesFact, TakesMarkBit, TakesRun, UnitesPair}
 pub use Rattle.ld_facts.specs.Laws.{AddingInTurnUnites, TraceFactsAreTheChains}
 pub use Rattle.ld_facts.specs.Laws.Bits.{count_below-le, count_below-one_more, count_below-same, has_bit-zeros, zeros_at}
 pub use Rattle.ld_facts.specs.Laws.Chains.{FactBelow-chain, chain_fact-complete, chain_fact-sound, chains_give_what_they_have, later_slots_are_of_newer_locks, mark_if-some, slots_have_what_is_given}

@@ -1,95 +1,9 @@
--- The table that words of facts are kept in, and the pairs that it holds.
-use Rattle.ld_facts.proofs.Names.{[], ◌%◌, ◌*◌, ◌++◌, ◌+◌, ◌-◌, ◌/◌, ◌<◌, ◌^◌, ◌↔◌, ◌∙◌, ◌∷◌, ◌≡◌, ◌≢◌, ◌≤◌, ◌⊎◌, AreWords, HasBit, HasWord, IsAmong, IsTable, IsTrue, List, MAX_WORDS, SEEN_WORDS, StandsAt, TakesRun, UnitesPair, ap, arith, bit_at, bit_at-pow_other, bit_at-pow_same, bit_at-zero, bit_at_above, bit_at_cat_high, bit_at_cat_low, bit_or, bit_or-bits, bits_if, bits_if-other, bits_if-same, bits_of, bits_of-append, cases_eq, cases_lt, div-add-mod', eqb, false, get_or, get_or-set_other, get_or-set_same, get_or-take, get_or_default, has_bit, has_bit-zeros, inl, inr, le_or_l, length, length-take-le, mod-eq_of_lt, or_assoc, or_comm, or_lt, or_zero, pow-lt, pow_pos, refl, replicate, set, subst, suc, sym, take, take_more, true, zero, zeros_at, zip, ℕ}
+-- Pairs of a word and its bits, and what one more bit and one more run add to them.
+use Rattle.ld_facts.proofs.Names.{[], ◌%◌, ◌*◌, ◌++◌, ◌+◌, ◌-◌, ◌/◌, ◌<◌, ◌^◌, ◌↔◌, ◌∙◌, ◌∷◌, ◌≡◌, ◌≢◌, ◌≤◌, ◌⊎◌, AreWords, HasBit, HasWord, IsTable, IsTrue, List, MAX_WORDS, SEEN_WORDS, TakesRun, UnitesPair, ap, arith, bit_at, bit_at-pow_other, bit_at-pow_same, bit_at-zero, bit_at_above, bit_at_cat_high, bit_at_cat_low, bit_or, bit_or-bits, bits_if, bits_if-other, bits_if-same, bits_of, bits_of-append, cases_eq, cases_lt, div-add-mod', false, get_or, get_or-set_other, get_or-set_same, get_or_default, has_bit, has_bit-zeros, inl, inr, le_or_l, length, mod-eq_of_lt, or_assoc, or_comm, or_lt, or_zero, pow-lt, pow_pos, replicate, set, suc, sym, zero, zeros_at, ℕ}
 use Rattle.std.proofs.Math.Nat.{mod-lt}
-use Rattle.std.proofs.lemmas.Slice.Zip.{length-zip, get_or-zip}
-
--- the pairs of the first n places
-abbrev pub pairs_at : List ℕ → List ℕ → ℕ → List (ℕ × ℕ)
-pairs_at places bits n = take n (zip places bits)
-
--- both lists have room for n pairs
-pub record HaveRoom (places bits : List ℕ) (n : ℕ) : Type 0 where
-  pub in_places : n ≤ length places
-  pub in_bits : n ≤ length bits
-
-module _ (places bits : List ℕ) (n : ℕ) (room : HaveRoom places bits n) where
-  zip_room : n ≤ length (zip places bits)
-  zip_room = let a = room.in_places in let b = room.in_bits in omega (arith, length-zip {A = ℕ} {B = ℕ} places bits)
-
-  pub length-pairs_at : length (pairs_at places bits n) ≡ n
-  length-pairs_at = length-take-le n (zip places bits) zip_room
-
-  pub get_or-pairs_at : (i : ℕ) (d : ℕ × ℕ) → i < n → get_or (pairs_at places bits n) i d ≡ (get_or places i 0, get_or bits i 0)
-  get_or-pairs_at i d l =
-      let a : i < length places = let r = room.in_places in omega arith in
-      let b : i < length bits = let r = room.in_bits in omega arith in
-      get_or-take n (zip places bits) i d l ∙ get_or-zip places bits i d a b ∙
-      (λ j. (get_or_default places i d.0 0 a j, get_or_default bits i d.1 0 b j))
-
--- a table's lists have room, and its length is that of its pairs
-pub room_for : (places bits seen : List ℕ) (len : ℕ) → length places ≡ MAX_WORDS → length bits ≡ MAX_WORDS →
-    IsTable places bits len seen → HaveRoom places bits len
-room_for places bits seen len p b is = let few = is.few in record { in_places = omega arith; in_bits = omega arith }
-
-pub room_for_more : (places bits : List ℕ) (len : ℕ) → length places ≡ MAX_WORDS → length bits ≡ MAX_WORDS →
-    len < MAX_WORDS → HaveRoom places bits (len + 1)
-room_for_more places bits len p b l = record { in_places = omega arith; in_bits = omega arith }
-
-pub length-value : (places bits : List ℕ) (len : ℕ) (value : List (ℕ × ℕ)) → HaveRoom places bits len →
-    pairs_at places bits len ≡ value → length value ≡ len
-length-value places bits len value room is = ap length (sym is) ∙ length-pairs_at places bits len room
-
--- one more pair
-pairs_at-more : (places bits : List ℕ) (n : ℕ) → HaveRoom places bits (n + 1) →
-    pairs_at places bits (n + 1) ≡ pairs_at places bits n ++ (get_or places n 0, get_or bits n 0) ∷ []
-pairs_at-more places bits n room =
-    let a : n < length places = let r = room.in_places in omega arith in
-    let b : n < length bits = let r = room.in_bits in omega arith in
-    take_more (zip places bits) n (0, 0) (let l = length-zip {A = ℕ} {B = ℕ} places bits in omega arith) ∙
-    ap (λ p. take n (zip places bits) ++ p ∷ []) (get_or-zip places bits n (0, 0) a b)
-
-bits_of-more : (m : ℕ) (places bits : List ℕ) (n : ℕ) → HaveRoom places bits (n + 1) →
-    bits_of m (pairs_at places bits (n + 1)) ≡ bit_or (bits_of m (pairs_at places bits n)) (bits_if m (get_or places n 0, get_or bits n 0))
-bits_of-more m places bits n room =
-    ap (bits_of m) (pairs_at-more places bits n room) ∙
-    bits_of-append m (pairs_at places bits n) ((get_or places n 0, get_or bits n 0) ∷ []) ∙
-    ap (bit_or (bits_of m (pairs_at places bits n))) (or_zero (bits_if m (get_or places n 0, get_or bits n 0)))
-
--- what is at the first n places decides the pairs
-pub pairs_at-same : (p b q c : List ℕ) (n : ℕ) → HaveRoom p b n → HaveRoom q c n →
-    ((i : ℕ) → i < n → (get_or p i 0 ≡ get_or q i 0) × (get_or b i 0 ≡ get_or c i 0)) → pairs_at p b n ≡ pairs_at q c n
-pairs_at-same p b q c zero room other same = refl
-pairs_at-same p b q c (suc n) room other same =
-    let up : suc n ≡ n + 1 = omega arith in
-    let one : HaveRoom p b (n + 1) = record { in_places = let r = room.in_places in omega arith; in_bits = let r = room.in_bits in omega arith } in
-    let two : HaveRoom q c (n + 1) = record { in_places = let r = other.in_places in omega arith; in_bits = let r = other.in_bits in omega arith } in
-    let before : pairs_at p b n ≡ pairs_at q c n = pairs_at-same p b q c n
-    (record { in_places = let r = room.in_places in omega arith; in_bits = let r = room.in_bits in omega arith })
-    (record { in_places = let r = other.in_places in omega arith; in_bits = let r = other.in_bits in omega arith })
-    (λ i l. same i (omega arith)) in
-    let here = same n (omega arith) in
-    ap (pairs_at p b) up ∙ pairs_at-more p b n one ∙
-    (λ j. before j ++ (here.0 j, here.1 j) ∷ []) ∙
-    sym (pairs_at-more q c n two) ∙ ap (pairs_at q c) (sym up)
-
--- ---- one more word
-module _ (places bits : List ℕ) (n word new : ℕ) (room : HaveRoom places bits (n + 1)) where
-  pub set_room : HaveRoom (set places n word) (set bits n new) (n + 1)
-  set_room = record {
-    in_places = let r = room.in_places in omega (arith, Rattle.std.proofs.lemmas.List.length-set {A = ℕ} places n word);
-    in_bits = let r = room.in_bits in omega (arith, Rattle.std.proofs.lemmas.List.length-set {A = ℕ} bits n new);
-  }
-
-  pub pairs_at-push : pairs_at (set places n word) (set bits n new) (n + 1) ≡ pairs_at places bits n ++ (word, new) ∷ []
-  pairs_at-push =
-      let less : HaveRoom places bits n = record { in_places = let r = room.in_places in omega arith; in_bits = let r = room.in_bits in omega arith } in
-      let all = set_room in
-      let set_less : HaveRoom (set places n word) (set bits n new) n = record { in_places = let r = all.in_places in omega arith; in_bits = let r = all.in_bits in omega arith } in
-      let same = pairs_at-same (set places n word) (set bits n new) places bits n set_less less
-      (λ i l. (get_or-set_other places n i word 0 (omega arith), get_or-set_other bits n i new 0 (omega arith))) in
-      let at_place : get_or (set places n word) n 0 ≡ word = get_or-set_same places n word 0 (let r = room.in_places in omega arith) in
-      let at_bits : get_or (set bits n new) n 0 ≡ new = get_or-set_same bits n new 0 (let r = room.in_bits in omega arith) in
-      pairs_at-more (set places n word) (set bits n new) n set_room ∙ (λ j. same j ++ (at_place j, at_bits j) ∷ [])
+use Rattle.std.proofs.lemmas.List.Elements.{All-push, All-set}
+use Rattle.std.proofs.lemmas.List.Quantifiers.{Any-push, all_pairs_push}
+use Rattle.std.proofs.lemmas.List.{get_or_append_left, get_or_push, length-set, length_push}
 
 pub UnitesPair-push : (pairs : List (ℕ × ℕ)) (word bits : ℕ) → UnitesPair pairs (pairs ++ (word, bits) ∷ []) word bits
 UnitesPair-push pairs word bits n =
@@ -105,152 +19,112 @@ bits_if-or m p a b = elim (cases_eq m p) [
 or_swap : (a b c : ℕ) → bit_or (bit_or a b) c ≡ bit_or (bit_or a c) b
 or_swap a b c = or_assoc a b c ∙ ap (bit_or a) (or_comm b c) ∙ sym (or_assoc a c b)
 
--- the word's bits with more of them
-abbrev pub with_more : List ℕ → ℕ → ℕ → List ℕ
-with_more bits i more = set bits i (bit_or (get_or bits i 0) more)
+-- the pairs with more bits in the word at place i
+abbrev pub with_more : List (ℕ × ℕ) → ℕ → ℕ → List (ℕ × ℕ)
+with_more pairs i more = set pairs i ((get_or pairs i (0, 0)).0, bit_or (get_or pairs i (0, 0)).1 more)
 
-module _ (places bits : List ℕ) (i more m : ℕ) where
-  pub more_room : (n : ℕ) → HaveRoom places bits n → HaveRoom places (with_more bits i more) n
-  more_room n room = record {
-    in_places = room.in_places;
-    in_bits = let r = room.in_bits in omega (arith, Rattle.std.proofs.lemmas.List.length-set {A = ℕ} bits i (bit_or (get_or bits i 0) more));
-  }
-
-  pub bits_of-unite : (n : ℕ) → HaveRoom places bits n → i < n →
-      bits_of m (pairs_at places (with_more bits i more) n) ≡ bit_or (bits_of m (pairs_at places bits n)) (bits_if m (get_or places i 0, more))
-  bits_of-unite zero room l = absurd (omega arith)
-  bits_of-unite (suc n) room l =
-      let up : suc n ≡ n + 1 = omega arith in
-      let one : HaveRoom places bits (n + 1) = record { in_places = let r = room.in_places in omega arith; in_bits = let r = room.in_bits in omega arith } in
-      let less : HaveRoom places bits n = record { in_places = let r = room.in_places in omega arith; in_bits = let r = room.in_bits in omega arith } in
-      let new : List ℕ = with_more bits i more in
-      let old_bits : ℕ = bits_of m (pairs_at places bits n) in
-      let mine : ℕ = bits_if m (get_or places i 0, more) in
-      ap (λ k. bits_of m (pairs_at places new k)) up ∙ bits_of-more m places new n (more_room (n + 1) one) ∙
-      elim (cases_eq n i) [
-        | inl e ↦
-            let same : pairs_at places new n ≡ pairs_at places bits n = pairs_at-same places new places bits n (more_room n less) less
-            (λ j lj. (refl, get_or-set_other bits i j (bit_or (get_or bits i 0) more) 0 (omega arith))) in
-            let at : get_or new n 0 ≡ bit_or (get_or bits n 0) more =
-            ap (λ k. get_or new k 0) e ∙ get_or-set_same bits i (bit_or (get_or bits i 0) more) 0 (let r = room.in_bits in omega arith) ∙
-            ap (λ k. bit_or (get_or bits k 0) more) (sym e) in
-            (λ j. bit_or (bits_of m (same j)) (bits_if m (get_or places n 0, at j))) ∙
-            ap (bit_or old_bits) (bits_if-or m (get_or places n 0) (get_or bits n 0) more) ∙
-            sym (or_assoc old_bits (bits_if m (get_or places n 0, get_or bits n 0)) (bits_if m (get_or places n 0, more))) ∙
-            (λ j. bit_or (sym (bits_of-more m places bits n one) j) (bits_if m (get_or places (e j) 0, more))) ∙
-            ap (λ k. bit_or (bits_of m (pairs_at places bits k)) mine) (sym up)
-        | inr ne ↦
-            let at : get_or new n 0 ≡ get_or bits n 0 = get_or-set_other bits i n (bit_or (get_or bits i 0) more) 0 ne in
-            (λ j. bit_or (bits_of-unite n less (omega arith) j) (bits_if m (get_or places n 0, at j))) ∙
-            or_swap old_bits mine (bits_if m (get_or places n 0, get_or bits n 0)) ∙
-            ap (λ b. bit_or b mine) (sym (bits_of-more m places bits n one)) ∙
-            ap (λ k. bit_or (bits_of m (pairs_at places bits k)) mine) (sym up)
-      ]
-
-pub UnitesPair-unite : (places bits : List ℕ) (i more n : ℕ) → HaveRoom places bits n → i < n →
-    UnitesPair (pairs_at places bits n) (pairs_at places (with_more bits i more) n) (get_or places i 0) more
-UnitesPair-unite places bits i more n room l m = bits_of-unite places bits i more m n room l
+pub UnitesPair-more : (pairs : List (ℕ × ℕ)) (i more : ℕ) → i < length pairs →
+    UnitesPair pairs (with_more pairs i more) (get_or pairs i (0, 0)).0 more
+UnitesPair-more [] i more l n = absurd (omega arith)
+UnitesPair-more (p ∷ ps) zero more l n =
+    ap (λ b. bit_or b (bits_of n ps)) (bits_if-or n p.0 p.1 more) ∙ or_swap (bits_if n p) (bits_if n (p.0, more)) (bits_of n ps)
+UnitesPair-more (p ∷ ps) (suc i) more l n =
+    ap (bit_or (bits_if n p)) (UnitesPair-more ps i more (omega arith) n) ∙
+    sym (or_assoc (bits_if n p) (bits_of n ps) (bits_if n ((get_or ps i (0, 0)).0, more)))
 
 -- ---- the table
-pub IsTable-push : (places bits seen later : List ℕ) (len word new : ℕ) → HaveRoom places bits (len + 1) →
-    IsTable places bits len seen → len < MAX_WORDS → word < 64 * SEEN_WORDS → ¬ IsAmong places len word → new ≢ 0 → new < 2 ^ 64 →
-    IsTrue (has_bit later word) → ((k : ℕ) → k ≢ word → has_bit later k ≡ has_bit seen k) →
-    IsTable (set places len word) (set bits len new) (len + 1) later
-IsTable-push places bits seen later len word new room was few low fresh some fits on others = record {
-  few = omega arith;
-  low = λ i l. elim (cases_eq i len) [
-    | inl e ↦ subst (λ w. w < 64 * SEEN_WORDS) (sym (here i e)) low
-    | inr ne ↦ subst (λ w. w < 64 * SEEN_WORDS) (sym (there i ne)) (was.low i (omega arith))
-  ];
-  once = λ i j l m e. elim (cases_eq j len) [
-    | inl at ↦ fresh (i, omega arith, sym (there i (omega arith)) ∙ e ∙ here j at)
-    | inr ne ↦ was.once i j l (omega arith) (sym (there i (omega arith)) ∙ e ∙ there j ne)
-  ];
-  some = λ i l. elim (cases_eq i len) [
-    | inl e ↦ λ z. some (sym (get_or-set_same bits len new 0 (let r = room.in_bits in omega arith)) ∙ ap (λ k. get_or (set bits len new) k 0) (sym e) ∙ z)
-    | inr ne ↦ λ z. was.some i (omega arith) (sym (get_or-set_other bits len i new 0 ne) ∙ z)
-  ];
-  fits = λ i l. elim (cases_eq i len) [
-    | inl e ↦ subst (λ b. b < 2 ^ 64) (sym (ap (λ k. get_or (set bits len new) k 0) e ∙ get_or-set_same bits len new 0 (let r = room.in_bits in omega arith))) fits
-    | inr ne ↦ subst (λ b. b < 2 ^ 64) (sym (get_or-set_other bits len i new 0 ne)) (was.fits i (omega arith))
-  ];
+pub IsTable-empty : (seen : List ℕ) → ((n : ℕ) → ¬ IsTrue (has_bit seen n)) → IsTable [] seen
+IsTable-empty seen none = record {
+  words = record { few = omega arith; once = λ i j d l m. absurd (omega arith); some = λ i d l. absurd (omega arith); fits = λ i d l. absurd (omega arith) };
+  low = λ i d l. absurd (omega arith);
+  among = λ n. ((λ h. absurd (none n h)), (λ (i, p, l, e, h). absurd (omega arith)));
+}
+
+pub none_seen : (n k : ℕ) → ¬ IsTrue (has_bit (replicate n 0) k)
+none_seen n k h = let off : has_bit (replicate n 0) k ≡ false = has_bit-zeros (replicate n 0) k (zeros_at n) in cc
+
+HasWord-push : (pairs : List (ℕ × ℕ)) (p : ℕ × ℕ) (n : ℕ) → HasWord (pairs ++ p ∷ []) n ↔ (HasWord pairs n ⊎ (n ≡ p.0))
+HasWord-push pairs p n = (
+  (λ (i, q, l, e, h). elim (cases_lt i (length pairs)) [
+    | inl before ↦ inl (i, q, before, sym (get_or_append_left pairs (p ∷ []) q i before) ∙ e, h)
+    | inr past ↦
+        let at : length pairs ≡ i = let len = length_push pairs p in omega arith in
+        inr (sym h ∙ ap (λ (r : ℕ × ℕ). r.0) (sym e ∙ get_or_push pairs p q i at))
+  ]),
+  (λ h. elim h [
+    | inl (i, q, l, e, is) ↦ (i, q, (let len = length_push pairs p in omega arith), get_or_append_left pairs (p ∷ []) q i l ∙ e, is)
+    | inr e ↦ Any-push (λ q. q.0 ≡ n) pairs p (sym e)
+  ]),
+)
+
+pub IsTable-push : (pairs : List (ℕ × ℕ)) (seen later : List ℕ) (word bits : ℕ) → IsTable pairs seen → length pairs < MAX_WORDS →
+    word < 64 * SEEN_WORDS → ¬ HasWord pairs word → bits ≢ 0 → bits < 2 ^ 64 →
+    IsTrue (has_bit later word) → ((k : ℕ) → k ≢ word → has_bit later k ≡ has_bit seen k) → IsTable (pairs ++ (word, bits) ∷ []) later
+IsTable-push pairs seen later word bits was few low fresh some fits on others = record {
+  words = record {
+    few = let len = length_push pairs (word, bits) in omega arith;
+    once = all_pairs_push (λ p q. p.0 ≢ q.0) pairs (word, bits) was.words.once (λ k d l e. fresh (k, get_or pairs k d, l, get_or_default pairs k (get_or pairs k d) d l, e));
+    some = All-push (λ p. p.1 ≢ 0) pairs (word, bits) was.words.some some;
+    fits = All-push (λ p. p.1 < 2 ^ 64) pairs (word, bits) was.words.fits fits;
+  };
+  low = All-push (λ p. p.0 < 64 * SEEN_WORDS) pairs (word, bits) was.low low;
   among = λ n. (
+    (λ h. (HasWord-push pairs (word, bits) n).1 (elim (cases_eq n word) [
+      | inl e ↦ inr e
+      | inr ne ↦ inl ((was.among n).0 (sym (others n ne) ∙ h))
+    ])),
     (λ h. elim (cases_eq n word) [
-      | inl e ↦ (len, omega arith, here len refl ∙ sym e)
-      | inr ne ↦ let (i, l, at) = (was.among n).0 (sym (others n ne) ∙ h) in (i, omega arith, there i (omega arith) ∙ at)
-    ]),
-    (λ (i, l, at). elim (cases_eq n word) [
       | inl e ↦ ap (has_bit later) e ∙ on
-      | inr ne ↦ others n ne ∙ (was.among n).1 (elim (cases_eq i len) [
-        | inl e ↦ absurd (ne (sym at ∙ here i e))
-        | inr other ↦ (i, omega arith, sym (there i other) ∙ at)
-      ])
+      | inr ne ↦ others n ne ∙ (was.among n).1 (elim ((HasWord-push pairs (word, bits) n).0 h) [ inl before ↦ before | inr e ↦ absurd (ne e) ])
     ]),
   );
 }
-  where
-    here : (i : ℕ) → i ≡ len → get_or (set places len word) i 0 ≡ word
-    here i e = ap (λ k. get_or (set places len word) k 0) e ∙ get_or-set_same places len word 0 (let r = room.in_places in omega arith)
 
-    there : (i : ℕ) → i ≢ len → get_or (set places len word) i 0 ≡ get_or places i 0
-    there i ne = get_or-set_other places len i word 0 ne
+module _ (pairs : List (ℕ × ℕ)) (i more : ℕ) (within : i < length pairs) where
+  same_length : length (with_more pairs i more) ≡ length pairs
+  same_length = length-set pairs i ((get_or pairs i (0, 0)).0, bit_or (get_or pairs i (0, 0)).1 more)
 
-pub IsTable-unite : (places bits seen : List ℕ) (len i more : ℕ) → HaveRoom places bits len → i < len → more < 2 ^ 64 →
-    IsTable places bits len seen → IsTable places (with_more bits i more) len seen
-IsTable-unite places bits seen len i more room l small was = record {
-  few = was.few;
-  low = was.low;
-  once = was.once;
-  some = λ k lk z. elim (cases_eq k i) [
-    | inl e ↦
-        let at : get_or (with_more bits i more) i 0 ≡ bit_or (get_or bits i 0) more = get_or-set_same bits i (bit_or (get_or bits i 0) more) 0 (let r = room.in_bits in omega arith) in
-        let none : bit_or (get_or bits i 0) more ≡ 0 = sym at ∙ ap (λ j. get_or (with_more bits i more) j 0) (sym e) ∙ z in
-        was.some i l (omega (arith, le_or_l (get_or bits i 0) more, none))
-    | inr ne ↦ was.some k lk (sym (get_or-set_other bits i k (bit_or (get_or bits i 0) more) 0 ne) ∙ z)
-  ];
-  fits = λ k lk. elim (cases_eq k i) [
-    | inl e ↦
-        let at : get_or (with_more bits i more) k 0 ≡ bit_or (get_or bits i 0) more =
-        ap (λ j. get_or (with_more bits i more) j 0) e ∙ get_or-set_same bits i (bit_or (get_or bits i 0) more) 0 (let r = room.in_bits in omega arith) in
-        subst (λ b. b < 2 ^ 64) (sym at) (or_lt 64 (get_or bits i 0) more (was.fits i l) small)
-    | inr ne ↦ subst (λ b. b < 2 ^ 64) (sym (get_or-set_other bits i k (bit_or (get_or bits i 0) more) 0 ne)) (was.fits k lk)
-  ];
-  among = was.among;
-}
+  same_word : (k : ℕ) (d : ℕ × ℕ) → k < length pairs → (get_or (with_more pairs i more) k d).0 ≡ (get_or pairs k d).0
+  same_word k d l = elim (cases_eq k i) [
+    | inl e ↦ ap (λ (p : ℕ × ℕ). p.0) (ap (λ j. get_or (with_more pairs i more) j d) e ∙ get_or-set_same pairs i ((get_or pairs i (0, 0)).0, bit_or (get_or pairs i (0, 0)).1 more) d within) ∙
+        ap (λ (p : ℕ × ℕ). p.0) (ap (λ j. get_or pairs j (0, 0)) (sym e) ∙ get_or_default pairs k (0, 0) d l)
+    | inr ne ↦ ap (λ (p : ℕ × ℕ). p.0) (get_or-set_other pairs i k ((get_or pairs i (0, 0)).0, bit_or (get_or pairs i (0, 0)).1 more) d ne)
+  ]
 
-module _ (places bits seen : List ℕ) (len : ℕ) (room : HaveRoom places bits len) (is : IsTable places bits len seen) where
-  at : (i : ℕ) (d : ℕ × ℕ) → i < len → get_or (pairs_at places bits len) i d ≡ (get_or places i 0, get_or bits i 0)
-  at = get_or-pairs_at places bits len room
+  pub IsTable-more : (seen : List ℕ) → more < 2 ^ 64 → IsTable pairs seen → IsTable (with_more pairs i more) seen
+  IsTable-more seen small was =
+      let old : ℕ × ℕ = get_or pairs i (0, 0) in
+      record {
+        words = record {
+          few = let few = was.words.few in let len = same_length in omega arith;
+          once = λ j k d l m e. was.words.once j k d l (let len = same_length in omega arith)
+              (sym (same_word j d (let len = same_length in omega arith)) ∙ e ∙ same_word k d (let len = same_length in omega arith));
+          some = All-set (λ p. p.1 ≢ 0) pairs i (old.0, bit_or old.1 more) (λ z. was.words.some i (0, 0) within (omega (arith, le_or_l old.1 more, z))) was.words.some;
+          fits = All-set (λ p. p.1 < 2 ^ 64) pairs i (old.0, bit_or old.1 more) (or_lt 64 old.1 more (was.words.fits i (0, 0) within) small) was.words.fits;
+        };
+        low = All-set (λ p. p.0 < 64 * SEEN_WORDS) pairs i (old.0, bit_or old.1 more) (was.low i (0, 0) within) was.low;
+        among = λ n. ((λ h. there n ((was.among n).0 h)), (λ h. (was.among n).1 (back n h)));
+      }
+    where
+      there : (n : ℕ) → HasWord pairs n → HasWord (with_more pairs i more) n
+      there n (k, p, l, e, h) =
+          let len = same_length in (
+            k,
+            get_or (with_more pairs i more) k p,
+            omega arith,
+            get_or_default (with_more pairs i more) k (get_or (with_more pairs i more) k p) p (omega arith),
+            same_word k p l ∙ ap (λ (q : ℕ × ℕ). q.0) e ∙ h,
+          )
 
-  within : (i : ℕ) → i < length (pairs_at places bits len) → i < len
-  within i l = let e = length-pairs_at places bits len room in omega arith
-
-  pub AreWords-table : AreWords (pairs_at places bits len)
-  AreWords-table = record {
-    few = let e = length-pairs_at places bits len room in let f = is.few in omega arith;
-    once = λ i j d l m e. is.once i j l (within j m)
-        (ap (λ (p : ℕ × ℕ). p.0) (sym (at i d (let k = within j m in omega arith))) ∙ e ∙ ap (λ (p : ℕ × ℕ). p.0) (at j d (within j m)));
-    some = λ i d l z. is.some i (within i l) (ap (λ (p : ℕ × ℕ). p.1) (sym (at i d (within i l))) ∙ z);
-    fits = λ i d l. subst (λ (p : ℕ × ℕ). p.1 < 2 ^ 64) (sym (at i d (within i l))) (is.fits i (within i l));
-  }
-
-  pub HasWord-among : (n : ℕ) → HasWord (pairs_at places bits len) n ↔ IsAmong places len n
-  HasWord-among n = (
-    (λ (i, p, l, e, h). (i, within i l, ap (λ (q : ℕ × ℕ). q.0) (sym (at i p (within i l)) ∙ e) ∙ h)),
-    (λ (i, l, e). let p : ℕ × ℕ = (get_or places i 0, get_or bits i 0) in
-        (i, p, (let len_is = length-pairs_at places bits len room in omega arith), at i p l, e)),
-  )
-
-  pub StandsAt-place : (word i : ℕ) → i < len → get_or places i 0 ≡ word → StandsAt (pairs_at places bits len) word i
-  StandsAt-place word i l e = record {
-    within = let len_is = length-pairs_at places bits len room in omega arith;
-    is = λ d. ap (λ (p : ℕ × ℕ). p.0) (at i d l) ∙ e;
-  }
-
-  pub place-StandsAt : (word i : ℕ) → StandsAt (pairs_at places bits len) word i → (i < len) × (get_or places i 0 ≡ word)
-  place-StandsAt word i s =
-      let l : i < len = within i s.within in
-      (l, ap (λ (p : ℕ × ℕ). p.0) (sym (at i (0, 0) l)) ∙ s.is (0, 0))
+      back : (n : ℕ) → HasWord (with_more pairs i more) n → HasWord pairs n
+      back n (k, p, l, e, h) =
+          let len = same_length in (
+            k,
+            get_or pairs k p,
+            omega arith,
+            get_or_default pairs k (get_or pairs k p) p (omega arith),
+            sym (same_word k p (omega arith)) ∙ ap (λ (q : ℕ × ℕ). q.0) e ∙ h,
+          )
 
 -- ---- one bit
 pub HasBit-unites : (old new : List (ℕ × ℕ)) (bit : ℕ) → UnitesPair old new (bit / 64) (2 ^ (bit % 64)) →
@@ -277,29 +151,6 @@ HasBit-unites old new bit unites n =
     to : n ≡ bit → bit_at (bits_if (n / 64) (bit / 64, 2 ^ (bit % 64))) (n % 64) ≡ 1
     to e = ap (λ b. bit_at b (n % 64)) (bits_if-same (n / 64) (bit / 64, 2 ^ (bit % 64)) (ap (λ k. k / 64) e)) ∙
         ap (λ k. bit_at (2 ^ (bit % 64)) (k % 64)) e ∙ bit_at-pow_same (bit % 64)
-
--- ---- no words
-pub IsTable-empty : (places bits seen : List ℕ) → ((n : ℕ) → ¬ IsTrue (has_bit seen n)) → IsTable places bits 0 seen
-IsTable-empty places bits seen none = record {
-  few = omega arith;
-  low = λ i l. absurd (omega arith);
-  once = λ i j l m. absurd (omega arith);
-  some = λ i l. absurd (omega arith);
-  fits = λ i l. absurd (omega arith);
-  among = λ n. ((λ h. absurd (none n h)), (λ (i, l, e). absurd (omega arith)));
-}
-
-pub none_seen : (n k : ℕ) → ¬ IsTrue (has_bit (replicate n 0) k)
-none_seen n k h = let off : has_bit (replicate n 0) k ≡ false = has_bit-zeros (replicate n 0) k (zeros_at n) in cc
-
--- the word of a bit is cleared
-pub has_bit-cleared : (seen : List ℕ) (word n : ℕ) → word < length seen → IsTrue (has_bit (set seen word 0) n) →
-    (n / 64 ≢ word) × IsTrue (has_bit seen n)
-has_bit-cleared seen word n l h = elim (cases_eq (n / 64) word) [
-  | inl e ↦ absurd (let zero : get_or (set seen word 0) (n / 64) 0 ≡ 0 = ap (λ k. get_or (set seen word 0) k 0) e ∙ get_or-set_same seen word 0 0 l in
-      let off : has_bit (set seen word 0) n ≡ false = ap (λ w. eqb (bit_at w (n % 64)) 1) zero ∙ ap (λ b. eqb b 1) (bit_at-zero (n % 64)) in cc)
-  | inr ne ↦ (ne, subst (λ w. eqb (bit_at w (n % 64)) 1 ≡ true) (get_or-set_other seen word (n / 64) 0 0 ne) h)
-]
 
 -- ---- a run of bits
 pub HasBit-word : (old new : List (ℕ × ℕ)) (word bits : ℕ) → UnitesPair old new word bits →

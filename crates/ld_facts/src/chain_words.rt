@@ -13,6 +13,7 @@ ghost use Rattle.ld_trace.specs.declared.key_id.TheConstants.{GRAPH_KEYS};
 use crate::chain_facts::MARKS_TAKEN;
 use crate::fact::{Fact, first_mark, mark_index};
 use crate::{bits, chain_facts};
+use arrayvec::ArrayVec;
 use ld_task::{Chain, Frame};
 use ld_trace::{KeyId, Mode};
 use std::marker::Model;
@@ -29,23 +30,20 @@ const SEEN_WORDS: usize = 65;
 /// The words that hold facts of a chain, each once, and each with just the bits of these facts. There are at most 96.
 #[derive(Drop)]
 pub struct FactWords {
-    places: [u16; MAX_WORDS],
-    bits: [u64; MAX_WORDS],
-    len: usize,
+    pairs: ArrayVec<(u16, u64), MAX_WORDS>,
+    // A bit for each word of facts: whether it is among the pairs. With 48 held locks a search would take six times as long.
     seen: [u64; SEEN_WORDS],
 }
 
 impl Model for FactWords {
     ghost use Rattle.std.specs.Prelude.{List, ℕ};
-    ghost use Rattle.std.specs.Prelude.{take};
-    ghost use Rattle.std.specs.List.{zip};
     ghost use Rattle.ld_facts.specs.Inside.WordTable.{IsTable};
 
     ghost Value = { List (ℕ × ℕ) };
 
-    ghost view = { λ w. take w.len (zip w.places w.bits) };
+    ghost view = { λ w. w.pairs.items };
 
-    ghost invariant = { λ w. IsTable w.places w.bits w.len w.seen };
+    ghost invariant = { λ w. IsTable w.pairs.items w.seen };
 }
 
 impl FactWords {
@@ -54,9 +52,7 @@ impl FactWords {
         ensures { result ≡ [] }
     {
         FactWords {
-            places: [0; MAX_WORDS],
-            bits: [0; MAX_WORDS],
-            len: 0,
+            pairs: ArrayVec::new(),
             seen: [0; SEEN_WORDS],
         }
     }
@@ -82,18 +78,15 @@ impl FactWords {
         ensures exact { result ≡ length self.now }
         ensures at_most { result ≤ MAX_WORDS }
     {
-        self.len
+        self.pairs.len()
     }
 
     /// The number of the word at place `i` and its bits, or None if there is none.
     pub fn get(&self, i: usize) -> Option<(usize, u64)>
         ensures { result ≡ slice_get self.now i }
     {
-        if i < self.len {
-            Some((usize::from(self.places[i]), self.bits[i]))
-        } else {
-            None
-        }
+        let (word, bits) = *self.pairs.as_slice().get(i)?;
+        Some((usize::from(word), bits))
     }
 }
 
@@ -101,10 +94,8 @@ impl FactWords {
     fn clear(&mut self)
         ensures { self.new ≡ [] }
     {
-        for i in 0..self.len {
-            self.seen[usize::from(self.places[i]) / 64] = 0;
-        }
-        self.len = 0;
+        self.pairs.clear();
+        self.seen = [0; SEEN_WORDS];
     }
 
     // Adds the dependencies of an acquisition.
@@ -227,9 +218,7 @@ impl FactWords {
         ensures words { AreWords self.new }
         ensures len { length self.new ≡ length self.old + 1 }
     {
-        self.places[self.len] = word;
-        self.bits[self.len] = bits;
-        self.len += 1;
+        self.pairs.push((word, bits));
         bits::insert(&mut self.seen, usize::from(word));
     }
 
@@ -241,7 +230,7 @@ impl FactWords {
         ensures len { length self.new ≡ length self.old }
     {
         let i = self.find(word);
-        self.bits[i] |= bits;
+        self.pairs[i].1 |= bits;
     }
 
     // The place of a word that is here. The search begins at the last word, which it usually is.
@@ -249,8 +238,8 @@ impl FactWords {
         requires { HasWord self.now word }
         ensures { StandsAt self.now word result }
     {
-        let mut i = self.len - 1;
-        while self.places[i] != word {
+        let mut i = self.pairs.len() - 1;
+        while self.pairs[i].0 != word {
             i -= 1;
         }
         i

@@ -1,5 +1,5 @@
--- The table that words of facts are kept in: which words there are, their bits, and a bit for each word that there is.
-use Rattle.std.specs.Prelude.{◌≡◌, ◌≢◌, ℕ, ◌+◌, ◌*◌, ◌/◌, ◌%◌, ◌^◌, ◌<◌, ◌≤◌, ◌↔◌, ◌⊎◌, Option, Some, IsTrue, List, All, AllPairs, Any, slice_index, slice_index_or, bit_or, length, ◌==◌, if◌then◌else◌}
+-- The table that words of facts are kept in: pairs of a word and its bits, and a bit for each word that there is.
+use Rattle.std.specs.Prelude.{◌≡◌, ◌≢◌, ℕ, ◌+◌, ◌*◌, ◌/◌, ◌%◌, ◌^◌, ◌<◌, ◌≤◌, ◌↔◌, ◌⊎◌, Option, Some, IsTrue, List, All, AllPairs, Any, slice_index_or, bit_or, length, ◌==◌, if◌then◌else◌}
 use Rattle.ld_facts.specs.declared.chain_words.TheConstants.{MAX_WORDS, SEEN_WORDS}
 use Rattle.ld_facts.specs.Inside.Bits.{has_bit}
 use Rattle.std.specs.Int.{bit_at}
@@ -10,19 +10,6 @@ use Rattle.ld_facts.specs.WordPairs.{bits_of}
 use Rattle.ld_task.specs.declared.mark.Mark.{Mark}
 use Rattle.ld_facts.specs.declared.fact.Fact.{Fact}
 use Rattle.ld_facts.specs.declared.fact.Fact.TheVariants.{Marked}
-
--- word n is among the first `len` places
-abbrev pub IsAmong : List ℕ → ℕ → ℕ → Type 0
-IsAmong places len n = (i : ℕ) × (i < len) × (slice_index places i ≡ n)
-
--- the first `len` places are different words, each with some bit, and those whose bit is set in `seen`
-pub record IsTable (places bits : List ℕ) (len : ℕ) (seen : List ℕ) : Type 0 where
-  pub few : len ≤ MAX_WORDS
-  pub low : (i : ℕ) → i < len → slice_index places i < 64 * SEEN_WORDS
-  pub once : (i j : ℕ) → i < j → j < len → slice_index places i ≢ slice_index places j
-  pub some : (i : ℕ) → i < len → slice_index bits i ≢ 0
-  pub fits : (i : ℕ) → i < len → slice_index bits i < 2 ^ 64
-  pub among : (n : ℕ) → IsTrue (has_bit seen n) ↔ IsAmong places len n
 
 -- word n is among the pairs
 abbrev pub HasWord : List (ℕ × ℕ) → ℕ → Type 0
@@ -39,6 +26,12 @@ pub record AreWords (pairs : List (ℕ × ℕ)) : Type 0 where
   pub once : AllPairs (λ p q. p.0 ≢ q.0) pairs
   pub some : All (λ p. p.1 ≢ 0) pairs
   pub fits : All (λ p. p.1 < 2 ^ 64) pairs
+
+-- `seen` has a bit for each word that is among the pairs
+pub record IsTable (pairs : List (ℕ × ℕ)) (seen : List ℕ) : Type 0 where
+  pub words : AreWords pairs
+  pub low : All (λ p. p.0 < 64 * SEEN_WORDS) pairs
+  pub among : (n : ℕ) → IsTrue (has_bit seen n) ↔ HasWord pairs n
 
 -- bits of one word are united with those that the pairs have of it
 abbrev pub UnitesPair : (old new : List (ℕ × ℕ)) → (word bits : ℕ) → Type 0
