@@ -63,15 +63,11 @@ pub(crate) fn dependency_of(chain: &Chain, i: usize, key: KeyId, mode: Mode) -> 
         (record { key = key; mode = mode }) }
 {
     let (from, old) = chain.held(i)?;
-    if mode.may_wait() {
-        Some(Fact::Dependency {
-            from: from.get(),
-            to: key.get(),
-            kind: Kind::between(old, mode),
-        })
-    } else {
-        None
-    }
+    mode.may_wait().then_some(Fact::Dependency {
+        from: from.get(),
+        to: key.get(),
+        kind: Kind::between(old, mode),
+    })
 }
 
 // The mark of number `n` below 5 on the new lock, if the acquisition gives it.
@@ -129,12 +125,8 @@ fn enabled(irq: Irq, read: bool) -> Mark
 fn mark_given(given: bool, key: KeyId, mark: Mark) -> Option<Fact>
     ensures { result ≡ (if given then Some (Fact.Marked key mark) else None) }
 {
-    if given {
-        Some(Fact::Marked {
-            key: key.get(),
-            mark,
-        })
-    } else {
-        None
-    }
+    given.then_some(Fact::Marked {
+        key: key.get(),
+        mark,
+    })
 }

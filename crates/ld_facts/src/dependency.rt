@@ -2,13 +2,11 @@
 
 ghost use Rattle.std.specs.Prelude.{◌≡◌, ◌*◌, ◌<◌, ◌↔◌, EachIndex, IsTrue, slice_index};
 ghost use Rattle.ld_task.specs.Kinds.{is_s};
-ghost use Rattle.ld_trace.specs.declared.key_id.TheConstants.{GRAPH_KEYS};
-ghost use Rattle.ld_trace.specs.declared.key_id.TheConstants.{MAX_KEYS};
+ghost use Rattle.ld_trace.specs.declared.key_id.TheConstants.{GRAPH_KEYS, MAX_KEYS};
 ghost use Rattle.ld_facts.specs.Arrows.{MayFollow};
-ghost use Rattle.ld_facts.specs.Inside.Rows.{arrow_of};
+ghost use Rattle.ld_facts.specs.Inside.Rows.{arrow_of, IsOfKeys, IsOfManyKeys, row_place};
 ghost use Rattle.ld_facts.specs.Numbers.{kind_number};
 ghost use Rattle.ld_facts.specs.Inside.Places.{arrival, LeavesFrom};
-ghost use Rattle.ld_facts.specs.Inside.Rows.{IsOfKeys, IsOfManyKeys, row_place};
 ghost use Rattle.ld_facts.specs.Renumbered.{arrow_at};
 ghost use Rattle.ld_facts.specs.declared.places.TheConstants.{PLACES};
 
@@ -45,19 +43,12 @@ impl Dependency {
         ensures arrives { arrival (arrow_of result) ≡ place }
     {
         let keys = usize::from(GRAPH_KEYS);
-        if place < keys {
-            Dependency {
-                from: 0,
-                to: place as u16,
-                kind: Kind::En,
-            }
+        let (to, kind) = if place < keys {
+            (place as u16, Kind::En)
         } else {
-            Dependency {
-                from: 0,
-                to: (place - keys) as u16,
-                kind: Kind::Er,
-            }
-        }
+            ((place - keys) as u16, Kind::Er)
+        };
+        Dependency { from: 0, to, kind }
     }
 
     /// Whether one that starts where this ends may follow it.

@@ -11,8 +11,7 @@ ghost use Rattle.ld_facts.specs.Counting.{IsNumberOf};
 ghost use Rattle.ld_task.specs.declared.kind.Kind.{Kind};
 ghost use Rattle.ld_facts.specs.Inside.Rows.{IsNextFrom, row_place};
 ghost use Rattle.ld_facts.specs.declared.fact.Fact.{Fact};
-ghost use Rattle.ld_trace.specs.declared.key_id.TheConstants.{GRAPH_KEYS};
-ghost use Rattle.ld_trace.specs.declared.key_id.TheConstants.{MAX_KEYS};
+ghost use Rattle.ld_trace.specs.declared.key_id.TheConstants.{GRAPH_KEYS, MAX_KEYS};
 
 use crate::dependency::Dependency;
 use crate::fact::{Fact, fact_total, word_total};
