@@ -1,12 +1,11 @@
 //! Reading many traces of one text.
 
 ghost use Rattle.std.specs.Prelude.{◌≡◌, ◌≤◌, ◌++◌, ◌∷◌, [], ℕ, List, Some, All, IfSome, IsTrue, false, length};
-ghost use Rattle.csv.specs.Records.{fields_of};
-ghost use Rattle.ld_trace.specs.Joining.{joined, point};
+ghost use Rattle.ld_trace.specs.Joining.{joined};
 ghost use Rattle.ld_trace.specs.JoinedTraces.{AreInTurn, AreReadTo, IsNumbered};
 ghost use Rattle.ld_trace.specs.Names.{Name};
 ghost use Rattle.ld_trace.specs.Inside.Joined.{TakesInTurn, TakesPart};
-ghost use Rattle.ld_trace.specs.Inside.Progress.{HasGiven, ReadsPlain};
+ghost use Rattle.ld_trace.specs.Inside.Progress.{ReadsPlain};
 
 use crate::reading::{plain_reader, take_records};
 use crate::record::is_point;

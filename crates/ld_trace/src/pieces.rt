@@ -1,6 +1,6 @@
 //! Reading a trace in pieces, each cut after a newline.
 
-ghost use Rattle.std.specs.Prelude.{◌≡◌, ◌≢◌, ◌≤◌, ◌++◌, ℕ, [], List, length, IfOk, IfErr, IfSome, IsNone, IsTrue, IsFalse};
+ghost use Rattle.std.specs.Prelude.{◌≡◌, ◌≢◌, ◌++◌, ℕ, [], List, length, IfOk, IfErr, IfSome, IsNone, IsTrue, IsFalse};
 ghost use Rattle.ld_trace.specs.Events.{KeysBelow};
 ghost use Rattle.ld_trace.specs.Names.{Name};
 ghost use Rattle.ld_trace.specs.Pieces.{AreLines, header_line};
