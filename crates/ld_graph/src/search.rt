@@ -1,43 +1,36 @@
 //! A search over places, breadth first, for a shortest way from a start to a goal.
 
 ghost use Rattle.std.specs.Prelude.{◌≡◌, ℕ, suc, ◌-◌, ◌<◌, ◌≤◌, [], ◌∷◌, length, IsTrue, IsFalse, IsNone, IfSome};
-ghost use Rattle.ld_facts.specs.Inside.Rows.{arrow_of};
+ghost use Rattle.ld_facts.specs.Inside.Rows.{arrow_of, IsOfKeys};
 ghost use Rattle.ld_facts.specs.FactBits.{FactParts, HasFact};
 ghost use Rattle.ld_facts.specs.Facts.{DependenciesOf};
 ghost use Rattle.ld_facts.specs.Inside.Bits.{has_bit};
 ghost use Rattle.ld_facts.specs.Inside.Places.{arrival};
 ghost use Rattle.ld_graph.specs.Inside.Searching.{AreSteps, FindsGoal, GoesTo, Hits, LeadsBack, Misses, NoGoalBy, SeesAllFrom, StandsAt, Takes, Visits};
-ghost use Rattle.ld_facts.specs.Inside.Rows.{IsOfKeys};
 ghost use Rattle.ld_graph.specs.declared.walk.TheConstants.{MAX_WALK};
 ghost use Rattle.ld_trace.specs.declared.key_id.TheConstants.{GRAPH_KEYS};
 
-use crate::steps::Steps;
 use crate::walk::Walk;
-use ld_facts::places::{ROW_WORDS, Row};
+use arrayvec::ArrayVec;
+use ld_facts::places::{PLACES, ROW_WORDS, Row};
 use ld_facts::{Dependency, Facts, bits};
 use std::marker::Model;
 
 // A dependency, and the number of the step that it was taken from.
-#[derive(Clone, Copy, Debug)]
+#[derive(Clone, Copy, Debug, Default)]
 pub(crate) struct Step {
     dependency: Dependency,
     before: usize,
 }
 
-impl Default for Step {
-    fn default() -> Self {
-        Step {
-            dependency: Dependency::default(),
-            before: 0,
-        }
-    }
-}
+// The most steps of a search: the first, and one to each place.
+const MAX_STEPS: usize = PLACES + 1;
 
 // A search from a start: its steps in the order in which they were taken, and the places that they arrive at. The first
 // step stands for the start, which isn't seen until some step comes back to it.
 #[derive(Drop)]
 pub(crate) struct Search {
-    steps: Steps,
+    steps: ArrayVec<Step, MAX_STEPS>,
     seen: Row,
 }
 
@@ -55,7 +48,7 @@ impl Search {
     // No steps yet.
     pub(crate) fn new() -> Search {
         Search {
-            steps: Steps::new(),
+            steps: ArrayVec::new(),
             seen: [0; ROW_WORDS],
         }
     }

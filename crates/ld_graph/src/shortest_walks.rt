@@ -2,13 +2,12 @@
 
 ghost use Rattle.std.specs.Prelude.{◌≡◌, ◌+◌, ◌*◌, ◌<◌, ◌≤◌, ◌↔◌, [], ◌∷◌, IsNone, IfSome, length};
 ghost use Rattle.ld_facts.specs.Arrows.{Arrow, arrow};
-ghost use Rattle.ld_facts.specs.Inside.Rows.{arrow_of};
+ghost use Rattle.ld_facts.specs.Inside.Rows.{arrow_of, IsOfKeys};
 ghost use Rattle.ld_graph.specs.Walks.{IsCircle, IsShortestCircle, IsShortestFrom, OnCircle};
 ghost use Rattle.ld_graph.specs.Links.{IsInversion, IsLink, IsShortestInversion, link_by};
 ghost use Rattle.ld_facts.specs.Facts.{DependenciesOf};
 ghost use Rattle.ld_facts.specs.FactBits.{HasFact};
 ghost use Rattle.ld_graph.specs.Inside.Searching.{LeadsRound, LeastRound, LeastThrough};
-ghost use Rattle.ld_facts.specs.Inside.Rows.{IsOfKeys};
 ghost use Rattle.ld_graph.specs.declared.circle.TheConstants.{MAX_CIRCLE};
 ghost use Rattle.ld_facts.specs.declared.places.TheConstants.{PLACES};
 

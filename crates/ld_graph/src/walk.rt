@@ -3,10 +3,10 @@
 ghost use Rattle.std.specs.Prelude.{◌≡◌, ◌<◌, ◌≤◌, [], ◌∷◌, EachIndex, IfSome, length, map, option_map, slice_get, slice_index};
 ghost use Rattle.ld_trace.specs.declared.key_id.TheConstants.{MAX_KEYS};
 ghost use Rattle.ld_graph.specs.Circles.{arrow_parts};
-ghost use Rattle.ld_facts.specs.Inside.Rows.{arrow_of};
-ghost use Rattle.ld_facts.specs.Inside.Rows.{IsOfManyKeys};
+ghost use Rattle.ld_facts.specs.Inside.Rows.{arrow_of, IsOfManyKeys};
 ghost use Rattle.ld_facts.specs.Renumbered.{arrow_at};
 
+use arrayvec::ArrayVec;
 use ld_facts::Dependency;
 use ld_facts::places::PLACES;
 use ld_task::Kind;
@@ -19,24 +19,21 @@ pub(crate) const MAX_WALK: usize = PLACES;
 /// key twice.
 #[derive(Drop, Debug)]
 pub struct Walk {
-    // The last first; only the first `len` are in use.
-    backwards: [Dependency; MAX_WALK],
-    len: usize,
+    // The last first.
+    backwards: ArrayVec<Dependency, MAX_WALK>,
 }
 
 impl Model for Walk {
-    ghost use Rattle.std.specs.Prelude.{◌≡◌, ◌≤◌, List, length, take};
-    ghost use Rattle.ld_graph.specs.declared.walk.TheConstants.{MAX_WALK};
+    ghost use Rattle.std.specs.Prelude.{List};
     ghost use Rattle.ld_facts.specs.Arrows.{Arrow};
     ghost use Rattle.ld_graph.specs.Circles.{forwards};
     ghost use Rattle.ld_graph.specs.Inside.Searching.{AreMembers};
 
     ghost Value = { List Arrow };
 
-    ghost view = { λ w. forwards (take w.len w.backwards) };
+    ghost view = { λ w. forwards w.backwards.items };
 
-    ghost invariant = { λ w. (w.len ≤ MAX_WALK) × (length w.backwards ≡ MAX_WALK)
-        × AreMembers (take w.len w.backwards) };
+    ghost invariant = { λ w. AreMembers w.backwards.items };
 }
 
 impl Walk {
@@ -45,8 +42,7 @@ impl Walk {
         ensures { result ≡ [] }
     {
         Walk {
-            backwards: [Dependency::default(); MAX_WALK],
-            len: 0,
+            backwards: ArrayVec::new(),
         }
     }
 
@@ -56,8 +52,7 @@ impl Walk {
         requires keys { IsOfManyKeys dependency }
         ensures { self.new ≡ arrow_of dependency ∷ self.old }
     {
-        self.backwards[self.len] = dependency;
-        self.len += 1;
+        self.backwards.push(dependency);
     }
 
     /// The same walk with other keys: instead of key `n` the one at place `n` of the list.
@@ -66,7 +61,7 @@ impl Walk {
         ensures { result ≡ map (arrow_at keys.now) self.now }
     {
         let mut walk = Walk::new();
-        for i in 0..self.len {
+        for i in 0..self.backwards.len() {
             walk.put_first(self.backwards[i].by_keys(keys));
         }
         walk
@@ -77,7 +72,7 @@ impl Walk {
         ensures exact { result ≡ length self.now }
         ensures at_most { result ≤ MAX_WALK }
     {
-        self.len
+        self.backwards.len()
     }
 
     /// The dependency at place `i`, counted from 0: the key that it leads from, the key that it leads to, and its kind.
@@ -86,10 +81,11 @@ impl Walk {
         ensures value { result ≡ option_map arrow_parts (slice_get self.now i) }
         ensures below { IfSome result (λ d. (d.0 < MAX_KEYS) × (d.1 < MAX_KEYS)) }
     {
-        if i >= self.len {
+        let len = self.backwards.len();
+        if i >= len {
             return None;
         }
-        let Dependency { from, to, kind } = self.backwards[self.len - 1 - i];
+        let Dependency { from, to, kind } = self.backwards[len - 1 - i];
         Some((from, to, kind))
     }
 }

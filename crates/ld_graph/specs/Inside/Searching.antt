@@ -35,10 +35,6 @@ Reached E p zero q = p ≡ q
 Reached E p (suc n) q = (m : ℕ) × Reached E p n m × E m q
 
 -- ---- steps
--- the steps that were taken, in their order
-pub record StepList : Type 0 where
-  pub items : List Step
-
 -- what a search has found: its steps, and the places that were seen
 pub record SearchParts : Type 0 where
   pub steps : List Step

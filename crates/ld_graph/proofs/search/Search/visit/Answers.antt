@@ -13,7 +13,7 @@ pub push-requires : goal.push-requires
 push-requires c =
     let r = room (goal.at.push-requires c).After-insert in
     let l = c.self.invariant.room in
-    (let h : length c.self.inside.steps.items < 513 = omega arith in h)
+    (omega arith, (let h : length c.self.inside.steps.items < 513 = omega arith in h))
 
 pub invariant_of-self : goal.invariant_of-self
 invariant_of-self c =
