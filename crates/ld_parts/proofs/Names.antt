@@ -19,8 +19,8 @@ pub use Rattle.ld_graph.specs.Laws.Facts.{IsCircle-more, IsClean-same, IsShortes
 pub use Rattle.ld_graph.specs.Links.{InInversion, IsClean, IsDouble, IsDoubleBy, IsInversion, IsInversionWith, IsLink, IsShortestInversion, link_by}
 pub use Rattle.ld_graph.specs.Walks.{ClosedWalk, IsCircle, IsShortestCircle, IsShortestFrom, OnCircle, StrongWalk, last}
 pub use Rattle.ld_parts.specs.FoundInParts.{AreFoundInPart, AreFoundInParts, ListsRank}
-pub use Rattle.ld_parts.specs.Inside.Pairs.{IsPair, facts_in, told_by}
-pub use Rattle.ld_parts.specs.Inside.Parts.{AreApart, AreHomes, AreHoused, AreKeysOf, AreParts, AreTogether, IsAtPlace, IsHome, IsPart, IsPartOf, IsParted, IsShortestOfFirst, IsToldBy}
+pub use Rattle.ld_parts.specs.Inside.Pairs.{IsPair, facts_in, renumbered_by}
+pub use Rattle.ld_parts.specs.Inside.Parts.{AreApart, AreHomes, AreHoused, AreKeysOf, AreParts, AreTogether, IsAtPlace, IsHome, IsPart, IsPartOf, IsParted, IsShortestOfFirst, IsShortestOfPart}
 pub use Rattle.ld_parts.specs.Ranks.{AmongRank, DependenciesClimb, IsCrowded, LinksClimb, NoneGoesDown}
 pub use Rattle.ld_parts.specs.declared.home.Home.{Home}
 pub use Rattle.ld_parts.specs.declared.part.Part.{Part}

@@ -1,5 +1,5 @@
 -- Pairs of keys in the one graph, and in that of a part.
-use Rattle.ld_parts.proofs.Names.{◌<◌, ◌≡◌, AreTogether, Arrow, FactParts, HasFact, IsPair, IsPart, List, None, NoneGoesDown, Option, Part, Some, arith, arrow, arrow_at, length, length-map, link_by, refl, slice_index, told_by, ℕ}
+use Rattle.ld_parts.proofs.Names.{◌<◌, ◌≡◌, AreTogether, Arrow, FactParts, HasFact, IsPair, IsPart, List, None, NoneGoesDown, Option, Part, Some, arith, arrow, arrow_at, length, length-map, link_by, refl, slice_index, renumbered_by, ℕ}
 use Rattle.std.specs.Borrow.{Bor}
 use Rattle.ld_graph.specs.declared.graph.Graph.{Graph}
 use Rattle.ld_parts.specs.declared.pair.Pair.{Pair}
@@ -9,7 +9,7 @@ use Rattle.ld_parts.proofs.Parts.{found_in_part}
 pub pair_of_all : (graph : Bor Graph) (a b : ℕ) → IsPair graph.now.facts a b (record { graph = graph; keys = None; a = a; b = b })
 pair_of_all graph a b = record {
   few = omega arith;
-  told = _;
+  numbers = _;
   on_circle = λ kind. (λ h. h, λ h. h);
   shortest_from = λ kind walk shortest. shortest;
   double = λ irq. (λ h. h, λ h. h);
@@ -30,7 +30,7 @@ module _ (facts : FactParts) (part : Part) (graph : Bor Graph) (keys : Bor (List
   pair_at_places rank r none is li lj =
       let found = found_in_part facts part rank r none is in record {
         few = let few = is.keys_are.few in rw the_graph (omega (arith, is.bound, few));
-        told = rw the_keys is.told;
+        numbers = rw the_keys is.numbers;
         on_circle = λ kind. rw the_graph (found.on_circle (arrow i j kind) li lj);
         shortest_from = λ kind walk. rw (the_graph, the_keys) (found.shortest_from (arrow i j kind) walk);
         double = λ irq. rw the_graph (found.double irq i li);
@@ -45,6 +45,6 @@ module _ (facts : FactParts) (part : Part) (graph : Bor Graph) (keys : Bor (List
   pair_of_part a b by = rw (← by.at_a.1, ← by.at_b.1) (pair_at_places by.of.0 by.of.1 by.of.2 by.of.3 by.at_a.0 by.at_b.0)
 
 -- a walk is as long with other numbers
-pub length-told : (keys : Option (Bor (List ℕ))) (walk : List Arrow) → length (told_by keys walk) ≡ length walk
-length-told None walk = refl
-length-told (Some keys) walk = length-map walk (arrow_at keys.now)
+pub length-renumbered_by : (keys : Option (Bor (List ℕ))) (walk : List Arrow) → length (renumbered_by keys walk) ≡ length walk
+length-renumbered_by None walk = refl
+length-renumbered_by (Some keys) walk = length-map walk (arrow_at keys.now)

@@ -1,5 +1,5 @@
 -- How parts and homes are made, one key or one part after the other.
-use Rattle.ld_parts.proofs.Names.{[], ◌++◌, ◌+◌, ◌<◌, ◌↔◌, ◌∙◌, ◌∷◌, ◌≡◌, ◌≤◌, All, All-push, All-take, AreHomes, AreHoused, AreKeysOf, AreParts, Arrow, Bool, Contains, Contains-append_left, Contains-head, Contains-push, FactParts, GRAPH_KEYS, HasFact, Home, IfSome, IsCircle, IsCrowded, IsFalse, IsHome, IsNone, IsShortestOfFirst, IsToldBy, IsTrue, List, MAX_KEYS, None, OnCircle, Option, Part, Some, ap, arith, arrow_at, cases_eq, cases_lt, get_or, get_or-take, get_or_append_left, get_or_default, get_or_push, inl, inr, length, length-map, length-take-le, length_push, no_longer, refl, subst, sym, take, ℕ}
+use Rattle.ld_parts.proofs.Names.{[], ◌++◌, ◌+◌, ◌<◌, ◌↔◌, ◌∙◌, ◌∷◌, ◌≡◌, ◌≤◌, All, All-push, All-take, AreHomes, AreHoused, AreKeysOf, AreParts, Arrow, Bool, Contains, Contains-append_left, Contains-head, Contains-push, FactParts, GRAPH_KEYS, HasFact, Home, IfSome, IsCircle, IsCrowded, IsFalse, IsHome, IsNone, IsShortestOfFirst, IsShortestOfPart, IsTrue, List, MAX_KEYS, None, OnCircle, Option, Part, Some, ap, arith, arrow_at, cases_eq, cases_lt, get_or, get_or-take, get_or_append_left, get_or_default, get_or_push, inl, inr, length, length-map, length-take-le, length_push, no_longer, refl, subst, sym, take, ℕ}
 use Rattle.std.proofs.lemmas.List.Quantifiers.{all_pairs_push}
 use Rattle.ld_parts.proofs.Parts.{no_circle, some_part}
 
@@ -90,10 +90,10 @@ module _ (parts : List Part) (n : ℕ) (part : Part) (within : n < length parts)
       first_more (LeastOf circle) parts n part within is before here s p l other other_is
 
   -- a circle that the part returns is a shortest of its own
-  told_least : (circle : List Arrow) → IsToldBy part circle → LeastOf circle part
-  told_least circle told other other_is =
-      let least = told.shortest.least other other_is in
-      omega (arith, ap length told.told, length-map told.own (arrow_at part.keys.items))
+  least_of_part : (circle : List Arrow) → IsShortestOfPart part circle → LeastOf circle part
+  least_of_part circle of_part other other_is =
+      let least = of_part.shortest.least other other_is in
+      omega (arith, ap length of_part.renumbered, length-map of_part.own (arrow_at part.keys.items))
 
   pub none_more : ((k : ℕ) (p : Part) → k < n → (d : Arrow) → ¬ OnCircle (HasFact (get_or parts k p).graph.facts) d) →
       ((d : Arrow) → ¬ OnCircle (HasFact part.graph.facts) d) →
@@ -114,13 +114,13 @@ module _ (parts : List Part) (n : ℕ) (part : Part) (within : n < length parts)
   stays_without None none was = was
   stays_without (Some known) none was = known_stays known was (λ other other_is. absurd (no_circle (HasFact part.graph.facts) none other other_is))
 
-  module _ (circle : List Arrow) (told : IsToldBy part circle) (shorter : Bool) where
+  module _ (circle : List Arrow) (of_part : IsShortestOfPart part circle) (shorter : Bool) where
     pub stays_beside : (o : Option (List Arrow)) → IsFalse shorter → (IsNone o → IsTrue shorter) →
         IfSome o (λ known. IsTrue shorter ↔ (length circle < length known)) →
         IfSome o (IsShortestOfFirst parts n) → IfSome o (IsShortestOfFirst parts (n + 1))
     stays_beside None not_shorter none some was = was
     stays_beside (Some known) not_shorter none some was = known_stays known was (λ other other_is.
-        let least = told_least circle told other other_is in
+        let least = least_of_part circle of_part other other_is in
         elim (cases_lt (length circle) (length known)) [
           | inl less ↦ absurd (let t = some.1 less in cc)
           | inr more ↦ omega arith
@@ -144,8 +144,8 @@ module _ (parts : List Part) (n : ℕ) (part : Part) (within : n < length parts)
     is_taken o is_shorter none some was = record {
       r = n;
       before = omega arith;
-      of = λ p. subst (λ v. IsToldBy v circle) (is ∙ get_or_default parts n part p within) told;
-      least = least_more circle (least_before o is_shorter none some was) (told_least circle told);
+      of = λ p. subst (λ v. IsShortestOfPart v circle) (is ∙ get_or_default parts n part p within) of_part;
+      least = least_more circle (least_before o is_shorter none some was) (least_of_part circle of_part);
     }
 
 -- ---- parts with all keys

@@ -185,10 +185,10 @@ module _ (facts : FactParts) (parts : List Part) (homes : List Home) (are : IsPa
   pub shortest_of_parts : (circle : List Arrow) → IsShortestOfFirst parts (length parts) circle → IsShortestCircle (HasFact facts) circle
   shortest_of_parts circle first =
       let part = some_part parts first.r first.before in
-      let told = first.of part in
-      let long : length circle ≡ length told.own = ap length told.told ∙ length-map told.own (arrow_at (get_or parts first.r part).keys.items) in
-      rw (told.told, ← listed_part first.r part first.before) (found.shortest_circle first.r told.own
-      (IsShortestCircle-same (HasFact (get_or parts first.r part).graph.facts) (Among first.r) (same_in_part first.r part first.before) told.own told.shortest)
+      let of_part = first.of part in
+      let long : length circle ≡ length of_part.own = ap length of_part.renumbered ∙ length-map of_part.own (arrow_at (get_or parts first.r part).keys.items) in
+      rw (of_part.renumbered, ← listed_part first.r part first.before) (found.shortest_circle first.r of_part.own
+      (IsShortestCircle-same (HasFact (get_or parts first.r part).graph.facts) (Among first.r) (same_in_part first.r part first.before) of_part.own of_part.shortest)
       (λ s other closed.
       let (l, of_part) = circle_in_part s other closed in
       let other_part = some_part parts s l in
@@ -198,9 +198,9 @@ module _ (facts : FactParts) (parts : List Part) (homes : List Home) (are : IsPa
   pub shortest_few : (circle : List Arrow) → IsShortestOfFirst parts (length parts) circle → length circle ≤ facts.keys
   shortest_few circle first =
       let part = some_part parts first.r first.before in
-      let told = first.of part in
+      let of_part = first.of part in
       let is = are.parts_are.parts_are first.r part first.before in
-      let few = told.few in
+      let few = of_part.few in
       let bound = is.bound in
       let all = is.keys_are.few in
-      omega (arith, ap length told.told, length-map told.own (arrow_at (get_or parts first.r part).keys.items))
+      omega (arith, ap length of_part.renumbered, length-map of_part.own (arrow_at (get_or parts first.r part).keys.items))

@@ -1,8 +1,8 @@
 //! Two keys in the graph that has both.
 
 ghost use Rattle.std.specs.Prelude.{◌≡◌, IfSome};
-ghost use Rattle.ld_parts.specs.Inside.Pairs.{told_by};
-ghost use Rattle.ld_parts.specs.Inside.Parts.{MayBeTold};
+ghost use Rattle.ld_parts.specs.Inside.Pairs.{renumbered_by};
+ghost use Rattle.ld_parts.specs.Inside.Parts.{AreKeyNumbers};
 
 use ld_graph::{Graph, Walk};
 
@@ -19,8 +19,8 @@ pub(crate) struct Pair<'a> {
 impl Pair<'_> {
     // A walk of the graph, with the keys themselves.
     pub(crate) fn by_keys(&self, walk: Walk) -> Walk
-        requires { IfSome self.now.keys (λ keys. MayBeTold keys.now) }
-        ensures { result ≡ told_by self.now.keys walk }
+        requires { IfSome self.now.keys (λ keys. AreKeyNumbers keys.now) }
+        ensures { result ≡ renumbered_by self.now.keys walk }
     {
         match self.keys {
             Some(keys) => walk.by_keys(keys),

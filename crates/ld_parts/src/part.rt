@@ -3,7 +3,7 @@
 ghost use Rattle.std.specs.Prelude.{◌≡◌, ℕ, ◌<◌, ◌≤◌, ◌↔◌, All, IsTrue, IsNone, IfOk, IfSome, Err, length, slice_index};
 ghost use Rattle.ld_facts.specs.Arrows.{Arrow};
 ghost use Rattle.ld_facts.specs.FactBits.{HasFact};
-ghost use Rattle.ld_parts.specs.Inside.Parts.{AreKeysOf, AreParts, IsPart, IsShortestOfFirst, IsToldBy, MayBeTold};
+ghost use Rattle.ld_parts.specs.Inside.Parts.{AreKeysOf, AreParts, IsPart, IsShortestOfFirst, IsShortestOfPart, AreKeyNumbers};
 ghost use Rattle.ld_graph.specs.Links.{IsClean};
 ghost use Rattle.ld_parts.specs.Ranks.{IsCrowded};
 ghost use Rattle.ld_graph.specs.Walks.{OnCircle};
@@ -40,10 +40,10 @@ impl Part {
 
     // A shortest circle of the part's graph, with the keys themselves.
     fn shortest_circle(&self) -> Option<Circle>
-        requires { MayBeTold self.now.keys.items }
+        requires { AreKeyNumbers self.now.keys.items }
         ensures none { IsNone result
             → (d : Arrow) → ¬ OnCircle (HasFact self.now.graph.facts) d }
-        ensures some { IfSome result (IsToldBy self.now) }
+        ensures some { IfSome result (IsShortestOfPart self.now) }
     {
         let circle = self.graph.shortest_circle()?;
         Some(circle.by_keys(&self.keys))
@@ -106,7 +106,7 @@ pub(crate) fn are_clean(parts: &[Part]) -> bool
 
 // A shortest of the circles of the parts' graphs, with the keys themselves.
 pub(crate) fn shortest_of(parts: &[Part]) -> Option<Circle>
-    requires { All (λ part. MayBeTold part.keys.items) parts.now }
+    requires { All (λ part. AreKeyNumbers part.keys.items) parts.now }
     ensures none { IsNone result
         → All (λ part. (d : Arrow) → ¬ OnCircle (HasFact part.graph.facts) d) parts.now }
     ensures some { IfSome result (IsShortestOfFirst parts.now (length parts.now)) }

@@ -8,7 +8,7 @@ use Rattle.ld_facts.specs.FactBits.{FactParts, HasFact}
 use Rattle.ld_facts.specs.Renumbered.{arrow_at}
 use Rattle.ld_graph.specs.Links.{InInversion, IsDouble, IsDoubleBy, IsInversion, IsShortestInversion, link_by}
 use Rattle.ld_graph.specs.Walks.{IsShortestFrom, OnCircle}
-use Rattle.ld_parts.specs.Inside.Parts.{MayBeTold}
+use Rattle.ld_parts.specs.Inside.Parts.{AreKeyNumbers}
 use Rattle.ld_parts.specs.declared.pair.Pair.{Pair}
 use Rattle.ld_parts.specs.declared.settled.Graphs.{Graphs}
 use Rattle.ld_parts.specs.declared.settled.Graphs.TheVariants.{One, ByRank}
@@ -19,19 +19,19 @@ facts_in (One graph) = graph.facts
 facts_in (ByRank graph) = graph
 
 -- a walk with the keys of these numbers, or with the numbers themselves
-abbrev pub told_by : Option (Bor (List ℕ)) → List Arrow → List Arrow
-told_by None walk = walk
-told_by (Some keys) walk = map (arrow_at keys.now) walk
+abbrev pub renumbered_by : Option (Bor (List ℕ)) → List Arrow → List Arrow
+renumbered_by None walk = walk
+renumbered_by (Some keys) walk = map (arrow_at keys.now) walk
 
 -- what is found between two numbers in a graph is what is found between two keys among the facts
 pub record IsPair (facts : FactParts) (a b : ℕ) (pair : Pair) : Type 0 where
   pub few : pair.graph.now.facts.keys ≤ facts.keys
-  pub told : IfSome pair.keys (λ keys. MayBeTold keys.now)
+  pub numbers : IfSome pair.keys (λ keys. AreKeyNumbers keys.now)
   pub on_circle : (kind : Kind) →
       OnCircle (HasFact facts) (arrow a b kind) ↔ OnCircle (HasFact pair.graph.now.facts) (arrow pair.a pair.b kind)
   pub shortest_from : (kind : Kind) (walk : List Arrow) →
       IsShortestFrom (HasFact pair.graph.now.facts) (arrow pair.a pair.b kind) walk →
-      IsShortestFrom (HasFact facts) (arrow a b kind) (told_by pair.keys walk)
+      IsShortestFrom (HasFact facts) (arrow a b kind) (renumbered_by pair.keys walk)
   pub double : (irq : Irq) → IsDouble (HasFact facts) irq a ↔ IsDouble (HasFact pair.graph.now.facts) irq pair.a
   pub double_by : (irq : Irq) (enabled_read used_read : Bool) →
       IsDoubleBy (HasFact pair.graph.now.facts) irq pair.a (link_by pair.a pair.a enabled_read used_read) →
@@ -42,4 +42,4 @@ pub record IsPair (facts : FactParts) (a b : ℕ) (pair : Pair) : Type 0 where
       InInversion (HasFact facts) (arrow a b kind) ↔ InInversion (HasFact pair.graph.now.facts) (arrow pair.a pair.b kind)
   pub shortest_inversion : (irq : Irq) (enabled_read used_read : Bool) (walk : List Arrow) →
       IsShortestInversion (HasFact pair.graph.now.facts) irq pair.a pair.b (link_by pair.b pair.a enabled_read used_read) walk →
-      IsShortestInversion (HasFact facts) irq a b (link_by b a enabled_read used_read) (told_by pair.keys walk)
+      IsShortestInversion (HasFact facts) irq a b (link_by b a enabled_read used_read) (renumbered_by pair.keys walk)

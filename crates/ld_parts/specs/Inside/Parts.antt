@@ -18,14 +18,14 @@ pub record AreKeysOf (bound : ℕ) (rank : ℕ → ℕ) (r : ℕ) (keys : List �
   pub all : (key : ℕ) → key < bound → rank key ≡ r → Contains keys key
   pub few : length keys ≤ bound
 
--- there can be facts about each key of the list
-abbrev pub MayBeTold : List ℕ → Type 0
-MayBeTold keys = EachIndex keys (λ i. slice_index keys i < MAX_KEYS)
+-- each is the number of a key that there can be
+abbrev pub AreKeyNumbers : List ℕ → Type 0
+AreKeyNumbers keys = EachIndex keys (λ i. slice_index keys i < MAX_KEYS)
 
 -- the part has the keys of the rank, and its graph has the facts among them
 pub record IsPart (facts : FactParts) (rank : ℕ → ℕ) (r : ℕ) (part : Part) : Type 0 where
   pub keys_are : AreKeysOf facts.keys rank r part.keys.items
-  pub told : MayBeTold part.keys.items
+  pub numbers : AreKeyNumbers part.keys.items
   pub room : length part.keys.items ≤ GRAPH_KEYS
   pub bound : part.graph.facts.keys ≡ length part.keys.items
   pub same : AreSame (HasFact part.graph.facts) (Renumbered (HasFact facts) part.keys.items)
@@ -82,16 +82,16 @@ AreApart facts a b = a < facts.keys → b < facts.keys →
 
 -- ---- circles
 -- the circle is a shortest one of the part's graph, with the keys themselves
-pub record IsToldBy (part : Part) (circle : List Arrow) : Type 0 where
+pub record IsShortestOfPart (part : Part) (circle : List Arrow) : Type 0 where
   pub own : List Arrow
   pub shortest : IsShortestCircle (HasFact part.graph.facts) own
   pub few : length own ≤ part.graph.facts.keys
-  pub told : circle ≡ map (arrow_at part.keys.items) own
+  pub renumbered : circle ≡ map (arrow_at part.keys.items) own
 
 -- it is one of the first n parts', and no circle of any of their graphs is shorter
 pub record IsShortestOfFirst (parts : List Part) (n : ℕ) (circle : List Arrow) : Type 0 where
   pub r : ℕ
   pub before : r < n
-  pub of : (part : Part) → IsToldBy (get_or parts r part) circle
+  pub of : (part : Part) → IsShortestOfPart (get_or parts r part) circle
   pub least : (s : ℕ) (part : Part) (other : List Arrow) → s < n →
       IsCircle (HasFact (get_or parts s part).graph.facts) other → length circle ≤ length other

@@ -1,5 +1,5 @@
 use Rattle.ld_parts.proofs.Names.{◌≡◌, HasFact, IsShortestInversion, ap, arith, false, is_some, length, link_by, refl, subst, sym, true}
-use Rattle.ld_parts.proofs.Pairs.{length-told}
+use Rattle.ld_parts.proofs.Pairs.{length-renumbered_by}
 use Rattle.ld_parts.proofs.Parts.{no_inversion_apart}
 use Rattle.ld_parts.proofs.settled.Settled.inversion_walk.Goals as goal
 
@@ -28,4 +28,4 @@ returns-clause-some c =
 pub returns-clause-few : goal.returns-clause-few
 returns-clause-few c =
     let few = c.in_ok-pair.ensures.some.few in let most = c.in_ok-found.ensures.few in
-    omega (arith, ap length c.by_keys.ensures, length-told c.in_ok-pair.pair.keys c.in_ok-found.found.walk, few, most)
+    omega (arith, ap length c.by_keys.ensures, length-renumbered_by c.in_ok-pair.pair.keys c.in_ok-found.found.walk, few, most)
