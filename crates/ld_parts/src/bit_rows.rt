@@ -44,12 +44,7 @@ impl BitRows {
     }
 
     fn word(&self, row: u16, i: u16) -> u64 {
-        let place = self.place(row, i);
-        if place < self.words.len() {
-            self.words[place]
-        } else {
-            0
-        }
+        self.words.get(self.place(row, i)).copied().unwrap_or(0)
     }
 
     // Where a word of a row is.

@@ -96,12 +96,7 @@ fn keys_of(alloc: Global, bound: u16, ranks: &Ranks, rank: u16) -> Result<Vec<u1
 pub(crate) fn are_clean(parts: &[Part]) -> bool
     ensures { IsTrue result ↔ All (λ part. IsClean (HasFact part.graph.facts)) parts.now }
 {
-    for part in parts {
-        if !part.graph.is_clean() {
-            return false;
-        }
-    }
-    true
+    parts.iter().all(|part| part.graph.is_clean())
 }
 
 // A shortest of the circles of the parts' graphs, with the keys themselves.

@@ -55,11 +55,7 @@ impl Ranks {
     fn at(&self, key: usize) -> u16
         ensures { result ≡ slice_index self.now key }
     {
-        if key < self.ranks.len() {
-            self.ranks[key]
-        } else {
-            0
-        }
+        self.ranks.get(key).copied().unwrap_or(0)
     }
 
     /// Gives a rank to a key below the bound.
