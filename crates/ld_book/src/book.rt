@@ -208,8 +208,7 @@ impl Book {
         ensures keys { result.facts.keys ≡ self.keys }
         ensures facts { AreSame (HasFact result.facts) (JournalHas self.journal) }
     {
-        let Book { graph, .. } = self;
-        graph
+        self.graph
     }
 }
 

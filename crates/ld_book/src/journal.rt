@@ -42,16 +42,12 @@ impl Entry {
         }
     }
 
-    fn trace(&self) -> u32
-        ensures { result ≡ self.now.trace }
+    // The trace, and the chain's number.
+    fn parts(&self) -> (u32, usize)
+        ensures { result ≡ (self.now.trace, self.now.number) }
     {
-        self.trace
-    }
-
-    fn number(&self) -> usize
-        ensures { result ≡ self.now.number }
-    {
-        self.high as usize * HALF + self.low as usize
+        let number = self.high as usize * HALF + self.low as usize;
+        (self.trace, number)
     }
 }
 
@@ -105,8 +101,8 @@ impl Journal {
     pub(crate) fn entry(&self, i: usize) -> Option<(u32, &Chain)>
         ensures { option_map (λ e. (e.0, e.1.now)) result ≡ slice_get self.now.written i }
     {
-        let entry = self.entries.as_slice().get(i)?;
-        Some((entry.trace(), self.chains.get(entry.number())))
+        let (trace, number) = self.entries.as_slice().get(i)?.parts();
+        Some((trace, self.chains.get(number)))
     }
 
     // Makes room for one more entry, even one with a new chain.

@@ -63,8 +63,7 @@ impl LockedBook {
 
     /// Takes the book out of the lock.
     pub fn into_book(self) -> Book {
-        let LockedBook { book } = self;
-        book.into_inner()
+        self.book.into_inner()
     }
 }
 
