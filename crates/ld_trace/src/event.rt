@@ -1,5 +1,7 @@
 //! The events of a trace.
 
+ghost use Rattle.std.specs.Prelude.{◌≡◌, ◌≤◌, ◌↔◌, IsTrue, length};
+
 use crate::KeyId;
 
 /// How a lock is taken.
@@ -20,7 +22,6 @@ pub enum Mode {
 }
 
 impl Mode {
-    ghost use Rattle.std.specs.Prelude.{◌≡◌, ◌≤◌, length};
     ghost use Rattle.ld_trace.specs.Modes.{is_read, is_recursive, may_wait};
     ghost use Rattle.ld_trace.specs.Writing.{mode_word};
 
@@ -61,17 +62,6 @@ impl Mode {
     }
 }
 
-impl Default for Mode {
-    ghost use Rattle.std.specs.Prelude.{◌≡◌};
-    ghost use Rattle.ld_trace.specs.declared.event.Mode.TheVariants.{Write};
-
-    ghost is_default = { λ mode. mode ≡ Write };
-
-    fn default() -> Self {
-        Mode::Write
-    }
-}
-
 /// A state that a lock's use is marked for: a kind of interrupt.
 #[derive(Clone, Copy, PartialEq, Eq, Debug, Hash)]
 pub enum Irq {
@@ -82,7 +72,6 @@ pub enum Irq {
 }
 
 impl Irq {
-    ghost use Rattle.std.specs.Prelude.{◌≡◌};
     ghost use Rattle.ld_trace.specs.Writing.{irq_word};
 
     /// The word for it in a trace.
@@ -114,7 +103,6 @@ pub enum Event {
 }
 
 impl Event {
-    ghost use Rattle.std.specs.Prelude.{◌≡◌, ◌↔◌, IsTrue, length};
     ghost use Rattle.ld_trace.specs.Events.{KeyIsBelow, is_try};
     ghost use Rattle.ld_trace.specs.Inside.Renumbered.{event_with};
 

@@ -1,6 +1,6 @@
 //! What one record of a trace says.
 
-ghost use Rattle.std.specs.Prelude.{◌≡◌, true};
+ghost use Rattle.std.specs.Prelude.{◌≡◌, ◌⊎◌, false, true, IfErr, IfOk, IsErrOf, OnErr};
 ghost use Rattle.ld_trace.specs.Names.{is_name};
 
 use crate::{Event, Irq, KeyFault, KeyId, KeyTable, Mode, TraceFaultKind};
@@ -25,7 +25,6 @@ pub(crate) enum Line<'r> {
 }
 
 impl Line<'_> {
-    ghost use Rattle.std.specs.Prelude.{false, ◌⊎◌, IfOk, IfErr, IsErrOf, OnErr};
     ghost use Rattle.ld_trace.specs.Lines.{event_of, is_over, with_line};
     ghost use Rattle.ld_trace.specs.Inside.ReadLines.{line_read};
     ghost use Rattle.ld_trace.specs.TraceFaults.{is_of_text};
@@ -65,7 +64,6 @@ impl Line<'_> {
 }
 
 impl LineName<'_> {
-    ghost use Rattle.std.specs.Prelude.{false, ◌⊎◌, IfOk, IfErr, IsErrOf, OnErr};
     ghost use Rattle.ld_trace.specs.Names.{is_one_too_many, place_of, with_name};
     ghost use Rattle.ld_trace.specs.Inside.ReadLines.{name_read};
     ghost use Rattle.ld_trace.specs.TraceFaults.{is_of_text};

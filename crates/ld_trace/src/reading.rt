@@ -45,7 +45,10 @@ pub fn read_trace<R: Read + Drop>(
     ensures room { keys.new.room ≡ keys.old.room }
 {
     let mut source = plain_reader(alloc, reader);
-    read_records(alloc, &mut source, keys)
+    let mut row = ByteRecord::new(alloc);
+    let mut events = Vec::new(alloc);
+    take_records(&mut source, &mut row, &mut events, keys)?;
+    Ok(RawTrace::of_few(events))
 }
 
 // A reader of records as the format has them, which has returned none yet.
@@ -58,28 +61,6 @@ pub(crate) fn plain_reader<R: Read>(alloc: Global, reader: R) -> Reader<R>
         .has_headers(false)
         .flexible(true)
         .from_reader(alloc, reader)
-}
-
-// Reads all records of the source.
-fn read_records<R: Read>(
-    alloc: Global,
-    source: &mut Reader<R>,
-    keys: &mut KeyTable,
-) -> Result<RawTrace, TraceFault>
-    requires { ReadsPlain source.old }
-    ensures ok { IfOk result (λ trace. (known : Option (List ℕ))
-        → HasGiven R.remaining known source.old [] → AreRead keys.old.room known keys.old.names keys.new.names trace) }
-    ensures refused { IfErr result (λ fault. (known : Option (List ℕ))
-        → HasGiven R.remaining known source.old []
-        → AreRefused keys.old.room known keys.old.names keys.new.names fault.kind fault.at) }
-    ensures numbered { IfOk result (λ trace. KeysBelow (length keys.new.names) trace) }
-    ensures kept { (added : List Name) × (keys.new.names ≡ keys.old.names ++ added) }
-    ensures room { keys.new.room ≡ keys.old.room }
-{
-    let mut row = ByteRecord::new(alloc);
-    let mut events = Vec::new(alloc);
-    take_records(source, &mut row, &mut events, keys)?;
-    Ok(RawTrace::of_few(events))
 }
 
 // Takes records as those of a trace, up to the end or to one that is refused, which then stands in the row.

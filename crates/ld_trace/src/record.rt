@@ -42,12 +42,10 @@ pub(crate) fn is_point(row: &ByteRecord) -> bool
 fn version_named(word: &[u8]) -> Option<Version>
     ensures { result ≡ version_named word.now }
 {
-    if is_word(word, b"1") {
-        Some(Version::One)
-    } else if is_word(word, b"2") {
-        Some(Version::Two)
-    } else {
-        None
+    match word {
+        [b'1'] => Some(Version::One),
+        [b'2'] => Some(Version::Two),
+        _ => None,
     }
 }
 
