@@ -1,6 +1,6 @@
 //! Chains: what one acquisition or opening shows.
 
-ghost use Rattle.std.specs.Prelude.{◌≡◌, ◌≤◌, ◌↔◌, IsTrue, length, option_map, slice_get};
+ghost use Rattle.std.specs.Prelude.{◌≡◌, ◌≤◌, ◌↔◌, ◌++◌, IsTrue, length, option_map, slice_get};
 ghost use Rattle.ld_task.specs.Flags.{is_on};
 ghost use Rattle.ld_task.specs.Chains.{ChainKeysBelow, key_and_mode, key_mode_and_frame};
 
@@ -153,7 +153,6 @@ impl Eq for Chain {
 }
 
 impl Hash for Chain {
-    ghost use Rattle.std.specs.Prelude.{◌++◌};
     ghost use Rattle.std.specs.Hash as fed;
     ghost use Rattle.std.specs.Hash.{same_Alike};
     ghost use Rattle.ld_task.specs.Inside.ChainEqualityLaws.{chain_eq-decides};

@@ -1,5 +1,7 @@
 //! Frames of a task.
 
+ghost use Rattle.std.specs.Prelude.{◌≡◌};
+
 use ld_trace::Irq;
 
 /// The kind of a frame: what the task runs in between an entry and its leave.
@@ -14,7 +16,6 @@ pub enum Frame {
 }
 
 impl Frame {
-    ghost use Rattle.std.specs.Prelude.{◌≡◌};
     ghost use Rattle.ld_task.specs.Flags.{may_change, starts_on};
     ghost use Rattle.ld_task.specs.Frames.{is_task};
 
@@ -55,7 +56,6 @@ pub struct Flags {
 }
 
 impl Flags {
-    ghost use Rattle.std.specs.Prelude.{◌≡◌};
     ghost use Rattle.ld_task.specs.Flags.{flags_of, is_enabled, is_on, starts_on, with_flag};
 
     // The flags at the start of a frame of this kind.
@@ -113,7 +113,6 @@ pub struct OpenFrame {
 }
 
 impl Default for OpenFrame {
-    ghost use Rattle.std.specs.Prelude.{◌≡◌};
     ghost use Rattle.ld_task.specs.declared.frame.Frame.TheVariants.{Task};
     ghost use Rattle.ld_task.specs.Inside.OpenFrames.{fresh};
 
@@ -126,7 +125,6 @@ impl Default for OpenFrame {
 }
 
 impl OpenFrame {
-    ghost use Rattle.std.specs.Prelude.{◌≡◌};
     ghost use Rattle.ld_task.specs.Flags.{may_enter};
     ghost use Rattle.ld_task.specs.Inside.OpenFrames.{fresh, fresh_frame, turned};
 

@@ -37,9 +37,6 @@ impl Default for Lock {
 }
 
 impl Lock {
-    ghost use Rattle.std.specs.Prelude.{◌≡◌};
-    ghost use Rattle.ld_task.specs.Locks.{mode_number};
-
     // The lock of this key, taken in this mode.
     pub(crate) fn new(key: KeyId, mode: Mode) -> Lock
         ensures { result ≡ record { key = key; mode = mode } }
