@@ -258,14 +258,3 @@ fn with_mark(run: u64, fact: Option<Fact>) -> u64
         _ => run,
     }
 }
-
-/// The words of a chain whose keys are below `keys`, which is at most 256.
-pub fn fact_words(chain: &Chain, keys: u16) -> FactWords
-    requires few { keys ≤ GRAPH_KEYS }
-    requires below { ChainKeysBelow keys chain.now }
-    ensures { AreWordsOf keys chain.now result }
-{
-    let mut words = FactWords::new();
-    words.set_to(chain, keys);
-    words
-}

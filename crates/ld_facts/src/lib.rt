@@ -13,7 +13,7 @@ pub mod places;
 mod renamed;
 
 pub use chain_facts::{fact_in_slot, fact_slots, lock_of_slot};
-pub use chain_words::{FactWords, fact_words};
+pub use chain_words::FactWords;
 pub use dependency::{Dependency, kind_at};
 pub use fact::{Fact, STATE_COUNT, STATES, fact_total, irq_number, word_total};
 pub use facts::Facts;
