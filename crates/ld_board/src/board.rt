@@ -29,7 +29,8 @@ pub const MAX_SEATS: usize = 65;
 /// A board that threads share, each by a seat of its own. From it they claim numbers, each of which is given out once,
 /// and on it they put facts about keys below a bound, which the others then see. `claim`, `put` and `covers` wait for
 /// nobody, take no memory and don't fail; each is made of single steps on one word, and nothing is promised about how
-/// the steps of several threads follow one another.
+/// the steps of several threads follow one another. The caller makes sure that a seat is one of this board, and that a
+/// chain's keys are below the board's bound.
 #[derive(Drop)]
 pub struct Board {
     pub(crate) table: Table<(), View, BoardSize, BoardRule, Global>,
@@ -80,7 +81,7 @@ impl Board {
     }
 
     /// Claims the next number, counted from 0: one that no seat of the board has claimed. The caller makes sure that
-    /// the seat is one of this board, and that its `claims_left` isn't 0.
+    /// the seat's `claims_left` isn't 0.
     pub fn claim(&self, seat: &mut Seat) -> u64
         requires seat { IsSeatOf self.now seat.old }
         requires left { length (view seat.old).claimed < MAX_CLAIMS }
@@ -92,8 +93,7 @@ impl Board {
         self.table.shared.fetch_add::<Claim>(&mut seat.seat, 0, 1)
     }
 
-    /// Puts the facts of a chain on the board. The caller makes sure that the seat is one of this board, and that the
-    /// chain's keys are below the board's bound.
+    /// Puts the facts of a chain on the board.
     pub fn put(&self, seat: &mut Seat, chain: &Chain)
         requires seat { IsSeatOf self.now seat.old }
         requires below { ChainKeysBelow (keys_of self.now) chain.now }
@@ -107,7 +107,7 @@ impl Board {
     }
 
     /// Loads the words that hold bits of the chain's facts, and returns whether all of these facts were found there.
-    /// What the seat had put or seen in these words was found as well. The caller makes sure that the seat is one of this board, and that the chain's keys are below the board's bound.
+    /// What the seat had put or seen in these words was found as well.
     pub fn covers(&self, seat: &mut Seat, chain: &Chain) -> bool
         requires seat { IsSeatOf self.now seat.old }
         requires below { ChainKeysBelow (keys_of self.now) chain.now }
@@ -125,8 +125,7 @@ impl Board {
     }
 
     /// Puts those facts of a chain on the board whose words lack some, and returns whether there were any: what `covers`
-    /// and then `put` do, for workers. A word that lacks none is only loaded. The caller makes sure that the seat is one of
-    /// this board, and that the chain's keys are below the board's bound [this project's own].
+    /// and then `put` do, for workers. A word that lacks none is only loaded [this project's own].
     pub fn put_unless_covered(&self, seat: &mut Seat, chain: &Chain) -> bool
         requires seat { IsSeatOf self.now seat.old }
         requires below { ChainKeysBelow (keys_of self.now) chain.now }
@@ -147,7 +146,7 @@ impl Board {
 
     /// The facts that are on the board at the end, if the list holds each of its seats once: exactly those that the
     /// seats have put, with all that any of them has seen. The numbers that they have claimed together are those below
-    /// some number, each once. The caller makes sure that each seat is one of this board.
+    /// some number, each once.
     ///
     /// C1 if the list doesn't hold each of the board's seats, otherwise C2 if memory is refused. The board is then
     /// dropped.
@@ -166,7 +165,7 @@ impl Board {
             table,
             alloc,
             keys,
-            seats: _,
+            ..
         } = self;
         let mut facts = Facts::new(alloc, keys)?;
         let Some(last) = seats.pop() else {
@@ -193,18 +192,9 @@ fn gather(
     ensures view { result.me.0 ≡ joined_onto last.seat.me.0 seats.items }
     ensures parts { result.me.0.parts ≡ vec_len seats + 1 }
 {
-    let Seat {
-        seat: mut one,
-        left: _,
-        words: _,
-    } = last;
+    let mut one = last.seat;
     while let Some(next) = seats.pop() {
-        let Seat {
-            seat,
-            left: _,
-            words: _,
-        } = next;
-        table.shared.join_seat::<Cut>(&mut one, seat);
+        table.shared.join_seat::<Cut>(&mut one, next.seat);
     }
     one
 }

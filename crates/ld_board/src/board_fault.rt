@@ -30,7 +30,6 @@ impl BoardFault {
 }
 
 impl From<AllocError> for BoardFault {
-    ghost use Rattle.std.specs.Prelude.{◌≡◌};
     ghost use Rattle.ld_board.specs.declared.board_fault.BoardFault.TheVariants.{Memory};
 
     ghost from_gives = { λ _ e. e ≡ Memory };

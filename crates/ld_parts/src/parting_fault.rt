@@ -1,5 +1,7 @@
 //! Why facts aren't parted.
 
+ghost use Rattle.std.specs.Prelude.{◌≡◌};
+
 use std::alloc::{AllocError, AllocFailed};
 
 /// Why facts have no graph for each rank.
@@ -12,7 +14,6 @@ pub enum PartingFault {
 }
 
 impl From<AllocError> for PartingFault {
-    ghost use Rattle.std.specs.Prelude.{◌≡◌};
     ghost use Rattle.ld_parts.specs.declared.parting_fault.PartingFault.TheVariants.{Memory};
 
     ghost from_gives = { λ _ e. e ≡ Memory };
@@ -23,7 +24,6 @@ impl From<AllocError> for PartingFault {
 }
 
 impl<T: Drop> From<AllocFailed<T>> for PartingFault {
-    ghost use Rattle.std.specs.Prelude.{◌≡◌};
     ghost use Rattle.ld_parts.specs.declared.parting_fault.PartingFault.TheVariants.{Memory};
 
     ghost from_gives = { λ _ e. e ≡ Memory };
