@@ -1,6 +1,6 @@
 //! What a thread reads ahead, over a table of its own.
 
-ghost use Rattle.std.specs.Prelude.{◌≡◌, ◌≤◌, ◌∷◌, ◌++◌, [], ℕ, List, Option, All, IsTrue, IsFalse, length};
+ghost use Rattle.std.specs.Prelude.{◌≡◌, ◌≤◌, ◌∷◌, ◌++◌, [], ℕ, List, Option, All, IsTrue, IsFalse};
 ghost use Rattle.ld_trace.specs.declared.event.Event.{Event};
 ghost use Rattle.ld_trace.specs.JoinedTraces.{AreReadTo, IsNumbered};
 ghost use Rattle.ld_read.specs.Reading.{IsRead};
@@ -166,10 +166,7 @@ impl Ahead {
 
     // Whether the next of its traces is the one at this place.
     pub(crate) fn has_next(&self, place: usize) -> bool {
-        match self.parts.front() {
-            Some(part) => part.place == place,
-            None => false,
-        }
+        self.parts.front().is_some_and(|part| part.place == place)
     }
 
     // Takes the next of its traces in, if it is the one at this place and was read over the names that were taken in before, and

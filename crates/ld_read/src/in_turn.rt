@@ -100,13 +100,9 @@ fn read_one<R: Threads + Sync, S: Sources>(
         return Err(ReadFault::Trace(no_room()));
     }
     let size = ROUND / threads.max(1);
-    match read_in_pieces(rt, alloc, threads, size, source, keys) {
-        Ok(read) => {
-            traces.push_reserved(read);
-            Ok(())
-        }
-        Err(fault) => Err(ReadFault::Trace(fault)),
-    }
+    let read = read_in_pieces(rt, alloc, threads, size, source, keys).map_err(ReadFault::Trace)?;
+    traces.push_reserved(read);
+    Ok(())
 }
 
 /// Reads one trace and puts it after the others. Room for it is made before reading: if memory runs out for that, the fault is T9 at
@@ -128,13 +124,9 @@ pub fn read_into<R: Read + Drop>(
     if traces.reserve(1).is_err() {
         return Err(no_room());
     }
-    match read_trace(alloc, reader, keys) {
-        Ok(trace) => {
-            traces.push_reserved(trace);
-            Ok(())
-        }
-        Err(fault) => Err(fault),
-    }
+    let trace = read_trace(alloc, reader, keys)?;
+    traces.push_reserved(trace);
+    Ok(())
 }
 
 // The fault if memory runs out for the room of a trace.

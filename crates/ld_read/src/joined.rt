@@ -26,10 +26,7 @@ pub(crate) fn join_texts<S: Sources>(
         return false;
     }
     for place in first + 1..end {
-        if !append_between(bytes) {
-            return false;
-        }
-        if !append_text(sources, place, bytes) {
+        if !append_between(bytes) || !append_text(sources, place, bytes) {
             return false;
         }
     }

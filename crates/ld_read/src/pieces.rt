@@ -1,14 +1,12 @@
 //! One trace, read in pieces by several threads.
 
-ghost use denote.Param.Send.{IsSync};
 ghost use Rattle.std.specs.Prelude.{◌≡◌, ◌≤◌, ◌-◌, ◌++◌, ℕ, [], List, Option, All, IfOk, IfErr, IfSome, IsNone, IsTrue, IsFalse, drop, length, take};
 ghost use Rattle.std.specs.Io.Buffered.{reader_remaining};
-ghost use Rattle.ld_trace.specs.declared.trace_fault.TraceFaultKind.{TraceFaultKind};
 ghost use Rattle.ld_trace.specs.Events.{KeysBelow};
 ghost use Rattle.ld_trace.specs.Names.{Name};
 ghost use Rattle.ld_trace.specs.Pieces.{header_line};
 ghost use Rattle.ld_trace.specs.Reading.{ReadsTo, StopsAt};
-ghost use Rattle.ld_read.specs.Inside.Pieces.{Advances, IsPiece, MayBePiece, ReadsOn, left_of};
+ghost use Rattle.ld_read.specs.Inside.Pieces.{Advances, MayBePiece, ReadsOn, left_of};
 
 use crate::in_turn::no_room;
 use crate::until_failure::UntilFailure;

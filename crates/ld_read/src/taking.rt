@@ -30,10 +30,7 @@ pub(crate) fn read_ahead<R: Threads + Sync, S: Sources + Sync>(
         × AreRead keys.old.room (S.holds sources.now) 0 keys.old.names keys.new.names added }
     ensures room { keys.new.room ≡ keys.old.room }
 {
-    if threads < 2 && group < 2 {
-        return 0;
-    }
-    if count < 2 {
+    if count < 2 || threads < 2 && group < 2 {
         return 0;
     }
     match read_in_threads(rt, alloc, threads.max(1), group, sources, count) {

@@ -10,5 +10,5 @@ loop-place-init g c =
 pub loop-place-preserved : goal.loop-place-preserved
 loop-place-preserved g c =
     let one = c.if-not-append_text-2.ensures refl in
-    next-joined (g.S.Sources.holds c.args.sources.now) c.args.first c.loop-place.place _ c.loop-place.bytes.items c.append_between.new.bytes.items c.append_text-in-loop-place.new.bytes.items one.0 c.loop-place.invariant
+    next-joined (g.S.Sources.holds c.args.sources.now) c.args.first c.loop-place.place _ c.loop-place.bytes.items c.append_between.new.bytes.items c.append_text-else-not-append_between.new.bytes.items one.0 c.loop-place.invariant
     (omega (arith, c.loop-place.auto.place)) (c.if-not-append_between.ensures refl) one.1 refl one.2
