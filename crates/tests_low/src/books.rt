@@ -207,12 +207,10 @@ fn is_told(alloc: Global, story: &Story) -> Option<bool> {
 }
 
 fn misfit(alloc: Global) -> Option<&'static str> {
-    for story in &STORIES {
-        if is_told(alloc, story) != Some(true) {
-            return Some(story.about);
-        }
-    }
-    None
+    STORIES
+        .iter()
+        .find(|story| is_told(alloc, story) != Some(true))
+        .map(|story| story.about)
 }
 
 #[test]
@@ -253,12 +251,10 @@ fn is_told_under_a_lock(rt: &impl Wait, alloc: Global, story: &Story) -> Option<
 }
 
 fn misfit_under_a_lock(rt: &impl Wait, alloc: Global) -> Option<&'static str> {
-    for story in &STORIES {
-        if is_told_under_a_lock(rt, alloc, story) != Some(true) {
-            return Some(story.about);
-        }
-    }
-    None
+    STORIES
+        .iter()
+        .find(|story| is_told_under_a_lock(rt, alloc, story) != Some(true))
+        .map(|story| story.about)
 }
 
 #[test]

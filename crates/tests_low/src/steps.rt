@@ -1,6 +1,6 @@
 //! Traces as constants, and what they give.
 
-use ld_facts::Facts;
+use ld_facts::{Fact, Facts, Kind, Mark};
 use ld_task::{Chain, TaskState};
 use ld_trace::{Event, Irq, KeyId, MAX_KEYS, Mode, RawTrace};
 use std::alloc::Global;
@@ -13,6 +13,12 @@ pub const B: u16 = 1;
 pub const C: u16 = 2;
 
 pub const D: u16 = 3;
+
+// Two locks, taken in both orders.
+pub const BOTH_ORDERS: &[&[Step]] = &[
+    &[Step::Write(A), Step::Write(B), Step::Give(B), Step::Give(A)],
+    &[Step::Write(B), Step::Write(A), Step::Give(A), Step::Give(B)],
+];
 
 // An event, by the number of its key.
 #[derive(Clone, Copy, Drop)]
@@ -51,6 +57,29 @@ impl Step {
     }
 }
 
+// A fact, by the numbers of its keys.
+#[derive(Clone, Copy, Drop)]
+pub enum ShortFact {
+    Depends(u16, u16, Kind),
+    Used(u16),
+    // Whether by a reader.
+    UsedIn(u16, Irq, bool),
+    // Whether by a reader.
+    Enabled(u16, Irq, bool),
+}
+
+impl ShortFact {
+    pub fn fact(self) -> Fact {
+        let (key, mark) = match self {
+            ShortFact::Depends(from, to, kind) => return Fact::Dependency { from, to, kind },
+            ShortFact::Used(key) => (key, Mark::Used),
+            ShortFact::UsedIn(key, irq, read) => (key, Mark::UsedIn { irq, read }),
+            ShortFact::Enabled(key, irq, read) => (key, Mark::Enabled { irq, read }),
+        };
+        Fact::Marked { key, mark }
+    }
+}
+
 fn take(number: u16, mode: Mode) -> Event {
     Event::Acquire {
         key: key(number),
@@ -74,6 +103,15 @@ pub fn trace_of(alloc: Global, steps: &[Step], rounds: u32) -> Option<RawTrace> 
     let mut events = Vec::new(alloc);
     for _ in 0..rounds {
         push_events(&mut events, steps)?;
+    }
+    RawTrace::from_events(events)
+}
+
+// The trace of the steps of all parts. None if it is too long, or memory is refused.
+pub fn trace_in_parts(alloc: Global, parts: &[&[Step]]) -> Option<RawTrace> {
+    let mut events = Vec::new(alloc);
+    for steps in parts {
+        push_events(&mut events, *steps)?;
     }
     RawTrace::from_events(events)
 }

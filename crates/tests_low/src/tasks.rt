@@ -69,12 +69,10 @@ fn is_refused(
 }
 
 fn misrefused(alloc: Global) -> Option<&'static str> {
-    for refusal in &REFUSALS {
-        if is_refused(alloc, refusal.steps, refusal.at) != Some(true) {
-            return Some(refusal.about);
-        }
-    }
-    None
+    REFUSALS
+        .iter()
+        .find(|refusal| is_refused(alloc, refusal.steps, refusal.at) != Some(true))
+        .map(|refusal| refusal.about)
 }
 
 #[test]
@@ -183,12 +181,8 @@ static LAST: [Last; 5] = [
 
 // Whether the chain holds these locks, and no other.
 fn holds(chain: &Chain, held: &[(u16, Mode)]) -> bool {
-    for (i, (number, mode)) in held.iter().enumerate() {
-        if chain.held(i) != Some((key(*number), *mode)) {
-            return false;
-        }
-    }
-    chain.held_len() == held.len() && chain.held(held.len()) == None
+    let lock = |i: usize| held.get(i).map(|(number, mode)| (key(*number), *mode));
+    chain.held_len() == held.len() && (0..=held.len()).all(|i| chain.held(i) == lock(i))
 }
 
 fn takes_it(chain: &Chain, taken: Option<(u16, Mode, Frame)>) -> bool {
@@ -206,12 +200,9 @@ fn is_last(last: &Last) -> Option<bool> {
 }
 
 fn misled() -> Option<&'static str> {
-    for last in &LAST {
-        if is_last(last) != Some(true) {
-            return Some(last.about);
-        }
-    }
-    None
+    LAST.iter()
+        .find(|last| is_last(last) != Some(true))
+        .map(|last| last.about)
 }
 
 #[test]
@@ -271,12 +262,7 @@ fn refused_of(state: &mut PlacedState, steps: &[Step]) -> usize {
 }
 
 fn are_places(state: &PlacedState, places: &[u32]) -> bool {
-    for (i, place) in places.iter().enumerate() {
-        if state.held_place(i) != Some(*place) {
-            return false;
-        }
-    }
-    true
+    (0..places.len()).all(|i| state.held_place(i) == Some(places[i]))
 }
 
 fn misplaced() -> Option<&'static str> {

@@ -4,11 +4,12 @@ ghost use Rattle.std.specs.Prelude.{◌≤◌};
 ghost use Rattle.ld_task.specs.Chains.{ChainKeysBelow};
 ghost use Rattle.ld_trace.specs.declared.key_id.TheConstants.{GRAPH_KEYS};
 
+use crate::steps::ShortFact::{Depends, Enabled, Used};
 use crate::steps::Step::{Read, Reread, TurnOff, TurnOn, Write};
-use crate::steps::{A, B, C, Step, last_chain};
-use ld_facts::{Fact, FactWords, Facts, fact_words};
-use ld_graph::{Kind, Mark};
+use crate::steps::{A, B, C, ShortFact, Step, last_chain};
+use ld_facts::{Fact, FactWords, Facts};
 use ld_task::Chain;
+use ld_task::Kind::{En, Sn};
 use ld_trace::GRAPH_KEYS;
 use ld_trace::Irq::{Hard, Soft};
 use std::alloc::Global;
@@ -18,7 +19,7 @@ struct Last {
     about: &'static str,
     keys: u16,
     trace: &'static [Step],
-    facts: &'static [Fact],
+    facts: &'static [ShortFact],
     words: &'static [(usize, u64)],
 }
 
@@ -27,26 +28,7 @@ static LASTS: [Last; 7] = [
         about: "a lock by itself",
         keys: 2,
         trace: &[Write(A)],
-        facts: &[
-            Fact::Marked {
-                key: A,
-                mark: Mark::Used,
-            },
-            Fact::Marked {
-                key: A,
-                mark: Mark::Enabled {
-                    irq: Hard,
-                    read: false,
-                },
-            },
-            Fact::Marked {
-                key: A,
-                mark: Mark::Enabled {
-                    irq: Soft,
-                    read: false,
-                },
-            },
-        ],
+        facts: &[Used(A), Enabled(A, Hard, false), Enabled(A, Soft, false)],
         words: &[(0, 1 << 16 | 1 << 19 | 1 << 23)],
     },
     Last {
@@ -54,29 +36,10 @@ static LASTS: [Last; 7] = [
         keys: 2,
         trace: &[Write(A), Write(B)],
         facts: &[
-            Fact::Dependency {
-                from: A,
-                to: B,
-                kind: Kind::En,
-            },
-            Fact::Marked {
-                key: B,
-                mark: Mark::Used,
-            },
-            Fact::Marked {
-                key: B,
-                mark: Mark::Enabled {
-                    irq: Hard,
-                    read: false,
-                },
-            },
-            Fact::Marked {
-                key: B,
-                mark: Mark::Enabled {
-                    irq: Soft,
-                    read: false,
-                },
-            },
+            Depends(A, B, En),
+            Used(B),
+            Enabled(B, Hard, false),
+            Enabled(B, Soft, false),
         ],
         words: &[(0, 1 << 5 | 1 << 25 | 1 << 28 | 1 << 32)],
     },
@@ -84,32 +47,14 @@ static LASTS: [Last; 7] = [
         about: "a lock with hardirqs off",
         keys: 1,
         trace: &[TurnOff(Hard), Write(A)],
-        facts: &[Fact::Marked {
-            key: A,
-            mark: Mark::Used,
-        }],
+        facts: &[Used(A)],
         words: &[(0, 1 << 4)],
     },
     Last {
         about: "hardirqs turned on while a lock is held",
         keys: 1,
         trace: &[TurnOff(Hard), Write(A), TurnOn(Hard)],
-        facts: &[
-            Fact::Marked {
-                key: A,
-                mark: Mark::Enabled {
-                    irq: Hard,
-                    read: false,
-                },
-            },
-            Fact::Marked {
-                key: A,
-                mark: Mark::Enabled {
-                    irq: Soft,
-                    read: false,
-                },
-            },
-        ],
+        facts: &[Enabled(A, Hard, false), Enabled(A, Soft, false)],
         words: &[(0, 1 << 7 | 1 << 11)],
     },
     Last {
@@ -117,34 +62,11 @@ static LASTS: [Last; 7] = [
         keys: 3,
         trace: &[Write(A), Reread(C), Read(B)],
         facts: &[
-            Fact::Dependency {
-                from: A,
-                to: B,
-                kind: Kind::En,
-            },
-            Fact::Dependency {
-                from: C,
-                to: B,
-                kind: Kind::Sn,
-            },
-            Fact::Marked {
-                key: B,
-                mark: Mark::Used,
-            },
-            Fact::Marked {
-                key: B,
-                mark: Mark::Enabled {
-                    irq: Hard,
-                    read: true,
-                },
-            },
-            Fact::Marked {
-                key: B,
-                mark: Mark::Enabled {
-                    irq: Soft,
-                    read: true,
-                },
-            },
+            Depends(A, B, En),
+            Depends(C, B, Sn),
+            Used(B),
+            Enabled(B, Hard, true),
+            Enabled(B, Soft, true),
         ],
         words: &[(0, 1 << 5 | 1 << 31 | 1 << 45 | 1 << 49 | 1 << 53)],
     },
@@ -153,34 +75,10 @@ static LASTS: [Last; 7] = [
         keys: 3,
         trace: &[TurnOff(Soft), Read(C), Write(A), TurnOn(Soft)],
         facts: &[
-            Fact::Marked {
-                key: C,
-                mark: Mark::Enabled {
-                    irq: Hard,
-                    read: true,
-                },
-            },
-            Fact::Marked {
-                key: C,
-                mark: Mark::Enabled {
-                    irq: Soft,
-                    read: true,
-                },
-            },
-            Fact::Marked {
-                key: A,
-                mark: Mark::Enabled {
-                    irq: Hard,
-                    read: false,
-                },
-            },
-            Fact::Marked {
-                key: A,
-                mark: Mark::Enabled {
-                    irq: Soft,
-                    read: false,
-                },
-            },
+            Enabled(C, Hard, true),
+            Enabled(C, Soft, true),
+            Enabled(A, Hard, false),
+            Enabled(A, Soft, false),
         ],
         words: &[(0, 1 << 39 | 1 << 43 | 1 << 58 | 1 << 62)],
     },
@@ -194,12 +92,8 @@ static LASTS: [Last; 7] = [
 ];
 
 fn has_words(words: &FactWords, wanted: &[(usize, u64)]) -> bool {
-    for (i, word) in wanted.iter().enumerate() {
-        if words.get(i) != Some(*word) {
-            return false;
-        }
-    }
-    words.len() == wanted.len() && words.get(wanted.len()).is_none()
+    let same = (0..=wanted.len()).all(|i| words.get(i) == wanted.get(i).copied());
+    same && words.len() == wanted.len()
 }
 
 pub(crate) fn has_by_its_parts(facts: &Facts, fact: Fact) -> bool {
@@ -209,14 +103,23 @@ pub(crate) fn has_by_its_parts(facts: &Facts, fact: Fact) -> bool {
     }
 }
 
+// Adds a fact about keys below the bound, and returns whether it is new.
+pub(crate) fn add(facts: &mut Facts, fact: ShortFact) -> Option<bool> {
+    let fact = fact.fact();
+    if !fact.is_below(facts.keys()) {
+        return None;
+    }
+    Some(facts.add(fact))
+}
+
 // Whether these are the facts, and no other.
-pub(crate) fn are_all(facts: &Facts, wanted: &[Fact]) -> bool {
+pub(crate) fn are_all(facts: &Facts, wanted: &[ShortFact]) -> bool {
     let mut dependencies = 0u64;
     for fact in wanted {
-        if !facts.has(*fact) || !has_by_its_parts(facts, *fact) {
+        if !facts.has(fact.fact()) || !has_by_its_parts(facts, fact.fact()) {
             return false;
         }
-        if matches!(fact, Fact::Dependency { .. }) {
+        if matches!(fact, Depends(..)) {
             dependencies = dependencies.saturating_add(1);
         }
     }
@@ -229,7 +132,8 @@ fn unite_words(facts: &mut Facts, chain: &Chain)
     requires few { facts.old.keys ≤ GRAPH_KEYS }
     requires below { ChainKeysBelow facts.old.keys chain.now }
 {
-    let words = fact_words(chain, facts.keys());
+    let mut words = FactWords::new();
+    words.set_to(chain, facts.keys());
     for i in 0..words.len() {
         if let Some((n, bits)) = words.get(i) {
             facts.unite_word(n, bits);
@@ -287,12 +191,10 @@ fn is_as_wanted(alloc: Global, last: &Last, words: &mut FactWords) -> Option<boo
 
 fn misfit(alloc: Global, lasts: &[Last]) -> Option<&'static str> {
     let mut words = FactWords::new();
-    for last in lasts {
-        if is_as_wanted(alloc, last, &mut words) != Some(true) {
-            return Some(last.about);
-        }
-    }
-    None
+    lasts
+        .iter()
+        .find(|last| is_as_wanted(alloc, last, &mut words) != Some(true))
+        .map(|last| last.about)
 }
 
 // Whether uniting the words of each of these traces' last chains gives what adding the chains gives, over the facts of

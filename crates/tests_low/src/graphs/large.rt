@@ -1,11 +1,14 @@
 //! Traces and facts that are too large for a table, and a graph of only some keys.
 
+use super::facts::add;
+use crate::steps::ShortFact::{Depends, Used};
 use crate::steps::Step::{TurnOff, TurnOn, Write};
 use crate::steps::{A, B, C, Step, chains_of, last_chain};
-use ld_facts::{Fact, Facts, fact_words};
-use ld_graph::{Graph, Kind, Mark};
+use ld_facts::{FactWords, Facts};
+use ld_graph::{Graph, Mark};
 use ld_parts::{PartedGraph, Ranks, Settled, are_ranked, find_ranks};
 use ld_task::Chain;
+use ld_task::Kind::En;
 use ld_trace::Irq::Hard;
 use ld_trace::{GRAPH_KEYS, MAX_KEYS};
 use std::alloc::Global;
@@ -53,7 +56,8 @@ fn are_marked_by_an_opening(alloc: Global) -> Option<bool> {
     if !chain.keys_below(GRAPH_KEYS) || !chain.keys_below(facts.keys()) {
         return None;
     }
-    let words = fact_words(&chain, GRAPH_KEYS);
+    let mut words = FactWords::new();
+    words.set_to(&chain, GRAPH_KEYS);
     facts.add_chain(&chain);
     let first = words.get(0) == Some((4096, 1 << 3 | 1 << 7 | 1 << 48 | 1 << 52));
     let last = words.len() == 34 && words.get(33) == Some((4129, 1 << 6 | 1 << 10));
@@ -77,30 +81,18 @@ fn is_a_circle_of_all_keys(alloc: Global) -> Option<bool> {
     let circle = ring(alloc)?.shortest_circle()?;
     for i in 0..circle.len() {
         let (from, to, kind) = circle.get(i)?;
-        if to != (from % GRAPH_KEYS + 1) % GRAPH_KEYS || kind != Kind::En {
+        if to != (from % GRAPH_KEYS + 1) % GRAPH_KEYS || kind != En {
             return None;
         }
     }
     Some(circle.len() == 256)
 }
 
-fn add(facts: &mut Facts, from: u16, to: u16) -> Option<bool> {
-    let fact = Fact::Dependency {
-        from,
-        to,
-        kind: Kind::En,
-    };
-    if !fact.is_below(facts.keys()) {
-        return None;
-    }
-    Some(facts.add(fact))
-}
-
 // Each of 300 keys before the next: the first 256 have one rank, and the others the next.
 fn have_two_ranks(alloc: Global) -> Option<bool> {
     let mut facts = Facts::new(alloc, 300).ok()?;
     for key in 0..299u16 {
-        add(&mut facts, key, key + 1)?;
+        add(&mut facts, Depends(key, key + 1, En))?;
     }
     let ranks = find_ranks(alloc, &facts).ok()?;
     for key in 0..300u16 {
@@ -115,10 +107,10 @@ fn have_two_ranks(alloc: Global) -> Option<bool> {
 fn have_a_circle_in_parts(alloc: Global) -> Option<bool> {
     let mut facts = Facts::new(alloc, 300).ok()?;
     for (from, to) in [(A, 299), (298, 299), (299, 298)] {
-        add(&mut facts, from, to)?;
+        add(&mut facts, Depends(from, to, En))?;
     }
     let graph = Settled::by_rank(PartedGraph::new(alloc, facts).ok()?);
-    let found = graph.on_circle(298, 299, Kind::En) && !graph.on_circle(A, 299, Kind::En);
+    let found = graph.on_circle(298, 299, En) && !graph.on_circle(A, 299, En);
     Some(found && graph.shortest_circle()?.len() == 2)
 }
 
@@ -127,21 +119,15 @@ fn have_a_circle_in_parts(alloc: Global) -> Option<bool> {
 fn have_the_numbers_of_their_places(alloc: Global) -> Option<bool> {
     let mut facts = Facts::new(alloc, 3).ok()?;
     for (from, to) in [(A, C), (C, A), (A, B)] {
-        add(&mut facts, from, to)?;
+        add(&mut facts, Depends(from, to, En))?;
     }
     for key in [B, C] {
-        let fact = Fact::Marked {
-            key,
-            mark: Mark::Used,
-        };
-        if fact.is_below(facts.keys()) {
-            facts.add(fact);
-        }
+        add(&mut facts, Used(key))?;
     }
     let graph = Graph::of_keys(alloc, &facts, &[C, A]).ok()?;
     let among = graph.facts();
     let counted = among.keys() == 2 && among.dependencies() == 2 && among.marks() == 1;
-    Some(counted && among.has_mark(0, Mark::Used) && graph.on_circle(1, 0, Kind::En))
+    Some(counted && among.has_mark(0, Mark::Used) && graph.on_circle(1, 0, En))
 }
 
 // Facts about the last of all keys there may be: with one rank for all keys nothing goes down, and with a greater one
@@ -150,7 +136,7 @@ fn go_down_from_the_last_key(alloc: Global) -> Option<bool> {
     let last = MAX_KEYS - 1;
     let mut facts = Facts::new(alloc, MAX_KEYS).ok()?;
     for (from, to) in [(last, last), (last, 300)] {
-        add(&mut facts, from, to)?;
+        add(&mut facts, Depends(from, to, En))?;
     }
     let mut ranks = Ranks::new(alloc, MAX_KEYS).ok()?;
     let level = are_ranked(&facts, &ranks);

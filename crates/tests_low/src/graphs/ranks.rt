@@ -1,9 +1,12 @@
 //! Ranks: whether an arrow goes down by them, whether facts are parted by them, and those that are found.
 
+use super::facts::add;
 use super::stories::ranks_of;
-use crate::steps::{A, B, C};
-use ld_facts::{Fact, Facts, Kind, Mark};
+use crate::steps::ShortFact::{Depends, Enabled, UsedIn};
+use crate::steps::{A, B, C, ShortFact};
+use ld_facts::Facts;
 use ld_parts::{PartedGraph, PartingFault, Ranks, are_ranked, find_ranks, find_ranks_of};
+use ld_task::Kind::En;
 use ld_trace::Irq::{Hard, Soft};
 use ld_trace::MAX_KEYS;
 use std::alloc::Global;
@@ -12,98 +15,44 @@ use std::alloc::Global;
 // then parted. Parting takes room for each rank up to the greatest, so with the last ranks nothing is parted.
 struct Parting {
     about: &'static str,
-    facts: &'static [Fact],
+    facts: &'static [ShortFact],
     ranks: &'static [u16],
     ranked: bool,
     parted: Option<bool>,
 }
 
 // A dependency from A to B, and a link from C, which is used with the state enabled, to A, which is used in it.
-const THREE: &[Fact] = &[
-    Fact::Dependency {
-        from: A,
-        to: B,
-        kind: Kind::En,
-    },
-    Fact::Marked {
-        key: A,
-        mark: Mark::UsedIn {
-            irq: Soft,
-            read: true,
-        },
-    },
-    Fact::Marked {
-        key: C,
-        mark: Mark::Enabled {
-            irq: Soft,
-            read: false,
-        },
-    },
+const THREE: &[ShortFact] = &[
+    Depends(A, B, En),
+    UsedIn(A, Soft, true),
+    Enabled(C, Soft, false),
 ];
 
 static PARTINGS: [Parting; 12] = [
     Parting {
         about: "a dependency goes down",
-        facts: &[Fact::Dependency {
-            from: A,
-            to: B,
-            kind: Kind::En,
-        }],
+        facts: &[Depends(A, B, En)],
         ranks: &[1, 0],
         ranked: false,
         parted: Some(false),
     },
     Parting {
         about: "a dependency climbs",
-        facts: &[Fact::Dependency {
-            from: A,
-            to: B,
-            kind: Kind::En,
-        }],
+        facts: &[Depends(A, B, En)],
         ranks: &[0, 1],
         ranked: true,
         parted: Some(true),
     },
     Parting {
         about: "a link goes down",
-        facts: &[
-            Fact::Marked {
-                key: A,
-                mark: Mark::Enabled {
-                    irq: Hard,
-                    read: false,
-                },
-            },
-            Fact::Marked {
-                key: B,
-                mark: Mark::UsedIn {
-                    irq: Hard,
-                    read: false,
-                },
-            },
-        ],
+        facts: &[Enabled(A, Hard, false), UsedIn(B, Hard, false)],
         ranks: &[1, 0],
         ranked: false,
         parted: Some(false),
     },
     Parting {
         about: "a link climbs",
-        facts: &[
-            Fact::Marked {
-                key: A,
-                mark: Mark::Enabled {
-                    irq: Hard,
-                    read: false,
-                },
-            },
-            Fact::Marked {
-                key: B,
-                mark: Mark::UsedIn {
-                    irq: Hard,
-                    read: false,
-                },
-            },
-        ],
+        facts: &[Enabled(A, Hard, false), UsedIn(B, Hard, false)],
         ranks: &[0, 1],
         ranked: true,
         parted: Some(true),
@@ -167,16 +116,13 @@ static PARTINGS: [Parting; 12] = [
 ];
 
 // These facts about the keys below the bound. None if a key isn't, or memory is refused.
-fn facts_of(alloc: Global, keys: u16, all: &[Fact]) -> Option<Facts> {
+fn facts_of(alloc: Global, keys: u16, all: &[ShortFact]) -> Option<Facts> {
     if keys > MAX_KEYS {
         return None;
     }
     let mut facts = Facts::new(alloc, keys).ok()?;
     for fact in all {
-        if !fact.is_below(facts.keys()) {
-            return None;
-        }
-        facts.add(*fact);
+        add(&mut facts, *fact)?;
     }
     Some(facts)
 }
@@ -198,12 +144,10 @@ fn is_parted(alloc: Global, parting: &Parting) -> Option<bool> {
 }
 
 fn misparted(alloc: Global, partings: &[Parting]) -> Option<&'static str> {
-    for parting in partings {
-        if is_parted(alloc, parting) != Some(true) {
-            return Some(parting.about);
-        }
-    }
-    None
+    partings
+        .iter()
+        .find(|parting| is_parted(alloc, parting) != Some(true))
+        .map(|parting| parting.about)
 }
 
 #[test]
@@ -266,43 +210,16 @@ static FOUND: [Found; 6] = [
     },
 ];
 
-const fn dependency(from: u16, to: u16) -> Fact {
-    Fact::Dependency {
-        from,
-        to,
-        kind: Kind::En,
-    }
-}
-
 // The two marks of a link.
-fn link(from: u16, to: u16) -> [Fact; 2] {
-    let irq = Soft;
-    let enabled = Mark::Enabled { irq, read: true };
-    let used = Mark::UsedIn { irq, read: false };
-    [
-        Fact::Marked {
-            key: from,
-            mark: enabled,
-        },
-        Fact::Marked {
-            key: to,
-            mark: used,
-        },
-    ]
-}
-
-fn add(facts: &mut Facts, fact: Fact) -> Option<bool> {
-    if !fact.is_below(facts.keys()) {
-        return None;
-    }
-    Some(facts.add(fact))
+fn link(from: u16, to: u16) -> [ShortFact; 2] {
+    [Enabled(from, Soft, true), UsedIn(to, Soft, false)]
 }
 
 fn facts_to_rank(alloc: Global, found: &Found) -> Option<Facts> {
     let keys = u16::try_from(found.ranks.len()).ok()?;
     let mut facts = facts_of(alloc, keys, &[])?;
     for (from, to) in found.dependencies {
-        add(&mut facts, dependency(*from, *to))?;
+        add(&mut facts, Depends(*from, *to, En))?;
     }
     for (from, to) in found.links {
         for fact in link(*from, *to) {
@@ -335,12 +252,9 @@ fn is_ranked(alloc: Global, found: &Found) -> Option<bool> {
 }
 
 fn misranked(alloc: Global, rows: &[Found]) -> Option<&'static str> {
-    for found in rows {
-        if is_ranked(alloc, found) != Some(true) {
-            return Some(found.about);
-        }
-    }
-    None
+    rows.iter()
+        .find(|found| is_ranked(alloc, found) != Some(true))
+        .map(|found| found.about)
 }
 
 #[test]

@@ -1,9 +1,10 @@
 //! Facts that are added one by one.
 
 use super::facts::{are_all, has_by_its_parts};
-use crate::steps::{A, B, C};
-use ld_facts::{Fact, Facts};
-use ld_graph::{Kind, Mark};
+use crate::steps::ShortFact::{Depends, Used, UsedIn};
+use crate::steps::{A, B, C, ShortFact};
+use ld_facts::Facts;
+use ld_task::Kind::{En, Er, Sn};
 use ld_trace::Irq::Soft;
 use ld_trace::{GRAPH_KEYS, MAX_KEYS};
 use std::alloc::Global;
@@ -12,8 +13,8 @@ use std::alloc::Global;
 struct Singles {
     about: &'static str,
     keys: u16,
-    facts: &'static [Fact],
-    absent: &'static [Fact],
+    facts: &'static [ShortFact],
+    absent: &'static [ShortFact],
     words: usize,
 }
 
@@ -23,110 +24,47 @@ static SINGLES: [Singles; 3] = [
     Singles {
         about: "a dependency between two keys",
         keys: 2,
-        facts: &[Fact::Dependency {
-            from: A,
-            to: B,
-            kind: Kind::En,
-        }],
+        facts: &[Depends(A, B, En)],
         absent: &[
-            Fact::Dependency {
-                from: B,
-                to: A,
-                kind: Kind::En,
-            },
-            Fact::Dependency {
-                from: A,
-                to: B,
-                kind: Kind::Sn,
-            },
-            Fact::Dependency {
-                from: A,
-                to: C,
-                kind: Kind::En,
-            },
-            Fact::Marked {
-                key: A,
-                mark: Mark::Used,
-            },
-            Fact::Marked {
-                key: C,
-                mark: Mark::Used,
-            },
+            Depends(B, A, En),
+            Depends(A, B, Sn),
+            Depends(A, C, En),
+            Used(A),
+            Used(C),
         ],
         words: 1,
     },
     Singles {
         about: "as many keys as a graph takes",
         keys: GRAPH_KEYS,
-        facts: &[Fact::Marked {
-            key: 255,
-            mark: Mark::UsedIn {
-                irq: Soft,
-                read: true,
-            },
-        }],
-        absent: &[Fact::Dependency {
-            from: 255,
-            to: 255,
-            kind: Kind::Sn,
-        }],
+        facts: &[UsedIn(255, Soft, true)],
+        absent: &[Depends(255, 255, Sn)],
         words: 4132,
     },
     Singles {
         about: "as many keys as there are",
         keys: MAX_KEYS,
-        facts: &[
-            Fact::Dependency {
-                from: LAST,
-                to: LAST,
-                kind: Kind::Sn,
-            },
-            Fact::Dependency {
-                from: LAST,
-                to: 300,
-                kind: Kind::Er,
-            },
-            Fact::Marked {
-                key: LAST,
-                mark: Mark::Used,
-            },
-        ],
-        absent: &[
-            Fact::Dependency {
-                from: 300,
-                to: LAST,
-                kind: Kind::Er,
-            },
-            Fact::Marked {
-                key: MAX_KEYS,
-                mark: Mark::Used,
-            },
-        ],
+        facts: &[Depends(LAST, LAST, Sn), Depends(LAST, 300, Er), Used(LAST)],
+        absent: &[Depends(300, LAST, Er), Used(MAX_KEYS)],
         words: 4195456,
     },
 ];
 
 // Adds each of the facts once, and once more. Whether each is new only the first time.
-fn add_each(facts: &mut Facts, all: &[Fact]) -> bool {
+fn add_each(facts: &mut Facts, all: &[ShortFact]) -> bool {
     for fact in all {
-        if !fact.is_below(facts.keys())
-            || facts.has(*fact)
-            || !facts.add(*fact)
-            || facts.add(*fact)
-        {
+        let fact = fact.fact();
+        if !fact.is_below(facts.keys()) || facts.has(fact) || !facts.add(fact) || facts.add(fact) {
             return false;
         }
     }
     true
 }
 
-fn has_none(facts: &Facts, absent: &[Fact]) -> bool {
-    for fact in absent {
-        if facts.has(*fact) || has_by_its_parts(facts, *fact) {
-            return false;
-        }
-    }
-    true
+fn has_none(facts: &Facts, absent: &[ShortFact]) -> bool {
+    absent
+        .iter()
+        .all(|fact| !facts.has(fact.fact()) && !has_by_its_parts(facts, fact.fact()))
 }
 
 fn are_kept(alloc: Global, singles: &Singles) -> Option<bool> {
@@ -147,12 +85,9 @@ fn are_kept(alloc: Global, singles: &Singles) -> Option<bool> {
 }
 
 fn lost(alloc: Global, rows: &[Singles]) -> Option<&'static str> {
-    for singles in rows {
-        if are_kept(alloc, singles) != Some(true) {
-            return Some(singles.about);
-        }
-    }
-    None
+    rows.iter()
+        .find(|singles| are_kept(alloc, singles) != Some(true))
+        .map(|singles| singles.about)
 }
 
 #[test]

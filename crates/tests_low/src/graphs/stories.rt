@@ -23,12 +23,7 @@ const IRQS: [Irq; 2] = [Hard, Soft];
 type Arrow = (u16, u16, Kind);
 
 // A double of the state, and whether the marks that it is used with the state enabled and in it are the read forms.
-#[derive(Clone, Copy)]
-struct Double {
-    irq: Irq,
-    key: u16,
-    forms: (bool, bool),
-}
+type Double = (Irq, u16, (bool, bool));
 
 // An inversion of the state, the forms of its marks, and its walk.
 #[derive(Clone, Copy)]
@@ -73,40 +68,28 @@ const NOTHING: Story = Story {
 
 // The circle that begins with the dependency, or none.
 fn circle_from(circles: &[&'static [Arrow]], arrow: Arrow) -> &'static [Arrow] {
-    for circle in circles {
-        if circle.len() > 0 && circle[0] == arrow {
-            return *circle;
-        }
-    }
-    &[]
+    let found = circles.iter().find(|circle| circle.first() == Some(&arrow));
+    found.copied().unwrap_or(&[])
 }
 
 fn double_of(doubles: &[Double], irq: Irq, key: u16) -> Option<(bool, bool)> {
-    for double in doubles {
-        if double.irq == irq && double.key == key {
-            return Some(double.forms);
-        }
-    }
-    None
+    doubles
+        .iter()
+        .find(|double| (double.0, double.1) == (irq, key))
+        .map(|double| double.2)
 }
 
 fn inversion_of(inversions: &[Inversion], irq: Irq, ends: (u16, u16)) -> Option<Inversion> {
-    for inversion in inversions {
-        if inversion.irq == irq && inversion.ends == ends {
-            return Some(*inversion);
-        }
-    }
-    None
+    inversions
+        .iter()
+        .find(|inversion| (inversion.irq, inversion.ends) == (irq, ends))
+        .copied()
 }
 
 // Whether the walk has these members in this order, and no other.
 fn is_walk(walk: &Walk, members: &[Arrow]) -> bool {
-    for (i, member) in members.iter().enumerate() {
-        if walk.get(i) != Some(*member) {
-            return false;
-        }
-    }
-    walk.len() == members.len() && walk.get(members.len()) == None
+    let same = (0..=members.len()).all(|i| walk.get(i) == members.get(i).copied());
+    same && walk.len() == members.len()
 }
 
 fn is_circle(found: Option<Walk>, members: &[Arrow]) -> bool {
@@ -162,21 +145,12 @@ fn are_doubles_told<G: Finds>(graph: &G, story: &Story, key: u16) -> bool {
 
 // Whether the circle has these members in this order, and no other.
 fn has_members(circle: &Circle, members: &[Arrow]) -> bool {
-    for (i, member) in members.iter().enumerate() {
-        if circle.get(i) != Some(*member) {
-            return false;
-        }
-    }
-    circle.len() == members.len() && circle.get(members.len()) == None
+    let same = (0..=members.len()).all(|i| circle.get(i) == members.get(i).copied());
+    same && circle.len() == members.len()
 }
 
 fn are_as_long(circles: &[&'static [Arrow]], length: usize) -> bool {
-    for circle in circles {
-        if circle.len() < length {
-            return false;
-        }
-    }
-    true
+    circles.iter().all(|circle| circle.len() >= length)
 }
 
 // Whether the shortest circle is the one that begins with its first member, and none is shorter.
@@ -199,22 +173,14 @@ fn are_two_told<G: Finds>(graph: &G, story: &Story, a: u16, b: u16) -> bool {
 // Whether a key is in what is found as the story says, by itself, with each other key, and with keys that are out of
 // range.
 fn is_key_told<G: Finds>(graph: &G, story: &Story, key: u16) -> bool {
-    for other in 0..=story.keys {
-        if !are_two_told(graph, story, key, other) {
-            return false;
-        }
-    }
-    are_doubles_told(graph, story, key) && are_two_told(graph, story, key, 300)
+    (0..=story.keys).all(|other| are_two_told(graph, story, key, other))
+        && are_doubles_told(graph, story, key)
+        && are_two_told(graph, story, key, 300)
 }
 
 // Whether the graph finds what the story says, and nothing else.
 fn finds<G: Finds>(graph: &G, story: &Story) -> bool {
-    for key in 0..=story.keys {
-        if !is_key_told(graph, story, key) {
-            return false;
-        }
-    }
-    is_shortest_told(graph, story)
+    (0..=story.keys).all(|key| is_key_told(graph, story, key)) && is_shortest_told(graph, story)
 }
 
 // That nothing is found among this many keys.
@@ -294,10 +260,8 @@ fn is_told(alloc: Global, story: &Story) -> Option<bool> {
 
 // The first story for which something else is found.
 fn misfit(alloc: Global, stories: &[Story]) -> Option<&'static str> {
-    for story in stories {
-        if is_told(alloc, story) != Some(true) {
-            return Some(story.about);
-        }
-    }
-    None
+    stories
+        .iter()
+        .find(|story| is_told(alloc, story) != Some(true))
+        .map(|story| story.about)
 }

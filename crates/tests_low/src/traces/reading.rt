@@ -126,12 +126,8 @@ fn short_texts(rt: HostRuntime) {
 
 // Whether these are the trace's events, and no others.
 fn has_events(trace: &RawTrace, wanted: &[Event]) -> bool {
-    for (i, event) in wanted.iter().enumerate() {
-        if trace.event(i) != Some(*event) {
-            return false;
-        }
-    }
-    trace.len() == wanted.len() && trace.event(wanted.len()).is_none()
+    let same = (0..=wanted.len()).all(|i| trace.event(i) == wanted.get(i).copied());
+    same && trace.len() == wanted.len()
 }
 
 fn take(key: KeyId, mode: Mode) -> Event {

@@ -1,10 +1,27 @@
 //! Stories of doubles and inversions.
 
-use super::{Double, Inversion, NOTHING, Story, misfit};
+use super::{Inversion, NOTHING, Story, misfit};
 use crate::steps::Step::{Enter, Give, Leave, Read, Reread, TurnOff, TurnOn, Write};
-use crate::steps::{A, B, C, D};
+use crate::steps::{A, B, C, D, Step};
 use ld_task::Kind::{En, Sn};
 use ld_trace::Irq::{Hard, Soft};
+
+// An inversion by one dependency.
+const A_TO_B: Inversion = Inversion {
+    irq: Hard,
+    ends: (A, B),
+    forms: (false, false),
+    walk: &[(A, B, En)],
+};
+
+// That it is found, and nothing else.
+const INVERTED: Story = Story {
+    dependencies: 1,
+    clean: 3,
+    inversions: &[A_TO_B],
+    inverted: &[(A, B, En)],
+    ..NOTHING
+};
 
 // What is wrong with interrupts.
 static INTERRUPTS: [Story; 15] = [
@@ -17,11 +34,7 @@ static INTERRUPTS: [Story; 15] = [
             &[Write(B), Give(B)],
         ],
         clean: 3,
-        doubles: &[Double {
-            irq: Hard,
-            key: B,
-            forms: (false, false),
-        }],
+        doubles: &[(Hard, B, (false, false))],
         ..NOTHING
     },
     Story {
@@ -32,11 +45,7 @@ static INTERRUPTS: [Story; 15] = [
             &[Write(A), Give(A)],
         ],
         clean: 1,
-        doubles: &[Double {
-            irq: Hard,
-            key: A,
-            forms: (false, false),
-        }],
+        doubles: &[(Hard, A, (false, false))],
         ..NOTHING
     },
     Story {
@@ -47,11 +56,7 @@ static INTERRUPTS: [Story; 15] = [
             &[Write(A), Give(A)],
         ],
         clean: 1,
-        doubles: &[Double {
-            irq: Hard,
-            key: A,
-            forms: (false, true),
-        }],
+        doubles: &[(Hard, A, (false, true))],
         ..NOTHING
     },
     Story {
@@ -62,11 +67,7 @@ static INTERRUPTS: [Story; 15] = [
             &[Read(A), Give(A)],
         ],
         clean: 1,
-        doubles: &[Double {
-            irq: Hard,
-            key: A,
-            forms: (true, false),
-        }],
+        doubles: &[(Hard, A, (true, false))],
         ..NOTHING
     },
     Story {
@@ -86,11 +87,7 @@ static INTERRUPTS: [Story; 15] = [
         ],
         dependencies: 1,
         clean: 3,
-        doubles: &[Double {
-            irq: Hard,
-            key: B,
-            forms: (false, false),
-        }],
+        doubles: &[(Hard, B, (false, false))],
         ..NOTHING
     },
     Story {
@@ -111,16 +108,11 @@ static INTERRUPTS: [Story; 15] = [
             &[TurnOff(Hard), Write(A), Write(B), Give(B), Give(A)],
             &[Write(B), Give(B)],
         ],
-        dependencies: 1,
-        clean: 3,
         inversions: &[Inversion {
-            irq: Hard,
-            ends: (A, B),
             forms: (false, true),
-            walk: &[(A, B, En)],
+            ..A_TO_B
         }],
-        inverted: &[(A, B, En)],
-        ..NOTHING
+        ..INVERTED
     },
     Story {
         about: "an inversion is tested where its walk ends: a recursive reader",
@@ -140,16 +132,11 @@ static INTERRUPTS: [Story; 15] = [
             &[TurnOff(Hard), Write(A), Write(B), Give(B), Give(A)],
             &[Reread(B), Give(B)],
         ],
-        dependencies: 1,
-        clean: 3,
         inversions: &[Inversion {
-            irq: Hard,
-            ends: (A, B),
             forms: (true, false),
-            walk: &[(A, B, En)],
+            ..A_TO_B
         }],
-        inverted: &[(A, B, En)],
-        ..NOTHING
+        ..INVERTED
     },
     Story {
         about: "an inversion of hardirqs",
@@ -158,16 +145,7 @@ static INTERRUPTS: [Story; 15] = [
             &[TurnOff(Hard), Write(A), Write(B), Give(B), Give(A)],
             &[Write(B), Give(B)],
         ],
-        dependencies: 1,
-        clean: 3,
-        inversions: &[Inversion {
-            irq: Hard,
-            ends: (A, B),
-            forms: (false, false),
-            walk: &[(A, B, En)],
-        }],
-        inverted: &[(A, B, En)],
-        ..NOTHING
+        ..INVERTED
     },
     Story {
         about: "an inversion of three dependencies, and one of four",
@@ -210,12 +188,7 @@ static INTERRUPTS: [Story; 15] = [
         ],
         dependencies: 3,
         clean: 7,
-        inversions: &[Inversion {
-            irq: Hard,
-            ends: (A, B),
-            forms: (false, false),
-            walk: &[(A, B, En)],
-        }],
+        inversions: &[A_TO_B],
         inverted: &[(A, B, En)],
         ..NOTHING
     },
@@ -264,82 +237,46 @@ static INTERRUPTS: [Story; 15] = [
     },
 ];
 
+const USED: &[Step] = &[Enter(Soft), Write(A), Give(A), Leave];
+
+const ENABLED: &[Step] = &[Write(B), Give(B)];
+
+const UNDER: &[Step] = &[
+    TurnOff(Soft),
+    Write(A),
+    Write(B),
+    Give(B),
+    Give(A),
+    TurnOn(Soft),
+];
+
+const SOFT_A_TO_B: Inversion = Inversion {
+    irq: Soft,
+    ..A_TO_B
+};
+
 // One inversion, whose two marks and dependency come in three orders: it is found with the last of them.
 static THREE_ORDERS: [Story; 3] = [
     Story {
         about: "an inversion in the order used, under, enabled",
-        traces: &[
-            &[Enter(Soft), Write(A), Give(A), Leave],
-            &[
-                TurnOff(Soft),
-                Write(A),
-                Write(B),
-                Give(B),
-                Give(A),
-                TurnOn(Soft),
-            ],
-            &[Write(B), Give(B)],
-        ],
-        dependencies: 1,
+        traces: &[USED, UNDER, ENABLED],
         clean: 4,
-        inversions: &[Inversion {
-            irq: Soft,
-            ends: (A, B),
-            forms: (false, false),
-            walk: &[(A, B, En)],
-        }],
-        inverted: &[(A, B, En)],
-        ..NOTHING
+        inversions: &[SOFT_A_TO_B],
+        ..INVERTED
     },
     Story {
         about: "an inversion in the order enabled, under, used",
-        traces: &[
-            &[Write(B), Give(B)],
-            &[
-                TurnOff(Soft),
-                Write(A),
-                Write(B),
-                Give(B),
-                Give(A),
-                TurnOn(Soft),
-            ],
-            &[Enter(Soft), Write(A), Give(A), Leave],
-        ],
-        dependencies: 1,
+        traces: &[ENABLED, UNDER, USED],
         clean: 4,
-        inversions: &[Inversion {
-            irq: Soft,
-            ends: (A, B),
-            forms: (false, false),
-            walk: &[(A, B, En)],
-        }],
-        inverted: &[(A, B, En)],
-        ..NOTHING
+        inversions: &[SOFT_A_TO_B],
+        ..INVERTED
     },
     Story {
         about: "an inversion in the order used, enabled, under",
-        traces: &[
-            &[Enter(Soft), Write(A), Give(A), Leave],
-            &[Write(B), Give(B)],
-            &[
-                TurnOff(Soft),
-                Write(A),
-                Write(B),
-                Give(B),
-                Give(A),
-                TurnOn(Soft),
-            ],
-        ],
-        dependencies: 1,
+        traces: &[USED, ENABLED, UNDER],
         clean: 3,
-        inversions: &[Inversion {
-            irq: Soft,
-            ends: (A, B),
-            forms: (false, false),
-            walk: &[(A, B, En)],
-        }],
-        inverted: &[(A, B, En)],
-        ..NOTHING
+        inversions: &[SOFT_A_TO_B],
+        ..INVERTED
     },
 ];
 

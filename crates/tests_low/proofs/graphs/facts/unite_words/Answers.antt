@@ -11,11 +11,11 @@ of_got P pairs i p all at = subst P (get_or_from_slice_get pairs i p p at) (all 
 pub unite_word-requires-clause-below : goal.unite_word-requires-clause-below
 unite_word-requires-clause-below c =
     subst (λ keys. c.in-Some.n < word_total keys) (c.keys.ensures.value ∙ sym c.loop-i.invariant)
-    (of_got (λ p. p.0 < word_total c.keys.result) c.fact_words-words.result c.loop-i.i (c.in-Some.n, c.in-Some.bits) c.fact_words-words.ensures.below
+    (of_got (λ p. p.0 < word_total c.keys.result) c.set_to.new.self c.loop-i.i (c.in-Some.n, c.in-Some.bits) c.set_to.ensures.below
     (sym c.get.ensures ∙ c.in-Some.is))
 
 pub unite_word-requires-clause-none_past : goal.unite_word-requires-clause-none_past
 unite_word-requires-clause-none_past c =
     subst (λ keys. NonePast keys (c.in-Some.n, c.in-Some.bits)) (c.keys.ensures.value ∙ sym c.loop-i.invariant)
-    (of_got (NonePast c.keys.result) c.fact_words-words.result c.loop-i.i (c.in-Some.n, c.in-Some.bits) c.fact_words-words.ensures.none_past
+    (of_got (NonePast c.keys.result) c.set_to.new.self c.loop-i.i (c.in-Some.n, c.in-Some.bits) c.set_to.ensures.none_past
     (sym c.get.ensures ∙ c.in-Some.is))
