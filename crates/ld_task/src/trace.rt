@@ -1,10 +1,12 @@
 //! Well-formed traces.
 
-ghost use Rattle.std.specs.Prelude.{◌≡◌, ◌≤◌, ◌↔◌, IsTrue, length, slice_get};
+ghost use Rattle.std.specs.Prelude.{◌≡◌, ◌≤◌, ◌↔◌, IfErr, IfNone, IfOk, IfSome, IsOk, IsTrue, length, slice_get};
 ghost use Rattle.ld_trace.specs.Events.{KeysBelow};
 ghost use Rattle.ld_trace.specs.declared.raw_trace.TheConstants.{MAX_EVENTS};
-ghost use Rattle.ld_task.specs.WellFormed.{IsWellFormed};
+ghost use Rattle.ld_task.specs.WellFormed.{IsFirstFault, IsWellFormed};
 
+use crate::fault::StepAt;
+use crate::state::TaskState;
 use ld_trace::{Event, RawTrace};
 use std::marker::Model;
 
@@ -27,14 +29,6 @@ impl Model for Trace {
 }
 
 impl Trace {
-    // The trace of these events.
-    pub(crate) fn of_allowed(events: RawTrace) -> Trace
-        requires { IsWellFormed events }
-        ensures { result ≡ events }
-    {
-        Trace { events }
-    }
-
     /// How many events there are, at most 1,000,000.
     pub fn len(&self) -> usize
         ensures count { result ≡ length self.now }
@@ -64,4 +58,31 @@ impl Trace {
     {
         self.events.keys_below(n)
     }
+}
+
+/// The well-formed trace of these events. Succeeds exactly if each event is allowed after those before it; otherwise
+/// the first one that isn't is returned, with its fault, and the events are dropped. Takes no memory.
+pub fn check(events: RawTrace) -> Result<Trace, StepAt>
+    ensures accepts { IsOk result ↔ IsWellFormed events }
+    ensures keeps { IfOk result (λ trace. trace ≡ events) }
+    ensures refuses { IfErr result (IsFirstFault events) }
+{
+    match first_fault(&events) {
+        Some(found) => Err(found),
+        None => Ok(Trace { events }),
+    }
+}
+
+// The first event that isn't allowed.
+fn first_fault(events: &RawTrace) -> Option<StepAt>
+    ensures none { IfNone result (IsWellFormed events.now) }
+    ensures found { IfSome result (IsFirstFault events.now) }
+{
+    let mut state = TaskState::new();
+    for (place, event) in events.as_slice().iter().enumerate() {
+        if let Err(fault) = state.step(*event) {
+            return Some(StepAt { fault, place });
+        }
+    }
+    None
 }
