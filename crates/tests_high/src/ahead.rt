@@ -57,8 +57,11 @@ impl<'t> Sources for Texts<'t> {
     }
 }
 
+// What stops a trace: the fault, and the record.
+pub(crate) type Stop = Option<(TraceFaultKind, usize)>;
+
 // Traces, how many of the first ones can be read; what stops the next one; and the names then.
-type Case<'t> = (&'t [&'t str], usize, Option<TraceFault>, &'t [&'t str]);
+type Case<'t> = (&'t [&'t str], usize, Stop, &'t [&'t str]);
 
 static CASES: [Case<'_>; 4] = [
     (
@@ -78,10 +81,7 @@ static CASES: [Case<'_>; 4] = [
             "lockdep,1\nacq,F,0,w\n",
         ],
         1,
-        Some(TraceFault {
-            kind: TraceFaultKind::BadSub,
-            at: 3,
-        }),
+        Some((TraceFaultKind::BadSub, 3)),
         &["A", "D"],
     ),
     (
@@ -99,16 +99,13 @@ static CASES: [Case<'_>; 4] = [
     (
         &["lockdep\n", "lockdep,1\nacq,A,0,w\n"],
         0,
-        Some(TraceFault {
-            kind: TraceFaultKind::NoHeader,
-            at: 1,
-        }),
+        Some((TraceFaultKind::NoHeader, 1)),
         &[],
     ),
 ];
 
 // Whether the first texts are what the traces say.
-pub(crate) fn are_written(
+fn are_written(
     alloc: Global,
     texts: &[&str],
     traces: &[RawTrace],
@@ -124,7 +121,7 @@ pub(crate) fn are_written(
 }
 
 // Whether these are the names of the table, in its order.
-pub(crate) fn are_named(names: &[&str], keys: &KeyTable) -> bool {
+fn are_named(names: &[&str], keys: &KeyTable) -> bool {
     for place in 0..names.len() {
         let Ok(number) = u16::try_from(place) else {
             return false;
@@ -137,6 +134,39 @@ pub(crate) fn are_named(names: &[&str], keys: &KeyTable) -> bool {
     names.len() == keys.len()
 }
 
+// Whether this many threads, in groups of this size, read of the sources the traces that are written like this, are stopped like this
+// at the next one, and leave these names.
+pub(crate) fn are_read<R: Threads + Sync, S: Sources + Sync>(
+    rt: &R,
+    alloc: Global,
+    (threads, group): (usize, usize),
+    (sources, count): (&S, usize),
+    (written, stop, names): (&[&str], Stop, &[&str]),
+) -> Option<bool> {
+    let mut keys = KeyTable::new(alloc).ok()?;
+    let mut traces = Vec::new(alloc);
+    let read = read_all(
+        rt,
+        alloc,
+        threads,
+        group,
+        sources,
+        count,
+        &mut keys,
+        &mut traces,
+    );
+    let wanted = match stop {
+        Some((kind, at)) => Err(Unread {
+            place: written.len(),
+            fault: ReadFault::Trace(TraceFault { kind, at }),
+        }),
+        None => Ok(()),
+    };
+    let same = are_written(alloc, written, traces.as_slice(), &keys).ok()?;
+    let all = traces.len() == written.len() && same && are_named(names, &keys);
+    Some(read == wanted && all)
+}
+
 // Whether this many threads give what the case says, whether two of them read at once, and how many texts were opened in their turn.
 fn reads<R: Threads + Wait + Sync + Abort>(
     rt: &R,
@@ -144,34 +174,15 @@ fn reads<R: Threads + Wait + Sync + Abort>(
     threads: usize,
     case: &Case<'_>,
 ) -> Option<(bool, bool, usize)> {
-    let (texts, count, stops, names) = *case;
+    let (texts, count, stop, names) = *case;
     let sources = Texts {
         texts,
         others: AtomicBool::new(false),
         met: AtomicBool::new(false),
         in_turn: AtomicUsize::new(0),
     };
-    let mut keys = KeyTable::new(alloc).ok()?;
-    let mut traces = Vec::new(alloc);
-    let read = read_all(
-        rt,
-        alloc,
-        threads,
-        1,
-        &sources,
-        texts.len(),
-        &mut keys,
-        &mut traces,
-    );
-    let wanted = match stops {
-        Some(fault) => Err(Unread {
-            place: count,
-            fault: ReadFault::Trace(fault),
-        }),
-        None => Ok(()),
-    };
-    let written = are_written(alloc, texts, traces.as_slice(), &keys).ok()?;
-    let right = read == wanted && traces.len() == count && written && are_named(names, &keys);
+    let wanted = (texts.get(..count)?, stop, names);
+    let right = are_read(rt, alloc, (threads, 1), (&sources, texts.len()), wanted)?;
     let met = sources.met.load(Ordering::SeqCst);
     Some((right, met, sources.in_turn.load(Ordering::SeqCst)))
 }

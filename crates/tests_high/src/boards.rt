@@ -92,22 +92,14 @@ fn close_two(alloc: Global, board: Board, one: Seat, two: Seat) -> Result<Facts,
 
 #[test]
 fn two_threads_claim_each_number_once(rt: HostRuntime) -> Result<(), Fail> {
-    let Ok((board, seats)) = Board::open(rt.alloc(), 3, 2) else {
-        panic!(rt; "no board")
-    };
+    let (board, seats) = Board::open(rt.alloc(), 3, 2)?;
     let mut done = claim_in_threads(&rt, &board, seats)?;
     let (Some(two), Some(one)) = (done.pop(), done.pop()) else {
         panic!(rt; "a seat was lost")
     };
     assert!(rt; are_all(&one.numbers, &two.numbers));
-    let Claimed {
-        seat: mut one,
-        numbers: _,
-    } = one;
-    let Claimed {
-        seat: two,
-        numbers: _,
-    } = two;
+    let Claimed { seat: mut one, .. } = one;
+    let Claimed { seat: two, .. } = two;
     let chains = released_between(rt.alloc())?;
     assert!(rt; chains.len() == 3 && chains[0].keys_below(3));
     assert!(rt; !board.covers(&mut one, &chains[0]));
@@ -122,9 +114,7 @@ fn two_threads_claim_each_number_once(rt: HostRuntime) -> Result<(), Fail> {
 
 #[test]
 fn covers_other(rt: HostRuntime) -> Result<(), Fail> {
-    let Ok((board, mut seats)) = Board::open(rt.alloc(), 3, 2) else {
-        panic!(rt; "no board")
-    };
+    let (board, mut seats) = Board::open(rt.alloc(), 3, 2)?;
     let (Some(mut two), Some(mut one)) = (seats.pop(), seats.pop()) else {
         panic!(rt; "no seats")
     };
@@ -137,9 +127,7 @@ fn covers_other(rt: HostRuntime) -> Result<(), Fail> {
 
 #[test]
 fn a_seat_counts_its_claims(rt: HostRuntime) -> Result<(), Fail> {
-    let Ok((board, mut seats)) = Board::open(rt.alloc(), 2, 1) else {
-        panic!(rt; "no board")
-    };
+    let (board, mut seats) = Board::open(rt.alloc(), 2, 1)?;
     let Some(mut seat) = seats.pop() else {
         panic!(rt; "no seat")
     };
@@ -154,9 +142,7 @@ fn seats_that_are_refused(rt: HostRuntime) -> Result<(), Fail> {
     for seats in [0, 66] {
         assert!(rt; matches!(Board::open(rt.alloc(), 2, seats), Err(BoardFault::Seats)));
     }
-    let Ok((board, mut seats)) = Board::open(rt.alloc(), 2, 65) else {
-        panic!(rt; "no board")
-    };
+    let (board, mut seats) = Board::open(rt.alloc(), 2, 65)?;
     drop(seats.pop());
     assert!(rt; matches!(board.close(seats), Err(BoardFault::Seats)));
     Ok(())
@@ -213,9 +199,7 @@ fn own_chain(trace: u32) -> Option<Chain> {
 fn two_workers_in_threads_of_the_callers_own(rt: HostRuntime) -> Result<(), Fail> {
     let traces = one_lock_each(rt.alloc()).ok_or("no traces")?;
     assert!(rt; traces.len() == 2);
-    let Ok((board, seats)) = Board::open(rt.alloc(), 2, 2) else {
-        panic!(rt; "no board")
-    };
+    let (board, seats) = Board::open(rt.alloc(), 2, 2)?;
     let book = LockedBook::new(Book::new(rt.alloc(), 2, 2)?);
     let gate = Meeting::new();
     assert!(rt; are_below(&traces, 2));
@@ -224,16 +208,8 @@ fn two_workers_in_threads_of_the_callers_own(rt: HostRuntime) -> Result<(), Fail
         panic!(rt; "a seat was lost")
     };
     assert!(rt; gate.was_held() && !one.lost && !two.lost);
-    let Worked {
-        seat: one,
-        refused: _,
-        lost: _,
-    } = one;
-    let Worked {
-        seat: two,
-        refused: _,
-        lost: _,
-    } = two;
+    let Worked { seat: one, .. } = one;
+    let Worked { seat: two, .. } = two;
     let facts = close_two(rt.alloc(), board, one, two)?;
     assert!(rt; facts.has_mark(A, Mark::Used) && facts.has_mark(B, Mark::Used));
     assert_eq!(rt; are_recorded(&book.into_book()), Some(true));

@@ -2,9 +2,9 @@
 
 ghost use Rattle.std.specs.Prelude.{None};
 
-use crate::ahead::{are_named, are_written};
-use ld_read::{ReadFault, Sources, Unread, read_all};
-use ld_trace::{KeyTable, TraceFault, TraceFaultKind, read_joined};
+use crate::ahead::{Stop, are_read};
+use ld_read::Sources;
+use ld_trace::{KeyTable, TraceFaultKind, read_joined};
 use std::alloc::Global;
 use std::process::Abort;
 use std::sync::Wait;
@@ -42,13 +42,7 @@ impl<'t> Sources for Texts<'t> {
 
 // Texts; those that the traces are written as which can be read; what stops the next one; the names then; and how many texts are opened in
 // their turn if all are one group.
-type Case<'t> = (
-    &'t [&'t str],
-    &'t [&'t str],
-    Option<(TraceFaultKind, usize)>,
-    &'t [&'t str],
-    usize,
-);
+type Case<'t> = (&'t [&'t str], &'t [&'t str], Stop, &'t [&'t str], usize);
 
 static CASES: [Case<'_>; 9] = [
     (
@@ -154,34 +148,12 @@ fn reads<R: Threads + Wait + Sync + Abort>(
     group: usize,
     case: &Case<'_>,
 ) -> Option<(bool, usize)> {
-    let (texts, written, stops, names, _) = *case;
+    let (texts, written, stop, names, _) = *case;
     let in_turn = AtomicUsize::new(0);
     let sources = Texts { texts, in_turn };
-    let mut keys = KeyTable::new(alloc).ok()?;
-    let mut traces = Vec::new(alloc);
-    let read = read_all(
-        rt,
-        alloc,
-        threads,
-        group,
-        &sources,
-        texts.len(),
-        &mut keys,
-        &mut traces,
-    );
-    let wanted = match stops {
-        Some((kind, at)) => Err(Unread {
-            place: written.len(),
-            fault: ReadFault::Trace(TraceFault { kind, at }),
-        }),
-        None => Ok(()),
-    };
-    let same = are_written(alloc, written, traces.as_slice(), &keys).ok()?;
-    let all = traces.len() == written.len() && same && are_named(names, &keys);
-    Some((
-        read == wanted && all,
-        sources.in_turn.load(Ordering::SeqCst),
-    ))
+    let wanted = (written, stop, names);
+    let right = are_read(rt, alloc, (threads, group), (&sources, texts.len()), wanted)?;
+    Some((right, sources.in_turn.load(Ordering::SeqCst)))
 }
 
 #[test]

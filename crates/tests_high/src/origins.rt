@@ -9,15 +9,16 @@ ghost use Rattle.ld_trace.specs.declared.raw_trace.TheConstants.{MAX_TRACES};
 use ld_explain::{Asked, Evidence, Naming, Origin, Origins};
 use ld_facts::Fact;
 use ld_graph::Kind::{En, Er, Sn, Sr};
-use ld_graph::{Kind, Mark};
 use ld_run::{OpenGate, run};
-use ld_trace::{Irq, RawTrace};
+use ld_trace::Irq::{Hard, Soft};
+use ld_trace::RawTrace;
 use std::alloc::Global;
 use std::process::Abort;
 use std::sync::Wait;
 use std::thread::Threads;
+use tests_low::steps::ShortFact::{Depends, Enabled, Used, UsedIn};
 use tests_low::steps::Step::{Enter, Give, Reread, TryRead, TryWrite, TurnOff, TurnOn, Write};
-use tests_low::steps::{A, B, C, Step, traces_of};
+use tests_low::steps::{A, B, C, ShortFact, Step, traces_of};
 
 // Where a fact comes from.
 #[derive(Clone, Copy)]
@@ -51,13 +52,7 @@ impl Place {
 }
 
 // A fact, and where it comes from.
-#[derive(Clone, Copy)]
-enum Known {
-    Dependency(u16, u16, Kind, Place),
-    Marked(u16, Mark, Place),
-}
-
-use Known::{Dependency, Marked};
+type Known = (ShortFact, Place);
 
 // Traces of three keys, and where facts of them come from.
 struct Row {
@@ -75,71 +70,50 @@ static ROWS: [Row; 8] = [
             &[Write(B), Write(A)],
         ],
         facts: &[
-            Dependency(A, B, En, By(0, 0, 1)),
-            Dependency(B, A, En, By(1, 2, 3)),
-            Marked(A, Mark::Used, At(0, 0)),
-            Marked(B, Mark::Used, At(0, 1)),
-            Marked(C, Mark::Used, At(1, 0)),
-            Marked(
-                B,
-                Mark::Enabled {
-                    irq: Irq::Hard,
-                    read: false,
-                },
-                At(0, 1),
-            ),
+            (Depends(A, B, En), By(0, 0, 1)),
+            (Depends(B, A, En), By(1, 2, 3)),
+            (Used(A), At(0, 0)),
+            (Used(B), At(0, 1)),
+            (Used(C), At(1, 0)),
+            (Enabled(B, Hard, false), At(0, 1)),
         ],
     },
     Row {
         about: "what isn't there has no origin",
         traces: &[&[Write(A), Write(B), Give(A), Write(C)]],
         facts: &[
-            Dependency(B, C, En, By(0, 1, 3)),
-            Dependency(A, C, En, Nowhere),
-            Dependency(A, B, Er, Nowhere),
-            Dependency(B, A, En, Nowhere),
-            Dependency(A, 3, En, Nowhere),
-            Marked(
-                A,
-                Mark::Enabled {
-                    irq: Irq::Hard,
-                    read: true,
-                },
-                Nowhere,
-            ),
-            Marked(
-                A,
-                Mark::UsedIn {
-                    irq: Irq::Hard,
-                    read: false,
-                },
-                Nowhere,
-            ),
-            Marked(3, Mark::Used, Nowhere),
+            (Depends(B, C, En), By(0, 1, 3)),
+            (Depends(A, C, En), Nowhere),
+            (Depends(A, B, Er), Nowhere),
+            (Depends(B, A, En), Nowhere),
+            (Depends(A, 3, En), Nowhere),
+            (Enabled(A, Hard, true), Nowhere),
+            (UsedIn(A, Hard, false), Nowhere),
+            (Used(3), Nowhere),
         ],
     },
     Row {
         about: "of two held locks of a key it is the newest",
         traces: &[&[Reread(A), Write(B), Reread(A), Give(B), Write(C)]],
         facts: &[
-            Dependency(A, C, Sn, By(0, 2, 4)),
-            Dependency(B, A, Er, By(0, 1, 2)),
-            Dependency(B, C, En, Nowhere),
+            (Depends(A, C, Sn), By(0, 2, 4)),
+            (Depends(B, A, Er), By(0, 1, 2)),
+            (Depends(B, C, En), Nowhere),
         ],
     },
     Row {
         about: "the newest that is left is the one",
         traces: &[&[Reread(A), Reread(A), Give(A), Write(B)]],
         facts: &[
-            Dependency(A, B, Sn, By(0, 0, 3)),
-            Dependency(A, A, Sr, By(0, 0, 1)),
+            (Depends(A, B, Sn), By(0, 0, 3)),
+            (Depends(A, A, Sr), By(0, 0, 1)),
         ],
     },
     Row {
         about: "a release takes out the place of its own lock",
         traces: &[&[
             Write(A),
-            TurnOn(Irq::Hard),
+            TurnOn(Hard),
             Write(B),
             Give(A),
             Write(C),
@@ -147,117 +121,54 @@ static ROWS: [Row; 8] = [
             Write(A),
         ]],
         facts: &[
-            Dependency(B, C, En, By(0, 2, 4)),
-            Dependency(C, A, En, By(0, 4, 6)),
-            Dependency(B, A, En, Nowhere),
+            (Depends(B, C, En), By(0, 2, 4)),
+            (Depends(C, A, En), By(0, 4, 6)),
+            (Depends(B, A, En), Nowhere),
         ],
     },
     Row {
         about: "held locks are those of the frame",
-        traces: &[&[Write(A), Enter(Irq::Hard), Write(B), Write(C)]],
+        traces: &[&[Write(A), Enter(Hard), Write(B), Write(C)]],
         facts: &[
-            Dependency(B, C, En, By(0, 2, 3)),
-            Dependency(A, C, En, Nowhere),
-            Marked(
-                B,
-                Mark::UsedIn {
-                    irq: Irq::Hard,
-                    read: false,
-                },
-                At(0, 2),
-            ),
-            Marked(
-                A,
-                Mark::Enabled {
-                    irq: Irq::Hard,
-                    read: false,
-                },
-                At(0, 0),
-            ),
-            Marked(
-                B,
-                Mark::Enabled {
-                    irq: Irq::Hard,
-                    read: false,
-                },
-                Nowhere,
-            ),
+            (Depends(B, C, En), By(0, 2, 3)),
+            (Depends(A, C, En), Nowhere),
+            (UsedIn(B, Hard, false), At(0, 2)),
+            (Enabled(A, Hard, false), At(0, 0)),
+            (Enabled(B, Hard, false), Nowhere),
         ],
     },
     Row {
         about: "an opening is where a held lock is marked",
         traces: &[&[
-            TurnOff(Irq::Hard),
-            TurnOff(Irq::Soft),
+            TurnOff(Hard),
+            TurnOff(Soft),
             Reread(A),
             Reread(A),
             Write(B),
-            TurnOn(Irq::Hard),
-            TurnOn(Irq::Soft),
+            TurnOn(Hard),
+            TurnOn(Soft),
             Write(C),
         ]],
         facts: &[
-            Marked(A, Mark::Used, At(0, 2)),
-            Marked(
-                A,
-                Mark::Enabled {
-                    irq: Irq::Hard,
-                    read: true,
-                },
-                By(0, 3, 5),
-            ),
-            Marked(
-                B,
-                Mark::Enabled {
-                    irq: Irq::Hard,
-                    read: false,
-                },
-                By(0, 4, 5),
-            ),
-            Marked(
-                A,
-                Mark::Enabled {
-                    irq: Irq::Soft,
-                    read: true,
-                },
-                By(0, 3, 6),
-            ),
-            Marked(
-                C,
-                Mark::Enabled {
-                    irq: Irq::Soft,
-                    read: false,
-                },
-                At(0, 7),
-            ),
-            Marked(
-                C,
-                Mark::Enabled {
-                    irq: Irq::Hard,
-                    read: true,
-                },
-                Nowhere,
-            ),
+            (Used(A), At(0, 2)),
+            (Enabled(A, Hard, true), By(0, 3, 5)),
+            (Enabled(B, Hard, false), By(0, 4, 5)),
+            (Enabled(A, Soft, true), By(0, 3, 6)),
+            (Enabled(C, Soft, false), At(0, 7)),
+            (Enabled(C, Hard, true), Nowhere),
         ],
     },
     Row {
         about: "a try begins dependencies and ends none",
         traces: &[&[TryWrite(A), Write(B), TryRead(C), Give(B), Give(A)]],
         facts: &[
-            Dependency(A, B, En, By(0, 0, 1)),
-            Dependency(A, C, En, Nowhere),
-            Dependency(B, C, En, Nowhere),
-            Marked(C, Mark::Used, At(0, 2)),
+            (Depends(A, B, En), By(0, 0, 1)),
+            (Depends(A, C, En), Nowhere),
+            (Depends(B, C, En), Nowhere),
+            (Used(C), At(0, 2)),
         ],
     },
 ];
-
-fn fact_of(known: Known) -> Fact {
-    match known {
-        Dependency(from, to, kind, _) => Fact::Dependency { from, to, kind },
-        Marked(key, mark, _) => Fact::Marked { key, mark },
-    }
-}
 
 // Asks about a fact, if its keys are below the bound.
 fn ask(asked: &mut Asked, fact: Fact) {
@@ -269,8 +180,8 @@ fn ask(asked: &mut Asked, fact: Fact) {
 // These facts of three keys.
 fn asked_about(alloc: Global, facts: &[Known]) -> Option<Asked> {
     let mut asked = Asked::new(alloc, 3).ok()?;
-    for known in facts {
-        ask(&mut asked, fact_of(*known));
+    for (fact, _) in facts {
+        ask(&mut asked, fact.fact());
     }
     Some(asked)
 }
@@ -302,18 +213,8 @@ fn evidence_of<R: Threads + Wait + Sync + Abort>(
     }
 }
 
-fn is_known(origins: &Origins, known: Known) -> bool {
-    let (Dependency(_, _, _, place) | Marked(_, _, place)) = known;
-    origins.origin(fact_of(known)) == place.origin()
-}
-
 fn are_known(origins: &Origins, facts: &[Known]) -> bool {
-    for known in facts {
-        if !is_known(origins, *known) {
-            return false;
-        }
-    }
-    true
+    facts.iter().all(|(fact, place)| origins.origin(fact.fact()) == place.origin())
 }
 
 fn is_as_told<R: Threads + Wait + Sync + Abort>(rt: &R, alloc: Global, row: &Row) -> Option<bool> {
@@ -328,12 +229,9 @@ fn misfit<R: Threads + Wait + Sync + Abort>(
     alloc: Global,
     rows: &[Row],
 ) -> Option<&'static str> {
-    for row in rows {
-        if is_as_told(rt, alloc, row) != Some(true) {
-            return Some(row.about);
-        }
-    }
-    None
+    rows.iter()
+        .find(|row| is_as_told(rt, alloc, row) != Some(true))
+        .map(|row| row.about)
 }
 
 #[test]

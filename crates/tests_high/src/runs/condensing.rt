@@ -3,21 +3,22 @@
 use super::run_over;
 use ld_run::{CondenseFault, OpenGate, Settled, condense};
 use ld_task::TaskState;
-use ld_trace::{Event, Irq, KeyId, Mode, RawTrace};
+use ld_trace::Irq::{Hard, Soft};
+use ld_trace::{Event, KeyId, Mode, RawTrace};
 use std::alloc::Global;
 use std::process::Abort;
 use std::sync::Wait;
 use std::test::Fail;
 use std::thread::Threads;
 use tests_low::steps::Step::{Enter, Give, Leave, Reread, TurnOff, TurnOn, Write};
-use tests_low::steps::{A, B, C, Step, trace_of, traces_of};
+use tests_low::steps::{A, B, BOTH_ORDERS, C, Step, trace_in_parts, traces_of};
 
-// Traces, and the trace that has their facts, with the last key first.
+// Traces, and the trace that has their facts, with the last key first, in parts.
 struct Row {
     about: &'static str,
     keys: u16,
     traces: &'static [&'static [Step]],
-    trace: &'static [Step],
+    trace: &'static [&'static [Step]],
 }
 
 static ROWS: [Row; 4] = [
@@ -26,47 +27,27 @@ static ROWS: [Row; 4] = [
         keys: 3,
         traces: &[],
         trace: &[
-            TurnOff(Irq::Hard),
-            TurnOn(Irq::Hard),
-            TurnOff(Irq::Soft),
-            TurnOn(Irq::Soft),
+            &[TurnOff(Hard), TurnOn(Hard)],
+            &[TurnOff(Soft), TurnOn(Soft)],
         ],
     },
     Row {
         about: "two locks in both orders",
         keys: 2,
-        traces: &[
-            &[Write(A), Write(B), Give(B), Give(A)],
-            &[Write(B), Write(A), Give(A), Give(B)],
-        ],
+        traces: BOTH_ORDERS,
         trace: &[
-            TurnOff(Irq::Hard),
-            Write(B),
-            Write(A),
-            Give(A),
-            Give(B),
-            Write(A),
-            Write(B),
-            Give(B),
-            Give(A),
-            TurnOn(Irq::Hard),
-            TurnOff(Irq::Soft),
-            Write(B),
-            Give(B),
-            Write(A),
-            Give(A),
-            TurnOn(Irq::Soft),
-            Write(B),
-            Give(B),
-            Write(A),
-            Give(A),
+            &[TurnOff(Hard), Write(B), Write(A), Give(A), Give(B)],
+            &[Write(A), Write(B), Give(B), Give(A), TurnOn(Hard)],
+            &[TurnOff(Soft), Write(B), Give(B)],
+            &[Write(A), Give(A), TurnOn(Soft)],
+            &[Write(B), Give(B), Write(A), Give(A)],
         ],
     },
     Row {
         about: "each kind of dependency",
         keys: 3,
         traces: &[&[
-            TurnOff(Irq::Hard),
+            TurnOff(Hard),
             Write(A),
             Write(B),
             Reread(B),
@@ -82,76 +63,41 @@ static ROWS: [Row; 4] = [
             Write(C),
         ]],
         trace: &[
-            TurnOff(Irq::Hard),
-            Write(C),
-            Give(C),
-            Write(B),
-            Reread(B),
-            Give(B),
-            Give(B),
-            Write(A),
-            Reread(B),
-            Give(B),
-            Write(B),
-            Give(B),
-            Give(A),
-            Reread(A),
-            Reread(B),
-            Give(B),
-            Write(B),
-            Give(B),
-            Give(A),
-            TurnOn(Irq::Hard),
-            TurnOff(Irq::Soft),
-            TurnOn(Irq::Soft),
+            &[TurnOff(Hard), Write(C), Give(C)],
+            &[Write(B), Reread(B), Give(B), Give(B)],
+            &[Write(A), Reread(B), Give(B), Write(B), Give(B), Give(A)],
+            &[Reread(A), Reread(B), Give(B), Write(B), Give(B), Give(A)],
+            &[TurnOn(Hard), TurnOff(Soft), TurnOn(Soft)],
         ],
     },
     Row {
         about: "each mark",
         keys: 3,
         traces: &[&[
-            TurnOff(Irq::Soft),
+            TurnOff(Soft),
             Write(A),
             Give(A),
-            TurnOn(Irq::Soft),
+            TurnOn(Soft),
             Reread(B),
             Give(B),
-            Enter(Irq::Hard),
+            Enter(Hard),
             Reread(A),
             Give(A),
             Leave,
-            Enter(Irq::Soft),
-            TurnOff(Irq::Hard),
+            Enter(Soft),
+            TurnOff(Hard),
             Write(C),
             Give(C),
             Leave,
         ]],
         trace: &[
-            TurnOff(Irq::Hard),
-            Write(C),
-            Give(C),
-            Write(B),
-            Give(B),
-            Write(A),
-            Give(A),
-            TurnOn(Irq::Hard),
-            TurnOff(Irq::Soft),
-            Reread(B),
-            Give(B),
-            Write(A),
-            Give(A),
-            TurnOn(Irq::Soft),
-            Reread(B),
-            Give(B),
-            Enter(Irq::Hard),
-            Reread(A),
-            Give(A),
-            Leave,
-            Enter(Irq::Soft),
-            TurnOff(Irq::Hard),
-            Write(C),
-            Give(C),
-            Leave,
+            &[TurnOff(Hard), Write(C), Give(C), Write(B), Give(B)],
+            &[Write(A), Give(A), TurnOn(Hard)],
+            &[TurnOff(Soft), Reread(B), Give(B)],
+            &[Write(A), Give(A), TurnOn(Soft)],
+            &[Reread(B), Give(B)],
+            &[Enter(Hard), Reread(A), Give(A), Leave],
+            &[Enter(Soft), TurnOff(Hard), Write(C), Give(C), Leave],
         ],
     },
 ];
@@ -215,7 +161,7 @@ fn is_condensed<R: Threads + Wait + Sync + Abort>(
     let traces = traces_of(alloc, row.traces, 1)?;
     let settled = settled_of(rt, alloc, &traces, row.keys)?;
     let trace = condensed(rt, alloc, &settled)?;
-    Some(trace.as_slice() == trace_of(alloc, row.trace, 1)?.as_slice())
+    Some(trace.as_slice() == trace_in_parts(alloc, row.trace)?.as_slice())
 }
 
 // The first of these whose facts are condensed to another trace.
@@ -224,12 +170,9 @@ fn misfit<R: Threads + Wait + Sync + Abort>(
     alloc: Global,
     rows: &[Row],
 ) -> Option<&'static str> {
-    for row in rows {
-        if is_condensed(rt, alloc, row) != Some(true) {
-            return Some(row.about);
-        }
-    }
-    None
+    rows.iter()
+        .find(|row| is_condensed(rt, alloc, row) != Some(true))
+        .map(|row| row.about)
 }
 
 #[test]
@@ -273,11 +216,7 @@ impl Chance {
 // An event of one of five keys.
 fn any_event(chance: &mut Chance) -> Event {
     let key = KeyId::new(chance.below(5) as u16).unwrap_or(KeyId::default());
-    let irq = if chance.below(2) == 0 {
-        Irq::Hard
-    } else {
-        Irq::Soft
-    };
+    let irq = if chance.below(2) == 0 { Hard } else { Soft };
     match chance.below(12) {
         0 | 1 | 2 | 3 => Event::Acquire {
             mode: any_mode(chance),

@@ -10,7 +10,7 @@ use std::sync::Wait;
 use std::sync::atomic::{AtomicBool, AtomicU64, Ordering};
 use std::thread::Threads;
 use tests_low::steps::Step::{Give, TurnOff, Write};
-use tests_low::steps::{A, B, C, Step, traces_of};
+use tests_low::steps::{A, B, BOTH_ORDERS, C, Step, traces_of};
 
 // A gate in which the workers of two traces wait for one another.
 #[derive(Drop)]
@@ -107,10 +107,7 @@ struct Calls {
 static CALLS: [Calls; 3] = [
     Calls {
         about: "of the four chains of both orders the third, B by itself, brings nothing new",
-        traces: &[
-            &[Write(A), Write(B), Give(B), Give(A)],
-            &[Write(B), Write(A), Give(A), Give(B)],
-        ],
+        traces: BOTH_ORDERS,
         times: 1,
         calls: 3,
         numbers: 0_1_1,
@@ -160,12 +157,9 @@ fn misfit<R: Threads + Wait + Sync + Abort>(
     alloc: Global,
     rows: &[Calls],
 ) -> Option<&'static str> {
-    for wanted in rows {
-        if is_called(rt, alloc, wanted) != Some(true) {
-            return Some(wanted.about);
-        }
-    }
-    None
+    rows.iter()
+        .find(|wanted| is_called(rt, alloc, wanted) != Some(true))
+        .map(|wanted| wanted.about)
 }
 
 #[test]

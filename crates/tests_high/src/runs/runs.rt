@@ -10,7 +10,7 @@ use std::process::Abort;
 use std::sync::Wait;
 use std::thread::Threads;
 use tests_low::steps::Step::{Enter, Give, Leave, Write};
-use tests_low::steps::{A, B, Step, facts_of, trace_of, traces_of};
+use tests_low::steps::{A, B, BOTH_ORDERS, Step, facts_of, trace_of, traces_of};
 
 // Traces, how often the whole list of them is given, with how many workers they are run, and how each of these runs
 // ends.
@@ -28,118 +28,100 @@ struct Run {
     used: &'static [u16],
 }
 
+// A run of one worker that finds nothing.
+const CLEAN: Run = Run {
+    about: "nothing",
+    keys: 2,
+    traces: &[],
+    times: 1,
+    workers: &[1],
+    fault: None,
+    dependencies: &[],
+    clean: true,
+    used: &[],
+};
+
+const NOT_HELD: RunFault = RunFault::Refused {
+    trace: 1,
+    place: 0,
+    fault: StepFault::NotHeld,
+};
+
 static RUNS: [Run; 10] = [
     Run {
         about: "two locks in both orders",
-        keys: 2,
-        traces: &[
-            &[Write(A), Write(B), Give(B), Give(A)],
-            &[Write(B), Write(A), Give(A), Give(B)],
-        ],
-        times: 1,
+        traces: BOTH_ORDERS,
         workers: &[1, 2, 4, 8, 64],
-        fault: None,
         dependencies: &[(A, B, Kind::En), (B, A, Kind::En)],
         clean: false,
         used: &[A, B],
+        ..CLEAN
     },
     Run {
         about: "the same trace a hundred times",
-        keys: 2,
         traces: &[&[Write(A), Write(B), Give(B), Give(A)]],
         times: 100,
         workers: &[1, 8],
-        fault: None,
         dependencies: &[(A, B, Kind::En)],
-        clean: true,
         used: &[A, B],
+        ..CLEAN
     },
     Run {
         about: "two locks in both orders, with as many workers as are allowed at work",
-        keys: 2,
-        traces: &[
-            &[Write(A), Write(B), Give(B), Give(A)],
-            &[Write(B), Write(A), Give(A), Give(B)],
-        ],
+        traces: BOTH_ORDERS,
         times: 50,
         workers: &[64],
-        fault: None,
         dependencies: &[(A, B, Kind::En), (B, A, Kind::En)],
         clean: false,
         used: &[A, B],
+        ..CLEAN
     },
     Run {
         about: "no traces",
         keys: 0,
         traces: &[],
-        times: 1,
-        workers: &[1],
-        fault: None,
-        dependencies: &[],
-        clean: true,
-        used: &[],
+        ..CLEAN
     },
     Run {
         about: "as many traces as are allowed",
-        keys: 2,
         traces: &[&[]],
         times: 4096,
         workers: &[2],
-        fault: None,
-        dependencies: &[],
-        clean: true,
-        used: &[],
+        ..CLEAN
     },
     Run {
         about: "one trace more",
-        keys: 2,
         traces: &[&[]],
         times: 4097,
         workers: &[2],
         fault: Some(RunFault::TooManyTraces),
-        dependencies: &[],
-        clean: true,
-        used: &[],
+        ..CLEAN
     },
     Run {
         about: "too few and too many workers, which are refused before the traces are",
-        keys: 2,
         traces: &[&[]],
         times: 4097,
         workers: &[0, 65],
         fault: Some(RunFault::BadWorkers),
-        dependencies: &[],
-        clean: true,
-        used: &[],
+        ..CLEAN
     },
     Run {
         about: "the first of two traces that aren't well formed",
-        keys: 2,
         traces: &[&[Write(B)], &[Give(A)], &[Leave]],
-        times: 1,
         workers: &[1, 2, 8],
-        fault: Some(RunFault::Refused {
-            trace: 1,
-            place: 0,
-            fault: StepFault::NotHeld,
-        }),
-        dependencies: &[],
-        clean: true,
-        used: &[],
+        fault: Some(NOT_HELD),
+        ..CLEAN
     },
     Run {
         about: "more keys than a board takes, with traces enough for several threads",
         keys: 300,
-        traces: &[
-            &[Write(A), Write(B), Give(B), Give(A)],
-            &[Write(B), Write(A), Give(A), Give(B)],
-        ],
+        traces: BOTH_ORDERS,
         times: 800,
         workers: &[1, 2, 3, 64],
-        fault: None,
         dependencies: &[(A, B, Kind::En), (B, A, Kind::En)],
         clean: false,
         used: &[A, B],
+        ..CLEAN
     },
     Run {
         about: "the first of many traces that aren't well formed, of more keys than a board takes",
@@ -147,24 +129,13 @@ static RUNS: [Run; 10] = [
         traces: &[&[Write(B), Give(B)], &[Give(A)], &[Leave]],
         times: 1000,
         workers: &[1, 2, 3, 64],
-        fault: Some(RunFault::Refused {
-            trace: 1,
-            place: 0,
-            fault: StepFault::NotHeld,
-        }),
-        dependencies: &[],
-        clean: true,
-        used: &[],
+        fault: Some(NOT_HELD),
+        ..CLEAN
     },
 ];
 
 fn has_used(settled: &Settled, keys: &[u16]) -> bool {
-    for key in keys {
-        if !settled.has_mark(*key, Mark::Used) {
-            return false;
-        }
-    }
-    true
+    keys.iter().all(|key| settled.has_mark(*key, Mark::Used))
 }
 
 // Whether these are the dependencies, and each is on a circle if one is to be.
@@ -217,12 +188,9 @@ fn misfit<R: Threads + Wait + Sync + Abort>(
     alloc: Global,
     runs: &[Run],
 ) -> Option<&'static str> {
-    for run in runs {
-        if ends_as_told(rt, alloc, run) != Some(true) {
-            return Some(run.about);
-        }
-    }
-    None
+    runs.iter()
+        .find(|run| ends_as_told(rt, alloc, run) != Some(true))
+        .map(|run| run.about)
 }
 
 #[test]
@@ -300,24 +268,12 @@ static CODES: [(RunFault, &str); 6] = [
     (RunFault::TooManyTraces, "N2 TooManyTraces"),
     (RunFault::Unsettled, "N3 Unsettled"),
     (RunFault::Memory, "N4 Memory"),
-    (
-        RunFault::Refused {
-            trace: 1,
-            place: 0,
-            fault: StepFault::NotHeld,
-        },
-        "N5 Refused",
-    ),
+    (NOT_HELD, "N5 Refused"),
     (RunFault::TooTangled, "M1 TooTangled"),
 ];
 
 fn have_codes(codes: &[(RunFault, &str)]) -> bool {
-    for (fault, code) in codes {
-        if fault.code() != *code {
-            return false;
-        }
-    }
-    true
+    codes.iter().all(|(fault, code)| fault.code() == *code)
 }
 
 #[test]

@@ -25,69 +25,70 @@ struct Settling {
 // No chain has this place.
 const NONE: usize = 100;
 
+// An empty book of three keys, which doesn't settle.
+const UNSETTLED: Settling = Settling {
+    about: "nothing",
+    keys: 3,
+    book: &[],
+    left_out: NONE,
+    facts: &[],
+    dependencies: None,
+    circle: false,
+};
+
+const ONE_ORDER: &[&[Step]] = &[&[Write(A), Write(B), Give(A), Write(C)]];
+
+const BOTH: &[&[Step]] = &[&[Write(A), Write(B)], &[Write(B), Write(A)]];
+
 static SETTLINGS: [Settling; 7] = [
     Settling {
         about: "a book that is taken out whole",
-        keys: 3,
-        book: &[&[Write(A), Write(B), Give(A), Write(C)]],
-        left_out: NONE,
-        facts: &[&[Write(A), Write(B), Give(A), Write(C)]],
+        book: ONE_ORDER,
+        facts: ONE_ORDER,
         dependencies: Some(2),
-        circle: false,
+        ..UNSETTLED
     },
     Settling {
         about: "a book that lacks a dependency",
-        keys: 3,
-        book: &[&[Write(A), Write(B), Give(A), Write(C)]],
+        book: ONE_ORDER,
         left_out: 2,
-        facts: &[&[Write(A), Write(B), Give(A), Write(C)]],
-        dependencies: None,
-        circle: false,
+        facts: ONE_ORDER,
+        ..UNSETTLED
     },
     Settling {
         about: "facts that lack the same",
-        keys: 3,
-        book: &[&[Write(A), Write(B), Give(A), Write(C)]],
+        book: ONE_ORDER,
         left_out: 2,
         facts: &[&[Write(A), Write(B)]],
         dependencies: Some(1),
-        circle: false,
+        ..UNSETTLED
     },
     Settling {
         about: "a book without the last chain of both orders",
-        keys: 3,
-        book: &[&[Write(A), Write(B)], &[Write(B), Write(A)]],
+        book: BOTH,
         left_out: 3,
-        facts: &[&[Write(A), Write(B)], &[Write(B), Write(A)]],
-        dependencies: None,
-        circle: false,
+        facts: BOTH,
+        ..UNSETTLED
     },
     Settling {
         about: "a chain of both orders that brings nothing is not missed",
-        keys: 3,
-        book: &[&[Write(A), Write(B)], &[Write(B), Write(A)]],
+        book: BOTH,
         left_out: 2,
-        facts: &[&[Write(A), Write(B)], &[Write(B), Write(A)]],
+        facts: BOTH,
         dependencies: Some(2),
         circle: true,
+        ..UNSETTLED
     },
     Settling {
         about: "a book of one chain of both orders",
-        keys: 3,
         book: &[&[Write(A)]],
-        left_out: NONE,
-        facts: &[&[Write(A), Write(B)], &[Write(B), Write(A)]],
-        dependencies: None,
-        circle: false,
+        facts: BOTH,
+        ..UNSETTLED
     },
     Settling {
         about: "a book of other keys",
         keys: 2,
-        book: &[],
-        left_out: NONE,
-        facts: &[],
-        dependencies: None,
-        circle: false,
+        ..UNSETTLED
     },
 ];
 
@@ -125,12 +126,10 @@ fn settles<R: Wait>(rt: &R, alloc: Global, settling: &Settling) -> Option<bool> 
 
 // The first of these that settles otherwise.
 fn misfit<R: Wait>(rt: &R, alloc: Global, settlings: &[Settling]) -> Option<&'static str> {
-    for settling in settlings {
-        if settles(rt, alloc, settling) != Some(true) {
-            return Some(settling.about);
-        }
-    }
-    None
+    settlings
+        .iter()
+        .find(|settling| settles(rt, alloc, settling) != Some(true))
+        .map(|settling| settling.about)
 }
 
 #[test]
