@@ -1,5 +1,5 @@
 -- Facts by other names, and without those of several locks.
-use Rattle.ld_explain.proofs.Names.{Err, IfOk, IfSome, None, Ok, Option, Result, Some, [], ◌++◌, ◌+◌, ◌<◌, ◌↔◌, ◌∙◌, ◌∷◌, ◌≡◌, ◌≤◌, All, Bool, Dependency, Fact, FactBelow, FactParts, HasFact, Image, IsFalse, List, Marked, RenamedFactsAreTheImage, TracesHave, ap, arith, cases_lt, cond, fact_by, false, if◌then◌else◌, inl, inr, length, length-append, length-map, map, refl, slice_index, slice_index_or, subst, sym, true, true≢false, ℕ}
+use Rattle.ld_explain.proofs.Names.{Err, IfOk, IfSome, None, Ok, Option, Result, Some, [], ◌++◌, ◌+◌, ◌<◌, ◌∙◌, ◌∷◌, ◌≡◌, ◌≤◌, All, Bool, Dependency, Fact, FactBelow, FactParts, HasFact, Image, IsFalse, List, Marked, RenamedFactsAreTheImage, TracesHave, ap, arith, cases_lt, fact_by, false, if◌then◌else◌, inl, inr, length, length-append, length-map, map, refl, slice_index, subst, sym, true, true≢false, ℕ}
 use Rattle.std.proofs.lemmas.List.{get_or_append_left, get_or_push}
 use Rattle.std.specs.Borrow.{Bor}
 use Rattle.std.specs.Prelude.{IsErrAnd, IsSomeAnd, option_map}

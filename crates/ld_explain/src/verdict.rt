@@ -39,13 +39,7 @@ impl Verdict {
             Between::Perhaps(_) => 1,
             Between::Unknown => 2,
             Between::Classes => 3,
-            Between::Types => {
-                if self.finding.is_nesting() {
-                    NOTE
-                } else {
-                    4
-                }
-            }
+            Between::Types => { if self.finding.is_nesting() { NOTE } else { 4 } }
         }
     }
 

@@ -59,7 +59,10 @@ impl Wording<'_> {
         match finding {
             Finding::Circle { walk, .. } => self.add_orders(text, walk),
             Finding::Double {
-                irq, used, enabled, ..
+                irq,
+                used,
+                enabled,
+                ..
             } => self.add_uses(text, *irq, *used, *enabled),
             Finding::Inversion {
                 irq,
@@ -89,7 +92,11 @@ impl Wording<'_> {
                 self.add_interrupt(text, *irq, *key)
             }
             Finding::Inversion {
-                irq, a, b, walk, ..
+                irq,
+                a,
+                b,
+                walk,
+                ..
             } => {
                 self.add_holder(text, *b)?;
                 self.add_waits(text, 2, walk)?;

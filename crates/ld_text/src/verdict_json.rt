@@ -232,11 +232,7 @@ impl VerdictWording<'_> {
     }
 
     // A verdict.
-    pub(crate) fn write_verdict_object(
-        &self,
-        w: &mut Writer,
-        v: &Verdict,
-    ) -> Result<(), AllocError>
+    pub(crate) fn write_verdict_object(&self, w: &mut Writer, v: &Verdict) -> Result<(), AllocError>
         ensures { OnOk result (Adds w.old w.new (object (verdict_members self.now.types.now self.now.locks.now v.now))) }
     {
         w.begin_object()?;

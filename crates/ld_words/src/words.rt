@@ -22,9 +22,9 @@ pub enum Line<'a> {
         many: bool,
         files: Vec<&'a str>,
     },
-    /// What was found in these traces, and the records that cause it; as JSON if `json` is set. If `locks` or `confirmed_only` is
-    /// set, what was found between types of locks, each with what it was seen between; if `confirmed_only` is, the status is that of
-    /// what was seen between single locks.
+    /// What was found in these traces, and the records that cause it; as JSON if `json` is set. If `locks` or
+    /// `confirmed_only` is set, what was found between types of locks, each with what it was seen between; if
+    /// `confirmed_only` is, the status is that of what was seen between single locks.
     Explain {
         workers: u16,
         many: bool,
@@ -125,7 +125,7 @@ fn locks_option<'a>(alloc: Global) -> Arg<'a>
     Arg::new(alloc, "locks")
         .long("locks")
         .action(ArgAction::SetTrue)
-        .help("Say of each finding whether it was seen between single locks (NAME#1, NAME#2), and take up to 8192 names")
+        .help("Say whether single locks make a finding; take up to 8192 names")
 }
 
 // Whether the status is that of what was seen between single locks, `--confirmed-only`.
@@ -136,7 +136,7 @@ fn confirmed_option<'a>(alloc: Global) -> Arg<'a>
     Arg::new(alloc, "confirmed-only")
         .long("confirmed-only")
         .action(ArgAction::SetTrue)
-        .help("As --locks, with status 1 only if a finding was seen between single locks, or isn't known")
+        .help("As --locks, with status 1 only for what single locks make")
 }
 
 // Whether only findings are asked for, `--findings`.

@@ -41,13 +41,15 @@ const NOT_CLEAN: u8 = 1;
 
 /// The program. The words begin with its name, `input` stands for standard input, `out` for standard output and `err` for
 /// standard error. `lockdep check [--workers N] [--many] [FILE...]` writes the report of the traces in these files, `lockdep
-/// explain [--json]` what was found in them and the records that it comes from, with `--locks` what each finding was seen between, `lockdep graph [--findings]` a picture of their
-/// facts, `lockdep condense` one trace that has exactly their facts, and `lockdep chains [FILE]` the chains of a trace. Without a
-/// file one trace is read from the input. Each file is opened and read before the next one is. `lockdep --version` writes the
-/// version, and `lockdep help` how the program is called.
+/// explain [--json]` what was found in them and the records that it comes from, with `--locks` or `--confirmed-only` what
+/// each finding was seen between, `lockdep graph [--findings]` a picture of their facts, `lockdep condense` one trace that
+/// has exactly their facts, and `lockdep chains [FILE]` the chains of a trace. Without a file one trace is read from the
+/// input. Each file is opened and read before the next one is. `lockdep --version` writes the version, and `lockdep help`
+/// how the program is called.
 ///
 /// The status is 0 if the facts are clean, if the condensed trace or the chains were written, or if help or the version was
-/// asked for; 1 if a report, an explanation or a picture was written of facts that aren't clean; and 2 if the program refused.
+/// asked for; 1 if a report, an explanation or a picture was written of facts that aren't clean, or verdicts of which one
+/// counts; and 2 if the program refused.
 /// Then exactly one line is written to `err`, and otherwise none; if `err` fails, that is ignored. This project's own.
 pub fn program<R: Files + Threads + Wait + Sync, I: Read + Drop, O: Write, E: Write>(
     rt: &R,

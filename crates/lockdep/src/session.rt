@@ -167,12 +167,12 @@ impl Session {
         Ok(settled.is_clean())
     }
 
-    /// Checks all traces by `workers` workers, writes the findings between types of their locks, each with what it was seen between,
-    /// and returns whether one of them counts: all but notes do, or if `confirmed_only` is set, what was seen between single locks
-    /// and what isn't known. `files` are the names of the traces. The session is consumed in every case.
+    /// Checks all traces by `workers` workers, writes the findings between types of their locks, each with what it was
+    /// seen between, and returns whether one of them counts: all but notes do, or if `confirmed_only` is set, what was
+    /// seen between single locks and what isn't known. `files` are the names of the traces. The session is consumed in
+    /// every case.
     ///
-    /// Refusals are those of `write` for an explanation, but that M1 means that more than 256 types lead to one another, whatever
-    /// the number of keys.
+    /// Refusals are those of `write` for an explanation, but that M1 means that more than 256 types lead to one another.
     pub fn write_verdicts<R: Threads + Sync, W: Write>(
         self,
         rt: &R,

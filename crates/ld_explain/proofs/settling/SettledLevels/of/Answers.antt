@@ -1,4 +1,4 @@
-use Rattle.ld_explain.proofs.Names.{Err, ◌<◌, ◌∙◌, HasFact, IfOk-weaker, TracesHave, ap, arith, inl, inr, length, slice_index, subst, sym}
+use Rattle.ld_explain.proofs.Names.{Err, ◌∙◌, HasFact, IfOk-weaker, TracesHave, ap, arith, inl, inr, length, slice_index, subst, sym}
 use Rattle.ld_facts.specs.Facts.{AreSame}
 use Rattle.ld_parts.specs.declared.parting_fault.PartingFault.TheVariants.{TooTangled}
 use Rattle.ld_explain.specs.Settling.{IsSure}
