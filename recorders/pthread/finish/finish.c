@@ -82,7 +82,7 @@ static void tell_losses(FILE *file) {
     tell_loss(file, "retried-tries", raw->retried,
               "tries of a lock right after one that failed, with other locks held: a thread that waits so is in no trace");
     tell_loss(file, "reentered", raw->reentered,
-              "calls from a signal handler that interrupted the recorder: an order among them may be missing");
+              "calls from a signal handler that interrupted the recorder, or that one left by a jump: an order among them may be missing");
     tell_loss(file, "unseen-releases", raw->releases,
               "releases of locks that the thread wasn't seen to take: another thread, or nobody, was seen to hold them");
     tell_loss(file, "deep-binding", sum_of(deep_bound),

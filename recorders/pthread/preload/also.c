@@ -57,7 +57,7 @@ static void end_once(struct once *once) {
 static inline void found_done(uintptr_t control, struct call call) {
     if (LIKELY(!is_any_held()))
         return;
-    acquired(control, MODE_WRITE, true, call);
+    acquired(control, MODE_WRITE, KIND_RECURSIVE, call);
     releasing(control, call);
 }
 
@@ -72,7 +72,7 @@ static inline void found_done(uintptr_t control, struct call call) {
             return REAL(name)(control, routine);                                                                       \
         }                                                                                                              \
         struct once once __attribute__((cleanup(end_once))) = {(uintptr_t)control, HERE, routine, false, running};     \
-        once.is_recorded = begin_wish(once.control, MODE_WRITE, once.call);                                            \
+        once.is_recorded = begin_wish(once.control, MODE_WRITE, KIND_RECURSIVE, once.call);                            \
         running = &once;                                                                                               \
         return REAL(name)(control, run_once);                                                                          \
     }
@@ -155,7 +155,7 @@ EXPORT int __cxa_guard_acquire(guard *g) {
         found_done((uintptr_t)g, HERE);
         return real_acquire(g);
     }
-    bool is_recorded = begin_wish((uintptr_t)g, MODE_WRITE, HERE);
+    bool is_recorded = begin_wish((uintptr_t)g, MODE_WRITE, KIND_RECURSIVE, HERE);
     int is_ours = real_acquire(g);
     if (is_recorded) {
         end_wish((uintptr_t)g, true, HERE);
@@ -214,6 +214,8 @@ EXPORT void *dlmopen(Lmid_t space, const char *name, int mode) {
 __attribute__((destructor)) static void at_end(void) {
     if (LOAD(&has_opened) && is_recording())
         note_modules();
+    if (is_recording())
+        end_own_wishes(HERE);
 }
 
 /* A library that goes takes its addresses with it. */
@@ -221,14 +223,13 @@ EXPORT int dlclose(void *handle) {
     begin_once();
     if (!is_recording())
         return REAL(dlclose)(handle);
-    acquired((uintptr_t)&loader, MODE_WRITE, true, HERE);
+    acquired((uintptr_t)&loader, MODE_WRITE, KIND_RECURSIVE, HERE);
     int answer = REAL(dlclose)(handle);
     releasing((uintptr_t)&loader, HERE);
-    if (!busy) {
+    if (begin_inside(HERE)) {
         int saved = errno;
-        busy = true;
         forget_closed_modules();
-        busy = false;
+        end_inside();
         errno = saved;
     }
     return answer;
@@ -277,7 +278,7 @@ EXPORT int sem_destroy(sem_t *lock) {
     bool is_seen = SEMAPHORES;
     int answer = REAL(sem_destroy)(lock);
     if (is_seen && answer == 0)
-        destroyed((uintptr_t)lock);
+        destroyed((uintptr_t)lock, HERE);
     return answer;
 }
 
@@ -288,14 +289,14 @@ EXPORT int sem_destroy(sem_t *lock) {
             return REAL(name) arguments;                                                                               \
         int saved = errno, answer = REAL(sem_trywait)(lock);                                                           \
         if (answer == 0) {                                                                                             \
-            acquired((uintptr_t)lock, MODE_WRITE, false, HERE);                                                        \
+            acquired((uintptr_t)lock, MODE_WRITE, KIND_COUNTED, HERE);                                                 \
             return 0;                                                                                                  \
         }                                                                                                              \
         errno = saved;                                                                                                 \
-        bool is_wish = begin_wish((uintptr_t)lock, MODE_WRITE, HERE);                                                  \
+        bool is_wish = begin_wish((uintptr_t)lock, MODE_WRITE, KIND_COUNTED, HERE);                                    \
         answer = REAL(name) arguments;                                                                                 \
-        if (is_wish)                                                                                                   \
-            end_wish((uintptr_t)lock, answer == 0, HERE);                                                              \
+        if (is_wish ? !end_wish((uintptr_t)lock, answer == 0, HERE) : answer == 0)                                     \
+            acquired((uintptr_t)lock, MODE_WRITE, KIND_COUNTED, HERE);                                                 \
         return answer;                                                                                                 \
     }
 
@@ -307,9 +308,9 @@ EXPORT int sem_trywait(sem_t *lock) {
     bool is_seen = SEMAPHORES;
     int answer = REAL(sem_trywait)(lock);
     if (is_seen)
-        tried((uintptr_t)lock, answer != 0);
+        tried((uintptr_t)lock, answer != 0, HERE);
     if (is_seen && answer == 0)
-        acquired((uintptr_t)lock, MODE_TRY_WRITE, false, HERE);
+        acquired((uintptr_t)lock, MODE_TRY_WRITE, KIND_COUNTED, HERE);
     return answer;
 }
 
@@ -323,12 +324,12 @@ EXPORT void flockfile(FILE *lock) {
     if (!STREAMS) {
         REAL(flockfile)(lock);
     } else if (REAL(ftrylockfile)(lock) == 0) {
-        acquired((uintptr_t)lock, MODE_WRITE, true, HERE);
+        acquired((uintptr_t)lock, MODE_WRITE, KIND_RECURSIVE, HERE);
     } else {
-        bool is_wish = begin_wish((uintptr_t)lock, MODE_WRITE, HERE);
+        bool is_wish = begin_wish((uintptr_t)lock, MODE_WRITE, KIND_RECURSIVE, HERE);
         REAL(flockfile)(lock);
-        if (is_wish)
-            end_wish((uintptr_t)lock, true, HERE);
+        if (!is_wish || !end_wish((uintptr_t)lock, true, HERE))
+            acquired((uintptr_t)lock, MODE_WRITE, KIND_RECURSIVE, HERE);
     }
 }
 
@@ -336,7 +337,7 @@ EXPORT int ftrylockfile(FILE *lock) {
     bool is_seen = STREAMS;
     int answer = REAL(ftrylockfile)(lock);
     if (is_seen && answer == 0)
-        acquired((uintptr_t)lock, MODE_TRY_WRITE, true, HERE);
+        acquired((uintptr_t)lock, MODE_TRY_WRITE, KIND_RECURSIVE, HERE);
     return answer;
 }
 

@@ -313,13 +313,16 @@ bool revived(void) {
     return true;
 }
 
-/* In a child, unless one of the program's own handlers of forks has taken a lock before. */
+/* In a child. If one of the program's own handlers of forks has taken a lock before, the child has begun already, and others may have
+   assigned to locks since. */
 void begin_in_fork(void) {
     if (alive == &not_alive)
         return;
     struct raw_process *process = own_process ? part_of(RAW_PROCESSES, own_process) : NULL;
     if (!process || process->id != process_id())
         after_fork_in_child();
+    else
+        look_at_inherited(HERE);
 }
 
 static void begin(void) {
@@ -354,9 +357,9 @@ void begin_now(void) {
     if (!SWAP(&begin_state, &state, BEGIN_UNDER_WAY))
         return;
     int saved = errno;
-    busy = true;
+    begin_inside(HERE);
     begin();
-    busy = false;
+    end_inside();
     errno = saved;
     STORE(&begin_state, BEGIN_DONE);
 }

@@ -69,9 +69,9 @@ static inline bool took(int answer) { return answer == 0 || answer == EOWNERDEAD
         if (!real)                                                                                                     \
             return 0;                                                                                                  \
         int answer = real arguments;                                                                                   \
-        tried((uintptr_t)lock, !took(answer));                                                                         \
+        tried((uintptr_t)lock, !took(answer), HERE);                                                                         \
         if (took(answer))                                                                                              \
-            acquired((uintptr_t)lock, mode, IS_EXCLUSIVE(lock), HERE);                                                 \
+            acquired((uintptr_t)lock, mode, KIND_OF(lock), HERE);                                                 \
         return answer;                                                                                                 \
     }
 
@@ -85,18 +85,18 @@ static inline bool took(int answer) { return answer == 0 || answer == EOWNERDEAD
         int answer = is_sound ? real_try(lock) : taken;                                                                \
         if (answer != taken) {                                                                                         \
             if (took(answer))                                                                                          \
-                acquired((uintptr_t)lock, mode, IS_EXCLUSIVE(lock), HERE);                                             \
+                acquired((uintptr_t)lock, mode, KIND_OF(lock), HERE);                                             \
             return answer;                                                                                             \
         }                                                                                                              \
-        bool is_wish = begin_wish((uintptr_t)lock, mode, HERE);                                                        \
+        bool is_wish = begin_wish((uintptr_t)lock, mode, KIND_OF(lock), HERE);                                         \
         answer = REAL(name) arguments;                                                                                 \
-        if (is_wish)                                                                                                   \
-            end_wish((uintptr_t)lock, took(answer), HERE);                                                             \
+        if (is_wish ? !end_wish((uintptr_t)lock, took(answer), HERE) : took(answer))                                   \
+            acquired((uintptr_t)lock, mode, KIND_OF(lock), HERE);                                                      \
         return answer;                                                                                                 \
     }
 
-/* A mutex that its holder takes again is a recursive one, and is taken once. */
-#define IS_EXCLUSIVE(lock) _Generic((lock), pthread_mutex_t *: true, mtx_t *: true, default: false)
+#define KIND_OF(lock)                                                                                                  \
+    _Generic((lock), pthread_mutex_t *: KIND_MUTEX, mtx_t *: KIND_MUTEX, pthread_rwlock_t *: KIND_RWLOCK, default: KIND_SPIN)
 
 #define RELEASING(name, type)                                                                                          \
     EXPORT int name(type *lock) {                                                                                      \
@@ -105,7 +105,7 @@ static inline bool took(int answer) { return answer == 0 || answer == EOWNERDEAD
             return 0;                                                                                                  \
         if (KNOWS_OWNER(lock)) {                                                                                       \
             if (RARELY(!releasing_own((uintptr_t)lock, HERE)))                                                         \
-                return release_unseen((int (*)(void *))real, (void *)lock);                                            \
+                return release_unseen((int (*)(void *))real, (void *)lock, HERE);                                          \
         } else {                                                                                                       \
             releasing((uintptr_t)lock, HERE);                                                                          \
         }                                                                                                              \
@@ -114,22 +114,20 @@ static inline bool took(int answer) { return answer == 0 || answer == EOWNERDEAD
 
 /* A mutex that refuses to be released by a thread that didn't take it: one that is recursive, checked, robust, or lends its holder a
    priority. */
-#define IS_MUTEX(lock) IS_EXCLUSIVE(lock)
-#define KNOWS_OWNER(lock) (IS_MUTEX(lock) && knows_owner((const pthread_mutex_t *)(lock)))
+#define KNOWS_OWNER(lock) (KIND_OF(lock) == KIND_MUTEX && knows_owner((const pthread_mutex_t *)(lock)))
 
-#define KIND_BITS 3
 #define ROBUST_OR_LENDING (16 | 32)
 
 static inline bool knows_owner(const pthread_mutex_t *lock) {
-    int kind = lock->__data.__kind, basic = kind & KIND_BITS;
+    int kind = lock->__data.__kind, basic = kind & MUTEX_KIND_BITS;
     return basic == PTHREAD_MUTEX_RECURSIVE_NP || basic == PTHREAD_MUTEX_ERRORCHECK_NP || kind & ROBUST_OR_LENDING;
 }
 
 /* Of a mutex that knows its owner, which this thread wasn't seen to be: a call that fails ends nobody's hold. */
-__attribute__((noinline)) static int release_unseen(int (*release)(void *), void *lock) {
+__attribute__((noinline)) static int release_unseen(int (*release)(void *), void *lock, struct call call) {
     int answer = release(lock);
     if (answer == 0)
-        released_unseen();
+        released_unseen(call);
     return answer;
 }
 
@@ -139,7 +137,7 @@ __attribute__((noinline)) static int release_unseen(int (*release)(void *), void
             return 0;                                                                                                  \
         int answer = REAL(name)(lock);                                                                                 \
         if (answer == 0)                                                                                               \
-            destroyed((uintptr_t)lock);                                                                                \
+            destroyed((uintptr_t)lock, HERE);                                                                          \
         return answer;                                                                                                 \
     }
 
@@ -167,8 +165,6 @@ RELEASING(pthread_mutex_unlock, pthread_mutex_t)
 static uint8_t reads(const pthread_rwlock_t *lock) {
     return lock->__data.__flags == PTHREAD_RWLOCK_PREFER_WRITER_NONRECURSIVE_NP ? MODE_READ : MODE_REC_READ;
 }
-
-#define TRIES (MODE_TRY_WRITE - MODE_WRITE)
 
 INITIALISING(pthread_rwlock_init, pthread_rwlock_t, const pthread_rwlockattr_t *how, how)
 DESTROYING(pthread_rwlock_destroy, pthread_rwlock_t)
@@ -202,7 +198,7 @@ EXPORT void mtx_destroy(mtx_t *lock) {
     if (!resolved())
         return;
     REAL(mtx_destroy)(lock);
-    destroyed((uintptr_t)lock);
+    destroyed((uintptr_t)lock, HERE);
 }
 
 TAKING(mtx_lock, mtx_trylock, thrd_busy, MODE_WRITE, true, (mtx_t * lock), (lock))
@@ -228,7 +224,7 @@ static void begin_wait(struct waiting *w, bool is_sound) {
 static void end_wait(void *value) {
     struct waiting *w = value;
     if (w->is_released)
-        acquired(w->lock, MODE_WRITE, true, w->call);
+        acquired(w->lock, MODE_WRITE, KIND_MUTEX, w->call);
 }
 
 #define WAITING(name, is_sound, parameters, arguments)                                                                 \

@@ -138,12 +138,10 @@ static uint32_t place_here(struct call call) {
     return place_of(&stack);
 }
 
-/* ---- What the library keeps of each class and of each object, in blocks that are made when they are needed. */
+/* ---- What the library keeps of each class, in blocks that are made when they are needed. */
 
 #define CLASS_BLOCK 4
 #define CLASS_BLOCKS 16384
-#define OBJECT_BLOCK 64
-#define OBJECT_BLOCKS 65536
 
 struct kept_of_class {
     uint32_t given; /* a bit for each ordinal, 1 being the lowest: a lock has it, or had it once */
@@ -151,7 +149,6 @@ struct kept_of_class {
 };
 
 TABLE(struct kept_of_class *, class_blocks, 8, CLASS_BLOCKS);
-TABLE(uint32_t *, object_blocks, 8, OBJECT_BLOCKS);
 
 static void *block_at(void **at, size_t bytes) {
     void *block = LOAD(at);
@@ -165,13 +162,6 @@ static struct kept_of_class *kept_of(uint32_t class) {
     uint32_t which = class / CLASS_BLOCK % CLASS_BLOCKS;
     struct kept_of_class *block = block_at((void **)NTH(class_blocks, which), sizeof *block * CLASS_BLOCK);
     return block ? &block[class % CLASS_BLOCK] : NULL;
-}
-
-/* How often the object was released by somebody who wasn't seen to hold it. */
-uint32_t *foreign_releases(uint32_t object) {
-    uint32_t which = object / OBJECT_BLOCK % OBJECT_BLOCKS;
-    uint32_t *block = block_at((void **)NTH(object_blocks, which), sizeof *block * OBJECT_BLOCK);
-    return block ? &block[object % OBJECT_BLOCK] : NULL;
 }
 
 /* ---- Classes. */

@@ -57,7 +57,7 @@ static struct file_lock *lock_at(uint32_t file, uint64_t from) {
 /* The lock of a descriptor's file. It asks the system, with errno as it was. */
 static uint32_t known_file_of(int descriptor) {
     int saved = errno;
-    uint32_t file = busy ? 0 : file_of(descriptor);
+    uint32_t file = is_inside() ? 0 : file_of(descriptor);
     errno = saved;
     return file;
 }
@@ -112,14 +112,14 @@ static uint8_t mode_of(const struct request *r) {
 /* After the try. Whether the lock is to be waited for. */
 static bool end_try(struct request *r, bool is_taken) {
     if (is_taken) {
-        acquired((uintptr_t)r->lock, mode_of(r), true, r->call);
+        acquired((uintptr_t)r->lock, mode_of(r), KIND_RECURSIVE, r->call);
         note_taken(r->lock, r->descriptor);
         return false;
     }
     bool is_busy = errno == EAGAIN || errno == EACCES;
     if (!r->may_wait || !is_busy)
         return false;
-    r->is_wish = begin_wish((uintptr_t)r->lock, mode_of(r), r->call);
+    r->is_wish = begin_wish((uintptr_t)r->lock, mode_of(r), KIND_RECURSIVE, r->call);
     return true;
 }
 

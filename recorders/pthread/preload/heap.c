@@ -197,12 +197,23 @@ void drop_piece(uintptr_t address, size_t size) {
         taken_piece(address);
 }
 
-static void forget_piece(uintptr_t address, uint64_t about) {
+static void forget_locks(uintptr_t address, uint64_t about) {
     uint64_t locks = locks_of(about);
-    if (RARELY(locks == SOME_LOCKS))
+    if (locks == SOME_LOCKS)
         drop_locks_between(address, address + (about >> SIZE_SHIFT));
-    else if (RARELY(locks))
+    else if (locks)
         drop_lock(address + (locks - 1) * 4);
+}
+
+/* What the thread holds of the locks in memory that it gives back, from `kept` bytes on. */
+static void end_holds(uintptr_t address, size_t kept, uint64_t about, uintptr_t caller) {
+    if (locks_of(about) && is_any_held() && kept < about >> SIZE_SHIFT)
+        given_back(address + kept, address + (about >> SIZE_SHIFT), caller);
+}
+
+__attribute__((noinline)) static void end_locks(uintptr_t address, uint64_t about, uintptr_t caller) {
+    forget_locks(address, about);
+    end_holds(address, 0, about, caller);
 }
 
 /* ---- The piece of a lock. */
@@ -342,7 +353,9 @@ static inline uint64_t taken_if_noted(void *piece) { return arena && piece ? tak
 EXPORT void free(void *piece) {
     if (RARELY(is_early(piece)) || !resolved())
         return;
-    forget_piece((uintptr_t)piece, taken_if_noted(piece));
+    uint64_t about = taken_if_noted(piece);
+    if (RARELY(locks_of(about)))
+        end_locks((uintptr_t)piece, about, CALLER);
     real_free(piece);
 }
 
@@ -353,11 +366,14 @@ static void *grown_early(void *piece, size_t size) {
     return made ? memcpy(made, piece, had < size ? had : size) : NULL;
 }
 
-/* The locks in it are forgotten first, since the memory may be another thread's as soon as it is given back. */
+/* The locks in it are forgotten first, since the memory may be another thread's as soon as it is given back. What isn't given back may
+   have one that this thread holds. */
 static void *reallocated(void *piece, size_t size, uint64_t element, struct call call) {
     uint64_t about = taken_if_noted(piece);
-    forget_piece((uintptr_t)piece, about);
+    forget_locks((uintptr_t)piece, about);
     void *made = real_realloc(piece, size);
+    if (made || !size)
+        end_holds((uintptr_t)piece, made == piece ? size : 0, about, call.caller);
     if (!made && size && about) {
         put_piece((uintptr_t)piece, about & ~ALL_LOCKS);
         if (about >> SIZE_SHIFT >= LONG_PIECE)

@@ -160,25 +160,28 @@ static void note_mapped(void *at, size_t bytes, int rights, int how, int file, u
 }
 
 /* Whether this call is to be noted. A signal's handler that comes meanwhile isn't. */
-static bool begin_note(void) {
-    if (!arena || busy)
-        return false;
-    busy = true;
-    return true;
-}
+static bool begin_note(struct call call) { return arena && begin_inside(call); }
 
 static void end_note(int saved) {
-    busy = false;
+    end_inside();
     errno = saved;
+}
+
+/* After locks' memory was given back, by a call that has succeeded. */
+static inline void end_holds(uintptr_t from, size_t bytes, uintptr_t caller) {
+    if (RARELY(is_any_held()))
+        given_back(from, from + bytes, caller);
 }
 
 static void *mapped(void *at, size_t bytes, int rights, int how, int file, off_t offset, struct call call) {
     void *made = REAL(mmap)(at, bytes, rights, how, file, offset);
     int saved = errno;
-    if (made != MAP_FAILED && begin_note()) {
+    if (made != MAP_FAILED && begin_note(call)) {
         note_mapped(made, whole_pages(bytes), rights, how, file, (uint64_t)offset, call);
         end_note(saved);
     }
+    if (made != MAP_FAILED && (how & MAP_FIXED))
+        end_holds((uintptr_t)made, whole_pages(bytes), call.caller);
     return made;
 }
 
@@ -192,11 +195,14 @@ EXPORT void *mmap64(void *at, size_t bytes, int rights, int how, int file, off64
 
 /* What is unmapped is forgotten first, since the memory may be another thread's at once. */
 EXPORT int munmap(void *from, size_t bytes) {
-    if (begin_note()) {
+    if (begin_note(HERE)) {
         forget_mapped((uintptr_t)from, whole_pages(bytes));
         end_note(errno);
     }
-    return REAL(munmap)(from, bytes);
+    int answer = REAL(munmap)(from, bytes);
+    if (answer == 0)
+        end_holds((uintptr_t)from, whole_pages(bytes), CALLER);
+    return answer;
 }
 
 /* The locks in memory that is moved are known anew when they are taken next; shared memory stays what it is. */
@@ -221,10 +227,12 @@ EXPORT void *mremap(void *from, size_t had, size_t bytes, int how, ...) {
     va_end(more);
     void *made = REAL(mremap)(from, had, bytes, how, to);
     int saved = errno;
-    if (made != MAP_FAILED && begin_note()) {
+    if (made != MAP_FAILED && begin_note(HERE)) {
         note_moved((uintptr_t)from, whole_pages(had), (uintptr_t)made, whole_pages(bytes), HERE);
         end_note(saved);
     }
+    if (made != MAP_FAILED && made != from)
+        end_holds((uintptr_t)from, whole_pages(had), CALLER);
     return made;
 }
 
@@ -232,7 +240,7 @@ EXPORT void *shmat(int number, const void *at, int how) {
     void *made = REAL(shmat)(number, at, how);
     int saved = errno;
     struct shmid_ds about;
-    if (made != (void *)-1 && begin_note()) {
+    if (made != (void *)-1 && begin_note(HERE)) {
         uint32_t file = shmctl(number, IPC_STAT, &about) == 0 ? numbered_memory(number, (unsigned)about.shm_perm.__key) : 0;
         if (file)
             put_region((uintptr_t)made, (uintptr_t)made + whole_pages(about.shm_segsz), file, 0);
@@ -250,9 +258,12 @@ static uintptr_t region_end(uintptr_t from) {
 
 EXPORT int shmdt(const void *from) {
     uintptr_t end = region_end((uintptr_t)from);
-    if (end > (uintptr_t)from && begin_note()) {
+    if (end > (uintptr_t)from && begin_note(HERE)) {
         forget_mapped((uintptr_t)from, end - (uintptr_t)from);
         end_note(errno);
     }
-    return REAL(shmdt)(from);
+    int answer = REAL(shmdt)(from);
+    if (answer == 0)
+        end_holds((uintptr_t)from, end - (uintptr_t)from, CALLER);
+    return answer;
 }

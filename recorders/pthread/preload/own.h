@@ -3,7 +3,7 @@
    The rules that keep a recorder out of its program's way:
    - No descriptor is kept. After a thread's start no system call is made for recording, apart from what dlopen and dlclose bring.
    - No lock is taken. What threads share is changed by single atomic operations, so a signal handler that jumps away, a fork, or
-     a thread that dies leaves nothing locked.
+     a thread that dies leaves nothing locked. If a jump leaves the recorder itself, the thread's next call mends its records.
    - No memory is taken from malloc. The library's own is among its variables, and in one mapping that is made at the start.
    - A signal handler that interrupts the recorder and takes a lock is passed through and counted.
    - errno is left as it was. */
@@ -182,6 +182,8 @@ void forget_rules(void);
 extern uint32_t rules_epoch; /* changes when a library is closed */
 bool is_in_stack(struct call call, uint32_t from_frame);
 bool has_returned(struct call call, struct call earlier, uintptr_t function); /* which was called there, further up on the stack */
+bool is_left(struct call call, struct call earlier); /* a jump has left that call of a function of ours */
+bool has_word(uintptr_t address, uint32_t word);
 
 /* ---- frames.c */
 
@@ -247,7 +249,6 @@ static inline uint32_t class_of(uint32_t object) { return ((struct raw_object *)
 bool is_mapped_place(uint32_t place);
 void note_size(uint32_t place, uint64_t bytes);
 void look_at_taker(uint32_t class, struct call call);
-uint32_t *foreign_releases(uint32_t object);
 void know_by_place(uintptr_t lock, struct call call);
 void know_by_file(uintptr_t lock, uint32_t file, uint64_t offset);
 void forget_own_lock(uintptr_t lock); /* whose thread has ended */
@@ -255,18 +256,34 @@ void forget_places_in_closed_modules(void);
 
 /* ---- threads.c */
 
-extern EARLY_THREAD_LOCAL volatile bool busy;
+#define TRIES (MODE_TRY_WRITE - MODE_WRITE) /* from a mode to that of a try */
 
+/* What is taken, which says what it means if its thread has it already. A mutex says itself whether it is recursive. */
+#define MUTEX_KIND_BITS 3 /* of what a mutex says */
+enum kind {
+    KIND_MUTEX,
+    KIND_RWLOCK,
+    KIND_SPIN,
+    KIND_RECURSIVE, /* it is the same hold, once more */
+    KIND_COUNTED,   /* each time is a hold of its own */
+};
+
+bool begin_inside(struct call call);
+void end_inside(void);
+bool is_inside(void);
 bool is_recording(void);
-void acquired(uintptr_t lock, uint8_t mode, bool exclusive, struct call call);
-bool begin_wish(uintptr_t lock, uint8_t mode, struct call call);
-void end_wish(uintptr_t lock, bool is_taken, struct call call);
+void acquired(uintptr_t lock, uint8_t mode, enum kind kind, struct call call);
+bool begin_wish(uintptr_t lock, uint8_t mode, enum kind kind, struct call call);
+bool end_wish(uintptr_t lock, bool is_taken, struct call call);
 void releasing(uintptr_t lock, struct call call);
 bool releasing_own(uintptr_t lock, struct call call);
-void released_unseen(void);
+void released_unseen(struct call call);
 void initialised(uintptr_t lock, struct call call);
-void destroyed(uintptr_t lock);
-void tried(uintptr_t lock, bool has_failed);
+void destroyed(uintptr_t lock, struct call call);
+void given_back(uintptr_t from, uintptr_t to, uintptr_t caller);
+void look_at_inherited(struct call call);
+void end_own_wishes(struct call call);
+void tried(uintptr_t lock, bool has_failed, struct call call);
 bool is_held_once(uintptr_t lock);
 bool is_any_held(void);
 void note_own_lock(uintptr_t lock);

@@ -6,6 +6,7 @@
 
 #include <errno.h>
 #include <linux/futex.h>
+#include <signal.h>
 #include <string.h>
 #include <sys/syscall.h>
 #include <unistd.h>
@@ -13,6 +14,15 @@
 uint32_t rules_epoch;
 
 void forget_rules(void) { ADD(&rules_epoch, 1); }
+
+/* Whether a word stands there, in memory that may be unmapped: the system looks, by a wait for another word that may take no time. */
+bool has_word(uintptr_t address, uint32_t word) {
+    static const struct timespec no_time = {0, 0};
+    int saved = errno;
+    bool is_other = SYSTEM(futex, address, FUTEX_WAIT_PRIVATE, word, &no_time, NULL, 0) != 0 && (errno == EAGAIN || errno == EFAULT);
+    errno = saved;
+    return !is_other;
+}
 
 #ifdef __x86_64__
 
@@ -451,27 +461,46 @@ bool span_around(struct call call, uintptr_t address, struct span *span) {
 
 /* ---- Whether a function that was called earlier has returned. */
 
-/* That stack may be unmapped by now, as a coroutine's is. So the system looks, by a wait for another value that may take no time. */
-static bool still_holds(uintptr_t address, uintptr_t word) {
-    static const struct timespec no_time = {0, 0};
-    int saved = errno;
-    bool is_other = SYSTEM(futex, address, FUTEX_WAIT_PRIVATE, (uint32_t)word, &no_time, NULL, 0) != 0 &&
-                    (errno == EAGAIN || errno == EFAULT);
-    errno = saved;
-    return !is_other;
-}
+enum met { MET, MET_NOT, MET_NOBODY_KNOWS };
 
 /* If the stack can be followed to where the return address was, the function has returned unless that is met there, behind a function of
-   the same module: one of another module was called later at the same place. If it can't, another word there tells it. */
-bool has_returned(struct call call, struct call earlier, uintptr_t function) {
+   the same module: one of another module was called later at the same place. */
+static enum met meets(struct call call, struct call earlier, uintptr_t function) {
     uintptr_t end = earlier.frame + 16, inner;
     struct frame f = first_frame(call);
     do {
         inner = f.caller;
         if (!to_caller(&f))
-            return !still_holds(end - 8, earlier.caller);
+            return MET_NOBODY_KNOWS;
     } while (f.sp < end);
-    return f.sp > end || f.caller != earlier.caller || module_of(inner) != module_of(function);
+    return f.sp > end || f.caller != earlier.caller || module_of(inner) != module_of(function) ? MET_NOT : MET;
+}
+
+/* If it can't be followed, another word there tells it. That stack may be unmapped by now, as a coroutine's is. */
+bool has_returned(struct call call, struct call earlier, uintptr_t function) {
+    enum met met = meets(call, earlier, function);
+    return met == MET_NOBODY_KNOWS ? !has_word(earlier.frame + 8, (uint32_t)earlier.caller) : met == MET_NOT;
+}
+
+/* ---- Whether a jump has left a function of ours. Else who comes now is a signal's handler, perhaps on a stack of its own. */
+
+static bool is_on_stack_of(uintptr_t sp, uintptr_t address) { return address >= sp && address < known_stack_end(sp); }
+
+/* That stack may be a variable of a function's further up. */
+static bool is_on_signal_stack(void) {
+    stack_t now = {.ss_flags = 0};
+    int saved = errno;
+    SYSTEM(sigaltstack, NULL, &now);
+    errno = saved;
+    return now.ss_flags & SS_ONSTACK;
+}
+
+bool is_left(struct call call, struct call earlier) {
+    if (call.frame >= earlier.frame)
+        return is_on_stack_of(earlier.frame, call.frame) && !is_on_signal_stack();
+    if (!is_on_stack_of(call.frame, earlier.frame))
+        return false;
+    return word_at(earlier.frame + 8) != earlier.caller || meets(call, earlier, (uintptr_t)is_left) == MET_NOT;
 }
 
 #else
@@ -514,6 +543,10 @@ bool span_around(struct call call, uintptr_t address, struct span *span) {
 bool has_returned(struct call call, struct call earlier, uintptr_t function) {
     (void)call, (void)earlier, (void)function;
     return false;
+}
+
+bool is_left(struct call call, struct call earlier) {
+    return call.frame >= earlier.frame && call.frame < (uintptr_t)__builtin_thread_pointer();
 }
 
 #endif

@@ -14,9 +14,10 @@ struct held {
     uintptr_t lock;
     uint64_t record; /* the number of its record */
     uint64_t fresh_before; /* where the last record of something new ended then */
-    uint32_t object, foreign;
-    uint32_t depth;  /* of a recursive mutex: how often it was taken again */
-    uint8_t mode;
+    uint32_t object;
+    uint32_t released; /* how often others had released the lock when it was taken */
+    uint32_t depth;    /* of a recursive mutex: how often it was taken again */
+    uint8_t mode, kind;
     bool is_written; /* there is a record of it */
     bool is_wish;    /* the thread still waits for it */
 };
@@ -66,6 +67,9 @@ struct thread {
     uintptr_t failed; /* the lock of the last try that failed */
     uint32_t failed_under; /* how many of the locks that were held then are held since: the oldest ones */
     struct loading loading;
+    struct call wish; /* the call in which it waits for a lock, the outermost if a signal's handler waits too; frame 0: in none */
+    uint32_t unnoted; /* so many holds there are without an entry */
+    uint32_t *held_by_trace; /* room for mending; NULL until it is needed */
     uintptr_t own_locks[OWN_LOCKS]; /* the last ones that were met first by it, in its frames or among its own variables; 0: none */
     uint32_t own_lock_count; /* so many there were, with those that aren't here any more */
     struct thread *next;
@@ -79,8 +83,7 @@ struct thread {
 
 static EARLY_THREAD_LOCAL struct thread *own;
 static EARLY_THREAD_LOCAL bool is_ended;
-EARLY_THREAD_LOCAL volatile bool busy;
-static uint32_t foreign_epoch;
+static uint32_t others_epoch; /* changes when a lock is released by a thread that wasn't seen to hold it */
 static pthread_key_t thread_end;
 static bool has_thread_end;
 
@@ -128,8 +131,10 @@ static bool begin_trace(struct thread *t) {
     t->failed = 0;
     t->failed_under = 0;
     t->loading.lock = 0;
+    t->wish.frame = 0;
+    t->unnoted = 0;
     t->destructor_rounds = 0;
-    t->epoch = LOAD(&foreign_epoch);
+    t->epoch = LOAD(&others_epoch);
     STORE(&t->raw->is_ready, 1);
     return true;
 }
@@ -165,6 +170,7 @@ void note_own_lock(uintptr_t lock) {
 }
 
 static void end_loading(struct thread *t);
+static void withdraw_all(struct thread *t, uintptr_t caller);
 
 /* Other destructors of the thread may still lock, so the last round of them is waited for. */
 static void at_thread_end(void *value) {
@@ -176,6 +182,7 @@ static void at_thread_end(void *value) {
         return;
     }
     end_loading(t);
+    withdraw_all(t, CALLER);
     forget_own_locks(t);
     is_ended = true;
     own = NULL;
@@ -183,32 +190,74 @@ static void at_thread_end(void *value) {
     STORE(&t->is_taken, 0);
 }
 
-/* Enters the recorder. NULL if this call isn't to be recorded. */
-static struct thread *enter(void) {
-    if (RARELY(is_ended) || (RARELY(!*alive) && !revived()))
-        return NULL;
-    if (RARELY(busy)) {
-        if (own)
-            own->raw->left_out.reentered++;
-        return NULL;
-    }
-    busy = true;
+/* ---- Inside the recorder. A signal's handler that comes meanwhile isn't recorded, unless a jump has left the call of before. */
+
+/* That call. Its frame is written last, and is 0 if the thread is outside. */
+static EARLY_THREAD_LOCAL volatile uintptr_t inside_caller, inside_frame;
+
+/* Counts what isn't recorded: a handler's call, or the one that a jump has left. */
+static void count_reentered(void) {
+    if (own)
+        own->raw->left_out.reentered++;
+}
+
+static void go_inside(struct call call) {
+    inside_caller = call.caller;
+    inside_frame = call.frame;
     __atomic_signal_fence(__ATOMIC_SEQ_CST);
-    struct thread *t = own;
-    if (RARELY(!t)) {
-        int saved = errno;
-        t = make_thread();
-        errno = saved;
-        if (!t)
-            busy = false;
+}
+
+static void mend(struct thread *t, struct call call);
+
+__attribute__((noinline)) static bool is_inside_left(struct call call) {
+    if (!is_left(call, (struct call){inside_caller, inside_frame}))
+        return false;
+    go_inside(call);
+    count_reentered();
+    if (own && *alive)
+        mend(own, call);
+    return true;
+}
+
+bool is_inside(void) { return inside_frame != 0; }
+
+bool begin_inside(struct call call) {
+    if (RARELY(inside_frame) && !is_inside_left(call))
+        return false;
+    go_inside(call);
+    return true;
+}
+
+void end_inside(void) {
+    __atomic_signal_fence(__ATOMIC_SEQ_CST);
+    inside_frame = 0;
+}
+
+__attribute__((noinline)) static struct thread *enter_unprepared(struct call call) {
+    if (is_ended || (!*alive && !revived()))
+        return NULL;
+    if (!begin_inside(call)) {
+        count_reentered();
+        return NULL;
     }
+    int saved = errno;
+    struct thread *t = own ? own : make_thread();
+    errno = saved;
+    if (!t)
+        end_inside();
     return t;
 }
 
-static void leave(void) {
-    __atomic_signal_fence(__ATOMIC_SEQ_CST);
-    busy = false;
+/* Enters the recorder. NULL if this call isn't to be recorded. */
+static inline struct thread *enter(struct call call) {
+    struct thread *t = own;
+    if (RARELY(!t || !*alive || inside_frame))
+        return enter_unprepared(call);
+    go_inside(call);
+    return t;
 }
+
+static void leave(void) { end_inside(); }
 
 /* ---- Records. */
 
@@ -360,17 +409,38 @@ static void release_at(struct thread *t, uint32_t i, uintptr_t caller) {
         put_record(t, raw_what(gone.object, MODE_RELEASE), cached_place(t, caller));
 }
 
-/* Drops the locks that another thread released meanwhile. */
-static void drop_released(struct thread *t, uintptr_t caller) {
-    t->epoch = LOAD(&foreign_epoch);
-    for (uint32_t i = t->depth; i-- > 0;) {
-        const struct held *h = &t->entries[i].held;
-        const uint32_t *foreign = foreign_releases(h->object);
-        if (foreign && LOAD(foreign) != h->foreign && lock_object(h->lock) == h->object) {
+/* Of locks, by their addresses: how often each was released by a thread that wasn't seen to hold it, and how many holds have ended by that.
+   Such a release ends one hold that had begun before it: whose thread comes first ends it. */
+static struct names released_by_others, ended_by_others;
+
+static uint32_t count_of(struct names *names, uintptr_t lock) {
+    const uint32_t *slot = name_slot(names, lock);
+    return slot ? LOAD(slot) : 0;
+}
+
+static inline uint32_t releases_so_far(uintptr_t lock) { return RARELY(LOAD(&others_epoch)) ? count_of(&released_by_others, lock) : 0; }
+
+static bool is_released_by_other(const struct held *h) {
+    uint32_t released = count_of(&released_by_others, h->lock);
+    uint32_t *ended = released != h->released && !h->is_wish ? added_slot(&ended_by_others, h->lock) : NULL;
+    uint32_t count = ended ? LOAD(ended) : released;
+    while (count != released)
+        if (SWAP(ended, &count, count + 1))
+            return true;
+    return false;
+}
+
+__attribute__((noinline)) static void drop_released(struct thread *t, uintptr_t caller) {
+    t->epoch = LOAD(&others_epoch);
+    for (uint32_t i = t->depth; i-- > 0;)
+        if (is_released_by_other(&t->entries[i].held))
             release_at(t, i, caller);
-            i = t->depth;
-        }
-    }
+}
+
+/* Ends what another thread has released meanwhile. */
+static inline void look_at_others(struct thread *t, uintptr_t caller) {
+    if (RARELY(t->epoch != __atomic_load_n(&others_epoch, __ATOMIC_RELAXED)))
+        drop_released(t, caller);
 }
 
 /* The newest held entry of a lock, or RAW_HELD. */
@@ -382,14 +452,13 @@ static uint32_t find_held(const struct thread *t, uintptr_t lock) {
 }
 
 /* Somebody releases a lock that this thread wasn't seen to take: it may be one that another thread holds. */
-static void released_foreign(struct thread *t, uintptr_t lock) {
+static void release_others(struct thread *t, uintptr_t lock) {
     t->raw->left_out.releases++;
-    uint32_t object = lock_object(lock), *foreign = object ? foreign_releases(object) : NULL;
-    if (foreign) {
-        ADD(foreign, 1);
-        ADD(&foreign_epoch, 1);
-    }
-    t->epoch = LOAD(&foreign_epoch) - 1;
+    uint32_t *released = added_slot(&released_by_others, lock);
+    if (!released)
+        return;
+    ADD(released, 1);
+    __atomic_fetch_add(&others_epoch, 1, __ATOMIC_RELEASE);
 }
 
 static void end_loading(struct thread *t) {
@@ -401,25 +470,37 @@ static void end_loading(struct thread *t) {
     release_at(t, i, t->loading.call.caller);
 }
 
-__attribute__((noinline)) static void end_loading_if_returned(struct thread *t, struct call call) {
+static void end_loading_if_returned(struct thread *t, struct call call) {
     if (call.frame >= t->loading.call.frame || has_returned(call, t->loading.call, t->loading.function))
         end_loading(t);
 }
 
-/* The loader's lock is given back when its holder comes first after that. */
-static inline void leave_loader(struct thread *t, struct call call) {
-    if (RARELY(t->loading.lock))
+static void end_left_wishes(struct thread *t, struct call call);
+
+/* What the thread was in when it came last, and has left. The loader's lock is given back when its holder comes first after that. */
+__attribute__((noinline)) static void end_what_is_left(struct thread *t, struct call call) {
+    if (t->loading.lock)
         end_loading_if_returned(t, call);
+    if (t->wish.frame)
+        end_left_wishes(t, call);
+}
+
+static inline void settle(struct thread *t, struct call call) {
+    if (RARELY(t->loading.lock | t->wish.frame))
+        end_what_is_left(t, call);
+    look_at_others(t, call.caller);
 }
 
 /* Whether this thread was seen to take the lock. */
 static inline bool release_own(struct thread *t, uintptr_t lock, struct call call) {
-    leave_loader(t, call);
+    settle(t, call);
     uint32_t i = find_held(t, lock);
-    if (i == RAW_HELD)
+    if (i == RAW_HELD && !t->unnoted)
         return false;
     t->raw->calls++;
-    if (t->entries[i].held.depth)
+    if (RARELY(i == RAW_HELD))
+        t->unnoted--;
+    else if (t->entries[i].held.depth)
         t->entries[i].held.depth--;
     else
         release_at(t, i, call.caller);
@@ -427,12 +508,12 @@ static inline bool release_own(struct thread *t, uintptr_t lock, struct call cal
 }
 
 void releasing(uintptr_t lock, struct call call) {
-    struct thread *t = enter();
+    struct thread *t = enter(call);
     if (!t)
         return;
     if (!release_own(t, lock, call)) {
         t->raw->calls++;
-        released_foreign(t, lock);
+        release_others(t, lock);
     }
     leave();
 }
@@ -440,7 +521,7 @@ void releasing(uintptr_t lock, struct call call) {
 /* The same of a lock that only the thread that took it can release. False if this thread wasn't seen to take it: nothing is recorded of
    the call then, since it may well fail. If it doesn't, released_unseen is to follow. */
 bool releasing_own(uintptr_t lock, struct call call) {
-    struct thread *t = enter();
+    struct thread *t = enter(call);
     if (!t)
         return true;
     bool is_seen = release_own(t, lock, call);
@@ -449,8 +530,8 @@ bool releasing_own(uintptr_t lock, struct call call) {
 }
 
 /* A lock was released that this thread took, and wasn't seen to take. */
-void released_unseen(void) {
-    struct thread *t = enter();
+void released_unseen(struct call call) {
+    struct thread *t = enter(call);
     if (!t)
         return;
     t->raw->calls++;
@@ -501,7 +582,7 @@ static bool write_acquisition(struct thread *t, uint32_t what, struct call call,
     return true;
 }
 
-static void push_held(struct thread *t, uintptr_t lock, uint32_t object, uint8_t mode, struct call call, bool is_wish) {
+static void push_held(struct thread *t, uintptr_t lock, uint32_t object, uint8_t mode, enum kind kind, struct call call, bool is_wish) {
     if (t->depth) {
         object = apart(lock, object);
         for (uint32_t i = 0; i < t->depth; i++)
@@ -509,7 +590,6 @@ static void push_held(struct thread *t, uintptr_t lock, uint32_t object, uint8_t
     }
     if (mode < MODE_TRY_WRITE && t->failed != lock) /* else it may be std::lock, which takes what it is given in any order */
         look_at_taker(class_of(object), call);
-    const uint32_t *foreign = foreign_releases(object);
     uint32_t what = raw_what(object, (enum mode)mode);
     uint64_t before = hash_of(t, t->depth), start = t->raw->count;
     push_link(t, BY_OBJECTS, what);
@@ -517,7 +597,7 @@ static void push_held(struct thread *t, uintptr_t lock, uint32_t object, uint8_t
     t->entries[t->depth].level = (struct level){.start = start, .hash = before};
     struct held *h = &t->entries[t->depth++].held;
     *h = (struct held){.lock = lock, .record = start, .fresh_before = t->fresh_end, .object = object,
-                       .foreign = foreign ? LOAD(foreign) : 0, .mode = mode, .is_wish = is_wish};
+                       .released = releases_so_far(lock), .mode = mode, .kind = (uint8_t)kind, .is_wish = is_wish};
     uint64_t way = way_of(hash_of(t, t->depth));
     bool is_new = is_wish ? !is_seen(t, way) : see(t, way);
     h->is_written = write_acquisition(t, what, call, is_new);
@@ -541,55 +621,89 @@ __attribute__((noinline)) static bool add_entries(struct thread *t) {
 
 static inline bool has_entry_left(struct thread *t) { return LIKELY(t->depth < t->room) || add_entries(t); }
 
-/* The lock's object, if there is room for one more that is held. */
+/* The lock's object, if there is room for one more that is held; else the hold has no entry. */
 static inline uint32_t object_to_hold(struct thread *t, uintptr_t lock, struct call call) {
-    if (t->depth == RAW_HELD) {
+    return LIKELY(t->depth < RAW_HELD) && has_entry_left(t) ? object_of_lock(lock, call) : 0;
+}
+
+static void leave_unnoted(struct thread *t) {
+    t->unnoted++;
+    if (t->depth == RAW_HELD)
         t->raw->left_out.deep++;
-        return 0;
-    }
-    uint32_t object = has_entry_left(t) ? object_of_lock(lock, call) : 0;
-    if (!object)
+    else
         t->raw->left_out.no_room++;
-    return object;
 }
 
-static void take_lock(struct thread *t, uintptr_t lock, uint8_t mode, bool exclusive, struct call call) {
+static bool is_read(uint8_t mode) { return mode % TRIES != MODE_WRITE; }
+
+/* Of a mutex that this thread has just taken: it had it before. */
+static bool is_recursion(const pthread_mutex_t *lock) {
+    return (lock->__data.__kind & MUTEX_KIND_BITS) == PTHREAD_MUTEX_RECURSIVE_NP && lock->__data.__count > 1;
+}
+
+/* Whether what this thread has taken is what it holds already, once more. */
+static bool is_same_hold(uintptr_t lock, enum kind kind) {
+    return kind == KIND_RECURSIVE || (kind == KIND_MUTEX && is_recursion((const pthread_mutex_t *)lock));
+}
+
+/* Whether the thread can't have this hold any more, since it has taken the lock with success: only a reader may do that. */
+static bool is_stale(const struct held *h, uintptr_t lock, uint8_t mode) {
+    return h->lock == lock && !h->is_wish && !(is_read(h->mode) && is_read(mode));
+}
+
+/* A hold that ended without a call, as by an assignment to the lock. */
+static void end_stale(struct thread *t, uintptr_t lock, uint8_t mode, uintptr_t caller) {
+    for (uint32_t i = t->depth; i-- > 0;)
+        if (is_stale(&t->entries[i].held, lock, mode))
+            release_at(t, i, caller);
+}
+
+/* Whether a lock that is taken is only held once more. */
+__attribute__((noinline)) static bool take_again(struct thread *t, uint32_t held, uint8_t mode, enum kind kind, uintptr_t caller) {
+    struct held *h = &t->entries[held].held;
+    bool is_same = is_same_hold(h->lock, kind);
+    if (is_same)
+        h->depth++;
+    else
+        end_stale(t, h->lock, mode, caller);
+    return is_same;
+}
+
+static void take_lock(struct thread *t, uintptr_t lock, uint8_t mode, enum kind kind, struct call call) {
     t->raw->calls++;
-    leave_loader(t, call);
-    if (RARELY(t->epoch != __atomic_load_n(&foreign_epoch, __ATOMIC_RELAXED)))
-        drop_released(t, call.caller);
-    uint32_t again = exclusive && t->depth ? find_held(t, lock) : RAW_HELD;
-    if (again != RAW_HELD) {
-        t->entries[again].held.depth++;
+    settle(t, call);
+    uint32_t again = kind != KIND_COUNTED && t->depth ? find_held(t, lock) : RAW_HELD;
+    if (RARELY(again != RAW_HELD) && take_again(t, again, mode, kind, call.caller))
         return;
-    }
     uint32_t object = object_to_hold(t, lock, call);
-    if (object)
-        push_held(t, lock, object, mode, call, false);
+    if (LIKELY(object))
+        push_held(t, lock, object, mode, kind, call, false);
+    else
+        leave_unnoted(t);
 }
 
-void acquired(uintptr_t lock, uint8_t mode, bool exclusive, struct call call) {
-    struct thread *t = enter();
+void acquired(uintptr_t lock, uint8_t mode, enum kind kind, struct call call) {
+    struct thread *t = enter(call);
     if (!t)
         return;
-    take_lock(t, lock, mode, exclusive, call);
+    take_lock(t, lock, mode, kind, call);
     leave();
 }
 
 /* ---- Wishes. What a thread waits for is written before it waits, as if it had taken it. If the call fails it is withdrawn. */
 
 /* Whether the wish was recorded; end_wish is to follow then. */
-bool begin_wish(uintptr_t lock, uint8_t mode, struct call call) {
-    struct thread *t = enter();
+bool begin_wish(uintptr_t lock, uint8_t mode, enum kind kind, struct call call) {
+    struct thread *t = enter(call);
     if (!t)
         return false;
-    t->raw->calls++;
-    leave_loader(t, call);
-    if (RARELY(t->epoch != __atomic_load_n(&foreign_epoch, __ATOMIC_RELAXED)))
-        drop_released(t, call.caller);
+    settle(t, call);
     uint32_t object = object_to_hold(t, lock, call);
     if (object) {
-        push_held(t, lock, object, mode, call, true);
+        t->raw->calls++;
+        push_held(t, lock, object, mode, kind, call, true);
+        if (!t->wish.frame)
+            t->wish = call;
         STORE(&t->raw->waits, 1);
     }
     leave();
@@ -611,25 +725,130 @@ static void withdraw(struct thread *t, uint32_t i, uintptr_t caller) {
     t->fresh_end = h.fresh_before;
 }
 
-void end_wish(uintptr_t lock, bool is_taken, struct call call) {
-    struct thread *t = enter();
+static void end_waiting(struct thread *t) {
+    t->wish.frame = 0;
+    STORE(&t->raw->waits, 0);
+}
+
+static void withdraw_all(struct thread *t, uintptr_t caller) {
+    end_waiting(t);
+    for (uint32_t i = t->depth; i-- > 0;)
+        if (t->entries[i].held.is_wish)
+            withdraw(t, i, caller);
+}
+
+/* A handler that jumps away leaves the calls that wait: their wishes are withdrawn when the thread comes again, or ends the process. */
+static void end_left_wishes(struct thread *t, struct call call) {
+    if (is_left(call, t->wish))
+        withdraw_all(t, call.caller);
+}
+
+void end_own_wishes(struct call call) {
+    struct thread *t = own && own->wish.frame ? enter(call) : NULL;
     if (!t)
         return;
-    STORE(&t->raw->waits, 0);
-    uint32_t i = find_held(t, lock);
-    if (i != RAW_HELD && !is_taken)
-        withdraw(t, i, call.caller);
-    else if (i != RAW_HELD) {
-        t->entries[i].held.is_wish = false;
-        see(t, way_of(hash_of(t, i + 1)));
-    }
+    settle(t, call);
     leave();
+}
+
+/* The newest wish for a lock, or RAW_HELD. */
+static uint32_t find_wish(const struct thread *t, uintptr_t lock) {
+    for (uint32_t i = t->depth; i-- > 0;)
+        if (t->entries[i].held.lock == lock && t->entries[i].held.is_wish)
+            return i;
+    return RAW_HELD;
+}
+
+static bool has_stale(const struct thread *t, const struct held *taken) {
+    for (uint32_t i = 0; taken->kind != KIND_COUNTED && i < t->depth; i++)
+        if (is_stale(&t->entries[i].held, taken->lock, taken->mode))
+            return true;
+    return false;
+}
+
+/* The lock was waited for. If the thread was thought to hold it, and nobody else has released it since, that hold was stale, and the wish
+   was written under it: then it is withdrawn, and the lock is to be taken anew. */
+static bool fulfil(struct thread *t, uint32_t i, uintptr_t caller) {
+    struct held *h = &t->entries[i].held;
+    if (RARELY(has_stale(t, h))) {
+        t->raw->calls--;
+        withdraw(t, i, caller);
+        return false;
+    }
+    h->is_wish = false;
+    h->released = releases_so_far(h->lock);
+    see(t, way_of(hash_of(t, i + 1)));
+    return true;
+}
+
+/* False if the lock was taken and that isn't recorded yet. */
+bool end_wish(uintptr_t lock, bool is_taken, struct call call) {
+    struct thread *t = enter(call);
+    if (!t)
+        return true;
+    if (t->wish.frame == call.frame)
+        end_waiting(t);
+    look_at_others(t, call.caller);
+    uint32_t i = find_wish(t, lock);
+    bool is_recorded = !is_taken;
+    if (i != RAW_HELD && is_taken)
+        is_recorded = fulfil(t, i, call.caller);
+    else if (i != RAW_HELD)
+        withdraw(t, i, call.caller);
+    leave();
+    return is_recorded;
+}
+
+/* ---- Mending. A jump may leave the recorder with a record written and the entry that belongs to it not yet, or the other way round. */
+
+/* What a reader of the trace takes to be held. */
+static uint32_t read_held(struct thread *t, uint32_t *objects) {
+    uint32_t depth = 0;
+    for (uint64_t i = 0; i < t->raw->count; i++) {
+        uint32_t what = record_at(t, i)->what, at = depth;
+        bool is_release = raw_mode(what) == MODE_RELEASE;
+        while (is_release && at > 0 && objects[at - 1] != raw_object(what))
+            at--;
+        if (is_release && at)
+            memmove(&objects[at - 1], &objects[at], (depth-- - at) * sizeof *objects);
+        else if (!is_release && depth < RAW_HELD)
+            objects[depth++] = raw_object(what);
+    }
+    return depth;
+}
+
+/* The entries anew. One that was about to be moved may be there twice. */
+static void hold_again(struct thread *t, struct call call) {
+    uint32_t depth = t->depth;
+    struct held before = {.lock = 0};
+    t->depth = 0;
+    for (uint32_t i = 0; i < depth; i++) {
+        struct held h = t->entries[i].held;
+        if (i > 0 && h.lock == before.lock && h.record == before.record)
+            continue;
+        push_held(t, h.lock, h.object, h.mode, (enum kind)h.kind, call, h.is_wish);
+        t->entries[t->depth - 1].held.depth = h.depth;
+        t->entries[t->depth - 1].held.released = h.released;
+        before = h;
+    }
+}
+
+/* The trace releases all that it has, and takes what the thread is known to hold. */
+static void mend(struct thread *t, struct call call) {
+    if (!t->held_by_trace)
+        t->held_by_trace = take_private(RAW_HELD * sizeof *t->held_by_trace);
+    uint32_t depth = t->held_by_trace ? read_held(t, t->held_by_trace) : 0;
+    t->fresh_end = t->raw->count;
+    while (depth-- > 0 && make_room(t))
+        put_record(t, raw_what(t->held_by_trace[depth], MODE_RELEASE), cached_place(t, call.caller));
+    if (t->held_by_trace)
+        hold_again(t, call);
 }
 
 /* A lock was tried. One that is tried again and again, with others held all the time, is waited for in another way. Who gives those
    back before the next try doesn't wait with them held. */
-void tried(uintptr_t lock, bool has_failed) {
-    struct thread *t = has_failed || (own && own->failed) ? enter() : NULL;
+void tried(uintptr_t lock, bool has_failed, struct call call) {
+    struct thread *t = has_failed || (own && own->failed) ? enter(call) : NULL;
     if (!t)
         return;
     if (t->failed == lock && t->failed_under)
@@ -641,12 +860,12 @@ void tried(uintptr_t lock, bool has_failed) {
 
 /* A library's constructor or destructor may load another one: the lock is held until the first call that has taken it returns. */
 void enter_loader(uintptr_t loader, uintptr_t function, struct call call) {
-    struct thread *t = enter();
+    struct thread *t = enter(call);
     if (!t)
         return;
-    leave_loader(t, call);
+    settle(t, call);
     if (find_held(t, loader) == RAW_HELD) {
-        take_lock(t, loader, MODE_WRITE, true, call);
+        take_lock(t, loader, MODE_WRITE, KIND_RECURSIVE, call);
         if (find_held(t, loader) != RAW_HELD)
             t->loading = (struct loading){loader, function, call};
     } else {
@@ -665,32 +884,74 @@ bool is_held_once(uintptr_t lock) {
 
 bool is_any_held(void) { return own && own->depth; }
 
-/* ---- Locks that are initialised, and those that are no more. */
+/* ---- Locks that are initialised, and those that are no more: with a lock its thread's holds of it end. */
+
+static void end_holds_between(struct thread *t, uintptr_t from, uintptr_t to, uintptr_t caller) {
+    for (uint32_t i = t->depth; i-- > 0;)
+        if (t->entries[i].held.lock >= from && t->entries[i].held.lock < to)
+            release_at(t, i, caller);
+}
 
 void initialised(uintptr_t lock, struct call call) {
-    if (!enter())
+    struct thread *t = enter(call);
+    if (!t)
         return;
+    end_holds_between(t, lock, lock + 1, call.caller);
     know_by_place(lock, call);
     leave();
 }
 
-void destroyed(uintptr_t lock) {
-    if (!enter())
+void destroyed(uintptr_t lock, struct call call) {
+    struct thread *t = enter(call);
+    if (!t)
         return;
+    end_holds_between(t, lock, lock + 1, call.caller);
     drop_lock(lock);
+    leave();
+}
+
+/* Memory is given back by a call from there, while the thread holds something. */
+__attribute__((noinline)) void given_back(uintptr_t from, uintptr_t to, uintptr_t caller) {
+    struct thread *t = enter(HERE);
+    if (!t)
+        return;
+    end_holds_between(t, from, to, caller);
     leave();
 }
 
 /* ---- The beginning, and a fork. */
 
+/* Whether a lock that was held at a fork isn't any more, since a handler has assigned to it: its first word is 0 then. */
+static bool is_free(const struct held *h) {
+    return (h->kind == KIND_MUTEX || h->kind == KIND_RWLOCK) && has_word(h->lock, 0);
+}
+
+/* What the thread holds in a child since before the fork. */
+void look_at_inherited(struct call call) {
+    struct thread *t = enter(call);
+    if (!t)
+        return;
+    for (uint32_t i = t->depth; i-- > 0;)
+        if (is_free(&t->entries[i].held))
+            release_at(t, i, call.caller);
+    leave();
+}
+
+static void take_over(struct thread *t, const struct held *h) {
+    if (h->is_wish || is_released_by_other(h) || is_free(h) || !has_entry_left(t))
+        return;
+    push_held(t, h->lock, h->object, h->mode, (enum kind)h->kind, HERE, false);
+    t->entries[t->depth - 1].held.depth = h->depth;
+}
+
 /* Takes again what its thread held before the fork. */
 static void begin_in_child(struct thread *old) {
     static struct held held[RAW_HELD] LARGE;
-    uint32_t depth = old->depth;
+    uint32_t depth = old->depth, unnoted = old->unnoted;
     struct loading loading = old->loading;
     for (uint32_t i = 0; i < depth; i++)
         held[i] = old->entries[i].held;
-    busy = true;
+    begin_inside(HERE);
     for (struct thread *t = threads; t; t = t->next) {
         if (t != old)
             forget_own_locks(t);
@@ -698,11 +959,13 @@ static void begin_in_child(struct thread *old) {
     }
     own = NULL;
     struct thread *t = make_thread();
-    for (uint32_t i = 0; t && i < depth && has_entry_left(t); i++)
-        push_held(t, held[i].lock, held[i].object, held[i].mode, HERE, false);
-    if (t)
+    for (uint32_t i = 0; t && i < depth; i++)
+        take_over(t, &held[i]);
+    if (t) {
         t->loading = loading;
-    busy = false;
+        t->unnoted = unnoted;
+    }
+    end_inside();
 }
 
 void begin_threads(void) {
