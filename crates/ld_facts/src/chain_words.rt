@@ -13,7 +13,6 @@ ghost use Rattle.ld_trace.specs.declared.key_id.TheConstants.{GRAPH_KEYS};
 use crate::chain_facts::MARKS_TAKEN;
 use crate::fact::{Fact, first_mark, mark_index};
 use crate::{bits, chain_facts};
-use arrayvec::ArrayVec;
 use ld_task::{Chain, Frame};
 use ld_trace::{KeyId, Mode};
 use std::marker::Model;
@@ -30,20 +29,23 @@ const SEEN_WORDS: usize = 65;
 /// The words that hold facts of a chain, each once, and each with just the bits of these facts. There are at most 96.
 #[derive(Drop)]
 pub struct FactWords {
-    pairs: ArrayVec<(u16, u64), MAX_WORDS>,
+    // Only the first `len` are in use.
+    pairs: [(u16, u64); MAX_WORDS],
+    len: usize,
     // A bit for each word of facts: whether it is among the pairs. With 48 held locks a search would take six times as long.
     seen: [u64; SEEN_WORDS],
 }
 
 impl Model for FactWords {
-    ghost use Rattle.std.specs.Prelude.{List, ℕ};
+    ghost use Rattle.std.specs.Prelude.{◌≡◌, ◌≤◌, List, length, take, ℕ};
+    ghost use Rattle.ld_facts.specs.declared.chain_words.TheConstants.{MAX_WORDS};
     ghost use Rattle.ld_facts.specs.Inside.WordTable.{IsTable};
 
     ghost Value = { List (ℕ × ℕ) };
 
-    ghost view = { λ w. w.pairs.items };
+    ghost view = { λ w. take w.len w.pairs };
 
-    ghost invariant = { λ w. IsTable w.pairs.items w.seen };
+    ghost invariant = { λ w. (w.len ≤ MAX_WORDS) × (length w.pairs ≡ MAX_WORDS) × IsTable (take w.len w.pairs) w.seen };
 }
 
 impl FactWords {
@@ -52,7 +54,8 @@ impl FactWords {
         ensures { result ≡ [] }
     {
         FactWords {
-            pairs: ArrayVec::new(),
+            pairs: [(0, 0); MAX_WORDS],
+            len: 0,
             seen: [0; SEEN_WORDS],
         }
     }
@@ -78,14 +81,14 @@ impl FactWords {
         ensures exact { result ≡ length self.now }
         ensures at_most { result ≤ MAX_WORDS }
     {
-        self.pairs.len()
+        self.len
     }
 
     /// The number of the word at place `i` and its bits, or None if there is none.
     pub fn get(&self, i: usize) -> Option<(usize, u64)>
         ensures { result ≡ slice_get self.now i }
     {
-        let (word, bits) = *self.pairs.as_slice().get(i)?;
+        let (word, bits) = *self.pairs[..self.len].get(i)?;
         Some((usize::from(word), bits))
     }
 }
@@ -94,7 +97,7 @@ impl FactWords {
     fn clear(&mut self)
         ensures { self.new ≡ [] }
     {
-        self.pairs.clear();
+        self.len = 0;
         self.seen = [0; SEEN_WORDS];
     }
 
@@ -218,7 +221,8 @@ impl FactWords {
         ensures words { AreWords self.new }
         ensures len { length self.new ≡ length self.old + 1 }
     {
-        self.pairs.push((word, bits));
+        self.pairs[self.len] = (word, bits);
+        self.len += 1;
         bits::insert(&mut self.seen, usize::from(word));
     }
 
@@ -238,7 +242,7 @@ impl FactWords {
         requires { HasWord self.now word }
         ensures { StandsAt self.now word result }
     {
-        let mut i = self.pairs.len() - 1;
+        let mut i = self.len - 1;
         while self.pairs[i].0 != word {
             i -= 1;
         }
