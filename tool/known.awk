@@ -3,7 +3,7 @@
 
 # The class of a key of a single lock: without the lock's number, the word for all the others, and the process.
 function class_of(key) {
-    if (match(key, /(#([0-9]+|rest))?(\^[0-9]+)?\/[0-7]$/) && RLENGTH > 2) return substr(key, 1, RSTART - 1) substr(key, length(key) - 1)
+    if (match(key, /(#([0-9]+|rest)(@[0-9]+)?)?(\^[0-9]+)?\/[0-7]$/) && RLENGTH > 2) return substr(key, 1, RSTART - 1) substr(key, length(key) - 1)
     return key
 }
 

@@ -28,14 +28,15 @@ BEGIN { TOO_MANY = "not known whether seen between locks: there are more circles
 
 mode == "keys" && $1 == "usage" { is_class[$2] = 1 }
 
-# The class of a key of single locks: NAME#NUMBER/SUB or NAME#rest/SUB, with ^PROCESS before the slash or not.
+# The class of a key of single locks: NAME#NUMBER/SUB or NAME#rest/SUB, with @PROCESS before the slash or not. Older recordings have
+# ^PROCESS there, also after a name without a number.
 function class_of(key,    name, sub_class) {
     if (key in is_class) return key
     match(key, /\/[0-7]$/)
     name = substr(key, 1, RSTART - 1)
     sub_class = substr(key, RSTART)
     sub(/\^[0-9]+$/, "", name)
-    if (!((name sub_class) in is_class)) sub(/#([0-9]+|rest)$/, "", name)
+    if (!((name sub_class) in is_class)) sub(/#([0-9]+|rest)(@[0-9]+)?$/, "", name)
     return name sub_class
 }
 
@@ -178,7 +179,7 @@ mode == "classes" || mode == "locks" {
 function may_follow(i, j) { return to[i] == from[j] && !(substr(kind[i], 2) == "R" && substr(kind[j], 1, 1) == "S") }
 
 # Whether a name stands for all locks of a class that aren't told apart.
-function is_several(key) { return key ~ /#rest(\^[0-9]+)?\/[0-7]$/ }
+function is_several(key) { return key ~ /#rest([@^][0-9]+)?\/[0-7]$/ }
 
 # A lock that all orders of a circle are taken under. Locks that share a name are no gate.
 function gate(circle, length_of,    candidates, n, i, k) {

@@ -494,7 +494,7 @@ static struct class *class_named(const char *name) {
     return NULL;
 }
 
-/* The class of a name, which may be that of a single lock: NAME#NUMBER, NAME#rest, or either with ^PROCESS. */
+/* The class of a name, which may be that of a single lock: NAME#NUMBER, NAME#rest, or either with @PROCESS. */
 static struct class *class_of(const char *name) {
     struct class *found = class_named(name);
     if (found || !strrchr(name, '#'))

@@ -1,12 +1,13 @@
 /* Names of single locks: the class's name with a number, and with that of the process if there are several, since each has its own.
 
-     NAME#1, NAME#2^3   of those that were nested with others: the first ones of each class and process
+     NAME#1, NAME#2@3   of those that were nested with others: the first ones of each class and process
      NAME#rest          all others of the class
-     NAME               a static lock, which is the only one of its class, or a file
+     NAME               a static lock, which is the only one of its class, or a file; NAME#1 if it needs a mark, since there are several
+                        processes or the class's own name has a `#`
 
    A lock that processes share has no process in its name.
 
-   So what stands before the mark is the class's name. */
+   So the class's name is what stands before the last `#`, or all of a name that has none. */
 #include "finish.h"
 
 #include <string.h>
@@ -101,8 +102,10 @@ void tell_object(char *text, size_t room, int number) {
         snprintf(mark, sizeof mark, "#%u", o->ordinal);
     else if (key->kind != CLASS_STATIC && key->kind != CLASS_FILE)
         snprintf(mark, sizeof mark, "#rest");
+    else if (o->process != NO_PROCESS || strchr(key->name, '#'))
+        snprintf(mark, sizeof mark, "#1");
     if (o->process != NO_PROCESS)
-        snprintf(process, sizeof process, "^%u", o->process);
+        snprintf(process, sizeof process, "@%u", o->process);
     snprintf(text, room, "%s%s%s", key->name, mark, process);
 }
 

@@ -224,7 +224,7 @@ class Names:
         if name is None:
             of, ordinal, process = key
             is_known = ordinal and len(self.locks) < MOST_KEYS // 2
-            name = "%s#%s%s" % (of.name, ordinal if is_known else "rest", "^%d" % process if self.is_many else "")
+            name = "%s#%s%s" % (of.name, ordinal if is_known else "rest", "@%d" % process if self.is_many else "")
             self.locks[key] = name
         return name
 
