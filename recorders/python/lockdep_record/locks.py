@@ -16,8 +16,8 @@ from .recording import TRY, WRITE, Lock as Record, break_off, failed_try, gave, 
 PATIENCE = 0.05
 
 allocate, RealRLock, RealLock = _thread.allocate_lock, _thread.RLock, _thread.LockType
-of_threading, of_imports = vars(threading), vars(_bootstrap)
-of_condition = threading.Condition.__init__.__code__
+of_imports = vars(_bootstrap)
+of_condition, of_rlock = threading.Condition.__init__.__code__, threading.RLock.__code__
 
 
 def keep(record, mode, release):
@@ -77,29 +77,33 @@ def wait_without_end(record, acquire, release):
     return keep(record, WRITE, release)
 
 
+def maker(frame):
+    """The frame that a lock is made in: not that of `threading.RLock`, which only passes on what it is asked for."""
+    return frame.f_back if frame is not None and frame.f_code == of_rlock else frame
+
+
 def is_own_use(frame):
-    """Whether a lock is made here for `threading` itself or for the import system."""
+    """Whether a lock is made here for `threading` itself, of which a program may load another copy, or for the import system."""
     if frame is None:
         return False
-    return frame.f_globals is of_imports or (frame.f_globals is of_threading and frame.f_code is not of_condition)
+    return frame.f_globals is of_imports or (frame.f_code.co_filename == of_condition.co_filename and frame.f_code != of_condition)
 
 
 class Replaced:
     """What the locks of threads have in common: the real one, and what is known about it."""
 
-    __slots__ = ("inner", "record", "__weakref__")
-
-    def locked(self):
-        return self.inner.locked()
+    __slots__ = ("_lockdep_inner", "_lockdep_record", "__weakref__")  # (a class of the program's may have any other names)
 
     def __repr__(self):
-        return repr(self.inner)
+        inner = self._lockdep_inner
+        text = repr(inner).replace(hex(id(inner)), hex(id(self)))
+        return text if type(self) in (lock, RLock) else text.replace("_thread.RLock", type(self).__name__, 1)
 
     def __reduce_ex__(self, protocol):
         raise TypeError("cannot pickle %r object" % ("_thread." + type(self).__name__))
 
     def __getattr__(self, name):
-        return getattr(self.inner, name)
+        return getattr(self._lockdep_inner, name)
 
 
 class Kind(type):
@@ -120,146 +124,246 @@ class lock(Replaced, metaclass=Kind):
         if is_own_use(frame):
             return inner
         self = object.__new__(cls)
-        self.inner, self.record = inner, Record(made_at(frame, "Lock"))
+        self._lockdep_inner, self._lockdep_record = inner, Record(made_at(frame, "Lock"))
         return self
 
     def acquire(self, blocking=True, timeout=-1):
-        inner = self.inner
+        inner = self._lockdep_inner
         if timeout == -1 and inner.acquire(False):
             try:
-                took(self.record, WRITE if blocking else TRY)
+                took(self._lockdep_record, WRITE if blocking else TRY)
             except BaseException:
                 inner.release()
                 raise
             return True
-        return take(self.record, inner, blocking, timeout)
+        return take(self._lockdep_record, inner, blocking, timeout)
 
     def __enter__(self):
-        inner = self.inner
+        inner = self._lockdep_inner
         if inner.acquire(False):
             try:
-                took(self.record, WRITE)
+                took(self._lockdep_record, WRITE)
             except BaseException:
                 inner.release()
                 raise
             return True
-        return wait_for(self.record, inner.acquire, inner.release, -1)
+        return wait_for(self._lockdep_record, inner.acquire, inner.release, -1)
 
     def release(self):
-        inner = self.inner
+        inner = self._lockdep_inner
         try:
-            gave(self.record, inner)
+            gave(self._lockdep_record, inner)
         finally:
             inner.release()
 
     def __exit__(self, kind, value, trace):
-        inner = self.inner
+        inner = self._lockdep_inner
         try:
-            gave(self.record, inner)
+            gave(self._lockdep_record, inner)
         finally:
             inner.release()
 
     acquire_lock, release_lock = acquire, release
 
-    def locked_lock(self):
-        return self.inner.locked()
+    def locked(self):
+        return self._lockdep_inner.locked()
+
+    locked_lock = locked
 
     def _is_owned(self):
-        return self.inner.locked()
+        return self._lockdep_inner.locked()
 
     def _at_fork_reinit(self):
-        if self.record.entry is not None:
-            gave(self.record, None)
-        self.inner._at_fork_reinit()
+        if self._lockdep_record.entry is not None:
+            gave(self._lockdep_record, None)
+        self._lockdep_inner._at_fork_reinit()
 
 
 class RLock(Replaced):
     """Replaces `threading.RLock`: what its holder takes again is one acquisition."""
 
-    __slots__ = ("levels",)
+    __slots__ = ("_lockdep_levels",)
 
     def __new__(cls, *words, **named):
-        frame = getframe(0).f_back
+        frame = maker(getframe(0).f_back)
         inner = RealRLock()
         if is_own_use(frame):
             return inner
         self = object.__new__(cls)
-        self.inner, self.record, self.levels = inner, Record(made_at(frame, "RLock")), 0
+        self._lockdep_inner, self._lockdep_record, self._lockdep_levels = inner, Record(made_at(frame, "RLock")), 0
         return self
 
     def acquire(self, blocking=True, timeout=-1):
-        inner = self.inner
+        inner = self._lockdep_inner
         if timeout == -1 and inner.acquire(False):
-            levels = self.levels = self.levels + 1
+            levels = self._lockdep_levels = self._lockdep_levels + 1
             if levels == 1:
                 try:
-                    took(self.record, WRITE if blocking else TRY)
+                    took(self._lockdep_record, WRITE if blocking else TRY)
                 except BaseException:
-                    self.levels = 0
+                    self._lockdep_levels = 0
                     inner.release()
                     raise
             return True
         if inner._is_owned():
             is_taken = inner.acquire(blocking, timeout)
-            self.levels += is_taken
+            self._lockdep_levels += is_taken
             return is_taken
-        is_taken = take(self.record, inner, blocking, timeout)
+        is_taken = take(self._lockdep_record, inner, blocking, timeout)
         if is_taken:
-            self.levels = 1
+            self._lockdep_levels = 1
         return is_taken
 
     __enter__ = acquire
 
     def release(self):
         try:
-            if self.levels == 1 and self.inner._is_owned():
-                self.levels = 0
-                gave(self.record, None)
-            elif self.inner._is_owned():
-                self.levels -= 1
+            if self._lockdep_levels == 1 and self._lockdep_inner._is_owned():
+                self._lockdep_levels = 0
+                gave(self._lockdep_record, None)
+            elif self._lockdep_inner._is_owned():
+                self._lockdep_levels -= 1
         finally:
-            self.inner.release()
+            self._lockdep_inner.release()
 
     def __exit__(self, kind, value, trace):
         try:
-            if self.levels == 1 and self.inner._is_owned():
-                self.levels = 0
-                gave(self.record, None)
-            elif self.inner._is_owned():
-                self.levels -= 1
+            if self._lockdep_levels == 1 and self._lockdep_inner._is_owned():
+                self._lockdep_levels = 0
+                gave(self._lockdep_record, None)
+            elif self._lockdep_inner._is_owned():
+                self._lockdep_levels -= 1
         finally:
-            self.inner.release()
+            self._lockdep_inner.release()
 
     def _is_owned(self):
-        return self.inner._is_owned()
+        return self._lockdep_inner._is_owned()
+
+    def _recursion_count(self):
+        return self._lockdep_inner._recursion_count()
 
     def _release_save(self):
-        levels = self.levels
-        if self.inner._is_owned():
-            self.levels = 0
-            gave(self.record, None)
-        return levels, self.inner._release_save()
+        levels = self._lockdep_levels
+        if self._lockdep_inner._is_owned():
+            self._lockdep_levels = 0
+            gave(self._lockdep_record, None)
+        return levels, self._lockdep_inner._release_save()
 
     def _acquire_restore(self, state):
         levels, real = state
-        inner = self.inner
+        inner = self._lockdep_inner
         is_granted = False
         if inner.acquire(False):
             for _ in range(levels - 1):
                 inner.acquire()
         else:
-            wish(self.record, False)
+            wish(self._lockdep_record, False)
             inner._acquire_restore(real)
-            is_granted = grant(self.record)
-        self.levels = levels
+            is_granted = grant(self._lockdep_record)
+        self._lockdep_levels = levels
         if not is_granted:
-            took(self.record, WRITE)
+            took(self._lockdep_record, WRITE)
 
     def _at_fork_reinit(self):
-        if self.record.entry is not None:
-            gave(self.record, None)
-        self.levels = 0
-        self.inner._at_fork_reinit()
+        if self._lockdep_record.entry is not None:
+            gave(self._lockdep_record, None)
+        self._lockdep_levels = 0
+        self._lockdep_inner._at_fork_reinit()
+
+
+def drop_unknown(own, real):
+    """Takes away from a class what the real one hasn't in this version of Python."""
+    for name in ("_at_fork_reinit", "_recursion_count"):
+        if name in vars(own) and not hasattr(real, name):
+            delattr(own, name)
+
+
+# ---- The RLock that is written in Python, which `threading.RLock` makes where `threading._CRLock` is None.
+
+def take_or_wait(record, is_held, acquire, release, blocking, timeout):
+    """Takes a lock by its real method in one call, since with greenlets another one may run in each. `timeout` is below 0 if it has none."""
+    if not blocking or timeout == 0:
+        if acquire(blocking, timeout):
+            return keep(record, TRY, release)
+        failed_try(record)
+        return False
+    if not is_held:
+        return acquire(blocking, timeout) and keep(record, WRITE, release)
+    wish(record, False)
+    try:
+        is_taken = acquire(blocking, timeout)
+    except BaseException:
+        (break_off if timeout < 0 else not_granted)(record)
+        raise
+    if not is_taken:
+        not_granted(record)
+        return is_taken
+    return grant(record) or keep(record, WRITE, release)
+
+
+def replace_python_rlocks():
+    """Notes what is done with RLocks that are written in Python, in their own class. A program may derive others from it."""
+    real = threading._PyRLock
+    make, real_acquire, real_release, restore = real.__init__, real.acquire, real.release, real._acquire_restore
+
+    def __init__(self):
+        make(self)
+        frame = maker(getframe(0).f_back)
+        if not is_own_use(frame):
+            self._lockdep_record = Record(made_at(frame, "RLock"))
+
+    def acquire(self, blocking=True, timeout=-1):
+        record = vars(self).get("_lockdep_record")
+        if record is None or self._is_owned():
+            return real_acquire(self, blocking, timeout)
+
+        def acquire_really(blocking, timeout):
+            return real_acquire(self, blocking, timeout)
+
+        def release_really():
+            real_release(self)
+        return take_or_wait(record, self._block.locked(), acquire_really, release_really, blocking, timeout)
+
+    def release(self):
+        record = vars(self).get("_lockdep_record")
+        if record is not None and self._count == 1 and self._is_owned():
+            gave(record, None)
+        real_release(self)
+
+    def _acquire_restore(self, state):
+        record = vars(self).get("_lockdep_record")
+        if record is not None and self._block.locked():
+            wish(record, False)
+        restore(self, state)
+        if record is not None and not grant(record):
+            took(record, WRITE)
+
+    put_in_place(real, __init__, acquire, release, _acquire_restore)
+    real.__enter__ = acquire
+    replace_python_rlocks_own(real)
+
+
+def replace_python_rlocks_own(real):
+    """The same of what only conditions and `os.fork` call."""
+    save, reinit = real._release_save, getattr(real, "_at_fork_reinit", None)
+
+    def give(self):
+        record = vars(self).get("_lockdep_record")
+        if record is not None and record.entry is not None:
+            gave(record, None)
+
+    def _release_save(self):
+        if self._is_owned():
+            give(self)
+        return save(self)
+
+    def _at_fork_reinit(self):
+        give(self)
+        reinit(self)
+
+    put_in_place(real, _release_save)
+    if reinit is not None:
+        put_in_place(real, _at_fork_reinit)
 
 
 # ---- Semaphores of value 1, which are locks. Those of other values stay as they are.
@@ -335,6 +439,8 @@ def replace_asyncio(module):
 
     async def acquire(self):
         record = self._lockdep_record
+        if record is None:  # it is a copy: its class is where it is first taken
+            record = self._lockdep_record = Record(made_at(getframe(0).f_back, "asyncio.Lock"))
         if not self._locked and not self._waiters:
             self._locked = True
             took(record, WRITE)
@@ -342,7 +448,8 @@ def replace_asyncio(module):
         return await wait_in_loop(record, self, real_acquire)
 
     def release(self):
-        gave(self._lockdep_record, self)
+        if self._lockdep_record is not None:
+            gave(self._lockdep_record, self)
         real_release(self)
 
     put_in_place(real, __init__, acquire, release)
@@ -405,7 +512,7 @@ def leave_alone(module, name):
     """Puts the real lock back into a module, as one that is taken between the beginning of a wait and the wait itself."""
     own = getattr(module, name, None)
     if type(own) is lock:
-        setattr(module, name, own.inner)
+        setattr(module, name, own._lockdep_inner)
 
 
 def put_in_place(real, *functions):
@@ -484,11 +591,12 @@ def replace_everywhere(old, new):
 
 def replace_locks():
     """Replaces the functions that make locks."""
-    real_lock, real_rlock = threading.Lock, threading.RLock
+    real_lock = threading.Lock
     threading.Lock = _thread.allocate_lock = _thread.allocate = _thread.LockType = lock
-    threading.RLock = _thread.RLock = RLock
-    for old, new in ((real_lock, lock), (allocate, lock), (RealLock, lock), (real_rlock, RLock), (RealRLock, RLock)):
+    threading._CRLock = _thread.RLock = RLock  # (`threading.RLock` itself stays, and makes what it finds there)
+    for old, new in ((real_lock, lock), (allocate, lock), (RealLock, lock), (RealRLock, RLock)):
         replace_everywhere(old, new)
+    replace_python_rlocks()
     replace_semaphores()
 
 
@@ -544,8 +652,9 @@ def begin(folder, is_fork_server):
     recording.is_typed = getattr(sys, "argv", [])[:1] == ["-c"]
     recording.begin_process(folder, is_fork_server)
     replace_hooks()
-    for each in (lock, RLock):
-        each.__module__ = "_thread"
+    for own, real in ((lock, RealLock), (RLock, RealRLock)):
+        own.__module__ = "_thread"
+        drop_unknown(own, real)
     replace_locks()
     replace_exit()
     sys.meta_path.insert(0, Finder)

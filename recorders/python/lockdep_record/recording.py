@@ -150,11 +150,11 @@ def call_number(code, instruction):
     from dis import get_instructions
     line, number, is_call = line_of(code, instruction), 0, False
     for each in get_instructions(code):
+        if each.offset > instruction:  # (which may be within a call: behind the code of one that runs a function of Python)
+            break
         was_call, is_call = is_call, each.opname.startswith(("CALL", "PRECALL")) and "INTRINSIC" not in each.opname
         if is_call and not (was_call and each.opname == "CALL") and line_of(code, each.offset) == line:
             number += 1
-        if each.offset >= instruction:
-            break
     return max(number, 1)
 
 
@@ -217,6 +217,10 @@ class Lock:
 
     def __init__(self, made):
         self.made, self.key, self.is_apart, self.entry, self.spare = made, made.rest.number, False, None, None
+
+    def __reduce__(self):
+        """In a copy of what has it, as of a lock of asyncio that is pickled, this is None."""
+        return type(None), ()
 
 
 def tell_apart(lock):
