@@ -2,4 +2,4 @@
 
 `__main__` has the command line, `command` runs the command and writes its traces when it has ended (`finish`, `folder`); recorders/java
 does so too. In the command's processes
-`hook/sitecustomize.py` replaces their locks (`locks`), and `recording` writes down what the tasks do with them."""
+`hook/sitecustomize.py` replaces their locks (`locks`, `green`), and `recording` writes down what the tasks do with them."""

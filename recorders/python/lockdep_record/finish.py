@@ -32,6 +32,8 @@ WHY_NOT = {
 LOSSES = (
     ("unrewritten", "classes of the program's that couldn't be rewritten: what their code does with locks was not recorded"),
     ("multiprocessing", "locks of multiprocessing: these weren't looked at, so an order among them, or of them with others, is missing"),
+    ("gevent", "processes with gevent: only those of its locks that take the place of threading's were looked at"),
+    ("eventlet", "processes with eventlet: only those of its locks that take the place of threading's were looked at"),
     ("unwritten", "processes whose recording couldn't be written to its end: an order among them may be missing"),
     ("full-traces", "acquisitions after a thread's first 1,000,000 events: an order among them may be missing"),
     ("beyond-classes", "acquisitions of classes beyond 8,192: no order that they are part of was recorded"),

@@ -222,6 +222,9 @@ class Folder:
         unlooked = counts.get("multiprocessing", 0)
         if unlooked:
             say("%s of multiprocessing %s looked at" % (counted(unlooked, "lock"), "wasn't" if unlooked == 1 else "weren't"))
+        for name in ("gevent", "eventlet"):
+            if counts.get(name):
+                say("%s was loaded, whose own locks weren't looked at: only those that take the place of threading's" % name)
         is_library_only = "library-only" in counts
         if counts["operations"] and not is_library_only:
             return 1 if lost else 0

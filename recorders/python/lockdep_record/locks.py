@@ -281,7 +281,7 @@ def drop_unknown(own, real):
 # ---- The RLock that is written in Python, which `threading.RLock` makes where `threading._CRLock` is None.
 
 def take_or_wait(record, is_held, acquire, release, blocking, timeout):
-    """Takes a lock by its real method in one call, since with greenlets another one may run in each. `timeout` is below 0 if it has none."""
+    """Takes a lock by its real method in one call, since in each another greenlet may run. `timeout` is below 0 if it has none."""
     if not blocking or timeout == 0:
         if acquire(blocking, timeout):
             return keep(record, TRY, release)
@@ -304,7 +304,7 @@ def take_or_wait(record, is_held, acquire, release, blocking, timeout):
 def replace_python_rlocks():
     """Notes what is done with RLocks that are written in Python, in their own class. A program may derive others from it."""
     real = threading._PyRLock
-    make, real_acquire, real_release, restore = real.__init__, real.acquire, real.release, real._acquire_restore
+    make, real_acquire, real_release = real.__init__, real.acquire, real.release
 
     def __init__(self):
         make(self)
@@ -330,22 +330,14 @@ def replace_python_rlocks():
             gave(record, None)
         real_release(self)
 
-    def _acquire_restore(self, state):
-        record = vars(self).get("_lockdep_record")
-        if record is not None and self._block.locked():
-            wish(record, False)
-        restore(self, state)
-        if record is not None and not grant(record):
-            took(record, WRITE)
-
-    put_in_place(real, __init__, acquire, release, _acquire_restore)
+    put_in_place(real, __init__, acquire, release)
     real.__enter__ = acquire
     replace_python_rlocks_own(real)
 
 
 def replace_python_rlocks_own(real):
     """The same of what only conditions and `os.fork` call."""
-    save, reinit = real._release_save, getattr(real, "_at_fork_reinit", None)
+    save, restore, reinit = real._release_save, real._acquire_restore, getattr(real, "_at_fork_reinit", None)
 
     def give(self):
         record = vars(self).get("_lockdep_record")
@@ -361,7 +353,15 @@ def replace_python_rlocks_own(real):
         give(self)
         reinit(self)
 
-    put_in_place(real, _release_save)
+    def _acquire_restore(self, state):
+        record = vars(self).get("_lockdep_record")
+        if record is not None and self._block.locked():
+            wish(record, False)
+        restore(self, state)
+        if record is not None and not grant(record):
+            took(record, WRITE)
+
+    put_in_place(real, _release_save, _acquire_restore)
     if reinit is not None:
         put_in_place(real, _at_fork_reinit)
 
@@ -428,6 +428,7 @@ def find_task_first(loop):
 def replace_asyncio(module):
     """Notes what is done with the locks of `asyncio.locks`, in their own class."""
     recording.find_task = find_task_first
+    recording.are_threads = False
     recording.find_loop = sys.modules["asyncio.events"]._get_running_loop
     leave_alone(sys.modules.get("asyncio.mixins"), "_global_lock")
     real = module.Lock
@@ -649,6 +650,7 @@ def replace_hooks():
 
 def begin(folder, is_fork_server):
     """Records this process from here on. Of the server that forks processes for `multiprocessing` only these are recorded."""
+    from . import green
     recording.is_typed = getattr(sys, "argv", [])[:1] == ["-c"]
     recording.begin_process(folder, is_fork_server)
     replace_hooks()
@@ -658,5 +660,6 @@ def begin(folder, is_fork_server):
     replace_locks()
     replace_exit()
     sys.meta_path.insert(0, Finder)
+    Finder.awaited.update(green.AWAITED)
     starts.begin()
     atexit.register(recording.end_process)

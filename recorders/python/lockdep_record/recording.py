@@ -1,7 +1,7 @@
 """What the tasks of this process do with locks: their records, which are written to a file of the process.
 
-A task is a thread, or a task of asyncio. Records are left out by the rule of docs/RECORDING.md: a stretch that comes back to the
-locks that were held at its start, and takes nothing in a way in which its task hadn't taken it before, is dropped. A way is the
+A task is a thread, a task of asyncio, or a greenlet. Records are left out by the rule of docs/RECORDING.md: a stretch that comes back
+to the locks that were held at its start, and takes nothing in a way in which its task hadn't taken it before, is dropped. A way is the
 held locks and the new one, in their order; it is a node of a tree, of which each task has its own.
 
 What no task of the process had done before is written at once, so that nothing is missing if a signal ends the process. The file
@@ -37,6 +37,9 @@ LATELY, MOST_BROKEN_OFF = 2, 16
 getframe = sys._getframe
 here = threading.local()
 find_loop = find_task = None  # of asyncio, once it is loaded
+find_greenlet = None  # the running one, once greenlets are loaded
+are_threads = True  # whether each task is a thread, as long as neither is loaded
+write_bytes, open_file, close_file = os.write, os.open, os.close  # eventlet puts its own into `os`
 
 
 # ---- Where something is in the source.
@@ -63,6 +66,13 @@ def kind_of(name):
     if kind != LIBRARY:
         (known_plain if kind == PLAIN else known_passed).add(name)
     return kind
+
+
+def pass_over(name):
+    """A file only does what its caller asks for."""
+    passed_files.append(name)
+    kinds.pop(name, None)
+    known_plain.discard(name)
 
 
 is_typed = False
@@ -294,20 +304,36 @@ class Guard:
 
 
 def current():
-    """The running task: that of asyncio, or otherwise the thread."""
+    """The running task: that of asyncio, the greenlet, or otherwise the thread."""
+    running = None
     if find_loop is not None:
         loop = find_loop()
         if loop is not None:
             running = find_task(loop)
-            if running is not None:
-                try:
-                    return running._lockdep_guard.task
-                except AttributeError:
-                    return begin_coroutine(running)
+    if running is None and find_greenlet is not None:
+        running = find_greenlet()
+        if running.parent is None:  # that of the thread itself
+            running = None
     try:
-        return here.task
+        return here.task if running is None else running._lockdep_guard.task
     except AttributeError:
+        return begin_running(running)
+
+
+def begin_running(running):
+    """What is running takes its first lock, or gets another trace."""
+    if running is None:
         return begin_thread()
+    if hasattr(running, "get_coro"):
+        return begin_coroutine(running)
+    running._lockdep_guard = Guard(Task())
+    return running._lockdep_guard.task
+
+
+def note_greenlets(module):
+    """From here on a greenlet is a task of its own. `module` has those that are there."""
+    global find_greenlet, are_threads
+    find_greenlet, are_threads = module.getcurrent, False
 
 
 def begin_coroutine(running):
@@ -351,7 +377,7 @@ def begin_thread():
 def took(lock, mode):
     """The running task has taken a lock. (This and `gave` are called at each operation, so they make few calls.)"""
     try:
-        task = here.task if find_loop is None else current()
+        task = here.task if are_threads else current()
     except AttributeError:
         task = begin_thread()
     if task.is_busy:
@@ -405,12 +431,17 @@ def took_oddly(lock, mode, task):
 
 def begin_again(task):
     """The running thread or task gets another trace."""
+    begin_running(running_one())
+
+
+def running_one():
+    """The running task of asyncio or greenlet, or None where it is the thread's own."""
     loop = find_loop() if find_loop is not None else None
     running = find_task(loop) if loop is not None else None
-    if running is None:
-        begin_thread()
-    else:
-        begin_coroutine(running)
+    if running is None and find_greenlet is not None:
+        running = find_greenlet()
+        running = running if running.parent is not None else None
+    return running
 
 
 def leave_out(lock, reason):
@@ -442,7 +473,7 @@ def see(task, way):
 def gave(lock, real):
     """The running task is about to release a lock. `real` knows whether somebody holds it."""
     try:
-        task = here.task if find_loop is None else current()
+        task = here.task if are_threads else current()
     except AttributeError:
         task = begin_thread()
     if task.is_busy:
@@ -771,7 +802,7 @@ class Process:
     def __init__(self, folder, is_left_out):
         self.folder, self.tasks, self.common = folder, set(), Way(None)
         self.counts = dict.fromkeys(("reentered", "beyond-held", "full-traces", "unseen-releases", "repeats", "retried-tries",
-                                     "interrupted", "alike", "operations", "multiprocessing"), 0)
+                                     "interrupted", "alike", "operations", "multiprocessing", "gevent", "eventlet"), 0)
         self.told, self.written, self.like, self.task_count = {}, {}, {}, 0
         self.places, self.place_numbers, self.pid = {}, counting(1), os.getpid()
         self.broken_off = deque(maxlen=MOST_BROKEN_OFF)
@@ -798,12 +829,12 @@ LEFT_OUT = None  # the holder of a lock whose acquisition isn't in a trace
 def put_bytes(of, raw):
     """Adds to the file of a process. Errors never reach the program."""
     try:
-        file = os.open(of.path, os.O_WRONLY | os.O_APPEND | os.O_CREAT | os.O_CLOEXEC, 0o666)
+        file = open_file(of.path, os.O_WRONLY | os.O_APPEND | os.O_CREAT | os.O_CLOEXEC, 0o666)
         try:
             while raw:
-                raw = raw[os.write(file, raw):]
+                raw = raw[write_bytes(file, raw):]
         finally:
-            os.close(file)
+            close_file(file)
     except OSError:
         give_up(of)
 
@@ -812,7 +843,7 @@ def give_up(of):
     """The file of a process can't be written any more. That is noted by an empty file, for which even a full disk may have room."""
     of.is_off = True
     try:
-        os.close(os.open(of.path + ".lost", os.O_WRONLY | os.O_CREAT | os.O_CLOEXEC, 0o666))
+        close_file(open_file(of.path + ".lost", os.O_WRONLY | os.O_CREAT | os.O_CLOEXEC, 0o666))
     except OSError:
         pass
 
@@ -940,10 +971,15 @@ def begin_in_child():
         return
     global class_lock
     class_lock = allocate_lock()
-    old = getattr(here, "task", None)
+    running, loaded = running_one(), {name: process.counts[name] for name in ("gevent", "eventlet")}
+    guard = here if running is None else getattr(running, "_lockdep_guard", None)
+    old = getattr(guard, "task", None)
+    for task in process.tasks:  # what of these runs here too begins another trace
+        task.is_over = task.is_busy = True
     begin_process(process.folder)
-    here.task = task = Task()
-    here.guard = Guard(task)
+    process.counts.update(loaded)
+    begin_running(running)
+    task = current()
     for entry in [entry for entry in old.held if entry is not old.wish] if old is not None else []:
         code, new = entry.code, Held(entry.lock)
         new.task, new.code, new.before = task, code, task.way
