@@ -449,8 +449,9 @@ def replace_asyncio(module):
         return await wait_in_loop(record, self, real_acquire)
 
     def release(self):
-        if self._lockdep_record is not None:
-            gave(self._lockdep_record, self)
+        record = self._lockdep_record
+        if record is not None:
+            gave(record, self)
         real_release(self)
 
     put_in_place(real, __init__, acquire, release)

@@ -304,16 +304,25 @@ class Guard:
 
 
 def current():
-    """The running task: that of asyncio, the greenlet, or otherwise the thread."""
-    running = None
+    """The running task: that of asyncio, or otherwise the thread. Once greenlets are loaded, `current_of_all` takes its place."""
     if find_loop is not None:
         loop = find_loop()
         if loop is not None:
             running = find_task(loop)
-    if running is None and find_greenlet is not None:
-        running = find_greenlet()
-        if running.parent is None:  # that of the thread itself
-            running = None
+            if running is not None:
+                try:
+                    return running._lockdep_guard.task
+                except AttributeError:
+                    return begin_coroutine(running)
+    try:
+        return here.task
+    except AttributeError:
+        return begin_thread()
+
+
+def current_of_all():
+    """The running task: that of asyncio, the greenlet, or otherwise the thread."""
+    running = running_one()
     try:
         return here.task if running is None else running._lockdep_guard.task
     except AttributeError:
@@ -332,8 +341,8 @@ def begin_running(running):
 
 def note_greenlets(module):
     """From here on a greenlet is a task of its own. `module` has those that are there."""
-    global find_greenlet, are_threads
-    find_greenlet, are_threads = module.getcurrent, False
+    global find_greenlet, are_threads, current
+    find_greenlet, are_threads, current = module.getcurrent, False, current_of_all
 
 
 def begin_coroutine(running):
