@@ -242,6 +242,9 @@ class RLock(Replaced):
     def _recursion_count(self):
         return self._lockdep_inner._recursion_count()
 
+    def locked(self):
+        return self._lockdep_inner.locked()
+
     def _release_save(self):
         levels = self._lockdep_levels
         if self._lockdep_inner._is_owned():
@@ -273,7 +276,7 @@ class RLock(Replaced):
 
 def drop_unknown(own, real):
     """Takes away from a class what the real one hasn't in this version of Python."""
-    for name in ("_at_fork_reinit", "_recursion_count"):
+    for name in ("_at_fork_reinit", "_recursion_count", "locked"):
         if name in vars(own) and not hasattr(real, name):
             delattr(own, name)
 
@@ -281,7 +284,7 @@ def drop_unknown(own, real):
 # ---- The RLock that is written in Python, which `threading.RLock` makes where `threading._CRLock` is None.
 
 def take_or_wait(record, is_held, acquire, release, blocking, timeout):
-    """Takes a lock by its real method in one call, since in each another greenlet may run. `timeout` is below 0 if it has none."""
+    """Takes a lock by its real method in one call, since in each another greenlet may run. `timeout` is -1 if it has none."""
     if not blocking or timeout == 0:
         if acquire(blocking, timeout):
             return keep(record, TRY, release)
@@ -293,7 +296,7 @@ def take_or_wait(record, is_held, acquire, release, blocking, timeout):
     try:
         is_taken = acquire(blocking, timeout)
     except BaseException:
-        (break_off if timeout < 0 else not_granted)(record)
+        (break_off if timeout == -1 else not_granted)(record)
         raise
     if not is_taken:
         not_granted(record)
