@@ -411,7 +411,7 @@ def replace_semaphores():
             record = vars(self).get("_lockdep_record")
             if record is not None and n == 1:
                 gave(record, Taken if self._value == 0 else None)
-            real_release(self, n)
+            real_release(self, *([n] if n != 1 else []))  # (Python 3.8 has no number there)
         return release
 
     put_in_place(real, __init__, acquire)
