@@ -86,5 +86,15 @@ def replace_reinit(real):
     locks.put_in_place(real, _at_fork_reinit)
 
 
-AWAITED = {"greenlet": recording.note_greenlets, "gevent": count_package("gevent"), "eventlet": count_package("eventlet"),
-           "gevent.thread": replace_gevent, "eventlet.lock": replace_eventlet}
+def if_it_can(replace):
+    """Does something with a module unless that isn't what it seems to be: a program may have a module of any name."""
+    def tries(module):
+        try:
+            replace(module)
+        except (AttributeError, KeyError, TypeError):
+            pass
+    return tries
+
+
+AWAITED = {"greenlet": if_it_can(recording.note_greenlets), "gevent": count_package("gevent"), "eventlet": count_package("eventlet"),
+           "gevent.thread": if_it_can(replace_gevent), "eventlet.lock": if_it_can(replace_eventlet)}
