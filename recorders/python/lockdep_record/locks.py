@@ -618,7 +618,7 @@ def replace_exit():
 
 
 def hide(error):
-    """Takes the functions of this file out of the trace of an error, and of those that led to it. What comes in between, as another
+    """Takes the recorder's functions out of the trace of an error, and of those that led to it. What comes in between, as another
     Ctrl-C, isn't an error of the program's hook."""
     try:
         take_out(error)
@@ -632,14 +632,14 @@ def take_out(error):
         known.add(error)
         trace = error.__traceback__
         while trace is not None and trace.tb_next is not None:
-            while trace.tb_next is not None and trace.tb_next.tb_frame.f_code.co_filename == __file__:
+            while trace.tb_next is not None and trace.tb_next.tb_frame.f_code.co_filename.startswith(recording.own_folder + os.sep):
                 trace.tb_next = trace.tb_next.tb_next
             trace = trace.tb_next
         error = error.__cause__ or error.__context__
 
 
 def replace_hooks():
-    """The printed traceback of an uncaught error shows nothing of this file."""
+    """The printed traceback of an uncaught error shows nothing of the recorder."""
     real_hook, real_thread_hook = sys.excepthook, threading.excepthook
 
     def excepthook(kind, value, trace):
