@@ -85,7 +85,7 @@ def check(name, folder=None):
         done = Run([lockdep, "check", "--many"] + files)
         same(name + ": the checker's status", True, done.status in (0, 1) and not done.said)
     for task in task_names(folder):
-        by_lock = re.sub(r"#(\d+|rest)(\^\d+)?,", ",", contents(os.path.join(folder, "objects", task)))
+        by_lock = re.sub(r"#(\d+|rest)(@\d+)?,", ",", contents(os.path.join(folder, "objects", task)))
         if by_lock != contents(os.path.join(folder, task)):
             same(name + ": by single locks", contents(os.path.join(folder, task)), by_lock)
     return done
