@@ -147,10 +147,12 @@ struct raw_left_out {
     uint64_t repeated;  /* records that repeated what the thread had done before: nothing is lost by these */
 };
 
+#define RAW_WAITS_AT_EXIT 2
+
 struct raw_thread {
     uint32_t process;
     uint32_t is_ready;
-    uint32_t waits; /* its last record is a lock that it waits for */
+    uint32_t waits; /* its last record is a lock that it waits for: 1, or RAW_WAITS_AT_EXIT if the process exits meanwhile */
     uint32_t ended; /* it came to its end, and the process went on */
     uint64_t count; /* how many records there are */
     uint64_t calls; /* how many acquisitions and releases were seen */

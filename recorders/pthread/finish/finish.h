@@ -153,7 +153,7 @@ void tell_stand_ins(FILE *file); /* lines of SUMMARY: which traces stand for how
 /* ---- traces.c */
 
 struct sums {
-    uint64_t threads, operations, events, tries, classes, deep, in_fork, alike, waiting, held_at_end;
+    uint64_t threads, operations, events, tries, classes, deep, in_fork, alike, waiting, waiting_at_exit, held_at_end;
     struct raw_left_out raw;
 };
 

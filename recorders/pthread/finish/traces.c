@@ -192,6 +192,7 @@ static bool is_told_at_end(const struct trace *t) { return t->depth && (t->raw->
 static void tell_last(const struct trace *t, const char *name) {
     if (t->raw->waits && t->depth) {
         sums.waiting++;
+        sums.waiting_at_exit += t->raw->waits == RAW_WAITS_AT_EXIT;
         add_line(&waiting_text, t, name, tell_wait);
     } else if (t->raw->ended && t->depth) {
         sums.held_at_end++;

@@ -214,8 +214,10 @@ EXPORT void *dlmopen(Lmid_t space, const char *name, int mode) {
 __attribute__((destructor)) static void at_end(void) {
     if (LOAD(&has_opened) && is_recording())
         note_modules();
-    if (is_recording())
+    if (is_recording()) {
         end_own_wishes(HERE);
+        note_waits_at_exit();
+    }
 }
 
 /* A library that goes takes its addresses with it. */

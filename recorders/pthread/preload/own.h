@@ -283,6 +283,7 @@ void destroyed(uintptr_t lock, struct call call);
 void given_back(uintptr_t from, uintptr_t to, uintptr_t caller);
 void look_at_inherited(struct call call);
 void end_own_wishes(struct call call);
+void note_waits_at_exit(void);
 void tried(uintptr_t lock, bool has_failed, struct call call);
 bool is_held_once(uintptr_t lock);
 bool is_any_held(void);

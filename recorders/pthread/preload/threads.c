@@ -692,6 +692,21 @@ void acquired(uintptr_t lock, uint8_t mode, enum kind kind, struct call call) {
 
 /* ---- Wishes. What a thread waits for is written before it waits, as if it had taken it. If the call fails it is withdrawn. */
 
+static uint32_t is_exiting;
+
+/* A thread that waits while its process exits may wait for a moment only, or for a lock that the exiting thread never releases. */
+void note_waits_at_exit(void) {
+    STORE(&is_exiting, 1);
+    const struct raw_region *threads = &arena->regions[RAW_THREADS];
+    uint32_t used = LOAD(&threads->used);
+    for (uint32_t number = 1; number <= used && number <= threads->room; number++) {
+        struct raw_thread *thread = part_of(RAW_THREADS, number);
+        uint32_t waits = 1;
+        if (LOAD(&thread->is_ready) && thread->process == own_process)
+            __atomic_compare_exchange_n(&thread->waits, &waits, RAW_WAITS_AT_EXIT, false, __ATOMIC_RELAXED, __ATOMIC_RELAXED);
+    }
+}
+
 /* Whether the wish was recorded; end_wish is to follow then. */
 bool begin_wish(uintptr_t lock, uint8_t mode, enum kind kind, struct call call) {
     struct thread *t = enter(call);
@@ -704,7 +719,7 @@ bool begin_wish(uintptr_t lock, uint8_t mode, enum kind kind, struct call call) 
         push_held(t, lock, object, mode, kind, call, true);
         if (!t->wish.frame)
             t->wish = call;
-        STORE(&t->raw->waits, 1);
+        STORE(&t->raw->waits, LOAD(&is_exiting) ? RAW_WAITS_AT_EXIT : 1);
     }
     leave();
     return object != 0;
