@@ -160,7 +160,7 @@ static void write_summary(const char *folder) {
     tell(file, "events", sums.events);
     tell(file, "classes", key_count < MAX_KEYS ? key_count : MAX_KEYS);
     tell_text(file, "waiting", sums.waiting, waiting_text);
-    tell(file, "exit-waits", sums.waiting_at_exit);
+    tell(file, "at-exit", sums.waiting_at_exit);
     tell_text(file, "held-at-end", sums.held_at_end, held_text);
     if (sums.operations == 0)
         tell_unseen(file);
