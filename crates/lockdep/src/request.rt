@@ -145,11 +145,7 @@ fn verdict_request<'l, 'a>(
 fn format_as(as_json: bool) -> Format
     ensures { result ≡ format_as as_json }
 {
-    if as_json {
-        Format::Json
-    } else {
-        Format::Lines
-    }
+    if as_json { Format::Json } else { Format::Lines }
 }
 
 // The explanation, as JSON if that is asked for.

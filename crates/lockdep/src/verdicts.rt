@@ -77,7 +77,16 @@ pub(crate) fn write_verdicts_of<R: Threads + Sync, W: Write>(
         traces.now workers (W.contents w.old) (W.contents w.new)) }
 {
     let levels = levels_of(rt, alloc, workers, traces, keys)?;
-    match write_levels(alloc, &levels, traces, keys, format, confirmed_only, files, w) {
+    match write_levels(
+        alloc,
+        &levels,
+        traces,
+        keys,
+        format,
+        confirmed_only,
+        files,
+        w,
+    ) {
         Ok(found) => Ok(found),
         Err(fault) => Err(ReportFault::Out(fault)),
     }

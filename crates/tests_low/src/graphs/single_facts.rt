@@ -62,9 +62,7 @@ fn add_each(facts: &mut Facts, all: &[ShortFact]) -> bool {
 }
 
 fn has_none(facts: &Facts, absent: &[ShortFact]) -> bool {
-    absent
-        .iter()
-        .all(|fact| !facts.has(fact.fact()) && !has_by_its_parts(facts, fact.fact()))
+    absent.iter().all(|fact| !facts.has(fact.fact()) && !has_by_its_parts(facts, fact.fact()))
 }
 
 fn are_kept(alloc: Global, singles: &Singles) -> Option<bool> {
