@@ -22,9 +22,17 @@ fn asked<'l, 'a>(line: &'l Result<Line<'a>, LineFault>) -> Asked<'l, 'a> {
                 workers,
                 many,
                 json,
+                locks,
+                confirmed_only,
                 files,
             },
-        ) => ("explain", *workers, *many, *json, files.as_slice()),
+        ) => (
+            explain_word(*locks, *confirmed_only),
+            *workers,
+            *many,
+            *json,
+            files.as_slice(),
+        ),
         Ok(
             Line::Graph {
                 workers,
@@ -44,8 +52,18 @@ fn asked<'l, 'a>(line: &'l Result<Line<'a>, LineFault>) -> Asked<'l, 'a> {
     }
 }
 
+// The word of an explanation, with its flags `--locks` and `--confirmed-only`.
+fn explain_word(locks: bool, confirmed_only: bool) -> &'static str {
+    match (locks, confirmed_only) {
+        (false, false) => "explain",
+        (true, false) => "explain locks",
+        (false, true) => "explain confirmed",
+        (true, true) => "explain confirmed locks",
+    }
+}
+
 // Words, and what they ask for.
-static LINES: [(&[&str], Asked<'_, '_>); 32] = [
+static LINES: [(&[&str], Asked<'_, '_>); 36] = [
     (&["lockdep", "check"], ("check", 4, false, false, &[])),
     (
         &["lockdep", "check", "a.txt"],
@@ -111,6 +129,28 @@ static LINES: [(&[&str], Asked<'_, '_>); 32] = [
     (
         &["lockdep", "explain", "--", "--json"],
         ("explain", 4, false, false, &["--json"]),
+    ),
+    (
+        &["lockdep", "explain", "--locks", "a"],
+        ("explain locks", 4, false, false, &["a"]),
+    ),
+    (
+        &["lockdep", "explain", "a", "--confirmed-only"],
+        ("explain confirmed", 4, false, false, &["a"]),
+    ),
+    (
+        &[
+            "lockdep",
+            "explain",
+            "--confirmed-only",
+            "--json",
+            "--locks",
+        ],
+        ("explain confirmed locks", 4, false, true, &[]),
+    ),
+    (
+        &["lockdep", "check", "--locks", "a"],
+        ("refused", 0, false, false, &[]),
     ),
     (
         &["lockdep", "check", "--json", "a"],
