@@ -1,22 +1,24 @@
 -- Facts taken over by the keys of a list, each key by its place there, in the order of their numbers.
-use Rattle.ld_graph.proofs.Names.{◌+◌, ◌<◌, ◌↔◌, ◌∙◌, ◌≡◌, Adds, AreSame, Fact, FactBelow, FactParts, HasFact, List, Renumbered, arith, bit_total, cases_eq, fact_by, fact_number, fact_number-lt, fact_number-same, inl, inr, length, slice_index, subst, sym, ℕ}
+use Rattle.ld_graph.proofs.Names.{◌*◌, ◌+◌, ◌<◌, ◌∙◌, ◌≡◌, ◌≤◌, Adds, AreSame, Fact, Kind, ap, cases_lt, kind_number-lt, FactBelow, FactParts, HasFact, List, Renumbered, arith, bit_total, cases_eq, fact_by, fact_number, fact_number-lt, fact_number-same, inl, inr, length, slice_index, suc, subst, sym, ℕ}
+use Rattle.ld_facts.specs.declared.fact.Fact.TheVariants.{Dependency, Marked}
+use Rattle.std.proofs.Math.Nat.{mul-le-mul_right, mul_assoc, suc-mul}
+use Rattle.ld_graph.specs.Inside.TakingOver.{IsTakenOver}
 
--- the facts with numbers below n have been taken over
-pub record TakenOver (facts now : FactParts) (listed : List ℕ) (n : ℕ) : Type 0 where
-  pub keys : now.keys ≡ length listed
-  pub exact : (x : Fact) → HasFact now x ↔ (Renumbered (HasFact facts) listed x × (fact_number (length listed) x < n))
+-- one row more
+more-rows : (n m : ℕ) → (n + 1) * m ≡ n * m + m
+more-rows n m = ap (λ k. k * m) (let k : n + 1 ≡ suc n = omega arith in k) ∙ suc-mul n m
 
 module _ (facts : FactParts) (keys : List ℕ) where
-  pub TakenOver-start : (now : FactParts) → now.keys ≡ length keys → ((x : Fact) → ¬ HasFact now x) → TakenOver facts now keys 0
+  pub TakenOver-start : (now : FactParts) → now.keys ≡ length keys → ((x : Fact) → ¬ HasFact now x) → IsTakenOver facts now keys 0
   TakenOver-start now same none = record {
     keys = same;
     exact = λ x. ((λ h. absurd (none x h)), (λ h. absurd (let l = h.1 in omega arith)));
   }
 
   -- one more number has one fact
-  module _ (now : FactParts) (n : ℕ) (was : TakenOver facts now keys n) (x : Fact) (below : FactBelow (length keys) x)
+  module _ (now : FactParts) (n : ℕ) (was : IsTakenOver facts now keys n) (x : Fact) (below : FactBelow (length keys) x)
       (number : fact_number (length keys) x ≡ n) where
-    pub TakenOver-known : ¬ HasFact facts (fact_by (slice_index keys) x) → TakenOver facts now keys (n + 1)
+    pub TakenOver-known : ¬ HasFact facts (fact_by (slice_index keys) x) → IsTakenOver facts now keys (n + 1)
     TakenOver-known absent = record {
       keys = was.keys;
       exact = λ y. (
@@ -30,7 +32,7 @@ module _ (facts : FactParts) (keys : List ℕ) where
     }
 
     pub TakenOver-more : HasFact facts (fact_by (slice_index keys) x) → (new : FactParts) → new.keys ≡ now.keys →
-        Adds (HasFact now) (HasFact new) (λ y. y ≡ x) → TakenOver facts new keys (n + 1)
+        Adds (HasFact now) (HasFact new) (λ y. y ≡ x) → IsTakenOver facts new keys (n + 1)
     TakenOver-more there new same adds = record {
       keys = same ∙ was.keys;
       exact = λ y. (
@@ -46,7 +48,50 @@ module _ (facts : FactParts) (keys : List ℕ) where
       );
     }
 
-  pub AreSame-all : (now : FactParts) (n : ℕ) → n ≡ bit_total (length keys) → TakenOver facts now keys n →
+  -- ---- the numbers of the dependencies from a place are a row
+  pub row-after : (place : ℕ) → place * (length keys * 4) + length keys * 4 ≡ (place + 1) * (length keys * 4)
+  row-after place = sym (more-rows place (length keys * 4))
+
+  -- a fact whose number is in the row of a place is a dependency from there
+  in_row : (place : ℕ) → place < length keys → (x : Fact) → FactBelow (length keys) x → place * (length keys * 4) ≤ fact_number (length keys) x →
+      fact_number (length keys) x < place * (length keys * 4) + length keys * 4 → (to : ℕ) × (kind : Kind) × (x ≡ Dependency place to kind)
+  in_row place within (Dependency from to kind) (low, high) least most = (
+    to,
+    kind,
+    ap (λ k. Dependency k to kind) (elim (cases_lt from place) [
+      | inl less ↦
+          let rows : (from + 1) * length keys ≤ place * length keys = mul-le-mul_right (length keys) (omega (arith, less)) in
+          absurd (omega (arith, least, high, kind_number-lt kind, rows, more-rows from (length keys), mul_assoc place (length keys) 4))
+      | inr more ↦ elim (cases_lt place from) [
+        | inl less ↦
+            let rows : (place + 1) * length keys ≤ from * length keys = mul-le-mul_right (length keys) (omega (arith, less)) in
+            absurd (omega (arith, most, rows, more-rows place (length keys), mul_assoc place (length keys) 4))
+        | inr same ↦ omega (arith, more, same)
+      ]
+    ]),
+  )
+  in_row place within (Marked key mark) below least most =
+      let rows : (place + 1) * length keys ≤ length keys * length keys = mul-le-mul_right (length keys) (omega (arith, within)) in
+      absurd (omega (arith, most, rows, more-rows place (length keys), mul_assoc place (length keys) 4))
+
+  -- nothing is taken over from a key that no dependency goes from
+  pub TakenOver-row : (now : FactParts) (place : ℕ) → place < length keys →
+      ((to : ℕ) (kind : Kind) → ¬ HasFact facts (Dependency (slice_index keys place) to kind)) →
+      IsTakenOver facts now keys (place * (length keys * 4)) → IsTakenOver facts now keys ((place + 1) * (length keys * 4))
+  TakenOver-row now place within none was = record {
+    keys = was.keys;
+    exact = λ x. (
+      (λ h. let (there, less) = (was.exact x).0 h in (there, omega (arith, less, row-after place))),
+      (λ (there, less). elim (cases_lt (fact_number (length keys) x) (place * (length keys * 4))) [
+        | inl before ↦ (was.exact x).1 (there, before)
+        | inr after ↦
+            let (to, kind, is) = in_row place within x there.0 (omega (arith, after)) (omega (arith, less, row-after place)) in
+            absurd (none (slice_index keys to) kind (subst (λ z. HasFact facts (fact_by (slice_index keys) z)) is there.1))
+      ]),
+    );
+  }
+
+  pub AreSame-all : (now : FactParts) (n : ℕ) → n ≡ bit_total (length keys) → IsTakenOver facts now keys n →
       AreSame (HasFact now) (Renumbered (HasFact facts) keys)
   AreSame-all now n all was x = (
     (λ h. ((was.exact x).0 h).0),

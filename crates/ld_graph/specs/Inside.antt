@@ -1,3 +1,4 @@
 pub mod Kept
 pub mod Searching
+pub mod TakingOver
 pub mod Tables

@@ -1,34 +1,22 @@
-use Rattle.ld_graph.proofs.Names.{FactBelow, HasFact, arith, subst, sym}
-use Rattle.ld_graph.proofs.ByPlace.{TakenOver-start, TakenOver-known, TakenOver-more, AreSame-all}
+use Rattle.ld_graph.proofs.Names.{◌*◌, length, sym}
+use Rattle.ld_graph.proofs.ByPlace.{AreSame-all, TakenOver-row, TakenOver-start, row-after}
+use Rattle.std.proofs.Math.Nat.{zero-mul}
 use Rattle.ld_graph.proofs.graph.Graph.of_keys.Goals as goal
-use Rattle.ld_graph.proofs.graph.Graph.of_keys.Goals.{then-has, else-has}
+use Rattle.ld_graph.proofs.graph.Graph.of_keys.Goals.{then-may_lead_from, else-may_lead_from}
 
-pub loop-n-init : goal.loop-n-init
-loop-n-init c = TakenOver-start c.args.facts.now c.args.keys.now c.in_ok-graph.graph.facts c.in_ok-graph.ensures.keys c.in_ok-graph.ensures.none
+pub loop-place-init : goal.loop-place-init
+loop-place-init c = rw (zero-mul (length c.args.keys.now * 4)) (TakenOver-start c.args.facts.now c.args.keys.now c.in_ok-graph.graph.facts c.in_ok-graph.ensures.keys c.in_ok-graph.ensures.none)
 
-pub loop-n-preserved : goal.loop-n-preserved
-loop-n-preserved c = elim c.if-has.branch [
-  | then-has w ↦
-      rw (w.graph-is)
-      (TakenOver-more c.args.facts.now c.args.keys.now c.loop-n.graph.facts c.loop-n.n c.loop-n.invariant c.of_number-fact.result
-      c.of_number-fact.ensures.below c.of_number-fact.ensures.number
-      (subst (HasFact c.args.facts.now) c.at_places.ensures (c.has.ensures.0 w.if-has.true))
-      w.add.new.self.facts w.add.ensures.keys w.add.ensures.adds)
-  | else-has w ↦
-      rw (w.graph-is)
-      (TakenOver-known c.args.facts.now c.args.keys.now c.loop-n.graph.facts c.loop-n.n c.loop-n.invariant c.of_number-fact.result
-      c.of_number-fact.ensures.below c.of_number-fact.ensures.number
-      (λ there. absurd
-      (let on = c.has.ensures.1 (subst (HasFact c.args.facts.now) (sym c.at_places.ensures) there) in
-      let off = w.if-has.false in
-      cc)))
+pub loop-place-preserved : goal.loop-place-preserved
+loop-place-preserved c = elim c.if-may_lead_from.branch [
+  | then-may_lead_from w ↦
+      rw (w.graph-is, sym (row-after c.args.facts.now c.args.keys.now c.loop-place.place)) w.take_over.ensures
+  | else-may_lead_from w ↦
+      rw w.graph-is
+      (TakenOver-row c.args.facts.now c.args.keys.now c.loop-place.graph.facts c.loop-place.place c.loop-place-test.true
+      (c.may_lead_from.ensures w.if-may_lead_from.false) c.loop-place.invariant)
 ]
-
-pub add-requires : goal.add-requires
-add-requires c = subst (λ keys. FactBelow keys c.of_number-fact.result) (sym c.loop-n.invariant.keys) c.of_number-fact.ensures.below
 
 pub returns-clause-facts : goal.returns-clause-facts
 returns-clause-facts c =
-    AreSame-all c.args.facts.now c.args.keys.now c.loop-n.graph.facts c.loop-n.n
-    (let e = c.fact_total-n-end.ensures in let most = c.loop-n.auto.n-end in let least = c.loop-n-test.false in omega arith)
-    c.loop-n.invariant
+    AreSame-all c.args.facts.now c.args.keys.now c.take_over-2.new.self.facts c.fact_total.result c.fact_total.ensures c.take_over-2.ensures
