@@ -1,8 +1,9 @@
 -- Facts by other names, and without those of several locks.
-use Rattle.ld_explain.proofs.Names.{Err, IfOk, IfSome, None, Ok, Option, Result, Some, [], ◌++◌, ◌+◌, ◌<◌, ◌∙◌, ◌∷◌, ◌≡◌, ◌≤◌, All, Bool, Dependency, Fact, FactBelow, FactParts, HasFact, Image, IsFalse, List, Marked, RenamedFactsAreTheImage, TracesHave, ap, arith, cases_lt, fact_by, false, if◌then◌else◌, inl, inr, length, length-append, length-map, map, refl, slice_index, subst, sym, true, true≢false, ℕ}
+use Rattle.ld_explain.proofs.Names.{Err, IfOk, IfSome, None, Ok, Option, Result, Some, [], ◌++◌, ◌+◌, ◌<◌, ◌∙◌, ◌∷◌, ◌≡◌, ◌≤◌, All, Bool, Contains, Dependency, Fact, FactBelow, FactParts, HasFact, Image, IsFalse, List, Marked, RenamedFactsAreTheImage, TracesHave, ap, arith, cases_lt, fact_by, false, if◌then◌else◌, inl, inr, length, length-append, length-map, map, refl, slice_index, subst, sym, true, true≢false, ℕ}
 use Rattle.std.proofs.lemmas.List.{get_or_append_left, get_or_push}
+use Rattle.std.proofs.lemmas.List.Elements.{Contains-get_or}
 use Rattle.std.specs.Borrow.{Bor}
-use Rattle.std.specs.Prelude.{IsErrAnd, IsSomeAnd, option_map}
+use Rattle.std.specs.Prelude.{IsErrAnd, IsNone, IsSomeAnd, option_map}
 use Rattle.ld_facts.specs.Facts.{AreSame}
 use Rattle.ld_facts.specs.Renaming.{ImageBelow, TracesHaveBy}
 use Rattle.ld_facts.specs.Renumbered.{fact_by}
@@ -101,6 +102,45 @@ image-sure names others facts few numbers Sure same x = (
       (subst (HasFact facts) own_fact has, sure)),
   (λ (has, sure). (same x).1 (has.0, (x, has, by-sure names others facts.keys few numbers x has.0 sure))),
 )
+
+-- where each key has its own number no fact is left out
+all-sure : (names : List Name) (others : List ℕ) (bound : ℕ) → AreSureNumbers names bound others → ¬ Contains others no_key →
+    (x : Fact) → FactBelow bound x → IsSure names x
+all-sure names others bound numbers none x below = is-sure x below
+  where
+    one-lock : (key : ℕ) → key < bound → IsFalse (is_rest (name_at names key).0)
+    one-lock key within = cases (is_rest (name_at names key).0) (numbers.each key within)
+      where
+        cases : (several : Bool) → slice_index others key ≡ (if several then no_key else key) → IsFalse several
+        cases true is = absurd (none (subst (Contains others) is (Contains-get_or others key 0 (omega (arith, within, numbers.len)))))
+        cases false is = refl
+
+    is-sure : (y : Fact) → FactBelow bound y → IsSure names y
+    is-sure (Dependency from to kind) (low, high) = (one-lock from low, one-lock to high)
+    is-sure (Marked key mark) low = one-lock key low
+
+-- so all facts of such traces are sure
+pub sure-of_all : (traces : List (List Event)) (names : List Name) (others : List ℕ) (facts : FactParts) → AreSureNumbers names facts.keys others → ¬ Contains others no_key →
+    AreSame (HasFact facts) (TracesHave traces) → (Every : Fact → Type 0) → AreSame Every (TracesHave traces) → AreSame Every (λ x. TracesHave traces x × IsSure names x)
+sure-of_all traces names others facts numbers none of_traces Every same x = (
+  (λ h. let has = (same x).0 h in (has, all-sure names others facts.keys numbers none x ((of_traces x).1 has).0)),
+  (λ (has, sure). (same x).1 has),
+)
+
+-- what follows for the one that is there
+pub IfSome-weaker : {X : Type 0} (found : Option X) (P Q : X → Type 0) → ((x : X) → P x → Q x) → IfSome found P → IfSome found Q
+IfSome-weaker None P Q weaker is = tt
+IfSome-weaker (Some x) P Q weaker is = weaker x is
+
+-- what holds of the one that is chosen
+pub chosen : (b : Bool) (one other : Option FactParts) (P : FactParts → Type 0) → IfSome one P → (b ≡ false → IfSome other P) → IfSome (if b then one else other) P
+chosen true one other P is otherwise = is
+chosen false one other P is otherwise = otherwise refl
+
+-- one that isn't there, of which the other one is or has a reason not to be
+pub not-chosen : (b : Bool) (one other : Option FactParts) {Why : Type 0} → (IsNone one → b ≡ true → Why) → (IsNone other → Why) → IsNone (if b then one else other) → Why
+not-chosen true one other why otherwise none = why none refl
+not-chosen false one other why otherwise none = otherwise none
 
 -- the same of traces that have these facts
 pub sure-of_traces : (traces : List (List Event)) (names : List Name) (facts : FactParts) → AreSame (HasFact facts) (TracesHave traces) →

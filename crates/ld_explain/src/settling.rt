@@ -1,6 +1,6 @@
 //! What is settled about traces at each level of what their locks are called.
 
-ghost use Rattle.std.specs.Prelude.{◌≡◌, ◌<◌, ◌≤◌, Err, List, Ok, All, IfOk, IfSome, IsNone, if◌then◌else◌, length, slice_index};
+ghost use Rattle.std.specs.Prelude.{◌≡◌, ◌<◌, ◌≤◌, ◌↔◌, Contains, Err, List, Ok, All, IfOk, IfSome, IsFalse, IsNone, IsTrue, if◌then◌else◌, length, slice_index};
 ghost use Rattle.ld_trace.specs.Classes.{is_rest};
 ghost use Rattle.ld_trace.specs.Writing.{name_at};
 ghost use Rattle.ld_trace.specs.declared.event.Event.{Event};
@@ -29,22 +29,27 @@ use std::marker::Model;
 #[derive(Drop)]
 pub struct SettledLevels {
     locks: Option<Settled>,
+    // Only if some name stands for several locks; otherwise the facts are those of `locks`.
     sure: Option<Settled>,
+    has_several: bool,
+    // Only if some class isn't a type; otherwise the facts are those of `types`.
     classes: Option<Settled>,
+    has_places: bool,
     types: Settled,
     by_class: Renaming,
     by_type: Renaming,
 }
 
 impl Model for SettledLevels {
+    ghost use Rattle.std.specs.Prelude.{Some, if◌then◌else◌};
     ghost use Rattle.ld_explain.specs.Settling.{LevelParts};
 
     ghost Value = { LevelParts };
 
     ghost view = { λ s. record {
       locks = s.locks;
-      sure = s.sure;
-      classes = s.classes;
+      sure = if s.has_several then s.sure else s.locks;
+      classes = if s.has_places then s.classes else Some s.types;
       types = s.types;
       class_of = s.by_class.keys.items;
       type_of = s.by_type.keys.items;
@@ -66,24 +71,31 @@ impl SettledLevels {
         ld_facts::renamed_facts_are_the_image();
         let by_type = Renaming::of(alloc, names, Level::Types)?;
         let by_class = Renaming::of(alloc, names, Level::Classes)?;
+        let singles = single_keys(alloc, names)?;
+        let has_several = has_several(&singles);
+        let has_places = differ(&by_class.keys, &by_type.keys);
         let types = settled_by(alloc, &facts, &by_type)?;
         if types.is_clean() {
             return Ok(SettledLevels {
                 locks: None,
                 sure: None,
+                has_several: true,
                 classes: None,
+                has_places: true,
                 types,
                 by_class,
                 by_type,
             });
         }
-        let classes = unless_tangled(settled_by(alloc, &facts, &by_class))?;
-        let sure = unless_tangled(settled(alloc, sure_facts(alloc, &facts, names)?))?;
+        let classes = classes_unless_types(alloc, &facts, &by_class, has_places)?;
+        let sure = sure_unless_all(alloc, &facts, names, &singles, has_several)?;
         let locks = unless_tangled(settled(alloc, facts))?;
         Ok(SettledLevels {
             locks,
             sure,
+            has_several,
             classes,
+            has_places,
             types,
             by_class,
             by_type,
@@ -96,8 +108,16 @@ impl SettledLevels {
     {
         Levels {
             locks: self.locks.as_ref(),
-            sure: self.sure.as_ref(),
-            classes: self.classes.as_ref(),
+            sure: if self.has_several {
+                self.sure.as_ref()
+            } else {
+                self.locks.as_ref()
+            },
+            classes: if self.has_places {
+                self.classes.as_ref()
+            } else {
+                Some(&self.types)
+            },
             types: &self.types,
             class_of: &self.by_class.keys,
             type_of: &self.by_type.keys,
@@ -162,33 +182,92 @@ fn unless_tangled(tried: Result<Settled, PartingFault>) -> Result<Option<Settled
     }
 }
 
-// The facts without those about names that stand for several locks.
-fn sure_facts(alloc: Global, facts: &Facts, names: &KeyTable) -> Result<Facts, AllocError>
-    requires all { facts.now.keys ≡ length names.now.names }
+// Whether the lists differ.
+fn differ(a: &[u16], b: &[u16]) -> bool
+    ensures { IsFalse result ↔ (a.now ≡ b.now) }
+{
+    a != b
+}
+
+// What is settled between classes, if some class isn't a type.
+fn classes_unless_types(
+    alloc: Global,
+    facts: &Facts,
+    by_class: &Renaming,
+    has_places: bool,
+) -> Result<Option<Settled>, AllocError>
+    requires all { facts.now.keys ≡ length by_class.now.keys.items }
+    requires below { All (λ key. key < length by_class.now.names.names) by_class.now.keys.items }
+    ensures exact { IfOk result (λ s. IfSome s (λ settled.
+        AreSame (HasFact settled) (Image (slice_index by_class.now.keys.items) (HasFact facts.now)))) }
+    ensures open { IfOk result (λ s. IsNone s → IsTrue has_places → GRAPH_KEYS < length by_class.now.names.names) }
+{
+    if !has_places {
+        return Ok(None);
+    }
+    unless_tangled(settled_by(alloc, facts, by_class))
+}
+
+// What is settled between single locks for sure, if some name stands for several.
+fn sure_unless_all(
+    alloc: Global,
+    facts: &Facts,
+    names: &KeyTable,
+    singles: &[u16],
+    has_several: bool,
+) -> Result<Option<Settled>, AllocError>
+    requires { AreSureNumbers names.now.names facts.now.keys singles.now }
+    ensures exact { IfOk result (λ s. IfSome s (λ sure. AreSame (HasFact sure) (λ x. HasFact facts.now x × IsSure names.now.names x))) }
+    ensures open { IfOk result (λ s. IsNone s → IsTrue has_several → GRAPH_KEYS < facts.now.keys) }
+{
+    if !has_several {
+        return Ok(None);
+    }
+    let sure = sure_facts(alloc, facts, names, singles)?;
+    unless_tangled(settled(alloc, sure))
+}
+
+// Whether a key has none of its own in the list.
+fn has_several(singles: &[u16]) -> bool
+    ensures { IsTrue result ↔ Contains singles.now no_key }
+{
+    singles.contains(&SEVERAL)
+}
+
+// The facts without those about names that stand for several locks, which have no key of their own in the list.
+fn sure_facts(
+    alloc: Global,
+    facts: &Facts,
+    names: &KeyTable,
+    singles: &[u16],
+) -> Result<Facts, AllocError>
+    requires { AreSureNumbers names.now.names facts.now.keys singles.now }
     ensures keys { IfOk result (λ sure. sure.keys ≡ facts.now.keys) }
     ensures exact { IfOk result (λ sure. AreSame (HasFact sure) (λ x. HasFact facts.now x × IsSure names.now.names x)) }
 {
-    let others = sure_keys(alloc, names)?;
-    facts.renamed(alloc, facts.keys(), &others)
+    facts.renamed(alloc, facts.keys(), singles)
 }
 
-// Each key of the table, but a number that no key has for one that stands for several locks.
-fn sure_keys(alloc: Global, names: &KeyTable) -> Result<Vec<u16>, AllocError>
+// In place of the key of a name that stands for several locks.
+const SEVERAL: u16 = u16::MAX;
+
+// Each key of the table, but `SEVERAL` for one that stands for several locks.
+fn single_keys(alloc: Global, names: &KeyTable) -> Result<Vec<u16>, AllocError>
     ensures { IfOk result (λ keys. AreSureNumbers names.now.names (length names.now.names) keys.items) }
 {
     let mut keys = Vec::new(alloc);
     for number in 0..names.len() {
         if let Some(key) = KeyId::of_many(number as u16) {
-            keys.push(sure_number(names, key))?;
+            keys.push(single_key(names, key))?;
         }
     }
     Ok(keys)
 }
 
-// The key's number, or one that no key has if it stands for several locks.
-fn sure_number(names: &KeyTable, key: KeyId) -> u16
+// The key's number, or `SEVERAL` if it stands for several locks.
+fn single_key(names: &KeyTable, key: KeyId) -> u16
     ensures { result ≡ (if is_rest (name_at names.now.names key).0 then no_key else key) }
 {
     let (name, _) = names.name_of(key).unwrap_or(("", 0));
-    if is_rest(name) { u16::MAX } else { key.get() }
+    if is_rest(name) { SEVERAL } else { key.get() }
 }

@@ -1,10 +1,12 @@
-use Rattle.ld_explain.proofs.Names.{Err, ◌∙◌, HasFact, IfOk-weaker, TracesHave, ap, arith, inl, inr, length, slice_index, subst, sym}
+use Rattle.ld_explain.proofs.Names.{Contains, Err, Some, ◌<◌, ◌∙◌, HasFact, IfOk-weaker, IsNone, TracesHave, ap, arith, inl, inr, length, slice_index, subst, sym}
 use Rattle.ld_facts.specs.Facts.{AreSame}
+use Rattle.ld_facts.specs.Renaming.{TracesHaveBy}
+use Rattle.ld_trace.specs.declared.key_id.TheConstants.{GRAPH_KEYS}
 use Rattle.ld_parts.specs.declared.parting_fault.PartingFault.TheVariants.{TooTangled}
-use Rattle.ld_explain.specs.Settling.{IsSure}
+use Rattle.ld_explain.specs.Inside.Sure.{AreSureNumbers, no_key}
 use Rattle.ld_trace.specs.Classes.{numbers_at}
 use Rattle.ld_trace.specs.declared.level.Level.TheVariants.{Classes, Types}
-use Rattle.ld_explain.proofs.SettlingLemmas.{err-passed, facts-by, names_at-few, open-facts, sure-of_traces}
+use Rattle.ld_explain.proofs.SettlingLemmas.{IfSome-weaker, chosen, err-passed, facts-by, names_at-few, not-chosen, open-facts, sure-of_all, sure-of_traces}
 use Rattle.ld_explain.proofs.settling.SettledLevels.of.Goals as goal
 
 pub returns-in_err-types-clause-tangled : goal.returns-in_err-types-clause-tangled
@@ -25,22 +27,30 @@ returns-then-is_clean-clause-ok c = λ traces of_traces. record {
 }
 
 pub returns-clause-ok : goal.returns-clause-ok
-returns-clause-ok c = λ traces of_traces. record {
-  type_names_are = c.in_ok-by_type.ensures.names;
-  type_of_is = c.in_ok-by_type.ensures.keys;
-  class_of_is = c.in_ok-by_class.ensures.keys ∙ ap (numbers_at Classes c.args.names.now.names) c.in_ok-by_class.ensures.names;
-  types_are = facts-by c.renamed_facts_are_the_image.ensures traces c.args.facts (slice_index c.in_ok-by_type.by_type.keys.items) of_traces _ c.in_ok-types.ensures.exact;
-  classes_are = open-facts c.in_ok-classes.classes c.settled_by-2.result _ c.in_ok-classes.ensures.some
-      (IfOk-weaker c.settled_by-2.result _ _ (λ classes exact. facts-by c.renamed_facts_are_the_image.ensures traces c.args.facts
-      (slice_index c.in_ok-by_class.by_class.keys.items) of_traces (HasFact classes) exact) c.settled_by-2.ensures.exact);
-  locks_are = open-facts c.in_ok-locks.locks c.settled-2.result _ c.in_ok-locks.ensures.some
-      (IfOk-weaker c.settled-2.result _ _ (λ locks is. subst (λ facts. AreSame (HasFact facts) (TracesHave traces)) (sym is) of_traces) c.settled-2.ensures.value);
-  sure_are = open-facts c.in_ok-sure.sure c.settled.result _ c.in_ok-sure.ensures.some
-      (IfOk-weaker c.settled.result _ _ (λ sure is. subst (λ facts. AreSame (HasFact facts) (λ x. TracesHave traces x × IsSure c.args.names.now.names x)) (sym is)
-      (sure-of_traces traces c.args.names.now.names c.args.facts of_traces _ c.in_ok-sure_facts.ensures.exact)) c.settled.ensures.value);
-  left_open = λ left. inr (elim left [
-    | inl locks ↦ omega (arith, c.settled-2.ensures.tangled (c.in_ok-locks.ensures.none locks), c.requires)
-    | inr (inl sure) ↦ omega (arith, c.settled.ensures.tangled (c.in_ok-sure.ensures.none sure), c.in_ok-sure_facts.ensures.keys, c.requires)
-    | inr (inr classes) ↦ omega (arith, c.settled_by-2.ensures.tangled (c.in_ok-classes.ensures.none classes), ap length c.in_ok-by_class.ensures.names, names_at-few Classes c.args.names.now.names)
-  ]);
-}
+returns-clause-ok c = λ traces of_traces.
+    let names = c.args.names.now.names in
+    let law = c.renamed_facts_are_the_image.ensures in
+    let types = facts-by law traces c.args.facts (slice_index c.in_ok-by_type.by_type.keys.items) of_traces _ c.in_ok-types.ensures.exact in
+    let locks = open-facts c.in_ok-locks.locks c.settled.result _ c.in_ok-locks.ensures.some
+    (IfOk-weaker c.settled.result _ _ (λ locks is. subst (λ facts. AreSame (HasFact facts) (TracesHave traces)) (sym is) of_traces) c.settled.ensures.value) in
+    let tangled : IsNone c.in_ok-locks.locks → GRAPH_KEYS < length names = λ none. omega (arith, c.settled.ensures.tangled (c.in_ok-locks.ensures.none none), c.requires) in
+    record {
+      type_names_are = c.in_ok-by_type.ensures.names;
+      type_of_is = c.in_ok-by_type.ensures.keys;
+      class_of_is = c.in_ok-by_class.ensures.keys ∙ ap (numbers_at Classes names) c.in_ok-by_class.ensures.names;
+      types_are = types;
+      classes_are = chosen c.differ-has_places.result c.in_ok-classes.classes (Some c.in_ok-types.types) _
+          (IfSome-weaker c.in_ok-classes.classes _ _ (λ classes exact. facts-by law traces c.args.facts (slice_index c.in_ok-by_class.by_class.keys.items) of_traces (HasFact classes) exact) c.in_ok-classes.ensures.exact)
+          (λ off. subst (λ keys. AreSame (HasFact c.in_ok-types.types) (TracesHaveBy (slice_index keys) traces)) (sym (sym c.deref-2.ensures.value ∙ c.differ-has_places.ensures.0 off ∙ c.deref-3.ensures.value)) types);
+      locks_are = locks;
+      sure_are = chosen c.has_several-has_several.result c.in_ok-sure.sure c.in_ok-locks.locks _
+          (IfSome-weaker c.in_ok-sure.sure _ _ (λ sure exact. sure-of_traces traces names c.args.facts of_traces (HasFact sure) exact) c.in_ok-sure.ensures.exact)
+          (λ off. IfSome-weaker c.in_ok-locks.locks _ _ (λ all exact. sure-of_all traces names c.in_ok-singles.singles.items c.args.facts (subst (λ n. AreSureNumbers names n c.in_ok-singles.singles.items) (sym c.requires) c.in_ok-singles.ensures) (λ has. let on = c.has_several-has_several.ensures.1 (subst (λ ks. Contains ks no_key) (sym c.deref.ensures.value) has) in cc) of_traces (HasFact all) exact) locks);
+      left_open = λ left. inr (elim left [
+        | inl locks ↦ tangled locks
+        | inr (inl sure) ↦ not-chosen c.has_several-has_several.result c.in_ok-sure.sure c.in_ok-locks.locks
+            (λ none on. omega (arith, c.in_ok-sure.ensures.open none on, c.requires)) tangled sure
+        | inr (inr classes) ↦ not-chosen c.differ-has_places.result c.in_ok-classes.classes (Some c.in_ok-types.types)
+            (λ none on. omega (arith, c.in_ok-classes.ensures.open none on, ap length c.in_ok-by_class.ensures.names, names_at-few Classes names)) (λ none. absurd (let no = none in cc)) classes
+      ]);
+    }

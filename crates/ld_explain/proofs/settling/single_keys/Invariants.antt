@@ -1,5 +1,5 @@
 use Rattle.ld_explain.specs.Inside.Sure.{AreSureNumbers}
-use Rattle.ld_explain.proofs.settling.sure_keys.Given as goal
+use Rattle.ld_explain.proofs.settling.single_keys.Given as goal
 
 -- the keys so far
 abbrev pub invariant-loop-number : goal.invariant-loop-number
