@@ -5,7 +5,6 @@ ghost use Rattle.ld_text.specs.Explanation.{block_text, deadlock_text, explanati
 
 use crate::report::add_total;
 use crate::wording::Wording;
-use crate::words::irq_word;
 use ld_explain::{Finding, Order};
 use std::alloc::AllocError;
 
@@ -42,11 +41,11 @@ impl Wording<'_> {
         match finding {
             Finding::Circle { walk, .. } => self.add_circle_head(text, walk),
             Finding::Double { irq, key, .. } => {
-                let (state, key) = (irq_word(*irq), self.key(*key));
+                let (state, key) = (irq.word(), self.key(*key));
                 writeln!(text, "\ndouble {state} {key}")
             }
             Finding::Inversion { irq, a, b, .. } => {
-                let (state, a, b) = (irq_word(*irq), self.key(*a), self.key(*b));
+                let (state, a, b) = (irq.word(), self.key(*a), self.key(*b));
                 writeln!(text, "\ninversion {state} {a} {b}")
             }
         }

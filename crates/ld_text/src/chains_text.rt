@@ -9,7 +9,7 @@ ghost use Rattle.ld_text.specs.Words.{key_text};
 ghost use Rattle.ld_text.specs.declared.chains_text.TheConstants.{LINE_BYTES};
 
 use crate::output::{Page, put, write_out};
-use crate::words::{digits_of, flag_word, frame_word, mode_word, name_of};
+use crate::words::{digits_of, flag_word, frame_word, name_of};
 use crate::write_fault::WriteFault;
 use arrayvec::ArrayString;
 use ld_task::{Chain, Flags, TaskState, Trace, one_more_event_adds_its_chain};
@@ -43,7 +43,7 @@ fn add_lock(line: &mut Line, names: &KeyTable, lock: (KeyId, Mode))
     line.push_str(" ");
     add_key(line, names, lock.0);
     line.push_str(" ");
-    line.push_str(mode_word(lock.1));
+    line.push_str(lock.1.word());
 }
 
 // The flags: hardirq, softirq.

@@ -8,7 +8,7 @@ ghost use Rattle.ld_text.specs.Inside.Tokens.{Adds};
 
 use crate::json_members::{add_both, add_number, add_only, add_text};
 use crate::wording::Wording;
-use crate::words::{file_of, irq_word, kind_word, mode_word};
+use crate::words::{file_of, kind_word};
 use json::Writer;
 use ld_explain::{Dependency, Finding, Order, Origin};
 use ld_trace::{Event, Irq, KeyId};
@@ -25,8 +25,8 @@ impl Wording<'_> {
         ensures { OnOk result (Adds w.old w.new (event_members (event_of self.now.traces trace place))) }
     {
         match self.event(trace, place) {
-            Some(Event::Acquire { mode, .. }) => add_text(w, "takes", mode_word(mode)),
-            Some(Event::TurnOn { irq }) => add_text(w, "turns_on", irq_word(irq)),
+            Some(Event::Acquire { mode, .. }) => add_text(w, "takes", mode.word()),
+            Some(Event::TurnOn { irq }) => add_text(w, "turns_on", irq.word()),
             _ => Ok(()),
         }
     }
@@ -36,7 +36,7 @@ impl Wording<'_> {
         ensures { result.now ≡ taken_mode (event_of self.now.traces trace place) }
     {
         match self.event(trace, place) {
-            Some(Event::Acquire { mode, .. }) => mode_word(mode),
+            Some(Event::Acquire { mode, .. }) => mode.word(),
             _ => "",
         }
     }
@@ -125,7 +125,7 @@ impl Wording<'_> {
         ensures { OnOk result (Adds w.old w.new (list_member (codes "lines")
             (string (double_words self.now.names irq key) ∷ []))) }
     {
-        let (state, key) = (irq_word(irq), self.key(key));
+        let (state, key) = (irq.word(), self.key(key));
         let mut line = String::new(self.alloc);
         write!(line, "double {state} {key}")?;
         add_only(w, "lines", line.as_str())
@@ -142,7 +142,7 @@ impl Wording<'_> {
         ensures { OnOk result (Adds w.old w.new (list_member (codes "lines")
             (string (inversion_words self.now.names irq a b) ∷ []))) }
     {
-        let (state, a, b) = (irq_word(irq), self.key(a), self.key(b));
+        let (state, a, b) = (irq.word(), self.key(a), self.key(b));
         let mut line = String::new(self.alloc);
         write!(line, "inversion {state} {a} {b}")?;
         add_only(w, "lines", line.as_str())
@@ -167,7 +167,7 @@ impl Wording<'_> {
                 enabled,
             } => {
                 add_text(w, "type", "double")?;
-                add_text(w, "irq", irq_word(*irq))?;
+                add_text(w, "irq", irq.word())?;
                 add_text(w, "key", self.key(*key))?;
                 self.write_double_line(w, *irq, *key)?;
                 self.write_uses(w, *used, *enabled)
@@ -182,7 +182,7 @@ impl Wording<'_> {
                 gates,
             } => {
                 add_text(w, "type", "inversion")?;
-                add_text(w, "irq", irq_word(*irq))?;
+                add_text(w, "irq", irq.word())?;
                 add_both(w, "keys", self.key(*a), self.key(*b))?;
                 self.write_inversion_line(w, *irq, *a, *b)?;
                 self.write_orders(w, walk)?;

@@ -5,7 +5,7 @@ ghost use Rattle.ld_text.specs.Explanation.{comes_line, dependency_text, does_te
 ghost use Rattle.ld_text.specs.Report.{member_text};
 
 use crate::wording::Wording;
-use crate::words::{file_of, irq_word, kind_word, mode_word};
+use crate::words::{file_of, kind_word};
 use ld_explain::{Dependency, Order, Origin};
 use ld_trace::{Event, Irq, KeyId};
 use std::alloc::AllocError;
@@ -33,11 +33,11 @@ impl Wording<'_> {
         };
         match event {
             Event::Acquire { mode, key } => {
-                let (key, mode) = (self.lock(key), mode_word(mode));
+                let (key, mode) = (self.lock(key), mode.word());
                 write!(text, " takes {key} {mode}")
             }
             Event::TurnOn { irq } => {
-                let state = irq_word(irq);
+                let state = irq.word();
                 write!(text, " turns {state}s on")
             }
             _ => Ok(()),
@@ -59,7 +59,7 @@ impl Wording<'_> {
         };
         match event {
             Event::Acquire { mode, key } => {
-                let (key, mode) = (self.lock(key), mode_word(mode));
+                let (key, mode) = (self.lock(key), mode.word());
                 write!(text, "{key} {mode}")
             }
             _ => Ok(()),
@@ -149,7 +149,7 @@ impl Wording<'_> {
     ) -> Result<(), AllocError>
         ensures { OnOk result (string_bytes text.new ≡ string_bytes text.old ++ use_lines self.now irq used enabled) }
     {
-        let state = irq_word(irq);
+        let state = irq.word();
         self.add_margin(text)?;
         write!(text, "used in {state}")?;
         self.add_origin(text, used)?;
@@ -237,7 +237,7 @@ impl Wording<'_> {
     ) -> Result<(), AllocError>
         ensures { OnOk result (string_bytes text.new ≡ string_bytes text.old ++ comes_line self.now.names irq key) }
     {
-        let (state, key) = (irq_word(irq), self.key(key));
+        let (state, key) = (irq.word(), self.key(key));
         writeln!(text, "  a {state} comes in at task 1 and waits for {key}")
     }
 }

@@ -15,7 +15,7 @@ ghost use Rattle.ld_trace.specs.Writing.{name_at};
 use crate::order::sorted_keys;
 use crate::output::write_text;
 use crate::report::{FORMS, usage_character};
-use crate::words::{digits_of, irq_word, name_of};
+use crate::words::{digits_of, name_of};
 use crate::write_fault::WriteFault;
 use ld_explain::Found;
 use ld_facts::STATES;
@@ -213,7 +213,7 @@ impl PictureView<'_> {
         ensures { OnOk result (text.new.items
             ≡ text.old.items ++ link_line self.entry.names.now.names irq from to) }
     {
-        self.add_arrow(text, from, to, irq_word(irq))?;
+        self.add_arrow(text, from, to, irq.word())?;
         add(text, LINK_END)
     }
 

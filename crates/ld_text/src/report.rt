@@ -13,7 +13,7 @@ use crate::because;
 use crate::key_texts::KeyTexts;
 use crate::order::sorted_keys;
 use crate::output::write_text;
-use crate::words::{irq_word, kind_word, name_of};
+use crate::words::{kind_word, name_of};
 use crate::write_fault::WriteFault;
 use ld_explain::{Dependency, Found};
 use ld_graph::Mark;
@@ -100,7 +100,7 @@ impl ReportView<'_> {
             ≡ string_bytes text.old ++ double_line self.entry.names.now.names irq key) }
     {
         let (name, sub) = name_of(self.names, key);
-        let state = irq_word(irq);
+        let state = irq.word();
         writeln!(text, "double {state} {name}/{sub}")
     }
 
@@ -127,7 +127,7 @@ impl ReportView<'_> {
             ≡ string_bytes text.old ++ inversion_line self.entry.names.now.names irq a b) }
     {
         text.push_str("inversion ")?;
-        text.push_str(irq_word(irq))?;
+        text.push_str(irq.word())?;
         text.push_str(" ")?;
         self.add_key(text, a)?;
         text.push_str(" ")?;

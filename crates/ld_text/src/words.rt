@@ -1,13 +1,13 @@
 //! Words of the program's texts.
 
 ghost use Rattle.std.specs.Prelude.{◌≡◌, ◌+◌, ◌<◌, ◌≤◌, ◌++◌, [], ◌∷◌, decimal, length, map};
-ghost use Rattle.ld_trace.specs.Writing.{irq_word, mode_word, name_at};
+ghost use Rattle.ld_trace.specs.Writing.{name_at};
 ghost use Rattle.ld_text.specs.Words.{file_at, flag_text, frame_text, kind_text};
 
 use arrayvec::ArrayString;
 use ld_graph::Kind;
 use ld_task::Frame;
-use ld_trace::{Irq, KeyId, KeyTable, MAX_NAME, Mode};
+use ld_trace::{KeyId, KeyTable, MAX_NAME};
 
 /// What texts call the trace on standard input.
 pub const STDIN: &str = "stdin";
@@ -36,31 +36,6 @@ pub(crate) fn kind_word(kind: Kind) -> &'static str
         Kind::En => "EN",
         Kind::Sr => "SR",
         Kind::Sn => "SN",
-    }
-}
-
-/// The word for a state.
-pub(crate) fn irq_word(irq: Irq) -> &'static str
-    ensures { result.now ≡ irq_word irq }
-{
-    match irq {
-        Irq::Hard => "hardirq",
-        Irq::Soft => "softirq",
-    }
-}
-
-/// The word for a mode.
-pub(crate) fn mode_word(mode: Mode) -> &'static str
-    ensures word { result.now ≡ mode_word mode }
-    ensures short { length result.now ≤ 3 }
-{
-    match mode {
-        Mode::Write => "w",
-        Mode::Read => "r",
-        Mode::RecRead => "rr",
-        Mode::TryWrite => "tw",
-        Mode::TryRead => "tr",
-        Mode::TryRecRead => "trr",
     }
 }
 

@@ -38,29 +38,9 @@ flag_rule name = record (new_rule name) {
   action = Some SetTrue;
 }
 
--- `--many`
-abbrev pub many_rule : Rule
-many_rule = flag_rule (codes "many")
-
--- `--json`
-abbrev pub json_rule : Rule
-json_rule = flag_rule (codes "json")
-
--- `--locks`
-abbrev pub locks_rule : Rule
-locks_rule = flag_rule (codes "locks")
-
--- `--confirmed-only`
-abbrev pub confirmed_rule : Rule
-confirmed_rule = flag_rule (codes "confirmed-only")
-
--- `--findings`
-abbrev pub findings_rule : Rule
-findings_rule = flag_rule (codes "findings")
-
 -- the subcommand of this name, with `[--workers N] [--many]`
 abbrev pub many_app : Text → App
-many_app name = with_rule (with_rule (new_app name) workers_rule) many_rule
+many_app name = with_rule (with_rule (new_app name) workers_rule) (flag_rule (codes "many"))
 
 -- `check [--workers N] [--many] [FILE...]`
 abbrev pub check_shape : Shape
@@ -68,11 +48,12 @@ check_shape = (with_rule (many_app (codes "check")) files_rule).top
 
 -- `explain [--workers N] [--many] [--json] [--locks] [--confirmed-only] [FILE...]`
 abbrev pub explain_shape : Shape
-explain_shape = (with_rule (with_rule (with_rule (with_rule (many_app (codes "explain")) json_rule) locks_rule) confirmed_rule) files_rule).top
+explain_shape = (with_rule (with_rule (with_rule (with_rule (many_app (codes "explain")) (flag_rule (codes "json"))) (flag_rule (codes "locks")))
+    (flag_rule (codes "confirmed-only"))) files_rule).top
 
 -- `graph [--workers N] [--many] [--findings] [FILE...]`
 abbrev pub graph_shape : Shape
-graph_shape = (with_rule (with_rule (many_app (codes "graph")) findings_rule) files_rule).top
+graph_shape = (with_rule (with_rule (many_app (codes "graph")) (flag_rule (codes "findings"))) files_rule).top
 
 -- `condense [--workers N] [FILE...]`
 abbrev pub condense_shape : Shape

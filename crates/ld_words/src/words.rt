@@ -3,7 +3,7 @@
 ghost use Rattle.std.specs.Prelude.{◌≡◌, ◌↔◌, [], false, ℕ, List, IfOk, IfErr, map, unwrap_or, codes};
 ghost use Rattle.clap.specs.Words.{App, HasKind, Shape, all_of, app_of, fault_of as clap_faults, found_of, kind_of, rows_of, rule_of, shape_of, subcommand_rows_of, with_subcommand};
 ghost use Rattle.clap.specs.declared.builder.command.Command.TheViews.{out-Command};
-ghost use Rattle.ld_words.specs.CommandLine.{IsLineFault, IsLineIn, IsLineOf, ReadsCheck, ReadsFlag, chains_shape, check_shape, condense_shape, explain_shape, file_rule, files_rule, confirmed_rule, findings_rule, graph_shape, json_rule, locks_rule, lockdep_app, many_app, many_rule, workers_rule};
+ghost use Rattle.ld_words.specs.CommandLine.{IsLineFault, IsLineIn, IsLineOf, ReadsCheck, ReadsFlag, chains_shape, check_shape, condense_shape, explain_shape, file_rule, files_rule, flag_rule, graph_shape, lockdep_app, many_app, workers_rule};
 
 use clap::error::ErrorKind;
 use clap::{Arg, ArgAction, ArgMatches, Command, value_parser};
@@ -75,15 +75,15 @@ fn workers_option<'a>(alloc: Global) -> Arg<'a>
         .help("How many workers check the traces, from 1 to 64")
 }
 
-// Whether there may be many keys, `--many`.
-fn many_option<'a>(alloc: Global) -> Arg<'a>
-    ensures rule { rule_of result ≡ many_rule }
+// A flag of this name.
+fn flag<'a>(alloc: Global, name: &'a str, help: &'a str) -> Arg<'a>
+    ensures rule { rule_of result ≡ flag_rule name.now }
     ensures local { result.global ≡ false }
 {
-    Arg::new(alloc, "many")
-        .long("many")
+    Arg::new(alloc, name)
+        .long(name)
         .action(ArgAction::SetTrue)
-        .help("Take up to 8192 lock keys instead of 256")
+        .help(help)
 }
 
 // The files of traces, in their order.
@@ -106,50 +106,6 @@ fn file_argument<'a>(alloc: Global) -> Arg<'a>
     )
 }
 
-// Whether JSON is asked for, `--json`.
-fn json_option<'a>(alloc: Global) -> Arg<'a>
-    ensures rule { rule_of result ≡ json_rule }
-    ensures local { result.global ≡ false }
-{
-    Arg::new(alloc, "json")
-        .long("json")
-        .action(ArgAction::SetTrue)
-        .help("Write the findings as JSON")
-}
-
-// Whether it is asked what findings were seen between, `--locks`.
-fn locks_option<'a>(alloc: Global) -> Arg<'a>
-    ensures rule { rule_of result ≡ locks_rule }
-    ensures local { result.global ≡ false }
-{
-    Arg::new(alloc, "locks")
-        .long("locks")
-        .action(ArgAction::SetTrue)
-        .help("Say whether single locks make a finding; take up to 8192 names")
-}
-
-// Whether the status is that of what was seen between single locks, `--confirmed-only`.
-fn confirmed_option<'a>(alloc: Global) -> Arg<'a>
-    ensures rule { rule_of result ≡ confirmed_rule }
-    ensures local { result.global ≡ false }
-{
-    Arg::new(alloc, "confirmed-only")
-        .long("confirmed-only")
-        .action(ArgAction::SetTrue)
-        .help("As --locks, with status 1 only for what single locks make")
-}
-
-// Whether only findings are asked for, `--findings`.
-fn findings_option<'a>(alloc: Global) -> Arg<'a>
-    ensures rule { rule_of result ≡ findings_rule }
-    ensures local { result.global ≡ false }
-{
-    Arg::new(alloc, "findings")
-        .long("findings")
-        .action(ArgAction::SetTrue)
-        .help("Show only what is part of a finding")
-}
-
 // The subcommand of this name, with the options of those that may take many keys.
 fn many_command<'a>(alloc: Global, name: &'a str, about: &'a str) -> Result<Command<'a>, AllocError>
     ensures app { IfOk result (λ command. app_of command ≡ many_app name.now) }
@@ -158,7 +114,7 @@ fn many_command<'a>(alloc: Global, name: &'a str, about: &'a str) -> Result<Comm
     Command::new(alloc, name)
         .about(about)
         .arg(workers_option(alloc))?
-        .arg(many_option(alloc))
+        .arg(flag(alloc, "many", "Take up to 8192 lock keys instead of 256"))
 }
 
 // The command lines of the report.
@@ -184,9 +140,17 @@ fn explain_command<'a>(alloc: Global) -> Result<Command<'a>, AllocError>
         "explain",
         "Reads traces and writes what was found, with the records that it comes from",
     )?
-    .arg(json_option(alloc))?
-    .arg(locks_option(alloc))?
-    .arg(confirmed_option(alloc))?
+    .arg(flag(alloc, "json", "Write the findings as JSON"))?
+    .arg(flag(
+        alloc,
+        "locks",
+        "Say whether single locks make a finding; take up to 8192 names",
+    ))?
+    .arg(flag(
+        alloc,
+        "confirmed-only",
+        "As --locks, with status 1 only for what single locks make",
+    ))?
     .arg(files_argument(alloc))
 }
 
@@ -200,7 +164,7 @@ fn graph_command<'a>(alloc: Global) -> Result<Command<'a>, AllocError>
         "graph",
         "Reads traces and writes their lock order as a graph in the language DOT",
     )?
-    .arg(findings_option(alloc))?
+    .arg(flag(alloc, "findings", "Show only what is part of a finding"))?
     .arg(files_argument(alloc))
 }
 

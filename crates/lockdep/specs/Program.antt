@@ -15,6 +15,7 @@ use Rattle.ld_text.specs.ChainLines.{chains_text}
 use Rattle.ld_words.specs.CommandLine.{AreRefused, AskForText, IsLineOf}
 use Rattle.lockdep.specs.Faults.{StopsText}
 use Rattle.ld_text.specs.Output.{AppendsBeginning}
+use Rattle.lockdep.specs.FaultLines.{fault_line}
 use Rattle.lockdep.specs.Texts.{OutputView, report, explanation, json, picture, condensed, IsTextOf}
 use Rattle.ld_text.specs.Words.{file_at}
 use Rattle.ld_text.specs.declared.findings.Format.{Format}
@@ -277,3 +278,11 @@ RefusesNoLine words old new refusal =
 abbrev pub RefusesWords : List Text → (input old new : Option (List ℕ)) → Refusal → Type 0
 RefusesWords words input old new refusal =
     ((line : Line) × IsLineOf words line × RefusesLine line input old new refusal) ⊎ RefusesNoLine words old new refusal
+
+-- the program ran with these words and this input, from and to what standard output and standard error hold: it did what the words ask
+-- for, with status 0 or 1; or it refused, with status 2 and one line on standard error, of which a beginning was written
+pub record IsRunOf (words : List Text) (input old_out new_out old_err new_err : Option (List ℕ)) (status : ℕ) : Type 0 where
+  pub few : status ≤ 2
+  pub done : status < 2 → DoesWords words input old_out new_out status
+  pub refused : status ≡ 2 → (refusal : Refusal) × RefusesWords words input old_out new_out refusal
+      × AppendsBeginning old_err new_err (fault_line refusal)

@@ -9,9 +9,7 @@ ghost use Rattle.ld_task.specs.WellFormed.{IsWellFormed};
 ghost use Rattle.ld_run.specs.Runs.{IsCrew};
 ghost use Rattle.ld_trace.specs.declared.raw_trace.TheConstants.{MAX_TRACES};
 ghost use Rattle.ld_words.specs.CommandLine.{IsLineFault};
-ghost use Rattle.lockdep.specs.FaultLines.{fault_line};
-ghost use Rattle.ld_text.specs.Output.{AppendsBeginning};
-ghost use Rattle.lockdep.specs.Program.{AreTracesOf, DoesLine, DoesVerdicts, DoesWords, IsReportRefusal, RefusesHelp, RefusesLine, RefusesNoLine, RefusesOutput, RefusesTraces, RefusesVerdicts, RefusesVerdictsOf, RefusesWords, StopsReading, WritesHelp, WritesOutput, WritesText, room_of, status_of, write_refusal_of};
+ghost use Rattle.lockdep.specs.Program.{AreTracesOf, DoesLine, DoesVerdicts, DoesWords, IsReportRefusal, IsRunOf, RefusesHelp, RefusesLine, RefusesNoLine, RefusesOutput, RefusesTraces, RefusesVerdicts, RefusesVerdictsOf, RefusesWords, StopsReading, WritesHelp, WritesOutput, WritesText, room_of, status_of, write_refusal_of};
 ghost use Rattle.lockdep.specs.Texts.{view_of};
 ghost use Rattle.lockdep.specs.declared.refusal.Refusal.{Refusal};
 
@@ -59,14 +57,9 @@ pub fn program<R: Files + Threads + Wait + Sync, I: Read + Drop, O: Write, E: Wr
     out: &mut O,
     err: &mut E,
 ) -> u8
-    ensures status { result ≤ 2 }
-    ensures done { result < 2 → DoesWords (map (λ word. word.now) words.entry.now) (I.remaining input)
-        (O.contents out.old) (O.contents out.new) result }
+    ensures run { IsRunOf (map (λ word. word.now) words.entry.now) (I.remaining input)
+        (O.contents out.old) (O.contents out.new) (E.contents err.old) (E.contents err.new) result }
     ensures quiet { result < 2 → err.new ≡ err.old }
-    ensures refused { result ≡ 2 → (refusal : Refusal)
-        × RefusesWords (map (λ word. word.now) words.entry.now) (I.remaining input)
-        (O.contents out.old) (O.contents out.new) refusal
-        × AppendsBeginning (E.contents err.old) (E.contents err.new) (fault_line refusal) }
 {
     run_program(rt, &InTurn { rt }, alloc, words, input, out, err)
 }
@@ -81,14 +74,9 @@ pub fn program_side_by_side<
     O: Write,
     E: Write,
 >(rt: &R, alloc: Global, words: &[&str], input: I, out: &mut O, err: &mut E) -> u8
-    ensures status { result ≤ 2 }
-    ensures done { result < 2 → DoesWords (map (λ word. word.now) words.entry.now) (I.remaining input)
-        (O.contents out.old) (O.contents out.new) result }
+    ensures run { IsRunOf (map (λ word. word.now) words.entry.now) (I.remaining input)
+        (O.contents out.old) (O.contents out.new) (E.contents err.old) (E.contents err.new) result }
     ensures quiet { result < 2 → err.new ≡ err.old }
-    ensures refused { result ≡ 2 → (refusal : Refusal)
-        × RefusesWords (map (λ word. word.now) words.entry.now) (I.remaining input)
-        (O.contents out.old) (O.contents out.new) refusal
-        × AppendsBeginning (E.contents err.old) (E.contents err.new) (fault_line refusal) }
 {
     run_program(rt, rt, alloc, words, input, out, err)
 }
@@ -103,14 +91,9 @@ fn run_program<R: Files + Threads + Wait + Sync, A: Adds, I: Read + Drop, O: Wri
     out: &mut O,
     err: &mut E,
 ) -> u8
-    ensures status { result ≤ 2 }
-    ensures done { result < 2 → DoesWords (map (λ word. word.now) words.entry.now) (I.remaining input)
-        (O.contents out.old) (O.contents out.new) result }
+    ensures run { IsRunOf (map (λ word. word.now) words.entry.now) (I.remaining input)
+        (O.contents out.old) (O.contents out.new) (E.contents err.old) (E.contents err.new) result }
     ensures quiet { result < 2 → err.new ≡ err.old }
-    ensures refused { result ≡ 2 → (refusal : Refusal)
-        × RefusesWords (map (λ word. word.now) words.entry.now) (I.remaining input)
-        (O.contents out.old) (O.contents out.new) refusal
-        × AppendsBeginning (E.contents err.old) (E.contents err.new) (fault_line refusal) }
 {
     match answer_or_refuse(rt, adds, alloc, words, input, out, err) {
         Ok(status) => status,

@@ -1,7 +1,19 @@
+use Rattle.lockdep.proofs.Names.{arith}
 use Rattle.lockdep.proofs.ProgramLemmas.{whole-begun}
 use Rattle.lockdep.proofs.program.run_program.Goals as goal
 
-pub returns-in-Ok-clause-refused : goal.returns-in-Ok-clause-refused
-returns-in-Ok-clause-refused g c = λ two.
-    let (refusal, refuses, wrote) = c.in-Ok.ensures.refused two in
-    (refusal, refuses, whole-begun _ _ _ wrote)
+pub returns-in-Ok-clause-run : goal.returns-in-Ok-clause-run
+returns-in-Ok-clause-run g c = record {
+  few = c.in-Ok.ensures.status;
+  done = c.in-Ok.ensures.done;
+  refused = λ two.
+      let (refusal, refuses, wrote) = c.in-Ok.ensures.refused two in
+      (refusal, refuses, whole-begun _ _ _ wrote);
+}
+
+pub returns-in-Err-clause-run : goal.returns-in-Err-clause-run
+returns-in-Err-clause-run g c = record {
+  few = omega arith;
+  done = λ less. absurd (omega (arith, less));
+  refused = λ two. c.in-Err.ensures.untold;
+}
