@@ -1,11 +1,13 @@
-/* Says why a recording of a program may see none of its locks, as far as its file shows that: look FILE, or look --each FILE...
+/* Says why a recording of a program may see none of its locks, as far as its file shows that: look FILE, look --each FILE..., or
+   look --all FILE...
 
    Writes one word a line: `static`, `setuid`, `other-machine`, `other-libc`, `go`, `rust`, `libpython`, `libjvm`; or, if it is none
    of these and the program itself calls no function of a pthread lock, `no-pthread-import`. Of a script the interpreter is
-   looked at. With --each it writes lines `WORD<tab>FILE`, for programs and libraries: `go`, `libpython`, `libjvm`, `embed` if there is
-   the code of lockdep_record.h in it, `openmp` if it takes a lock of OpenMP, `semaphore` if it waits for semaphores,
+   looked at. With --each it writes lines `WORD<tab>FILE`, for programs and libraries: `go`, `libpython`, `libjvm`, a word of another
+   runtime with locks of its own, as `mono`, `embed` if there is the code of lockdep_record.h in it, `openmp` if it takes a lock of
+   OpenMP, `glib` if it takes a mutex of GLib, `semaphore` if it waits for semaphores, `futex` if it waits by futexes itself,
    `sanitizer` if it is built with one that has an allocator of its own, or is the library of one, and `pthread` if it calls such a
-   function. */
+   function. With --all it writes both: what is said of FILE alone stands in lines `program WORD<tab>FILE`. */
 #define _GNU_SOURCE
 #include <elf.h>
 #include <fcntl.h>
@@ -122,7 +124,7 @@ static void read_loader(const struct file *file, const Elf64_Ehdr *head, char *l
     }
 }
 
-/* The program's dynamic symbols with their names, or none. */
+/* The program's symbols of one kind with their names, or none. */
 struct symbols {
     const Elf64_Sym *list;
     size_t count;
@@ -130,11 +132,11 @@ struct symbols {
     size_t names_size;
 };
 
-static struct symbols read_symbols(const struct file *file, const Elf64_Ehdr *head) {
+static struct symbols read_symbols(const struct file *file, const Elf64_Ehdr *head, uint32_t type) {
     struct symbols none = {0}, found = {0};
     const Elf64_Shdr *parts = part(file, head->e_shoff, (uint64_t)head->e_shnum * sizeof *parts);
     for (int i = 0; parts && i < head->e_shnum; i++) {
-        if (parts[i].sh_type != SHT_DYNSYM || parts[i].sh_link >= head->e_shnum)
+        if (parts[i].sh_type != type || parts[i].sh_link >= head->e_shnum)
             continue;
         const Elf64_Shdr *names = &parts[parts[i].sh_link];
         found.list = part(file, parts[i].sh_offset, parts[i].sh_size);
@@ -151,10 +153,11 @@ static bool begins_with(const char *text, const char *start) { return strncmp(te
 #define MOST_STARTS 8
 
 /* How the names begin of functions that take locks: those of pthreads and C11, those of OpenMP, the last three of which the compilers
-   call for a critical section, and those that wait for a semaphore. */
+   call for a critical section, those of GLib's mutexes, which wait by futexes, and those that wait for a semaphore. */
 static const char *const starts_of_pthreads[MOST_STARTS] = {"pthread_mutex_", "pthread_rwlock_", "pthread_spin_", "mtx_", "pthread_once"};
 static const char *const starts_of_openmp[MOST_STARTS] = {"omp_set_lock", "omp_test_lock", "omp_set_nest_lock", "omp_test_nest_lock",
                                                           "GOMP_critical_start", "GOMP_critical_name_start", "__kmpc_critical"};
+static const char *const starts_of_glib[MOST_STARTS] = {"g_mutex_lock", "g_mutex_trylock"};
 static const char *const starts_of_semaphores[MOST_STARTS] = {"sem_wait", "sem_trywait", "sem_timedwait", "sem_clockwait"};
 
 static bool begins_with_any(const char *name, const char *const starts[MOST_STARTS]) {
@@ -180,10 +183,16 @@ static bool names_any(const struct symbols *symbols, const char *text) {
 
 static bool is_something_said;
 
+/* The file that is spoken of among several ones. */
+static const char *subject;
+
 static void say(bool is_so, const char *word) {
     if (!is_so)
         return;
-    puts(word);
+    if (subject)
+        printf("program %s\t%s\n", word, subject);
+    else
+        puts(word);
     is_something_said = true;
 }
 
@@ -194,6 +203,69 @@ static bool is_python(const struct symbols *symbols) {
 }
 
 static bool is_java(const struct symbols *symbols) { return names_any(symbols, "libjvm") || names_any(symbols, "libjli"); }
+
+/* ---- Runtimes with locks of their own. One is known by the names of its symbols and libraries, or by a text if it has no symbols. */
+
+#define MOST_NAMES 4
+
+struct runtime {
+    const char *word;
+    const char *names[MOST_NAMES];
+    const char *text;
+};
+
+static const struct runtime runtimes[] = {
+    {"mono", {"mono_jit_init", "libmonosgen"}, NULL},
+    {"dotnet", {"coreclr_initialize", "libcoreclr.so", "DotNetRuntimeInfo", "DotNetRuntimeDebugHeader"}, NULL},
+    {"haskell", {"libHSrts"}, "Use hs_init_with_rtsopts() to enable them."},
+    {"ocaml", {"caml_mutex_lock", "caml_ml_mutex_lock"}, NULL},
+    {"perl", {"boot_threads__shared"}, NULL},
+    {"guile", {"libguile", "scm_boot_guile"}, NULL},
+    {"erlang", {"erl_drv_mutex_lock"}, NULL},
+    {"node", {"node_module_register"}, NULL},
+    {"ruby", {"libruby", "ruby_init"}, NULL},
+};
+
+static bool has_any_name(const struct symbols *symbols, const char *const *names, size_t most) {
+    for (size_t i = 0; i < most && names[i]; i++)
+        if (names_any(symbols, names[i]))
+            return true;
+    return false;
+}
+
+static bool is_runtime(const struct runtime *runtime, const struct file *file, const struct symbols *symbols) {
+    return has_any_name(symbols, runtime->names, MOST_NAMES) || (runtime->text && has(file, runtime->text));
+}
+
+/* ---- Waiting by futexes, which is done in the program's own code. */
+
+/* Parts of the names of what std::atomic waits by, and so std::counting_semaphore, in the libraries of gcc and clang. */
+static const char *const names_of_atomic_waits[] = {"__platform_wait", "__atomic_wait_address", "__waiter_pool", "__wait_impl",
+                                                    "__libcpp_atomic_wait"};
+static const char *const starts_of_system_calls[MOST_STARTS] = {"syscall"};
+
+/* How the system call of a futex is given as an argument to the function `syscall`. */
+#if defined(__x86_64__)
+static const char futex_number[] = {'\xbf', '\xca', 0, 0, 0}; /* mov $202, %edi */
+#elif defined(__aarch64__)
+static const char futex_number[] = {'\x40', '\x0c', '\x80', '\xd2'}; /* mov x0, #98 */
+#else
+static const char futex_number[] = "(not known for this machine)";
+#endif
+
+/* A stripped program shows only what it imports. The C++ library has futexes of its own if it is linked in, and locks of pthreads
+   then, so these show only of a program without such locks that it has other ones. */
+static bool waits_by_futex(const struct file *file, const struct symbols *symbols, const struct symbols *all) {
+    size_t count = sizeof names_of_atomic_waits / sizeof *names_of_atomic_waits;
+    if (has_any_name(symbols, names_of_atomic_waits, count) || has_any_name(all, names_of_atomic_waits, count))
+        return true;
+    if (calls_locks(symbols))
+        return false;
+    return names_any(symbols, "__atomic_futex_unsigned_base") ||
+           (calls_any(symbols, starts_of_system_calls) && memmem(file->bytes, file->size, futex_number, sizeof futex_number));
+}
+
+/* ---- Sanitizers. */
 
 /* The libraries of sanitizers that have an allocator of their own, as gcc names them, and as clang does. */
 static const char *const sanitizers[] = {"libasan.so",        "liblsan.so",          "libtsan.so",         "libhwasan.so",
@@ -229,13 +301,12 @@ static void look_at_program(const struct file *file) {
     const Elf64_Ehdr *head = read_head(file);
     if (!head)
         return;
-    if (is_other_machine(head)) {
-        puts("other-machine");
+    say(is_other_machine(head), "other-machine");
+    if (is_other_machine(head))
         return;
-    }
     char loader[PATH_MAX];
     read_loader(file, head, loader, sizeof loader);
-    struct symbols symbols = read_symbols(file, head);
+    struct symbols symbols = read_symbols(file, head, SHT_DYNSYM);
     say(!loader[0], "static");
     say(strstr(loader, "musl"), "other-libc");
     say(is_go(file), "go");
@@ -266,37 +337,55 @@ static void look_at_each(const char *name) {
         return;
     const Elf64_Ehdr *head = read_head(&file);
     if (head) {
-        struct symbols symbols = {0};
-        if (!is_other_machine(head))
-            symbols = read_symbols(&file, head);
+        struct symbols symbols = {0}, all = {0};
+        if (!is_other_machine(head)) {
+            symbols = read_symbols(&file, head, SHT_DYNSYM);
+            all = read_symbols(&file, head, SHT_SYMTAB);
+        }
         say_of(is_go(&file), "go", name);
         say_of(is_python(&symbols), "libpython", name);
         say_of(is_java(&symbols), "libjvm", name);
+        for (size_t i = 0; i < sizeof runtimes / sizeof *runtimes; i++)
+            say_of(is_runtime(&runtimes[i], &file, &symbols), runtimes[i].word, name);
         say_of(has(&file, "ldr1 lockdep,2\n"), "embed", name);
         say_of(calls_any(&symbols, starts_of_openmp), "openmp", name);
+        say_of(calls_any(&symbols, starts_of_glib), "glib", name);
         say_of(calls_any(&symbols, starts_of_semaphores), "semaphore", name);
+        say_of(waits_by_futex(&file, &symbols, &all), "futex", name);
         say_of(has_sanitizer(&file, &symbols), "sanitizer", name);
         say_of(calls_locks(&symbols), "pthread", name);
     }
     munmap((void *)file.bytes, file.size);
 }
 
+static void look_at_one(const char *name) {
+    char path[PATH_MAX];
+    snprintf(path, sizeof path, "%s", name);
+    struct file file;
+    bool is_open = open_program(path, &file);
+    is_something_said = false;
+    say(gets_rights(path), "setuid");
+    if (!is_open)
+        return;
+    look_at_program(&file);
+    munmap((void *)file.bytes, file.size);
+}
+
 int main(int argc, char **argv) {
-    if (argc > 1 && strcmp(argv[1], "--each") == 0) {
-        for (int i = 2; i < argc; i++)
+    bool is_all = argc > 1 && strcmp(argv[1], "--all") == 0;
+    if (is_all || (argc > 1 && strcmp(argv[1], "--each") == 0)) {
+        for (int i = 2; i < argc; i++) {
+            subject = argv[i];
+            if (is_all)
+                look_at_one(argv[i]);
             look_at_each(argv[i]);
+        }
         return 0;
     }
     if (argc != 2) {
         fputs("look: this is a part of `record`\n", stderr);
         return 2;
     }
-    char path[PATH_MAX];
-    snprintf(path, sizeof path, "%s", argv[1]);
-    struct file file;
-    bool is_open = open_program(path, &file);
-    say(gets_rights(path), "setuid");
-    if (is_open)
-        look_at_program(&file);
+    look_at_one(argv[1]);
     return 0;
 }

@@ -8,9 +8,10 @@
 #define LOCKDEP_RAW_H
 
 #include <stdint.h>
+#include <string.h>
 
-/* "lockrec4", little endian. */
-#define RAW_MAGIC UINT64_C(0x346365726b636f6c)
+/* "lockrec5", little endian. */
+#define RAW_MAGIC UINT64_C(0x356365726b636f6c)
 
 /* The file's size, if no limit forbids it, and the size under which a recording may well be too small. */
 #define RAW_BYTES (UINT64_C(4) << 30)
@@ -59,8 +60,9 @@ static inline uint64_t raw_word(uint64_t module, uint64_t offset) {
 static inline uint32_t raw_word_module(uint64_t word) { return (uint32_t)(word >> 48); }
 static inline uint64_t raw_word_offset(uint64_t word) { return word & UINT64_C(0xffffffffffff); }
 
-/* The kinds of parts that are numbered. Each kind has its region of the file. */
-enum raw_kind { RAW_PROCESSES, RAW_MODULES, RAW_PLACES, RAW_CLASSES, RAW_OBJECTS, RAW_TAKES, RAW_FILES, RAW_PROGRAMS, RAW_THREADS, RAW_KINDS };
+/* The kinds of parts that are numbered. Each kind has its region of the file, in this order: what a program goes on to use comes first,
+   where the pages are made at the start. */
+enum raw_kind { RAW_PROCESSES, RAW_PLACES, RAW_MODULES, RAW_CLASSES, RAW_OBJECTS, RAW_TAKES, RAW_FILES, RAW_PROGRAMS, RAW_THREADS, RAW_LOOKS, RAW_KINDS };
 
 struct raw_process {
     uint32_t id; /* the system's number of it; written last */
@@ -70,6 +72,7 @@ struct raw_process {
 struct raw_module {
     uint32_t is_ready;
     uint32_t process; /* which process found it */
+    uint64_t bias;    /* an address less this is an address in the file */
     char path[RAW_PATH + 4];
 };
 
@@ -95,6 +98,26 @@ struct raw_class {
     uint64_t word;   /* of CLASS_STATIC the lock's address, of CLASS_STACK the function's, of CLASS_THREAD that in the module's
                         thread-local part */
     uint64_t offset; /* of CLASS_HEAP in the piece of memory, of CLASS_STACK down from the frame's end, of CLASS_FILE in the file */
+    uint32_t look;   /* at the first lock of it; 0 if there was none yet, or RAW_NO_LOOK */
+};
+
+#define RAW_NO_LOOK UINT32_MAX
+
+/* What `names` finds the lock's type by: where the first lock of a class was, and what the thread that met it had then in the registers
+   that a call keeps and on its stack, from the recorder's own frames on. */
+enum raw_register { RAW_RBX, RAW_RBP, RAW_RSP, RAW_R12, RAW_R13, RAW_R14, RAW_R15, RAW_RIP, RAW_REGISTERS };
+
+#define RAW_LOOK_PROGRAM 1024 /* bytes of the program's frames */
+#define RAW_LOOK_STACK 1536   /* and those of the recorder before them */
+
+struct raw_look {
+    uint32_t is_ready; /* written last */
+    uint32_t bytes;    /* of the stack, from the stack pointer on */
+    uint64_t lock;
+    uint64_t piece, piece_bytes; /* the piece of memory that it is in; 0 if it is in none */
+    uint64_t piece_place;        /* where that was allocated */
+    uint64_t registers[RAW_REGISTERS];
+    unsigned char stack[RAW_LOOK_STACK];
 };
 
 struct raw_object {
@@ -102,6 +125,7 @@ struct raw_object {
     uint32_t ordinal; /* among the objects of the class that are told apart, from 1; 0 for all the others together */
     uint64_t offset;  /* in the file */
     uint32_t file;    /* of a lock that processes share; else 0 */
+    uint32_t is_signal; /* it is a semaphore that isn't used as a lock: nothing of it goes into the traces */
 };
 
 /* The ordinal of an object that processes share. It has no other one. */
@@ -183,9 +207,10 @@ struct raw_arena {
 };
 
 static inline uint32_t raw_size(enum raw_kind kind) {
-    static const uint32_t sizes[RAW_KINDS] = {sizeof(struct raw_process), sizeof(struct raw_module), sizeof(struct raw_place),
+    static const uint32_t sizes[RAW_KINDS] = {sizeof(struct raw_process), sizeof(struct raw_place),  sizeof(struct raw_module),
                                               sizeof(struct raw_class),   sizeof(struct raw_object), sizeof(struct raw_take),
-                                              sizeof(struct raw_file),    sizeof(struct raw_program), sizeof(struct raw_thread)};
+                                              sizeof(struct raw_file),    sizeof(struct raw_program), sizeof(struct raw_thread),
+                                              sizeof(struct raw_look)};
     return sizes[kind];
 }
 
@@ -200,5 +225,14 @@ static inline uint32_t raw_chunk(uint64_t index) {
 }
 static inline uint64_t raw_chunk_start(uint32_t chunk) { return RAW_FIRST_CHUNK * ((UINT64_C(1) << chunk) - 1); }
 static inline uint64_t raw_chunk_room(uint32_t chunk) { return (uint64_t)RAW_FIRST_CHUNK << chunk; }
+
+/* What comes with the system is none of the program's. */
+static inline int raw_is_of_system(const char *path) {
+    static const char *const folders[] = {"/lib/", "/lib64/", "/usr/lib/", "/usr/lib64/", "/lib32/", "/usr/lib32/", "/usr/libexec/"};
+    for (size_t i = 0; i < sizeof folders / sizeof *folders; i++)
+        if (strncmp(path, folders[i], strlen(folders[i])) == 0)
+            return 1;
+    return path[0] != '/';
+}
 
 #endif

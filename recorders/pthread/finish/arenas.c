@@ -3,6 +3,7 @@
 
 #include <dirent.h>
 #include <fcntl.h>
+#include <signal.h>
 #include <string.h>
 #include <sys/mman.h>
 #include <sys/stat.h>
@@ -51,6 +52,21 @@ static void read_modules(struct arena *a) {
     }
 }
 
+/* On a full disk of memory (tmpfs) a page that nothing was written to can't be looked at: the system has no page for it, and raises
+   SIGBUS. There is nothing but zeros in it, so a page of zeros takes its place. */
+static void put_zeros(int signal_number, siginfo_t *info, void *context) {
+    (void)context;
+    size_t page = (size_t)sysconf(_SC_PAGESIZE);
+    char *at = (char *)((uintptr_t)info->si_addr & ~(page - 1));
+    if (info->si_code != BUS_ADRERR || mmap(at, page, PROT_READ, MAP_PRIVATE | MAP_ANONYMOUS | MAP_FIXED, -1, 0) == MAP_FAILED)
+        signal(signal_number, SIG_DFL);
+}
+
+static void read_holes_as_zeros(void) {
+    struct sigaction action = {.sa_sigaction = put_zeros, .sa_flags = SA_SIGINFO};
+    sigaction(SIGBUS, &action, NULL);
+}
+
 /* A part of the recording that can't be read may not be passed over: without it the rest could seem clean. */
 static void *mapped_file(int fd, size_t bytes, const char *path) {
     void *p = mmap(NULL, bytes, PROT_READ, MAP_PRIVATE, fd, 0);
@@ -65,7 +81,7 @@ static void open_arena(const char *path) {
     struct stat about;
     if (fd < 0 || fstat(fd, &about) != 0)
         refuse_file("can't be read", path);
-    struct arena a = {.bytes = (uint64_t)about.st_size};
+    struct arena a = {.bytes = (uint64_t)about.st_size, .path = checked(strdup(path))};
     if (a.bytes)
         a.raw = mapped_file(fd, a.bytes, path);
     close(fd);
@@ -97,6 +113,7 @@ static bool ends_with(const char *name, const char *end) {
 }
 
 void read_arenas(const char *folder) {
+    read_holes_as_zeros();
     char raw[4096];
     snprintf(raw, sizeof raw, "%s/raw", folder);
     struct dirent **names;
@@ -119,6 +136,28 @@ void read_arenas(const char *folder) {
         a->keys = checked(calloc(count_of(a, RAW_CLASSES) + 1, sizeof *a->keys));
         number_processes(a);
     }
+}
+
+/* ---- What the programs had on their stacks. `names` has read it, and nobody else is to. */
+
+static void forget_looks_of(const struct arena *a) {
+    static const char zeros[sizeof(struct raw_look)];
+    const struct raw_region *region = &a->raw->regions[RAW_LOOKS];
+    uint32_t count = count_of(a, RAW_LOOKS);
+    int fd = count ? open(a->path, O_RDWR | O_CLOEXEC) : -1;
+    if (fd < 0)
+        return;
+    bool is_punched = fallocate(fd, FALLOC_FL_PUNCH_HOLE | FALLOC_FL_KEEP_SIZE, (off_t)raw_at(region, RAW_LOOKS, 1),
+                                (off_t)(count * sizeof(struct raw_look))) == 0;
+    for (uint32_t i = 1; i <= count && !is_punched; i++)
+        if (pwrite(fd, zeros, sizeof zeros, (off_t)raw_at(region, RAW_LOOKS, i)) != (ssize_t)sizeof zeros)
+            break;
+    close(fd);
+}
+
+void forget_looks(void) {
+    for (size_t i = 0; i < arena_count; i++)
+        forget_looks_of(&arenas[i]);
 }
 
 /* ---- Places. */

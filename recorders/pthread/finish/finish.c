@@ -78,6 +78,8 @@ static void tell_losses(FILE *file) {
               "acquisitions by handlers of fork with 48 locks held already, as an allocator takes all of its own: an order among these may be missing");
     tell_loss(file, "beyond-held", sums.deep + raw->deep,
               "acquisitions with 48 locks held already: an order among them may be missing");
+    if (sums.deep)
+        tell_dropped(file);
     tell_loss(file, "tries", sums.tries, "try acquisitions, which version 1 of the format can't say: orders that begin with one are missing");
     tell_loss(file, "retried-tries", raw->retried,
               "tries of a lock right after one that failed, with other locks held: a thread that waits so is in no trace");
@@ -85,6 +87,8 @@ static void tell_losses(FILE *file) {
               "calls from a signal handler that interrupted the recorder, or that one left by a jump: an order among them may be missing");
     tell_loss(file, "unseen-releases", raw->releases,
               "releases of locks that the thread wasn't seen to take: another thread, or nobody, was seen to hold them");
+    tell_loss(file, "signal-semaphores", signals(),
+              "semaphores that began at 0 or were posted by a thread that hadn't taken them, so they are no locks: no order of other locks is lost by these");
     tell_loss(file, "deep-binding", sum_of(deep_bound),
               "libraries that asked to be bound to themselves first, which was taken away so that their locks are seen: nothing is lost by these");
     tell_loss(file, "namespaces", sum_of(namespaces),
@@ -92,6 +96,10 @@ static void tell_losses(FILE *file) {
     tell_loss(file, "threads-alike", sums.alike,
               "threads whose traces are those of two others, and weren't written, since a run takes 4,096: nothing is lost by these");
     tell_stand_ins(file);
+    tell_loss(file, "unnamed-modules", unnamed_modules(),
+              "modules of the program without debug information: locks of these are named by where they were made; build with -g");
+    tell_loss(file, "unread-programs", unread_programs(),
+              "programs whose debug information was not read, as by a recorder without libdw: locks are named by where they were made");
     tell_loss(file, "repeats", raw->repeated, "records that repeat what their thread had done before: nothing is lost by these");
 }
 
@@ -198,11 +206,14 @@ int main(int argc, char **argv) {
     find_recorder(recorder, sizeof recorder);
     read_wrappers(recorder);
     read_arenas(argv[1]);
+    read_types();
     find_arrays();
+    spread_types();
     find_shared();
     name_objects();
     write_traces(argv[1], version);
     write_classes(argv[1]);
     write_summary(argv[1]);
+    forget_looks();
     return 0;
 }

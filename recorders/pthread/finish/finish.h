@@ -15,8 +15,10 @@
 
 #define MAX_KEYS 8192 /* of a checked run */
 #define MAX_HELD 48   /* of a task */
+#define MAX_EVENTS 1000000
 #define MAX_NAME 53   /* of a class, in bytes: the format's 64 less what tells its objects apart, as `#rest^12345` */
 #define MAX_OBJECT_NAME 64
+#define MAX_TYPE 44   /* of what comes before `@` and eight digits */
 
 void refuse(const char *what, const char *name) __attribute__((noreturn));
 void refuse_file(const char *what, const char *path) __attribute__((noreturn)); /* for the reason that errno has */
@@ -47,6 +49,8 @@ struct module {
     size_t symbol_count;
     bool takes_locks; /* it imports a function that takes one */
     bool is_go, is_rust;
+    bool has_debug;  /* debug information, in itself or as `names` found it */
+    bool is_unnamed; /* a class was made in it that has no type */
 };
 
 extern struct module *modules;
@@ -68,6 +72,8 @@ struct place { /* the callers that name it, from the innermost one, with modules
 struct arena {
     const struct raw_arena *raw;
     uint64_t bytes;
+    const char *path;
+    const struct type **types; /* of its classes; NULL of a class without one */
     uint32_t *modules; /* from its numbers to those of all */
     struct place *places;
     int *keys;         /* of its classes: one more than the key's number, 0 if it has none yet */
@@ -80,6 +86,7 @@ extern size_t arena_count;
 extern uint64_t process_count, refused_count;
 
 void read_arenas(const char *folder);
+void forget_looks(void); /* takes what was on the programs' stacks out of the recording */
 uint32_t count_of(const struct arena *a, enum raw_kind kind);
 const void *part_of(const struct arena *a, enum raw_kind kind, uint32_t number);
 uint64_t told_word(const struct arena *a, uint64_t raw);
@@ -102,6 +109,25 @@ void ask_about(const struct place *place);
 void ask_all(void);
 enum request request_of(struct arena *a, uint32_t place);
 
+/* ---- sources.c */
+
+void note_source(const char *path);
+const char *told_source(const char *path); /* its last parts, as many as no other one has that was noted */
+
+/* ---- types.c: what `names` found. */
+
+struct type {
+    const char *full, *rule;
+    bool is_variable; /* a static variable that is a lock itself */
+    char text[MAX_TYPE + 1]; /* as it stands in a name */
+};
+
+void read_types(void);
+void spread_types(void); /* to all classes of a place; needs the arrays */
+void note_unnamed(uint32_t module); /* locks of the module have no type */
+uint64_t unnamed_modules(void); /* those of the program without debug information */
+uint64_t unread_programs(void); /* those whose debug information wasn't read */
+
 /* ---- names.c */
 
 #define LONGEST_NAME 4096 /* before it is shortened */
@@ -109,6 +135,8 @@ enum request request_of(struct arena *a, uint32_t place);
 struct key {
     char name[MAX_NAME + 1];
     char *identity; /* what the name stands for: two classes of one name aren't mixed up */
+    const struct type *type;
+    char *place; /* in full, if the name has a type */
     uint64_t at;
     enum class_kind kind;
     const char *path; /* of a file that the lock is in, `at` being where */
@@ -123,13 +151,18 @@ bool is_wrapper(uint64_t word);
 bool is_of_program(uint64_t word);
 bool is_outermost(uint64_t word);
 bool is_in_fork(uint64_t word);
+uint32_t hash_of(const char *text);
+void fill_spaces(char *name);
 void tell_symbol(char *text, size_t room, const char *symbol);
+void tell_class(char *text, size_t room, struct arena *a, const struct raw_class *class, bool plainly);
 int key_of(struct arena *a, uint32_t class);
 
 /* ---- shared.c */
 
 void find_shared(void);
 int class_key_of(struct arena *a, uint32_t object);
+bool is_signal(struct arena *a, uint32_t object);
+uint64_t signals(void);
 int *shared_number(struct arena *a, uint32_t object);
 void forget_shared_numbers(void);
 
@@ -161,6 +194,7 @@ extern struct sums sums;
 extern char *waiting_text, *held_text; /* lines of SUMMARY */
 
 void write_traces(const char *folder, int version);
+void tell_dropped(FILE *file);
 void write_classes(const char *folder);
 FILE *created(const char *path);
 void closed(FILE *file, const char *path);

@@ -68,7 +68,7 @@ static void replace(char *name, const char *what, const char *with) {
     }
 }
 
-static void fill_spaces(char *name) {
+void fill_spaces(char *name) {
     replace(name, ", ", ",");
     for (; *name; name++)
         if (*name < 0x21 || *name > 0x7e)
@@ -287,7 +287,7 @@ static void tell_file(char *text, size_t room, struct arena *a, const struct raw
     fill_spaces(text);
 }
 
-static void tell_class(char *text, size_t room, struct arena *a, const struct raw_class *class, bool plainly) {
+void tell_class(char *text, size_t room, struct arena *a, const struct raw_class *class, bool plainly) {
     char offset[32];
     if (class->kind == CLASS_FILE) {
         tell_file(text, room, a, class, plainly);
@@ -304,7 +304,7 @@ static void tell_class(char *text, size_t room, struct arena *a, const struct ra
 
 /* ---- Keys. */
 
-static uint32_t hash_of(const char *text) {
+uint32_t hash_of(const char *text) {
     uint64_t hash = UINT64_C(14695981039346656037);
     for (; *text; text++)
         hash = (hash ^ (unsigned char)*text) * UINT64_C(1099511628211);
@@ -313,9 +313,25 @@ static uint32_t hash_of(const char *text) {
 
 #define MARK 9 /* the bytes of `#` and eight digits */
 
+/* What stands before an `@` would be read as a type, so one of a file or symbol is written as `%40`. */
+static void escape(char *to, size_t room, const char *name) {
+    static const char escaped[] = "%40";
+    size_t length = 0;
+    for (; *name && length + sizeof escaped < room; name++) {
+        if (*name == '@')
+            memcpy(to + length, escaped, sizeof escaped - 1);
+        else
+            to[length] = *name;
+        length += *name == '@' ? sizeof escaped - 1 : 1;
+    }
+    to[length] = 0;
+}
+
 /* A name that is too long for the format is cut, and ends with a number made of all of it. */
-static void put_name(char *to, const char *name, const char *all) {
-    if (strlen(name) <= MAX_NAME && name == all)
+static void put_name(char *to, const char *place, const char *all) {
+    char name[LONGEST_NAME];
+    escape(name, sizeof name, place);
+    if (strlen(name) <= MAX_NAME && place == all)
         snprintf(to, MAX_NAME + 1, "%s", name);
     else
         snprintf(to, MAX_NAME + 1, "%.*s#%08x", MAX_NAME - MARK, name, hash_of(all));
@@ -359,21 +375,39 @@ static const char *file_path(struct arena *a, const struct raw_class *class) {
     return file && file->path[0] ? file->path : "-";
 }
 
-/* The key of a class: that of its name, or a new one. If another class has the name, a number of its own comes after it. */
-static int make_key(struct arena *a, const struct raw_class *class) {
-    char name[LONGEST_NAME], identity[LONGEST_NAME];
+/* Whether the type tells where the class is: it is a static variable, which has one place. Of those in functions there may be several of
+   one name. */
+static bool tells_place(const struct type *type, const char *place) { return type->is_variable && !strpbrk(place, "+("); }
+
+/* The name of a class: where it was made, or its type and eight digits of that. If two classes would have one name, the digits are of
+   what tells them apart. */
+static void put_class_name(struct key *key, const char *place, const char *all) {
+    if (key->type && all == place && tells_place(key->type, place))
+        snprintf(key->name, sizeof key->name, "%s", key->type->text);
+    else if (key->type)
+        snprintf(key->name, sizeof key->name, "%s@%08x", key->type->text, hash_of(all));
+    else
+        put_name(key->name, place, all);
+}
+
+/* The key of a class: that of its name, or a new one. */
+static int make_key(struct arena *a, const struct raw_class *class, const struct type *type) {
+    char place[LONGEST_NAME], identity[LONGEST_NAME];
     tell_class(identity, sizeof identity, a, class, true);
-    tell_class(name, sizeof name, a, class, false);
-    struct key key = {.at = first_word(a, class), .kind = (enum class_kind)class->kind, .path = file_path(a, class)};
-    put_name(key.name, name, name);
+    tell_class(place, sizeof place, a, class, false);
+    struct key key = {.at = first_word(a, class), .kind = (enum class_kind)class->kind, .path = file_path(a, class), .type = type};
+    put_class_name(&key, place, place);
     int there = key_named(key.name);
     if (there != NO_KEY && strcmp(keys[there].identity, identity) != 0) {
-        put_name(key.name, name, identity);
+        put_class_name(&key, place, identity);
         there = key_named(key.name);
     }
     if (there != NO_KEY)
         return there;
     key.identity = checked(strdup(identity));
+    key.place = type ? checked(strdup(place)) : NULL;
+    if (!type && !key.path && key.at != UINT64_MAX)
+        note_unnamed(raw_word_module(key.at));
     return add_key(key);
 }
 
@@ -381,7 +415,7 @@ static int make_key(struct arena *a, const struct raw_class *class) {
 int key_of(struct arena *a, uint32_t class) {
     if (!a->keys[class]) {
         const struct raw_class *c = part_of(a, RAW_CLASSES, class);
-        a->keys[class] = make_key(a, c) + 1;
+        a->keys[class] = make_key(a, c, a->types[class]) + 1;
     }
     return a->keys[class] - 1;
 }

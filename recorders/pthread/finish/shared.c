@@ -10,6 +10,7 @@ struct shared {
     uint32_t class;
     int key; /* NO_KEY until it is asked for */
     int number; /* of the key of the single lock, or NO_KEY */
+    bool is_signal; /* as any process found */
 };
 
 static struct shared *shared;
@@ -17,7 +18,8 @@ static size_t shared_count;
 
 /* Memory without a file has the arena and its number there. */
 static struct shared identity_of(struct arena *a, const struct raw_object *o, const struct raw_file *file) {
-    struct shared s = {.device = file->device, .inode = file->inode, .offset = o->offset, .arena = a, .class = o->class};
+    struct shared s = {.device = file->device, .inode = file->inode, .offset = o->offset, .arena = a, .class = o->class,
+                       .is_signal = o->is_signal};
     if (file->place) {
         s.device = (uint64_t)(a - arenas);
         s.inode = UINT64_MAX - o->file;
@@ -71,10 +73,13 @@ void find_shared(void) {
     if (shared_count)
         qsort(shared, shared_count, sizeof *shared, by_identity);
     for (size_t i = 0; i < shared_count; i++) {
-        if (i == 0 || by_identity(&shared[i], &shared[kept - 1]) != 0)
+        bool is_new = i == 0 || by_identity(&shared[i], &shared[kept - 1]) != 0;
+        bool is_signal = shared[i].is_signal || (!is_new && shared[kept - 1].is_signal);
+        if (is_new)
             shared[kept++] = shared[i];
         else if (is_better(&shared[i], &shared[kept - 1]))
             shared[kept - 1] = shared[i];
+        shared[kept - 1].is_signal = is_signal;
     }
     shared_count = kept;
 }
@@ -85,6 +90,24 @@ static struct shared *shared_of(struct arena *a, uint32_t object) {
         return NULL;
     struct shared wanted = identity_of(a, part_of(a, RAW_OBJECTS, object), file);
     return shared_count ? bsearch(&wanted, shared, shared_count, sizeof *shared, by_identity) : NULL;
+}
+
+/* Whether the object is a semaphore that was found to be no lock. */
+bool is_signal(struct arena *a, uint32_t object) {
+    const struct shared *s = shared_of(a, object);
+    const struct raw_object *o = part_of(a, RAW_OBJECTS, object);
+    return s ? s->is_signal : o && o->is_signal;
+}
+
+/* How many semaphores are. */
+uint64_t signals(void) {
+    uint64_t count = 0;
+    for (size_t i = 0; i < arena_count; i++)
+        for (uint32_t n = 1; n <= count_of(&arenas[i], RAW_OBJECTS); n++)
+            count += !shared_of(&arenas[i], n) && is_signal(&arenas[i], n);
+    for (size_t i = 0; i < shared_count; i++)
+        count += shared[i].is_signal;
+    return count;
 }
 
 /* The key of the object's class. */

@@ -24,6 +24,8 @@ void closed(FILE *file, const char *path) {
         refuse_file("can't be written", path);
 }
 
+#define MOST_TOLD 5 /* classes that were dropped */
+
 struct held {
     uint32_t object;
     int key;
@@ -39,6 +41,7 @@ struct trace {
     struct content content;
     uint64_t events;
     int version;
+    bool waits; /* its last record is a lock that it waits for */
 };
 
 static bool is_try(enum mode mode) { return mode >= MODE_TRY_WRITE && mode <= MODE_TRY_REC_READ; }
@@ -109,11 +112,41 @@ static bool is_forking(const struct place *place) {
     return false;
 }
 
-static void leave_out(struct trace *t, const struct raw_record *r) {
-    if (is_forking(place_numbered(t->arena, r->place)))
-        sums.in_fork++;
-    else
-        sums.deep++;
+/* How often each class was the oldest that was held, and dropped. */
+static uint64_t dropped[MAX_KEYS];
+
+/* One more lock than a task may hold: the oldest is dropped, since the newest ones are those that the next orders are about. */
+static void drop_oldest(struct trace *t, const struct raw_record *r) {
+    size_t oldest = 0;
+    while (!t->held[oldest].is_written)
+        oldest++;
+    bool is_in_fork_call = is_forking(place_numbered(t->arena, r->place));
+    sums.in_fork += is_in_fork_call;
+    sums.deep += !is_in_fork_call;
+    dropped[t->held[oldest].key] += !is_in_fork_call;
+    t->held[oldest].is_written = false;
+    t->written--;
+    write_event(t, &t->held[oldest], NULL, r->place);
+}
+
+static size_t most_dropped(void) {
+    size_t most = 0;
+    for (size_t i = 1; i < MAX_KEYS; i++)
+        if (dropped[i] > dropped[most])
+            most = i;
+    return most;
+}
+
+/* A line of SUMMARY with the classes that were dropped most often. */
+void tell_dropped(FILE *file) {
+    fputs("  dropped, as the oldest that was held:", file);
+    size_t key = most_dropped();
+    for (int i = 0; i < MOST_TOLD && dropped[key]; i++) {
+        fprintf(file, "%s %s (%lu)", i ? "," : "", keys[key].name, (unsigned long)dropped[key]);
+        dropped[key] = 0;
+        key = most_dropped();
+    }
+    fputs(dropped[key] ? ", ..\n" : "\n", file);
 }
 
 static void take(struct trace *t, const struct raw_record *r) {
@@ -126,10 +159,12 @@ static void take(struct trace *t, const struct raw_record *r) {
         sums.tries++;
     else if (h.key >= MAX_KEYS)
         sums.classes++;
-    else if (t->written == MAX_HELD)
-        leave_out(t, r);
+    else if (t->events + 2 + MAX_HELD > MAX_EVENTS) /* with a lock that is dropped, and the releases at the end */
+        sums.raw.full++;
     else
         h.is_written = true;
+    if (h.is_written && t->written == MAX_HELD)
+        drop_oldest(t, r);
     t->held[t->depth++] = h;
     if (h.is_written) {
         t->written++;
@@ -187,10 +222,10 @@ static void tell_end(FILE *file, const struct trace *t) {
 }
 
 /* Whether SUMMARY names the trace. */
-static bool is_told_at_end(const struct trace *t) { return t->depth && (t->raw->waits || t->raw->ended); }
+static bool is_told_at_end(const struct trace *t) { return t->depth && (t->waits || t->raw->ended); }
 
 static void tell_last(const struct trace *t, const char *name) {
-    if (t->raw->waits && t->depth) {
+    if (t->waits && t->depth) {
         sums.waiting++;
         sums.waiting_at_exit += t->raw->waits == RAW_WAITS_AT_EXIT;
         add_line(&waiting_text, t, name, tell_wait);
@@ -203,9 +238,12 @@ static void tell_last(const struct trace *t, const char *name) {
 /* ---- A trace. */
 
 static void write_records(struct trace *t) {
+    t->waits = t->raw->waits;
     for (uint64_t i = 0; i < t->raw->count; i++) {
         const struct raw_record *r = record_of(t->arena, t->raw, i);
-        if (!r)
+        bool is_left_out = r && is_signal(t->arena, raw_object(r->what));
+        t->waits = t->raw->waits && !is_left_out;
+        if (!r || is_left_out)
             continue;
         if (raw_mode(r->what) == MODE_RELEASE)
             give_back(t, r);
@@ -331,7 +369,10 @@ static void write_class(FILE *file, const struct key *key) {
     uint64_t at = key->path ? key->at : is_somewhere ? raw_word_offset(key->at) + (key->kind == CLASS_STACK) : 0;
     fprintf(file, "%s\t", key->name);
     write_path(file, key->path ? key->path : is_somewhere ? modules[raw_word_module(key->at)].path : "-");
-    fprintf(file, "\t%lx\t%s\n", (unsigned long)at, kind_words[key->kind < CLASS_KINDS ? key->kind : 0]);
+    fprintf(file, "\t%lx\t%s", (unsigned long)at, kind_words[key->kind < CLASS_KINDS ? key->kind : 0]);
+    if (key->type)
+        fprintf(file, "\t%s\t%s\t%s", key->type->full, key->type->rule, key->place);
+    putc('\n', file);
 }
 
 void write_classes(const char *folder) {

@@ -245,7 +245,8 @@ EXPORT int mlockall(int what) {
     return REAL(mlockall)(is_recording() ? what | MCL_ONFAULT : what);
 }
 
-/* ---- By option. A semaphore is taken as a mutex is; one that another thread posts isn't held any more. */
+/* ---- By option. A semaphore is taken as a mutex is. One that begins at 0, or that a thread posts that hasn't taken it, is a signal and no
+   lock: who waits for it waits for an event. It is left out from then on, and at the end what was recorded of it is. */
 
 static bool asks_for(const char *what) {
     const char *also = getenv("LOCKDEP_ALSO");
@@ -268,11 +269,28 @@ static int semaphores, streams;
 #define SEMAPHORES is_asked(&semaphores, "sem")
 #define STREAMS is_asked(&streams, "flockfile")
 
+static bool is_left_out(const sem_t *lock) {
+    uint32_t object = lock_object((uintptr_t)lock);
+    return object && is_signal(object);
+}
+
+static void took(const sem_t *lock, uint8_t mode, struct call call) {
+    if (!is_left_out(lock))
+        acquired((uintptr_t)lock, mode, KIND_COUNTED, call);
+}
+
+static void posting(const sem_t *lock, struct call call) {
+    if (!is_left_out(lock) && !releasing_own((uintptr_t)lock, call))
+        leave_out((uintptr_t)lock, call);
+}
+
 EXPORT int sem_init(sem_t *lock, int shared, unsigned value) {
     bool is_seen = SEMAPHORES;
     int answer = REAL(sem_init)(lock, shared, value);
     if (is_seen && answer == 0)
         initialised((uintptr_t)lock, HERE);
+    if (is_seen && answer == 0 && value == 0)
+        leave_out((uintptr_t)lock, HERE);
     return answer;
 }
 
@@ -287,18 +305,18 @@ EXPORT int sem_destroy(sem_t *lock) {
 /* Tries first, as with a mutex. A wait that a signal ends is withdrawn. */
 #define WAITING(name, is_sound, parameters, arguments)                                                                 \
     EXPORT int name parameters {                                                                                       \
-        if (!SEMAPHORES || !(is_sound))                                                                                \
+        if (!SEMAPHORES || !(is_sound) || is_left_out(lock))                                                           \
             return REAL(name) arguments;                                                                               \
         int saved = errno, answer = REAL(sem_trywait)(lock);                                                           \
         if (answer == 0) {                                                                                             \
-            acquired((uintptr_t)lock, MODE_WRITE, KIND_COUNTED, HERE);                                                 \
+            took(lock, MODE_WRITE, HERE);                                                                              \
             return 0;                                                                                                  \
         }                                                                                                              \
         errno = saved;                                                                                                 \
         bool is_wish = begin_wish((uintptr_t)lock, MODE_WRITE, KIND_COUNTED, HERE);                                    \
         answer = REAL(name) arguments;                                                                                 \
         if (is_wish ? !end_wish((uintptr_t)lock, answer == 0, HERE) : answer == 0)                                     \
-            acquired((uintptr_t)lock, MODE_WRITE, KIND_COUNTED, HERE);                                                 \
+            took(lock, MODE_WRITE, HERE);                                                                              \
         return answer;                                                                                                 \
     }
 
@@ -307,18 +325,18 @@ WAITING(sem_timedwait, is_time(until), (sem_t *restrict lock, const struct times
 WAITING(sem_clockwait, IS_CLOCK(clock) && is_time(until), (sem_t *restrict lock, clockid_t clock, const struct timespec *restrict until), (lock, clock, until))
 
 EXPORT int sem_trywait(sem_t *lock) {
-    bool is_seen = SEMAPHORES;
+    bool is_seen = SEMAPHORES && !is_left_out(lock);
     int answer = REAL(sem_trywait)(lock);
     if (is_seen)
         tried((uintptr_t)lock, answer != 0, HERE);
     if (is_seen && answer == 0)
-        acquired((uintptr_t)lock, MODE_TRY_WRITE, KIND_COUNTED, HERE);
+        took(lock, MODE_TRY_WRITE, HERE);
     return answer;
 }
 
 EXPORT int sem_post(sem_t *lock) {
     if (SEMAPHORES)
-        releasing((uintptr_t)lock, HERE);
+        posting(lock, HERE);
     return REAL(sem_post)(lock);
 }
 

@@ -56,13 +56,13 @@ static const struct {
 } plan[RAW_KINDS] = {
     [RAW_PROCESSES] = {1, 1 << 16, 2}, [RAW_CLASSES] = {4, 0xffff, 16},   [RAW_OBJECTS] = {2, 1 << 22, 16},
     [RAW_TAKES] = {2, 1 << 20, 16},    [RAW_THREADS] = {8, 1 << 20, 3},   [RAW_FILES] = {1, 1 << 12, 0},
-    [RAW_PROGRAMS] = {1, 1 << 10, 0},
+    [RAW_PROGRAMS] = {1, 1 << 10, 0},  [RAW_LOOKS] = {1, 0xffff, 0},
     [RAW_MODULES] = {10, 1 << 13, 5},  [RAW_PLACES] = {12, 1 << 20, 24},
 };
 
 /* In which order the first ones lie, and which kinds come after the first records. Places are last, since of them most are unused. */
 static const enum raw_kind order[RAW_KINDS] = {RAW_PROCESSES, RAW_THREADS, RAW_CLASSES, RAW_OBJECTS, RAW_TAKES,
-                                               RAW_FILES, RAW_PROGRAMS, RAW_MODULES, RAW_PLACES};
+                                               RAW_FILES, RAW_PROGRAMS, RAW_LOOKS, RAW_MODULES, RAW_PLACES};
 #define AFTER_RECORDS RAW_MODULES
 
 static uint64_t rounded(uint64_t n, uint64_t to) { return (n + to - 1) / to * to; }
@@ -243,14 +243,17 @@ static void put_file_name(char *path, const char *folder, uint32_t id, unsigned 
     put_text(put_number(end, n), ".arena", SIZE_MAX);
 }
 
+/* The user's alone, since it has pieces of the stack. */
+#define RIGHTS 0600
+
 /* Whatever the program's mask for new files says. */
 static void set_rights(int file) {
 #ifdef SYS_fstat
     struct stat about;
-    if (SYSTEM(fstat, file, &about) == 0 && (about.st_mode & 07777) == 0644)
+    if (SYSTEM(fstat, file, &about) == 0 && (about.st_mode & 07777) == RIGHTS)
         return;
 #endif
-    fchmod(file, 0644);
+    fchmod(file, RIGHTS);
 }
 
 /* Makes the process's file. The name has the process's number, and how many programs that process has run before. Without memory of
@@ -260,7 +263,7 @@ static struct raw_arena *make_file(const char *folder, uint32_t id, uint64_t all
     int file = -1;
     for (unsigned n = 0; n < MOST_PROGRAMS; n++) {
         put_file_name(path, folder, id, n);
-        file = (int)SYSTEM(openat, AT_FDCWD, path, O_RDWR | O_CREAT | O_EXCL | O_CLOEXEC, 0644);
+        file = (int)SYSTEM(openat, AT_FDCWD, path, O_RDWR | O_CREAT | O_EXCL | O_CLOEXEC, RIGHTS);
         if (file >= 0 || errno != EEXIST)
             break;
     }

@@ -183,6 +183,8 @@ static uint8_t *looks_of(uint32_t class) {
     return NTH(looks_left, which);
 }
 
+static bool is_known_by_address(uint32_t kind) { return kind == CLASS_STATIC || kind == CLASS_THREAD || kind == CLASS_FILE; }
+
 static uint32_t define_class(const struct raw_class *new) {
     uint32_t number = take_part(RAW_CLASSES);
     if (!number)
@@ -192,6 +194,7 @@ static uint32_t define_class(const struct raw_class *new) {
     class->place = new->place;
     class->word = new->word;
     class->offset = new->offset;
+    class->look = is_known_by_address(new->kind) ? RAW_NO_LOOK : 0;
     STORE(&class->kind, new->kind);
     return number;
 }
@@ -272,14 +275,18 @@ static uint32_t class_in_file(uint32_t file, uint64_t offset) {
 }
 
 /* The class of a lock that no call initialised. Modules that aren't known yet are looked for last, since that is slow. */
-static uint32_t class_of_lock(uintptr_t lock, struct call call) {
+static uint32_t class_of_lock(uintptr_t lock, struct memory *memory, struct call call) {
     struct raw_class class = {.kind = CLASS_HEAP};
     uint32_t file;
     bool is_static = known_module(lock) != NULL;
+    *memory = (struct memory){0, 0, 0};
     if (!is_static && find_shared(lock, &file, &class.offset))
         return class_in_file(file, class.offset);
-    if (!is_static && find_memory(lock, &class.place, &class.offset))
+    if (!is_static && find_memory(lock, memory)) {
+        class.place = memory->place;
+        class.offset = lock - memory->from;
         return known_class(class);
+    }
     if (is_static || module_of(lock))
         return known_class((struct raw_class){.kind = CLASS_STATIC, .word = word_of(lock)});
     if (own_part_with(lock, &class.word)) {
@@ -351,13 +358,22 @@ static bool is_own(uintptr_t lock, uint32_t class, struct call call) {
     return kind == CLASS_THREAD || ((kind == CLASS_STACK || kind == CLASS_TAKE) && is_below_end(lock, call));
 }
 
+/* Only the first lock of a class is looked at. */
+static void look_once(uint32_t number, uintptr_t lock, const struct memory *memory, struct call call) {
+    struct raw_class *class = number ? part_of(RAW_CLASSES, number) : NULL;
+    if (RARELY(class && !LOAD(&class->look)))
+        look_at(class, lock, memory, call);
+}
+
 uint32_t object_of_lock(uintptr_t lock, struct call call) {
     uint32_t object = lock_object(lock);
     if (LIKELY(object && !is_outdated(lock, object, call)))
         return object;
     if (object)
         drop_lock(lock);
-    uint32_t class = class_of_lock(lock, call);
+    struct memory memory;
+    uint32_t class = class_of_lock(lock, &memory, call);
+    look_once(class, lock, &memory, call);
     if (is_own(lock, class, call))
         note_own_lock(lock);
     return new_object(lock, class);
@@ -398,13 +414,12 @@ void forget_own_lock(uintptr_t lock) {
 
 /* The memory that the lock is in is marked, so that it is forgotten with that. */
 void know_by_place(uintptr_t lock, struct call call) {
-    uint32_t memory;
-    uint64_t offset;
+    struct memory memory;
     drop_lock(lock);
-    find_memory(lock, &memory, &offset);
-    uint32_t place = place_here(call);
-    if (place)
-        new_object(lock, known_class((struct raw_class){.kind = CLASS_INIT, .place = place}));
+    find_memory(lock, &memory);
+    uint32_t place = place_here(call), class = place ? known_class((struct raw_class){.kind = CLASS_INIT, .place = place}) : 0;
+    look_once(class, lock, &memory, call);
+    new_object(lock, class);
 }
 
 /* A lock of a file, of which a class is all of it. */

@@ -262,16 +262,17 @@ static uint64_t mark_lock(uint64_t *at, uint64_t offset) {
 #define KNOWN_OF_MAPPED 4096
 
 /* Whether the lock is in a piece that is known, and where that was allocated. The piece is marked as one with locks. */
-bool find_memory(uintptr_t lock, uint32_t *place, uint64_t *offset) {
+bool find_memory(uintptr_t lock, struct memory *memory) {
     struct slot *slot = piece_around(lock);
+    *memory = (struct memory){0, 0, 0};
     if (!slot)
         return false;
-    *offset = lock - LOAD(&slot->address);
-    uint64_t about = mark_lock(&slot->about, *offset);
-    *place = (uint32_t)(about & ((UINT64_C(1) << PLACE_BITS) - 1));
-    if (!*place || (*offset >= KNOWN_OF_MAPPED && is_mapped_place(*place)))
+    uint64_t from = LOAD(&slot->address), about = mark_lock(&slot->about, lock - from);
+    uint32_t place = (uint32_t)(about & ((UINT64_C(1) << PLACE_BITS) - 1));
+    if (!place || (lock - from >= KNOWN_OF_MAPPED && is_mapped_place(place)))
         return false;
-    note_size(*place, about >> SIZE_SHIFT);
+    *memory = (struct memory){from, about >> SIZE_SHIFT, place};
+    note_size(place, memory->bytes);
     return true;
 }
 

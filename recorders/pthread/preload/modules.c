@@ -129,6 +129,7 @@ static void add_module(const struct module *new, const char *path) {
         return;
     struct raw_module *raw = part_of(RAW_MODULES, number);
     raw->process = own_process;
+    raw->bias = new->bias;
     put_text(raw->path, path, RAW_PATH);
     STORE(&raw->is_ready, 1);
     *m = *new;

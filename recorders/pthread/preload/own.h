@@ -173,6 +173,7 @@ struct stack {
 };
 
 void take_stack(struct stack *stack, struct call call, uint32_t most);
+uintptr_t followed_to(struct call call, uintptr_t most);
 struct span { /* the frame of a function that was called */
     uintptr_t from, to, function;
 };
@@ -198,7 +199,11 @@ bool is_below_end(uintptr_t lock, struct call call);
 extern EARLY_THREAD_LOCAL size_t array_asked_for;
 void note_piece(void *piece, size_t size, uint64_t element, struct call call);
 void drop_piece(uintptr_t address, size_t size);
-bool find_memory(uintptr_t lock, uint32_t *place, uint64_t *offset);
+struct memory { /* the piece that a lock is in */
+    uint64_t from, bytes;
+    uint32_t place; /* where it was allocated; 0 if that isn't known */
+};
+bool find_memory(uintptr_t lock, struct memory *memory);
 
 /* ---- mapped.c */
 
@@ -246,6 +251,8 @@ uint32_t place_of_array(struct call call, uint32_t most, uint64_t element);
 uint32_t object_of_lock(uintptr_t lock, struct call call); /* makes one of a new lock; 0: no room */
 uint32_t apart(uintptr_t lock, uint32_t object); /* an object of its own for a nested lock, or the same */
 static inline uint32_t class_of(uint32_t object) { return ((struct raw_object *)part_of(RAW_OBJECTS, object))->class; }
+/* Whether the object is a semaphore that was found to be no lock. */
+static inline bool is_signal(uint32_t object) { return LOAD(&((struct raw_object *)part_of(RAW_OBJECTS, object))->is_signal); }
 bool is_mapped_place(uint32_t place);
 void note_size(uint32_t place, uint64_t bytes);
 void look_at_taker(uint32_t class, struct call call);
@@ -253,6 +260,10 @@ void know_by_place(uintptr_t lock, struct call call);
 void know_by_file(uintptr_t lock, uint32_t file, uint64_t offset);
 void forget_own_lock(uintptr_t lock); /* whose thread has ended */
 void forget_places_in_closed_modules(void);
+
+/* ---- looks.c */
+
+void look_at(struct raw_class *class, uintptr_t lock, const struct memory *memory, struct call call);
 
 /* ---- threads.c */
 
@@ -278,6 +289,7 @@ bool end_wish(uintptr_t lock, bool is_taken, struct call call);
 void releasing(uintptr_t lock, struct call call);
 bool releasing_own(uintptr_t lock, struct call call);
 void released_unseen(struct call call);
+void leave_out(uintptr_t semaphore, struct call call);
 void initialised(uintptr_t lock, struct call call);
 void destroyed(uintptr_t lock, struct call call);
 void given_back(uintptr_t from, uintptr_t to, uintptr_t caller);

@@ -423,6 +423,15 @@ void take_stack(struct stack *stack, struct call call, uint32_t most) {
     } while (stack->count < most && to_caller(&f));
 }
 
+/* Up to where the stack of a call could be followed, from where the call was made for so many bytes or a little more. What lies before
+   that is there: on a stack of the program's own making nothing else says where it ends. */
+uintptr_t followed_to(struct call call, uintptr_t most) {
+    struct frame f = first_frame(call);
+    while (f.sp - call.frame < most && to_caller(&f)) {
+    }
+    return f.sp;
+}
+
 /* ---- Which function's frame is where. */
 
 #define DEEPEST 64
@@ -527,6 +536,11 @@ void take_stack(struct stack *stack, struct call call, uint32_t most) {
 bool is_in_stack(struct call call, uint32_t from_frame) {
     (void)call, (void)from_frame;
     return false;
+}
+
+uintptr_t followed_to(struct call call, uintptr_t most) {
+    (void)call, (void)most;
+    return 0;
 }
 
 uint32_t take_spans(struct span *spans, struct call call, uint32_t most) {

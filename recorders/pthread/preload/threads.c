@@ -430,10 +430,13 @@ static bool is_released_by_other(const struct held *h) {
     return false;
 }
 
+/* Whether the thread is thought to hold what was found to be no lock. */
+static bool is_held_signal(const struct held *h) { return h->kind == KIND_COUNTED && !h->is_wish && is_signal(h->object); }
+
 __attribute__((noinline)) static void drop_released(struct thread *t, uintptr_t caller) {
     t->epoch = LOAD(&others_epoch);
     for (uint32_t i = t->depth; i-- > 0;)
-        if (is_released_by_other(&t->entries[i].held))
+        if (is_held_signal(&t->entries[i].held) || is_released_by_other(&t->entries[i].held))
             release_at(t, i, caller);
 }
 
@@ -539,6 +542,20 @@ void released_unseen(struct call call) {
     leave();
 }
 
+/* A semaphore was found to be no lock: no thread holds it any more. */
+void leave_out(uintptr_t semaphore, struct call call) {
+    struct thread *t = enter(call);
+    if (!t)
+        return;
+    t->raw->calls++;
+    uint32_t object = object_of_lock(semaphore, call);
+    if (object) {
+        STORE(&((struct raw_object *)part_of(RAW_OBJECTS, apart(semaphore, object)))->is_signal, 1);
+        __atomic_fetch_add(&others_epoch, 1, __ATOMIC_RELEASE);
+    }
+    leave();
+}
+
 /* ---- Acquisitions. */
 
 /* A held lock is nested now: it becomes an object of its own, and so do its record and the ways that it is part of. */
@@ -621,9 +638,11 @@ __attribute__((noinline)) static bool add_entries(struct thread *t) {
 
 static inline bool has_entry_left(struct thread *t) { return LIKELY(t->depth < t->room) || add_entries(t); }
 
-/* The lock's object, if there is room for one more that is held; else the hold has no entry. */
-static inline uint32_t object_to_hold(struct thread *t, uintptr_t lock, struct call call) {
-    return LIKELY(t->depth < RAW_HELD) && has_entry_left(t) ? object_of_lock(lock, call) : 0;
+/* The lock's object, if there is room for one more that is held; else the hold has no entry. A semaphore has one of its own before it is
+   nested, since it may be found to be no lock. */
+static inline uint32_t object_to_hold(struct thread *t, uintptr_t lock, enum kind kind, struct call call) {
+    uint32_t object = LIKELY(t->depth < RAW_HELD) && has_entry_left(t) ? object_of_lock(lock, call) : 0;
+    return RARELY(kind == KIND_COUNTED && object) ? apart(lock, object) : object;
 }
 
 static void leave_unnoted(struct thread *t) {
@@ -675,7 +694,7 @@ static void take_lock(struct thread *t, uintptr_t lock, uint8_t mode, enum kind 
     uint32_t again = kind != KIND_COUNTED && t->depth ? find_held(t, lock) : RAW_HELD;
     if (RARELY(again != RAW_HELD) && take_again(t, again, mode, kind, call.caller))
         return;
-    uint32_t object = object_to_hold(t, lock, call);
+    uint32_t object = object_to_hold(t, lock, kind, call);
     if (LIKELY(object))
         push_held(t, lock, object, mode, kind, call, false);
     else
@@ -713,7 +732,7 @@ bool begin_wish(uintptr_t lock, uint8_t mode, enum kind kind, struct call call) 
     if (!t)
         return false;
     settle(t, call);
-    uint32_t object = object_to_hold(t, lock, call);
+    uint32_t object = object_to_hold(t, lock, kind, call);
     if (object) {
         t->raw->calls++;
         push_held(t, lock, object, mode, kind, call, true);
@@ -805,8 +824,8 @@ bool end_wish(uintptr_t lock, bool is_taken, struct call call) {
         end_waiting(t);
     look_at_others(t, call.caller);
     uint32_t i = find_wish(t, lock);
-    bool is_recorded = !is_taken;
-    if (i != RAW_HELD && is_taken)
+    bool is_held = is_taken && !(i != RAW_HELD && is_signal(t->entries[i].held.object)), is_recorded = !is_held;
+    if (i != RAW_HELD && is_held)
         is_recorded = fulfil(t, i, call.caller);
     else if (i != RAW_HELD)
         withdraw(t, i, call.caller);

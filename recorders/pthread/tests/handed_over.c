@@ -3,6 +3,7 @@
      back   two threads hand it to and fro, and then one takes it under `x`
      waits  a thread that waits for it gets it, and takes `x` under it
      twice  a semaphore is taken twice and released once by another thread, and then `x` is taken under it
+     counts a semaphore is taken twice and released by its taker, and `x` is taken after each release
      anew   a semaphore is initialised while it is held, and then destroyed, and `x` is taken under nothing each time
      hides  a lock of the same place is handed over while a thread holds `second`, takes `z` under it, and another one the other way round */
 #include "common.h"
@@ -92,6 +93,16 @@ static void twice(void) {
     take_x();
 }
 
+static void counts(void) {
+    sem_init(&semaphore, 0, 2);
+    take();
+    take();
+    give();
+    take_x();
+    give();
+    take_x();
+}
+
 static void anew(void) {
     take();
     sem_init(&semaphore, 0, 1);
@@ -158,6 +169,8 @@ int main(int argc, char **argv) {
         waits();
     if (strcmp(way, "twice") == 0)
         twice();
+    if (strcmp(way, "counts") == 0)
+        counts();
     if (strcmp(way, "anew") == 0)
         anew();
     if (strcmp(way, "hides") == 0)

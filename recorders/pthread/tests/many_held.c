@@ -1,4 +1,4 @@
-/* 60 locks are held at once: the 49th and the later ones are left out, with their releases. */
+/* 60 locks are held at once: the oldest is dropped for the 49th and each later one. */
 #include "common.h"
 static pthread_mutex_t m[60];
 int main(void) {

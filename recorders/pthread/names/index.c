@@ -1,0 +1,131 @@
+/* All static variables and types of a module. */
+#include "names.h"
+
+#define DEEPEST 20
+
+/* A location that isn't a list: the address of a static variable, or the offset of a thread-local one. */
+static bool has_plain_location(Dwarf_Die *die, Dwarf_Attribute *a) {
+    if (!dwarf_attr(die, DW_AT_location, a))
+        return false;
+    unsigned form = dwarf_whatform(a);
+    return form != DW_FORM_sec_offset && form != DW_FORM_loclistx && form != DW_FORM_data4;
+}
+
+static bool address_of(Dwarf_Attribute *a, Dwarf_Op *operation, uint64_t *at) {
+    Dwarf_Attribute indirect;
+    Dwarf_Addr address;
+    *at = operation->number;
+    if (operation->atom == DW_OP_addr)
+        return true;
+    if (operation->atom != DW_OP_addrx && operation->atom != DW_OP_GNU_addr_index)
+        return false;
+    if (dwarf_getlocation_attr(a, operation, &indirect) != 0 || dwarf_formaddr(&indirect, &address) != 0)
+        return false;
+    *at = address;
+    return true;
+}
+
+static bool is_thread_address(const Dwarf_Op *operation) {
+    return operation->atom == DW_OP_form_tls_address || operation->atom == DW_OP_GNU_push_tls_address;
+}
+
+static void index_variable(struct module *m, Dwarf_Die *die) {
+    Dwarf_Attribute a;
+    Dwarf_Op *operations;
+    size_t count;
+    struct variable v = {0, *die};
+    if (!has_plain_location(die, &a) || dwarf_getlocation(&a, &operations, &count) != 0)
+        return;
+    if (count == 2 && is_thread_address(&operations[1])) {
+        v.at = operations[0].number;
+        PUSH(m->thread_variables, m->thread_variable_count, v);
+    } else if (count == 1 && address_of(&a, operations, &v.at) && v.at)
+        PUSH(m->variables, m->variable_count, v);
+}
+
+/* A class without a name may have that of a typedef, but is only a part of a class that it is in. */
+static void index_type(struct module *m, Dwarf_Die *die, bool is_in_class) {
+    Dwarf_Attribute a;
+    const char *name = dwarf_attr(die, DW_AT_name, &a) ? dwarf_formstring(&a) : NULL;
+    struct indexed_type type = {name ? name : "", number_of(die, DW_AT_byte_size, 0), *die};
+    if ((name || !is_in_class) && !dwarf_hasattr(die, DW_AT_declaration))
+        PUSH(m->types, m->type_count, type);
+}
+
+static void index_below(struct module *m, Dwarf_Die *die, int depth) {
+    Dwarf_Die child;
+    if (depth > DEEPEST || dwarf_child(die, &child) != 0)
+        return;
+    do {
+        int tag = dwarf_tag(&child);
+        if (tag == DW_TAG_variable)
+            index_variable(m, &child);
+        if (is_class(tag))
+            index_type(m, &child, is_class(dwarf_tag(die)));
+        if (is_class(tag) || tag == DW_TAG_namespace || tag == DW_TAG_lexical_block ||
+            (tag == DW_TAG_subprogram && !dwarf_hasattr(&child, DW_AT_declaration)))
+            index_below(m, &child, depth + 1);
+    } while (dwarf_siblingof(&child, &child) == 0);
+}
+
+static int by_address(const void *a, const void *b) {
+    const struct variable *x = a, *y = b;
+    if (x->at != y->at)
+        return x->at < y->at ? -1 : 1;
+    return x->die.addr < y->die.addr ? -1 : x->die.addr > y->die.addr;
+}
+
+static int by_name(const void *a, const void *b) {
+    const struct indexed_type *x = a, *y = b;
+    int order = strcmp(x->name, y->name);
+    return order ? order : x->die.addr < y->die.addr ? -1 : x->die.addr > y->die.addr;
+}
+
+static void sort(void *list, size_t count, size_t size, int (*order)(const void *, const void *)) {
+    if (count)
+        qsort(list, count, size, order);
+}
+
+void index_module(struct module *m) {
+    Dwarf_CU *cu = NULL;
+    Dwarf_Die unit, part;
+    uint8_t kind;
+    Dwarf_Half version;
+    if (m->is_indexed || !has_debug(m))
+        return;
+    m->is_indexed = true;
+    while (dwarf_get_units(m->debug, cu, &cu, &version, &kind, &unit, &part) == 0)
+        index_below(m, kind == DW_UT_skeleton && part.addr ? &part : &unit, 0);
+    sort(m->variables, m->variable_count, sizeof *m->variables, by_address);
+    sort(m->thread_variables, m->thread_variable_count, sizeof *m->thread_variables, by_address);
+    sort(m->types, m->type_count, sizeof *m->types, by_name);
+}
+
+static size_t first_named(const struct module *m, const char *name) {
+    size_t low = 0, high = m->type_count;
+    while (low < high) {
+        size_t middle = (low + high) / 2;
+        if (strcmp(m->types[middle].name, name) < 0)
+            low = middle + 1;
+        else
+            high = middle;
+    }
+    return low;
+}
+
+bool index_die(Dwarf_Die *type) {
+    struct module *m = module_of_die(type);
+    const char *name = name_of(type);
+    if (!m || !name)
+        return false;
+    index_module(m);
+    const char *wanted = qualified(type);
+    for (size_t i = first_named(m, name); i < m->type_count && strcmp(m->types[i].name, name) == 0; i++) {
+        Dwarf_Die die = m->types[i].die;
+        if (strcmp(qualified(&die), wanted) == 0) {
+            *type = die;
+            return true;
+        }
+    }
+    return false;
+}
