@@ -2,21 +2,26 @@
 
 _lockdep_options() {
     case $1 in
+        run) echo -o --recorder --frames --known --write-known --strict-known --html --sarif --junit --json --accept-left-out --quiet --error-exitcode --confirmed-only --help ;;
         check) echo --workers --many --help ;;
         explain) echo --workers --many --json --locks --confirmed-only --help ;;
         graph) echo --workers --many --findings --help ;;
         condense) echo --workers --help ;;
-        chains | where) echo --help ;;
-        run) echo -o --recorder --frames --known --write-known --html --sarif --junit --json --quiet --error-exitcode --confirmed-only --help ;;
-        view) echo -o --sarif --junit --json --known --confirmed --left-out --waiting --help ;;
-        record) echo -o --recorder --frames --no-wait --version-1 --finish --summary --help ;;
+        chains) echo --help ;;
+        record) echo -o --recorder --frames --no-wait --version-1 --finish --summary --accept-left-out --help ;;
         confirm) echo --strict --help ;;
+        where) echo --help ;;
+        diff) echo --help ;;
+        view) echo -o --sarif --junit --json --known --confirmed --left-out --waiting --help ;;
     esac
 }
 
 _lockdep() {
-    local word=$2 before=$3 command=${COMP_WORDS[1]} commands='run check explain graph condense chains record confirm where view help'
+    local word=$2 before=$3 command=${COMP_WORDS[1]} commands='run check explain graph condense chains record confirm where diff view help'
     local place
+    # What `-o` names: a folder, or a file for `view`.
+    local kind=-d
+    [ "$command" != view ] || kind=-f
     COMPREPLY=()
     if [ "$COMP_CWORD" -eq 1 ]; then
         mapfile -t COMPREPLY < <(compgen -W "$commands --help --version" -- "$word")
@@ -35,7 +40,7 @@ _lockdep() {
                         place=$((place + 1))
                         break
                         ;;
-                    -o | --recorder | --frames | --known | --write-known | --html | --sarif | --junit | --json | --error-exitcode | --finish | --summary)
+                    -o | --recorder | --frames | --known | --write-known | --html | --sarif | --junit | --json | --accept-left-out | --error-exitcode | --finish | --summary)
                         place=$((place + 1))
                         ;;
                     = | -*) ;;
@@ -53,17 +58,14 @@ _lockdep() {
             ;;
     esac
     case $before in
-        --workers) mapfile -t COMPREPLY < <(compgen -W '1 2 4 8 16 32 64' -- "$word") ;;
+        -o) mapfile -t COMPREPLY < <(compgen "$kind" -- "$word") ;;
         --recorder) mapfile -t COMPREPLY < <(compgen -W 'pthread python java rust embed' -- "$word") ;;
         --frames) mapfile -t COMPREPLY < <(compgen -W '1 2 3 4 6 8 12 16' -- "$word") ;;
-        -o | --finish | --summary)
-            # For `view` it is a file.
-            local kind=-d
-            [ "$command" != view ] || kind=-f
-            mapfile -t COMPREPLY < <(compgen "$kind" -- "$word")
-            ;;
-        --known | --write-known | --html | --sarif | --junit | --json) mapfile -t COMPREPLY < <(compgen -f -- "$word") ;;
-        --error-exitcode | --left-out | --waiting) ;;
+        --known | --write-known | --confirmed) mapfile -t COMPREPLY < <(compgen -f -- "$word") ;;
+        --html | --sarif | --junit | --json) mapfile -t COMPREPLY < <(compgen -W 'files' -- "$word") ;;
+        --accept-left-out | --error-exitcode | --left-out | --waiting) ;;
+        --workers) mapfile -t COMPREPLY < <(compgen -W '1 2 4 8 16 32 64' -- "$word") ;;
+        --finish | --summary) mapfile -t COMPREPLY < <(compgen -d -- "$word") ;;
         *)
             case $word in
                 -*) mapfile -t COMPREPLY < <(compgen -W "$(_lockdep_options "$command")" -- "$word") ;;

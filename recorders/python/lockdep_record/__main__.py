@@ -58,5 +58,6 @@ class Python:
 if __name__ == "__main__":
     sys.path[:] = [path for path in sys.path if os.path.abspath(path) != os.path.dirname(os.path.abspath(__file__))]
     sys.path.insert(0, os.path.dirname(os.path.dirname(os.path.abspath(__file__))))
+    sys.dont_write_bytecode |= os.path.exists(os.path.join(sys.path[0], "..", "..", "INSTALLED"))
     from lockdep_record import command
     command.main(Python())

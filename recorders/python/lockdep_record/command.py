@@ -4,7 +4,7 @@ import signal
 import sys
 from time import monotonic, sleep
 
-from lockdep_record.folder import Folder, Refusal, say_refusal
+from lockdep_record.folder import RUN, Folder, Refusal, say_refusal
 
 PASSED_ON = (signal.SIGHUP, signal.SIGINT, signal.SIGQUIT, signal.SIGTERM, signal.SIGUSR1, signal.SIGUSR2)
 FROM_KERNEL = 128  # the code of a signal that a terminal sends
@@ -141,7 +141,7 @@ def next_signal(interrupted):
 
 def say_it_runs():
     """A program of Python's that Ctrl-C has come to may go on, since its threads are waited for."""
-    if "LOCKDEP_RUN_HOME" in os.environ and not os.environ.get("LOCKDEP_RUN_QUIET"):
+    if RUN in os.environ and not os.environ.get("LOCKDEP_RUN_QUIET"):
         print("lockdep: the command still runs, as Python does while it waits for its threads; a second Ctrl-C ends that",
               file=sys.stderr, flush=True)
 
@@ -156,7 +156,7 @@ def command_end(status):
 
 def record(folder, command, environment, then, is_chosen):
     """Records a command in an environment. Returns its status, or becomes what runs after it."""
-    folder.prepare(is_chosen)
+    folder.begin(is_chosen)
     block_signals()
     witness = Witness()
     child = start(command, environment)
@@ -167,7 +167,7 @@ def record(folder, command, environment, then, is_chosen):
         say_refusal(str(refusal))
         raise Refusal("this run isn't judged" + command_end(status))
     if then:
-        folder.file.close()
+        os.close(folder.file)
         for number in PASSED_ON:
             signal.signal(number, signal.SIG_IGN)  # what judges the traces isn't disturbed, nor by what has come since
         signal.pthread_sigmask(signal.SIG_SETMASK, mask)
@@ -176,17 +176,18 @@ def record(folder, command, environment, then, is_chosen):
     return status or (2 if seen == 2 or folder.has_unreached() else 0)
 
 
+def finish_again(folder):
+    """Makes the traces of a recording whose recorder was killed."""
+    if os.path.isdir(folder.path):
+        folder.lock()
+    folder.finish()
+
+
 def value(words, option, what="a folder"):
     """The word that belongs to an option."""
     if not words:
         raise Refusal("%s needs %s" % (option, what))
     return words.pop(0)
-
-
-def folder_of(path, recorder):
-    if "\n" in path:
-        raise Refusal("a folder's name can't have a line break, since reports name its files")
-    return Folder(path, recorder)
 
 
 def do(words, recorder):
@@ -199,10 +200,9 @@ def do(words, recorder):
         elif word == "--then":
             then = value(words, word)
         elif word in ("--finish", "--summary"):
-            folder = folder_of(value(words, word), recorder.name)
+            folder = Folder(value(words, word), recorder.name)
             if word == "--finish":
-                folder.lock()
-                folder.finish()
+                finish_again(folder)
             return folder.say_what_was_seen()
         elif word in ("-h", "--help"):
             print(recorder.usage, end="")
@@ -216,7 +216,7 @@ def do(words, recorder):
             break
     if not words:
         raise Refusal("which program? `%s --help` says how to call this" % recorder.called)
-    folder = folder_of(path, recorder.name)
+    folder = Folder(path, recorder.name)
     return record(folder, recorder.command(words), dict(os.environ, **recorder.environment(folder.raw)), then, recorder.is_chosen)
 
 

@@ -204,12 +204,13 @@ class Names:
         return found
 
     def fitting(self, name):
-        """The name as the format allows it, different from that of any other class."""
-        name = "".join(letter if "!" <= letter <= "~" and letter not in ',"' else "_" for letter in name)
+        """The name as the format allows it, different from that of any other class. What stands before an `@` would be read as a type of
+        locks, so one of a file or module is written as `%40`."""
+        name = "".join(letter if "!" <= letter <= "~" and letter not in ',"' else "_" for letter in name).replace("@", "%40")
         number, fitting = 1, cut(name)
         while fitting in self.taken:
             number += 1
-            fitting = cut("%s@%d" % (name, number))
+            fitting = cut("%s~%d" % (name, number))
         self.taken.add(fitting)
         return fitting
 

@@ -198,6 +198,18 @@ fn add_type(text: &mut Text, name: &str) {
     }
 }
 
+/// Adds a text in the form that names have. What stands before an `@` would be read as a type of locks, so one of a path is written as `%40`.
+fn add_visible(text: &mut Text, bytes: &[u8]) {
+    for &byte in bytes {
+        match byte {
+            b',' => text.add(b";"),
+            b'@' => text.add(b"%40"),
+            b'!' | b'#'..=b'~' => text.add(&[byte]),
+            _ => text.add(b"_"),
+        }
+    }
+}
+
 /// Adds a class's name: `FILE:LINE:COLUMN`, with the type if that belongs to it. If it is too long, the end of the place is kept, or the
 /// place and the beginning of the type.
 fn add_name(text: &mut Text, class: &Class) {
@@ -209,22 +221,17 @@ fn add_name(text: &mut Text, class: &Class) {
         add_type(&mut whole, class.part);
         whole.add(b">");
     }
-    for byte in whole.bytes.iter_mut() {
-        *byte = match *byte {
-            b',' => b';',
-            b'!' | b'#'..=b'~' => *byte,
-            _ => b'_',
-        };
-    }
-    let (length, hash) = (whole.bytes.len(), hash_of(&whole.bytes));
+    let mut visible = Text::new();
+    add_visible(&mut visible, &whole.bytes);
+    let (length, hash) = (visible.bytes.len(), hash_of(&visible.bytes));
     if length <= MOST_NAME {
-        text.add(&whole.bytes);
+        text.add(&visible.bytes);
     } else if has_room {
-        text.add(&whole.bytes[..MOST_NAME - 9]);
+        text.add(&visible.bytes[..MOST_NAME - 9]);
         let _ = write!(text, "~{hash:08x}");
     } else {
         let _ = write!(text, "{hash:08x}~");
-        text.add(&whole.bytes[length - (MOST_NAME - 9)..]);
+        text.add(&visible.bytes[length - (MOST_NAME - 9)..]);
     }
 }
 

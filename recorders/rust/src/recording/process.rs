@@ -201,7 +201,7 @@ impl Process {
         path
     }
 
-    /// What was counted so far, which has the same length each time.
+    /// What was counted so far, and the program, which has the same length each time.
     fn counts_as_text(&self) -> Text {
         let mut counts = self.counts;
         let mut task = self.tasks;
@@ -217,6 +217,11 @@ impl Process {
         for (name, count) in COUNT_NAMES.iter().zip(counts) {
             let _ = writeln!(text, "{name} {count:020}");
         }
+        text.add(b"program ");
+        for &byte in self.program.bytes.iter() {
+            text.add(&[if byte == b'\n' { b'?' } else { byte }]);
+        }
+        text.add(b"\n");
         text
     }
 

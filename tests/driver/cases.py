@@ -1,0 +1,28 @@
+"""Findings for the unit tests, as the checker's JSON has them."""
+import json
+
+from lockdep.findings import findings_of
+
+
+def order(start, kind, end, file="t/objects/task-0001.csv", record=3, since=2):
+    return {"from": start, "kind": kind, "to": end, "file": file, "record": record, "takes": "w", "held": "w", "since": since}
+
+
+def circle(*keys, **more):
+    """A cycle through these keys, each order by a trace of its own."""
+    orders = [order(key, "EN", keys[(place + 1) % len(keys)], "t/objects/task-%04d.csv" % (place + 1)) for place, key in enumerate(keys)]
+    finding = {"type": "circle", "keys": list(keys), "orders": orders, "notes": [], "gates": [],
+               "lines": ["circle %s EN %s" % (one["from"], one["to"]) for one in orders]}
+    return dict(finding, **more)
+
+
+def between(kind, inner=None):
+    return {"kind": kind, "finding": inner} if inner else {"kind": kind}
+
+
+def finding(said):
+    return findings([said])[0]
+
+
+def findings(said):
+    return findings_of(json.dumps({"lockdep": 2, "counts": {}, "findings": said}).encode())

@@ -1,0 +1,110 @@
+"""The command line, and how a command is recognised."""
+import os
+import random
+import shutil
+import stat
+import subprocess
+import sys
+import tempfile
+import unittest
+
+from lockdep import loading, recorders
+from lockdep.nearest import nearest
+from lockdep.options import COMMANDS, Help, parse
+from lockdep.saying import Refusal
+
+TOP = os.path.join(os.path.dirname(os.path.realpath(__file__)), "..", "..")
+
+
+class CommandLines(unittest.TestCase):
+    def test_options_end_at_the_first_word(self):
+        line = parse(COMMANDS["run"], ["-o", "x", "--frames=5", "--quiet", "./a", "--html", "y"])
+        self.assertEqual((line.values, line.rest), ({"-o": ["x"], "--frames": ["5"], "--quiet": ["yes"]}, ["./a", "--html", "y"]))
+
+    def test_options_end_behind_two_hyphens(self):
+        self.assertEqual(parse(COMMANDS["record"], ["--no-wait", "--", "-o"]).rest, ["-o"])
+
+    def test_refusals(self):
+        for words in (["--nosuch"], ["-o"], ["-o", "--"], ["--frames", "17"], ["--frames=01"], ["--recorder", "perl"], ["--quiet=yes"], ["-"],
+                      ["--known", "-"], ["--write-known", "-"], ["--accept-left-out", "threads"], ["--error-exitcode", "256"], ["--known="]):
+            self.assertRaises(Refusal, parse, COMMANDS["run"], words)
+
+    def test_what_is_written_may_go_to_standard_output(self):
+        self.assertEqual(parse(COMMANDS["run"], ["--json", "-", "./a"]).values, {"--json": ["-"]})
+
+    def test_help(self):
+        self.assertRaises(Help, parse, COMMANDS["run"], ["--quiet", "-h"])
+
+    def test_what_may_be_left_out_can_be_named_several_times(self):
+        line = parse(COMMANDS["run"], ["--accept-left-out", "tries", "--accept-left-out=no-room"])
+        self.assertEqual(line.values["--accept-left-out"], ["tries", "no-room"])
+
+
+class Nearest(unittest.TestCase):
+    def test_as_the_checkers_own_commands_are_found(self):
+        words = list(COMMANDS["run"].options)
+        letters = random.Random(7)
+        wrongs = ["--quite", "--frame", "--xyz", "--know", "--jnuit", "-o", "-x"]
+        for word in words * 4:
+            at = letters.randrange(2, len(word) + 1) if len(word) > 2 else 1
+            wrongs.append(word[:at] + letters.choice(["", "x", word[-1]]) + word[at + letters.randrange(2):])
+        for wrong in wrongs:
+            done = subprocess.run(["awk", "-f", os.path.join(TOP, "tool", "nearest.awk"), "--", wrong] + words, stdout=subprocess.PIPE, check=True)
+            self.assertEqual(nearest(wrong, words) or "", done.stdout.decode().strip(), wrong)
+
+
+class Recognising(unittest.TestCase):
+    def setUp(self):
+        self.room = tempfile.mkdtemp()
+        self.addCleanup(shutil.rmtree, self.room)
+
+    def program(self, name, content):
+        path = os.path.join(self.room, name)
+        with open(path, "wb") as file:
+            file.write(content)
+        os.chmod(path, 0o755)
+        return path
+
+    def test_python(self):
+        for name in ("python", "python3", "/usr/bin/python3.11", "python3.9"):
+            self.assertEqual(recorders.recorder_for(name).name, "python", name)
+        self.assertEqual(recorders.recorder_for(self.program("script", b"#!/usr/bin/env python3\n")).name, "python")
+        self.assertEqual(recorders.recorder_for(self.program("other", b"#!/bin/sh\n# python\n")).name, "pthread")
+        for name in ("python2.7", "pythonic", "python3.1.1"):
+            self.assertNotEqual(recorders.recorder_for(name).name, "python", name)
+
+    def test_java(self):
+        self.assertEqual(recorders.recorder_for("/opt/jdk/bin/java").name, "java")
+
+    def test_rust(self):
+        self.assertEqual(recorders.recorder_for(self.program("built", b"..lockdep_record for LOCKDEP_TRACES..")).name, "rust")
+
+    def test_embed(self):
+        both = b"\x7fELF\x02\x01" + bytes(100) + b"ldr1 lockdep,2\0LOCKDEP_TRACES\0"
+        self.assertEqual(recorders.recorder_for(self.program("both", both)).name, "embed")
+        self.assertEqual(recorders.recorder_for(self.program("no_folder", both.replace(b"LOCKDEP", b"OTHER"))).name, "pthread")
+        self.assertEqual(recorders.recorder_for(self.program("text", both[4:])).name, "pthread")
+
+    def test_cargo(self):
+        path = os.path.join(self.room, "config.toml")
+        for line, is_so in (('rustflags = ["--cfg", "lockdep"]', True), ('rustflags = "--cfg lockdep"', True), ('# "--cfg lockdep"', False),
+                            ('rustflags = ["--cfg", "other"]', False)):
+            with open(path, "w", encoding="utf-8") as file:
+                file.write(line + "\n")
+            self.assertEqual(recorders.asks_for_recorder(path), is_so, line)
+
+    def test_a_program_that_cannot_be_read(self):
+        path = self.program("unread", b"..lockdep_record for LOCKDEP_TRACES..")
+        os.chmod(path, stat.S_IXUSR)
+        self.assertEqual(recorders.recorder_for(path).name, "rust" if os.geteuid() == 0 else "pthread")
+
+    def test_what_a_program_is_linked_with(self):
+        with open(os.path.realpath(sys.executable), "rb") as file:
+            text = file.read()
+        if loading.loader(text):
+            self.assertTrue(any(name.startswith("libc.so") for name in loading.needed(text)), loading.needed(text))
+        self.assertEqual((loading.loader(b"#!/bin/sh\n"), loading.needed(b"#!/bin/sh\n")), (None, []))
+
+
+if __name__ == "__main__":
+    unittest.main()

@@ -1,0 +1,180 @@
+"""Findings as values: reading the checker's JSON, what was seen between locks, and groups."""
+import io
+import os
+import tempfile
+import unittest
+
+from cases import between, circle, finding, findings, order
+from lockdep.findings import Kind, findings_of
+from lockdep.groups import groups_of
+from lockdep.sources import Sources
+from lockdep.terminal import Writer
+from lockdep.text import Text
+from lockdep.verdict import Recorded, by_importance, notes_of, verdict_of
+from lockdep.words import Refusal
+
+
+def gate(key, *keys):
+    orders = [{"from": one, "kind": "EN", "to": other} for one, other in zip(keys, keys[1:] + keys[:1])]
+    return {"gate": key, "orders": orders}
+
+
+class Reading(unittest.TestCase):
+    def test_a_finding_has_its_head_and_its_records(self):
+        one = finding(circle("a/0", "b/0", between=between("classes")))
+        self.assertEqual(one.head, "circle a/0 EN b/0 EN a/0")
+        self.assertEqual([(event.file[-8:], event.record) for event in one.own_events()],
+                         [("0001.csv", 3), ("0001.csv", 2), ("0002.csv", 3), ("0002.csv", 2)])
+        self.assertIs(one.kind, Kind.CLASSES)
+
+    def test_what_is_no_json_of_a_version_that_is_read_is_refused(self):
+        for raw in (b"", b"[]", b'{"lockdep":3,"findings":[]}', b'{"lockdep":2}', b'{"lockdep":2,"findings":[{"type":"circle"}]}',
+                    b'{"lockdep":2,"findings":[{"type":"circle","keys":["a/0"],"lines":["x"],"between":{"kind":"new"}}]}'):
+            with self.assertRaises(Refusal):
+                findings_of(raw)
+
+    def test_a_nested_type_is_a_note(self):
+        one = finding(circle("a/0", between=between("nested")))
+        self.assertTrue(one.is_note)
+        self.assertFalse(one.is_confirmed)
+
+    def test_what_confirmed_only_counts(self):
+        counted = [kind.value for kind in Kind if finding(circle("a/0", between=between(kind.value))).is_confirmed]
+        self.assertEqual(counted, ["locks", "unknown"])
+
+
+class Verdicts(unittest.TestCase):
+    recorded = Recorded([])
+
+    def said(self, kind, inner=None, **more):
+        return verdict_of(finding(circle("a/0", "b/0", between=between(kind, inner), **more)), self.recorded)
+
+    def test_by_how_many_threads(self):
+        self.assertEqual(self.said("locks", circle("a#1/0", "b#2/0")), "seen between locks: a#1, b#2, by 2 threads")
+
+    def test_threads_that_a_trace_stands_for_count(self):
+        recorded = Recorded([], "  task-0002 stands for 4094 of them\n")
+        one = finding(circle("a/0", "b/0", between=between("locks", circle("a#1/0", "b#2/0"))))
+        self.assertEqual(verdict_of(one, recorded), "seen between locks: a#1, b#2, by 4096 threads")
+
+    def test_threads_of_traces_that_say_the_same_count(self):
+        with tempfile.TemporaryDirectory() as folder:
+            traces = [os.path.join(folder, "task-%04d.csv" % number) for number in range(1, 5)]
+            for trace, text in zip(traces, ("lockdep,2\n", "lockdep,2\n", "lockdep,1\n", "none")):
+                with open(trace, "w") as file:
+                    file.write(text)
+            recorded = Recorded(traces, "  task-0002 stands for 40 of them\n")
+            self.assertEqual([recorded.threads_of([trace]) for trace in traces], [42, 42, 1, 1])
+
+    def test_threads_that_are_only_counted_may_be_more(self):
+        with tempfile.TemporaryDirectory() as folder:
+            traces = [os.path.join(folder, "task-%04d.csv" % number) for number in range(1, 4)]
+            for trace, text in zip(traces, ("lockdep,2\n", "lockdep,2\n", "none")):
+                with open(trace, "w") as file:
+                    file.write(text)
+            for first, summary, words in ((0, "threads-alike 534\n", "by at least 3 threads"), (0, "threads-alike 0\n", "by 3 threads"),
+                                          (2, "threads-alike 534\n", "by 2 threads"), (0, "threads-alike 40\n  task-0002 stands for 40 of them\n", "by 43 threads")):
+                inner = circle("a#1/0", "b#2/0", orders=[order("a#1/0", "EN", "b#2/0", traces[first]), order("b#2/0", "EN", "a#1/0", traces[2])])
+                said = verdict_of(finding(circle("a/0", "b/0", between=between("locks", inner))), Recorded(traces, summary))
+                self.assertEqual(said, "seen between locks: a#1, b#2, " + words)
+
+    def test_by_one_thread(self):
+        inner = circle("a#1/0", "b#2/0", only="t/objects/task-0001.csv")
+        inner["orders"] = [order("a#1/0", "EN", "b#2/0"), order("b#2/0", "EN", "a#1/0", record=7, since=6)]
+        self.assertEqual(self.said("locks", inner), "seen between locks: a#1, b#2, by one thread")
+
+    def test_the_first_records_of_one_thread_alone_are_no_proof_of_one(self):
+        inner = circle("a#1/0", "b#2/0")
+        inner["orders"] = [order("a#1/0", "EN", "b#2/0"), order("b#2/0", "EN", "a#1/0", record=7, since=6)]
+        self.assertEqual(self.said("locks", inner), "seen between locks: a#1, b#2, by 2 threads")
+
+    def test_under_a_gate_of_all_orders(self):
+        inner = circle("a#1/0", "b#2/0", gates=[gate("g/0", "a#1/0", "b#2/0")])
+        self.assertEqual(self.said("locks", inner), "seen between locks: a#1, b#2, under g")
+
+    def test_a_gate_of_some_orders_or_of_several_locks_is_none(self):
+        some = circle("a#1/0", "b#2/0", "c/0", gates=[{"gate": "g/0", "orders": gate("g/0", "a#1/0", "b#2/0")["orders"][:1]}])
+        self.assertIn("by 3 threads", self.said("locks", some))
+        self.assertIn("by 2 threads", self.said("locks", circle("a#1/0", "b#2/0", gates=[gate("g#rest/0", "a#1/0", "b#2/0")])))
+
+    def test_perhaps_names_what_is_several_locks(self):
+        self.assertEqual(self.said("perhaps", circle("a#1/0", "b#rest@7/1")),
+                         "perhaps seen between locks: a#1, b#rest@7/1, by 2 threads; b#rest@7/1 is several locks")
+
+    def test_the_locks_begin_with_the_order_of_the_finding(self):
+        inner = circle("b@1#2/0", "c#1/0", "a@2#1/0")
+        self.assertTrue(self.said("locks", inner).startswith("seen between locks: a@2#1, b@1#2, c#1, "))
+
+    def test_a_lock_under_itself(self):
+        one = finding(circle("p/0", between=between("locks", circle("p#1/0", only="x")), only="x", notes=["only in x"]))
+        self.assertEqual(verdict_of(one, self.recorded), "seen between locks: p#1 under itself, by 1 thread")
+        self.assertEqual(notes_of(one, self.recorded), ["only in x; but a lock is taken under itself there"])
+
+    def test_what_is_said_without_single_locks(self):
+        self.assertEqual(self.said("classes"), "seen only between classes; no two locks were taken both ways")
+        self.assertEqual(self.said("types"), "seen only between types, not between classes")
+        self.assertEqual(self.said("unknown"), "not known whether seen between locks: more than 256 keys lead to one another")
+
+    def test_what_is_gone_with_more_callers(self):
+        recorded = Recorded([])
+        recorded.depths = {1: 6}
+        one = finding(circle("a/0", "b/0", between=between("classes")))
+        self.assertTrue(verdict_of(one, recorded).endswith(", and not if places are 6 callers deep"))
+        seen = finding(circle("a/0", "b/0", between=between("locks", circle("a#1/0", "b/0"))))
+        self.assertNotIn("callers deep", verdict_of(seen, recorded))
+
+    def test_a_gate_that_is_several_locks(self):
+        with tempfile.TemporaryDirectory() as folder:
+            trace = os.path.join(folder, "task-0001.csv")
+            with open(trace, "w") as file:
+                file.write('lockdep,2\nacq,g#1,0,w\nrel,g#1,0\nacq,"g#2",0,w\n')
+            one = finding(circle("a/0", "b/0", between=between("classes"), notes=["always inside g/0: .."], gates=[gate("g/0", "a/0", "b/0")]))
+            self.assertEqual(notes_of(one, Recorded([trace])), ["always inside g/0: ..; but g is several locks"])
+            self.assertEqual(notes_of(one, Recorded([])), ["always inside g/0: .."])
+
+    def test_what_nothing_keeps_apart_comes_first(self):
+        under = circle("a/0", "b/0", between=between("locks", circle("a/0", "b/0", gates=[gate("g/0", "a/0", "b/0")])))
+        perhaps = circle("e/0", "f/0", between=between("perhaps", circle("e#rest/0", "f/0")))
+        free = circle("c/0", "d/0", between=between("locks", circle("c/0", "d/0")))
+        self.assertEqual([one.keys[0] for one in by_importance(findings([under, perhaps, free]))], ["c/0", "a/0", "e/0"])
+
+
+class Groups(unittest.TestCase):
+    def test_findings_that_share_an_order_are_one_group(self):
+        shared = [circle("a/0", "b/0", other) for other in ("c/0", "d/0")]
+        groups = groups_of(findings([circle("x/0", "y/0")] + shared + [circle("a/0", "b/0")]))
+        self.assertEqual([(group.shared, [one.number for one in group.findings]) for group in groups],
+                         [("", [1]), ("a/0 EN b/0", [2, 3, 4])])
+
+    def test_each_finding_is_in_one_group(self):
+        said = [circle("a/0", "b/0", "c/0"), circle("b/0", "c/0", "d/0"), circle("c/0", "d/0", "e/0"), circle("p/0")]
+        members = [one.number for group in groups_of(findings(said)) for one in group.findings]
+        self.assertEqual(sorted(members), [1, 2, 3, 4])
+
+
+class Shown(unittest.TestCase):
+    """How much of many findings is printed."""
+
+    def shown(self, said, most=None):
+        stream = io.StringIO()
+        text = Text(Writer(stream, 0), Sources(), Recorded([]))
+        return text.groups(groups_of(findings(said)), most), stream.getvalue()
+
+    def test_the_first_of_a_group_is_whole_and_the_others_are_one_line(self):
+        said = [circle("a/0", "b/0", other, between=between("classes")) for other in ("c/0", "d/0", "e/0")]
+        left, text = self.shown(said)
+        self.assertEqual((left, text.count("\ncircle ")), (0, 1))
+        self.assertIn("  2 more findings have a/0 EN b/0:\n    circle a/0 EN b/0 EN d/0 EN a/0; seen only between classes; no two", text)
+
+    def test_the_rest_of_many_groups_is_counted(self):
+        said = [circle("a%d/0" % number, "b%d/0" % number, between=between("classes")) for number in range(30)]
+        left, text = self.shown(said, 20)
+        self.assertEqual((left, text.count("\ncircle ")), (10, 20))
+        self.assertEqual(self.shown(said)[0], 0)
+
+    def test_a_task_is_named_with_its_trace(self):
+        self.assertIn("\n  task 2 holds b/0 and waits for a/0 (task-0002)\n", self.shown([circle("a/0", "b/0", between=between("classes"))])[1])
+
+
+if __name__ == "__main__":
+    unittest.main()

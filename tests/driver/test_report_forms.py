@@ -1,0 +1,76 @@
+"""Forms of the findings: where they are written, and what they say."""
+import os
+import subprocess
+import sys
+import unittest
+from unittest import mock
+
+from cases import between, circle, findings
+from lockdep import diff, files
+from lockdep.diff import Side
+from lockdep.forms import Found
+from lockdep.junit import junit
+from lockdep.places import Made
+from lockdep.sources import Sources
+from lockdep.symbols import Address
+from lockdep.verdict import Recorded
+from lockdep.words import Refusal
+
+
+def status_of(call, **more):
+    """The status of a function of this package, called in a process of its own."""
+    words = [sys.executable, "-c", "import sys; sys.path[:0] = %r; %s" % (sys.path, call)]
+    return subprocess.run(words, stderr=subprocess.PIPE, **more)
+
+
+class Output(unittest.TestCase):
+    def test_a_closed_standard_output_is_refused(self):
+        for name in (None, "-"):
+            with mock.patch.object(sys, "stdout", None), self.assertRaises(Refusal) as raised:
+                files.write_form(name, "text")
+            self.assertEqual((raised.exception.status, raised.exception.line), (2, "the text can't be written"))
+
+    def test_a_full_standard_output_of_diff_is_refused(self):
+        with mock.patch.object(diff, "sides_of", return_value=[Side("circle a/0 EN b/0", frozenset())]), \
+                mock.patch.object(diff, "write_sides", side_effect=OSError(28, "No space left on device")):
+            with self.assertRaises(Refusal) as raised:
+                diff.main(["one", "two"])
+            self.assertEqual(raised.exception.status, 2)
+
+    def test_a_reader_of_diff_that_has_enough_needs_no_message(self):
+        call = "from unittest import mock; from lockdep import diff; diff.sides_of = lambda name: [diff.Side('head', frozenset())] * 9999; " \
+            "sys.exit(diff.main(['one', 'two']))"
+        out, into = os.pipe()
+        os.close(out)
+        done = status_of(call, stdout=into)
+        os.close(into)
+        self.assertEqual((done.returncode, done.stderr), (2, b""))
+
+
+class Sides(unittest.TestCase):
+    def test_json_and_a_folder_have_places_by_types(self):
+        made = [Made("S::m@%s" % name, Address("s.c:%d %s" % (line, name), None), "heap", name) for line, name in ((3, "one"), (9, "two"))]
+        sources = Sources()
+        for each in made:
+            sources.classes[each.name] = each
+            sources.types.setdefault("S::m", []).append(each)
+        sources.want_names(["S::m"])
+        said = circle("S::m/0", between=between("locks", circle("S::m@one#1/0")))
+        places = diff.places_of(findings([said])[0], sources)
+        self.assertEqual([place.words for place in places["S::m"]], ["heap one at s.c:3", "heap two at s.c:9"])
+        locks = [{"class": "S::m@other", "kind": "heap", "place": "%s at s.c:3" % name} for name in ("one", "three")]
+        here = Side("", frozenset(said["lines"]), places=places)
+        self.assertTrue(here.is_same(diff.side_of_json(1, dict(said, locks=locks[:1]))))
+        self.assertFalse(here.is_same(diff.side_of_json(1, dict(said, locks=locks[1:]))))
+
+
+class Junit(unittest.TestCase):
+    def test_the_passed_case_says_if_all_is_known(self):
+        known, note = (findings([circle("a/0", between=between(kind))]) for kind in ("classes", "nested"))
+        for found, blocked, name in (([], 0, "no finding"), (known, 0, "no new finding"), (note, 0, "no finding"), ([], 1, "no new finding")):
+            text = junit(Found([], found, Sources(), Recorded([]), [], known_blocked=blocked))
+            self.assertIn('<testcase classname="lockdep" name="%s" time="0"/>' % name, text)
+
+
+if __name__ == "__main__":
+    unittest.main()

@@ -1,0 +1,284 @@
+"""Lists of known findings: their grammar, what hides what, and when an entry is stale."""
+import os
+import unittest
+from unittest import mock
+
+from cases import between, circle, findings
+from lockdep.known import list_of, sort
+from lockdep.places import Made
+from lockdep.report import hides_blocked
+from lockdep.sources import Sources
+from lockdep.suppressions import entries_of
+from lockdep.symbols import Address, Frame
+from lockdep.taking_part import TakingPart
+from lockdep.where_made import Caller, is_same_path, place_of
+from lockdep.words import Refusal, type_of_class
+
+
+class Made_up(Sources):
+    """Sources in which the locks of some names are made at places, and all records are of one function."""
+
+    def __init__(self, places, function="flush_all(int)", file="/src/store/disk.c", types={}):
+        super().__init__()
+        self.classes = {name: Made(name, Address(name, 1), kind, name, types.get(name, name)) for name, (kind, _) in places.items()}
+        for made in self.classes.values():
+            self.types.setdefault(type_of_class(made.name), []).append(made)
+        self.at = {name: frames if isinstance(frames, list) else [frames] for name, (_, frames) in places.items()}
+        self.frame = Frame(function, file, 7, "")
+
+    def frames_of(self, made):
+        return self.at[made.name]
+
+    def frames(self, event):
+        return [self.frame]
+
+
+def at(file, line=3, function=""):
+    return ("static", Frame(function, os.path.abspath(file), line, "m+10"))
+
+
+TWO = [circle("a/0", "b/0"), circle("c/0", "d/0")]
+LINES = "circle a/0 EN b/0\ncircle b/0 EN a/0\n"
+
+
+def sorted_by(text, places=None, said=TWO, **more):
+    return sort(findings(said), [], entries_of(text, "list"), Made_up(places or {}, **more))
+
+
+def keys(found):
+    return [finding.keys[0] for finding in found]
+
+
+class Grammar(unittest.TestCase):
+    def test_what_a_list_may_have(self):
+        text = "# a comment\n\n  circle a/0 EN b/0 \r\ndouble hardirq a/7\ninversion softirq a/0 b/0\n" \
+            "cycle class:a function:f* file:x/*.c  # a reason until 2027-03-01\nblocked class:*\ncircle a/0 SR b/0 # known\n"
+        entries = entries_of(text, "list")
+        self.assertEqual([entry.number for entry in entries], [3, 4, 5, 6, 7, 8])
+        self.assertEqual((entries[3].type, entries[3].until, entries[3].fields),
+                         ("circle", "2027-03-01", [("class", "a"), ("function", "f*"), ("file", "x/*.c")]))
+        self.assertEqual(entries[5].line, "circle a/0 SR b/0")
+
+    def test_what_is_no_finding_is_refused_with_its_line(self):
+        for line in ("clean no", "circle a/0 EN b/0 EN a/0", "circle a EN b", "double a/0", "cycle", "cycle class:", "cycle a", "x class:a"):
+            with self.assertRaises(Refusal) as raised:
+                entries_of("# known\n%s\n" % line, "list")
+            self.assertTrue(raised.exception.line.startswith("list: line 2 is no finding"))
+
+    def test_a_reason_with_until_ends_with_a_date(self):
+        for reason in ("until 2030-13-01", "until 2030-02-30", "until 2020-01-01.", "until 2020-01-01, ticket 5", "until 1 Jan 2020", "Until", "until 2030-1-1"):
+            with self.assertRaises(Refusal) as raised:
+                entries_of("\ncycle class:a # by design, %s\n" % reason, "list")
+            self.assertEqual(raised.exception.line, "list: line 2 has a reason with `until` and no date at its end, such as `until 2027-03-01`")
+        for reason, date in (("until 2030-12-01", "2030-12-01"), ("Until 2028-02-29 ", "2028-02-29"), ("untilled", ""), ("", "")):
+            self.assertEqual(entries_of("circle a/0 EN b/0 # x %s\n" % reason, "list")[0].until, date)
+
+    def test_a_name_may_have_a_number_sign(self):
+        self.assertEqual(entries_of("circle x#0123/0 EN y/0\n", "list")[0].line, "circle x#0123/0 EN y/0")
+
+    def test_places(self):
+        self.assertEqual(vars(place_of("heap", "main at heap.cc:6 < run at x.cc:1")),
+                         {"kind": "heap", "callers": (Caller("main", "heap.cc", "6"), Caller("run", "x.cc", "1"))})
+        self.assertEqual(vars(place_of("static", "program+4060")), {"kind": "static", "callers": (Caller("", "program", ""),)})
+        self.assertTrue(is_same_path("store/a.cpp", "/home/x/store/a.cpp"))
+        self.assertFalse(is_same_path("other/a.cpp", "/home/x/store/a.cpp"))
+
+
+class Hiding(unittest.TestCase):
+    def test_a_finding_is_known_if_all_of_its_lines_are(self):
+        result = sorted_by(LINES)
+        self.assertEqual((keys(result.new), keys(result.known), result.known_lines), (["c/0"], ["a/0"], 2))
+        result = sorted_by("circle a/0 EN b/0\n")
+        self.assertEqual((keys(result.new), result.known_lines), (["a/0", "c/0"], 1))
+
+    def test_new_findings_are_numbered_anew(self):
+        self.assertEqual([finding.number for finding in sorted_by(LINES).new], [1])
+
+    def test_an_entry_of_a_lock_that_is_made_elsewhere_hides_nothing(self):
+        text = "circle a/0 EN b/0\n#   a: static one.c:3\ncircle b/0 EN a/0\n#   a: static one.c:3\n"
+        self.assertEqual(keys(sorted_by(text, {"a": at("one.c", 9)}).new), ["c/0"])
+        result = sorted_by(text, {"a": at("other.c")})
+        self.assertEqual((keys(result.new), result.known_lines), (["a/0", "c/0"], 0))
+        self.assertIn("a was made at static one.c:3, and is now at static", result.stale[0])
+
+    def test_another_function_or_kind_is_elsewhere(self):
+        text = LINES.replace("\n", "\n#   a: heap main at one.c:3\n")
+        made = Frame("main", os.path.abspath("one.c"), 3, "")
+        self.assertEqual(keys(sorted_by(text, {"a": ("heap", made)}).new), ["c/0"])
+        for kind, function in (("heap", "other"), ("static", "main")):
+            result = sorted_by(text, {"a": (kind, Frame(function, made.path, 3, ""))})
+            self.assertEqual(len(result.stale), 2)
+
+    def test_a_name_with_an_offset_and_another_line_is_told(self):
+        said = [circle("main+0x13/0")]
+        text = "circle main+0x13/0 EN main+0x13/0\n#   main+0x13: heap main at one.c:3\n"
+        result = sorted_by(text, {"main+0x13": ("heap", Frame("main", os.path.abspath("one.c"), 4, ""))}, said)
+        self.assertEqual((result.new, result.moved), ([], ["main+0x13 (one.c:3, and now one.c:4)"]))
+
+    def test_an_entry_past_its_day_hides_nothing(self):
+        result = sorted_by("cycle class:* # until 2020-01-31\n")
+        self.assertEqual((keys(result.new), len(result.stale)), (["a/0", "c/0"], 1))
+        self.assertEqual(sorted_by("cycle class:* # until 9999-12-31\n").new, [])
+
+    def test_a_pattern_of_blocked_threads_past_its_day_hides_none(self):
+        for text, hides in (("blocked class:*", True), ("blocked class:* # until 9999-12-31", True), ("blocked class:* # until 2020-01-31", False),
+                            ("cycle class:blocked", False), ("", False)):
+            self.assertEqual(hides_blocked(text), hides, text)
+
+    def test_an_entry_past_its_day_is_told_once(self):
+        for text in ("cycle class:* # until 2020-01-31\n", "circle x/0 EN y/0 # until 2020-01-31\n"):
+            result = sorted_by(text)
+            self.assertEqual(result.gone, [])
+            self.assertTrue(result.stale[0].endswith(": it was meant until 2020-01-31, so that entry hides nothing; give it another date, or remove it"))
+
+    def test_a_pattern_fits_a_type_in_full(self):
+        places, types = {"Very_l..%00@1": made_in("a"), "b": made_in("b")}, {"Very_l..%00@1": "Very_long_name<int>::m"}
+        said = [circle("Very_l..%00/0", "b/0")]
+        for pattern, left in (("class:Very_long*", 1), ("class:Very_long_name<*>::m class:b", 0), ("class:Very_l..* class:b", 0), ("class:long* class:b", 1)):
+            self.assertEqual(len(sorted_by("cycle %s\n" % pattern, places, said, types=types).new), left, pattern)
+
+    def test_a_pattern_needs_all_classes(self):
+        self.assertEqual(keys(sorted_by("cycle class:a class:[bx]\n").new), ["c/0"])
+        self.assertEqual(keys(sorted_by("cycle class:a\n").new), ["a/0", "c/0"])
+
+    def test_a_pattern_needs_a_function_in_a_file(self):
+        for text, left in (("function:flush_*", 0), ("function:flush_all", 0), ("function:flush", 2), ("file:store/*", 0), ("file:store/x.c", 2),
+                           ("function:flush_all file:disk.c", 0), ("function:other file:disk.c", 2)):
+            self.assertEqual(len(sorted_by("cycle %s\n" % text).new), left, text)
+
+    def test_what_was_not_found_is_told(self):
+        self.assertEqual(sorted_by("double hardirq x/0\ncycle class:x\n" + LINES).gone, ["cycle class:x", "double hardirq x/0"])
+
+
+def made_in(*functions, file="one.c", line=3, kind="heap"):
+    """Where a lock is made, by these callers, each a line below the one before it."""
+    return kind, [Frame(function, os.path.abspath(file), line + place, "") for place, function in enumerate(functions)]
+
+
+class OtherLocks(unittest.TestCase):
+    """What an entry of a list never hides: a finding in which a class takes part that isn't listed, or with a stronger verdict."""
+
+    TYPES = [circle("S::m/0", "P::m/0", between=between("types"))]
+    PLACES = {"S::m@00000001": made_in("setup_a"), "P::m@00000002": made_in("setup_a", line=9)}
+
+    def list_then(self, said, places, later, places_later=None):
+        """What a list that is written of one run says of another."""
+        text = list_of(findings(said), "", Made_up(places))
+        return text, sorted_by(text, places if places_later is None else places_later, later)
+
+    def test_the_same_run_is_known(self):
+        text, result = self.list_then(self.TYPES, self.PLACES, self.TYPES)
+        self.assertEqual((result.new, result.stale), ([], []), text)
+
+    def test_places_in_two_words(self):
+        for kind in ("made in", "any object of", "the class object of"):
+            places = {"a": made_in("__init__", file="q.py", kind=kind), "b": made_in("__init__", file="q.py", line=5, kind=kind)}
+            text, result = self.list_then(TWO[:1], places, TWO[:1])
+            self.assertIn("#   a: %s __init__ at q.py:3\n" % kind, text)
+            self.assertEqual((result.new, result.stale), ([], []))
+
+    def test_a_place_in_two_words_that_is_another_now(self):
+        places = {"a": made_in("__init__", file="q.py", kind="made in"), "b": made_in("reset", file="q.py", kind="made in")}
+        later = dict(places, a=made_in("renew", file="q.py", kind="made in"))
+        self.assertIn("a was made in __init__ at q.py:3, and is now in renew at q.py:3", self.list_then(TWO[:1], places, TWO[:1], later)[1].stale[0])
+
+    def test_a_type_whose_locks_are_made_elsewhere(self):
+        later = {"S::m@00000003": made_in("setup_b"), "P::m@00000002": self.PLACES["P::m@00000002"]}
+        _, result = self.list_then(self.TYPES, self.PLACES, self.TYPES, later)
+        self.assertEqual(len(result.new), 1)
+        self.assertIn("S::m was made at heap setup_a at one.c:3, and is now at heap setup_b at one.c:3", result.stale[0])
+
+    def test_a_name_of_a_place_that_an_edit_changed(self):
+        later = {"S::m@000000aa": made_in("setup_a", line=5), "P::m@000000bb": made_in("setup_a", line=11)}
+        self.assertEqual(self.list_then(self.TYPES, self.PLACES, self.TYPES, later)[1].new, [])
+
+    def test_one_more_place_of_a_type(self):
+        for more in (made_in("setup_c"), made_in("setup_a", line=20)):
+            _, result = self.list_then(self.TYPES, self.PLACES, self.TYPES, dict(self.PLACES, **{"S::m@00000009": more}))
+            self.assertEqual((len(result.new), len(result.stale)), (1, 2))
+            self.assertIn("S::m is now also made at heap setup_", result.stale[0])
+
+    def test_all_callers_count(self):
+        places = dict(self.PLACES, **{"S::m@00000001": made_in("make", "old_server", "main")})
+        for functions, stale in ((("make", "old_server", "main"), 0), (("make", "new_server", "main"), 2), (("make", "old_server", "other"), 2)):
+            later = dict(self.PLACES, **{"S::m@00000001": made_in(*functions)})
+            self.assertEqual(len(self.list_then(self.TYPES, places, self.TYPES, later)[1].stale), stale, functions)
+
+    def test_another_source_file_of_the_same_name(self):
+        said = [circle("a/0", "b/0", between=between("locks", circle("a#1/0", "b#1/0")))]
+        with mock.patch("os.getcwd", return_value="/work/build"):
+            for file, other, shown in (("/work/d1/s.c", "/work/d2/s.c", "../d1/s.c"), ("/src/d1/s.c", "/src/d2/s.c", "/src/d1/s.c"),
+                                       ("/work/build/s.c", "/work/build/sub/s.c", "s.c")):
+                places, later = {"a": ("static", Frame("", file, 3, ""))}, {"a": ("static", Frame("", other, 3, ""))}
+                text, result = self.list_then(said, places, said, later)
+                self.assertIn("#   a: static %s:3\n" % shown, text)
+                self.assertEqual(len(result.new), 1)
+                self.assertEqual(self.list_then(said, places, said)[1].new, [])
+
+    def test_a_list_of_another_machine(self):
+        text = LINES.replace("\n", "\n#   seen between locks\n#   a: static ../src/s.c:3\n")
+        self.assertEqual(keys(sorted_by(text, {"a": ("static", Frame("", "/elsewhere/src/s.c", 3, ""))}).new), ["c/0"])
+
+    def test_a_stronger_verdict_is_new(self):
+        kinds = ("locks", "perhaps", "unknown", "classes", "types", "nested")
+        inner = circle("a#1/0", "b#1/0")
+        for place, listed in enumerate(kinds):
+            for now in kinds:
+                said = [circle("a/0", "b/0", between=between(now, inner))]
+                _, result = self.list_then([circle("a/0", "b/0", between=between(listed, inner))], {}, said)
+                self.assertEqual(bool(result.new), now in kinds[:place], (listed, now))
+        self.assertIn("it was seen only between types, as one type nested in itself, and is now seen only between types, so that entry hides nothing",
+                      self.list_then([circle("a/0", between=between("nested"))], {}, [circle("a/0", between=between("types"))])[1].stale[0])
+
+    def test_a_list_without_verdicts_excuses_all(self):
+        self.assertEqual(sorted_by("circle a/0 EN a/0\n", {}, [circle("a/0", between=between("locks", circle("a#1/0")))]).new, [])
+
+    def test_a_list_of_the_last_version(self):
+        text = "circle S::m/0 EN P::m/0\n#   S::m@1: heap setup_a at one.c:3\n#   P::m@2: heap setup_a at one.c:9\n" \
+            "circle P::m/0 EN S::m/0\n#   P::m@2: heap setup_a at one.c:9\n"
+        places = {"S::m@1": made_in("setup_a", "main"), "P::m@2": made_in("setup_a", "main")}
+        self.assertEqual(sorted_by(text, places, self.TYPES).new, [])
+
+    def test_the_classes_that_take_part(self):
+        graph = '  "S::m@1/0" -> "P::m@2/0" [label="EN"]\n  "P::m@2/0" -> "S::m@1/0" [label="EN"]\n  "S::m@3/0" -> "Q/0" [label="EN"]\n'
+        sources = Made_up({"S::m@1": made_in("a"), "P::m@2": made_in("b"), "S::m@3": made_in("c"), "Q": made_in("d")})
+        answer = mock.Mock(status=1, output=graph.encode())
+        with mock.patch("lockdep.taking_part.ask", return_value=answer):
+            taking = TakingPart(sources, ["t/task-0001.csv"])
+            self.assertEqual([made.name for made in taking.made("circle S::m/0 EN P::m/0")], ["S::m@1", "P::m@2"])
+            self.assertEqual([made.name for made in taking.made("circle S::m/0 EN Q/0")], ["S::m@3", "Q"])
+            self.assertEqual([made.name for made in taking.made("double hardirq S::m/0")], ["S::m@1", "S::m@3"])
+        answer.status = 2
+        with mock.patch("lockdep.taking_part.ask", return_value=answer):
+            self.assertEqual([made.name for made in TakingPart(sources, ["t"]).made("circle S::m/0 EN P::m/0")], ["S::m@1", "S::m@3", "P::m@2"])
+
+
+class Writing(unittest.TestCase):
+    def test_a_new_list_has_places(self):
+        text = list_of(findings(TWO[:1]), "", Made_up({"a": at("one.c")}))
+        self.assertEqual(text.split("\n")[1:4], ["circle a/0 EN b/0", "#   a: static one.c:3", "circle b/0 EN a/0"])
+
+    def test_what_a_pattern_past_its_day_hid_is_written(self):
+        text = list_of(findings(TWO[:1]), "cycle class:* # until 2020-01-31\n", Made_up({}))
+        self.assertEqual(text, "cycle class:* # until 2020-01-31\n" + LINES)
+
+    def test_a_verdict_is_written_and_renewed(self):
+        said = [circle("a/0", "b/0", between=between("classes"))]
+        text = list_of(findings(said), LINES.replace("\n", "\n#   seen between locks\n"), Made_up({}))
+        self.assertEqual(text, LINES.replace("\n", "\n#   seen only between classes\n"))
+
+    def test_what_is_written_anew_may_have_been_written_otherwise(self):
+        said = [circle("a/0", "b/0", between=between("classes"))]
+        old = LINES.replace("\n", "\r\n  #   a: static old.c:3 \r\n #   seen between locks\r\n")
+        self.assertEqual([line.strip() for line in list_of(findings(said), old, Made_up({"a": at("one.c")})).split("\n")],
+                         LINES.replace("\n", "\n#   seen only between classes\n#   a: static one.c:3\n").split("\n"))
+
+    def test_comments_and_patterns_stay_and_what_is_gone_goes(self):
+        old = "# ours\ncircle x/0 EN y/0\ncycle class:c class:d # why\n circle a/0 EN b/0\n#   a: static old.c:1\n"
+        text = list_of(findings(TWO), old, Made_up({"a": at("one.c")}))
+        self.assertEqual(text.split("\n"), ["# ours", "cycle class:c class:d # why", " circle a/0 EN b/0", "#   a: static one.c:3",
+                                            "circle b/0 EN a/0", "#   a: static one.c:3", ""])
+
+
+if __name__ == "__main__":
+    unittest.main()

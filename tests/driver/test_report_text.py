@@ -1,0 +1,136 @@
+"""Text, places and blocked threads."""
+import io
+import os
+import shutil
+import subprocess
+import tempfile
+import unittest
+
+from lockdep.blocked import blocked_threads
+from lockdep.cplusplus import Demangler
+from lockdep.elf import within_functions
+from lockdep.explanation import Line
+from lockdep.places import key_of_record, made_of, record_lines
+from lockdep.symbols import Address, Symbols, place_words, source_frame
+from lockdep.terminal import Writer, broken, note_lines
+from lockdep.words import class_of_lock, stands_for_several, type_of_class, visible
+
+
+class Lines(unittest.TestCase):
+    def test_a_long_line_is_broken_at_its_last_space(self):
+        self.assertEqual(broken("one two three", 2, 10), ["  one two", "      three"])
+        self.assertEqual(broken("onetwothree four", 0, 5), ["onetwothree", "    four"])
+        self.assertEqual(broken("short", 0, 5), ["short"])
+
+    def test_a_long_chain_of_callers_has_a_line_for_each(self):
+        self.assertEqual(note_lines("a < b < c", 4, 10), ["    a", "        < b", "        < c"])
+
+    def test_lines_are_broken_only_on_a_terminal(self):
+        for width, lines in ((0, 1), (20, 2)):
+            stream = io.StringIO()
+            Writer(stream, width).line("  a word and one more word")
+            self.assertEqual(stream.getvalue().count("\n"), lines)
+
+    def test_hidden_characters_are_shown(self):
+        self.assertEqual(visible("a\n\x1b\u202e\udcff"), "a\\n\\x1b\\u202e\\xff")
+
+    def test_a_line_may_be_indented(self):
+        self.assertEqual(Line("  x", ("a",)).indented(2), Line("    x", ("a",)))
+
+
+class Names(unittest.TestCase):
+    def test_levels_of_a_name(self):
+        for name, lock_class, of_type in (("m@q.c:7#3", "m@q.c:7", "m"), ("a#1@7", "a", "a"), ("plain", "plain", "plain"),
+                                          ("x#01#2", "x#01", "x#01"), ("#1", "#1", "#1"), ("@p#1", "@p", "@p")):
+            self.assertEqual((class_of_lock(name), type_of_class(class_of_lock(name))), (lock_class, of_type))
+
+    def test_names_of_several_locks(self):
+        self.assertEqual([stands_for_several(name) for name in ("a#rest", "a#rest@7", "a#1", "#rest", "a#resting")],
+                         [True, True, False, False, False])
+
+    def test_symbols_of_cplusplus(self):
+        demangler = Demangler()
+        self.assertEqual(demangler.text("plain"), "plain")
+        if shutil.which("c++filt"):
+            self.assertEqual(demangler.text("x~_Z5auditv+0x2 and _ZNcut#1"), "x~audit()+0x2 and _ZNcut#1")
+
+
+class Records(unittest.TestCase):
+    def test_the_key_of_a_record(self):
+        self.assertEqual(key_of_record('acq,"m<a,""b"">#1",0,w'), 'm<a,"b">#1/0')
+        self.assertEqual(key_of_record("rel,a,0"), "")
+
+    def test_blank_lines_are_no_records(self):
+        self.assertEqual(record_lines(b"\xef\xbb\xbflockdep,2\r\n\r\nacq,a,0,w\r\n", {2}), {2: (3, "acq,a,0,w")})
+
+    def test_a_class_may_have_more_columns(self):
+        made = made_of("Session::m@0011aabb\t/bin/x\t4060\tstatic\tSession::m\tsize")
+        self.assertEqual((made.name, made.place, made.kind), ("Session::m@0011aabb", Address("/bin/x", 0x4060, False), "static"))
+        self.assertIsNone(made_of("a\t-\t-\tstatic"))
+
+    def test_a_place_in_words(self):
+        self.assertEqual(place_words([source_frame("src/a.c:7 run")]), "run at a.c:7")
+        self.assertEqual(place_words([source_frame("src/a.c:7")]), "a.c:7")
+        self.assertEqual(place_words([source_frame("src/A.java:0 A.pays")]), "A.pays at A.java")
+
+
+@unittest.skipUnless(shutil.which("cc") and shutil.which("addr2line") and shutil.which("strip"), "needs a compiler and binutils")
+class Stripped(unittest.TestCase):
+    def test_no_function_is_the_nearest_one(self):
+        with tempfile.TemporaryDirectory() as room:
+            source, program = os.path.join(room, "x.c"), os.path.join(room, "x")
+            with open(source, "w") as file:
+                file.write("int shown(void) { return 1; }\nstatic __attribute__((noinline)) int hidden(int x) { return x * 3; }\n"
+                           "int main(int n, char **v) { return hidden(n) + shown() + (v == 0); }\n")
+            subprocess.run(["cc", "-O1", "-rdynamic", "-o", program, source], check=True)
+            said = subprocess.run(["nm", program], stdout=subprocess.PIPE, check=True).stdout.decode().split("\n")
+            at = {line.split()[2]: int(line.split()[0], 16) for line in said if len(line.split()) == 3}
+            for is_stripped in (False, True):
+                if is_stripped:
+                    subprocess.run(["strip", program], check=True)
+                symbols = Symbols()
+                places = {name: Address(program, at[name] + 1) for name in ("hidden", "shown")}
+                for place in places.values():
+                    symbols.want(place)
+                symbols.ask()
+                functions = {name: symbols.frames(place)[0].function for name, place in places.items()}
+                self.assertEqual(functions, {"hidden": "" if is_stripped else "hidden", "shown": "shown"})
+
+    def test_a_file_of_another_kind_has_no_functions(self):
+        self.assertEqual(within_functions(__file__, [1]), set())
+
+
+class Blocked(unittest.TestCase):
+    def made(self, *traces, summary):
+        with tempfile.TemporaryDirectory() as folder:
+            os.mkdir(os.path.join(folder, "objects"))
+            for number, trace in enumerate(traces, 1):
+                with open(os.path.join(folder, "objects", "task-%04d.csv" % number), "w") as file:
+                    file.write("lockdep,2\n" + "".join("rel,%s,0\n" % word[1:] if word[0] == "-" else "acq,%s,0,w\n" % word for word in trace.split()))
+                open(os.path.join(folder, "task-%04d.csv" % number), "w").close()
+            return [thread.sentence for thread in blocked_threads(folder, summary)]
+
+    def test_two_threads_that_wait_for_each_other(self):
+        summary = "waiting 2\n  task-0001 waits for b, holding a\n  task-0002 waits for a, holding b\nat-exit 0\n"
+        self.assertEqual(self.made("x -x a#1 b#1", "b#1 a#1", summary=summary), [
+                         "task-0001 waits for b#1, which task-0002 holds since record 2 while it waits for a#1, which task-0001 holds "
+                         "since record 4 while it waits for b#1: these threads stand still"])
+
+    def test_a_holder_that_ended(self):
+        summary = "waiting 1\n  task-0001 waits for m\nat-exit 0\nheld-at-end 1\n  task-0002 ended holding m\n"
+        self.assertEqual(self.made("m", "n -n m", summary=summary), ["task-0001 waits for m, which task-0002 holds since record 4"])
+
+    def test_a_holder_that_waits_for_something_else(self):
+        summary = "waiting 1\n  task-0001 waits for m\nat-exit 0\n"
+        self.assertEqual(self.made("m", "m n -n", summary=summary), ["task-0001 waits for m, which task-0002 holds since record 2"])
+
+    def test_who_holds_one_of_several_locks_is_not_known(self):
+        summary = "waiting 1\n  task-0001 waits for m\nat-exit 0\nheld-at-end 1\n  task-0002 ended holding m\n"
+        self.assertEqual(self.made("m#rest", "m#rest", summary=summary), ["task-0001 waits for m#rest"])
+
+    def test_waiting_while_the_process_exits_is_no_block(self):
+        self.assertEqual(self.made("m", summary="waiting 1\n  task-0001 waits for m\nat-exit 1\n"), [])
+
+
+if __name__ == "__main__":
+    unittest.main()

@@ -1,0 +1,95 @@
+"""The findings as JSON. That of `lockdep view` is the checker's; that of `lockdep run` has places, verdicts, what is known, and a
+summary besides."""
+from __future__ import annotations
+
+import json
+
+from .blocked import Blocked
+from .findings import Event, Finding
+from .forms import COUNT, Found
+from .words import text_of, visible
+
+VERSION = 2
+
+
+def compact(value: object) -> str:
+    return json.dumps(value, ensure_ascii=False, separators=(",", ":"))
+
+
+def json_of_checker(found: Found) -> str:
+    """What `explain --json` wrote, without the lines of the known findings."""
+    if not found.known:
+        return text_of(found.raw)
+    lines = text_of(found.raw).split("\n")
+    numbers = {id(finding.json) for finding in found.new}
+    findings = sorted(found.new + found.known, key=lambda finding: finding.place)
+    if len(lines) == len(findings) + 3:
+        lines = [line.rstrip(",") for finding, line in zip(findings, lines[1:]) if id(finding.json) in numbers]
+    else:
+        lines = [compact(finding.json) for finding in findings if id(finding.json) in numbers]
+    return '{"lockdep":1,"findings":[\n%s]}\n' % (",\n".join(lines) + "\n" if lines else "")
+
+
+def frames_of(event: Event, found: Found) -> list[dict]:
+    """The callers of a record, innermost first."""
+    frames = []
+    for frame in found.sources.frames(event):
+        said = {"function": frame.function, "file": frame.path, "line": frame.line, "address": "" if frame.path else frame.address}
+        frames.append({name: value for name, value in said.items() if value})
+    return frames
+
+
+def with_places(said: object, found: Found) -> object:
+    """A value of the checker's JSON, in which each occurrence has its places: `places` of its record, and `since_places`."""
+    if isinstance(said, list):
+        return [with_places(value, found) for value in said]
+    if not isinstance(said, dict):
+        return said
+    made = {name: with_places(value, found) for name, value in said.items()}
+    for name, places in (("record", "places"), ("since", "since_places")):
+        if "file" in said and name in said:
+            made[places] = frames_of(Event(str(said["file"]), int(said[name])), found)
+    return made
+
+
+def locks_of(finding: Finding, found: Found) -> list[dict]:
+    """Where the classes of a finding's keys are made."""
+    from .sources import keys_of
+    from .symbols import place_words
+    from .words import name_in
+    made = {made.name: made for key in keys_of(finding) for made in found.sources.made_as(name_in(key))}
+    return [{"class": name, "kind": made[name].kind, "place": place_words(found.sources.frames_of(made[name]))} for name in made]
+
+
+def finding_json(finding: Finding, found: Found) -> dict:
+    said = with_places(finding.json, found)
+    said["known"] = finding in found.known
+    said["level"] = found.level(finding)
+    said["verdict"] = (found.remarks(finding) or [""])[-1]
+    said["remarks"] = found.remarks(finding)
+    said["locks"] = locks_of(finding, found)
+    return said
+
+
+def blocked_json(thread: Blocked, found: Found) -> dict:
+    said = {"type": "blocked", "thread": thread.thread.name, "keys": thread.keys, "sentence": thread.sentence,
+            "stands_still": thread.is_cycle}
+    said["records"] = [{"file": event.file, "record": event.record, "places": frames_of(event, found)} for event in thread.events]
+    return said
+
+
+def summary_json(found: Found) -> dict:
+    """The counts of the recording, by their names in SUMMARY."""
+    return {name: int(count) for name, count in COUNT.findall(found.summary)}
+
+
+def json_of_run(found: Found) -> str:
+    """One line for each finding, the new ones first."""
+    counts: dict[str, int] = {}
+    for finding in found.new:
+        counts[finding.kind.value] = counts.get(finding.kind.value, 0) + 1
+    lines = [compact(finding_json(finding, found)) for finding in found.new + found.known]
+    rest = {"blocked": [blocked_json(thread, found) for thread in found.blocked], "waiting": found.waiting,
+            "left_out": visible(found.left_out), "summary": summary_json(found)}
+    head = compact({"lockdep": VERSION, "counts": counts})
+    return '%s,"findings":[\n%s],%s\n' % (head[:-1], ",\n".join(lines) + "\n" if lines else "", compact(rest)[1:])

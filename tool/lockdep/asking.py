@@ -1,0 +1,70 @@
+"""What a recording's traces are asked: the checker, once, about its single locks; and if that can't be, about its classes."""
+from __future__ import annotations
+
+import os
+
+from .checker import REFUSED, Answer, ask
+from .words import text_of
+
+OBJECTS = "objects"
+BY_LOCKS = ["explain", "--locks", "--json", "--many", "--"]
+BY_CLASSES = ["explain", "--json", "--many", "--"]
+NO_OBJECTS = "the recording has no traces of single locks"
+REFUSED_OBJECTS = "the traces of single locks were refused"
+
+
+def traces_in(folder: str) -> list[str]:
+    """The traces of a folder, in their order."""
+    try:
+        names = [name for name in os.listdir(folder) if name.startswith("task-") and name.endswith(".csv")]
+    except OSError:
+        return []
+    return [os.path.join(folder, name) for name in sorted(names, key=os.fsencode)]
+
+
+class Asked:
+    """What the checker answered about a recording: `reason` says why it wasn't asked about single locks, if so, and `said` what
+    it wrote on standard error then. A refused answer is about the traces of classes."""
+
+    def __init__(self, answer: Answer, traces: list[str], reason: str = "", said: bytes = b"") -> None:
+        self.answer, self.traces, self.reason, self.said = answer, traces, reason, said
+
+    @property
+    def is_refused(self) -> bool:
+        return self.answer.status >= REFUSED
+
+    @property
+    def has_findings(self) -> bool:
+        """Whether something was found, also a note of a type that is nested in itself. Without findings the list is empty."""
+        return self.answer.status == 1 or b'{"type":' in self.answer.output
+
+    def findings(self) -> list:
+        """What was found. If single locks weren't asked about, it isn't known what a finding was seen between."""
+        from .findings import Between, Kind, findings_of
+        from .verdict import by_importance
+        findings = findings_of(self.answer.output) if self.has_findings else []
+        for finding in findings:
+            finding.between = finding.between or Between(Kind.UNKNOWN, reason=self.reason)
+        return by_importance(findings)
+
+
+def ask_about(folder: str) -> Asked:
+    """Asks about all traces of a recording."""
+    objects = traces_in(os.path.join(folder, OBJECTS))
+    reason, said = NO_OBJECTS, b""
+    if objects:
+        answer = ask(BY_LOCKS + objects, with_errors=True)
+        if answer.status < REFUSED:
+            return Asked(answer, objects)
+        reason, said = REFUSED_OBJECTS, answer.said
+    traces = traces_in(folder)
+    return Asked(ask(BY_CLASSES + traces, with_errors=True), traces, reason, said)
+
+
+def text_in(path: str) -> str:
+    """The text of a file of the recording; empty if it isn't there."""
+    try:
+        with open(path, "rb") as file:
+            return text_of(file.read())
+    except OSError:
+        return ""

@@ -1,0 +1,49 @@
+"""Where the recorder of pthreads is: built beside its sources, or in the user's cache."""
+from __future__ import annotations
+
+import os
+
+from .processes import output_of
+from .saying import Refusal
+
+# What is built from what, below recorders/pthread, besides the script `build` and raw.h.
+SOURCES = {"preload.so": "preload", "finish": "finish", "where": "where.c", "run": "run.c", "look": "look.c"}
+UNNAMEABLE = " :$"  # LD_PRELOAD takes these for separators, or for the beginning of something else
+
+
+def is_preloadable(path: str) -> bool:
+    return not any(letter in path for letter in UNNAMEABLE)
+
+
+def recorder_folder(home: str) -> str:
+    """The folder with what was built. It is built if it is missing or older than its sources."""
+    recorder = os.path.join(home, "recorders", "pthread")
+    out = os.path.join(recorder, "out")
+    is_installed = not os.path.exists(os.path.join(recorder, "raw.h"))
+    if is_installed or (is_preloadable(recorder) and is_current(recorder, out)):
+        return out
+    status, output = output_of([os.path.join(recorder, "build"), "--print"])
+    if status:
+        raise Refusal("", status)
+    return os.fsdecode(output).rstrip("\n")
+
+
+def is_current(recorder: str, out: str) -> bool:
+    """Whether all is built, and newer than its sources."""
+    try:
+        common = max(changed(os.path.join(recorder, name)) for name in ("build", "raw.h"))
+        sources = [(os.path.join(out, target), os.path.join(recorder, source)) for target, source in SOURCES.items()]
+        return all(changed(target) >= max(common, newest(source)) for target, source in sources if os.path.exists(source))
+    except OSError:
+        return False
+
+
+def changed(path: str) -> int:
+    return os.stat(path).st_mtime_ns
+
+
+def newest(path: str) -> int:
+    """When a file, or the newest file of a folder, was changed."""
+    if os.path.isdir(path):
+        return max([changed(os.path.join(path, name)) for name in os.listdir(path)], default=0)
+    return changed(path)

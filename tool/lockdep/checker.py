@@ -1,0 +1,67 @@
+"""The proved program, and other programs that are asked for something. No shell is run."""
+from __future__ import annotations
+
+import os
+
+from .words import Refusal, bytes_of, reason_of, text_of, visible
+
+HOME = os.path.dirname(os.path.dirname(os.path.dirname(os.path.realpath(__file__))))
+REFUSED = 2  # the least status with which the program refuses
+
+# How many seconds addr2line and c++filt may take, and how many dot may.
+PATIENCE = 60
+PATIENCE_WITH_DOT = 30
+
+
+def program() -> str:
+    """The checker: the one that the variable LOCKDEP names, or the script of this tool."""
+    return os.environ.get("LOCKDEP") or os.path.join(HOME, "lockdep")
+
+
+class Answer:
+    """What the checker wrote, its status, and what it said on standard error."""
+
+    def __init__(self, output: bytes, status: int, said: bytes) -> None:
+        self.output, self.status, self.said = output, status, said
+
+
+def ask(words: list[str], with_errors: bool = False) -> Answer:
+    """Runs the checker. With errors, its standard error is kept and not shown."""
+    import subprocess
+    try:
+        done = subprocess.run([program()] + [bytes_of(word) for word in words], stdin=subprocess.DEVNULL,
+                              stdout=subprocess.PIPE, stderr=subprocess.PIPE if with_errors else None)
+    except OSError as error:
+        raise Refusal("%s can't be run: %s" % (visible(program()), reason_of(error)), 3)
+    if done.returncode < 0:
+        raise Refusal("the checker was ended by signal %d" % -done.returncode)
+    return Answer(done.stdout, done.returncode, done.stderr or b"")
+
+
+def answer_of(words: list[str]) -> Answer:
+    """The same, for words that must not be refused: the checker's own lines are on standard error if they are."""
+    answer = ask(words)
+    if answer.status >= REFUSED:
+        raise Refusal(None, answer.status)
+    return answer
+
+
+def text_answer(words: list[str]) -> str:
+    return text_of(answer_of(words).output)
+
+
+def version() -> str:
+    return text_answer(["--version"]).strip()
+
+
+def other_answer(words: list[str | bytes], given: bytes, patience: int = PATIENCE) -> bytes | None:
+    """What a program that may be missing writes for these bytes; None if it is missing, fails, or takes too long."""
+    import shutil
+    import subprocess
+    if not shutil.which(words[0]):
+        return None
+    try:
+        done = subprocess.run(words, input=given, stdout=subprocess.PIPE, stderr=subprocess.DEVNULL, timeout=patience)
+    except (OSError, ValueError, subprocess.TimeoutExpired):
+        return None
+    return done.stdout if done.returncode == 0 else None

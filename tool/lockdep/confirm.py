@@ -1,0 +1,125 @@
+"""`lockdep confirm`: what was found in a recording, and what it was seen between, with source lines."""
+from __future__ import annotations
+
+import os
+import subprocess
+import sys
+
+from .asking import OBJECTS, Asked, ask_about, text_in, traces_in
+from .checker import HOME
+from .files import is_file, need_output, print_file
+from .findings import Finding
+from .sources import sources_of
+from .terminal import Writer, text_stream
+from .text import Text
+from .verdict import Recorded
+from .words import Refusal, visible
+
+DEFAULT_FOLDERS = ("lockdep-traces", "traces")
+LISTED = "RECORDED"
+RECORD = os.path.join(HOME, "recorders", "pthread", "record")
+
+
+class Wanted:
+    """What the words ask for."""
+
+    def __init__(self, words: list[str]) -> None:
+        self.folder, self.is_strict, self.is_help, are_options = "", False, False, True
+        for word in words:
+            if are_options and word == "--strict":
+                self.is_strict = True
+            elif are_options and word in ("-h", "--help"):
+                self.is_help = True
+            elif are_options and word == "--":
+                are_options = False
+            elif are_options and word.startswith("-"):
+                raise Refusal("unknown option %s; `lockdep confirm --help` lists them" % visible(word))
+            elif self.folder:
+                raise Refusal("one folder, and not two; `lockdep confirm --help` says how to call this")
+            elif not word:
+                raise Refusal("a folder has a name")
+            else:
+                self.folder = word
+
+
+def chosen_folder(folder: str) -> str:
+    """The recording: the one that is named, or one of those that a command makes by default."""
+    if folder:
+        return folder
+    return next((name for name in DEFAULT_FOLDERS if is_file(os.path.join(name, "SUMMARY"))), DEFAULT_FOLDERS[0])
+
+
+def check_folder(folder: str) -> None:
+    """Refuses a folder whose recording isn't all there."""
+    name = visible(folder)
+    if not is_file(os.path.join(folder, "SUMMARY")):
+        if is_file(os.path.join(folder, "raw", "settings")):
+            raise Refusal("%s has a recording whose traces weren't made: `lockdep record --finish` of that folder makes them" % name)
+        raise Refusal("%s has no recording" % name)
+    for line in text_in(os.path.join(folder, LISTED)).split("\n"):
+        is_trace = line.endswith(".csv") and line.startswith(("task-", OBJECTS + "/task-"))
+        if is_trace and not os.path.exists(os.path.join(folder, line)):
+            raise Refusal("%s is incomplete: %s, which RECORDED lists, is missing" % (name, visible(line)))
+
+
+def say_summary(folder: str) -> None:
+    """What was recorded. If that is nothing of the program's own, there is nothing to check."""
+    if subprocess.run([RECORD, "--summary", folder], stdin=subprocess.DEVNULL).returncode > 1:
+        raise Refusal(None)
+    if not traces_in(folder):
+        raise Refusal("%s has no traces" % visible(folder))
+    if not traces_in(os.path.join(folder, OBJECTS)):
+        raise Refusal("%s/objects has no traces of single locks: record again" % visible(folder))
+
+
+def say_refusal(asked: Asked) -> None:
+    sys.stderr.buffer.write(asked.said or b"")
+    sys.stderr.buffer.write(asked.answer.said if asked.is_refused else b"")
+    sys.stderr.flush()
+
+
+def depths_in(folder: str, asked: Asked, findings: list[Finding]) -> dict[int, int]:
+    """With how many callers findings are gone, in a room that may be elsewhere if the folder can't be written."""
+    import tempfile
+    from .deeper import depths_of
+    with tempfile.TemporaryDirectory(prefix="lockdep-") as room:
+        return depths_of(folder, asked, findings, room)
+
+
+def write_findings(folder: str, asked: Asked, findings: list[Finding]) -> None:
+    recorded = Recorded(asked.traces, text_in(os.path.join(folder, "SUMMARY")))
+    recorded.depths = depths_in(folder, asked, findings) if findings else {}
+    stream = text_stream(sys.stdout.fileno())
+    writer = Writer(stream)
+    writer.line("findings %d" % sum(not finding.is_note for finding in findings))
+    text = Text(writer, sources_of(findings, [folder]), recorded)
+    for finding in findings:
+        text.finding(finding)
+    stream.flush()
+
+
+def main(words: list[str]) -> int:
+    wanted = Wanted(words)
+    try:
+        if wanted.is_help:
+            need_output()
+            print_file(os.path.join(HOME, "tool", "help", "confirm"))
+            return 0
+        folder = chosen_folder(wanted.folder)
+        check_folder(folder)
+        say_summary(folder)
+        need_output()
+        asked = ask_about(folder)
+        say_refusal(asked)
+        if asked.is_refused:
+            return 2
+        findings = asked.findings()
+        write_findings(folder, asked, findings)
+    except BrokenPipeError:
+        # A reader that has enough, as `head`, needs no message.
+        os.dup2(os.open(os.devnull, os.O_WRONLY), 1)
+        return 2
+    except OSError:
+        raise Refusal("the text can't be written")
+    counted = [finding for finding in findings if not finding.is_note]
+    return 1 if any(finding.is_confirmed or not wanted.is_strict for finding in counted) else 0

@@ -1,0 +1,128 @@
+"""The commands: from a command line to what does it."""
+from __future__ import annotations
+
+import os
+import resource
+import sys
+
+from .options import COMMANDS, Help, Words, parse
+from .processes import IGNORED_HERE, become, signal
+from .saying import RUN, Refusal, say_refusal
+
+UNJUDGED = 2  # the status if nothing can be said of the command's locks
+FEWEST_FILES = 16  # that have to be open at once
+# What another recording, or another run, leaves in the environment.
+OF_OTHERS = ("LOCKDEP_RUN_HOME", "LOCKDEP_RUN_NAMED", "LOCKDEP_RUN_KNOWN_TEXT", "LOCKDEP_RUN_ACCEPTED", "LOCKDEP_RUN_PROCESS", "LOCKDEP_RUN_STATUS", "LOCKDEP_TRACES",
+             "LOCKDEP_PYTHON", "LOCKDEP_JAVA")
+# What the last part of a run, and the scripts of some recorders, need. Without one of them they would fail half-way.
+NEEDED = "awk cat chmod cp cut dirname find grep head ln mkdir mktemp mv readlink rm rmdir sed sort tr xargs".split()
+
+
+def main(home: str, words: list[str]) -> None:
+    """Does what the command line says, and ends with its status."""
+    undo_start()
+    try:
+        status = {"run": run, "record": record}[words[0]](home, words[1:])
+    except Help:
+        status = print_help(home, words[0])
+    except Refusal as refusal:
+        if str(refusal):
+            say_refusal(str(refusal))
+        status = refusal.status
+    except Exception:  # a fault of the driver's isn't taken for a result
+        import traceback
+        traceback.print_exc()
+        status = UNJUDGED
+    os._exit(status)
+
+
+def undo_start() -> None:
+    """Takes back what Python has changed for what this process becomes. The shell that started it says what was ignored, and whether LC_CTYPE was
+    set."""
+    for number in (0, 1, 2):
+        open_if_closed(number)
+    ctype, _, ignored = os.environ.pop("LOCKDEP_STARTED", "unset ").partition(" ")
+    if ctype == "unset":
+        os.environ.pop("LC_CTYPE", None)
+    mask = int(ignored or "0", 16)
+    for number in (signal.SIGPIPE, signal.SIGXFSZ):
+        if not mask >> (number - 1) & 1:
+            IGNORED_HERE.append(number)
+    if signal.getsignal(signal.SIGINT) is signal.default_int_handler:
+        signal.signal(signal.SIGINT, signal.SIG_DFL)
+
+
+def open_if_closed(number: int) -> None:
+    """Opens a standard file that is closed, for this process alone, so that no other file takes its number."""
+    try:
+        os.fstat(number)
+    except OSError:
+        os.open(os.devnull, os.O_RDWR)
+
+
+def leave_others() -> None:
+    """Leaves another recording or run: what is recorded here is no part of it."""
+    paths = os.environ.get("PYTHONPATH")
+    if paths and "LOCKDEP_PYTHON" in os.environ:
+        os.environ["PYTHONPATH"] = ":".join(path for path in paths.split(":") if not path.endswith("/lockdep_record/hook"))
+    for name in OF_OTHERS:
+        os.environ.pop(name, None)
+
+
+def look_at_limits() -> None:
+    files = resource.getrlimit(resource.RLIMIT_NOFILE)[0]
+    if 0 <= files < FEWEST_FILES:
+        raise Refusal("16 files have to be open at once, and `ulimit -n` is %d" % files)
+    folders = os.environ.get("PATH", "/bin:/usr/bin").split(":")
+    missing = [name for name in NEEDED if not any(os.access(os.path.join(folder, name), os.X_OK) for folder in folders)]
+    if missing:
+        raise Refusal("not on the PATH, and needed: " + ", ".join(missing))
+
+
+def print_help(home: str, command: str) -> int:
+    with open(os.path.join(home, "tool", "help", command), "rb") as file:
+        text = file.read()
+    try:
+        while text:
+            text = text[os.write(1, text):]
+        return 0
+    except OSError:
+        return 2
+
+
+def run(home: str, words: list[str]) -> int:
+    leave_others()
+    os.environ[RUN] = home
+    look_at_limits()
+    from . import running
+    line = parse(COMMANDS["run"], words)
+    return running.run(home, line)
+
+
+def record(home: str, words: list[str]) -> int:
+    from . import recording
+    if words[:1] == ["--end"]:
+        return recording.end(home, words[1], int(words[2]), words[3:] == ["left"])
+    line = parse(COMMANDS["record"], words)
+    if line.has("--finish"):
+        return recording.finish_again(home, line.last("--finish"), line.last("--frames"))
+    if line.has("--summary"):
+        return recording.summary_again(home, line.last("--summary"), line.values.get("--accept-left-out", []) + recording.accepted_by_run())
+    leave_others()
+    if not line.rest:
+        raise Refusal("which command? `lockdep record --help` says how to call this")
+    look_at_limits()
+    return start_record(home, line)
+
+
+def start_record(home: str, line: Words) -> int:
+    from . import recording
+    from .recorders import RECORDERS
+    recorder, folder = RECORDERS[line.last("--recorder", "pthread")], line.last("-o", "traces")
+    if recorder.script:
+        script = os.path.join(home, "recorders", recorder.script)
+        become([sys.executable, script, "-o", recording.checked(folder), "--either"] + line.rest, os.environ)
+    wishes = recording.Wishes(folder, recorder, line.has("--recorder"), line.last("--frames"), "1" if line.has("--version-1") else "2",
+                              not line.has("--no-wait"))
+    recording.begin(home, wishes, line.rest, os.path.join(home, "recorders", "pthread", "record"))
+    return 0

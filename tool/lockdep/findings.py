@@ -1,0 +1,216 @@
+"""What the checker found, as values: the JSON of `lockdep explain --json`, version 1, or 2 with `--locks`."""
+from __future__ import annotations
+
+import json
+from dataclasses import dataclass, field
+from enum import Enum
+
+from .words import Refusal, text_of, visible
+
+VERSIONS = (1, 2)
+STATES = ("hardirq", "softirq")
+
+
+class Kind(Enum):
+    """What a finding was seen between, in the order in which findings come."""
+
+    LOCKS = "locks"
+    PERHAPS = "perhaps"
+    UNKNOWN = "unknown"
+    CLASSES = "classes"
+    TYPES = "types"
+    NESTED = "nested"
+
+
+@dataclass(frozen=True)
+class Event:
+    """A record of a trace."""
+
+    file: str
+    record: int
+
+
+@dataclass(frozen=True)
+class Order:
+    """An order of two locks: of the held key and the one that is taken, each with its mode and record, if these are known."""
+
+    start: str
+    kind: str
+    end: str
+    held: str | None = None
+    since: Event | None = None
+    takes: str | None = None
+    event: Event | None = None
+
+    @property
+    def dependency(self) -> tuple[str, str, str]:
+        return self.start, self.kind, self.end
+
+    @property
+    def line(self) -> str:
+        """The order as a finding's lines have it."""
+        return "circle %s %s %s" % self.dependency
+
+
+@dataclass(frozen=True)
+class Use:
+    """How a key came to be used in a state, or with it enabled: by a record that takes it, or that turns interrupts on while it
+    is held."""
+
+    event: Event | None = None
+    takes: str | None = None
+    turns_on: str = ""
+    held: str | None = None
+    since: Event | None = None
+
+
+@dataclass(frozen=True)
+class Gate:
+    """A key that was always held round these dependencies."""
+
+    key: str
+    dependencies: tuple[tuple[str, str, str], ...]
+
+
+@dataclass
+class Between:
+    """What a finding was seen between, with the finding between single locks if there is one. For a trace that couldn't be
+    asked about, it is unknown, for a reason."""
+
+    kind: Kind
+    finding: Finding | None = None
+    reason: str = ""
+
+
+@dataclass
+class Finding:
+    """One finding of the JSON: its place there, from 1 on, and its number among those that are shown."""
+
+    place: int
+    type: str
+    irq: str
+    keys: list[str]
+    lines: list[str]
+    notes: list[str] = field(default_factory=list)
+    orders: list[Order] = field(default_factory=list)
+    used: Use = Use()
+    enabled: Use = Use()
+    gates: list[Gate] = field(default_factory=list)
+    only: str = ""
+    between: Between | None = None
+    json: dict = field(default_factory=dict)
+    number: int = 0
+
+    @property
+    def head(self) -> str:
+        """The first line of the finding in the explanation."""
+        if self.type != "circle" or not self.orders:
+            return self.lines[0]
+        words = [word for order in self.orders for word in (order.kind, order.end)]
+        return " ".join(["circle", self.orders[0].start] + words)
+
+    @property
+    def kind(self) -> Kind | None:
+        return self.between.kind if self.between else None
+
+    @property
+    def is_note(self) -> bool:
+        """A type nested in itself is a note, and no finding."""
+        return self.kind is Kind.NESTED
+
+    @property
+    def is_confirmed(self) -> bool:
+        """Whether the checker's `--confirmed-only` counts it."""
+        return self.kind in (None, Kind.LOCKS, Kind.UNKNOWN)
+
+    def edges(self) -> set[tuple[str, str, str]]:
+        """The edges of the picture that belong to the finding: from, to, and label."""
+        edges = {(order.start, order.end, order.kind) for order in self.orders}
+        if self.type != "circle":
+            edges.add((self.keys[-1], self.keys[0], self.irq))
+        return edges
+
+    def own_events(self) -> list[Event]:
+        """The records that the finding itself names, each once."""
+        events = [event for order in self.orders for event in (order.event, order.since)]
+        events += [event for use in (self.used, self.enabled) for event in (use.event, use.since)]
+        return list(dict.fromkeys(event for event in events if event))
+
+    def events(self) -> list[Event]:
+        """Those, and the ones that the finding between single locks names."""
+        inner = self.between.finding.own_events() if self.between and self.between.finding else []
+        return list(dict.fromkeys(self.own_events() + inner))
+
+
+# ---- Reading.
+
+
+def state_of(word: object) -> str:
+    """A state of interrupts, which texts contain as it is."""
+    if word != "" and word not in STATES:
+        raise ValueError("the state %r" % word)
+    return str(word)
+
+
+def event_of(said: dict, name: str) -> Event | None:
+    """The record that an order or a use has under this name, or None if it has none."""
+    return Event(str(said["file"]), int(said[name])) if "file" in said and name in said else None
+
+
+def order_of(said: dict) -> Order:
+    return Order(str(said["from"]), str(said["kind"]), str(said["to"]), said.get("held"), event_of(said, "since"),
+                 said.get("takes"), event_of(said, "record"))
+
+
+def use_of(said: dict, irq: str) -> Use:
+    return Use(event_of(said, "record"), said.get("takes"), state_of(said.get("turns_on", irq)), said.get("held"),
+               event_of(said, "since"))
+
+
+def gate_of(said: dict) -> Gate:
+    return Gate(str(said["gate"]), tuple((str(order["from"]), str(order["kind"]), str(order["to"])) for order in said["orders"]))
+
+
+def between_of(number: int, said: dict) -> Between:
+    return Between(Kind(said["kind"]), finding_of(number, said["finding"]) if "finding" in said else None)
+
+
+def finding_of(number: int, said: dict) -> Finding:
+    irq = state_of(said.get("irq", ""))
+    keys = [str(key) for key in (said["keys"] if "keys" in said else [said["key"]])]
+    finding = Finding(number, str(said["type"]), irq, keys, [str(line) for line in said["lines"]], json=said, number=number)
+    finding.notes = [str(note) for note in said.get("notes") or []]
+    finding.orders = [order_of(order) for order in said.get("orders") or []]
+    finding.used, finding.enabled = use_of(said.get("used") or {}, irq), use_of(said.get("enabled") or {}, irq)
+    finding.gates = [gate_of(gate) for gate in said.get("gates") or []]
+    finding.only = str(said.get("only") or "")
+    finding.between = between_of(number, said["between"]) if "between" in said else None
+    if not finding.lines or not keys:
+        raise ValueError("a finding without lines or keys")
+    return finding
+
+
+def findings_of(raw: bytes, versions: tuple[int, ...] = VERSIONS) -> list[Finding]:
+    """The findings of what `explain --json` wrote."""
+    try:
+        said = json.loads(text_of(raw))
+        if said["lockdep"] not in versions:
+            raise Refusal("`explain --json` wrote version %s, and this program reads version %s"
+                          % (visible(str(said["lockdep"])), " and ".join(map(str, versions))))
+        return [finding_of(number, finding) for number, finding in enumerate(said["findings"], 1)]
+    except (ValueError, KeyError, TypeError, AttributeError, IndexError, RecursionError) as error:
+        raise Refusal("what `explain --json` wrote can't be read: %s" % visible(repr(error)))
+
+
+def report_lines(findings: list[Finding]) -> list[str]:
+    """The report's lines of these findings, each once."""
+    return list(dict.fromkeys(line for finding in findings for line in finding.lines))
+
+
+def by_line(findings: list[Finding]) -> dict[str, list[Finding]]:
+    """The findings of each line of the report."""
+    of_lines: dict[str, list[Finding]] = {}
+    for finding in findings:
+        for line in finding.lines:
+            of_lines.setdefault(line, []).append(finding)
+    return of_lines

@@ -1,0 +1,61 @@
+"""The findings as JUnit: one suite, with a failed case for each finding."""
+from __future__ import annotations
+
+import time
+
+from .blocked import Blocked
+from .findings import Finding
+from .forms import Found, moment
+from .steps import Step, sentence, steps_of, words_of
+from .symbols import place_words
+from .words import escaped
+
+
+def step_words(step: Step) -> str:
+    return "task %d: %s (%s: record %d)" % (step.task + 1, words_of(step), step.event.file, step.event.record)
+
+
+def step_line(step: Step, found: Found) -> str:
+    if not step.event:
+        return "  task %d: %s" % (step.task + 1, words_of(step))
+    place = place_words(found.sources.frames(step.event))
+    return "  %s%s" % (step_words(step), ", " + place if place else "")
+
+
+def failed_case(kind: str, name: str, message: str, lines: list[str]) -> str:
+    return """<testcase classname="lockdep.%s" name="%s" time="0">
+<failure type="%s" message="%s">%s</failure>
+</testcase>
+""" % (escaped(kind), escaped(name), escaped(kind), escaped(message), "".join(escaped(line) + "\n" for line in lines))
+
+
+def finding_case(finding: Finding, found: Found) -> str:
+    """A failed case: the sentence, and each step with its place."""
+    lines = [sentence(finding)] + [step_line(step, found) for step in steps_of(finding)] + found.remarks(finding)
+    return failed_case(finding.type, finding.head, sentence(finding), lines)
+
+
+def blocked_case(thread: Blocked, found: Found) -> str:
+    lines = [thread.sentence] + ["  %s: record %d, %s" % (event.file, event.record, place_words(found.sources.frames(event)))
+                                 for event in thread.events]
+    return failed_case("blocked", "blocked %s" % thread.thread.name, thread.sentence, lines)
+
+
+def junit(found: Found) -> str:
+    """The suite. If nothing new was found it has a passed case; if the recording left something out there is a case with an
+    error, and none is passed."""
+    cases = [finding_case(finding, found) for finding in found.findings] + [blocked_case(thread, found) for thread in found.blocked]
+    failures = len(cases)
+    if found.left_out:
+        said = escaped("Not all was checked. Left out: %s." % found.left_out)
+        cases.append('<testcase classname="lockdep" name="left out" time="0">\n<error type="left out" message="%s"/>\n'
+                     "</testcase>\n" % said)
+    elif not cases:
+        cases.append('<testcase classname="lockdep" name="%s" time="0"/>\n' % ("no new finding" if found.has_known else "no finding"))
+    counts = 'tests="%d" failures="%d" errors="%d" skipped="0" time="0"' % (len(cases), failures, 1 if found.left_out else 0)
+    return """<?xml version="1.0" encoding="UTF-8"?>
+<testsuites name="lockdep" %s>
+<testsuite name="lockdep" %s timestamp="%s">
+%s</testsuite>
+</testsuites>
+""" % (counts, counts, time.strftime("%Y-%m-%dT%H:%M:%S", moment()), "".join(cases))

@@ -1,0 +1,138 @@
+"""Which findings are known: a list of known findings, held against what was found and where its locks are made now. An entry of a
+list can't hide a finding of locks that are made elsewhere now, or one with a stronger verdict: then it is stale, and hides nothing."""
+from __future__ import annotations
+
+import re
+from dataclasses import dataclass, field
+
+from .blocked import Blocked
+from .cplusplus import without_parameters
+from .findings import Finding, by_line, report_lines
+from .sources import Sources, keys_of
+from .stale import Judge
+from .suppressions import EXCUSED, KINDS, VERDICT, Entry, entries_of, today
+from .taking_part import TakingPart
+from .where_made import place_now
+from .words import class_of_lock, name_in, type_of_class
+
+FIRST_LINE = "# Known findings, for the option --known of lockdep run: lines of a report, comments and blank lines."
+PLACE_COMMENT = re.compile(r"#   [^ ]+: ")
+
+
+@dataclass
+class Sorted:
+    """Findings held against a list: those that are new, those that are known, and what is to be said of the list."""
+
+    new: list[Finding]
+    known: list[Finding] = field(default_factory=list)
+    blocked: list[Blocked] = field(default_factory=list)
+    known_blocked: int = 0
+    known_lines: int = 0
+    gone: list[str] = field(default_factory=list)
+    stale: list[str] = field(default_factory=list)
+    moved: list[str] = field(default_factory=list)
+
+
+# ---- Patterns.
+
+
+def names_of_type(name: str, sources: Sources) -> tuple[str, ...]:
+    """The type of a lock as reports have it, which may be shortened, and in full, as people write it."""
+    type = type_of_class(class_of_lock(name))
+    names = [type] + [made.type for made in sources.made_as(name) if made.name != type]
+    return tuple(dict.fromkeys(map(sources.demangler.text, names)))
+
+
+def classes_of(keys: list[str], sources: Sources) -> list[tuple[str, ...]]:
+    """The types of keys, each once."""
+    return list(dict.fromkeys(names_of_type(name_in(key), sources) for key in keys))
+
+
+def frames_of(events: list, sources: Sources) -> list[tuple[str, str]]:
+    """The function and the path of each caller of some records, with and without the function's parameters."""
+    frames = [frame for event in events for frame in sources.frames(event)]
+    return list(dict.fromkeys([(frame.function, frame.path) for frame in frames] +
+                              [(without_parameters(frame.function), frame.path) for frame in frames]))
+
+
+def fits_finding(entry: Entry, finding: Finding, sources: Sources) -> bool:
+    if not entry.is_pattern or entry.type != finding.type:
+        return False
+    keys = keys_of(finding)[:len(finding.keys) + 2 * len(finding.orders)]
+    return entry.hides(finding.type, classes_of(keys, sources), frames_of(finding.events(), sources))
+
+
+def fits_blocked(entry: Entry, thread: Blocked, sources: Sources) -> bool:
+    return entry.is_pattern and entry.hides("blocked", classes_of(thread.keys, sources), frames_of(thread.events, sources))
+
+
+# ---- All together.
+
+
+def sort(findings: list[Finding], blocked: list[Blocked], entries: list[Entry], sources: Sources, traces: list[str] = ()) -> Sorted:
+    """Holds what was found against a list. The traces are those of the recording, if there is one."""
+    result = Sorted([])
+    judge = Judge(findings, TakingPart(sources, list(traces)))
+    fresh = judge.fresh(entries)
+    result.stale, result.moved = judge.stale, judge.moved
+    lines = {entry.line for entry in fresh if not entry.is_pattern}
+    used: set[int] = set()
+    hidden = lines & set(judge.findings)
+    for finding in findings:
+        fitting = [entry for entry in fresh if fits_finding(entry, finding, sources)]
+        used.update(entry.number for entry in fitting)
+        hidden.update(finding.lines if fitting else ())
+        (result.known if fitting or set(finding.lines) <= lines else result.new).append(finding)
+    for thread in blocked:
+        fitting = [entry for entry in fresh if fits_blocked(entry, thread, sources)]
+        used.update(entry.number for entry in fitting)
+        result.blocked += [] if fitting else [thread]
+        result.known_blocked += bool(fitting)
+    for number, finding in enumerate(result.new, 1):
+        finding.number = number
+    result.known_lines = len(hidden)
+    result.gone = sorted({entry.text for entry in entries if not judge.is_expired(entry) and
+                          (entry.number not in used if entry.is_pattern else entry.line not in judge.findings)})
+    return result
+
+
+# ---- Writing a list.
+
+
+class Comments:
+    """The comments under a line of a report: what its findings were seen between, at the strongest, and where its locks are made."""
+
+    def __init__(self, findings: list[Finding], taking: TakingPart) -> None:
+        self.taking, self.findings = taking, by_line(findings)
+
+    def of(self, line: str) -> list[str]:
+        kinds = [finding.kind for finding in self.findings.get(line, ()) if finding.kind]
+        verdict = ["#   " + EXCUSED[min(kinds, key=KINDS.index)]] if kinds else []
+        now = [(made.name, place_now(made, self.taking.sources, shown=True)) for made in self.taking.made(line)]
+        return verdict + ["#   %s: %s" % (name, place.words) for name, place in now if place]
+
+
+def is_comment_of_entry(line: str) -> bool:
+    return bool(PLACE_COMMENT.match(line.strip())) or line.strip() in VERDICT
+
+
+def list_of(findings: list[Finding], old: str, sources: Sources, traces: list[str] = ()) -> str:
+    """A list of all findings. In an existing one comments and patterns stay, and entries that weren't found are removed."""
+    found, kept, listed = report_lines(findings), [], set()
+    comments = Comments(findings, TakingPart(sources, list(traces)))
+    entries = {entry.number: entry for entry in entries_of(old, "")}
+    patterns = [entry for entry in entries.values() if entry.is_pattern and not entry.is_expired(today())]
+    hidden = {line for finding in findings if any(fits_finding(entry, finding, sources) for entry in patterns) for line in finding.lines}
+    for number, line in enumerate(old.split("\n")[:-1] if old.endswith("\n") else old.split("\n") if old else [], 1):
+        entry = entries.get(number)
+        if entry and not entry.is_pattern and entry.line not in found or is_comment_of_entry(line):
+            continue
+        kept.append(line)
+        listed.update([entry.line] if entry else [])
+        kept += comments.of(entry.line) if entry and not entry.is_pattern else []
+    if not old:
+        kept.append(FIRST_LINE)
+    for line in found:
+        if line not in listed and line not in hidden:
+            kept += [line] + comments.of(line)
+    return "".join(line + "\n" for line in kept)

@@ -1,0 +1,185 @@
+"""The options of `run` and `record`: one table, from which the parser, the help, the manual pages and the completions follow."""
+from __future__ import annotations
+
+from .losses import COUNTS
+from .recorders import NAMES, ORDER, PTHREAD, RECORDERS, listed
+from .saying import Refusal
+
+
+class Kind:
+    """What an option's value is: what it is called, the most that a number may be, and what a shell can complete it with."""
+
+    def __init__(self, words: str, argument: str, most: int = 0, completed: str = "") -> None:
+        self.words, self.argument, self.most, self.completed = words, argument, most, completed
+
+
+FOLDER, FILE = Kind("a folder", "FOLDER", completed="folders"), Kind("a file", "FILE", completed="files")
+OUTPUT = Kind("a file", "FILE", completed="files")  # or `-`, standard output after the command's own
+RECORDER, CODE = Kind("a name", "NAME", completed=" ".join(RECORDERS)), Kind("the code of a count", "CODE")
+FRAMES = Kind("a number from 1 to 16", "N", 16, "1 2 3 4 6 8 12 16")
+STATUS = Kind("a number from 1 to 255", "N", 255)
+
+
+class Option:
+    """An option: its name, what its value is, if it takes one, a few words for completions, the text of the help, and what the manual page adds."""
+
+    def __init__(self, name: str, kind: Kind | None, brief: str, text: str, more: str = "") -> None:
+        self.name, self.kind, self.brief, self.text, self.more = name, kind, brief, text, more
+
+
+class Command:
+    """A command: what it does, in a few words and in a sentence; how it is called; what its words are; and its options."""
+
+    def __init__(self, name: str, brief: str, text: str, usage: tuple[str, ...], words: str, options: list[Option]) -> None:
+        self.name, self.brief, self.text, self.usage, self.words = name, brief, text, usage, words
+        self.options = {option.name: option for option in options}
+
+
+ACCEPT = Option(
+    "--accept-left-out", CODE, "do not count this as left out",
+    "Don't count this as left out: the code of a count in SUMMARY, as unreached-runs. It is named all the same. The option may be given several "
+    "times")
+
+RUN = Command("run", "record a command, check its traces, and explain what was found", "Records a command, checks its traces, and explains what was found",
+              ("[OPTIONS] -- COMMAND...",), "command", [
+    Option("-o", FOLDER, "where the recording is kept", "Where the recording is kept [default: lockdep-traces]",
+           "An earlier recording in it is replaced. Nothing is written outside it but the files that other options name, and once the recorder "
+           "itself, where it has to be built: beside its sources, or below ~/.cache/lockdep."),
+    Option("--recorder", RECORDER, "what records the command",
+           listed([(each.name + " " + each.sees).strip() for each in RECORDERS.values()]) + " [default: "
+           + "".join("%s if %s, " % (name, RECORDERS[name].when) for name in ORDER)
+           + "otherwise %s]. Programs that ran and have other locks than it sees are named, and the run isn't called clean, unless this option names the recorder: then the rest is judged. Those of Python and Java "
+           "name what a recorded program starts itself; that of Rust names none" % PTHREAD.name,
+           "Programs that are named are those in Python, Java or Go, with locks of OpenMP, and with lockdep_record.h, below a command that `pthread` "
+           "records, and those with locks of pthreads that `embed` records. Only `pthread` sees locks that C modules of a Python program take. With "
+           "`python` the command may also be a script that isn't executable, and with `java` a class or the options of java; it also records a command "
+           "that starts Java, such as a build."),
+    Option("--frames", FRAMES, "by how many callers a lock class is named", "By how many callers a lock class is named, from 1 to 16 [default: 3]",
+           "Only the recorder of pthreads has this option."),
+    Option("--known", FILE, "findings that are known",
+           "Findings that are known, as lines of a report, or patterns such as `cycle class:NAME`: left out of the text and the status. FILE may be "
+           "empty, /dev/null, or a pipe",
+           "The lines are those of a report that begin with `circle`, `double` or `inversion`, patterns, blank lines, and comments that begin with `#`. "
+           "They are counted, and those that no longer occur are named. A pattern is `cycle`, `double`, `inversion` or `blocked`, and then words "
+           "`class:NAME`, `function:NAME` and `file:PATH`, in which `*` and `?` stand for any characters. It fits a finding of which each lock is of "
+           "one of these classes, and of which a record comes from such a function in such a file; what isn't given is any. An entry may end with "
+           "`# reason` and `until 2027-03-01`: after that day it hides nothing. A reason with `until` and no date at its end is refused. Of a pipe 100,000 "
+           "bytes are taken. An entry names locks as the report does. The names of static locks are symbols, and stay. Those of locks that a call initialises, or that lie in objects from the heap, have "
+           "an offset in the code of a function, as `main+0x13.m0`: after an edit of that function a known finding may look new. An entry is stale if "
+           "a lock that takes part now is made in a function or file that no comment of --write-known lists, or if a finding has a stronger verdict than "
+           "the listed one: it is named, and hides nothing. Names with an offset whose source line is another one are listed."),
+    Option("--write-known", FILE, "write the findings of this run", "Write the findings of this run to a file for --known",
+           "If the file exists, its comments and the entries that still occur stay. Under each entry comments that begin with `#` and three spaces say "
+           "where its locks are made, and what its findings were seen between; these are written anew."),
+    Option("--strict-known", None, "stale entries of --known fail too",
+           "Stale entries of that file, and names with another source line, make the status of --error-exitcode too"),
+    Option("--html", OUTPUT, "where the page goes", "Where the page goes [default: FOLDER/report.html, if something new was found]",
+           "It is that of `lockdep view`."),
+    Option("--sarif", OUTPUT, "write the findings as SARIF", "Write the findings as SARIF 2.1.0 too, for code hosts and editors"),
+    Option("--junit", OUTPUT, "write the findings as JUnit",
+           "Write them as JUnit: a failed case for each finding, or a passed one if there is none"),
+    Option("--json", OUTPUT, "write the findings as JSON",
+           "Write them as `lockdep explain --locks --json` does, with places and what is known",
+           "It also has threads that were blocked at the end, and the counts of the recording."),
+    ACCEPT,
+    Option("--quiet", None, "print only if something was found", "Print only if something was found, or if the run can't be judged"),
+    Option("--error-exitcode", STATUS, "the status if something was found",
+           "Exit with this status, from 1 to 255, if something was found that isn't known, or if a thread waited for a lock when its process ended in "
+           "another way than by `exit`"),
+    Option("--confirmed-only", None, "only for what was seen between single locks",
+           "Only for what was seen between single locks, or isn't known: a finding of which `seen only between classes` or `perhaps seen between "
+           "locks` is said is printed, and doesn't change the status"),
+])
+
+RECORD = Command("record", "record a command", "Runs a command, records the locks of its threads, and makes a trace of each thread.",
+                 ("[OPTIONS] [--] COMMAND...", "--finish FOLDER [--frames N]", "--summary FOLDER [--accept-left-out CODE]..."), "command", [
+    Option("-o", FOLDER, "where the traces go",
+           "Where the traces go [default: traces]. Those of an earlier recording are replaced; a file that no recording made is never touched"),
+    Option("--recorder", RECORDER, "what records the command",
+           "Record by the recorder of " + NAMES + " [default: " + PTHREAD.name + "]. If it is named, programs in Python, Java and Go, and those "
+           "with lockdep_record.h, don't count as left out by that of pthread. The next three options are those of pthread alone"),
+    Option("--frames", FRAMES, "by how many callers a lock class is named", "By how many callers a lock class is named, from 1 to 16 [default: 3]"),
+    Option("--no-wait", None, "do not wait for what is left in the background",
+           "Make the traces when the command ends, without waiting for what it left in the background"),
+    Option("--version-1", None, "write version 1 of the format",
+           "Write version 1 of the format, which has no try acquisitions, and leave these out"),
+    Option("--finish", FOLDER, "make the traces of a recording that was killed",
+           "Make the traces of a recording whose `record` was killed, of a Rust program that ran without it, or of another recording again, as with more "
+           "callers"),
+    Option("--summary", FOLDER, "print again what was recorded",
+           "Print again what was recorded and what was left out. The status is 0 if nothing was left out, 1 if something was, and 2 if no lock of the "
+           "program's own was seen"),
+    ACCEPT,
+])
+
+COMMANDS = {command.name: command for command in (RUN, RECORD)}
+
+
+class Help(Exception):
+    """The help of a command was asked for."""
+
+
+class Words:
+    """A command line: the values of its options, each as often as it is given, and the words behind them."""
+
+    def __init__(self) -> None:
+        self.values: dict[str, list[str]] = {}
+        self.rest: list[str] = []
+
+    def has(self, option: str) -> bool:
+        return option in self.values
+
+    def last(self, option: str, default: str = "") -> str:
+        return self.values[option][-1] if option in self.values else default
+
+
+def parse(command: Command, words: list[str]) -> Words:
+    """Takes a command's words apart. The options end at the first other word, or behind `--`."""
+    line, at = Words(), 0
+    while at < len(words) and words[at][:1] == "-":
+        word = words[at]
+        at += 1
+        if word == "--":
+            break
+        if word in ("-h", "--help"):
+            raise Help
+        name, is_joined, value = word.partition("=") if word[:2] == "--" else (word, "", "")
+        option = command.options.get(name)
+        if option is None or (is_joined and option.kind is None):
+            raise Refusal(no_option(command, word))
+        if option.kind and not is_joined:
+            value = words[at] if at < len(words) else ""
+            at += 1
+        line.values.setdefault(name, []).append(checked(command, option, value))
+    line.rest = words[at:]
+    return line
+
+
+def no_option(command: Command, word: str) -> str:
+    from .nearest import nearest
+    near = nearest(word, list(command.options) + ["--help"])
+    return "`%s` has no option `%s`; %s`lockdep %s --help` lists them" % (
+        command.name, word, "did you mean `%s`? " % near if near else "", command.name)
+
+
+def checked(command: Command, option: Option, value: str) -> str:
+    """The value of an option, which can't be the word that ends the options."""
+    kind = option.kind
+    if kind is None:
+        return "yes"
+    if value in ("", "--"):
+        raise Refusal("%s takes %s%s; `lockdep %s --help` says more" % (option.name, kind.words, ", and not `--`" if value else "", command.name))
+    if kind is FILE and value == "-":
+        raise Refusal("%s takes a file, and not `-`; ./- is a file of that name" % option.name)
+    if kind.most and not is_number(value, kind.most):
+        raise Refusal("%s takes %s, and not '%s'" % (option.name, kind.words, value))
+    if kind is RECORDER and value not in RECORDERS:
+        raise Refusal("%s takes %s, and not '%s'" % (option.name, NAMES, value))
+    if kind is CODE and value not in COUNTS:
+        raise Refusal("%s takes %s that SUMMARY has of what was left out, and not '%s'" % (option.name, kind.words, value))
+    return value
+
+
+def is_number(text: str, most: int) -> bool:
+    is_written_so = 0 < len(text) < 4 and text[0] != "0" and text.strip("0123456789") == ""
+    return is_written_so and int(text) <= most

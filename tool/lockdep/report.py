@@ -1,0 +1,304 @@
+"""The last part of `lockdep run`, when the traces are there: they are checked, and what was found is explained, in the forms that
+were wished for. All messages go to standard error."""
+from __future__ import annotations
+
+import os
+import sys
+from io import StringIO
+
+from .asking import Asked, ask_about
+from .files import complain
+from .words import Refusal, bytes_of, counted, visible
+
+TYPE_CHECKING = False  # (as in `typing`, which takes as long to import as all the rest)
+if TYPE_CHECKING:
+    from typing import Callable
+    from .blocked import Blocked
+    from .known import Sorted
+    from .sources import Sources
+    from .verdict import Recorded
+
+NOT_JUDGED = 2
+PAGE = "report.html"
+STANDARD_OUTPUT = "-"
+LISTED = "RECORDED"  # the file that lists what a recording made in its folder
+
+
+class Wishes:
+    """What the options of `lockdep run` ask for. `known_text` is the text of the list of known findings."""
+
+    def __init__(self, known: str = "", known_text: str = "", write_known: str = "", quiet: bool = False, error_exitcode: int | None = None,
+                 confirmed_only: bool = False, strict_known: bool = False, html: str = "", sarif: str = "", junit: str = "",
+                 json: str = "") -> None:
+        self.known, self.known_text, self.write_known = known, known_text, write_known
+        self.quiet, self.error_exitcode = quiet, error_exitcode
+        self.confirmed_only, self.strict_known = confirmed_only, strict_known
+        self.html, self.sarif, self.junit, self.json = html, sarif, junit, json
+
+    @property
+    def forms(self) -> dict[str, str]:
+        """The files that were asked for, by form."""
+        named = {"page": self.html, "sarif": self.sarif, "junit": self.junit, "json": self.json}
+        return {form: name for form, name in named.items() if name}
+
+
+class Recording:
+    """What is known of a recording when its traces are there: SUMMARY, what was left out, if anything, in words, and how the
+    command ended. `say_messages` prints what the recorder said, if it wasn't printed yet."""
+
+    def __init__(self, folder: str, summary: str, lost: str = "", status: int = 0, command_end: str = "",
+                 say_messages: Callable[[], None] = lambda: None) -> None:
+        self.folder, self.summary, self.lost = folder, summary, lost
+        self.status, self.command_end, self.say_messages = status, command_end, say_messages
+
+    @property
+    def is_whole(self) -> bool:
+        return not self.lost
+
+
+class Report:
+    """What is to be said of a recording, and the status that `lockdep run` ends with."""
+
+    def __init__(self, recording: Recording, wishes: Wishes, asked: Asked) -> None:
+        self.recording, self.wishes, self.asked = recording, wishes, asked
+        self.page = wishes.html
+        self.is_unwritten = False
+        self.sorted: Sorted | None = None
+        self.sources: Sources | None = None
+        self.recorded: Recorded | None = None
+
+    # ---- What was found.
+
+    def sort(self) -> None:
+        """Finds out what is new, and where everything is in the source. Without a finding, a list or a hang there is nothing to
+        find out."""
+        hung = is_hung(self.recording.summary)
+        if not (self.asked.has_findings or hung or self.wishes.known or self.wishes.write_known):
+            return
+        from .blocked import blocked_threads, sources_wanted
+        from .known import sort
+        from .sources import sources_of
+        from .suppressions import entries_of
+        findings = self.asked.findings()
+        blocked = blocked_threads(self.recording.folder, self.recording.summary) if hung else []
+        self.sources = sources_of(findings, [self.recording.folder])
+        if blocked:
+            sources_wanted(blocked, self.sources)
+            self.sources.ask()
+        self.sorted = sort(findings, blocked, entries_of(self.wishes.known_text, self.wishes.known), self.sources, self.asked.traces)
+
+    def look_deeper(self) -> None:
+        """What the recording itself says of the findings that are new."""
+        if not self.sorted:
+            return
+        from .verdict import WITH_DEPTH, Recorded
+        self.recorded = Recorded(self.asked.traces, self.recording.summary)
+        if any(finding.kind in WITH_DEPTH for finding in self.sorted.new):
+            from .deeper import depths_of
+            from .room import Room
+            with Room(self.recording.folder) as room:
+                self.recorded.depths = depths_of(self.recording.folder, self.asked, self.sorted.new, room)
+
+    @property
+    def new(self) -> list:
+        """The new findings, without the notes of types that are nested in themselves."""
+        return [finding for finding in self.sorted.new if not finding.is_note] if self.sorted else []
+
+    @property
+    def notes(self) -> list:
+        return [finding for finding in self.sorted.new if finding.is_note] if self.sorted else []
+
+    @property
+    def blocked(self) -> list[Blocked]:
+        return self.sorted.blocked if self.sorted else []
+
+    @property
+    def is_hung(self) -> bool:
+        """Whether a thread was blocked at the end that no pattern names. What it waits for may be in no trace."""
+        hung = is_hung(self.recording.summary)
+        return hung and (bool(self.blocked) or not hides_blocked(self.wishes.known_text))
+
+    # ---- Files.
+
+    def write_files(self) -> None:
+        if self.wishes.write_known:
+            self.write_known()
+        forms = self.wishes.forms
+        if not self.page and self.new:
+            self.choose_page()
+        if self.page:
+            forms["page"] = self.page
+        if forms:
+            self.write_forms(forms)
+
+    def choose_page(self) -> None:
+        """The page of the folder, unless there is a file of that name that no recording made. It is listed as made by this one."""
+        self.page = os.path.join(self.recording.folder, PAGE)
+        if os.path.lexists(self.page):
+            say("%s exists and wasn't made by a recording, so no page is written; --html names another file" % self.page)
+            self.page = ""
+            return
+        with open(os.path.join(self.recording.folder, LISTED), "a", encoding="utf-8") as file:
+            file.write(PAGE + "\n")
+
+    def write_forms(self, forms: dict[str, str]) -> None:
+        """Writes the files. If that fails, the reason is printed."""
+        from .files import write_form
+        from .forms import Found, text_of_form
+        try:
+            found = Found.of_run(self)
+            for form, name in forms.items():
+                write_form(name, text_of_form(form, found))
+        except Refusal as refusal:
+            if refusal.line:
+                say(refusal.line)
+            say("so some files with the findings are missing")
+            self.page = ""
+            self.is_unwritten = bool(self.wishes.forms)
+
+    def write_known(self) -> None:
+        from .asking import text_in
+        from .files import write_in_place
+        from .known import list_of
+        name = self.wishes.write_known
+        text = list_of(self.asked.findings(), text_in(name), self.sources, self.asked.traces)
+        try:
+            write_in_place(bytes_of(name), bytes_of(text))
+        except OSError:
+            raise Refusal("%s can't be written" % visible(name))
+
+    # ---- What is printed.
+
+    def say_of_known(self) -> None:
+        if not self.sorted or not self.wishes.known:
+            return
+        name, result = visible(self.wishes.known), self.sorted
+        if result.known_lines:
+            say("%s of the report left out, since %s lists them" % (counted(result.known_lines, "line"), name))
+        if result.known_blocked:
+            say("%s left out, since %s lists them" % (counted(result.known_blocked, "blocked thread"), name))
+        for stale in result.stale:
+            say("%s is stale in %s" % (name, stale))
+        if result.moved:
+            say("%s has other source lines for these names, so its entries may hide other findings; look at them, and write it again "
+                "by --write-known: %s" % (name, ", ".join(result.moved)))
+        for line in result.gone:
+            say("known, and not found this time: %s" % line)
+
+    def explain(self) -> None:
+        """Writes the explanation of what is new, with source lines."""
+        from .groups import groups_of
+        from .symbols import has_addr2line
+        from .terminal import WIDTH, Writer
+        from .text import MOST_GROUPS, Text
+        news = counted(len(self.new), "finding")
+        news = "new: " + news if self.wishes.known else news
+        is_named = self.page not in ("", STANDARD_OUTPUT)
+        say("%s; look at %s" % (news, self.page) if is_named else "%s, recorded in %s" % (news, self.recording.folder))
+        if not has_addr2line():
+            say("addr2line isn't there, so places are modules and offsets; it is a part of binutils")
+        stream = StringIO()
+        text = Text(Writer(stream, WIDTH if is_terminal() else 0), self.sources, self.recorded)
+        left = text.groups(groups_of(self.new), MOST_GROUPS if is_terminal() else None)
+        complain(bytes_of(stream.getvalue()))
+        if left:
+            say("%s not shown here; `lockdep confirm %s` shows all" % (counted(left, "more finding is", "more findings are"), self.recording.folder))
+
+    def say_blocked(self) -> None:
+        """Who is blocked, with the places of all that is named."""
+        from .explanation import Annotator
+        from .terminal import WIDTH, Writer
+        from .words import name_in
+        stream = StringIO()
+        writer, annotator = Writer(stream, WIDTH if is_terminal() else 0), Annotator(self.sources)
+        for thread in self.blocked:
+            writer.line("")
+            annotator.begin_block()
+            notes = annotator.under(tuple(name_in(key) for key in thread.keys))
+            writer.line(self.sources.demangler.text("blocked: " + thread.sentence), notes)
+            for event in thread.events:
+                writer.line("  %s: record %d" % (event.file, event.record), annotator.under((event,)))
+        complain(bytes_of(stream.getvalue()))
+
+    def conclude(self) -> None:
+        """What is printed at the end. With --quiet that is nothing, if nothing was found and nothing is in doubt."""
+        nothing = "nothing new" if self.sorted and self.sorted.known_lines else "nothing"
+        is_stale = bool(self.sorted and self.sorted.stale)
+        if self.new or self.is_hung:
+            self.recording.say_messages()
+            self.say_of_known()
+            if self.new:
+                self.explain()
+            else:
+                say("%s was found but that a thread waited for a lock at the end" % nothing)
+            if self.blocked:
+                self.say_blocked()
+            self.say_end()
+        elif not self.recording.is_whole:
+            self.say_of_known()
+            raise Refusal("%s was found, but what was left out wasn't checked, so this run isn't judged" % nothing)
+        elif not self.wishes.quiet or is_stale:
+            self.recording.say_messages()
+            self.say_of_known()
+            say("%s was found%s" % (nothing, "; " + self.note_words() if self.notes else ""))
+            self.say_end()
+
+    def note_words(self) -> str:
+        return "%s nested in itself, which is a note: `lockdep confirm %s` shows it" % (
+            counted(len(self.notes), "type is", "types are"), self.recording.folder)
+
+    def say_end(self) -> None:
+        if self.recording.status:
+            say(self.recording.command_end)
+
+    # ---- The status.
+
+    @property
+    def is_error(self) -> bool:
+        """Whether what was found makes the status of --error-exitcode."""
+        if self.is_hung or self.wishes.strict_known and self.sorted and (self.sorted.stale or self.sorted.moved):
+            return True
+        return any(finding.is_confirmed or not self.wishes.confirmed_only for finding in self.new)
+
+    @property
+    def status(self) -> int:
+        if self.is_error and self.wishes.error_exitcode is not None:
+            return self.wishes.error_exitcode
+        if (self.new or self.is_hung) and not self.recording.is_whole:
+            return NOT_JUDGED
+        return NOT_JUDGED if self.is_unwritten else self.recording.status
+
+
+def is_hung(summary: str) -> bool:
+    """Whether a thread waited for a lock when its process ended; what decides that is read only if one did."""
+    if not any(line.startswith("waiting ") for line in summary.split("\n")):
+        return False
+    from .blocked import is_hung as was_hung
+    return was_hung(summary)
+
+
+def hides_blocked(known_text: str) -> bool:
+    """Whether a list has a pattern of blocked threads, whose day hasn't passed."""
+    from .suppressions import entries_of, today
+    return any(entry.type == "blocked" and not entry.is_expired(today()) for entry in entries_of(known_text, ""))
+
+
+def say(text: str) -> None:
+    complain(bytes_of("lockdep: %s\n" % text))
+
+
+def is_terminal() -> bool:
+    return sys.stderr is not None and sys.stderr.isatty()
+
+
+def report(recording: Recording, wishes: Wishes) -> Report:
+    """Checks a recording, writes and prints what was found. What can't be judged is refused; a refused trace is in the answer."""
+    asked = ask_about(recording.folder)
+    made = Report(recording, wishes, asked)
+    if asked.is_refused:
+        return made
+    made.sort()
+    made.look_deeper()
+    made.write_files()
+    made.conclude()
+    return made

@@ -1,0 +1,100 @@
+"""What the tasks of a finding do on the way into the deadlock: step by step, and in a sentence."""
+from __future__ import annotations
+
+from dataclasses import dataclass
+from typing import Callable
+
+from .findings import Event, Finding
+
+# How a lock is taken, for modes other than a writer's.
+MODES = {"r": " as a reader", "rr": " as a recursive reader", "tw": " by a try", "tr": " as a reader, by a try",
+         "trr": " as a recursive reader, by a try"}
+VERBS = {"takes": "takes", "waits": "waits for"}
+TYPES = ("circle", "double", "inversion")
+
+Shown = Callable[[str], str]  # the form of a key
+
+
+@dataclass(frozen=True)
+class Step:
+    """What a task does at one point: `verb` is takes, waits, opens (turns interrupts on) or enters (an interrupt comes in)."""
+
+    task: int
+    verb: str
+    key: str = ""
+    mode: str | None = None
+    irq: str = ""
+    event: Event | None = None
+
+
+def words_of(step: Step, shown: Shown = str) -> str:
+    """What a step does, in words."""
+    if step.verb in VERBS:
+        state = " with %ss on" % step.irq if step.irq else ""
+        return "%s %s%s%s" % (VERBS[step.verb], shown(step.key), MODES.get(step.mode or "", ""), state)
+    if step.verb == "opens":
+        return "turns %ss on" % step.irq
+    return "a %s comes in" % step.irq
+
+
+def steps_of(finding: Finding) -> list[Step]:
+    """What the tasks do, in order of time. For an unknown type it is empty."""
+    if finding.type not in TYPES:
+        return []
+    first = 0 if finding.type == "circle" else 1
+    steps = enabled_steps(finding) if first else []
+    steps += [Step(place, "takes", order.start, order.held, "", order.since) for place, order in enumerate(finding.orders, first)]
+    steps += [Step(place, "waits", order.end, order.takes, "", order.event) for place, order in enumerate(finding.orders, first)]
+    if first:
+        steps.append(Step(0, "enters", irq=finding.irq))
+        steps.append(Step(0, "waits", finding.keys[0], finding.used.takes, "", finding.used.event))
+    return steps
+
+
+def enabled_steps(finding: Finding) -> list[Step]:
+    """How the first task comes to hold a lock with interrupts on: it takes it so, or turns them on afterwards."""
+    use, key = finding.enabled, finding.keys[-1]
+    if use.takes is not None or use.since is None:
+        return [Step(0, "takes", key, use.takes, finding.irq, use.event)]
+    return [Step(0, "takes", key, use.held, "", use.since), Step(0, "opens", irq=use.turns_on, event=use.event)]
+
+
+def task_count(steps: list[Step]) -> int:
+    return 1 + max([step.task for step in steps], default=0)
+
+
+def events_of(steps: list[Step]) -> list[Event]:
+    """The records of the steps, each once, in order of time."""
+    return list(dict.fromkeys(step.event for step in steps if step.event))
+
+
+def task_words(finding: Finding, shown: Shown = str) -> list[str]:
+    """What each task of the walk holds and waits for."""
+    first = 1 if finding.type == "circle" else 2
+    return ["task %d holds %s and waits for %s" % (place, shown(order.start), shown(order.end))
+            for place, order in enumerate(finding.orders, first)]
+
+
+def sentence(finding: Finding, shown: Shown = str) -> str:
+    """What happens, in a sentence."""
+    if not steps_of(finding):
+        return "The records of this finding aren't given."
+    parts = task_words(finding, shown)
+    if finding.type == "circle":
+        return circle_sentence(parts)
+    held = "Task 1 holds %s with %ss on" % (shown(finding.keys[-1]), finding.irq)
+    comes = "a %s comes in at task 1 and waits for %s" % (finding.irq, shown(finding.keys[0]))
+    if finding.type == "double":
+        return "%s, and %s, which is given back only when the %s has ended." % (held, comes, finding.irq)
+    return "%s, %s, and %s, so none of them goes on." % (held, ", ".join(parts), comes)
+
+
+def circle_sentence(parts: list[str]) -> str:
+    """The sentence of a cycle, made of those of its tasks."""
+    if not parts:
+        return "The records of this finding aren't given."
+    if len(parts) == 1:
+        return "T%s: for ever if it is the same lock; and if they are two locks of one class, another task may take " \
+            "them the other way round." % parts[0][1:]
+    end = "neither of them goes on" if len(parts) == 2 else "none of them goes on"
+    return "T%s, and %s, so %s." % (", ".join(parts[:-1])[1:], parts[-1], end)

@@ -1,0 +1,209 @@
+"""SUMMARY and summary.json of a recording: counts by code, each perhaps with words, notes, and files with a reason."""
+from __future__ import annotations
+
+import os
+
+from . import losses
+
+VERSION = 1  # of summary.json
+NOTED = ("waiting", "held-at-end")  # whose lines are notes from the first one on
+
+
+class File:
+    """A program or another file that is named under a count: how often it ran, and the code of the reason."""
+    __slots__ = ("path", "times", "why")
+
+    def __init__(self, path: str, times: int | None = None, why: str | None = None) -> None:
+        self.path, self.times, self.why = path, times, why
+
+    def text(self, home: str | None) -> str:
+        times = "" if self.times is None else ", " + losses.counted(self.times, "time")
+        return self.path + times + (": " + losses.sentence(self.why, home) if self.why else "")
+
+
+class Count:
+    """A line of a summary with what stands under it. Without a number it is a line of another kind, as `unseen static`."""
+    __slots__ = ("code", "number", "words", "notes", "files")
+
+    def __init__(self, code: str, number: int | None, words: str | None = None, notes: list[str] | None = None,
+                 files: list[File] | None = None) -> None:
+        self.code, self.number, self.words, self.notes, self.files = code, number, words, notes or [], files or []
+
+    def lost(self) -> str | None:
+        """What was left out, if this is a count of it that isn't 0."""
+        if not self.number or self.code in losses.UNLOST:
+            return None
+        if self.words is None:
+            code = self.code
+            return "%d %s" % (self.number, code[len("left out: "):] if code.startswith("left out: ") else code)
+        words = self.words.partition(":")[0]
+        return "%d %s" % (self.number, losses.singular(words) if self.number == 1 else words)
+
+    def listed(self, home: str | None) -> list[str]:
+        """The files under it, a line each."""
+        return [file.text(home) for file in self.files] or [note[2:] for note in self.notes if note.startswith("  ")]
+
+
+class Summary:
+    """All counts of a recording, in their order."""
+
+    def __init__(self, counts: list[Count] | None = None, home: str | None = None) -> None:
+        self.counts, self.home = counts or [], home
+
+    def find(self, code: str) -> Count | None:
+        return next((count for count in self.counts if count.code == code and count.number is not None), None)
+
+    def number(self, code: str) -> int:
+        count = self.find(code)
+        return (count.number or 0) if count else 0
+
+    def operations(self) -> int:
+        """How many operations were seen. Earlier recordings call them calls."""
+        return self.number("operations") or self.number("calls seen")
+
+    def left_out(self) -> list[str]:
+        return [lost for lost in (count.lost() for count in self.counts) if lost]
+
+    def listed(self, *codes: str) -> list[str]:
+        return [line for code in codes for count in [self.find(code)] if count for line in count.listed(self.home)]
+
+    def after(self, word: str) -> list[str]:
+        """What stands behind a word in the lines that begin with it."""
+        return [count.code[len(word) + 1:] for count in self.counts if count.number is None and count.code.startswith(word + " ")]
+
+    def drop(self, word: str) -> None:
+        """Takes out the lines that begin with a word."""
+        self.counts = [count for count in self.counts if count.number is not None or not count.code.startswith(word + " ")]
+
+    def add(self, code: str, files: list[File], number: int | None = None) -> None:
+        """Counts some files, if there are any."""
+        if files:
+            words = (losses.COUNTS.get(code) or losses.NOTES[code])[0]
+            self.counts.append(Count(code, len(files) if number is None else number, words, [], files))
+
+    def add_unseen(self, reason: str) -> None:
+        self.counts.append(Count("unseen " + reason, None))
+
+    def reasons(self) -> list[str]:
+        """The codes of why nothing, or not everything, was seen."""
+        all_of_them = ["no-file"] if self.number("refused-processes") else []
+        for words in self.after("unseen"):
+            all_of_them += words.split()
+        return list(dict.fromkeys(all_of_them))
+
+
+# ---- As text.
+
+def parse(text: str) -> list[Count]:
+    """The counts of a SUMMARY, by this version or an earlier one."""
+    counts: list[Count] = []
+    for line in text.split("\n"):
+        name, _, number = line.rpartition(" ")
+        if line.startswith("  ") and counts:
+            add_line(counts[-1], line[2:])
+        elif line and not line.startswith(" "):
+            is_number = bool(name) and number.isdigit()
+            counts.append(Count(name, int(number)) if is_number else Count(line, None))
+    return counts
+
+
+def add_line(count: Count, line: str) -> None:
+    is_first = count.words is None and not count.notes and count.code not in NOTED
+    if is_first:
+        count.words = line.lstrip(" ")
+    else:
+        count.notes.append(line)
+
+
+def text_of(summary: Summary) -> str:
+    lines: list[str] = []
+    for count in summary.counts:
+        lines.append(count.code if count.number is None else "%s %d" % (count.code, count.number))
+        lines += ["  " + line for line in ([count.words] if count.words is not None else []) + count.notes]
+        lines += ["    " + file.text(summary.home) for file in count.files]
+    return "".join(line + "\n" for line in lines)
+
+
+# ---- As JSON.
+
+def known_words(code: str) -> str | None:
+    """The words of a code that needn't be written."""
+    return (losses.COUNTS.get(code) or losses.NOTES.get(code) or (None,))[0]
+
+
+def json_of(summary: Summary, recorder: str) -> str:
+    """The summary as JSON, a count on each line."""
+    counts = [json_count(count) for count in summary.counts if not count.code.startswith("unseen ")]
+    return '{"recording":%d,"recorder":%s,"counts":[\n%s\n],"unseen":%s}\n' % (
+        VERSION, quoted(recorder), ",\n".join(counts), json_list(summary.reasons()))
+
+
+def json_count(count: Count) -> str:
+    members = ['"code":' + quoted(count.code)]
+    if count.number is not None:
+        members.append('"count":%d' % count.number)
+    if count.words != known_words(count.code):
+        members.append('"words":' + ("null" if count.words is None else quoted(count.words)))
+    if count.notes:
+        members.append('"notes":' + json_list(count.notes))
+    if count.files:
+        members.append('"files":[%s]' % ",".join(json_file(file) for file in count.files))
+    return "{%s}" % ",".join(members)
+
+
+def json_file(file: File) -> str:
+    members = ['"path":' + quoted(file.path)]
+    if file.times is not None:
+        members.append('"times":%d' % file.times)
+    if file.why:
+        members.append('"why":' + quoted(file.why))
+    return "{%s}" % ",".join(members)
+
+
+def json_list(texts: list[str]) -> str:
+    return "[%s]" % ",".join(quoted(text) for text in texts)
+
+
+def quoted(text: str) -> str:
+    """A text as JSON has it. (The module `json` takes longer to import than the whole summary takes to write.)"""
+    escaped = text.replace("\\", "\\\\").replace('"', '\\"')
+    return '"%s"' % "".join(letter if " " <= letter <= "~" else unicode_escape(ord(letter)) for letter in escaped)
+
+
+def unicode_escape(code: int) -> str:
+    if code < 0x10000:
+        return "\\u%04x" % code
+    return "\\u%04x\\u%04x" % (0xd800 + (code - 0x10000 >> 10), 0xdc00 + (code - 0x10000 & 0x3ff))
+
+
+def from_json(text: str) -> list[Count]:
+    import json
+    content = json.loads(text)
+    counts = [Count(entry["code"], entry.get("count"), entry.get("words", known_words(entry["code"])), entry.get("notes"),
+                    [File(file["path"], file.get("times"), file.get("why")) for file in entry.get("files", [])])
+              for entry in content["counts"]]
+    return counts + [Count("unseen " + reason, None) for reason in content["unseen"] if reason != "no-file"]
+
+
+# ---- In a folder.
+
+def read(folder: str, home: str | None = None) -> Summary | None:
+    """The summary of a recording: none if its traces weren't made."""
+    for name, parsed in (("SUMMARY", parse), ("summary.json", from_json)):
+        try:
+            with open(os.path.join(folder, name), encoding="utf-8", errors="surrogateescape") as file:
+                return Summary(parsed(file.read()), home)
+        except (OSError, ValueError, KeyError, TypeError):
+            continue
+    return None
+
+
+def write(folder: str, summary: Summary, recorder: str) -> None:
+    """Writes the summary as text and as JSON."""
+    put(os.path.join(folder, "SUMMARY"), text_of(summary))
+    put(os.path.join(folder, "summary.json"), json_of(summary, recorder))
+
+
+def put(path: str, text: str) -> None:
+    with open(path, "w", encoding="utf-8", errors="surrogateescape") as file:
+        file.write(text)

@@ -1,0 +1,154 @@
+"""Lists of known findings: their grammar, what an entry hides, and when it is stale.
+
+A list has, one a line: the lines of findings of a report; patterns, as `cycle class:Session::m function:flush_*`; comments that
+begin with `#`; and blank lines. An entry may end with a reason, `# by design until 2027-03-01`. The comments `#   NAME: PLACE`
+under a line of a report say where its locks were made when it was written, and one as `#   seen only between classes` what its
+findings were seen between; lists of earlier versions don't have that one."""
+from __future__ import annotations
+
+import re
+import time
+from dataclasses import dataclass, field
+from fnmatch import fnmatchcase
+
+from .findings import Kind
+from .where_made import Place, place_of
+from .words import Refusal, visible
+
+LINE = re.compile(r"(circle \S+/[0-7] [ES][RN]|double (hardirq|softirq)|inversion (hardirq|softirq) \S+/[0-7]) \S+/[0-7]")
+PATTERN = re.compile(r"(cycle|circle|double|inversion|blocked)((?: +(?:class|function|file):\S+)+)")
+FIELD = re.compile(r"(class|function|file):(\S+)")
+UNTIL = re.compile(r"\buntil\b", re.IGNORECASE)
+DATE = re.compile(r"\buntil (\d{4}-\d{2}-\d{2})\s*$", re.IGNORECASE)
+PLACE = re.compile(r"#   ([^ ]+): (made in|any object of|the class object of|\S+) (.+)")
+REASON = re.compile(r"\s+# ?(.*)$")
+WHAT = "the list of known findings"
+NO_FINDING = "%s: line %d is no finding: a line is a circle, double or inversion of a report, a pattern, " \
+    "a comment (#), or blank"
+NO_DATE = "%s: line %d has a reason with `until` and no date at its end, such as `until 2027-03-01`"
+CYCLE = "circle"  # as reports have it
+
+
+# The comment under a line of a report that says what its findings were seen between when the list was written: the strongest of it.
+EXCUSED = {
+    Kind.LOCKS: "seen between locks",
+    Kind.PERHAPS: "perhaps seen between locks",
+    Kind.UNKNOWN: "not known whether seen between locks",
+    Kind.CLASSES: "seen only between classes",
+    Kind.TYPES: "seen only between types",
+    Kind.NESTED: "seen only between types, as one type nested in itself",
+}
+KINDS = list(EXCUSED)  # the strongest first
+VERDICT = {"#   " + words: kind for kind, words in EXCUSED.items()}
+
+
+@dataclass
+class Entry:
+    """An entry of a list: a line of a report with places, or a pattern."""
+
+    number: int
+    text: str
+    line: str = ""
+    type: str = ""
+    fields: list[tuple[str, str]] = field(default_factory=list)
+    until: str = ""
+    places: dict[str, Place] = field(default_factory=dict)
+    kind: Kind | None = None  # the strongest verdict that a line of a report excuses, if that is known
+
+    @property
+    def is_pattern(self) -> bool:
+        return not self.line
+
+    def is_expired(self, today: str) -> bool:
+        return bool(self.until) and today > self.until
+
+    def excuses(self, kind: Kind | None) -> bool:
+        """Whether a line of a report may hide a finding with this verdict, which isn't stronger than the one of the list. If one of
+        them isn't known, it may."""
+        return None in (self.kind, kind) or KINDS.index(kind) >= KINDS.index(self.kind)
+
+    def hides(self, type: str, classes: list[tuple[str, ...]], frames: list[tuple[str, str]]) -> bool:
+        """Whether a pattern fits a finding: each of its classes, by one of its names, fits one of the pattern's, if that names any;
+        and a record of the finding comes from such a function and file, if it names these."""
+        if self.type != type:
+            return False
+        of_classes, functions, files = ([pattern for name, pattern in self.fields if name == wanted]
+                                        for wanted in ("class", "function", "file"))
+        if of_classes and not all(any(fits_one(name, of_classes) for name in names) for names in classes):
+            return False
+        if not functions and not files:
+            return True
+        return any((not functions or fits_one(function, functions)) and (not files or fits_path(path, files))
+                   for function, path in frames)
+
+
+def fits_one(text: str, patterns: list[str]) -> bool:
+    return any(fnmatchcase(text, pattern) for pattern in patterns)
+
+
+def fits_path(path: str, patterns: list[str]) -> bool:
+    """Whether a path fits a pattern, from its beginning or from one of its folders on."""
+    parts = path.split("/")
+    return any(fits_one("/".join(parts[place:]), patterns) for place in range(len(parts)))
+
+
+def date_of(reason: str, name: str, number: int) -> str:
+    """The date at the end of a reason; empty if it speaks of none. One that can't be read is refused: it would hide for ever."""
+    if not UNTIL.search(reason):
+        return ""
+    found = DATE.search(reason)
+    try:
+        from datetime import datetime
+        datetime.strptime(found.group(1) if found else "", "%Y-%m-%d")
+    except ValueError:
+        raise Refusal(NO_DATE % (visible(name), number))
+    return found.group(1)
+
+
+def entry_of(number: int, text: str, name: str) -> Entry:
+    """The entry of a line that is neither blank nor a comment."""
+    reason = REASON.search(text)
+    bare = text[:reason.start()] if reason else text
+    entry = Entry(number, bare)
+    pattern = PATTERN.fullmatch(bare)
+    if LINE.fullmatch(bare):
+        entry.line, entry.type = bare, bare.partition(" ")[0]
+    elif pattern:
+        entry.type = CYCLE if pattern.group(1) == "cycle" else pattern.group(1)
+        entry.fields = FIELD.findall(pattern.group(2))
+    else:
+        raise Refusal(NO_FINDING % (visible(name), number))
+    entry.until = date_of(reason.group(1), name, number) if reason else ""
+    return entry
+
+
+def take_comment(entry: Entry, line: str) -> None:
+    """Takes what a comment says of the entry above it, if it says something."""
+    place = PLACE.fullmatch(line)
+    if place:
+        entry.places[place.group(1)] = place_of(place.group(2), place.group(3))
+    entry.kind = VERDICT.get(line, entry.kind)
+
+
+def entries_of(text: str, name: str) -> list[Entry]:
+    """The entries of a list. A line that is none is refused."""
+    entries: list[Entry] = []
+    for number, line in enumerate(text.splitlines(), 1):
+        line = line.strip()
+        if line and not line.startswith("#"):
+            entries.append(entry_of(number, line, name))
+        elif entries:
+            take_comment(entries[-1], line)
+    return entries
+
+
+def today() -> str:
+    return time.strftime("%Y-%m-%d")
+
+
+def main(words: list[str]) -> int:
+    """Refuses a list on standard input that isn't one; its name stands in the words."""
+    import sys
+    from .words import text_of
+    entries_of(text_of(sys.stdin.buffer.read()), words[0])
+    return 0

@@ -1,0 +1,44 @@
+"""The findings as text, with their sources."""
+from __future__ import annotations
+
+from .explanation import Annotator, block_of
+from .findings import Finding
+from .groups import Group
+from .sources import Sources
+from .terminal import Writer
+from .verdict import Recorded, notes_of, verdict_of
+from .words import counted
+
+MOST_GROUPS = 20  # on a terminal
+
+
+class Text:
+    """Writes findings, each as a block after an empty line."""
+
+    def __init__(self, writer: Writer, sources: Sources, recorded: Recorded) -> None:
+        self.writer, self.sources, self.recorded = writer, sources, recorded
+        self.annotator = Annotator(sources)
+
+    def finding(self, finding: Finding) -> None:
+        self.writer.line("")
+        self.annotator.begin_block()
+        seen = verdict_of(finding, self.recorded)
+        for line in block_of(finding, notes_of(finding, self.recorded), seen, self.sources):
+            self.writer.line(self.sources.demangler.text(line.text), self.annotator.under(line.items))
+
+    def group(self, group: Group) -> None:
+        """The first finding of a group, and the others by one line each."""
+        first, others = group.findings[0], group.findings[1:]
+        self.finding(first)
+        if others:
+            self.writer.line("  %s %s:" % (counted(len(others), "more finding has", "more findings have"), group.shared))
+        for other in others:
+            seen = verdict_of(other, self.recorded)
+            self.writer.line(self.sources.demangler.text("    %s%s" % (other.head, "; " + seen if seen else "")))
+
+    def groups(self, groups: list[Group], most: int | None = None) -> int:
+        """Writes the groups, at most so many. Returns how many findings are left."""
+        shown = groups if most is None else groups[:most]
+        for group in shown:
+            self.group(group)
+        return sum(len(group.findings) for group in groups[len(shown):])

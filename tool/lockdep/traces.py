@@ -1,0 +1,230 @@
+"""From what a program's processes wrote to the traces: making them, packing the recording, and making them again."""
+from __future__ import annotations
+
+import os
+import zlib
+
+from . import losses
+from .building import recorder_folder
+from .folder import Folder, fault, remove, remove_tree
+from .processes import PIECE, output_of, run, start, status_of
+from .recorders import RECORDERS
+from .recording import NOTHING_TO_MAKE, Settings
+from .saying import Refusal, typed, write_error
+from .summary import Summary, put, read, write
+
+GZIP = 31  # the form of a compressed file, and the largest window
+NOT_RUN = (126, 127)  # the statuses of a command that couldn't be run
+OWN = ("settings", "SUMMARY", "wrappers")  # what isn't the program's in the recording of one that writes its traces itself
+
+
+def make(home: str, folder: Folder, settings: Settings, ended: int | None) -> Summary:
+    """Makes the traces of a recording, and its summary."""
+    if not os.environ.get("LOCKDEP_WRAPPERS") and os.path.isfile(os.path.join(folder.raw, "wrappers")):
+        os.environ["LOCKDEP_WRAPPERS"] = os.path.join(folder.raw, "wrappers")
+    unmade = "the traces can't be made; %s/raw has the recording, and `lockdep record --finish %s` tries again" % (folder.path, typed(folder.path))
+    is_made = make_files(home, folder.path, folder.raw, settings)
+    try:
+        folder.list_made()
+        summary = read(folder.path, home) if is_made else None
+        if summary is None:
+            raise Refusal(unmade)
+        put(os.path.join(folder.raw, "settings"), settings.text())  # traces that are made again have as many callers as these
+        complete(home, folder, settings, summary, ended)
+        write(folder.path, summary, settings.recorder)
+        folder.list_made()
+    except OSError as error:
+        write_error("record: " + fault(error, folder.path))
+        raise Refusal(unmade)
+    return summary
+
+
+def make_files(home: str, path: str, raw: str, settings: Settings) -> bool:
+    """Makes the traces of a recording in a folder, with a first SUMMARY."""
+    recorder = RECORDERS[settings.recorder]
+    if recorder.writes_traces:
+        return finish_written(os.path.join(home, "recorders", recorder.finisher or ""), path, raw)
+    if recorder.finisher:
+        return run([os.path.join(home, "recorders", recorder.finisher), path]) == 0
+    built = recorder_folder(home)
+    if os.environ.get("LOCKDEP_NAMES") != "places":
+        output_of([os.path.join(built, "names"), path], is_quiet=True)  # (what can't be found has no type)
+    frames = [settings.frames] if settings.frames else []
+    return run([os.path.join(built, "finish"), path, settings.version] + frames) == 0
+
+
+# ---- The summary.
+
+def complete(home: str, folder: Folder, settings: Settings, summary: Summary, ended: int | None) -> None:
+    """Adds what isn't in the recording itself to its first summary: what the programs' files show."""
+    from . import programs
+    look, is_passed = os.path.join(recorder_folder(home), "look"), settings.named == "yes"
+    recorder = RECORDERS[settings.recorder]
+    if recorder.is_in_process:
+        if not summary.number("processes") and ended in NOT_RUN:
+            say_not_run(summary)
+        note_taken_over(folder, summary)
+        if recorder.writes_traces:
+            programs.note_pthreads(summary, settings.program, look, is_passed)
+        summary.drop("started")
+        return
+    found = programs.Programs(folder.path, folder.raw, settings.program, summary, look, is_passed)
+    if not summary.number("processes") and ended in NOT_RUN:
+        say_not_run(summary)
+    else:
+        if not summary.number("processes") and os.path.isfile(settings.program):
+            summary.drop("unseen")  # the file shows more than `finish` can guess
+        found.note_reasons()
+    note_taken_over(folder, summary)
+    found.note_rust()
+    found.note_others()
+    if "sem" not in settings.also.split(","):
+        found.note_semaphores()
+    found.note_unreached()
+
+
+def say_not_run(summary: Summary) -> None:
+    summary.drop("unseen")
+    summary.add_unseen("not-run")
+
+
+def note_taken_over(folder: Folder, summary: Summary) -> None:
+    """Notes that a recording inside this one took over, which says enough if nothing else was seen."""
+    if os.path.isfile(os.path.join(folder.raw, "taken-over")):
+        if not summary.operations():
+            summary.drop("unseen")
+        summary.add_unseen("taken-over")
+
+
+# ---- A program that writes its traces itself, as one with lockdep_record.h.
+
+def is_trace(name: str) -> bool:
+    """Whether a file is a trace that the program wrote, or the places of one."""
+    trace = name[:-len(".places")] if name.endswith(".places") else name
+    number = trace[len("task-"):-len(".csv")]
+    return trace == "task-%s.csv" % number and number.strip("0123456789") == "" != number
+
+
+def finish_written(finisher: str, path: str, raw: str) -> bool:
+    """The program wrote its traces itself. They are finished, and stay in the recording as they are."""
+    try:
+        for name in os.listdir(raw):
+            file = os.path.join(raw, name)
+            if is_trace(name) and os.path.isfile(file) and not os.path.islink(file):
+                copy(file, os.path.join(path, name))
+    except OSError as error:
+        write_error("record: " + fault(error, path))
+        return False
+    if run([finisher, "--of-record", path]) != 0:
+        return False
+    unread = sorted(unread_files(raw), key=os.fsencode)
+    if unread:
+        with open(os.path.join(path, "SUMMARY"), "a", encoding="utf-8", errors="surrogateescape") as file:
+            file.write("unread-files %d\n  %s\n" % (len(unread), losses.COUNTS["unread-files"][0]) + "".join("    %s\n" % name for name in unread))
+    return True
+
+
+def copy(path: str, other: str) -> None:
+    with open(path, "rb") as given, open(other, "wb") as made:
+        while True:
+            piece = given.read(PIECE)
+            if not piece:
+                return
+            made.write(piece)
+
+
+def unread_files(raw: str) -> list[str]:
+    """All other files there that aren't the recording's own."""
+    found = []
+    for folder, folders, files in os.walk(raw):
+        for name in files + [name for name in folders if os.path.islink(os.path.join(folder, name))]:
+            path = os.path.join(folder, name)
+            inner = os.path.relpath(path, raw)
+            is_read = is_trace(inner) and os.path.isfile(path) and not os.path.islink(path)
+            if not is_read and inner not in OWN and not inner.startswith("again/"):
+                found.append(inner)
+    return found
+
+
+# ---- The recording, packed.
+
+def pack(folder: Folder) -> None:
+    """Keeps the recording beside its traces, so that they can be made again. Its files are large and nearly all holes, which tar leaves out; without
+    tar nothing is kept."""
+    packed = os.path.join(folder.path, "raw.tar.gz")
+    try:
+        is_kept = write_packed(packed, os.path.dirname(folder.raw))
+    except OSError:
+        is_kept = False
+    if not is_kept:
+        remove(packed)
+    remove_tree(folder.raw)
+    try:
+        folder.list_made()
+    except OSError as error:
+        write_error("record: " + fault(error, folder.path))
+
+
+def write_packed(packed: str, above: str) -> bool:
+    own, given = os.pipe()
+    quiet = os.open(os.devnull, os.O_WRONLY)
+    child = start(["tar", "-C", above, "-S", "-cf", "-", "raw"], given, quiet)
+    os.close(given)
+    os.close(quiet)
+    press = zlib.compressobj(1, zlib.DEFLATED, GZIP)
+    try:
+        with open(packed, "wb") as file:
+            while True:
+                piece = os.read(own, PIECE)
+                if not piece:
+                    break
+                file.write(press.compress(piece))
+            file.write(press.flush())
+    finally:
+        os.close(own)
+        status = status_of(child)
+    return status == 0
+
+
+def unpack(folder: Folder) -> None:
+    """Brings a recording back whose traces were made."""
+    packed = os.path.join(folder.path, "raw.tar.gz")
+    if "raw.tar.gz" not in folder.listed() or not os.path.isfile(packed):
+        raise Refusal(NOTHING_TO_MAKE % folder.path)
+    if run(["tar", "-C", folder.path, "--no-same-owner", "--force-local", "-xzf", packed]) != 0:
+        raise Refusal("%s can't be unpacked" % packed)
+
+
+def can_be_made_again(home: str, folder: Folder, settings: Settings) -> bool:
+    """Whether as much can be made of the recording as its traces have, if it has any. That is tried elsewhere: a recording by another version may not
+    be readable, and then its traces have to stay."""
+    earlier = read(folder.path)
+    if earlier is None:
+        return True
+    again = os.path.join(folder.raw, "again")
+    remove_tree(again)
+    os.makedirs(again, exist_ok=True)
+    os.symlink("..", os.path.join(again, "raw"))
+    try:
+        is_made = make_files(home, again, os.path.join(again, "raw"), settings)
+        made = read(again)
+        return is_made and made is not None and made.number("processes") >= earlier.number("processes")
+    finally:
+        remove_tree(again)
+
+
+def writers(raw: str) -> list[str]:
+    """The processes that still write into the recording."""
+    found, wanted = [], os.fsencode(raw + "/")
+    for process in os.listdir("/proc"):
+        try:
+            if process.isdigit() and wanted in read_bytes("/proc/%s/maps" % process):
+                found.append("%s (%s)" % (process, os.fsdecode(read_bytes("/proc/%s/comm" % process).rstrip(b"\n"))))
+        except OSError:
+            continue
+    return found
+
+
+def read_bytes(path: str) -> bytes:
+    with open(path, "rb") as file:
+        return file.read()

@@ -1,0 +1,201 @@
+"""What is said of a finding about what it was seen between, and what that takes from the notes of its classes."""
+from __future__ import annotations
+
+import os
+import re
+from typing import Iterable
+
+from .files import contents
+from .findings import Finding, Gate, Kind
+from .words import bytes_of, class_of_lock, name_in, plain_key, stands_for_several, text_of, type_of_class
+
+ACQUISITION = re.compile(rb'^acq,("(?:[^"]|"")*"|[^,\r\n]*),([0-7]),', re.MULTILINE)
+STANDS = re.compile(r"^\s*(task-\S+) stands for (\d+)", re.MULTILINE)
+ALIKE = re.compile(r"^threads-alike (\d+)$", re.MULTILINE)
+UNDER_ITSELF = "; but a lock is taken under itself there"
+
+ONLY = {
+    Kind.CLASSES: ("seen only between classes; no two locks were taken both ways", "seen only between classes, not between single locks"),
+    Kind.TYPES: ("seen only between types, not between classes",) * 2,
+    Kind.NESTED: ("seen only between types, as one type nested in itself: a note, and no finding",) * 2,
+}
+TOO_MANY = "more than 256 keys lead to one another"
+WITH_DEPTH = (Kind.PERHAPS, Kind.UNKNOWN, Kind.CLASSES, Kind.TYPES)
+
+
+def type_of_key(key: str) -> str:
+    """The key with its type in the place of a single lock."""
+    name, _, sub_class = key.rpartition("/")
+    return "%s/%s" % (type_of_class(class_of_lock(name)), sub_class)
+
+
+class Recorded:
+    """What a recording says that the checker wasn't asked: how many threads a trace stands for, and how many locks a type has."""
+
+    def __init__(self, traces: list[str], summary: str = "") -> None:
+        self.traces = traces
+        self.others_like = {name: int(count) for name, count in STANDS.findall(summary)}
+        # Some recorders only count the threads whose traces weren't written since they say the same as several others.
+        self.has_uncounted = sum(map(int, ALIKE.findall(summary))) > 0 and not self.others_like
+        self.locks: dict[str, int] | None = None
+        self.sizes: dict[int, list[str]] | None = None
+        self.depths: dict[int, int] = {}  # for a finding's number, with how many callers it is gone
+
+    def alike(self, trace: str) -> set[str]:
+        """The traces that say the same as one, with that one."""
+        if self.sizes is None:
+            self.sizes = {}
+            for other in self.traces:
+                self.sizes.setdefault(size_of(other), []).append(other)
+        others = self.sizes.get(size_of(trace), [])
+        own = contents(trace) if len(others) > 1 else None
+        return {trace} | {other for other in others if own is not None and contents(other) == own}
+
+    def threads_of(self, traces: Iterable[str]) -> int:
+        """The threads that traces are of: their own, those of traces that say the same, and those whose traces weren't written
+        because of that, as far as SUMMARY says which trace each says the same as."""
+        names = {os.path.basename(other) for trace in set(traces) for other in self.alike(trace)}
+        return sum(1 + self.others_like.get(name[:-4] if name.endswith(".csv") else name, 0) for name in names)
+
+    def may_be_more(self, traces: Iterable[str]) -> bool:
+        """Whether there may be more threads whose traces weren't written: they say the same as several that were."""
+        return self.has_uncounted and any(len(self.alike(trace)) > 1 for trace in set(traces))
+
+    def has_several(self, key: str) -> bool:
+        """Whether the type of a key has several locks in the traces. A name that stands for several counts as that."""
+        if self.locks is None:
+            self.locks = {}
+            for name in {name for trace in self.traces for name in names_in(trace)}:
+                lock = type_of_key(name)
+                self.locks[lock] = self.locks.get(lock, 0) + (2 if stands_for_several(name_in(name)) else 1)
+        return self.locks.get(key, 0) > 1
+
+
+def size_of(trace: str) -> int:
+    try:
+        return os.path.getsize(bytes_of(trace))
+    except OSError:
+        return -1
+
+
+def names_in(trace: str) -> set[str]:
+    """The keys that a trace takes."""
+    found = set(ACQUISITION.findall(contents(trace) or b""))
+    return {"%s/%s" % (unquoted(text_of(name)), text_of(sub_class)) for name, sub_class in found}
+
+
+def unquoted(name: str) -> str:
+    return name[1:-1].replace('""', '"') if name.startswith('"') else name
+
+
+# ---- The finding between single locks.
+
+
+def gate_of_all(finding: Finding) -> Gate | None:
+    """A single lock that was held round all orders of a finding."""
+    orders = {order.dependency for order in finding.orders}
+    return next((gate for gate in finding.gates
+                 if orders <= set(gate.dependencies) and not stands_for_several(name_in(gate.key))), None)
+
+
+def locks_of(finding: Finding, inner: Finding) -> list[str]:
+    """The single locks, beginning with those of the order that the finding begins with."""
+    if inner.type != "circle":
+        return list(dict.fromkeys(inner.keys))
+    keys = [order.start for order in inner.orders]
+    first = finding.orders[0].dependency if finding.orders else None
+    for place, order in enumerate(inner.orders):
+        if (type_of_key(order.start), order.kind, type_of_key(order.end)) == first:
+            return keys[place:] + keys[:place]
+    return keys
+
+
+def thread_words(inner: Finding, recorded: Recorded) -> str:
+    """By how many threads: those of the records that are shown. If no trace alone has them all, there are two at least."""
+    traces = [event.file for event in inner.own_events()]
+    count = recorded.threads_of(traces)
+    if inner.only and count <= 1:
+        return "by 1 thread" if len(inner.orders) == 1 else "by one thread"
+    return "by %s%d threads" % ("at least " if recorded.may_be_more(traces) else "", max(count, 2))
+
+
+def seen_words(finding: Finding, inner: Finding, recorded: Recorded) -> str:
+    """Which locks, and what speaks against it."""
+    keys = locks_of(finding, inner)
+    words = ", ".join(plain_key(key) for key in keys)
+    if inner.type != "circle":
+        return words
+    if len(keys) == 1 and not stands_for_several(name_in(keys[0])):
+        return "%s under itself, %s" % (words, thread_words(inner, recorded))
+    gate = gate_of_all(inner)
+    return "%s, %s" % (words, "under " + plain_key(gate.key) if gate else thread_words(inner, recorded))
+
+
+def is_kept_apart(inner: Finding) -> bool:
+    """Whether one lock was held each time, or one thread did it all."""
+    return len(inner.orders) > 1 and (gate_of_all(inner) is not None or bool(inner.only))
+
+
+def by_importance(findings: list[Finding]) -> list[Finding]:
+    """What to look at first comes first: of what was seen between single locks, that which nothing kept apart."""
+    def rank(finding: Finding) -> tuple[int, bool]:
+        inner = finding.between.finding if finding.between else None
+        return list(Kind).index(finding.kind) if finding.kind else 0, bool(inner) and is_kept_apart(inner)
+    return sorted(findings, key=rank)
+
+
+# ---- What is said.
+
+
+def unknown_words(reason: str) -> str:
+    return "not known whether seen between locks: %s" % (reason or TOO_MANY)
+
+
+def verdict_of(finding: Finding, recorded: Recorded) -> str:
+    """What was seen of a finding; empty if nothing was asked."""
+    between = finding.between
+    if not between:
+        return ""
+    inner = between.finding
+    if between.kind in ONLY:
+        words = ONLY[between.kind][finding.type != "circle"]
+    elif between.kind is Kind.UNKNOWN or not inner:
+        words = unknown_words(between.reason)
+    elif between.kind is Kind.LOCKS:
+        words = "seen between locks: %s" % seen_words(finding, inner, recorded)
+    else:
+        several = [plain_key(key) for key in locks_of(finding, inner) if stands_for_several(name_in(key))]
+        words = "perhaps seen between locks: %s; %s is several locks" % (
+            seen_words(finding, inner, recorded), several[0] if several else "#rest")
+    depth = recorded.depths.get(finding.number)
+    return words + (", and not if places are %d callers deep" % depth if depth and between.kind in WITH_DEPTH else "")
+
+
+def is_doubtful(gate: Gate, finding: Finding, recorded: Recorded) -> bool:
+    """A gate of types may be several locks, of which none was held each time. If one of them alone was, that is the gate."""
+    inner = finding.between.finding if finding.between else None
+    of_locks = gate_of_all(inner) if inner else None
+    if of_locks and type_of_key(of_locks.key) == gate.key:
+        return False
+    return recorded.has_several(gate.key)
+
+
+def notes_of(finding: Finding, recorded: Recorded) -> list[str]:
+    """The notes of a finding, which say it if what was seen between single locks takes from them."""
+    notes = list(finding.notes)
+    if not finding.between:
+        return notes
+    for place, gate in enumerate(finding.gates[:len(notes)]):
+        if is_doubtful(gate, finding, recorded):
+            notes[place] += "; but %s is several locks" % plain_key(gate.key)
+    inner = finding.between.finding
+    is_under_itself = finding.kind is Kind.LOCKS and inner and inner.type == "circle" and len(inner.orders) == 1
+    if finding.only and is_under_itself and len(notes) > len(finding.gates):
+        notes[-1] += UNDER_ITSELF
+    return notes
+
+
+def remarks_of(finding: Finding, recorded: Recorded) -> list[str]:
+    """What else is said about a finding: the notes, which may speak against it, and what it was seen between."""
+    seen = verdict_of(finding, recorded)
+    return ["what may speak against it: " + note for note in notes_of(finding, recorded)] + ([seen] if seen else [])
