@@ -86,6 +86,8 @@ class Ending:
     def give_up(self, why: str) -> Refusal:
         """Says what was recorded, and why it isn't judged."""
         lack = lack_of_space(self.folder, self.room)
+        if lack:  # (the recorder may have said that too)
+            self.messages = [line for line in self.messages if line != PREFIX + lack[0]]
         self.say_messages()
         if lack:
             more = "; %s, `lockdep record --finish` of that folder makes the traces" % lack[1] if self.is_unmade else ""

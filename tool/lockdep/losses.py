@@ -125,8 +125,7 @@ COUNTS: dict[str, tuple[str, ...]] = {  # several sentences if recorders count d
                         "releases of locks by a thread that did not take them", "releases of locks that were not seen to be taken"),
     "namespaces": ("libraries loaded by dlmopen into a namespace of their own: their locks aren't seen",),
     "unwritten": ("processes whose recording couldn't be written to its end" + AN_ORDER,),
-    "still-running": ("processes that still ran at the end: what they did later isn't recorded",
-                      "processes that still ran at the end: what they did later isn't there"),
+    "still-running": ("processes that still ran at the end: what they did later isn't recorded",),
     "unrewritten": ("classes of the program's that couldn't be rewritten: what their code does with locks was not recorded",),
     "multiprocessing": ("locks of multiprocessing: these weren't looked at, so an order among them, or of them with others, is missing",),
     "gevent": ("processes with gevent: only those of its locks that take the place of threading's were looked at",),
@@ -173,6 +172,21 @@ NOTES: dict[str, tuple[str, ...]] = {
 }
 RECORDED = ("processes", "threads", "operations", "events", "classes")
 UNLOST = RECORDED + tuple(NOTES) + ("objects", "calls seen", "repeats left out", "waiting", "at-exit", "held-at-end", "small-files")
+
+# Which of several sentences a recorder means, if it isn't the first.
+SENTENCES = {
+    "python": {"reentered": 1, "threads-alike": 1},
+    "java": {"reentered": 1, "threads-alike": 1},
+    "rust": {"beyond-traces": 1, "reentered": 2, "unseen-releases": 1, "threads-alike": 2},
+    "embed": {"lost-threads": 1, "beyond-held": 1, "unseen-releases": 2, "threads-alike": 3},
+}
+
+
+def words_of(code: str, recorder: str) -> str | None:
+    """What a recorder says of a count; notes of who waits need no sentence."""
+    sentences = COUNTS.get(code) or NOTES.get(code)
+    return sentences[SENTENCES.get(recorder, {}).get(code, 0)] if sentences else None
+
 
 # How the plural that a sentence begins with is changed for a count of one.
 SINGULARS = (("files beside the traces that were ", "file beside the traces that was "), ("tries ", "try "), ("libraries ", "library "),

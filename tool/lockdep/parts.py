@@ -57,6 +57,8 @@ def main_of(part):
         from lockdep.confirm import main
     elif part == "diff":
         from lockdep.diff import main
+    elif part == "finish":
+        from lockdep.finish_embed import main
     elif part == "check-known":
         from lockdep.suppressions import main
     else:

@@ -6,6 +6,10 @@ import os
 from . import loading
 from .processes import find_command, output_of
 
+TYPE_CHECKING = False  # for a tool that checks types, it is true
+if TYPE_CHECKING:
+    from .summary import Summary
+
 FIRST_BYTES = 200  # of a script, which name its interpreter
 RUST_MARK = b"lockdep_record for LOCKDEP_TRACES"  # is in a program that is built to be recorded
 EMBED_MARKS = (b"ldr1 lockdep,2", b"ldr_acquire_at")  # is in a program with lockdep_record.h, as it is now and as it was
@@ -20,7 +24,7 @@ class Recorder:
     sees = ""  # the same in words, for the help
     when = ""  # when it is the default
     is_in_process = False  # whether the program writes its records itself, so that nothing is preloaded
-    finisher: str | None = None  # what makes the traces, below recorders/, if that isn't the program `finish` of the recorder of pthreads
+    finisher: str | None = None  # what makes the traces, below recorders/, if neither this package nor `finish` of the recorder of pthreads does
     writes_traces = False  # whether the program writes the traces themselves, into the recording
     script: str | None = None  # what records by itself, below recorders/, if that isn't done by the driver
 
@@ -31,6 +35,10 @@ class Recorder:
     def environment(self, folder: str, raw: str, preload: str) -> dict[str, str]:
         """What the command needs to be recorded."""
         return {"PRELOAD": preload, "LOCKDEP_RECORD": raw}
+
+    def finish(self, path: str, raw: str) -> Summary | None:
+        """Makes the traces in a folder, if this package does that. The result is what was counted."""
+        return None
 
 
 class Python(Recorder):
@@ -47,7 +55,7 @@ class Python(Recorder):
 
 
 class Rust(Recorder):
-    name, language, is_in_process, finisher = "rust", "Rust", True, "rust/finish"
+    name, language, is_in_process = "rust", "Rust", True
     sees = "for those of the crate lockdep_record"
     when = "it is a program built with that crate and --cfg lockdep, or cargo with that flag in RUSTFLAGS or its settings"
 
@@ -60,6 +68,10 @@ class Rust(Recorder):
     def environment(self, folder: str, raw: str, preload: str) -> dict[str, str]:
         return {"PRELOAD": "", "LOCKDEP_TRACES": os.path.dirname(raw)}
 
+    def finish(self, path: str, raw: str) -> Summary | None:
+        from .finish_rust import finish
+        return finish(path, raw)
+
 
 class Java(Recorder):
     name, language, script = "java", "Java", "java/record"
@@ -70,7 +82,7 @@ class Java(Recorder):
 
 
 class Embed(Recorder):
-    name, language, is_in_process, finisher, writes_traces = "embed", "lockdep_record.h", True, "embed/finish", True
+    name, language, is_in_process, writes_traces = "embed", "lockdep_record.h", True, True
     sees = "for a program with lockdep_record.h that writes to the folder LOCKDEP_TRACES"
     when = "it is a program with that header and that name"
 
@@ -86,6 +98,10 @@ class Embed(Recorder):
 
     def environment(self, folder: str, raw: str, preload: str) -> dict[str, str]:
         return {"PRELOAD": "", "LOCKDEP_TRACES": raw}
+
+    def finish(self, path: str, raw: str) -> Summary | None:
+        from .finish_embed import finish
+        return finish(path, raw)
 
 
 PTHREAD = Recorder()

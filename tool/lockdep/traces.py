@@ -4,7 +4,6 @@ from __future__ import annotations
 import os
 import zlib
 
-from . import losses
 from .building import recorder_folder
 from .folder import Folder, fault, remove, remove_tree
 from .processes import PIECE, output_of, run, start, status_of
@@ -15,7 +14,6 @@ from .summary import Summary, put, read, write
 
 GZIP = 31  # the form of a compressed file, and the largest window
 NOT_RUN = (126, 127)  # the statuses of a command that couldn't be run
-OWN = ("settings", "SUMMARY", "wrappers")  # what isn't the program's in the recording of one that writes its traces itself
 
 
 def make(home: str, folder: Folder, settings: Settings, ended: int | None) -> Summary:
@@ -23,10 +21,11 @@ def make(home: str, folder: Folder, settings: Settings, ended: int | None) -> Su
     if not os.environ.get("LOCKDEP_WRAPPERS") and os.path.isfile(os.path.join(folder.raw, "wrappers")):
         os.environ["LOCKDEP_WRAPPERS"] = os.path.join(folder.raw, "wrappers")
     unmade = "the traces can't be made; %s/raw has the recording, and `lockdep record --finish %s` tries again" % (folder.path, typed(folder.path))
-    is_made = make_files(home, folder.path, folder.raw, settings)
     try:
-        folder.list_made()
-        summary = read(folder.path, home) if is_made else None
+        try:
+            summary = make_files(home, folder.path, folder.raw, settings)
+        finally:
+            folder.list_made()
         if summary is None:
             raise Refusal(unmade)
         put(os.path.join(folder.raw, "settings"), settings.text())  # traces that are made again have as many callers as these
@@ -39,18 +38,26 @@ def make(home: str, folder: Folder, settings: Settings, ended: int | None) -> Su
     return summary
 
 
-def make_files(home: str, path: str, raw: str, settings: Settings) -> bool:
-    """Makes the traces of a recording in a folder, with a first SUMMARY."""
+def make_files(home: str, path: str, raw: str, settings: Settings) -> Summary | None:
+    """Makes the traces of a recording in a folder. The result is a first summary, unless they can't be made."""
     recorder = RECORDERS[settings.recorder]
-    if recorder.writes_traces:
-        return finish_written(os.path.join(home, "recorders", recorder.finisher or ""), path, raw)
-    if recorder.finisher:
-        return run([os.path.join(home, "recorders", recorder.finisher), path]) == 0
+    made = recorder.finish(path, raw)
+    if made is not None:
+        made.home = home
+        return made
+    return read(path, home) if run_finish(home, path, settings) == 0 else None
+
+
+def run_finish(home: str, path: str, settings: Settings) -> int:
+    """Runs the program that makes the traces. The result is its status."""
+    finisher = RECORDERS[settings.recorder].finisher
+    if finisher:
+        return run([os.path.join(home, "recorders", finisher), path])
     built = recorder_folder(home)
     if os.environ.get("LOCKDEP_NAMES") != "places":
         output_of([os.path.join(built, "names"), path], is_quiet=True)  # (what can't be found has no type)
     frames = [settings.frames] if settings.frames else []
-    return run([os.path.join(built, "finish"), path, settings.version] + frames) == 0
+    return run([os.path.join(built, "finish"), path, settings.version] + frames)
 
 
 # ---- The summary.
@@ -94,56 +101,6 @@ def note_taken_over(folder: Folder, summary: Summary) -> None:
         if not summary.operations():
             summary.drop("unseen")
         summary.add_unseen("taken-over")
-
-
-# ---- A program that writes its traces itself, as one with lockdep_record.h.
-
-def is_trace(name: str) -> bool:
-    """Whether a file is a trace that the program wrote, or the places of one."""
-    trace = name[:-len(".places")] if name.endswith(".places") else name
-    number = trace[len("task-"):-len(".csv")]
-    return trace == "task-%s.csv" % number and number.strip("0123456789") == "" != number
-
-
-def finish_written(finisher: str, path: str, raw: str) -> bool:
-    """The program wrote its traces itself. They are finished, and stay in the recording as they are."""
-    try:
-        for name in os.listdir(raw):
-            file = os.path.join(raw, name)
-            if is_trace(name) and os.path.isfile(file) and not os.path.islink(file):
-                copy(file, os.path.join(path, name))
-    except OSError as error:
-        write_error("record: " + fault(error, path))
-        return False
-    if run([finisher, "--of-record", path]) != 0:
-        return False
-    unread = sorted(unread_files(raw), key=os.fsencode)
-    if unread:
-        with open(os.path.join(path, "SUMMARY"), "a", encoding="utf-8", errors="surrogateescape") as file:
-            file.write("unread-files %d\n  %s\n" % (len(unread), losses.COUNTS["unread-files"][0]) + "".join("    %s\n" % name for name in unread))
-    return True
-
-
-def copy(path: str, other: str) -> None:
-    with open(path, "rb") as given, open(other, "wb") as made:
-        while True:
-            piece = given.read(PIECE)
-            if not piece:
-                return
-            made.write(piece)
-
-
-def unread_files(raw: str) -> list[str]:
-    """All other files there that aren't the recording's own."""
-    found = []
-    for folder, folders, files in os.walk(raw):
-        for name in files + [name for name in folders if os.path.islink(os.path.join(folder, name))]:
-            path = os.path.join(folder, name)
-            inner = os.path.relpath(path, raw)
-            is_read = is_trace(inner) and os.path.isfile(path) and not os.path.islink(path)
-            if not is_read and inner not in OWN and not inner.startswith("again/"):
-                found.append(inner)
-    return found
 
 
 # ---- The recording, packed.
@@ -206,9 +163,10 @@ def can_be_made_again(home: str, folder: Folder, settings: Settings) -> bool:
     os.makedirs(again, exist_ok=True)
     os.symlink("..", os.path.join(again, "raw"))
     try:
-        is_made = make_files(home, again, os.path.join(again, "raw"), settings)
-        made = read(again)
-        return is_made and made is not None and made.number("processes") >= earlier.number("processes")
+        made = make_files(home, again, os.path.join(again, "raw"), settings)
+        return made is not None and made.number("processes") >= earlier.number("processes")
+    except OSError:
+        return False
     finally:
         remove_tree(again)
 

@@ -1,0 +1,130 @@
+"""What all finishes share, which make traces from what a recorder wrote: limits, files, what is counted, and the traces themselves."""
+from __future__ import annotations
+
+import os
+
+from .losses import words_of
+from .summary import Count, put
+
+HEADER = "lockdep,2"
+MOST_KEYS = 8192  # names that traces may have together
+MOST_LOCKS = MOST_KEYS // 2  # of these, how many single locks have a name of their own
+MOST_TRACES = 4096
+MOST_NAME = 53  # bytes of a class's name, which leaves room for the number of a lock
+OBJECTS = "objects"  # the folder with the traces by single locks
+REST = "#rest"  # behind a class: all its locks that have no name of their own
+
+# What is counted, in the order of SUMMARY.
+LOSSES = ("unrewritten", "multiprocessing", "gevent", "eventlet", "unwritten", "full-traces", "beyond-classes", "beyond-traces", "beyond-held",
+          "retried-tries", "reentered", "interrupted", "unseen-releases", "still-running", "threads-alike", "repeats")
+
+
+class Tally:
+    """What is counted for SUMMARY by a recorder: numbers by code, and the notes under some of them."""
+
+    def __init__(self, recorder: str) -> None:
+        self.recorder = recorder
+        self.numbers: dict[str, int] = {}
+        self.notes: dict[str, list[str]] = {}
+
+    def add(self, code: str, number: int = 1) -> None:
+        self.numbers[code] = self.numbers.get(code, 0) + number
+
+    def note(self, code: str, text: str) -> None:
+        self.add(code)
+        self.notes.setdefault(code, []).append(text)
+
+    def note_end(self, trace: str, held: list[str], waits: bool, has_ended: bool) -> None:
+        """Who waits for a lock at the end, or ended with one."""
+        if waits and held:
+            before = ", holding " + ", ".join(held[:-1]) if len(held) > 1 else ""
+            self.note("waiting", "%s waits for %s%s" % (trace, held[-1], before))
+        elif has_ended and held:
+            self.note("held-at-end", "%s ended holding %s" % (trace, ", ".join(held)))
+
+    def recorded(self, processes: int, classes: int) -> list[Count]:
+        """What was recorded. Threads that did what others had done have no traces."""
+        number = self.numbers.get
+        return [Count("processes", processes), Count("threads", number("threads", 0) + number("threads-alike", 0)),
+                Count("operations", number("operations", 0)), Count("events", number("events", 0)), Count("classes", classes)]
+
+    def counts(self, codes: tuple[str, ...]) -> list[Count]:
+        """Those of these that aren't 0."""
+        return [Count(code, self.numbers[code], words_of(code, self.recorder), self.notes.get(code)) for code in codes if self.numbers.get(code)]
+
+
+class LockNames:
+    """The names of single locks. Only the first of them have one of their own."""
+
+    def __init__(self) -> None:
+        self.names: dict[tuple[str, int, int], str] = {}
+        self.own = 0  # how many there are that have
+
+    def name(self, of: str, number: int, process: int, mark: str) -> str:
+        """The name of a lock of a class, by its number in its process; 0 is one that isn't told apart."""
+        name = self.names.get((of, number, process))
+        if name is None:
+            is_own = number > 0 and self.own < MOST_LOCKS
+            self.own += is_own
+            name = self.names[of, number, process] = of + ("#%d" % number if is_own else REST) + mark
+        return name
+
+
+class Trace:
+    """The texts of a task's trace: by classes, by single locks, and the places of its records."""
+
+    def __init__(self) -> None:
+        self.by_class, self.by_lock, self.places = [HEADER], [HEADER], []
+        self.held: list[tuple[object, str, str | None]] = []
+
+    def take(self, key: object, of: str, lock: str | None, mode: str, places: list[str]) -> None:
+        """A lock is taken: its key, its class, and its name, or none if it isn't written."""
+        self.held.append((key, of, lock))
+        if lock is not None:
+            self.by_class.append("acq,%s,0,%s" % (of, mode))
+            self.by_lock.append("acq,%s,0,%s" % (lock, mode))
+            self.places += ["%d %s" % (len(self.by_class), place) for place in places]
+
+    def give_back(self, key: object) -> None:
+        """The newest lock of this key is given back, if there is one."""
+        for at in range(len(self.held) - 1, -1, -1):
+            if self.held[at][0] == key:
+                _, of, lock = self.held.pop(at)
+                if lock is not None:
+                    self.by_class.append("rel,%s,0" % of)
+                    self.by_lock.append("rel,%s,0" % lock)
+                return
+
+    def held_classes(self) -> list[str]:
+        return [of for _, of, _ in self.held]
+
+    def events(self) -> int:
+        return len(self.by_class) - 1
+
+    def write(self, folder: str, name: str) -> None:
+        for place, lines in (("", self.by_class), (OBJECTS, self.by_lock)):
+            path = os.path.join(folder, place, name + ".csv")
+            write_lines(path, lines)
+            write_lines(path + ".places", self.places)
+
+
+def trace_name(number: int) -> str:
+    return "task-%04d" % number
+
+
+def write_lines(path: str, lines: list[str]) -> None:
+    put(path, "".join(line + "\n" for line in lines))
+
+
+def write_classes(folder: str, classes: list[tuple[str, str, str]]) -> None:
+    """Writes the classes: of each its name, where it is made, and how."""
+    write_lines(os.path.join(folder, "classes"), ["%s\t%s\t-\t%s" % each for each in classes])
+
+
+def is_running(process: int | str) -> bool:
+    """Whether a process is still running. One that has ended but whose status nobody has read isn't."""
+    try:
+        with open("/proc/%s/stat" % process, encoding="utf-8", errors="replace") as file:
+            return file.read().rpartition(")")[2].split()[0] not in "ZX"
+    except (OSError, IndexError):
+        return False
