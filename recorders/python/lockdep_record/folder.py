@@ -6,7 +6,7 @@ import sys
 
 HOME = os.path.dirname(os.path.dirname(os.path.dirname(os.path.dirname(os.path.realpath(__file__)))))
 sys.path.insert(0, os.path.join(HOME, "tool"))
-from lockdep import folder as driver, losses, seen, summary  # noqa: E402, F401
+from lockdep import finishing, folder as driver, losses, seen, summary  # noqa: E402, F401
 from lockdep.saying import RUN, Refusal, say_refusal, typed  # noqa: E402, F401
 sys.path.pop(0)
 
@@ -42,8 +42,7 @@ class Folder(driver.Folder):
         from lockdep_record import finish
         with open(self.own_mark, encoding="utf-8") as file:
             is_chosen = file.read() != GUESSED
-        finish.write_traces(self.raw, self.path, self.recorder, is_chosen)
-        summary.put(os.path.join(self.path, "summary.json"), summary.json_of(self.summary(), self.recorder))
+        summary.write(self.path, finish.write_traces(self.raw, self.path, self.recorder, is_chosen), self.recorder)
         self.list_made()
 
     def drop_traces(self):
