@@ -1,9 +1,7 @@
 """The command line, and how a command is recognised."""
 import os
-import random
 import shutil
 import stat
-import subprocess
 import sys
 import tempfile
 import unittest
@@ -12,8 +10,6 @@ from lockdep import loading, recorders
 from lockdep.nearest import nearest
 from lockdep.options import COMMANDS, Help, parse
 from lockdep.saying import Refusal
-
-TOP = os.path.join(os.path.dirname(os.path.realpath(__file__)), "..", "..")
 
 
 class CommandLines(unittest.TestCase):
@@ -41,16 +37,19 @@ class CommandLines(unittest.TestCase):
 
 
 class Nearest(unittest.TestCase):
-    def test_as_the_checkers_own_commands_are_found(self):
-        words = list(COMMANDS["run"].options)
-        letters = random.Random(7)
-        wrongs = ["--quite", "--frame", "--xyz", "--know", "--jnuit", "-o", "-x"]
-        for word in words * 4:
-            at = letters.randrange(2, len(word) + 1) if len(word) > 2 else 1
-            wrongs.append(word[:at] + letters.choice(["", "x", word[-1]]) + word[at + letters.randrange(2):])
-        for wrong in wrongs:
-            done = subprocess.run(["awk", "-f", os.path.join(TOP, "tool", "nearest.awk"), "--", wrong] + words, stdout=subprocess.PIPE, check=True)
-            self.assertEqual(nearest(wrong, words) or "", done.stdout.decode().strip(), wrong)
+    def test_a_word_that_is_near(self):
+        options = list(COMMANDS["run"].options)
+        for wrong, word in (("--quite", "--quiet"), ("--frame", "--frames"), ("--know", "--known"), ("--jnuit", "--junit"), ("--htm", "--html"),
+                            ("--writeknown", "--write-known"), ("--srif", "--sarif"), ("--recoder", "--recorder"), ("--reocrder", "--recorder"),
+                            ("--jsno", "--json"), ("--error-exit", "--error-exitcode"), ("--confirmed", "--confirmed-only"), ("-o", "-o"), ("-x", None),
+                            ("--xyz", None), ("--quietly-and-at-length-with-more-letters-than-any", None), ("--q", None), ("-", None), ("", None)):
+            self.assertEqual(nearest(wrong, options), word, wrong)
+
+    def test_the_first_of_several(self):
+        for wrong, words, word in (("ab", ["ax", "ay"], "ax"), ("abcdef", ["abcdxx", "abcdex"], "abcdex"), ("gr", ["graph", "grid"], "graph"),
+                                   ("Check", ["check", "chains"], "check"), ("chekc", ["chains", "check"], "check"), ("x", ["a", "b"], None),
+                                   ("abc", ["acb"], "acb"), ("abcd", ["badc"], None), ("relase", ["rel", "release"], "release")):
+            self.assertEqual(nearest(wrong, words), word, wrong)
 
 
 class Recognising(unittest.TestCase):

@@ -21,7 +21,6 @@ from .room import Room, RoomMissing
 from .words import Refusal, bytes_of, text_of
 
 PYTHON_RECORDER = os.path.join(HOME, "recorders", "python", "lockdep_record")
-REFUSAL = os.path.join(HOME, "tool", "refusal")
 STAGE = "/.lockdep-recorder/record"  # where tool/run made a copy of the script just for one recording
 NEEDED = 65536  # bytes that have to be writable
 UNJUDGED = "this run isn't judged"
@@ -129,13 +128,12 @@ class Ending:
 
     def refuse_traces(self, made: Report) -> Refusal:
         """Says why the traces were refused, and what to do."""
+        from . import refusal
         self.say_messages()
         said = made.asked.answer.said
         complain(said)
-        words = [REFUSAL, os.environ["LOCKDEP"], said.rstrip(b"\n"), "check", "--many"] + traces_in(self.folder)
-        import subprocess
-        done = subprocess.run(words, stdin=subprocess.DEVNULL, stdout=subprocess.PIPE)
-        complain(done.stdout)
+        words = ["check", "--many"] + traces_in(self.folder)
+        complain(refusal.said(os.environ["LOCKDEP"], said.rstrip(b"\n"), [bytes_of(word) for word in words]))
         if self.recorder == "embed":
             say(TWO_PROCESSES)
         return self.give_up("the traces of this run were refused")

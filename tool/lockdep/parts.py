@@ -59,6 +59,8 @@ def main_of(part):
         from lockdep.diff import main
     elif part == "finish":
         from lockdep.finish_embed import main
+    elif part == "refusal":
+        from lockdep.refusal import main
     elif part == "check-known":
         from lockdep.suppressions import main
     else:
