@@ -5,11 +5,13 @@ import tempfile
 import unittest
 
 from cases import between, circle, finding, findings, order
-from lockdep.findings import Kind, findings_of
+from lockdep.explanation import thread_of
+from lockdep.findings import Event, Kind, findings_of
 from lockdep.groups import groups_of
 from lockdep.sources import Sources
 from lockdep.terminal import Writer
 from lockdep.text import Text
+from lockdep.threads import called
 from lockdep.verdict import Recorded, by_importance, notes_of, verdict_of
 from lockdep.words import Refusal
 
@@ -17,6 +19,30 @@ from lockdep.words import Refusal
 def gate(key, *keys):
     orders = [{"from": one, "kind": "EN", "to": other} for one, other in zip(keys, keys[1:] + keys[:1])]
     return {"gate": key, "orders": orders}
+
+
+class NamesOfThreads(unittest.TestCase):
+    def setUp(self):
+        self.folder = tempfile.TemporaryDirectory()
+        self.addCleanup(self.folder.cleanup)
+        with open(os.path.join(self.folder.name, "tasks"), "wb") as file:
+            file.write(b"task-0001.csv 17 the payer\ntask-0002.csv 17 a\x1b[1mb\ntask-0003.csv 17 \ntask-0004.csv\n")
+
+    def trace(self, name, *folder):
+        return os.path.join(self.folder.name, *folder, name)
+
+    def test_a_thread_is_called_by_its_name_too(self):
+        for folder in ((), ("objects",)):
+            self.assertEqual(thread_of(Event(self.trace("task-0001.csv", *folder), 2)), " (task-0001, the payer)")
+            self.assertEqual(thread_of(Event(self.trace("task-0002.csv", *folder), 2)), " (task-0002, a\\x1b[1mb)")
+        self.assertEqual(called("task-0001", self.trace("task-0001.csv")), "task-0001 (the payer)")
+
+    def test_one_without_a_name(self):
+        for name in ("task-0003", "task-0004", "task-0005"):
+            self.assertEqual(thread_of(Event(self.trace(name + ".csv"), 2)), " (%s)" % name)
+        self.assertEqual(thread_of(Event("/nowhere/task-0001.csv", 2)), " (task-0001)")
+        self.assertEqual(thread_of(Event("other.csv", 2)), "")
+        self.assertEqual(thread_of(None), "")
 
 
 class Reading(unittest.TestCase):

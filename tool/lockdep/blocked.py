@@ -12,6 +12,7 @@ from .files import contents
 from .findings import Event
 from .places import OBJECTS
 from .sources import Sources
+from .threads import called
 from .words import name_in, plain_key, stands_for_several, text_of
 
 AT_END = re.compile(r"^  (task-\d+) (waits for|ended holding) ", re.MULTILINE)
@@ -30,11 +31,12 @@ class Held:
 
 @dataclass
 class Thread:
-    """A thread at the end: what it waits for, if it does, and what it holds."""
+    """A thread at the end: what it waits for, if it does, what it holds, and what it is called if it has a name."""
 
     name: str
     waits: Held | None
     held: list[Held] = field(default_factory=list)
+    called: str = ""
 
 
 @dataclass
@@ -59,9 +61,9 @@ class Blocked:
     @property
     def sentence(self) -> str:
         """Such as `task-0001 waits for m, which task-0002 holds since record 2, and waits for n`."""
-        said = "%s waits for %s" % (self.thread.name, plain_key(self.thread.waits.key))
+        said = "%s waits for %s" % (self.thread.called or self.thread.name, plain_key(self.thread.waits.key))
         for thread, held in self.holders:
-            said += ", which %s holds since record %d" % (thread.name, held.event.record)
+            said += ", which %s holds since record %d" % (thread.called or thread.name, held.event.record)
             said += " while it waits for %s" % plain_key(thread.waits.key) if thread.waits else ""
         return said + (": these threads stand still" if self.is_cycle else "")
 
@@ -94,7 +96,7 @@ def thread_at_end(name: str, trace: str, is_waiting: bool) -> Thread:
         elif fields[0] == GIVE and len(fields) > 2:
             give_back(held, "%s/%s" % (fields[1], fields[2]))
     waits = held.pop() if is_waiting and held else None
-    return Thread(name, waits, held)
+    return Thread(name, waits, held, called(name, trace))
 
 
 def give_back(held: list[Held], key: str) -> None:

@@ -8,6 +8,7 @@ from typing import Union
 from .findings import Event, Finding, Order, Use
 from .sources import Sources
 from .steps import task_words
+from .threads import name_of
 from .verdict import gate_of_all
 from .words import name_in, plain_key, stands_for_several
 
@@ -73,9 +74,12 @@ def occurrence_lines(finding: Finding, sources: Sources) -> list[Line]:
 
 
 def thread_of(event: Event | None) -> str:
-    """The thread of a record, which is called as its trace, behind what a task does; empty for a trace of another name."""
+    """The thread of a record, which is called as its trace and by its name, behind what a task does; empty for a trace of another name."""
     name, suffix = os.path.splitext(os.path.basename(event.file)) if event else ("", "")
-    return " (%s)" % name if name.startswith("task-") and suffix == ".csv" else ""
+    if event is None or not name.startswith("task-") or suffix != ".csv":
+        return ""
+    own = name_of(event.file)
+    return " (%s, %s)" % (name, own) if own else " (%s)" % name
 
 
 def task_lines(finding: Finding) -> list[Line]:

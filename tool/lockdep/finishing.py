@@ -12,6 +12,7 @@ MOST_LOCKS = MOST_KEYS // 2  # of these, how many single locks have a name of th
 MOST_TRACES = 4096
 MOST_NAME = 53  # bytes of a class's name, which leaves room for the number of a lock
 OBJECTS = "objects"  # the folder with the traces by single locks
+TASKS = "tasks"  # the file with the names of threads
 REST = "#rest"  # behind a class: all its locks that have no name of their own
 
 # What is counted, in the order of SUMMARY.
@@ -119,6 +120,11 @@ def write_lines(path: str, lines: list[str]) -> None:
 def write_classes(folder: str, classes: list[tuple[str, str, str]]) -> None:
     """Writes the classes: of each its name, where it is made, and how."""
     write_lines(os.path.join(folder, "classes"), ["%s\t%s\t-\t%s" % each for each in classes])
+
+
+def write_tasks(folder: str, tasks: list[tuple[str, int, str]]) -> None:
+    """Writes the names of threads that have some: of each its trace, the number of its process, and its name."""
+    write_lines(os.path.join(folder, TASKS), ["%s.csv %d %s" % task for task in tasks if task[2]])
 
 
 def is_running(process: int | str) -> bool:

@@ -13,6 +13,7 @@ from .forms import Found
 from .sources import Sources, has_changed
 from .steps import Step, events_of, sentence, steps_of, task_count, words_of
 from .symbols import Frame, place_words
+from .threads import called
 from .words import as_sentence, escaped, name_in
 
 REM_OF_TASK = 12  # how wide a task's column is, at least
@@ -45,8 +46,10 @@ def step_html(finding: Finding, step: Step, events: list[Event], sources: Source
 def task_head(steps: list[Step], task: int) -> str:
     """The head of a task's column, with its trace if it is only one."""
     files = {step.event.file for step in steps if step.task == task and step.event}
-    file = "<br><small>%s</small>" % escaped(os.path.basename(files.pop())) if len(files) == 1 else ""
-    return '<th scope="col">Task %d%s</th>' % (task + 1, file)
+    if len(files) != 1:
+        return '<th scope="col">Task %d</th>' % (task + 1)
+    trace = files.pop()
+    return '<th scope="col">Task %d<br><small>%s</small></th>' % (task + 1, escaped(called(os.path.basename(trace), trace)))
 
 
 def task_rows(finding: Finding, steps: list[Step], sources: Sources) -> str:

@@ -21,6 +21,7 @@ class Task:
 
     def __init__(self, process):
         self.process, self.records, self.waits, self.has_ended, self.broken_off = process, [], False, False, []
+        self.name = ""
 
     def content(self):
         """What is equal for equal traces."""
@@ -59,6 +60,9 @@ class Process:
         elif kind == "P":
             number, _, text = rest.partition("\t")
             self.places[int(number)] = text
+        elif kind == "N":
+            number, _, name = rest.partition("\t")
+            self.task(int(number)).name = name
         elif kind == "S":
             name, count = rest.split()
             self.counts[name] = int(count)
@@ -81,10 +85,13 @@ class Process:
             if found.kind != starts.JAVA or start.reason != "recorded":
                 self.starts.append(found)
 
+    def task(self, number):
+        if number not in self.tasks:
+            self.tasks[number] = Task(self)
+        return self.tasks[number]
+
     def take_record(self, kind, words):
-        task = self.tasks.get(words[0])
-        if task is None:
-            task = self.tasks[words[0]] = Task(self)
+        task = self.task(words[0])
         if kind in "AR":
             task.records.append((words[1], words[2]))
         elif kind == "B":
@@ -267,6 +274,7 @@ def chosen(tasks, tally):
 def write_all(folder, names, tasks, tally):
     """Writes the traces of tasks, and the classes."""
     os.makedirs(os.path.join(folder, finishing.OBJECTS), exist_ok=True)
+    named = []
     for task in tasks:
         trace = Trace(task, names)
         tally.add("beyond-classes", trace.lost)
@@ -277,6 +285,8 @@ def write_all(folder, names, tasks, tally):
         name = finishing.trace_name(tally.numbers["threads"])
         note_end(tally, trace, name)
         trace.write(folder, name)
+        named.append((name, task.process.pid, task.name))
+    finishing.write_tasks(folder, named)
     finishing.write_classes(folder, [(each.name, each.place, each.kind if each.kind in NOT_MADE else "made in") for each in names.used])
 
 

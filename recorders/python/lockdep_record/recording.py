@@ -12,6 +12,7 @@ is opened for each write, so that the program has no open file that it doesn't k
     W task                       G task                 the last record is waited for; it was taken
     B task count                 M task record code     only this many records stay; a record has another lock
     E task                                              the task has ended
+    N task name                                         what its thread is called
     I task code code...                                 it waited for the last lock, with the others held, just before the process ended,
                                                         till an error broke that off
     S name count                                        what was counted so far
@@ -889,11 +890,19 @@ def place_number(code, at):
     return number
 
 
+def thread_name(task):
+    """What the running thread is called, if the task is that. (A thread that threading doesn't know would get an object by being asked.)"""
+    thread = threading._active.get(threading.get_ident()) if not task.is_over and getattr(here, "task", None) is task else None
+    return visible(thread.name) if thread is not None else ""
+
+
 def write(task):
     """Writes what a task has done."""
     if not task.number:
         process.task_count += 1
         task.number = process.task_count
+        name = thread_name(task)
+        put("N %d\t%s\n" % (task.number, name) if name else "")
     lines = []
     for code, place, at in task.records:
         declare(code)

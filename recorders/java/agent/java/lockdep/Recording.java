@@ -177,8 +177,11 @@ public final class Recording {
     }
 
     private void writeRecords(Task task) {
-        if (task.number == 0) task.number = ++taskCount;
         StringBuilder text = new StringBuilder();
+        if (task.number == 0) {
+            task.number = ++taskCount;
+            text.append("N ").append(task.number).append('\t').append(task.threadName()).append('\n');
+        }
         StringBuilder lines = new StringBuilder();
         for (int at = 0; at < task.size; at++) {
             int code = task.records[2 * at];

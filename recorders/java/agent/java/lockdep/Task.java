@@ -82,6 +82,12 @@ final class Task {
         return task;
     }
 
+    /** What the thread is called, without characters that would end a line. */
+    String threadName() {
+        Thread of = thread.get();
+        return of == null ? "" : of.getName().replace('\n', '?').replace('\r', '?');
+    }
+
     /** The task of this thread, if it has one. */
     static Task ofThisThread() {
         return here.get();
