@@ -96,7 +96,7 @@ def thread_at_end(name: str, trace: str, is_waiting: bool) -> Thread:
         elif fields[0] == GIVE and len(fields) > 2:
             give_back(held, "%s/%s" % (fields[1], fields[2]))
     waits = held.pop() if is_waiting and held else None
-    return Thread(name, waits, held, called(name, trace))
+    return Thread(name, waits, held)
 
 
 def give_back(held: list[Held], key: str) -> None:
@@ -159,6 +159,8 @@ def blocked_threads(folder: str, summary: str) -> list[Blocked]:
     named = {name: verb == "waits for" for name, verb in AT_END.findall(summary)}
     names = list(named) + [name for name in trace_names(folder) if name not in named]
     threads = [thread_at_end(name, trace_of(folder, name), named.get(name, False)) for name in names]
+    for thread in threads:
+        thread.called = called(thread.name, trace_of(folder, thread.name))
     return each_once([blocked_of(thread, threads) for thread in threads if thread.waits])
 
 
