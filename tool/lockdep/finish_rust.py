@@ -3,9 +3,14 @@ from __future__ import annotations
 
 import os
 import re
+from itertools import chain
 
 from .finishing import LOSSES, MOST_KEYS, MOST_NAME, MOST_TRACES, OBJECTS, LockNames, Tally, Trace, is_running, trace_name, write_classes
 from .summary import NOTED, Count, Summary
+
+TYPE_CHECKING = False  # for a tool that checks types, it is true
+if TYPE_CHECKING:
+    from typing import Iterable, Iterator
 
 FILE = re.compile(r"([0-9]+)-([0-9]+)(?:-([0-9]+))?")  # TIME-PID of a process, or TIME-PID-NUMBER of a thread
 TARGET = "/target/"  # the folder of a package that Cargo builds in
@@ -14,13 +19,15 @@ HASHED = 8  # letters of a long name that its hash takes, with what follows it
 UNKNOWN = "?:0"  # the place of a class that isn't known
 
 
-def lines_of(path: str) -> list[str]:
+def lines_of(path: str) -> Iterator[str]:
     """The lines of a file, without one that was cut off, as by a full disk. A file that isn't there has none."""
     try:
         with open(path, encoding="utf-8", errors="surrogateescape", newline="\n") as file:
-            return file.read().split("\n")[:-1]
+            for line in file:
+                if line.endswith("\n"):
+                    yield line[:-1]
     except FileNotFoundError:
-        return []
+        return
 
 
 class Process:
@@ -114,7 +121,7 @@ class Thread(Trace):
         self.process, self.number, self.making = process, number, making
         self.waits = self.has_ended = False
 
-    def read(self, lines: list[str]) -> None:
+    def read(self, lines: Iterable[str]) -> None:
         """Goes on until a line is damaged, as in a file that couldn't be written to its end."""
         try:
             for line in lines:
@@ -159,7 +166,7 @@ class Making:
             self.is_used.add(name)
         return self.locks.name(name, lock, process, "@%d" % process if self.is_several else "")
 
-    def make(self, process: Process, number: int, lines: list[str]) -> None:
+    def make(self, process: Process, number: int, lines: Iterable[str]) -> None:
         if self.tally.numbers.get("threads") == MOST_TRACES:
             self.tally.add("beyond-traces")
             return
@@ -194,9 +201,10 @@ def finish(path: str, raw: str) -> Summary:
     making, numbers = Making(path, len(names) > 1), {}
     for thread in threads:
         lines = lines_of(os.path.join(raw, thread))
-        if lines:
+        first = next(lines, None)
+        if first is not None:
             name = thread.rpartition("-")[0]
-            making.make(processes[name], numbers.setdefault(name, len(numbers) + 1), lines)
+            making.make(processes[name], numbers.setdefault(name, len(numbers) + 1), chain([first], lines))
     places: dict[str, str] = {}
     for process in in_order:
         for name, place in process.classes:

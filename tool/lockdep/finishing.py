@@ -77,13 +77,17 @@ class Trace:
     def __init__(self) -> None:
         self.by_class, self.by_lock, self.places = [HEADER], [HEADER], []
         self.held: list[tuple[object, str, str | None]] = []
+        self.texts: dict[str, str] = {}  # of lines: each is kept once, since a trace repeats itself
+
+    def add(self, line: str, line_of_lock: str) -> None:
+        self.by_class.append(self.texts.setdefault(line, line))
+        self.by_lock.append(self.texts.setdefault(line_of_lock, line_of_lock))
 
     def take(self, key: object, of: str, lock: str | None, mode: str, places: list[str]) -> None:
         """A lock is taken: its key, its class, and its name, or none if it isn't written."""
         self.held.append((key, of, lock))
         if lock is not None:
-            self.by_class.append("acq,%s,0,%s" % (of, mode))
-            self.by_lock.append("acq,%s,0,%s" % (lock, mode))
+            self.add("acq,%s,0,%s" % (of, mode), "acq,%s,0,%s" % (lock, mode))
             self.places += ["%d %s" % (len(self.by_class), place) for place in places]
 
     def give_back(self, key: object) -> None:
@@ -92,8 +96,7 @@ class Trace:
             if self.held[at][0] == key:
                 _, of, lock = self.held.pop(at)
                 if lock is not None:
-                    self.by_class.append("rel,%s,0" % of)
-                    self.by_lock.append("rel,%s,0" % lock)
+                    self.add("rel,%s,0" % of, "rel,%s,0" % lock)
                 return
 
     def held_classes(self) -> list[str]:
