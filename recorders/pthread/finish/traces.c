@@ -295,6 +295,23 @@ static void close_files(struct trace *t, const struct names *n, bool is_kept) {
     }
 }
 
+/* The file with the names of threads, which is made for the first one that has a name. */
+static FILE *tasks;
+static char tasks_path[4300];
+
+static void write_task(const char *folder, const struct trace *t, const char *trace) {
+    const struct raw_process *process = part_of(t->arena, RAW_PROCESSES, t->raw->process);
+    if (!t->raw->name[0] || !process)
+        return;
+    snprintf(tasks_path, sizeof tasks_path, "%s/tasks", folder);
+    if (!tasks)
+        tasks = created(tasks_path);
+    fprintf(tasks, "%s.csv %u ", trace, process->id);
+    for (const char *name = t->raw->name; name < t->raw->name + RAW_NAME && *name; name++)
+        putc((unsigned char)*name < ' ' ? '?' : *name, tasks);
+    putc('\n', tasks);
+}
+
 static void write_trace(const char *folder, struct trace *t) {
     struct names n;
     snprintf(n.trace, sizeof n.trace, "task-%04lu", (unsigned long)sums.threads + 1);
@@ -312,6 +329,7 @@ static void write_trace(const char *folder, struct trace *t) {
     sums.threads++;
     sums.events += t->events;
     tell_last(t, n.trace);
+    write_task(folder, t, n.trace);
 }
 
 static void add_left_out(const struct raw_left_out *from) {
@@ -351,6 +369,8 @@ void write_traces(const char *folder, int version) {
             t.version = version;
             write_trace(folder, &t);
         }
+    if (tasks)
+        closed(tasks, tasks_path);
 }
 
 /* ---- The classes. */

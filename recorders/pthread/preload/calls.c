@@ -254,7 +254,10 @@ EXPORT int pthread_create(pthread_t *thread, const pthread_attr_t *how, void *(*
         return EAGAIN;
     if (is_recording())
         note_frames(HERE);
-    return REAL(pthread_create)(thread, how, run, with);
+    int error = REAL(pthread_create)(thread, how, run, with);
+    if (!error)
+        forget_name(*thread);
+    return error;
 }
 
 /* ---- Names that older programs know some of these by. */

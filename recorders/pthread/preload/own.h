@@ -15,6 +15,7 @@
 
 #include "../raw.h"
 
+#include <pthread.h>
 #include <stdbool.h>
 #include <stddef.h>
 #include <stdint.h>
@@ -241,6 +242,12 @@ static inline void *real_function(void **known, const char *name) {
 void *find_in_libraries(const char *name); /* of those of C++ */
 void *find_in_unwinder(const char *name);
 bool is_asked(int *known, const char *what); /* by LOCKDEP_ALSO */
+
+/* ---- called.c */
+
+char *name_of(pthread_t thread); /* in threads.c */
+void take_name(pthread_t thread, char *name);
+void forget_name(pthread_t thread);
 
 /* ---- classes.c */
 

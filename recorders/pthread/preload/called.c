@@ -1,0 +1,68 @@
+/* What the program calls its threads, by pthread_setname_np. The system isn't asked. */
+#include "own.h"
+
+#include <pthread.h>
+
+#define REALS(X) X(pthread_setname_np)
+REALS(KNOWN_REAL)
+FIND_AT_START(REALS)
+
+static EARLY_THREAD_LOCAL char own_name[RAW_NAME];
+
+/* Names that threads got from others before they have taken a lock. If there are more than these, the oldest ones are forgotten. */
+#define EARLY_NAMES 64
+static struct early_name {
+    pthread_t thread; /* written last; 0: none */
+    char name[RAW_NAME];
+} early_names[EARLY_NAMES];
+static uint32_t early_count;
+
+static void copy_name(char *to, const char *name) {
+    for (int i = 0; i < RAW_NAME - 1 && (to[i] = name[i]); i++)
+        AS_WRITTEN;
+}
+
+static struct early_name *early_name_of(pthread_t thread) {
+    for (struct early_name *early = early_names; early < early_names + EARLY_NAMES; early++)
+        if (LOAD(&early->thread) == thread)
+            return early;
+    return NULL;
+}
+
+/* A new thread isn't called as an earlier one that had its number and never took a lock. */
+void forget_name(pthread_t thread) {
+    struct early_name *early = early_name_of(thread);
+    if (early)
+        STORE(&early->thread, 0);
+}
+
+/* The trace of this thread begins. */
+void take_name(pthread_t thread, char *name) {
+    struct early_name *early = early_name_of(thread);
+    copy_name(name, early ? early->name : own_name);
+    if (early)
+        STORE(&early->thread, 0);
+}
+
+static void keep_name(pthread_t thread, const char *name) {
+    forget_name(thread);
+    struct early_name *early = &early_names[ADD(&early_count, 1) % EARLY_NAMES];
+    STORE(&early->thread, 0);
+    copy_name(early->name, name);
+    STORE(&early->thread, thread);
+}
+
+EXPORT int pthread_setname_np(pthread_t thread, const char *name) {
+    int error = REAL(pthread_setname_np)(thread, name);
+    if (error || !is_recording())
+        return error;
+    bool is_own = thread == pthread_self();
+    char *known = name_of(thread);
+    if (known)
+        copy_name(known, name);
+    else if (!is_own)
+        keep_name(thread, name);
+    if (is_own)
+        copy_name(own_name, name);
+    return 0;
+}

@@ -1,0 +1,53 @@
+/* Threads with names: given by itself before its first lock and after it, given by its starter, and none. Two take their locks in opposite orders. One that
+   takes no lock is named, and the next thread may get its number. */
+#define _GNU_SOURCE
+#include <pthread.h>
+
+static pthread_mutex_t a = PTHREAD_MUTEX_INITIALIZER, b = PTHREAD_MUTEX_INITIALIZER, gate = PTHREAD_MUTEX_INITIALIZER;
+
+static void take(pthread_mutex_t *first, pthread_mutex_t *second) {
+    pthread_mutex_lock(first);
+    pthread_mutex_lock(second);
+    pthread_mutex_unlock(second);
+    pthread_mutex_unlock(first);
+}
+
+static void *pays(void *unused) {
+    pthread_setname_np(pthread_self(), "payer");
+    take(&a, &b);
+    return unused;
+}
+
+static void *audits(void *unused) {
+    take(&b, &a);
+    pthread_setname_np(pthread_self(), "the\nauditor");
+    return unused;
+}
+
+static void *waits(void *unused) {
+    pthread_mutex_lock(&gate);
+    pthread_mutex_unlock(&gate);
+    return unused;
+}
+
+static void *ends(void *unused) { return unused; }
+
+static void run(void *(*what)(void *), const char *name) {
+    pthread_t thread;
+    pthread_mutex_lock(&gate);
+    if (pthread_create(&thread, NULL, what, NULL) == 0) {
+        if (name)
+            pthread_setname_np(thread, name);
+        pthread_mutex_unlock(&gate);
+        pthread_join(thread, NULL);
+    }
+}
+
+int main(void) {
+    run(pays, NULL);
+    run(audits, NULL);
+    run(waits, "waiter-of-15-by");
+    run(ends, "ends");
+    run(waits, NULL);
+    return 0;
+}
