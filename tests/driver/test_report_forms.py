@@ -2,11 +2,13 @@
 import os
 import subprocess
 import sys
+import tempfile
 import unittest
 from unittest import mock
 
 from cases import between, circle, findings
 from lockdep import diff, files
+from lockdep.as_json import with_places
 from lockdep.diff import Side
 from lockdep.forms import Found
 from lockdep.junit import junit
@@ -62,6 +64,17 @@ class Sides(unittest.TestCase):
         here = Side("", frozenset(said["lines"]), places=places)
         self.assertTrue(here.is_same(diff.side_of_json(1, dict(said, locks=locks[:1]))))
         self.assertFalse(here.is_same(diff.side_of_json(1, dict(said, locks=locks[1:]))))
+
+
+class Json(unittest.TestCase):
+    def test_an_occurrence_has_the_name_of_its_thread(self):
+        with tempfile.TemporaryDirectory() as folder:
+            with open(os.path.join(folder, "tasks"), "w", encoding="utf-8") as file:
+                file.write("task-0001.csv 17 payer\n")
+            orders = [{"file": os.path.join(folder, "objects", name), "record": 3} for name in ("task-0001.csv", "task-0002.csv")]
+            said = with_places({"orders": orders, "key": "a/0"}, Found([], [], Sources(), Recorded([]), []))
+        self.assertEqual([order.get("thread") for order in said["orders"]], ["payer", None])
+        self.assertNotIn("thread", said)
 
 
 class Junit(unittest.TestCase):

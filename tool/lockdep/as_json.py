@@ -7,6 +7,7 @@ import json
 from .blocked import Blocked
 from .findings import Event, Finding
 from .forms import COUNT, Found
+from .threads import name_of
 from .words import text_of, visible
 
 VERSION = 2
@@ -40,7 +41,8 @@ def frames_of(event: Event, found: Found) -> list[dict]:
 
 
 def with_places(said: object, found: Found) -> object:
-    """A value of the checker's JSON, in which each occurrence has its places: `places` of its record, and `since_places`."""
+    """A value of the checker's JSON, in which each occurrence has its places: `places` of its record, and `since_places`; and the name
+    of its `thread`, if that is known."""
     if isinstance(said, list):
         return [with_places(value, found) for value in said]
     if not isinstance(said, dict):
@@ -49,7 +51,8 @@ def with_places(said: object, found: Found) -> object:
     for name, places in (("record", "places"), ("since", "since_places")):
         if "file" in said and name in said:
             made[places] = frames_of(Event(str(said["file"]), int(said[name])), found)
-    return made
+    thread = name_of(str(said.get("file", "")))
+    return dict(made, thread=thread) if thread else made
 
 
 def locks_of(finding: Finding, found: Found) -> list[dict]:
