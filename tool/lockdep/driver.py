@@ -15,7 +15,7 @@ FEWEST_FILES = 16  # that have to be open at once
 OF_OTHERS = ("LOCKDEP_RUN_HOME", "LOCKDEP_RUN_NAMED", "LOCKDEP_RUN_KNOWN_TEXT", "LOCKDEP_RUN_ACCEPTED", "LOCKDEP_RUN_PROCESS", "LOCKDEP_RUN_STATUS", "LOCKDEP_TRACES",
              "LOCKDEP_PYTHON", "LOCKDEP_JAVA")
 # What the last part of a run, and the scripts of some recorders, need. Without one of them they would fail half-way.
-NEEDED = "awk cat chmod cp cut dirname find grep head ln mkdir mktemp mv readlink rm rmdir sed sort tr xargs".split()
+NEEDED = "cat chmod cp cut dirname find grep ln mkdir mktemp mv readlink rm sed sort tr xargs".split()
 
 
 def main(home: str, words: list[str]) -> None:
