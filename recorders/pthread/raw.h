@@ -182,6 +182,7 @@ struct raw_thread {
     uint64_t count; /* how many records there are */
     uint64_t calls; /* how many acquisitions and releases were seen */
     struct raw_left_out left_out;
+    uint64_t self; /* its pthread_t */
     char name[RAW_NAME];
     uint64_t chunks[RAW_CHUNKS]; /* where they begin in the file; 0 if there is none yet */
 };

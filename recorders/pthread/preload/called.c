@@ -7,7 +7,12 @@
 REALS(KNOWN_REAL)
 FIND_AT_START(REALS)
 
+FOUND_WHEN_LOADED(this_thread, pthread_self);
+
+static EARLY_THREAD_LOCAL struct raw_thread *own_part; /* of its newest trace, if it has any */
 static EARLY_THREAD_LOCAL char own_name[RAW_NAME];
+
+#define LOOKED_AT 4096 /* a thread that is named by another one is looked for among so many traces: those that began last */
 
 /* Names that threads got from others before they have taken a lock. If there are more than these, the oldest ones are forgotten. */
 #define EARLY_NAMES 64
@@ -37,11 +42,29 @@ void forget_name(pthread_t thread) {
 }
 
 /* The trace of this thread begins. */
-void take_name(pthread_t thread, char *name) {
-    struct early_name *early = early_name_of(thread);
-    copy_name(name, early ? early->name : own_name);
+void begin_name(struct raw_thread *part) {
+    own_part = part;
+    part->self = this_thread();
+    struct early_name *early = early_name_of(part->self);
+    copy_name(part->name, early ? early->name : own_name);
     if (early)
         STORE(&early->thread, 0);
+}
+
+static bool is_of(const struct raw_thread *part, pthread_t thread) {
+    return part && LOAD(&part->is_ready) && part->process == own_process && part->self == thread && !part->ended;
+}
+
+/* The part of a thread that has a trace; NULL for another. */
+static struct raw_thread *part_of_thread(pthread_t thread) {
+    if (is_of(own_part, thread))
+        return own_part;
+    uint32_t used = LOAD(&arena->regions[RAW_THREADS].used), room = arena->regions[RAW_THREADS].room;
+    uint32_t last = used < room ? used : room;
+    for (uint32_t number = last; number > 0 && number + LOOKED_AT > last; number--)
+        if (is_of(part_of(RAW_THREADS, number), thread))
+            return part_of(RAW_THREADS, number);
+    return NULL;
 }
 
 static void keep_name(pthread_t thread, const char *name) {
@@ -56,10 +79,10 @@ EXPORT int pthread_setname_np(pthread_t thread, const char *name) {
     int error = REAL(pthread_setname_np)(thread, name);
     if (error || !is_recording())
         return error;
-    bool is_own = thread == pthread_self();
-    char *known = name_of(thread);
-    if (known)
-        copy_name(known, name);
+    struct raw_thread *part = part_of_thread(thread);
+    bool is_own = thread == this_thread();
+    if (part)
+        copy_name(part->name, name);
     else if (!is_own)
         keep_name(thread, name);
     if (is_own)

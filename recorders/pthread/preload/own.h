@@ -245,8 +245,7 @@ bool is_asked(int *known, const char *what); /* by LOCKDEP_ALSO */
 
 /* ---- called.c */
 
-char *name_of(pthread_t thread); /* in threads.c */
-void take_name(pthread_t thread, char *name);
+void begin_name(struct raw_thread *part);
 void forget_name(pthread_t thread);
 
 /* ---- classes.c */

@@ -58,7 +58,6 @@ struct thread {
     struct raw_thread *raw;
     struct raw_record *chunks[RAW_CHUNKS];
     uint32_t is_taken; /* some thread has this */
-    pthread_t self;
     uint32_t depth;
     uint64_t fresh_end; /* after the last record of something new */
     uint64_t *seen;     /* a set of the ways in which a lock was taken under others */
@@ -91,7 +90,6 @@ static bool has_thread_end;
 /* ---- Making a thread, and its end. */
 
 FOUND_WHEN_LOADED(set_value, pthread_setspecific);
-FOUND_WHEN_LOADED(this_thread, pthread_self);
 
 static struct thread *threads; /* all that were made, in use or not */
 
@@ -119,8 +117,7 @@ static bool begin_trace(struct thread *t) {
         return false;
     t->raw = part_of(RAW_THREADS, number);
     t->raw->process = own_process;
-    t->self = this_thread();
-    take_name(t->self, t->raw->name);
+    begin_name(t->raw);
     for (int i = 0; i < RAW_CHUNKS; i++) {
         AS_WRITTEN;
         t->chunks[i] = NULL;
@@ -155,14 +152,6 @@ static struct thread *make_thread(void) {
     if (has_thread_end)
         set_value(thread_end, t);
     return t;
-}
-
-/* Where the name of a thread is that has a trace; NULL for another. */
-char *name_of(pthread_t thread) {
-    for (struct thread *t = LOAD(&threads); t; t = t->next)
-        if (LOAD(&t->is_taken) && t->raw && t->self == thread)
-            return t->raw->name;
-    return NULL;
 }
 
 /* In the same memory other locks come to lie. */
