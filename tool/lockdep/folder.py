@@ -13,14 +13,15 @@ from .saying import Refusal, typed
 FIRST_LINE = "a recording by lockdep made these:"
 LOCK = 9  # the open file whose lock says that a recording is under way; `run` closes it in the command
 PAGE = "report.html"  # isn't written by what records, which leaves another's alone
-MADE = ("classes", "tasks", "SUMMARY", "summary.json", PAGE, "raw.tar.gz", "objects")
+MADE = ("classes", "SUMMARY", "summary.json", PAGE, "raw.tar.gz", "objects")
+TASKS = "tasks"  # the names of threads
 MARKS = ("settings", "python", "java")  # one of these is in `raw` if it has a recording
 ELSEWHERE = "choose another folder by -o"
 
 
 def is_made(name: str) -> bool:
     """Whether a file of this name may be one that a recording made."""
-    if name in MADE:
+    if name in MADE or name == TASKS:
         return True
     trace = name[len("objects/"):] if name.startswith("objects/") else name
     trace = trace[:-len(".places")] if trace.endswith(".places") else trace

@@ -4,7 +4,8 @@ from __future__ import annotations
 import functools
 import os
 
-from .finishing import OBJECTS, TASKS
+from .folder import TASKS
+from .places import OBJECTS
 from .words import visible
 
 
