@@ -4,9 +4,9 @@ from __future__ import annotations
 import os
 
 from .checker import REFUSED, Answer, ask
+from .folder import OBJECTS
 from .words import text_of
 
-OBJECTS = "objects"
 BY_LOCKS = ["explain", "--locks", "--json", "--many", "--"]
 BY_CLASSES = ["explain", "--json", "--many", "--"]
 NO_OBJECTS = "the recording has no traces of single locks"

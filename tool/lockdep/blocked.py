@@ -10,7 +10,7 @@ from dataclasses import dataclass, field
 from .asking import traces_in
 from .files import contents
 from .findings import Event
-from .places import OBJECTS
+from .folder import OBJECTS
 from .sources import Sources
 from .threads import called
 from .words import name_in, plain_key, stands_for_several, text_of

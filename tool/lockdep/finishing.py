@@ -3,7 +3,7 @@ from __future__ import annotations
 
 import os
 
-from .folder import TASKS
+from .folder import OBJECTS, TASKS
 from .losses import words_of
 from .summary import Count, put
 
@@ -12,7 +12,6 @@ MOST_KEYS = 8192  # names that traces may have together
 MOST_LOCKS = MOST_KEYS // 2  # of these, how many single locks have a name of their own
 MOST_TRACES = 4096
 MOST_NAME = 53  # bytes of a class's name, which leaves room for the number of a lock
-OBJECTS = "objects"  # the folder with the traces by single locks
 REST = "#rest"  # behind a class: all its locks that have no name of their own
 
 # What is counted, in the order of SUMMARY.

@@ -11,6 +11,7 @@ import os
 from .saying import Refusal, typed
 
 TASKS = "tasks"  # the file with the names of threads
+OBJECTS = "objects"  # the folder with the traces of single locks
 FIRST_LINE = "a recording by lockdep made these:"
 LOCK = 9  # the open file whose lock says that a recording is under way; `run` closes it in the command
 PAGE = "report.html"  # isn't written by what records, which leaves another's alone

@@ -11,6 +11,7 @@ from dataclasses import dataclass
 from typing import BinaryIO
 
 from .files import contents, is_file
+from .folder import OBJECTS
 from .symbols import PLACE, Address
 from .words import bytes_of, text_of
 
@@ -19,7 +20,6 @@ MOST_MODULES = 100000
 MOST_OF_PATH = 4096
 MOST_FRAMES = 64
 NO_PLACE = "-"
-OBJECTS = "objects"  # the folder of a recording with the traces of single locks
 WITH_TYPE = 7  # columns of a class whose type is known: the last one names its place
 OFFSET = re.compile("(0x)?[0-9a-fA-F]{1,16}")
 PART = re.compile(r"\+0x([0-9a-f]{1,16})(#[^/]*)?$")

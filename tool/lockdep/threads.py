@@ -4,8 +4,7 @@ from __future__ import annotations
 import functools
 import os
 
-from .folder import TASKS
-from .places import OBJECTS
+from .folder import OBJECTS, TASKS
 from .words import visible
 
 

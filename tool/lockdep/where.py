@@ -12,7 +12,8 @@ from .checker import HOME
 from .explanation import INDENT, Annotator, Item
 from .files import need_output, print_file
 from .findings import Event
-from .places import OBJECTS, folders_of
+from .folder import OBJECTS
+from .places import folders_of
 from .sources import Sources
 from .symbols import has_addr2line
 from .terminal import Writer, text_stream
