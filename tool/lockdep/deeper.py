@@ -16,6 +16,7 @@ from .words import class_of_lock, text_of, type_of_class
 DEPTHS = (3, 6, 16)  # callers
 DEFAULT_FRAMES = 3
 NAME = re.compile(r'^(acq|rel),("(?:[^"]|"")*"|[^,\r\n]*),', re.MULTILINE)
+OTHER_RECORDER = re.compile("^recorder (?!pthread$)", re.MULTILINE)  # in the settings of a recording: other recorders note no callers of locks
 RECORDER = os.path.join(HOME, "recorders", "pthread")
 
 
@@ -28,7 +29,7 @@ class Remade:
         settings = text_of(contents(os.path.join(self.raw, "settings")) or b"") if self.is_there else ""
         self.version = setting(settings, "version")
         self.frames = int(setting(settings, "frames") or DEFAULT_FRAMES)
-        self.is_there = self.version in ("1", "2")
+        self.is_there = self.version in ("1", "2") and not OTHER_RECORDER.search(settings)
 
     def unpack(self, folder: str) -> bool:
         own, packed = os.path.join(folder, "raw"), os.path.join(folder, "raw.tar.gz")
