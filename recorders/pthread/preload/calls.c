@@ -1,5 +1,5 @@
 /* The functions that programs call instead of glibc's. */
-#include "own.h"
+#include "held.h"
 
 #include <errno.h>
 #include <pthread.h>
@@ -70,46 +70,56 @@ static inline bool took(int answer) { return answer == 0 || answer == EOWNERDEAD
             return 0;                                                                                                  \
         int answer = real arguments;                                                                                   \
         tried((uintptr_t)lock, !took(answer), HERE);                                                                         \
-        if (took(answer))                                                                                              \
-            acquired((uintptr_t)lock, mode, KIND_OF(lock), HERE);                                                 \
+        if (took(answer) && !acquired_again((uintptr_t)lock, mode, KIND_OF(lock), HERE))                               \
+            acquired((uintptr_t)lock, mode, KIND_OF(lock), HERE);                                                      \
         return answer;                                                                                                 \
     }
 
 /* A call that may wait. The lock is tried first; only if it is taken by another is it waited for, and that is written before. What
    a call would refuse for another reason than that, it refuses as before: `is_sound` says that it may be tried. */
 #define TAKING(name, try, taken, mode, is_sound, parameters, arguments)                                                \
+    __attribute__((noinline)) static int wait_by_##name AND_CALL parameters {                                          \
+        bool is_wish = begin_wish((uintptr_t)lock, mode, KIND_OF(lock), call);                                         \
+        int answer = REAL(name) arguments;                                                                             \
+        if (is_wish ? !end_wish((uintptr_t)lock, took(answer), call) : took(answer))                                   \
+            acquired((uintptr_t)lock, mode, KIND_OF(lock), call);                                                      \
+        return answer;                                                                                                 \
+    }                                                                                                                  \
     EXPORT int name parameters {                                                                                       \
         __typeof__(&try) real_try = READY(try);                                                                        \
         if (!real_try)                                                                                                 \
             return 0;                                                                                                  \
         int answer = is_sound ? real_try(lock) : taken;                                                                \
-        if (answer != taken) {                                                                                         \
-            if (took(answer))                                                                                          \
-                acquired((uintptr_t)lock, mode, KIND_OF(lock), HERE);                                             \
-            return answer;                                                                                             \
-        }                                                                                                              \
-        bool is_wish = begin_wish((uintptr_t)lock, mode, KIND_OF(lock), HERE);                                         \
-        answer = REAL(name) arguments;                                                                                 \
-        if (is_wish ? !end_wish((uintptr_t)lock, took(answer), HERE) : took(answer))                                   \
+        if (LIKELY(answer == 0 && acquired_again((uintptr_t)lock, mode, KIND_OF(lock), HERE)))                         \
+            return 0;                                                                                                  \
+        if (answer == taken)                                                                                           \
+            return wait_by_##name AND_HERE arguments;                                                                  \
+        if (took(answer))                                                                                              \
             acquired((uintptr_t)lock, mode, KIND_OF(lock), HERE);                                                      \
         return answer;                                                                                                 \
     }
+#define AND_CALL(...) (__VA_ARGS__, struct call call)
+#define AND_HERE(...) (__VA_ARGS__, HERE)
 
 #define KIND_OF(lock)                                                                                                  \
     _Generic((lock), pthread_mutex_t *: KIND_MUTEX, mtx_t *: KIND_MUTEX, pthread_rwlock_t *: KIND_RWLOCK, default: KIND_SPIN)
 
 #define RELEASING(name, type)                                                                                          \
-    EXPORT int name(type *lock) {                                                                                      \
+    __attribute__((noinline)) static int by_##name(type *lock, struct call call) {                                     \
         __typeof__(&name) real = READY(name);                                                                          \
         if (!real)                                                                                                     \
             return 0;                                                                                                  \
         if (KNOWS_OWNER(lock)) {                                                                                       \
-            if (RARELY(!releasing_own((uintptr_t)lock, HERE)))                                                         \
-                return release_unseen((int (*)(void *))real, (void *)lock, HERE);                                          \
+            if (RARELY(!releasing_own((uintptr_t)lock, call)))                                                         \
+                return release_unseen((int (*)(void *))real, (void *)lock, call);                                      \
         } else {                                                                                                       \
-            releasing((uintptr_t)lock, HERE);                                                                          \
+            releasing((uintptr_t)lock, call);                                                                          \
         }                                                                                                              \
         return real(lock);                                                                                             \
+    }                                                                                                                  \
+    EXPORT int name(type *lock) {                                                                                      \
+        __typeof__(&name) real = (__typeof__(&name))LOAD(&real_##name);                                                \
+        return LIKELY(real && released_again((uintptr_t)lock, HERE)) ? real(lock) : by_##name(lock, HERE);             \
     }
 
 /* A mutex that refuses to be released by a thread that didn't take it: one that is recursive, checked, robust, or lends its holder a
