@@ -70,14 +70,15 @@ static inline bool took(int answer) { return answer == 0 || answer == EOWNERDEAD
             return 0;                                                                                                  \
         int answer = real arguments;                                                                                   \
         tried((uintptr_t)lock, !took(answer), HERE);                                                                         \
-        if (took(answer) && !acquired_again((uintptr_t)lock, mode, KIND_OF(lock), HERE))                               \
+        if (took(answer))                                                                                              \
             acquired((uintptr_t)lock, mode, KIND_OF(lock), HERE);                                                      \
         return answer;                                                                                                 \
     }
 
 /* A call that may wait. The lock is tried first; only if it is taken by another is it waited for, and that is written before. What
-   a call would refuse for another reason than that, it refuses as before: `is_sound` says that it may be tried. */
-#define TAKING(name, try, taken, mode, is_sound, parameters, arguments)                                                \
+   a call would refuse for another reason than that, it refuses as before: `is_sound` says that it may be tried. What is taken again is
+   looked up at once in the calls that programs make often: that takes room in each. */
+#define TAKING(name, try, taken, mode, is_sound, is_often, parameters, arguments)                                      \
     __attribute__((noinline)) static int wait_by_##name AND_CALL parameters {                                          \
         bool is_wish = begin_wish((uintptr_t)lock, mode, KIND_OF(lock), call);                                         \
         int answer = REAL(name) arguments;                                                                             \
@@ -90,7 +91,7 @@ static inline bool took(int answer) { return answer == 0 || answer == EOWNERDEAD
         if (!real_try)                                                                                                 \
             return 0;                                                                                                  \
         int answer = is_sound ? real_try(lock) : taken;                                                                \
-        if (LIKELY(answer == 0 && acquired_again((uintptr_t)lock, mode, KIND_OF(lock), HERE)))                         \
+        if (LIKELY(is_often && answer == 0 && acquired_again((uintptr_t)lock, mode, KIND_OF(lock), HERE)))             \
             return 0;                                                                                                  \
         if (answer == taken)                                                                                           \
             return wait_by_##name AND_HERE arguments;                                                                  \
@@ -165,10 +166,10 @@ typedef const struct timespec *deadline;
 
 INITIALISING(pthread_mutex_init, pthread_mutex_t, const pthread_mutexattr_t *how, how)
 DESTROYING(pthread_mutex_destroy, pthread_mutex_t)
-TAKING(pthread_mutex_lock, pthread_mutex_trylock, EBUSY, MODE_WRITE, true, (pthread_mutex_t * lock), (lock))
+TAKING(pthread_mutex_lock, pthread_mutex_trylock, EBUSY, MODE_WRITE, true, true, (pthread_mutex_t * lock), (lock))
 TRYING(pthread_mutex_trylock, MODE_TRY_WRITE, (pthread_mutex_t * lock), (lock))
-TAKING(pthread_mutex_timedlock, pthread_mutex_trylock, EBUSY, MODE_WRITE, true, (pthread_mutex_t * lock, deadline until), (lock, until))
-TAKING(pthread_mutex_clocklock, pthread_mutex_trylock, EBUSY, MODE_WRITE, IS_CLOCK(clock), (pthread_mutex_t * lock, clockid_t clock, deadline until), (lock, clock, until))
+TAKING(pthread_mutex_timedlock, pthread_mutex_trylock, EBUSY, MODE_WRITE, true, false, (pthread_mutex_t * lock, deadline until), (lock, until))
+TAKING(pthread_mutex_clocklock, pthread_mutex_trylock, EBUSY, MODE_WRITE, IS_CLOCK(clock), false, (pthread_mutex_t * lock, clockid_t clock, deadline until), (lock, clock, until))
 RELEASING(pthread_mutex_unlock, pthread_mutex_t)
 
 /* A read-write lock of glibc lets readers pass waiting writers, unless it was made to prefer writers. */
@@ -178,19 +179,19 @@ static uint8_t reads(const pthread_rwlock_t *lock) {
 
 INITIALISING(pthread_rwlock_init, pthread_rwlock_t, const pthread_rwlockattr_t *how, how)
 DESTROYING(pthread_rwlock_destroy, pthread_rwlock_t)
-TAKING(pthread_rwlock_rdlock, pthread_rwlock_tryrdlock, EBUSY, reads(lock), true, (pthread_rwlock_t * lock), (lock))
+TAKING(pthread_rwlock_rdlock, pthread_rwlock_tryrdlock, EBUSY, reads(lock), true, true, (pthread_rwlock_t * lock), (lock))
 TRYING(pthread_rwlock_tryrdlock, (uint8_t)(reads(lock) + TRIES), (pthread_rwlock_t * lock), (lock))
-TAKING(pthread_rwlock_timedrdlock, pthread_rwlock_tryrdlock, EBUSY, reads(lock), is_time(until), (pthread_rwlock_t * lock, deadline until), (lock, until))
-TAKING(pthread_rwlock_clockrdlock, pthread_rwlock_tryrdlock, EBUSY, reads(lock), IS_CLOCK(clock) && is_time(until), (pthread_rwlock_t * lock, clockid_t clock, deadline until), (lock, clock, until))
-TAKING(pthread_rwlock_wrlock, pthread_rwlock_trywrlock, EBUSY, MODE_WRITE, true, (pthread_rwlock_t * lock), (lock))
+TAKING(pthread_rwlock_timedrdlock, pthread_rwlock_tryrdlock, EBUSY, reads(lock), is_time(until), false, (pthread_rwlock_t * lock, deadline until), (lock, until))
+TAKING(pthread_rwlock_clockrdlock, pthread_rwlock_tryrdlock, EBUSY, reads(lock), IS_CLOCK(clock) && is_time(until), false, (pthread_rwlock_t * lock, clockid_t clock, deadline until), (lock, clock, until))
+TAKING(pthread_rwlock_wrlock, pthread_rwlock_trywrlock, EBUSY, MODE_WRITE, true, true, (pthread_rwlock_t * lock), (lock))
 TRYING(pthread_rwlock_trywrlock, MODE_TRY_WRITE, (pthread_rwlock_t * lock), (lock))
-TAKING(pthread_rwlock_timedwrlock, pthread_rwlock_trywrlock, EBUSY, MODE_WRITE, is_time(until), (pthread_rwlock_t * lock, deadline until), (lock, until))
-TAKING(pthread_rwlock_clockwrlock, pthread_rwlock_trywrlock, EBUSY, MODE_WRITE, IS_CLOCK(clock) && is_time(until), (pthread_rwlock_t * lock, clockid_t clock, deadline until), (lock, clock, until))
+TAKING(pthread_rwlock_timedwrlock, pthread_rwlock_trywrlock, EBUSY, MODE_WRITE, is_time(until), false, (pthread_rwlock_t * lock, deadline until), (lock, until))
+TAKING(pthread_rwlock_clockwrlock, pthread_rwlock_trywrlock, EBUSY, MODE_WRITE, IS_CLOCK(clock) && is_time(until), false, (pthread_rwlock_t * lock, clockid_t clock, deadline until), (lock, clock, until))
 RELEASING(pthread_rwlock_unlock, pthread_rwlock_t)
 
 INITIALISING(pthread_spin_init, pthread_spinlock_t volatile, int shared, shared)
 DESTROYING(pthread_spin_destroy, pthread_spinlock_t volatile)
-TAKING(pthread_spin_lock, pthread_spin_trylock, EBUSY, MODE_WRITE, true, (pthread_spinlock_t volatile *lock), (lock))
+TAKING(pthread_spin_lock, pthread_spin_trylock, EBUSY, MODE_WRITE, true, true, (pthread_spinlock_t volatile *lock), (lock))
 TRYING(pthread_spin_trylock, MODE_TRY_WRITE, (pthread_spinlock_t volatile *lock), (lock))
 RELEASING(pthread_spin_unlock, pthread_spinlock_t volatile)
 
@@ -211,8 +212,8 @@ EXPORT void mtx_destroy(mtx_t *lock) {
     destroyed((uintptr_t)lock, HERE);
 }
 
-TAKING(mtx_lock, mtx_trylock, thrd_busy, MODE_WRITE, true, (mtx_t * lock), (lock))
-TAKING(mtx_timedlock, mtx_trylock, thrd_busy, MODE_WRITE, true, (mtx_t * restrict lock, const struct timespec *restrict until), (lock, until))
+TAKING(mtx_lock, mtx_trylock, thrd_busy, MODE_WRITE, true, true, (mtx_t * lock), (lock))
+TAKING(mtx_timedlock, mtx_trylock, thrd_busy, MODE_WRITE, true, false, (mtx_t * restrict lock, const struct timespec *restrict until), (lock, until))
 TRYING(mtx_trylock, MODE_TRY_WRITE, (mtx_t * lock), (lock))
 RELEASING(mtx_unlock, mtx_t)
 
