@@ -53,9 +53,10 @@ static inline bool resolved(void) { return LIKELY(LOAD(&resolve_state) == 2) || 
 
 /* The real function, if the real functions can be found; else NULL. One that is known is all that has to be looked at. */
 #define READY(name) ((__typeof__(&name))ready(&real_##name, #name))
+__attribute__((noinline)) static void *make_ready(void **known, const char *name) { return resolved() ? find_real(known, name) : NULL; }
 static inline void *ready(void **known, const char *name) {
     void *real = LOAD(known);
-    return LIKELY(real) ? real : resolved() ? find_real(known, name) : NULL;
+    return LIKELY(real) ? real : make_ready(known, name);
 }
 
 /* ---- Acquisitions. A call has taken the lock if it returns 0, or if the owner died with a robust mutex held. */

@@ -127,6 +127,11 @@ QUICK void go_outside(void) {
     self.inside_frame = 0;
 }
 
+extern uint64_t is_memo_off; /* by LOCKDEP_MEMO=off, for tests: what is recorded is the same */
+
+/* Whether there is nothing that the thread has to look at on its way. */
+QUICK bool is_settled(const struct thread *t) { return !(t->loading.lock | t->wish.frame | t->failed_under | is_memo_off); }
+
 /* ---- Steps. */
 
 QUICK uintptr_t step_from(uintptr_t caller, uint8_t mode, enum kind kind) { return caller << 8 | (uintptr_t)kind << 4 | mode; }
@@ -143,8 +148,8 @@ QUICK bool step_on(struct thread *t, uintptr_t lock, uintptr_t from) {
     struct raw_thread *raw = t->raw;
     uint64_t before = t->hash, count = raw->count, nth = count - t->records_from;
     const struct step *s = step_at(t, step_key(before, lock, from));
-    if (s->held.lock != lock || s->from != from || s->before != before || s->era != LOAD(era) ||
-        __atomic_load_n(s->slot, __ATOMIC_RELAXED) != s->word || *s->looks || nth >= t->records_room)
+    if (!is_settled(t) || s->held.lock != lock || s->from != from || s->before != before || s->era != LOAD(era) ||
+        LOAD(s->slot) != s->word || *s->looks || nth >= t->records_room)
         return false;
     struct entry *e = &t->entries[t->depth];
     memcpy(&e->held, &s->held, SAME_OF_HELD);
@@ -167,8 +172,8 @@ QUICK bool step_on(struct thread *t, uintptr_t lock, uintptr_t from) {
 QUICK bool step_back(struct thread *t, uintptr_t lock) {
     const struct entry *e = &t->entries[t->depth] - 1;
     uint64_t start = e->level.start;
-    if (e->held.lock != lock || e->held.depth || start < t->fresh_end || e->level.hash != e[-1].links.hash ||
-        t->era != LOAD(era) || memcmp(e->held.what, e->links.what, sizeof e->held.what) != 0)
+    if (!is_settled(t) || e->held.lock != lock || e->held.depth || start < t->fresh_end ||
+        e->level.hash != e[-1].links.hash || t->era != LOAD(era) || memcmp(e->held.what, e->links.what, sizeof e->held.what) != 0)
         return false;
     struct raw_thread *raw = t->raw;
     t->hash = e->level.hash;
@@ -179,18 +184,10 @@ QUICK bool step_back(struct thread *t, uintptr_t lock) {
     return true;
 }
 
-extern uint64_t is_memo_off; /* by LOCKDEP_MEMO=off, for tests: what is recorded is the same */
-
-/* The thread, if it is outside of the recorder, and isn't in anything that is to be looked at on the way. */
-QUICK struct thread *stepping(void) {
-    struct thread *t = self.thread;
-    return LIKELY(t && !(self.inside_frame | t->loading.lock | t->wish.frame | t->failed_under | is_memo_off)) ? t : NULL;
-}
-
 /* Whether that was all; else it is to be recorded the long way. */
 QUICK bool acquired_again(uintptr_t lock, uint8_t mode, enum kind kind, struct call call) {
-    struct thread *t = stepping();
-    if (!t)
+    struct thread *t = self.thread;
+    if (RARELY(!t || self.inside_frame))
         return false;
     go_inside(call);
     bool is_done = step_on(t, lock, step_from(call.caller, mode, kind));
@@ -199,8 +196,8 @@ QUICK bool acquired_again(uintptr_t lock, uint8_t mode, enum kind kind, struct c
 }
 
 QUICK bool released_again(uintptr_t lock, struct call call) {
-    struct thread *t = stepping();
-    if (!t)
+    struct thread *t = self.thread;
+    if (RARELY(!t || self.inside_frame))
         return false;
     go_inside(call);
     bool is_done = step_back(t, lock);
