@@ -80,9 +80,10 @@ static inline bool took(int answer) { return answer == 0 || answer == EOWNERDEAD
    a call would refuse for another reason than that, it refuses as before: `is_sound` says that it may be tried. What is taken again is
    looked up at once in the calls that programs make often: that takes room in each. */
 #define TAKING(name, try, taken, mode, is_sound, is_often, parameters, arguments)                                      \
-    __attribute__((noinline)) static int wait_by_##name AND_CALL parameters {                                          \
-        bool is_wish = begin_wish((uintptr_t)lock, mode, KIND_OF(lock), call);                                         \
-        int answer = REAL(name) arguments;                                                                             \
+    __attribute__((noinline)) static int wait_by_##name AND_MORE parameters {                                          \
+        bool is_taken = answer == taken, is_wish = is_taken && begin_wish((uintptr_t)lock, mode, KIND_OF(lock), call); \
+        if (is_taken)                                                                                                  \
+            answer = REAL(name) arguments;                                                                             \
         if (is_wish ? !end_wish((uintptr_t)lock, took(answer), call) : took(answer))                                   \
             acquired((uintptr_t)lock, mode, KIND_OF(lock), call);                                                      \
         return answer;                                                                                                 \
@@ -92,16 +93,14 @@ static inline bool took(int answer) { return answer == 0 || answer == EOWNERDEAD
         if (!real_try)                                                                                                 \
             return 0;                                                                                                  \
         int answer = is_sound ? real_try(lock) : taken;                                                                \
-        if (LIKELY(is_often && answer == 0 && acquired_again((uintptr_t)lock, mode, KIND_OF(lock), HERE)))             \
-            return 0;                                                                                                  \
-        if (answer == taken)                                                                                           \
-            return wait_by_##name AND_HERE arguments;                                                                  \
-        if (took(answer))                                                                                              \
+        if (RARELY(answer != 0))                                                                                       \
+            return wait_by_##name AND_THESE arguments;                                                                 \
+        if (!is_often || !acquired_again((uintptr_t)lock, mode, KIND_OF(lock), HERE))                                  \
             acquired((uintptr_t)lock, mode, KIND_OF(lock), HERE);                                                      \
-        return answer;                                                                                                 \
+        return 0;                                                                                                      \
     }
-#define AND_CALL(...) (__VA_ARGS__, struct call call)
-#define AND_HERE(...) (__VA_ARGS__, HERE)
+#define AND_MORE(...) (__VA_ARGS__, int answer, struct call call)
+#define AND_THESE(...) (__VA_ARGS__, answer, HERE)
 
 #define KIND_OF(lock)                                                                                                  \
     _Generic((lock), pthread_mutex_t *: KIND_MUTEX, mtx_t *: KIND_MUTEX, pthread_rwlock_t *: KIND_RWLOCK, default: KIND_SPIN)

@@ -146,10 +146,13 @@ QUICK struct step *step_at(const struct thread *t, uint64_t key) { return &t->st
    when the same locks were held before. */
 QUICK bool step_on(struct thread *t, uintptr_t lock, uintptr_t from) {
     struct raw_thread *raw = t->raw;
-    uint64_t before = t->hash, count = raw->count, nth = count - t->records_from;
+    uint64_t before = t->hash;
     const struct step *s = step_at(t, step_key(before, lock, from));
     if (!is_settled(t) || s->held.lock != lock || s->from != from || s->before != before || s->era != LOAD(era) ||
-        LOAD(s->slot) != s->word || *s->looks || nth >= t->records_room)
+        LOAD(s->slot) != s->word || *s->looks)
+        return false;
+    uint64_t count = raw->count, nth = count - t->records_from;
+    if (nth >= t->records_room)
         return false;
     struct entry *e = &t->entries[t->depth];
     memcpy(&e->held, &s->held, SAME_OF_HELD);
