@@ -414,10 +414,12 @@ bool is_single(uint32_t object) {
 /* Whether a lock stays this object as long as the table of locks says so, wherever it is taken. */
 bool is_lasting(uint32_t object, bool is_nested) {
     uint32_t class = class_of(object);
-    if (kind_of(class) == CLASS_STACK || !is_nested || is_single(object))
-        return kind_of(class) != CLASS_STACK;
+    if (kind_of(class) == CLASS_STACK)
+        return false;
+    if (!is_nested || is_single(object))
+        return true;
     const struct kept_of_class *kept = kept_of(class);
-    return !ordinal_of(object) && kept && !~LOAD(&kept->given);
+    return !ordinal_of(object) && kept && !~LOAD(&kept->given); /* no lock of the class becomes an object of its own any more */
 }
 
 /* ---- Locks that are initialised, and those that are no more. */

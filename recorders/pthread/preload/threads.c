@@ -17,12 +17,6 @@ static bool has_thread_end;
 
 /* ---- Making a thread, and its end. */
 
-/* Something may mean something else from now on. */
-void change_era(void) {
-    if (LOAD(era))
-        __atomic_fetch_add(era, 1, __ATOMIC_RELEASE);
-}
-
 FOUND_WHEN_LOADED(set_value, pthread_setspecific);
 
 static struct thread *threads; /* all that were made, in use or not */
@@ -390,6 +384,12 @@ static uint32_t find_held(const struct thread *t, uintptr_t lock) {
     return RAW_HELD;
 }
 
+/* What was held, or what an address meant, may be another from now on. */
+void change_era(void) {
+    if (LOAD(era))
+        __atomic_fetch_add(era, 1, __ATOMIC_RELEASE);
+}
+
 /* Somebody releases a lock that this thread wasn't seen to take: it may be one that another thread holds. */
 static void release_others(struct thread *t, uintptr_t lock) {
     t->raw->left_out.releases++;
@@ -671,24 +671,35 @@ static bool are_single(const struct thread *t) {
     return true;
 }
 
-/* Notes how the newest lock was taken, if that was nothing new, and will be the same again. */
-static void note_step(struct thread *t, uintptr_t from, uintptr_t caller) {
+/* A step that a jump leaves half written is none: `from` is never 0. */
+static void write_step(struct step *s, const struct thread *t, uintptr_t from, const uint64_t *slot, uint64_t word, uint32_t place) {
     const struct entry *e = &t->entries[t->depth] - 1;
-    uint32_t object = object_of(&e->held);
-    if (e->held.record < t->fresh_end || !e->held.is_written || e->held.kind == KIND_COUNTED)
-        return;
-    struct step *s = place_of_step(t, step_key(e->level.hash, e->held.lock, from));
-    if (!s || !is_lasting(object, t->depth > 1) || !are_single(t))
-        return;
-    s->slot = lock_slot(e->held.lock, object, &s->word);
+    s->from = 0;
+    __atomic_signal_fence(__ATOMIC_SEQ_CST);
     s->held = e->held;
-    s->held.lock = s->slot ? e->held.lock : 0;
     s->links = e->links;
     s->before = e->level.hash;
-    s->from = from;
-    s->looks = looks_left_at(class_of(object));
+    s->slot = slot;
+    s->word = word;
+    s->looks = looks_left_at(raw_object(e->held.what[BY_CLASSES]));
     s->era = t->era;
-    s->place = cached_place(t, caller);
+    s->place = place;
+    __atomic_signal_fence(__ATOMIC_SEQ_CST);
+    s->from = from;
+}
+
+/* Notes how the newest lock was taken, if that was nothing new, and will be the same again. */
+static void note_step(struct thread *t, uintptr_t from, uintptr_t caller) {
+    const struct held *h = &(&t->entries[t->depth] - 1)->held;
+    uint64_t word;
+    if (h->record < t->fresh_end || !h->is_written || h->kind == KIND_COUNTED)
+        return;
+    struct step *s = place_of_step(t, step_key(hash_of(t, t->depth - 1), h->lock, from));
+    if (!s || !is_lasting(object_of(h), t->depth > 1) || !are_single(t))
+        return;
+    const uint64_t *slot = lock_slot(h->lock, object_of(h), &word);
+    if (slot)
+        write_step(s, t, from, slot, word, cached_place(t, caller));
 }
 
 static void take_lock(struct thread *t, uintptr_t lock, uint8_t mode, enum kind kind, struct call call) {
