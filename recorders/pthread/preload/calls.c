@@ -78,7 +78,7 @@ static inline bool took(int answer) { return answer == 0 || answer == EOWNERDEAD
 
 /* A call that may wait. The lock is tried first; only if it is taken by another is it waited for, and that is written before. What
    a call would refuse for another reason than that, it refuses as before: `is_sound` says that it may be tried. What is taken again is
-   looked up at once in the calls that programs make often: that takes room in each. */
+   looked up right there in the calls that programs make often: that takes room in each. */
 #define TAKING(name, try, taken, mode, is_sound, is_often, parameters, arguments)                                      \
     __attribute__((noinline)) static int wait_by_##name AND_MORE parameters {                                          \
         bool is_taken = answer == taken, is_wish = is_taken && begin_wish((uintptr_t)lock, mode, KIND_OF(lock), call); \
@@ -95,8 +95,10 @@ static inline bool took(int answer) { return answer == 0 || answer == EOWNERDEAD
         int answer = is_sound ? real_try(lock) : taken;                                                                \
         if (RARELY(answer != 0))                                                                                       \
             return wait_by_##name AND_THESE arguments;                                                                 \
-        if (!is_often || !acquired_again((uintptr_t)lock, mode, KIND_OF(lock), HERE))                                  \
+        if (!is_often)                                                                                                 \
             acquired((uintptr_t)lock, mode, KIND_OF(lock), HERE);                                                      \
+        else if (!acquired_again((uintptr_t)lock, mode, KIND_OF(lock), HERE))                                          \
+            acquired_anew((uintptr_t)lock, mode, KIND_OF(lock), HERE);                                                 \
         return 0;                                                                                                      \
     }
 #define AND_MORE(...) (__VA_ARGS__, int answer, struct call call)

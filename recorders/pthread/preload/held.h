@@ -187,7 +187,7 @@ QUICK bool step_back(struct thread *t, uintptr_t lock) {
     return true;
 }
 
-/* Whether that was all; else it is to be recorded the long way. */
+/* Whether that was all; else it is to be recorded the long way, by acquired_anew. */
 QUICK bool acquired_again(uintptr_t lock, uint8_t mode, enum kind kind, struct call call) {
     struct thread *t = self.thread;
     if (RARELY(!t || self.inside_frame))

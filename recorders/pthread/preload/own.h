@@ -290,6 +290,7 @@ void end_inside(void);
 bool is_inside(void);
 bool is_recording(void);
 void acquired(uintptr_t lock, uint8_t mode, enum kind kind, struct call call);
+void acquired_anew(uintptr_t lock, uint8_t mode, enum kind kind, struct call call); /* without looking up whether it repeats */
 bool begin_wish(uintptr_t lock, uint8_t mode, enum kind kind, struct call call);
 bool end_wish(uintptr_t lock, bool is_taken, struct call call);
 void releasing(uintptr_t lock, struct call call);

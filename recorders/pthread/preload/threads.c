@@ -718,6 +718,11 @@ static void take_lock(struct thread *t, uintptr_t lock, uint8_t mode, enum kind 
 }
 
 void acquired(uintptr_t lock, uint8_t mode, enum kind kind, struct call call) {
+    if (!acquired_again(lock, mode, kind, call))
+        acquired_anew(lock, mode, kind, call);
+}
+
+__attribute__((noinline)) void acquired_anew(uintptr_t lock, uint8_t mode, enum kind kind, struct call call) {
     struct thread *t = enter(call);
     if (!t)
         return;
