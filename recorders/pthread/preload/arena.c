@@ -17,8 +17,8 @@
 struct raw_arena *arena;
 uint32_t own_process;
 
-static volatile uint32_t not_alive;
-volatile uint32_t *alive = &not_alive;
+static volatile uint64_t not_alive;
+volatile uint64_t *era = &not_alive;
 
 /* ---- Parts of the file. */
 
@@ -297,20 +297,20 @@ static void note_process(uint32_t id, uint32_t parent) {
 static void begin_life(void) {
     if (!advise(life_page(), PAGE, MADV_WIPEONFORK))
         pthread_atfork(NULL, NULL, begin_in_fork);
-    alive = life_page();
-    *alive = 1;
+    era = life_page();
+    *era = 1;
 }
 
 /* A child goes on in its parent's file, and knows what its parent knew. */
 static void after_fork_in_child(void) {
-    *alive = 1;
+    *era = 1;
     note_process(process_id(), own_process);
     begin_threads();
 }
 
 /* In a child that was forked without our knowledge. */
 bool revived(void) {
-    if (!arena || alive == &not_alive)
+    if (!arena || era == &not_alive)
         return false;
     after_fork_in_child();
     return true;
@@ -319,7 +319,7 @@ bool revived(void) {
 /* In a child. If one of the program's own handlers of forks has taken a lock before, the child has begun already, and others may have
    assigned to locks since. */
 void begin_in_fork(void) {
-    if (alive == &not_alive)
+    if (era == &not_alive)
         return;
     struct raw_process *process = own_process ? part_of(RAW_PROCESSES, own_process) : NULL;
     if (!process || process->id != process_id())

@@ -1,5 +1,5 @@
 /* The functions that programs call instead of glibc's. */
-#include "own.h"
+#include "held.h"
 
 #include <errno.h>
 #include <pthread.h>
@@ -53,10 +53,15 @@ static inline bool resolved(void) { return LIKELY(LOAD(&resolve_state) == 2) || 
 
 /* The real function, if the real functions can be found; else NULL. One that is known is all that has to be looked at. */
 #define READY(name) ((__typeof__(&name))ready(&real_##name, #name))
+__attribute__((noinline)) static void *make_ready(void **known, const char *name) { return resolved() ? find_real(known, name) : NULL; }
 static inline void *ready(void **known, const char *name) {
     void *real = LOAD(known);
-    return LIKELY(real) ? real : resolved() ? find_real(known, name) : NULL;
+    return LIKELY(real) ? real : make_ready(known, name);
 }
+
+/* Begins a line of the processor's, so that how its code lies in the lines doesn't change with what is before it. That is a fourth of the
+   time of a lock that is taken again. */
+#define LINED_UP __attribute__((aligned(64)))
 
 /* ---- Acquisitions. A call has taken the lock if it returns 0, or if the owner died with a robust mutex held. */
 
@@ -71,45 +76,57 @@ static inline bool took(int answer) { return answer == 0 || answer == EOWNERDEAD
         int answer = real arguments;                                                                                   \
         tried((uintptr_t)lock, !took(answer), HERE);                                                                         \
         if (took(answer))                                                                                              \
-            acquired((uintptr_t)lock, mode, KIND_OF(lock), HERE);                                                 \
+            acquired((uintptr_t)lock, mode, KIND_OF(lock), HERE);                                                      \
         return answer;                                                                                                 \
     }
 
 /* A call that may wait. The lock is tried first; only if it is taken by another is it waited for, and that is written before. What
-   a call would refuse for another reason than that, it refuses as before: `is_sound` says that it may be tried. */
-#define TAKING(name, try, taken, mode, is_sound, parameters, arguments)                                                \
-    EXPORT int name parameters {                                                                                       \
+   a call would refuse for another reason than that, it refuses as before: `is_sound` says that it may be tried. What is taken again is
+   looked up right there in the calls that programs make often: that takes room in each. */
+#define TAKING(name, try, taken, mode, is_sound, is_often, parameters, arguments)                                      \
+    __attribute__((noinline)) static int wait_by_##name AND_MORE parameters {                                          \
+        bool is_taken = answer == taken, is_wish = is_taken && begin_wish((uintptr_t)lock, mode, KIND_OF(lock), call); \
+        if (is_taken)                                                                                                  \
+            answer = REAL(name) arguments;                                                                             \
+        if (is_wish ? !end_wish((uintptr_t)lock, took(answer), call) : took(answer))                                   \
+            acquired((uintptr_t)lock, mode, KIND_OF(lock), call);                                                      \
+        return answer;                                                                                                 \
+    }                                                                                                                  \
+    LINED_UP EXPORT int name parameters {                                                                              \
         __typeof__(&try) real_try = READY(try);                                                                        \
         if (!real_try)                                                                                                 \
             return 0;                                                                                                  \
         int answer = is_sound ? real_try(lock) : taken;                                                                \
-        if (answer != taken) {                                                                                         \
-            if (took(answer))                                                                                          \
-                acquired((uintptr_t)lock, mode, KIND_OF(lock), HERE);                                             \
-            return answer;                                                                                             \
-        }                                                                                                              \
-        bool is_wish = begin_wish((uintptr_t)lock, mode, KIND_OF(lock), HERE);                                         \
-        answer = REAL(name) arguments;                                                                                 \
-        if (is_wish ? !end_wish((uintptr_t)lock, took(answer), HERE) : took(answer))                                   \
+        if (RARELY(answer != 0))                                                                                       \
+            return wait_by_##name AND_THESE arguments;                                                                 \
+        if (!is_often)                                                                                                 \
             acquired((uintptr_t)lock, mode, KIND_OF(lock), HERE);                                                      \
-        return answer;                                                                                                 \
+        else if (!acquired_again((uintptr_t)lock, mode, KIND_OF(lock), HERE))                                          \
+            acquired_anew((uintptr_t)lock, mode, KIND_OF(lock), HERE);                                                 \
+        return 0;                                                                                                      \
     }
+#define AND_MORE(...) (__VA_ARGS__, int answer, struct call call)
+#define AND_THESE(...) (__VA_ARGS__, answer, HERE)
 
 #define KIND_OF(lock)                                                                                                  \
     _Generic((lock), pthread_mutex_t *: KIND_MUTEX, mtx_t *: KIND_MUTEX, pthread_rwlock_t *: KIND_RWLOCK, default: KIND_SPIN)
 
 #define RELEASING(name, type)                                                                                          \
-    EXPORT int name(type *lock) {                                                                                      \
+    __attribute__((noinline)) static int by_##name(type *lock, struct call call) {                                     \
         __typeof__(&name) real = READY(name);                                                                          \
         if (!real)                                                                                                     \
             return 0;                                                                                                  \
         if (KNOWS_OWNER(lock)) {                                                                                       \
-            if (RARELY(!releasing_own((uintptr_t)lock, HERE)))                                                         \
-                return release_unseen((int (*)(void *))real, (void *)lock, HERE);                                          \
+            if (RARELY(!releasing_own((uintptr_t)lock, call)))                                                         \
+                return release_unseen((int (*)(void *))real, (void *)lock, call);                                      \
         } else {                                                                                                       \
-            releasing((uintptr_t)lock, HERE);                                                                          \
+            releasing((uintptr_t)lock, call);                                                                          \
         }                                                                                                              \
         return real(lock);                                                                                             \
+    }                                                                                                                  \
+    LINED_UP EXPORT int name(type *lock) {                                                                             \
+        __typeof__(&name) real = (__typeof__(&name))LOAD(&real_##name);                                                \
+        return LIKELY(real && released_again((uintptr_t)lock, HERE)) ? real(lock) : by_##name(lock, HERE);             \
     }
 
 /* A mutex that refuses to be released by a thread that didn't take it: one that is recursive, checked, robust, or lends its holder a
@@ -155,10 +172,10 @@ typedef const struct timespec *deadline;
 
 INITIALISING(pthread_mutex_init, pthread_mutex_t, const pthread_mutexattr_t *how, how)
 DESTROYING(pthread_mutex_destroy, pthread_mutex_t)
-TAKING(pthread_mutex_lock, pthread_mutex_trylock, EBUSY, MODE_WRITE, true, (pthread_mutex_t * lock), (lock))
+TAKING(pthread_mutex_lock, pthread_mutex_trylock, EBUSY, MODE_WRITE, true, true, (pthread_mutex_t * lock), (lock))
 TRYING(pthread_mutex_trylock, MODE_TRY_WRITE, (pthread_mutex_t * lock), (lock))
-TAKING(pthread_mutex_timedlock, pthread_mutex_trylock, EBUSY, MODE_WRITE, true, (pthread_mutex_t * lock, deadline until), (lock, until))
-TAKING(pthread_mutex_clocklock, pthread_mutex_trylock, EBUSY, MODE_WRITE, IS_CLOCK(clock), (pthread_mutex_t * lock, clockid_t clock, deadline until), (lock, clock, until))
+TAKING(pthread_mutex_timedlock, pthread_mutex_trylock, EBUSY, MODE_WRITE, true, false, (pthread_mutex_t * lock, deadline until), (lock, until))
+TAKING(pthread_mutex_clocklock, pthread_mutex_trylock, EBUSY, MODE_WRITE, IS_CLOCK(clock), false, (pthread_mutex_t * lock, clockid_t clock, deadline until), (lock, clock, until))
 RELEASING(pthread_mutex_unlock, pthread_mutex_t)
 
 /* A read-write lock of glibc lets readers pass waiting writers, unless it was made to prefer writers. */
@@ -168,19 +185,19 @@ static uint8_t reads(const pthread_rwlock_t *lock) {
 
 INITIALISING(pthread_rwlock_init, pthread_rwlock_t, const pthread_rwlockattr_t *how, how)
 DESTROYING(pthread_rwlock_destroy, pthread_rwlock_t)
-TAKING(pthread_rwlock_rdlock, pthread_rwlock_tryrdlock, EBUSY, reads(lock), true, (pthread_rwlock_t * lock), (lock))
+TAKING(pthread_rwlock_rdlock, pthread_rwlock_tryrdlock, EBUSY, reads(lock), true, true, (pthread_rwlock_t * lock), (lock))
 TRYING(pthread_rwlock_tryrdlock, (uint8_t)(reads(lock) + TRIES), (pthread_rwlock_t * lock), (lock))
-TAKING(pthread_rwlock_timedrdlock, pthread_rwlock_tryrdlock, EBUSY, reads(lock), is_time(until), (pthread_rwlock_t * lock, deadline until), (lock, until))
-TAKING(pthread_rwlock_clockrdlock, pthread_rwlock_tryrdlock, EBUSY, reads(lock), IS_CLOCK(clock) && is_time(until), (pthread_rwlock_t * lock, clockid_t clock, deadline until), (lock, clock, until))
-TAKING(pthread_rwlock_wrlock, pthread_rwlock_trywrlock, EBUSY, MODE_WRITE, true, (pthread_rwlock_t * lock), (lock))
+TAKING(pthread_rwlock_timedrdlock, pthread_rwlock_tryrdlock, EBUSY, reads(lock), is_time(until), false, (pthread_rwlock_t * lock, deadline until), (lock, until))
+TAKING(pthread_rwlock_clockrdlock, pthread_rwlock_tryrdlock, EBUSY, reads(lock), IS_CLOCK(clock) && is_time(until), false, (pthread_rwlock_t * lock, clockid_t clock, deadline until), (lock, clock, until))
+TAKING(pthread_rwlock_wrlock, pthread_rwlock_trywrlock, EBUSY, MODE_WRITE, true, true, (pthread_rwlock_t * lock), (lock))
 TRYING(pthread_rwlock_trywrlock, MODE_TRY_WRITE, (pthread_rwlock_t * lock), (lock))
-TAKING(pthread_rwlock_timedwrlock, pthread_rwlock_trywrlock, EBUSY, MODE_WRITE, is_time(until), (pthread_rwlock_t * lock, deadline until), (lock, until))
-TAKING(pthread_rwlock_clockwrlock, pthread_rwlock_trywrlock, EBUSY, MODE_WRITE, IS_CLOCK(clock) && is_time(until), (pthread_rwlock_t * lock, clockid_t clock, deadline until), (lock, clock, until))
+TAKING(pthread_rwlock_timedwrlock, pthread_rwlock_trywrlock, EBUSY, MODE_WRITE, is_time(until), false, (pthread_rwlock_t * lock, deadline until), (lock, until))
+TAKING(pthread_rwlock_clockwrlock, pthread_rwlock_trywrlock, EBUSY, MODE_WRITE, IS_CLOCK(clock) && is_time(until), false, (pthread_rwlock_t * lock, clockid_t clock, deadline until), (lock, clock, until))
 RELEASING(pthread_rwlock_unlock, pthread_rwlock_t)
 
 INITIALISING(pthread_spin_init, pthread_spinlock_t volatile, int shared, shared)
 DESTROYING(pthread_spin_destroy, pthread_spinlock_t volatile)
-TAKING(pthread_spin_lock, pthread_spin_trylock, EBUSY, MODE_WRITE, true, (pthread_spinlock_t volatile *lock), (lock))
+TAKING(pthread_spin_lock, pthread_spin_trylock, EBUSY, MODE_WRITE, true, true, (pthread_spinlock_t volatile *lock), (lock))
 TRYING(pthread_spin_trylock, MODE_TRY_WRITE, (pthread_spinlock_t volatile *lock), (lock))
 RELEASING(pthread_spin_unlock, pthread_spinlock_t volatile)
 
@@ -201,8 +218,8 @@ EXPORT void mtx_destroy(mtx_t *lock) {
     destroyed((uintptr_t)lock, HERE);
 }
 
-TAKING(mtx_lock, mtx_trylock, thrd_busy, MODE_WRITE, true, (mtx_t * lock), (lock))
-TAKING(mtx_timedlock, mtx_trylock, thrd_busy, MODE_WRITE, true, (mtx_t * restrict lock, const struct timespec *restrict until), (lock, until))
+TAKING(mtx_lock, mtx_trylock, thrd_busy, MODE_WRITE, true, true, (mtx_t * lock), (lock))
+TAKING(mtx_timedlock, mtx_trylock, thrd_busy, MODE_WRITE, true, false, (mtx_t * restrict lock, const struct timespec *restrict until), (lock, until))
 TRYING(mtx_trylock, MODE_TRY_WRITE, (mtx_t * lock), (lock))
 RELEASING(mtx_unlock, mtx_t)
 

@@ -183,6 +183,8 @@ static uint8_t *looks_of(uint32_t class) {
     return NTH(looks_left, which);
 }
 
+const uint8_t *looks_left_at(uint32_t class) { return looks_of(class); }
+
 static bool is_known_by_address(uint32_t kind) { return kind == CLASS_STATIC || kind == CLASS_THREAD || kind == CLASS_FILE; }
 
 static uint32_t define_class(const struct raw_class *new) {
@@ -401,6 +403,23 @@ uint32_t apart(uintptr_t lock, uint32_t object) {
     uint32_t ordinal = kept ? taken_ordinal(kept) : 0;
     uint32_t own = ordinal ? object_numbered(class, ordinal) : 0;
     return own && put_lock(lock, own) == own ? own : object;
+}
+
+/* Whether the object is of one lock alone, at one address, and stays so. */
+bool is_single(uint32_t object) {
+    uint32_t ordinal = ordinal_of(object);
+    return ordinal && ordinal != RAW_SHARED;
+}
+
+/* Whether a lock stays this object as long as the table of locks says so, wherever it is taken. */
+bool is_lasting(uint32_t object, bool is_nested) {
+    uint32_t class = class_of(object);
+    if (kind_of(class) == CLASS_STACK)
+        return false;
+    if (!is_nested || is_single(object))
+        return true;
+    const struct kept_of_class *kept = kept_of(class);
+    return !ordinal_of(object) && kept && !~LOAD(&kept->given); /* no lock of the class becomes an object of its own any more */
 }
 
 /* ---- Locks that are initialised, and those that are no more. */

@@ -37,6 +37,7 @@
 #define UNROLLED _Pragma("GCC unroll 8")
 /* Keeps a loop from being made a call of the C library's, which would have to be found first. */
 #define AS_WRITTEN __asm__ volatile("")
+#define QUICK static inline __attribute__((always_inline)) /* a step of the way that calls go which bring nothing new */
 #define EARLY_THREAD_LOCAL __thread __attribute__((tls_model("initial-exec")))
 
 #define LOAD(at) __atomic_load_n(at, __ATOMIC_ACQUIRE)
@@ -77,8 +78,9 @@ const char *variable(const char *name); /* of the environment */
 extern struct raw_arena *arena; /* NULL if nothing is recorded */
 extern uint32_t own_process;    /* the number of this process in it */
 
-/* Not 0 while this process is recorded. The system makes it 0 in a child, whichever way it was forked. */
-extern volatile uint32_t *alive;
+/* Not 0 while this process is recorded, and another number when a lock was released by a thread that wasn't seen to hold it, when a semaphore
+   was found to be no lock, or when a library was closed. The system makes it 0 in a child, whichever way it was forked. */
+extern volatile uint64_t *era;
 bool revived(void); /* whether the process is recorded after all */
 void begin_in_fork(void);
 
@@ -131,6 +133,7 @@ static inline int nth_level(int main_level, int n) { return n <= main_level ? ma
 static inline bool is_crowded(uint64_t overflows, uint32_t line_bits) { return overflows > UINT64_C(1) << line_bits >> 3; }
 
 uint32_t lock_object(uintptr_t lock); /* the object of a lock, or 0 */
+const uint64_t *lock_slot(uintptr_t lock, uint32_t object, uint64_t *word); /* what says so, and with which word; NULL: it isn't */
 uint32_t put_lock(uintptr_t lock, uint32_t object); /* the object that it is then, or 0 if there is no room */
 uint32_t add_lock(uintptr_t lock, uint32_t object); /* the same of a lock that isn't there */
 void drop_lock(uintptr_t lock);
@@ -259,6 +262,9 @@ uint32_t apart(uintptr_t lock, uint32_t object); /* an object of its own for a n
 static inline uint32_t class_of(uint32_t object) { return ((struct raw_object *)part_of(RAW_OBJECTS, object))->class; }
 /* Whether the object is a semaphore that was found to be no lock. */
 static inline bool is_signal(uint32_t object) { return LOAD(&((struct raw_object *)part_of(RAW_OBJECTS, object))->is_signal); }
+bool is_single(uint32_t object);
+bool is_lasting(uint32_t object, bool is_nested);
+const uint8_t *looks_left_at(uint32_t class);
 bool is_mapped_place(uint32_t place);
 void note_size(uint32_t place, uint64_t bytes);
 void look_at_taker(uint32_t class, struct call call);
@@ -290,6 +296,7 @@ void end_inside(void);
 bool is_inside(void);
 bool is_recording(void);
 void acquired(uintptr_t lock, uint8_t mode, enum kind kind, struct call call);
+void acquired_anew(uintptr_t lock, uint8_t mode, enum kind kind, struct call call); /* without looking up whether it repeats */
 bool begin_wish(uintptr_t lock, uint8_t mode, enum kind kind, struct call call);
 bool end_wish(uintptr_t lock, bool is_taken, struct call call);
 void releasing(uintptr_t lock, struct call call);
@@ -307,6 +314,7 @@ bool is_held_once(uintptr_t lock);
 bool is_any_held(void);
 void note_own_lock(uintptr_t lock);
 void enter_loader(uintptr_t loader, uintptr_t function, struct call call);
+void change_era(void);
 void begin_threads(void);
 
 #endif

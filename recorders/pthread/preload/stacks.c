@@ -13,7 +13,10 @@
 
 uint32_t rules_epoch;
 
-void forget_rules(void) { ADD(&rules_epoch, 1); }
+void forget_rules(void) {
+    ADD(&rules_epoch, 1);
+    change_era();
+}
 
 /* Whether a word stands there, in memory that may be unmapped: the system looks, by a wait for another word that may take no time. */
 bool has_word(uintptr_t address, uint32_t word) {

@@ -94,7 +94,7 @@ void *find_next(const char *name) {
     return symbol ? (void *)(l.bias + symbol->st_value) : dlsym(RTLD_NEXT, name);
 }
 
-void *find_real(void **known, const char *name) {
+__attribute__((noinline)) void *find_real(void **known, const char *name) {
     void *real = find_next(name);
     STORE(known, real);
     return real;

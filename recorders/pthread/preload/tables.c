@@ -135,6 +135,12 @@ uint32_t lock_object(uintptr_t lock) {
     return slot ? object_in(LOAD(slot)) : 0;
 }
 
+const uint64_t *lock_slot(uintptr_t lock, uint32_t object, uint64_t *word) {
+    const uint64_t *slot = find_lock(lock);
+    *word = slot ? LOAD(slot) : 0;
+    return slot && object_in(*word) == object ? slot : NULL;
+}
+
 static bool fill_in_level(int level, uintptr_t lock, uint64_t word) {
     uint64_t *slots = lock_level(level, true), *line = slots ? lock_line(slots, level, lock) : NULL, empty = 0;
     if (LIKELY(line && SWAP(&line[own_way(lock)], &empty, word)))

@@ -3,87 +3,15 @@
    Each acquisition and release becomes a record in the file. A stretch of records that comes back to the locks that were held at its
    start, and takes nothing in a way in which this thread hadn't taken it before, is taken back: it adds no fact. Stacks are looked
    at only for what is new. */
-#include "own.h"
+#include "held.h"
 
 #include <errno.h>
 #include <limits.h>
 #include <pthread.h>
 #include <string.h>
 
-struct held {
-    uintptr_t lock;
-    uint64_t record; /* the number of its record */
-    uint64_t fresh_before; /* where the last record of something new ended then */
-    uint32_t object;
-    uint32_t released; /* how often others had released the lock when it was taken */
-    uint32_t depth;    /* of a recursive mutex: how often it was taken again */
-    uint8_t mode, kind;
-    bool is_written; /* there is a record of it */
-    bool is_wish;    /* the thread still waits for it */
-};
-
-/* A held lock as a reader of a trace knows it: there a release ends the newest of its name, so the order may be another. */
-struct link {
-    uint64_t hash; /* of the locks up to this one */
-    uint32_t what;
-};
-
-enum reader { BY_OBJECTS, BY_CLASSES, READERS };
-
-/* The last time that a lock was taken on top of so many others. */
-struct level {
-    uint64_t start; /* how many records there were before it */
-    uint64_t hash;  /* of the locks that were held then */
-};
-
-/* What is known at one depth of nesting. */
-struct entry {
-    struct held held;
-    struct level level;
-    struct link links[READERS];
-};
-
-#define PLACES 16
-#define OWN_LOCKS 16
-#define FIRST_HELD 8
-
-/* The function of the loader's that a thread is in, or was in when it came last. */
-struct loading {
-    uintptr_t lock; /* the loader's; 0: in none */
-    uintptr_t function;
-    struct call call;
-};
-
-struct thread {
-    struct raw_thread *raw;
-    struct raw_record *chunks[RAW_CHUNKS];
-    uint32_t is_taken; /* some thread has this */
-    uint32_t depth;
-    uint64_t fresh_end; /* after the last record of something new */
-    uint64_t *seen;     /* a set of the ways in which a lock was taken under others */
-    size_t seen_mask, seen_used;
-    uint32_t epoch;
-    int destructor_rounds;
-    uintptr_t failed; /* the lock of the last try that failed */
-    uint32_t failed_under; /* how many of the locks that were held then are held since: the oldest ones */
-    struct loading loading;
-    struct call wish; /* the call in which it waits for a lock, the outermost if a signal's handler waits too; frame 0: in none */
-    uint32_t unnoted; /* so many holds there are without an entry */
-    uint32_t *held_by_trace; /* room for mending; NULL until it is needed */
-    uintptr_t own_locks[OWN_LOCKS]; /* the last ones that were met first by it, in its frames or among its own variables; 0: none */
-    uint32_t own_lock_count; /* so many there were, with those that aren't here any more */
-    struct thread *next;
-    struct {
-        uintptr_t caller;
-        uint32_t epoch, place;
-    } places[PLACES]; /* of callers that it met last */
-    uint32_t room; /* so many entries there are: those here, or RAW_HELD when these weren't enough */
-    struct entry *entries, first_entries[FIRST_HELD];
-};
-
-static EARLY_THREAD_LOCAL struct thread *own;
-static EARLY_THREAD_LOCAL bool is_ended;
-static uint32_t others_epoch; /* changes when a lock is released by a thread that wasn't seen to hold it */
+static struct step no_step;
+EARLY_THREAD_LOCAL struct self self;
 static pthread_key_t thread_end;
 static bool has_thread_end;
 
@@ -103,7 +31,8 @@ static struct thread *unused_thread(void) {
     if (!t)
         return NULL;
     t->is_taken = 1;
-    t->entries = t->first_entries;
+    t->entries = t->first_entries + 1;
+    t->entries[-1].held.lock = NO_LOCK;
     t->room = FIRST_HELD;
     t->next = LOAD(&threads);
     while (!SWAP(&threads, &t->next, t))
@@ -122,6 +51,7 @@ static bool begin_trace(struct thread *t) {
         AS_WRITTEN;
         t->chunks[i] = NULL;
     }
+    t->records_room = 0;
     for (size_t i = 0; t->seen && i <= t->seen_mask; i++) {
         AS_WRITTEN;
         t->seen[i] = 0;
@@ -135,7 +65,9 @@ static bool begin_trace(struct thread *t) {
     t->wish.frame = 0;
     t->unnoted = 0;
     t->destructor_rounds = 0;
-    t->epoch = LOAD(&others_epoch);
+    t->era = LOAD(era);
+    t->steps = &no_step;
+    t->steps_mask = 0;
     STORE(&t->raw->is_ready, 1);
     return true;
 }
@@ -148,7 +80,7 @@ static struct thread *make_thread(void) {
         ADD(&arena->no_thread, 1);
         return NULL;
     }
-    own = t;
+    self.thread = t;
     if (has_thread_end)
         set_value(thread_end, t);
     return t;
@@ -165,9 +97,9 @@ static void forget_own_locks(struct thread *t) {
 
 void note_own_lock(uintptr_t lock) {
     for (uint32_t i = 0; i < OWN_LOCKS; i++)
-        if (own->own_locks[i] == lock)
+        if (self.thread->own_locks[i] == lock)
             return;
-    own->own_locks[own->own_lock_count++ % OWN_LOCKS] = lock;
+    self.thread->own_locks[self.thread->own_lock_count++ % OWN_LOCKS] = lock;
 }
 
 static void end_loading(struct thread *t);
@@ -176,7 +108,7 @@ static void withdraw_all(struct thread *t, uintptr_t caller);
 /* Other destructors of the thread may still lock, so the last round of them is waited for. */
 static void at_thread_end(void *value) {
     struct thread *t = value;
-    if (t != own)
+    if (t != self.thread)
         return;
     if (++t->destructor_rounds < PTHREAD_DESTRUCTOR_ITERATIONS) {
         set_value(thread_end, t);
@@ -185,64 +117,59 @@ static void at_thread_end(void *value) {
     end_loading(t);
     withdraw_all(t, CALLER);
     forget_own_locks(t);
-    is_ended = true;
-    own = NULL;
+    self.is_ended = true;
+    self.thread = NULL;
     t->raw->ended = 1;
     STORE(&t->is_taken, 0);
 }
 
 /* ---- Inside the recorder. A signal's handler that comes meanwhile isn't recorded, unless a jump has left the call of before. */
 
-/* That call. Its frame is written last, and is 0 if the thread is outside. */
-static EARLY_THREAD_LOCAL volatile uintptr_t inside_caller, inside_frame;
-
 /* Counts what isn't recorded: a handler's call, or the one that a jump has left. */
 static void count_reentered(void) {
-    if (own)
-        own->raw->left_out.reentered++;
-}
-
-static void go_inside(struct call call) {
-    inside_caller = call.caller;
-    inside_frame = call.frame;
-    __atomic_signal_fence(__ATOMIC_SEQ_CST);
+    if (self.thread)
+        self.thread->raw->left_out.reentered++;
 }
 
 static void mend(struct thread *t, struct call call);
 
 __attribute__((noinline)) static bool is_inside_left(struct call call) {
-    if (!is_left(call, (struct call){inside_caller, inside_frame}))
+    if (!is_left(call, (struct call){self.inside_caller, self.inside_frame}))
         return false;
     go_inside(call);
     count_reentered();
-    if (own && *alive)
-        mend(own, call);
+    if (self.thread && *era)
+        mend(self.thread, call);
     return true;
 }
 
-bool is_inside(void) { return inside_frame != 0; }
+bool is_inside(void) { return self.inside_frame != 0; }
 
 bool begin_inside(struct call call) {
-    if (RARELY(inside_frame) && !is_inside_left(call))
+    if (RARELY(self.inside_frame) && !is_inside_left(call))
         return false;
     go_inside(call);
     return true;
 }
 
+/* Of the oldest so many that are held. */
+static inline uint64_t hash_of(const struct thread *t, uint32_t depth) { return (&t->entries[depth] - 1)->links.hash; }
+
 void end_inside(void) {
-    __atomic_signal_fence(__ATOMIC_SEQ_CST);
-    inside_frame = 0;
+    if (self.thread)
+        self.thread->hash = hash_of(self.thread, self.thread->depth);
+    go_outside();
 }
 
 __attribute__((noinline)) static struct thread *enter_unprepared(struct call call) {
-    if (is_ended || (!*alive && !revived()))
+    if (self.is_ended || (!*era && !revived()))
         return NULL;
     if (!begin_inside(call)) {
         count_reentered();
         return NULL;
     }
     int saved = errno;
-    struct thread *t = own ? own : make_thread();
+    struct thread *t = self.thread ? self.thread : make_thread();
     errno = saved;
     if (!t)
         end_inside();
@@ -251,8 +178,8 @@ __attribute__((noinline)) static struct thread *enter_unprepared(struct call cal
 
 /* Enters the recorder. NULL if this call isn't to be recorded. */
 static inline struct thread *enter(struct call call) {
-    struct thread *t = own;
-    if (RARELY(!t || !*alive || inside_frame))
+    struct thread *t = self.thread;
+    if (RARELY(!t || !*era || self.inside_frame))
         return enter_unprepared(call);
     go_inside(call);
     return t;
@@ -267,20 +194,31 @@ static struct raw_record *record_at(struct thread *t, uint64_t index) {
     return &t->chunks[chunk][index - raw_chunk_start(chunk)];
 }
 
-static bool make_room(struct thread *t) {
-    uint32_t chunk = raw_chunk(t->raw->count);
-    if (LIKELY(chunk < RAW_CHUNKS && t->chunks[chunk]))
-        return true;
-    struct raw_record *made = chunk < RAW_CHUNKS ? take_chunk(chunk) : NULL;
-    if (!made)
+static bool make_chunk(struct thread *t, uint32_t chunk) {
+    t->chunks[chunk] = take_chunk(chunk);
+    if (!t->chunks[chunk])
         return false;
-    t->chunks[chunk] = made;
-    t->raw->chunks[chunk] = (uint64_t)((char *)made - (char *)arena);
+    t->raw->chunks[chunk] = (uint64_t)((char *)t->chunks[chunk] - (char *)arena);
     return true;
 }
 
+/* Finds the chunk for the next record. Of the last one no more is used for steps than they may write. */
+__attribute__((noinline)) static bool change_chunk(struct thread *t) {
+    uint32_t chunk = raw_chunk(t->raw->count);
+    if (chunk >= RAW_CHUNKS || (!t->chunks[chunk] && !make_chunk(t, chunk)))
+        return false;
+    t->records = t->chunks[chunk];
+    t->records_from = raw_chunk_start(chunk);
+    t->records_room = raw_chunk_room(chunk);
+    if (t->records_from + t->records_room > RAW_LIMIT)
+        t->records_room = RAW_LIMIT - t->records_from;
+    return true;
+}
+
+static inline bool make_room(struct thread *t) { return LIKELY(t->raw->count - t->records_from < t->records_room) || change_chunk(t); }
+
 static void put_record(struct thread *t, uint32_t what, uint32_t place) {
-    *record_at(t, t->raw->count) = (struct raw_record){what, place};
+    t->records[t->raw->count - t->records_from] = (struct raw_record){what, place};
     __atomic_signal_fence(__ATOMIC_RELEASE);
     t->raw->count++;
 }
@@ -298,41 +236,34 @@ static bool take_back(struct thread *t, uint64_t start) {
 
 static inline uint64_t hash_with(uint64_t hash, uint32_t what) { return mixed(hash * UINT64_C(0x100000001b3) + what + 1); }
 
-static inline void rehash(struct thread *t, enum reader reader, uint32_t from, uint32_t depth) {
-    for (uint32_t i = from; i < depth; i++) {
-        struct link *link = &t->entries[i].links[reader];
-        link->hash = hash_with(i ? t->entries[i - 1].links[reader].hash : 0, link->what);
+static inline void rehash(struct thread *t, uint32_t from, uint32_t depth) {
+    for (struct entry *e = &t->entries[from]; e < &t->entries[depth]; e++) {
+        for (enum reader reader = 0; reader < READERS; reader++)
+            e->links.hashes[reader] = hash_with(e[-1].links.hashes[reader], e->links.what[reader]);
+        e->links.hash = e->links.hashes[BY_OBJECTS] ^ mixed(e->links.hashes[BY_CLASSES]);
     }
-}
-
-static void push_link(struct thread *t, enum reader reader, uint32_t what) {
-    t->entries[t->depth].links[reader].what = what;
-    rehash(t, reader, t->depth, t->depth + 1);
 }
 
 static uint32_t newest_of(const struct thread *t, enum reader reader, uint32_t number) {
     for (uint32_t i = t->depth; i-- > 0;)
-        if (raw_object(t->entries[i].links[reader].what) == number)
+        if (raw_object(t->entries[i].links.what[reader]) == number)
             return i;
     return RAW_HELD;
 }
 
-static void pop_link(struct thread *t, enum reader reader, uint32_t number) {
-    uint32_t from = newest_of(t, reader, number);
-    if (from == RAW_HELD)
-        return;
-    for (uint32_t i = from; i + 1 < t->depth; i++)
-        t->entries[i].links[reader].what = t->entries[i + 1].links[reader].what;
-    rehash(t, reader, from, t->depth - 1);
+static void pop_links(struct thread *t, const struct held *gone) {
+    uint32_t first = t->depth;
+    for (enum reader reader = 0; reader < READERS; reader++) {
+        uint32_t from = newest_of(t, reader, raw_object(gone->what[reader]));
+        for (uint32_t i = from; i + 1 < t->depth; i++)
+            t->entries[i].links.what[reader] = t->entries[i + 1].links.what[reader];
+        first = from < first ? from : first;
+    }
+    rehash(t, first, t->depth - 1);
 }
 
-/* Of the oldest so many that are held. */
-static inline uint64_t hash_of(const struct thread *t, uint32_t depth) {
-    if (!depth)
-        return 0;
-    const struct link *links = t->entries[depth - 1].links;
-    return links[BY_OBJECTS].hash ^ mixed(links[BY_CLASSES].hash);
-}
+static inline uint32_t object_of(const struct held *h) { return raw_object(h->what[BY_OBJECTS]); }
+static inline enum mode mode_of(const struct held *h) { return raw_mode(h->what[BY_OBJECTS]); }
 
 static void put_seen(uint64_t *seen, size_t mask, uint64_t way) {
     size_t i = way >> 1 & mask;
@@ -400,14 +331,13 @@ static void release_at(struct thread *t, uint32_t i, uintptr_t caller) {
     t->failed_under -= i < t->failed_under;
     for (; i + 1 < t->depth; i++)
         t->entries[i].held = t->entries[i + 1].held;
-    pop_link(t, BY_OBJECTS, gone.object);
-    pop_link(t, BY_CLASSES, class_of(gone.object));
+    pop_links(t, &gone);
     t->depth--;
     const struct level *last = &t->entries[t->depth].level;
     if (was_newest && hash_of(t, t->depth) == last->hash && take_back(t, last->start))
         return;
     if (gone.is_written && make_room(t))
-        put_record(t, raw_what(gone.object, MODE_RELEASE), cached_place(t, caller));
+        put_record(t, raw_what(object_of(&gone), MODE_RELEASE), cached_place(t, caller));
 }
 
 /* Of locks, by their addresses: how often each was released by a thread that wasn't seen to hold it, and how many holds have ended by that.
@@ -419,7 +349,7 @@ static uint32_t count_of(struct names *names, uintptr_t lock) {
     return slot ? LOAD(slot) : 0;
 }
 
-static inline uint32_t releases_so_far(uintptr_t lock) { return RARELY(LOAD(&others_epoch)) ? count_of(&released_by_others, lock) : 0; }
+static inline uint32_t releases_so_far(uintptr_t lock) { return RARELY(LOAD(&released_by_others.levels[0])) ? count_of(&released_by_others, lock) : 0; }
 
 static bool is_released_by_other(const struct held *h) {
     uint32_t released = count_of(&released_by_others, h->lock);
@@ -432,10 +362,10 @@ static bool is_released_by_other(const struct held *h) {
 }
 
 /* Whether the thread is thought to hold what was found to be no lock. */
-static bool is_held_signal(const struct held *h) { return h->kind == KIND_COUNTED && !h->is_wish && is_signal(h->object); }
+static bool is_held_signal(const struct held *h) { return h->kind == KIND_COUNTED && !h->is_wish && is_signal(object_of(h)); }
 
 __attribute__((noinline)) static void drop_released(struct thread *t, uintptr_t caller) {
-    t->epoch = LOAD(&others_epoch);
+    t->era = LOAD(era);
     for (uint32_t i = t->depth; i-- > 0;)
         if (is_held_signal(&t->entries[i].held) || is_released_by_other(&t->entries[i].held))
             release_at(t, i, caller);
@@ -443,7 +373,7 @@ __attribute__((noinline)) static void drop_released(struct thread *t, uintptr_t 
 
 /* Ends what another thread has released meanwhile. */
 static inline void look_at_others(struct thread *t, uintptr_t caller) {
-    if (RARELY(t->epoch != __atomic_load_n(&others_epoch, __ATOMIC_RELAXED)))
+    if (RARELY(t->era != LOAD(era)))
         drop_released(t, caller);
 }
 
@@ -455,6 +385,12 @@ static uint32_t find_held(const struct thread *t, uintptr_t lock) {
     return RAW_HELD;
 }
 
+/* What was held, or what an address meant, may be another from now on. */
+void change_era(void) {
+    if (LOAD(era))
+        __atomic_fetch_add(era, 1, __ATOMIC_RELEASE);
+}
+
 /* Somebody releases a lock that this thread wasn't seen to take: it may be one that another thread holds. */
 static void release_others(struct thread *t, uintptr_t lock) {
     t->raw->left_out.releases++;
@@ -462,7 +398,7 @@ static void release_others(struct thread *t, uintptr_t lock) {
     if (!released)
         return;
     ADD(released, 1);
-    __atomic_fetch_add(&others_epoch, 1, __ATOMIC_RELEASE);
+    change_era();
 }
 
 static void end_loading(struct thread *t) {
@@ -496,7 +432,7 @@ static inline void settle(struct thread *t, struct call call) {
 }
 
 /* Whether this thread was seen to take the lock. */
-static inline bool release_own(struct thread *t, uintptr_t lock, struct call call) {
+static bool release_own(struct thread *t, uintptr_t lock, struct call call) {
     settle(t, call);
     uint32_t i = find_held(t, lock);
     if (i == RAW_HELD && !t->unnoted)
@@ -552,7 +488,7 @@ void leave_out(uintptr_t semaphore, struct call call) {
     uint32_t object = object_of_lock(semaphore, call);
     if (object) {
         STORE(&((struct raw_object *)part_of(RAW_OBJECTS, apart(semaphore, object)))->is_signal, 1);
-        __atomic_fetch_add(&others_epoch, 1, __ATOMIC_RELEASE);
+        change_era();
     }
     leave();
 }
@@ -562,17 +498,17 @@ void leave_out(uintptr_t semaphore, struct call call) {
 /* A held lock is nested now: it becomes an object of its own, and so do its record and the ways that it is part of. */
 static void tell_apart(struct thread *t, uint32_t i) {
     struct held *h = &t->entries[i].held;
-    uint32_t before = h->object, object = apart(h->lock, before);
+    uint32_t before = object_of(h), object = apart(h->lock, before);
     if (object == before)
         return;
-    h->object = object;
+    h->what[BY_OBJECTS] = raw_what(object, mode_of(h));
     if (h->is_written)
-        record_at(t, h->record)->what = raw_what(object, (enum mode)h->mode);
+        record_at(t, h->record)->what = h->what[BY_OBJECTS];
     uint32_t at = newest_of(t, BY_OBJECTS, before);
     if (at == RAW_HELD)
         return;
-    t->entries[at].links[BY_OBJECTS].what = raw_what(object, (enum mode)h->mode);
-    rehash(t, BY_OBJECTS, at, t->depth);
+    t->entries[at].links.what[BY_OBJECTS] = h->what[BY_OBJECTS];
+    rehash(t, at, t->depth);
     for (uint32_t depth = at + 1; depth <= t->depth; depth++)
         if (see(t, way_of(hash_of(t, depth))))
             t->fresh_end = t->raw->count;
@@ -608,31 +544,33 @@ static void push_held(struct thread *t, uintptr_t lock, uint32_t object, uint8_t
     }
     if (mode < MODE_TRY_WRITE && t->failed != lock) /* else it may be std::lock, which takes what it is given in any order */
         look_at_taker(class_of(object), call);
-    uint32_t what = raw_what(object, (enum mode)mode);
-    uint64_t before = hash_of(t, t->depth), start = t->raw->count;
-    push_link(t, BY_OBJECTS, what);
-    push_link(t, BY_CLASSES, raw_what(class_of(object), (enum mode)mode));
-    t->entries[t->depth].level = (struct level){.start = start, .hash = before};
-    struct held *h = &t->entries[t->depth++].held;
-    *h = (struct held){.lock = lock, .record = start, .fresh_before = t->fresh_end, .object = object,
-                       .released = releases_so_far(lock), .mode = mode, .kind = (uint8_t)kind, .is_wish = is_wish};
+    uint32_t what[READERS] = {raw_what(object, (enum mode)mode), raw_what(class_of(object), (enum mode)mode)};
+    uint64_t start = t->raw->count;
+    struct entry *e = &t->entries[t->depth];
+    e->level = (struct level){.start = start, .hash = hash_of(t, t->depth)};
+    e->held = (struct held){.lock = lock, .record = start, .fresh_before = t->fresh_end, .what = {what[0], what[1]},
+                            .released = releases_so_far(lock), .kind = (uint8_t)kind, .is_wish = is_wish};
+    memcpy(e->links.what, what, sizeof what);
+    rehash(t, t->depth, t->depth + 1);
+    t->depth++;
     uint64_t way = way_of(hash_of(t, t->depth));
     bool is_new = is_wish ? !is_seen(t, way) : see(t, way);
-    h->is_written = write_acquisition(t, what, call, is_new);
+    e->held.is_written = write_acquisition(t, what[BY_OBJECTS], call, is_new);
     if (is_new)
         t->fresh_end = t->raw->count;
 }
 
 /* More entries. False if there are as many as there may be, or if there is no memory. */
 __attribute__((noinline)) static bool add_entries(struct thread *t) {
-    struct entry *all = t->room < RAW_HELD ? take_private(RAW_HELD * sizeof *all) : NULL;
+    struct entry *all = t->room < RAW_HELD ? take_private((1 + RAW_HELD) * sizeof *all) : NULL;
     if (!all)
         return false;
     for (uint32_t i = 0; i < t->depth; i++) {
         AS_WRITTEN;
-        all[i] = t->entries[i];
+        all[1 + i] = t->entries[i];
     }
-    t->entries = all;
+    all[0].held.lock = NO_LOCK;
+    t->entries = all + 1;
     t->room = RAW_HELD;
     return true;
 }
@@ -668,7 +606,7 @@ static bool is_same_hold(uintptr_t lock, enum kind kind) {
 
 /* Whether the thread can't have this hold any more, since it has taken the lock with success: only a reader may do that. */
 static bool is_stale(const struct held *h, uintptr_t lock, uint8_t mode) {
-    return h->lock == lock && !h->is_wish && !(is_read(h->mode) && is_read(mode));
+    return h->lock == lock && !h->is_wish && !(is_read((uint8_t)mode_of(h)) && is_read(mode));
 }
 
 /* A hold that ended without a call, as by an assignment to the lock. */
@@ -689,6 +627,82 @@ __attribute__((noinline)) static bool take_again(struct thread *t, uint32_t held
     return is_same;
 }
 
+/* ---- Steps that are taken again. Nothing new comes of them, so all that is looked for is whether everything is as it was. */
+
+uint64_t is_memo_off;
+
+/* Takes a table of this size into use. */
+static bool use_steps(struct thread *t, uint32_t size) {
+    struct step *made = size > t->steps_room ? take_private(size * sizeof *made) : NULL;
+    if (made) {
+        t->all_steps = made;
+        t->steps_room = size;
+    }
+    if (size > t->steps_room)
+        return false;
+    for (uint32_t i = 0; i < size; i++) {
+        AS_WRITTEN;
+        t->all_steps[i].held.lock = 0;
+    }
+    t->steps = t->all_steps;
+    t->steps_mask = size - 1;
+    t->steps_replaced = 0;
+    return true;
+}
+
+/* Where a step is to be, if it was missed there before: what is taken once or twice pushes nothing out. */
+static struct step *place_of_step(struct thread *t, uint64_t key) {
+    if (!t->steps_mask && (is_memo_off || !use_steps(t, FIRST_STEPS)))
+        return NULL;
+    struct step *s = step_at(t, key);
+    bool is_missed_again = s->missed == key;
+    s->missed = key;
+    if (!is_missed_again)
+        return NULL;
+    if (s->held.lock && ++t->steps_replaced > t->steps_mask && t->steps_mask + 1 < MOST_STEPS && use_steps(t, 8 * (t->steps_mask + 1)))
+        s = step_at(t, key);
+    return s;
+}
+
+/* Whether all that is held has names that stay as they are, and that no other lock has. */
+static bool are_single(const struct thread *t) {
+    for (uint32_t i = 0; i + 1 < t->depth; i++)
+        if (!is_single(object_of(&t->entries[i].held)))
+            return false;
+    return true;
+}
+
+/* A step that a jump leaves half written is none: `from` is never 0. */
+static void write_step(struct step *s, const struct thread *t, uintptr_t from, const uint64_t *slot, uint64_t word, uint32_t place) {
+    const struct entry *e = &t->entries[t->depth] - 1;
+    s->from = 0;
+    __atomic_signal_fence(__ATOMIC_SEQ_CST);
+    s->held = e->held;
+    s->links = e->links;
+    s->before = e->level.hash;
+    s->slot = slot;
+    s->word = word;
+    s->looks = looks_left_at(raw_object(e->held.what[BY_CLASSES]));
+    s->era = t->era;
+    s->place = place;
+    __atomic_signal_fence(__ATOMIC_SEQ_CST);
+    s->from = from;
+}
+
+/* Notes how the newest lock was taken, if that was nothing new, and will be the same again. */
+static void note_step(struct thread *t, uintptr_t from, uintptr_t caller) {
+    const struct held *h = &(&t->entries[t->depth] - 1)->held;
+    uint64_t word;
+    if (h->record < t->fresh_end || !h->is_written || h->kind == KIND_COUNTED)
+        return;
+    struct step *s = place_of_step(t, step_key(hash_of(t, t->depth - 1), h->lock, from));
+    if (!s || !is_lasting(object_of(h), t->depth > 1) || !are_single(t))
+        return;
+    const uint64_t *slot = lock_slot(h->lock, object_of(h), &word);
+    if (slot)
+        write_step(s, t, from, slot, word, cached_place(t, caller));
+}
+
 static void take_lock(struct thread *t, uintptr_t lock, uint8_t mode, enum kind kind, struct call call) {
     t->raw->calls++;
     settle(t, call);
@@ -696,13 +710,20 @@ static void take_lock(struct thread *t, uintptr_t lock, uint8_t mode, enum kind 
     if (RARELY(again != RAW_HELD) && take_again(t, again, mode, kind, call.caller))
         return;
     uint32_t object = object_to_hold(t, lock, kind, call);
-    if (LIKELY(object))
-        push_held(t, lock, object, mode, kind, call, false);
-    else
+    if (RARELY(!object)) {
         leave_unnoted(t);
+        return;
+    }
+    push_held(t, lock, object, mode, kind, call, false);
+    note_step(t, step_from(call.caller, mode, kind), call.caller);
 }
 
 void acquired(uintptr_t lock, uint8_t mode, enum kind kind, struct call call) {
+    if (!acquired_again(lock, mode, kind, call))
+        acquired_anew(lock, mode, kind, call);
+}
+
+__attribute__((noinline)) void acquired_anew(uintptr_t lock, uint8_t mode, enum kind kind, struct call call) {
     struct thread *t = enter(call);
     if (!t)
         return;
@@ -752,8 +773,7 @@ static void withdraw(struct thread *t, uint32_t i, uintptr_t caller) {
         release_at(t, i, caller);
         return;
     }
-    pop_link(t, BY_OBJECTS, h.object);
-    pop_link(t, BY_CLASSES, class_of(h.object));
+    pop_links(t, &h);
     t->failed_under -= i < t->failed_under;
     t->depth--;
     t->raw->count = h.record;
@@ -779,7 +799,7 @@ static void end_left_wishes(struct thread *t, struct call call) {
 }
 
 void end_own_wishes(struct call call) {
-    struct thread *t = own && own->wish.frame ? enter(call) : NULL;
+    struct thread *t = self.thread && self.thread->wish.frame ? enter(call) : NULL;
     if (!t)
         return;
     settle(t, call);
@@ -796,7 +816,7 @@ static uint32_t find_wish(const struct thread *t, uintptr_t lock) {
 
 static bool has_stale(const struct thread *t, const struct held *taken) {
     for (uint32_t i = 0; taken->kind != KIND_COUNTED && i < t->depth; i++)
-        if (is_stale(&t->entries[i].held, taken->lock, taken->mode))
+        if (is_stale(&t->entries[i].held, taken->lock, (uint8_t)mode_of(taken)))
             return true;
     return false;
 }
@@ -825,7 +845,7 @@ bool end_wish(uintptr_t lock, bool is_taken, struct call call) {
         end_waiting(t);
     look_at_others(t, call.caller);
     uint32_t i = find_wish(t, lock);
-    bool is_held = is_taken && !(i != RAW_HELD && is_signal(t->entries[i].held.object)), is_recorded = !is_held;
+    bool is_held = is_taken && !(i != RAW_HELD && is_signal(object_of(&t->entries[i].held))), is_recorded = !is_held;
     if (i != RAW_HELD && is_held)
         is_recorded = fulfil(t, i, call.caller);
     else if (i != RAW_HELD)
@@ -861,7 +881,7 @@ static void hold_again(struct thread *t, struct call call) {
         struct held h = t->entries[i].held;
         if (i > 0 && h.lock == before.lock && h.record == before.record)
             continue;
-        push_held(t, h.lock, h.object, h.mode, (enum kind)h.kind, call, h.is_wish);
+        push_held(t, h.lock, object_of(&h), (uint8_t)mode_of(&h), (enum kind)h.kind, call, h.is_wish);
         t->entries[t->depth - 1].held.depth = h.depth;
         t->entries[t->depth - 1].held.released = h.released;
         before = h;
@@ -883,7 +903,7 @@ static void mend(struct thread *t, struct call call) {
 /* A lock was tried. One that is tried again and again, with others held all the time, is waited for in another way. Who gives those
    back before the next try doesn't wait with them held. */
 void tried(uintptr_t lock, bool has_failed, struct call call) {
-    struct thread *t = has_failed || (own && own->failed) ? enter(call) : NULL;
+    struct thread *t = has_failed || (self.thread && self.thread->failed) ? enter(call) : NULL;
     if (!t)
         return;
     if (t->failed == lock && t->failed_under)
@@ -913,11 +933,11 @@ bool is_recording(void) { return arena != NULL; }
 
 /* Whether this thread holds the lock, and a single release gives it back. */
 bool is_held_once(uintptr_t lock) {
-    uint32_t i = own ? find_held(own, lock) : RAW_HELD;
-    return i != RAW_HELD && own->entries[i].held.depth == 0;
+    uint32_t i = self.thread ? find_held(self.thread, lock) : RAW_HELD;
+    return i != RAW_HELD && self.thread->entries[i].held.depth == 0;
 }
 
-bool is_any_held(void) { return own && own->depth; }
+bool is_any_held(void) { return self.thread && self.thread->depth; }
 
 /* ---- Locks that are initialised, and those that are no more: with a lock its thread's holds of it end. */
 
@@ -975,7 +995,7 @@ void look_at_inherited(struct call call) {
 static void take_over(struct thread *t, const struct held *h) {
     if (h->is_wish || is_released_by_other(h) || is_free(h) || !has_entry_left(t))
         return;
-    push_held(t, h->lock, h->object, h->mode, (enum kind)h->kind, HERE, false);
+    push_held(t, h->lock, object_of(h), (uint8_t)mode_of(h), (enum kind)h->kind, HERE, false);
     t->entries[t->depth - 1].held.depth = h->depth;
 }
 
@@ -992,7 +1012,7 @@ static void begin_in_child(struct thread *old) {
             forget_own_locks(t);
         t->is_taken = 0;
     }
-    own = NULL;
+    self.thread = NULL;
     struct thread *t = make_thread();
     for (uint32_t i = 0; t && i < depth; i++)
         take_over(t, &held[i]);
@@ -1004,8 +1024,10 @@ static void begin_in_child(struct thread *old) {
 }
 
 void begin_threads(void) {
-    if (own)
-        begin_in_child(own);
+    const char *memo = variable("LOCKDEP_MEMO");
+    is_memo_off = memo && is_same_text(memo, "off");
+    if (self.thread)
+        begin_in_child(self.thread);
     else
         has_thread_end = has_thread_end || pthread_key_create(&thread_end, at_thread_end) == 0;
 }

@@ -1,0 +1,211 @@
+/* What a thread holds, and the steps that it takes again and again.
+
+   A step is a lock that is taken in some way on top of what is held. One that was taken before brings nothing new: it is looked up, and all
+   that is asked is whether everything is as it was then. What is left behind is just what the long way of threads.c leaves: the same entry,
+   record and counts. */
+#ifndef LOCKDEP_HELD_H
+#define LOCKDEP_HELD_H
+#include "own.h"
+
+#include <string.h>
+
+enum reader { BY_OBJECTS, BY_CLASSES, READERS };
+
+/* A lock that is held. What is the same each time that a step is taken comes first. */
+struct held {
+    uintptr_t lock;
+    uint32_t what[READERS]; /* its object and its class, with the mode in which it was taken */
+    uint32_t released; /* how often others had released the lock when it was taken */
+    uint32_t depth;    /* of a recursive mutex: how often it was taken again */
+    uint8_t kind;
+    bool is_written; /* there is a record of it */
+    bool is_wish;    /* the thread still waits for it */
+    uint64_t record; /* the number of its record */
+    uint64_t fresh_before; /* where the last record of something new ended then */
+};
+#define SAME_OF_HELD offsetof(struct held, record)
+
+/* The held locks as a reader of a trace knows them: there a release ends the newest of its name, so the order may be another. */
+struct links {
+    uint64_t hash; /* of the locks up to this one, to both readers */
+    uint64_t hashes[READERS];
+    uint32_t what[READERS];
+};
+
+/* The last time that a lock was taken on top of so many others. */
+struct level {
+    uint64_t start; /* how many records there were before it */
+    uint64_t hash;  /* of the locks that were held then */
+};
+
+/* What is known at one depth of nesting. */
+struct entry {
+    struct held held;
+    struct links links;
+    struct level level;
+};
+
+struct step {
+    struct held held; /* of lock 0: there is none here */
+    struct links links;
+    uint64_t before; /* the hash of what was held before */
+    uintptr_t from;  /* where it was taken, and how */
+    const uint64_t *slot; /* of the table of locks */
+    uint64_t word;        /* that is there as long as the lock is that object */
+    const uint8_t *looks; /* that are left at its class */
+    uint64_t era;
+    uint32_t place;
+    uint64_t missed; /* the key of the step that was looked for here last, and wasn't here */
+};
+
+#define FIRST_STEPS 16
+#define MOST_STEPS 1024
+
+#define NO_LOCK UINTPTR_MAX
+
+#define PLACES 16
+#define OWN_LOCKS 16
+#define FIRST_HELD 8
+
+/* The function of the loader's that a thread is in, or was in when it came last. */
+struct loading {
+    uintptr_t lock; /* the loader's; 0: in none */
+    uintptr_t function;
+    struct call call;
+};
+
+struct thread {
+    struct raw_thread *raw;
+    uint64_t era;       /* when it looked at others last */
+    uint64_t fresh_end; /* after the last record of something new */
+    uint64_t hash; /* of the locks that are held; it holds while the thread is outside of the recorder */
+    struct entry *entries;
+    uint32_t depth, room; /* so many locks are held, and so many entries there are: those here, or RAW_HELD when these weren't enough */
+    struct step *steps;   /* a table of those that were taken again and again; &no_step if there are none yet */
+    uint32_t steps_mask;
+    uint64_t failed_under; /* how many of the locks that were held at the last try that failed are held since: the oldest ones */
+    uintptr_t failed;      /* the lock of that try */
+    struct loading loading;
+    struct call wish; /* the call in which it waits for a lock, the outermost if a signal's handler waits too; frame 0: in none */
+    struct raw_record *records; /* the chunk that the last record came to: it has those from one number on, and so many */
+    uint64_t records_from, records_room;
+    struct raw_record *chunks[RAW_CHUNKS];
+    uint32_t is_taken; /* some thread has this */
+    uint32_t steps_room, steps_replaced;
+    struct step *all_steps; /* room for so many; NULL until it is needed */
+    uint64_t *seen;     /* a set of the ways in which a lock was taken under others */
+    size_t seen_mask, seen_used;
+    int destructor_rounds;
+    uint32_t unnoted; /* so many holds there are without an entry */
+    uint32_t *held_by_trace; /* room for mending; NULL until it is needed */
+    uintptr_t own_locks[OWN_LOCKS]; /* the last ones that were met first by it, in its frames or among its own variables; 0: none */
+    uint32_t own_lock_count; /* so many there were, with those that aren't here any more */
+    struct thread *next;
+    struct {
+        uintptr_t caller;
+        uint32_t epoch, place;
+    } places[PLACES]; /* of callers that it met last */
+    struct entry first_entries[1 + FIRST_HELD]; /* the one before the first is of no lock */
+};
+
+/* What each thread looks at first. */
+struct self {
+    struct thread *thread; /* NULL: none yet, or not any more */
+    volatile uintptr_t inside_caller, inside_frame; /* of its call of the recorder. The frame is written last, and is 0 if it is outside. */
+    bool is_ended;
+};
+extern EARLY_THREAD_LOCAL struct self self;
+
+QUICK void go_inside(struct call call) {
+    self.inside_caller = call.caller;
+    self.inside_frame = call.frame;
+    __atomic_signal_fence(__ATOMIC_SEQ_CST);
+}
+
+QUICK void go_outside(void) {
+    __atomic_signal_fence(__ATOMIC_SEQ_CST);
+    self.inside_frame = 0;
+}
+
+extern uint64_t is_memo_off; /* by LOCKDEP_MEMO=off, for tests: what is recorded is the same */
+
+/* Whether there is nothing that the thread has to look at on its way. */
+QUICK bool is_settled(const struct thread *t) { return !(t->loading.lock | t->wish.frame | t->failed_under | is_memo_off); }
+
+/* ---- Steps. */
+
+QUICK uintptr_t step_from(uintptr_t caller, uint8_t mode, enum kind kind) { return caller << 8 | (uintptr_t)kind << 4 | mode; }
+
+QUICK uint64_t step_key(uint64_t before, uintptr_t lock, uintptr_t from) {
+    return before ^ (lock ^ from) * UINT64_C(0x9e3779b97f4a7c15) >> 32;
+}
+
+QUICK struct step *step_at(const struct thread *t, uint64_t key) { return &t->steps[key & t->steps_mask]; }
+
+/* Takes a lock as it was taken before. False if something isn't as it was: then nothing was done. There is room for the entry, since there was
+   when the same locks were held before. */
+QUICK bool step_on(struct thread *t, uintptr_t lock, uintptr_t from) {
+    struct raw_thread *raw = t->raw;
+    uint64_t before = t->hash;
+    const struct step *s = step_at(t, step_key(before, lock, from));
+    if (!is_settled(t) || s->held.lock != lock || s->from != from || s->before != before || s->era != LOAD(era) ||
+        LOAD(s->slot) != s->word || *s->looks)
+        return false;
+    uint64_t count = raw->count, nth = count - t->records_from;
+    if (nth >= t->records_room)
+        return false;
+    struct entry *e = &t->entries[t->depth];
+    memcpy(&e->held, &s->held, SAME_OF_HELD);
+    e->held.record = count;
+    e->held.fresh_before = t->fresh_end;
+    e->links = s->links;
+    e->level.start = count;
+    e->level.hash = before;
+    __atomic_signal_fence(__ATOMIC_RELEASE);
+    t->hash = s->links.hash;
+    t->depth++;
+    raw->calls++;
+    t->records[nth] = (struct raw_record){s->held.what[BY_OBJECTS], s->place};
+    __atomic_signal_fence(__ATOMIC_RELEASE);
+    raw->count = count + 1;
+    return true;
+}
+
+/* Releases the newest lock if nothing new was done since it was taken: all records since then are taken back. */
+QUICK bool step_back(struct thread *t, uintptr_t lock) {
+    const struct entry *e = &t->entries[t->depth] - 1;
+    uint64_t start = e->level.start;
+    if (!is_settled(t) || e->held.lock != lock || e->held.depth || start < t->fresh_end ||
+        e->level.hash != e[-1].links.hash || t->era != LOAD(era) || memcmp(e->held.what, e->links.what, sizeof e->held.what) != 0)
+        return false;
+    struct raw_thread *raw = t->raw;
+    t->hash = e->level.hash;
+    t->depth--;
+    raw->calls++;
+    raw->left_out.repeated += raw->count - start;
+    raw->count = start;
+    return true;
+}
+
+/* Whether that was all; else it is to be recorded the long way, by acquired_anew. */
+QUICK bool acquired_again(uintptr_t lock, uint8_t mode, enum kind kind, struct call call) {
+    struct thread *t = self.thread;
+    if (RARELY(!t || self.inside_frame))
+        return false;
+    go_inside(call);
+    bool is_done = step_on(t, lock, step_from(call.caller, mode, kind));
+    go_outside();
+    return is_done;
+}
+
+QUICK bool released_again(uintptr_t lock, struct call call) {
+    struct thread *t = self.thread;
+    if (RARELY(!t || self.inside_frame))
+        return false;
+    go_inside(call);
+    bool is_done = step_back(t, lock);
+    go_outside();
+    return is_done;
+}
+
+#endif
