@@ -494,12 +494,12 @@ static inline void settle(struct thread *t, struct call call) {
     look_at_others(t, call.caller);
 }
 
-/* Whether this thread was seen to take the lock. */
+/* Whether this thread was seen to take the lock. One that it ignores isn't. */
 static inline bool release_own(struct thread *t, uintptr_t lock, struct call call) {
     settle(t, call);
     uint32_t i = find_held(t, lock);
-    if (i == RAW_HELD && !t->unnoted)
-        return false;
+    if (i == RAW_HELD && (!t->unnoted || is_ignored(lock)))
+        return is_ignored(lock);
     t->raw->calls++;
     if (RARELY(i == RAW_HELD))
         t->unnoted--;
@@ -566,11 +566,11 @@ static void tell_apart(struct thread *t, uint32_t i) {
         return;
     h->object = object;
     if (h->is_written)
-        record_at(t, h->record)->what = raw_what(object, (enum mode)h->mode);
+        record_at(t, h->record)->what = raw_what(object, h->mode);
     uint32_t at = newest_of(t, BY_OBJECTS, before);
     if (at == RAW_HELD)
         return;
-    t->entries[at].links[BY_OBJECTS].what = raw_what(object, (enum mode)h->mode);
+    t->entries[at].links[BY_OBJECTS].what = raw_what(object, h->mode);
     rehash(t, BY_OBJECTS, at, t->depth);
     for (uint32_t depth = at + 1; depth <= t->depth; depth++)
         if (see(t, way_of(hash_of(t, depth))))
@@ -605,12 +605,12 @@ static void push_held(struct thread *t, uintptr_t lock, uint32_t object, uint8_t
         for (uint32_t i = 0; i < t->depth; i++)
             tell_apart(t, i);
     }
-    if (mode < MODE_TRY_WRITE && t->failed != lock) /* else it may be std::lock, which takes what it is given in any order */
+    if (raw_plain(mode) < MODE_TRY_WRITE && t->failed != lock) /* else it may be std::lock, which takes what it is given in any order */
         look_at_taker(class_of(object), call);
-    uint32_t what = raw_what(object, (enum mode)mode);
+    uint32_t what = raw_what(object, mode);
     uint64_t before = hash_of(t, t->depth), start = t->raw->count;
     push_link(t, BY_OBJECTS, what);
-    push_link(t, BY_CLASSES, raw_what(class_of(object), (enum mode)mode));
+    push_link(t, BY_CLASSES, raw_what(class_of(object), mode));
     t->entries[t->depth].level = (struct level){.start = start, .hash = before};
     struct held *h = &t->entries[t->depth++].held;
     *h = (struct held){.lock = lock, .record = start, .fresh_before = t->fresh_end, .object = object,
@@ -639,13 +639,19 @@ __attribute__((noinline)) static bool add_entries(struct thread *t) {
 static inline bool has_entry_left(struct thread *t) { return LIKELY(t->depth < t->room) || add_entries(t); }
 
 /* The lock's object, if there is room for one more that is held; else the hold has no entry. A semaphore has one of its own before it is
-   nested, since it may be found to be no lock. */
-static inline uint32_t object_to_hold(struct thread *t, uintptr_t lock, enum kind kind, struct call call) {
+   nested, since it may be found to be no lock. The program may have said something of the lock, or that it isn't to be recorded. */
+static inline uint32_t object_to_hold(struct thread *t, uintptr_t lock, uint8_t *mode, enum kind kind, struct call call) {
     uint32_t object = LIKELY(t->depth < RAW_HELD) && has_entry_left(t) ? object_of_lock(lock, call) : 0;
+    if (RARELY(is_anything_said && object))
+        object = object_as_said(lock, object, mode, kind, call);
     return RARELY(kind == KIND_COUNTED && object) ? apart(lock, object) : object;
 }
 
-static void leave_unnoted(struct thread *t) {
+static void leave_unnoted(struct thread *t, uintptr_t lock) {
+    if (count_ignored(lock)) {
+        t->raw->calls--;
+        return;
+    }
     t->unnoted++;
     if (t->depth == RAW_HELD)
         t->raw->left_out.deep++;
@@ -653,7 +659,7 @@ static void leave_unnoted(struct thread *t) {
         t->raw->left_out.no_room++;
 }
 
-static bool is_read(uint8_t mode) { return mode % TRIES != MODE_WRITE; }
+static bool is_read(uint8_t mode) { return raw_plain(mode) % TRIES != MODE_WRITE; }
 
 /* Of a mutex that this thread has just taken: it had it before. */
 static bool is_recursion(const pthread_mutex_t *lock) {
@@ -694,11 +700,11 @@ static void take_lock(struct thread *t, uintptr_t lock, uint8_t mode, enum kind 
     uint32_t again = kind != KIND_COUNTED && t->depth ? find_held(t, lock) : RAW_HELD;
     if (RARELY(again != RAW_HELD) && take_again(t, again, mode, kind, call.caller))
         return;
-    uint32_t object = object_to_hold(t, lock, kind, call);
+    uint32_t object = object_to_hold(t, lock, &mode, kind, call);
     if (LIKELY(object))
         push_held(t, lock, object, mode, kind, call, false);
     else
-        leave_unnoted(t);
+        leave_unnoted(t, lock);
 }
 
 void acquired(uintptr_t lock, uint8_t mode, enum kind kind, struct call call) {
@@ -732,7 +738,7 @@ bool begin_wish(uintptr_t lock, uint8_t mode, enum kind kind, struct call call) 
     if (!t)
         return false;
     settle(t, call);
-    uint32_t object = object_to_hold(t, lock, kind, call);
+    uint32_t object = object_to_hold(t, lock, &mode, kind, call);
     if (object) {
         t->raw->calls++;
         push_held(t, lock, object, mode, kind, call, true);
@@ -885,7 +891,7 @@ void tried(uintptr_t lock, bool has_failed, struct call call) {
     struct thread *t = has_failed || (own && own->failed) ? enter(call) : NULL;
     if (!t)
         return;
-    if (t->failed == lock && t->failed_under)
+    if (t->failed == lock && t->failed_under && !is_ignored(lock))
         t->raw->left_out.retried++;
     t->failed = has_failed ? lock : 0;
     t->failed_under = has_failed ? t->depth : 0;
@@ -918,6 +924,26 @@ bool is_held_once(uintptr_t lock) {
 
 bool is_any_held(void) { return own && own->depth; }
 
+/* ---- What is asked about this thread because of what the program says. */
+
+bool enter_recorder(struct call call) { return enter(call) != NULL; }
+
+/* Whether this thread holds the lock, as far as that is known. */
+bool may_hold(uintptr_t lock) { return own->unnoted || find_held(own, lock) != RAW_HELD; }
+
+uint32_t held_object(uintptr_t lock) {
+    uint32_t i = own ? find_held(own, lock) : RAW_HELD;
+    return i == RAW_HELD ? 0 : own->entries[i].held.object;
+}
+
+bool nth_held(uint32_t n, struct held_lock *held) {
+    if (n >= own->depth)
+        return false;
+    const struct held *h = &own->entries[own->depth - 1 - n].held;
+    *held = (struct held_lock){h->lock, h->object, h->is_written ? record_at(own, h->record)->place : 0};
+    return true;
+}
+
 /* ---- Locks that are initialised, and those that are no more: with a lock its thread's holds of it end. */
 
 static void end_holds_between(struct thread *t, uintptr_t from, uintptr_t to, uintptr_t caller) {
@@ -925,6 +951,8 @@ static void end_holds_between(struct thread *t, uintptr_t from, uintptr_t to, ui
         if (t->entries[i].held.lock >= from && t->entries[i].held.lock < to)
             release_at(t, i, caller);
 }
+
+void end_own_holds(uintptr_t from, uintptr_t to, struct call call) { end_holds_between(own, from, to, call.caller); }
 
 void initialised(uintptr_t lock, struct call call) {
     struct thread *t = enter(call);
