@@ -16,7 +16,7 @@ from .where_made import Place, place_of
 from .words import Refusal, visible
 
 LINE = re.compile(r"(circle \S+/[0-7] [ES][RN]|double (hardirq|softirq)|inversion (hardirq|softirq) \S+/[0-7]) \S+/[0-7]")
-PATTERN = re.compile(r"(cycle|circle|double|inversion|blocked)((?: +(?:class|function|file):\S+)+)")
+PATTERN = re.compile(r"(cycle|circle|double|inversion|blocked|order|hold)((?: +(?:class|function|file):\S+)+)")
 FIELD = re.compile(r"(class|function|file):(\S+)")
 UNTIL = re.compile(r"\buntil\b", re.IGNORECASE)
 DATE = re.compile(r"\buntil (\d{4}-\d{2}-\d{2})\s*$", re.IGNORECASE)

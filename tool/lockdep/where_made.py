@@ -13,6 +13,7 @@ if TYPE_CHECKING:
     from .symbols import Frame
 
 UP = ".."
+NAMED = "named"  # the kind of a class that the program names
 
 
 @dataclass(frozen=True)
@@ -109,6 +110,6 @@ def caller_of_frame(frame: Frame, shown: bool) -> Caller:
 
 
 def place_now(made: Made, sources: Sources, shown: bool = False) -> Place | None:
-    """Where a class is made now."""
-    frames = sources.frames_of(made)
+    """Where a class is made now. One that the program names is the same wherever that is."""
+    frames = sources.frames_of(made) if made.kind != NAMED else []
     return Place(made.kind, tuple(caller_of_frame(frame, shown) for frame in frames)) if frames else None
