@@ -1,8 +1,10 @@
 /* Locks of classes whose order is said. The word says what is done: so many locks of a class are taken by index, downwards, with one index
-   twice, by address, by tries, or with another class in between. */
+   twice, by address, by tries, with another class in between, or by a thread that waits at the end. */
 #include <lockdep.h>
 #include <pthread.h>
+#include <signal.h>
 #include <string.h>
+#include <unistd.h>
 
 static pthread_mutex_t pool[40], other = PTHREAD_MUTEX_INITIALIZER;
 
@@ -54,6 +56,24 @@ static void try_downwards(void) {
     pthread_mutex_unlock(&pool[5]);
 }
 
+static void *wait_for_one(void *nothing) {
+    take_two(0, 1);
+    return nothing;
+}
+
+/* The process is killed while a thread that holds one waits for the next. */
+static void be_killed(void) {
+    pthread_t thread;
+    pthread_mutex_lock(&pool[1]);
+    if (pthread_create(&thread, NULL, wait_for_one, NULL) == 0)
+        while (pthread_mutex_trylock(&pool[0]) == 0) {
+            pthread_mutex_unlock(&pool[0]);
+            usleep(1000);
+        }
+    usleep(200000);
+    kill(getpid(), SIGKILL);
+}
+
 int main(int count, char **words) {
     const char *word = count > 1 ? words[1] : "";
     begin(word);
@@ -68,6 +88,8 @@ int main(int count, char **words) {
         take_two(0, 1);
     else if (strcmp(word, "under") == 0)
         take_under(4);
+    else if (strcmp(word, "wait") == 0)
+        be_killed();
     else
         try_downwards();
     return 0;
