@@ -11,9 +11,9 @@ from .cplusplus import without_parameters
 from .findings import Finding, by_line, report_lines
 from .sources import Sources, keys_of
 from .stale import Judge
-from .suppressions import EXCUSED, KINDS, VERDICT, Entry, entries_of, today
+from .suppressions import EXCUSED, KINDS, TEXT, VERDICT, Entry, entries_of, today
 from .taking_part import TakingPart
-from .where_made import place_now
+from .where_made import Place, place_now
 from .words import class_of_lock, name_in, type_of_class
 
 FIRST_LINE = "# Known findings, for the option --known of lockdep run: lines of a report, comments and blank lines."
@@ -118,11 +118,17 @@ class Comments:
         kinds = [finding.kind for finding in self.findings.get(line, ()) if finding.kind]
         verdict = ["#   " + EXCUSED[min(kinds, key=KINDS.index)]] if kinds else []
         now = [(made.name, place_now(made, self.taking.sources, shown=True)) for made in self.taking.made(line)]
-        return verdict + ["#   %s: %s" % (name, place.words) for name, place in now if place]
+        return verdict + [comment for name, place in now if place for comment in comments_of(name, place)]
+
+
+def comments_of(name: str, place: Place) -> list[str]:
+    """Where a lock is made, and how the lines of its callers read."""
+    texts = dict.fromkeys("#     at %s: %s" % (caller.source, caller.text) for caller in place.callers if caller.text)
+    return ["#   %s: %s" % (name, place.words)] + list(texts)
 
 
 def is_comment_of_entry(line: str) -> bool:
-    return bool(PLACE_COMMENT.match(line.strip())) or line.strip() in VERDICT
+    return bool(PLACE_COMMENT.match(line.strip()) or TEXT.fullmatch(line.strip())) or line.strip() in VERDICT
 
 
 def list_of(findings: list[Finding], old: str, sources: Sources, traces: list[str] = ()) -> str:

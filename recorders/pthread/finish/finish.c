@@ -6,6 +6,7 @@
    FOLDER/task-NNNN.csv.places for each of its records, where the call came from
    FOLDER/objects              the same traces with the names of single locks
    FOLDER/classes              for each class's name, where that is
+   FOLDER/classes.places       by which callers it is made, if it is known by them
    FOLDER/breaches             what a program did against what it says of its locks, if it did
    FOLDER/breaches.places      where, in two places for each of these
    FOLDER/SUMMARY              what was recorded, and what was left out

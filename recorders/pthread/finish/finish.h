@@ -137,6 +137,7 @@ struct key {
     char *identity; /* what the name stands for: two classes of one name aren't mixed up */
     const struct type *type;
     char *place; /* in full, if the name has a type */
+    const struct place *made; /* by which callers; NULL of one that isn't known by them */
     uint64_t at;
     enum class_kind kind;
     const char *path; /* of a file that the lock is in, `at` being where */

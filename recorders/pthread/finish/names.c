@@ -361,6 +361,13 @@ static int add_key(struct key key) {
     return (int)key_count - 1;
 }
 
+/* The callers that a class is known by, or NULL. */
+static const struct place *callers_of(struct arena *a, const struct raw_class *class) {
+    if (is_by_word(class) || class->kind == CLASS_FILE)
+        return NULL;
+    return place_numbered(a, class->kind == CLASS_NAMED ? text_of(a, class)->place : class->place);
+}
+
 static uint64_t first_word(struct arena *a, const struct raw_class *class) {
     if (class->kind == CLASS_THREAD)
         return UINT64_MAX; /* it is at another address in each thread */
@@ -368,7 +375,7 @@ static uint64_t first_word(struct arena *a, const struct raw_class *class) {
         return class->offset == RAW_WHOLE_FILE ? 0 : class->offset;
     if (is_by_word(class))
         return told_word(a, class->word);
-    const struct place *place = place_numbered(a, class->kind == CLASS_NAMED ? text_of(a, class)->place : class->place);
+    const struct place *place = callers_of(a, class);
     return place->count ? place->words[0] : UINT64_MAX;
 }
 
@@ -399,7 +406,8 @@ static int make_key(struct arena *a, const struct raw_class *class, const struct
     char place[LONGEST_NAME], identity[LONGEST_NAME];
     tell_class(identity, sizeof identity, a, class, true);
     tell_class(place, sizeof place, a, class, false);
-    struct key key = {.at = first_word(a, class), .kind = (enum class_kind)class->kind, .path = file_path(a, class), .type = type};
+    struct key key = {.at = first_word(a, class), .kind = (enum class_kind)class->kind, .path = file_path(a, class), .type = type,
+                      .made = callers_of(a, class)};
     put_class_name(&key, place, place);
     int there = key_named(key.name);
     if (there != NO_KEY && strcmp(keys[there].identity, identity) != 0) {

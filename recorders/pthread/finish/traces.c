@@ -401,10 +401,15 @@ static void write_class(FILE *file, const struct key *key) {
 }
 
 void write_classes(const char *folder) {
-    char path[4300];
+    char path[4300], places[4300];
     snprintf(path, sizeof path, "%s/classes", folder);
-    FILE *file = created(path);
-    for (size_t i = 0; i < key_count && i < MAX_KEYS; i++)
+    snprintf(places, sizeof places, "%s/classes.places", folder);
+    FILE *file = created(path), *callers = created(places);
+    begin_places(callers);
+    for (size_t i = 0; i < key_count && i < MAX_KEYS; i++) {
         write_class(file, &keys[i]);
+        write_place(callers, keys[i].made);
+    }
     closed(file, path);
+    closed(callers, places);
 }
