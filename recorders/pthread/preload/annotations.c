@@ -124,11 +124,16 @@ void say_subclass(uintptr_t lock, uint32_t subclass) {
     next_subclass = subclass;
 }
 
-static uint32_t with_subclass(uintptr_t lock, uint32_t object) {
+/* That acquisition of the lock is here. */
+bool end_nesting(uintptr_t lock) {
     if (nested_lock != lock)
-        return object;
+        return false;
     nested_lock = 0;
-    return next_subclass ? object_of_subclass(lock, object, next_subclass) : object;
+    return true;
+}
+
+static uint32_t with_subclass(uintptr_t lock, uint32_t object) {
+    return end_nesting(lock) && next_subclass ? object_of_subclass(lock, object, next_subclass) : object;
 }
 
 uint32_t subclass_held(uintptr_t lock) {

@@ -325,5 +325,6 @@ bool is_ignored(uintptr_t lock);
 bool count_ignored(uintptr_t lock); /* if it is */
 uint32_t subclass_held(uintptr_t lock);
 void say_subclass(uintptr_t lock, uint32_t subclass); /* of the next acquisition by this thread */
+bool end_nesting(uintptr_t lock);
 
 #endif

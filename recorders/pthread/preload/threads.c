@@ -687,9 +687,10 @@ static void end_stale(struct thread *t, uintptr_t lock, uint8_t mode, uintptr_t 
 __attribute__((noinline)) static bool take_again(struct thread *t, uint32_t held, uint8_t mode, enum kind kind, uintptr_t caller) {
     struct held *h = &t->entries[held].held;
     bool is_same = is_same_hold(h->lock, kind);
-    if (is_same)
+    if (is_same) {
         h->depth++;
-    else
+        end_nesting(h->lock);
+    } else
         end_stale(t, h->lock, mode, caller);
     return is_same;
 }

@@ -23,6 +23,23 @@ static void wait_nested(void) {
     pthread_mutex_unlock(&parent);
 }
 
+/* A recursive lock that is held already isn't taken, and when it is taken later that isn't nested. */
+static void recur(void) {
+    pthread_mutexattr_t how;
+    pthread_mutex_t recursive;
+    pthread_mutexattr_init(&how);
+    pthread_mutexattr_settype(&how, PTHREAD_MUTEX_RECURSIVE);
+    pthread_mutex_init(&recursive, &how);
+    LOCKDEP_CLASS(&recursive, "recursive");
+    pthread_mutex_lock(&recursive);
+    LOCKDEP_NESTED(&recursive, 2);
+    pthread_mutex_lock(&recursive);
+    pthread_mutex_unlock(&recursive);
+    pthread_mutex_unlock(&recursive);
+    pthread_mutex_lock(&recursive);
+    pthread_mutex_unlock(&recursive);
+}
+
 /* Another thread releases it, which ends nobody's hold. */
 static void *release(void *lock) {
     pthread_mutex_unlock(lock);
@@ -60,6 +77,7 @@ int main(void) {
     wait_nested();
     ignore();
     assert_all();
+    recur();
     pid_t forked = fork();
     if (forked == 0) {
         LOCKDEP_CLASS(&asserted, "of-the-child");
