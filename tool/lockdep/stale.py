@@ -113,6 +113,6 @@ def elsewhere_words(name: str, left: list[Place], now: Place) -> str:
     """That a lock was made elsewhere, if listed places are left that no lock is made at any more; otherwise that there is one more."""
     if not left:
         return "%s is now also made %s" % (name, now.where)
-    texts = [(one.text, other.text) for place in left for one, other in zip(place.callers, now.callers) if one.text and one.text != other.text]
-    reads = ", where `%s` was and `%s` is" % texts[0] if texts and texts[0][1] else ""
+    texts = [(one.text, other.text) for place in left for one, other in zip(place.callers, now.callers)]
+    reads = next((", where `%s` was and `%s` is" % (was, reads) for was, reads in texts if was and reads and was != reads), "")
     return "%s was made %s, and is now %s%s" % (name, " and ".join(dict.fromkeys(place.where for place in left)), now.where, reads)

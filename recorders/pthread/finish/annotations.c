@@ -105,9 +105,10 @@ static bool is_sound(const struct arena *a, const struct raw_breach *b) {
 void find_breaches(void) {
     for (size_t i = 0; i < arena_count; i++)
         for (uint32_t n = 1; n <= count_of(&arenas[i], RAW_BREACHES); n++) {
-            const struct raw_breach *b = part_of(&arenas[i], RAW_BREACHES, n);
-            if (is_sound(&arenas[i], b))
-                add_breach((struct breach){b, &arenas[i], class_key_of(&arenas[i], b->object), place_numbered(&arenas[i], b->place), b->count});
+            struct arena *a = &arenas[i];
+            const struct raw_breach *b = part_of(a, RAW_BREACHES, n);
+            if (is_sound(a, b))
+                add_breach((struct breach){b, a, class_key_of(a, b->object), place_numbered(a, b->place), b->count});
         }
 }
 

@@ -237,7 +237,7 @@ static void end_wait(void *value) {
     EXPORT int name parameters {                                                                                       \
         if (!resolved())                                                                                               \
             return 0;                                                                                                  \
-        struct waiting w = {(uintptr_t)lock, HERE, false, 0};                                                           \
+        struct waiting w = {(uintptr_t)lock, HERE, false, 0};                                                          \
         int answer;                                                                                                    \
         begin_wait(&w, is_sound);                                                                                      \
         pthread_cleanup_push(end_wait, &w);                                                                            \

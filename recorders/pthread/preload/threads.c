@@ -494,7 +494,7 @@ static inline void settle(struct thread *t, struct call call) {
     look_at_others(t, call.caller);
 }
 
-/* Whether this thread was seen to take the lock. One that it ignores isn't. */
+/* Whether this thread was seen to take the lock, or ignores it. */
 static inline bool release_own(struct thread *t, uintptr_t lock, struct call call) {
     settle(t, call);
     uint32_t i = find_held(t, lock);
