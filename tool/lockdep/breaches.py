@@ -37,5 +37,6 @@ def breaches_in(folder: str) -> list[Breach]:
         fields = line.split("\t")
         if len(fields) == 4 and fields[0] in WORDS:
             events = tuple(Event(name, 2 * number + place) for place, _ in enumerate(WORDS[fields[0]], 1))
-            found.append(Breach(fields[0], tuple(key + "/0" for key in fields[1:3] if key), fields[3], events))
+            sentence = "%s: %s" % (fields[0], fields[3])
+            found.append(Breach(fields[0], tuple(key + "/0" for key in fields[1:3] if key), sentence, events))
     return found

@@ -33,7 +33,7 @@ class Text:
         self.writer.line("")
         self.annotator.begin_block()
         names = self.annotator.under(tuple(name_in(key) for key in breach.keys))
-        self.writer.line(self.sources.demangler.text("%s: %s" % (breach.type, breach.sentence)), names)
+        self.writer.line(self.sources.demangler.text(breach.sentence), names)
         for words, event in breach.lines():
             self.writer.line("  %s: %s" % (words, place_words(self.sources.frames(event)) or "unknown"))
 
