@@ -261,9 +261,9 @@ class Lines(unittest.TestCase):
 
     def run_then(self, texts, later, line=3):
         """What a list that is written of locks that are made in lines with these texts says of others, in lines from `line` on."""
-        with mock.patch.object(Made_up, "text_at", lambda self, frame: texts.get(frame.line, "")):
+        with mock.patch.object(Made_up, "text_at", lambda self, frame, made: texts.get(frame.line, "")):
             text = list_of(findings(self.SAID), "", Made_up(self.places(3)))
-        with mock.patch.object(Made_up, "text_at", lambda self, frame: later.get(frame.line, "")):
+        with mock.patch.object(Made_up, "text_at", lambda self, frame, made: later.get(frame.line, "")):
             return text, sorted_by(text, self.places(line), self.SAID)
 
     def places(self, line):

@@ -114,9 +114,11 @@ class Sources:
         return [other for other in self.classes.values() if other is not made and other.kind == made.kind and
                 OFFSET.sub("", other.place_name) == functions]
 
-    def text_at(self, frame: Frame) -> str:
-        """A line of source as it reads, without what stands around its words; empty if it isn't known."""
-        text = next((line for number, line in self.excerpt(frame) if number == frame.line), "") if frame.path else ""
+    def text_at(self, frame: Frame, made: Made) -> str:
+        """How a line reads where a class is made, with single spaces; empty if that isn't known, or if the file has changed since."""
+        if not frame.path or (made.record and has_changed(frame.path, made.record.file)):
+            return ""
+        text = next((line for number, line in self.excerpt(frame) if number == frame.line), "")
         return " ".join(text.split())[:MOST_OF_LINE]
 
     def made_words(self, made: Made) -> str:

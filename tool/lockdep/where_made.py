@@ -121,6 +121,6 @@ def caller_of_frame(frame: Frame, shown: bool, text: str) -> Caller:
 def place_now(made: Made, sources: Sources, shown: bool = False) -> Place | None:
     """Where a class is made now. One that the program names is the same wherever that is."""
     frames = sources.frames_of_callers(made) if made.kind != NAMED else []
-    texts = [sources.text_at(frame) if made.place.is_code else "" for frame in frames]
+    texts = [sources.text_at(frame, made) if made.place.is_code else "" for frame in frames]
     callers = tuple(caller_of_frame(frame, shown, text) for frame, text in zip(frames, texts))
     return Place(made.kind, callers) if frames else None
