@@ -10,8 +10,8 @@
 #include <stdint.h>
 #include <string.h>
 
-/* "lockrec5", little endian. */
-#define RAW_MAGIC UINT64_C(0x356365726b636f6c)
+/* "lockrec6", little endian. */
+#define RAW_MAGIC UINT64_C(0x366365726b636f6c)
 
 /* The file's size, if no limit forbids it, and the size under which a recording may well be too small. */
 #define RAW_BYTES (UINT64_C(4) << 30)
@@ -39,6 +39,10 @@
 
 enum mode { MODE_WRITE, MODE_READ, MODE_REC_READ, MODE_TRY_WRITE, MODE_TRY_READ, MODE_TRY_REC_READ, MODE_RELEASE };
 
+/* Added to the mode of an acquisition: the program says in which order locks of the class are nested, and this one comes after all of them
+   that are held. */
+#define RAW_IN_ORDER 8
+
 /* One acquisition or release: the object in the low 27 bits and the mode above them, and where it happened. */
 struct raw_record {
     uint32_t what;
@@ -47,9 +51,11 @@ struct raw_record {
 
 #define RAW_OBJECT_BITS 27
 
-static inline uint32_t raw_what(uint32_t object, enum mode mode) { return (uint32_t)mode << RAW_OBJECT_BITS | object; }
+static inline uint32_t raw_what(uint32_t object, uint32_t mode) { return mode << RAW_OBJECT_BITS | object; }
 static inline uint32_t raw_object(uint32_t what) { return what & ((UINT32_C(1) << RAW_OBJECT_BITS) - 1); }
-static inline enum mode raw_mode(uint32_t what) { return (enum mode)(what >> RAW_OBJECT_BITS); }
+static inline enum mode raw_plain(uint32_t mode) { return (enum mode)(mode & (RAW_IN_ORDER - 1)); }
+static inline enum mode raw_mode(uint32_t what) { return raw_plain(what >> RAW_OBJECT_BITS); }
+static inline int raw_is_in_order(uint32_t what) { return (what >> RAW_OBJECT_BITS & RAW_IN_ORDER) != 0; }
 
 /* An address as a module's number and an offset in its file, in 16 bits and 48; RAW_NOWHERE where it is in no module. */
 #define RAW_NOWHERE UINT64_C(0xffff)
@@ -62,7 +68,8 @@ static inline uint64_t raw_word_offset(uint64_t word) { return word & UINT64_C(0
 
 /* The kinds of parts that are numbered. Each kind has its region of the file, in this order: what a program goes on to use comes first,
    where the pages are made at the start. */
-enum raw_kind { RAW_PROCESSES, RAW_PLACES, RAW_MODULES, RAW_CLASSES, RAW_OBJECTS, RAW_TAKES, RAW_FILES, RAW_PROGRAMS, RAW_THREADS, RAW_LOOKS, RAW_KINDS };
+enum raw_kind { RAW_PROCESSES, RAW_PLACES, RAW_MODULES, RAW_CLASSES, RAW_OBJECTS, RAW_TAKES, RAW_FILES, RAW_PROGRAMS, RAW_THREADS, RAW_LOOKS,
+                RAW_TEXTS, RAW_BREACHES, RAW_KINDS };
 
 struct raw_process {
     uint32_t id; /* the system's number of it; written last */
@@ -89,15 +96,20 @@ struct raw_place {
 };
 
 /* By what a lock is known: where it was initialised, its symbol, where its memory was allocated, the function in whose frame
-   it lies, the thread-local symbol, the file that it is in, or, if nothing else is known of it, where it was taken first. */
-enum class_kind { CLASS_NONE, CLASS_INIT, CLASS_STATIC, CLASS_HEAP, CLASS_STACK, CLASS_THREAD, CLASS_TAKE, CLASS_FILE, CLASS_KINDS };
+   it lies, the thread-local symbol, the file that it is in, or, if nothing else is known of it, where it was taken first. A class is
+   also a subclass of another one. What the program says comes before all this: the name that it gives, or that it ignores the lock. The
+   last three are of locks that may lie in a frame. */
+enum class_kind { CLASS_NONE, CLASS_INIT, CLASS_STATIC, CLASS_HEAP, CLASS_THREAD, CLASS_TAKE, CLASS_FILE, CLASS_NESTED, CLASS_STACK, CLASS_NAMED,
+                  CLASS_IGNORED, CLASS_KINDS };
 
 struct raw_class {
     uint32_t kind; /* written last */
-    uint32_t place;  /* of CLASS_INIT, CLASS_HEAP and CLASS_TAKE; of CLASS_FILE the file */
+    uint32_t place;  /* of CLASS_INIT, CLASS_HEAP and CLASS_TAKE; of CLASS_FILE the file, of CLASS_NESTED the class that it is a subclass of, of
+                        CLASS_NAMED and CLASS_IGNORED the text */
     uint64_t word;   /* of CLASS_STATIC the lock's address, of CLASS_STACK the function's, of CLASS_THREAD that in the module's
-                        thread-local part */
-    uint64_t offset; /* of CLASS_HEAP in the piece of memory, of CLASS_STACK down from the frame's end, of CLASS_FILE in the file */
+                        thread-local part; of CLASS_NAMED and CLASS_IGNORED as of CLASS_STACK, or 0 if the lock is in no frame */
+    uint64_t offset; /* of CLASS_HEAP in the piece of memory, of CLASS_STACK down from the frame's end, of CLASS_FILE in the file, of
+                        CLASS_NESTED the subclass */
     uint32_t look;   /* at the first lock of it; 0 if there was none yet, or RAW_NO_LOOK */
 };
 
@@ -123,7 +135,7 @@ struct raw_look {
 struct raw_object {
     uint32_t class;   /* written last */
     uint32_t ordinal; /* among the objects of the class that are told apart, from 1; 0 for all the others together */
-    uint64_t offset;  /* in the file */
+    uint64_t offset;  /* in the file; of a lock that is in none and is taken as one of a subclass, its object without that */
     uint32_t file;    /* of a lock that processes share; else 0 */
     uint32_t is_signal; /* it is a semaphore that isn't used as a lock: nothing of it goes into the traces */
 };
@@ -158,6 +170,30 @@ struct raw_program {
 struct raw_take {
     uint32_t class; /* written last */
     uint32_t place;
+};
+
+/* A name that the program gives to locks, or why it ignores them. */
+#define RAW_NAME 48  /* the longest name, in bytes */
+#define RAW_TEXT 111 /* more of a reason is left out */
+
+struct raw_text {
+    uint32_t is_ready;
+    uint32_t place; /* where that was said first */
+    uint64_t count; /* of a reason: how many acquisitions were ignored */
+    char text[RAW_TEXT + 1];
+};
+
+/* What the program did against what it says of its locks, as far as it did that in one place: it took a lock of a class whose order it
+   says, which doesn't come after one that it held; or it didn't hold a lock that it says it holds. */
+enum breach_kind { BREACH_NONE, BREACH_OF_ORDER, BREACH_OF_HOLD };
+
+struct raw_breach {
+    uint32_t kind; /* written last */
+    uint32_t process, object, place;
+    uint32_t held_object, held_place; /* 0 if the place isn't known */
+    uint64_t number, held_number;     /* that the program gave the two, if it is about an order; else 0 */
+    uint64_t is_address;              /* these are their addresses */
+    uint64_t count;
 };
 
 /* What was left out of a thread's records, and how often. */
@@ -207,13 +243,15 @@ struct raw_arena {
     uint64_t deep_bound;  /* libraries that were to be loaded with RTLD_DEEPBIND, which was taken away */
     uint64_t namespaces;  /* libraries that were loaded into a namespace of their own, by dlmopen */
     uint64_t unknown;     /* pieces of memory for which there was no room in the recorder's table */
+    uint64_t asserted;    /* how often the program said that it holds a lock */
+    uint64_t unknown_annotations, refused_annotations, refused_names; /* what it said that isn't known, or can't be */
 };
 
 static inline uint32_t raw_size(enum raw_kind kind) {
     static const uint32_t sizes[RAW_KINDS] = {sizeof(struct raw_process), sizeof(struct raw_place),  sizeof(struct raw_module),
                                               sizeof(struct raw_class),   sizeof(struct raw_object), sizeof(struct raw_take),
                                               sizeof(struct raw_file),    sizeof(struct raw_program), sizeof(struct raw_thread),
-                                              sizeof(struct raw_look)};
+                                              sizeof(struct raw_look),    sizeof(struct raw_text),  sizeof(struct raw_breach)};
     return sizes[kind];
 }
 

@@ -253,6 +253,55 @@ class OtherLocks(unittest.TestCase):
             self.assertEqual([made.name for made in TakingPart(sources, ["t"]).made("circle S::m/0 EN P::m/0")], ["S::m@1", "S::m@3", "P::m@2"])
 
 
+class Lines(unittest.TestCase):
+    """Locks that one function makes in several lines, which are told apart by how these read."""
+
+    SAID = [circle("make+0x9~main+0x1/0", "make+0x9~main+0x2/0")]
+    NAMES = ["make+0x9~main+0x%d" % number for number in (1, 2, 3)]
+
+    def run_then(self, texts, later, line=3):
+        """What a list that is written of locks that are made in lines with these texts says of others, in lines from `line` on."""
+        with mock.patch.object(Made_up, "text_at", lambda self, frame, made: texts.get(frame.line, "")):
+            text = list_of(findings(self.SAID), "", Made_up(self.places(3)))
+        with mock.patch.object(Made_up, "text_at", lambda self, frame, made: later.get(frame.line, "")):
+            return text, sorted_by(text, self.places(line), self.SAID)
+
+    def places(self, line):
+        return {name: made_in("main", line=line + place) for place, name in enumerate(self.NAMES)}
+
+    def test_how_lines_read_is_written(self):
+        text, result = self.run_then({3: "a = make();", 4: "b = make();"}, {3: "a = make();", 4: "b = make();"})
+        self.assertIn("#   make+0x9~main+0x1: heap main at one.c:3\n#     at one.c:3: a = make();\n", text)
+        self.assertEqual((result.new, result.stale), ([], []))
+
+    def test_comments_are_written_anew(self):
+        text, _ = self.run_then({3: "a = make();"}, {})
+        self.assertEqual(list_of(findings(self.SAID), text, Made_up(self.places(3))), "".join(
+            line + "\n" for line in text.split("\n")[:-1] if not line.startswith("#     at ")))
+
+    def test_another_text_is_another_lock(self):
+        _, result = self.run_then({3: "a = make();", 4: "b = make();"}, {3: "c = make();", 4: "b = make();"})
+        self.assertEqual(len(result.new), 1)
+        self.assertIn("where `a = make();` was and `c = make();` is", result.stale[0])
+
+    def test_texts_in_other_lines(self):
+        texts = {3: "a = make();", 4: "b = make();", 5: "c = make();"}
+        later = {line + 7: text for line, text in texts.items()}
+        self.assertEqual(self.run_then(texts, later, line=10)[1].new, [])
+
+    def test_lines_count_if_their_texts_tell_nothing(self):
+        for texts in ({}, {3: "x = make();", 4: "x = make();", 5: "x = make();"}):
+            later = {line + 7: text for line, text in texts.items()}
+            self.assertEqual(self.run_then(texts, texts)[1].new, [])
+            self.assertEqual(len(self.run_then(texts, later, line=10)[1].new), 1)
+
+    def test_a_name_that_the_program_gives_has_no_place(self):
+        places = {"a": made_in("one", kind="named"), "b": made_in("two", kind="named")}
+        text = list_of(findings(TWO[:1]), "", Made_up(places))
+        self.assertNotIn("#   a", text)
+        self.assertEqual(sorted_by(text, {"a": made_in("other", kind="named")}, TWO[:1]).stale, [])
+
+
 class Writing(unittest.TestCase):
     def test_a_new_list_has_places(self):
         text = list_of(findings(TWO[:1]), "", Made_up({"a": at("one.c")}))

@@ -5,6 +5,7 @@ from __future__ import annotations
 import json
 
 from .blocked import Blocked
+from .breaches import Breach
 from .findings import Event, Finding
 from .forms import COUNT, Found
 from .threads import name_of
@@ -81,6 +82,12 @@ def blocked_json(thread: Blocked, found: Found) -> dict:
     return said
 
 
+def breach_json(breach: Breach, found: Found) -> dict:
+    said = {"type": breach.type, "keys": breach.keys, "sentence": breach.sentence}
+    said["records"] = [{"what": words, "places": frames_of(event, found)} for words, event in breach.lines()]
+    return said
+
+
 def summary_json(found: Found) -> dict:
     """The counts of the recording, by their names in SUMMARY."""
     return {name: int(count) for name, count in COUNT.findall(found.summary)}
@@ -92,7 +99,8 @@ def json_of_run(found: Found) -> str:
     for finding in found.new:
         counts[finding.kind.value] = counts.get(finding.kind.value, 0) + 1
     lines = [compact(finding_json(finding, found)) for finding in found.new + found.known]
-    rest = {"blocked": [blocked_json(thread, found) for thread in found.blocked], "waiting": found.waiting,
+    rest = {"blocked": [blocked_json(thread, found) for thread in found.blocked],
+            "breaches": [breach_json(breach, found) for breach in found.breaches], "waiting": found.waiting,
             "left_out": visible(found.left_out), "summary": summary_json(found)}
     head = compact({"lockdep": VERSION, "counts": counts})
     return '%s,"findings":[\n%s],%s\n' % (head[:-1], ",\n".join(lines) + "\n" if lines else "", compact(rest)[1:])

@@ -18,6 +18,7 @@ from .words import name_in, plain_key, stands_for_several, text_of
 AT_END = re.compile(r"^  (task-\d+) (waits for|ended holding) ", re.MULTILINE)
 COUNT = "^%s (\\d+)$"
 TAKE, GIVE, ENTER, LEAVE = "acq", "rel", "enter", "leave"
+TRY = "t"  # what the mode of a try begins with
 
 
 @dataclass(frozen=True)
@@ -46,6 +47,16 @@ class Blocked:
     thread: Thread
     holders: list[tuple[Thread, Held]] = field(default_factory=list)
     is_cycle: bool = False
+
+    type = "blocked"
+
+    @property
+    def name(self) -> str:
+        return "blocked %s" % self.thread.name
+
+    def lines(self) -> list[tuple[str, Event]]:
+        """What stands before the place of each record."""
+        return [("%s: record %d" % (event.file, event.record), event) for event in self.events]
 
     @property
     def keys(self) -> list[str]:
@@ -88,14 +99,17 @@ def records_of(trace: str) -> list[list[str]]:
 
 
 def thread_at_end(name: str, trace: str, is_waiting: bool) -> Thread:
-    """What a thread holds after its last record. If it waits, that is for the last lock that it takes."""
+    """What a thread holds after its last record. If it waits, that is for the last lock that it takes, other than by a try."""
     held: list[Held] = []
     for number, fields in enumerate(records_of(trace), 1):
         if fields[0] == TAKE and len(fields) > 3:
             held.append(Held("%s/%s" % (fields[1], fields[2]), fields[3], Event(trace, number)))
         elif fields[0] == GIVE and len(fields) > 2:
             give_back(held, "%s/%s" % (fields[1], fields[2]))
-    waits = held.pop() if is_waiting and held else None
+    taken = [lock for lock in held if not lock.mode.startswith(TRY)] if is_waiting else []
+    waits = taken[-1] if taken else None
+    if waits:
+        held.remove(waits)
     return Thread(name, waits, held)
 
 
@@ -164,7 +178,7 @@ def blocked_threads(folder: str, summary: str) -> list[Blocked]:
     return each_once([blocked_of(thread, threads) for thread in threads if thread.waits])
 
 
-def sources_wanted(blocked: list[Blocked], sources: Sources) -> None:
-    """Gathers what is said of blocked threads."""
+def sources_wanted(blocked: list, sources: Sources) -> None:
+    """Gathers what is said of blocked threads, or of breaches."""
     sources.want_events(event for thread in blocked for event in thread.events)
     sources.want_names(name_in(key) for thread in blocked for key in thread.keys)

@@ -6,6 +6,8 @@ import subprocess
 import sys
 
 from .asking import OBJECTS, Asked, ask_about, text_in, traces_in
+from .blocked import sources_wanted
+from .breaches import Breach, breaches_in
 from .checker import HOME
 from .files import is_file, need_output, print_file
 from .findings import Finding
@@ -86,15 +88,20 @@ def depths_in(folder: str, asked: Asked, findings: list[Finding]) -> dict[int, i
         return depths_of(folder, asked, findings, room)
 
 
-def write_findings(folder: str, asked: Asked, findings: list[Finding]) -> None:
+def write_findings(folder: str, asked: Asked, findings: list[Finding], breaches: list[Breach]) -> None:
     recorded = Recorded(asked.traces, text_in(os.path.join(folder, "SUMMARY")))
     recorded.depths = depths_in(folder, asked, findings) if findings else {}
     stream = text_stream(sys.stdout.fileno())
     writer = Writer(stream)
-    writer.line("findings %d" % sum(not finding.is_note for finding in findings))
-    text = Text(writer, sources_of(findings, [folder]), recorded)
+    writer.line("findings %d" % (sum(not finding.is_note for finding in findings) + len(breaches)))
+    sources = sources_of(findings, [folder])
+    sources_wanted(breaches, sources)
+    sources.ask()
+    text = Text(writer, sources, recorded)
     for finding in findings:
         text.finding(finding)
+    for breach in breaches:
+        text.breach(breach)
     stream.flush()
 
 
@@ -113,8 +120,8 @@ def main(words: list[str]) -> int:
         say_refusal(asked)
         if asked.is_refused:
             return 2
-        findings = asked.findings()
-        write_findings(folder, asked, findings)
+        findings, breaches = asked.findings(), breaches_in(folder)
+        write_findings(folder, asked, findings, breaches)
     except BrokenPipeError:
         # A reader that has enough, as `head`, needs no message.
         os.dup2(os.open(os.devnull, os.O_WRONLY), 1)
@@ -122,4 +129,4 @@ def main(words: list[str]) -> int:
     except OSError:
         raise Refusal("the text can't be written")
     counted = [finding for finding in findings if not finding.is_note]
-    return 1 if any(finding.is_confirmed or not wanted.is_strict for finding in counted) else 0
+    return 1 if breaches or any(finding.is_confirmed or not wanted.is_strict for finding in counted) else 0

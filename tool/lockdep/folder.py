@@ -15,7 +15,7 @@ OBJECTS = "objects"  # the folder with the traces of single locks
 FIRST_LINE = "a recording by lockdep made these:"
 LOCK = 9  # the open file whose lock says that a recording is under way; `run` closes it in the command
 PAGE = "report.html"  # isn't written by what records, which leaves another's alone
-MADE = ("classes", "SUMMARY", "summary.json", PAGE, "raw.tar.gz", "objects")
+MADE = ("classes", "SUMMARY", "summary.json", PAGE, "raw.tar.gz", "objects", "classes.places", "breaches", "breaches.places")
 MARKS = ("settings", "python", "java")  # one of these is in `raw` if it has a recording
 ELSEWHERE = "choose another folder by -o"
 

@@ -8,6 +8,7 @@ from dataclasses import dataclass, field
 from typing import TYPE_CHECKING
 
 from .blocked import Blocked, number_of
+from .breaches import Breach
 from .checker import text_answer
 from .findings import Finding, Kind
 from .groups import Group, groups_of
@@ -42,6 +43,8 @@ class Found:
     of_locks: list[list[str]] = field(default_factory=list)
     raw: bytes = b""
     known_blocked: int = 0
+    breaches: list[Breach] = field(default_factory=list)
+    known_breaches: int = 0
 
     @classmethod
     def of_run(cls, report: Report) -> Found:
@@ -51,7 +54,8 @@ class Found:
         if result is None:
             return cls([], [], Sources(), Recorded(files), files, recording.lost, waiting, summary=recording.summary)
         return cls(result.new, result.known, report.sources, report.recorded, files, recording.lost, waiting, report.blocked,
-                   recording.summary, known_blocked=result.known_blocked)
+                   recording.summary, known_blocked=result.known_blocked, breaches=report.breaches,
+                   known_breaches=result.known_breaches)
 
     @property
     def findings(self) -> list[Finding]:
@@ -60,8 +64,8 @@ class Found:
 
     @property
     def has_known(self) -> bool:
-        """Whether something was found that is known: a finding that is no note, or a blocked thread."""
-        return self.known_blocked > 0 or any(not finding.is_note for finding in self.known)
+        """Whether something was found that is known: a finding that is no note, a blocked thread, or a breach."""
+        return self.known_blocked + self.known_breaches > 0 or any(not finding.is_note for finding in self.known)
 
     @property
     def groups(self) -> list[Group]:

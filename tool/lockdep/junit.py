@@ -4,6 +4,7 @@ from __future__ import annotations
 import time
 
 from .blocked import Blocked
+from .breaches import Breach
 from .findings import Finding
 from .forms import Found, moment
 from .steps import Step, sentence, steps_of, words_of
@@ -35,16 +36,16 @@ def finding_case(finding: Finding, found: Found) -> str:
     return failed_case(finding.type, finding.head, sentence(finding), lines)
 
 
-def blocked_case(thread: Blocked, found: Found) -> str:
-    lines = [thread.sentence] + ["  %s: record %d, %s" % (event.file, event.record, place_words(found.sources.frames(event)))
-                                 for event in thread.events]
-    return failed_case("blocked", "blocked %s" % thread.thread.name, thread.sentence, lines)
+def blocked_case(thread: Blocked | Breach, found: Found) -> str:
+    lines = [thread.sentence] + ["  %s, %s" % (words, place_words(found.sources.frames(event))) for words, event in thread.lines()]
+    return failed_case(thread.type, thread.name, thread.sentence, lines)
 
 
 def junit(found: Found) -> str:
     """The suite. If nothing new was found it has a passed case; if the recording left something out there is a case with an
     error, and none is passed."""
-    cases = [finding_case(finding, found) for finding in found.findings] + [blocked_case(thread, found) for thread in found.blocked]
+    cases = [finding_case(finding, found) for finding in found.findings] + [blocked_case(thread, found) for thread in
+                                                                            found.blocked + found.breaches]
     failures = len(cases)
     if found.left_out:
         said = escaped("Not all was checked. Left out: %s." % found.left_out)

@@ -6,13 +6,14 @@ import re
 from dataclasses import dataclass, field
 
 from .blocked import Blocked
+from .breaches import Breach
 from .cplusplus import without_parameters
 from .findings import Finding, by_line, report_lines
 from .sources import Sources, keys_of
 from .stale import Judge
-from .suppressions import EXCUSED, KINDS, VERDICT, Entry, entries_of, today
+from .suppressions import EXCUSED, KINDS, TEXT, VERDICT, Entry, entries_of, today
 from .taking_part import TakingPart
-from .where_made import place_now
+from .where_made import Place, place_now
 from .words import class_of_lock, name_in, type_of_class
 
 FIRST_LINE = "# Known findings, for the option --known of lockdep run: lines of a report, comments and blank lines."
@@ -27,6 +28,8 @@ class Sorted:
     known: list[Finding] = field(default_factory=list)
     blocked: list[Blocked] = field(default_factory=list)
     known_blocked: int = 0
+    breaches: list[Breach] = field(default_factory=list)
+    known_breaches: int = 0
     known_lines: int = 0
     gone: list[str] = field(default_factory=list)
     stale: list[str] = field(default_factory=list)
@@ -62,14 +65,15 @@ def fits_finding(entry: Entry, finding: Finding, sources: Sources) -> bool:
     return entry.hides(finding.type, classes_of(keys, sources), frames_of(finding.events(), sources))
 
 
-def fits_blocked(entry: Entry, thread: Blocked, sources: Sources) -> bool:
-    return entry.is_pattern and entry.hides("blocked", classes_of(thread.keys, sources), frames_of(thread.events, sources))
+def fits_blocked(entry: Entry, thread: Blocked | Breach, sources: Sources) -> bool:
+    return entry.is_pattern and entry.hides(thread.type, classes_of(thread.keys, sources), frames_of(thread.events, sources))
 
 
 # ---- All together.
 
 
-def sort(findings: list[Finding], blocked: list[Blocked], entries: list[Entry], sources: Sources, traces: list[str] = ()) -> Sorted:
+def sort(findings: list[Finding], blocked: list[Blocked], entries: list[Entry], sources: Sources, traces: list[str] = (),
+         breaches: list[Breach] = ()) -> Sorted:
     """Holds what was found against a list. The traces are those of the recording, if there is one."""
     result = Sorted([])
     judge = Judge(findings, TakingPart(sources, list(traces)))
@@ -88,6 +92,11 @@ def sort(findings: list[Finding], blocked: list[Blocked], entries: list[Entry], 
         used.update(entry.number for entry in fitting)
         result.blocked += [] if fitting else [thread]
         result.known_blocked += bool(fitting)
+    for breach in breaches:
+        fitting = [entry for entry in fresh if fits_blocked(entry, breach, sources)]
+        used.update(entry.number for entry in fitting)
+        result.breaches += [] if fitting else [breach]
+        result.known_breaches += bool(fitting)
     for number, finding in enumerate(result.new, 1):
         finding.number = number
     result.known_lines = len(hidden)
@@ -109,11 +118,17 @@ class Comments:
         kinds = [finding.kind for finding in self.findings.get(line, ()) if finding.kind]
         verdict = ["#   " + EXCUSED[min(kinds, key=KINDS.index)]] if kinds else []
         now = [(made.name, place_now(made, self.taking.sources, shown=True)) for made in self.taking.made(line)]
-        return verdict + ["#   %s: %s" % (name, place.words) for name, place in now if place]
+        return verdict + [comment for name, place in now if place for comment in comments_of(name, place)]
+
+
+def comments_of(name: str, place: Place) -> list[str]:
+    """Where a lock is made, and how the lines of its callers read."""
+    texts = dict.fromkeys("#     at %s: %s" % (caller.source, caller.text) for caller in place.callers if caller.text)
+    return ["#   %s: %s" % (name, place.words)] + list(texts)
 
 
 def is_comment_of_entry(line: str) -> bool:
-    return bool(PLACE_COMMENT.match(line.strip())) or line.strip() in VERDICT
+    return bool(PLACE_COMMENT.match(line.strip()) or TEXT.fullmatch(line.strip())) or line.strip() in VERDICT
 
 
 def list_of(findings: list[Finding], old: str, sources: Sources, traces: list[str] = ()) -> str:

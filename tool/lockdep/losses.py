@@ -167,11 +167,17 @@ NOTES: dict[str, tuple[str, ...]] = {
     "futex-files": ("files whose waits by std::counting_semaphore or std::atomic were not looked at: no order of other locks is lost by these",),
     "unnamed-modules": ("modules of the program without debug information: locks of these are named by where they were made; build with -g",),
     "unread-programs": ("programs whose debug information was not read, as by a recorder without libdw: locks are named by where they were made",),
+    "assertions": ("times that a program said that it holds a lock: nothing is lost by these",),
+    "ignored-locks": ("acquisitions that a program said to ignore: no order that they are part of was recorded",),
+    "refused-names": ("names for locks that are not 1 to 48 bytes from 0x21 to 0x7E: these locks are named as without them",),
+    "refused-annotations": ("annotations of no lock or no bytes, with a subclass above 7, or without room for them: they were left out",),
+    "unknown-annotations": ("annotations that this recorder doesn't know, as of a newer lockdep.h: they were left out",),
     "passed-programs": ("programs with locks that are not those of pthreads",),
     "passed-pthreads": ("files with locks of pthreads, which were not looked at",),
 }
 RECORDED = ("processes", "threads", "operations", "events", "classes")
-UNLOST = RECORDED + tuple(NOTES) + ("objects", "calls seen", "repeats left out", "waiting", "at-exit", "held-at-end", "small-files")
+BREACHES = ("out-of-order", "not-held")  # findings of the recorder's own
+UNLOST = RECORDED + BREACHES + tuple(NOTES) + ("objects", "calls seen", "repeats left out", "waiting", "at-exit", "held-at-end", "small-files")
 
 # Which of several sentences a recorder means, if it isn't the first.
 SENTENCES = {

@@ -60,7 +60,7 @@ RUN = Command("run", "record a command, check its traces, and explain what was f
            "Findings that are known, as lines of a report, or patterns such as `cycle class:NAME`: left out of the text and the status. FILE may be "
            "empty, /dev/null, or a pipe",
            "The lines are those of a report that begin with `circle`, `double` or `inversion`, patterns, blank lines, and comments that begin with `#`. "
-           "They are counted, and those that no longer occur are named. A pattern is `cycle`, `double`, `inversion` or `blocked`, and then words "
+           "They are counted, and those that no longer occur are named. A pattern is `cycle`, `double`, `inversion`, `blocked`, `order` or `hold`, and then words "
            "`class:NAME`, `function:NAME` and `file:PATH`, in which `*` and `?` stand for any characters. It fits a finding of which each lock is of "
            "one of these classes, and of which a record comes from such a function in such a file; what isn't given is any. An entry may end with "
            "`# reason` and `until 2027-03-01`: after that day it hides nothing. A reason with `until` and no date at its end is refused. Of a pipe 100,000 "

@@ -9,7 +9,7 @@ from .blocked import Blocked
 from .checker import HOME, version
 from .findings import Finding
 from .forms import HANG, Found, moment
-from .page_finding import blocked_html, finding_html
+from .page_finding import blocked_html, breach_html, finding_html
 from .picture import picture_of
 from .words import counted, escaped, text_of
 
@@ -46,8 +46,8 @@ def lighting(findings: list[Finding]) -> str:
 
 
 def title_of(found: Found) -> str:
-    if found.findings:
-        return counted(len(found.findings), "finding")
+    if found.findings or found.breaches:
+        return counted(len(found.findings) + len(found.breaches), "finding")
     if found.blocked:
         return counted(len(found.blocked), "blocked thread")
     nothing = "Nothing new was found" if found.known else "Nothing was found"
@@ -106,6 +106,12 @@ def threads_html(threads: list[Blocked], found: Found) -> str:
     return section("blocked", "Blocked at the end", said) if threads else ""
 
 
+def breaches_html(found: Found) -> str:
+    """What was done against what the program says of its locks."""
+    said = "".join(breach_html(number, breach, found.sources) for number, breach in enumerate(found.breaches, 1))
+    return section("breaches", "Against what the program says of its locks", said) if said else ""
+
+
 def picture_html(findings: list[Finding], drawn: str, reason: str) -> str:
     """The picture with the findings beside it, or why there is none."""
     if drawn:
@@ -161,5 +167,5 @@ def page(found: Found) -> str:
 </body>
 </html>
 """ % (title_of(found), style(), lighting(found.findings) if drawn else "", header(found), needs_html(found),
-       threads_html(found.blocked, found) + "".join(finding_html(finding, found, of_group(finding)) for finding in found.findings) +
+       threads_html(found.blocked, found) + breaches_html(found) + "".join(finding_html(finding, found, of_group(finding)) for finding in found.findings) +
        of_locks_html(found.of_locks), picture_html(found.findings, drawn, reason))

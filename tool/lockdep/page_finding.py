@@ -6,6 +6,7 @@ from dataclasses import replace
 from typing import Callable
 
 from .blocked import Blocked
+from .breaches import Breach
 from .cplusplus import without_parameters
 from .explanation import inner_lines
 from .findings import Event, Finding
@@ -98,12 +99,14 @@ def record_html(name: str, event: Event, sources: Sources) -> str:
     said += "<code>%s</code>: record %d" % (escaped(event.file), event.record)
     if event in sources.records:
         said += ", line %d: <code>%s</code>" % (sources.records[event][0], escaped(sources.records[event][1]))
-    said += "</p>\n"
-    frames = sources.frames(event)
-    if frames:
-        said += "<p>%s</p>\n" % escaped(place_words(frames))
-    source = sources.line_of(event)
-    return said + (excerpt_html(source, event, sources) if source else "") + "</div>\n"
+    return said + "</p>\n" + place_html(event, sources) + "</div>\n"
+
+
+def place_html(event: Event, sources: Sources) -> str:
+    """Where a record comes from, and the source around that."""
+    frames, source = sources.frames(event), sources.line_of(event)
+    said = "<p>%s</p>\n" % escaped(place_words(frames)) if frames else ""
+    return said + (excerpt_html(source, event, sources) if source else "")
 
 
 def lock_lines(finding: Finding, steps: list[Step], sources: Sources) -> str:
@@ -133,6 +136,15 @@ def finding_html(finding: Finding, found: Found, group: str = "") -> str:
     lines = "".join(escaped(line) + "\n" for line in finding.lines)
     said += '<details><summary class="soft">Its lines in the report, as a list of known findings has them</summary>'
     return said + '<pre tabindex="0"><code>%s</code></pre></details>\n</article>\n' % lines
+
+
+def breach_html(number: int, breach: Breach, sources: Sources) -> str:
+    """What was done against what the program says of its locks, and where."""
+    said = '<article id="breach-%d" aria-label="Breach %d">\n<p>%s</p>\n' % (
+        number, number, escaped(as_sentence(sources.demangler.text(breach.sentence))))
+    for words, event in breach.lines():
+        said += '<h3>%s</h3>\n<div class="record">\n%s</div>\n' % (words.capitalize(), place_html(event, sources))
+    return said + "</article>\n"
 
 
 def blocked_html(number: int, thread: Blocked, sources: Sources) -> str:

@@ -7,10 +7,11 @@ import io
 import os
 import re
 import struct
-from dataclasses import dataclass
+from dataclasses import dataclass, replace
 from typing import BinaryIO
 
 from .files import contents, is_file
+from .findings import Event
 from .folder import OBJECTS
 from .symbols import PLACE, Address
 from .words import bytes_of, text_of
@@ -129,6 +130,7 @@ class Made:
     kind: str
     place_name: str
     type: str = ""
+    record: Event | None = None  # of the callers that make it, if a recording has them
 
     def places(self) -> list[Address]:
         """Where to look: first the variable that the lock is part of, according to the name of its place,
@@ -165,7 +167,9 @@ def folders_of(trace: str) -> list[str]:
 
 def classes_in(folder: str) -> list[Made] | None:
     """The classes that a folder's recording names, or None if it has none."""
-    raw = contents(os.path.join(folder, "classes"))
+    name = os.path.join(folder, "classes")
+    raw = contents(name)
     if raw is None:
         return None
-    return [made for made in map(made_of, text_of(raw).split("\n")) if made]
+    found = [(number, made_of(line)) for number, line in enumerate(text_of(raw).split("\n"), 1)]
+    return [replace(made, record=Event(name, number)) for number, made in found if made]

@@ -14,6 +14,7 @@ TYPE_CHECKING = False  # (as in `typing`, which takes as long to import as all t
 if TYPE_CHECKING:
     from typing import Callable
     from .blocked import Blocked
+    from .breaches import Breach
     from .known import Sorted
     from .sources import Sources
     from .verdict import Recorded
@@ -72,8 +73,8 @@ class Report:
     def sort(self) -> None:
         """Finds out what is new, and where everything is in the source. Without a finding, a list or a hang there is nothing to
         find out."""
-        hung = is_hung(self.recording.summary)
-        if not (self.asked.has_findings or hung or self.wishes.known or self.wishes.write_known):
+        hung, is_breached = is_hung(self.recording.summary), has_breaches(self.recording.summary)
+        if not (self.asked.has_findings or hung or is_breached or self.wishes.known or self.wishes.write_known):
             return
         from .blocked import blocked_threads, sources_wanted
         from .known import sort
@@ -82,10 +83,13 @@ class Report:
         findings = self.asked.findings()
         blocked = blocked_threads(self.recording.folder, self.recording.summary) if hung else []
         self.sources = sources_of(findings, [self.recording.folder])
-        if blocked:
-            sources_wanted(blocked, self.sources)
+        from .breaches import breaches_in
+        breaches = breaches_in(self.recording.folder) if is_breached else []
+        if blocked or breaches:
+            sources_wanted(blocked + breaches, self.sources)
             self.sources.ask()
-        self.sorted = sort(findings, blocked, entries_of(self.wishes.known_text, self.wishes.known), self.sources, self.asked.traces)
+        entries = entries_of(self.wishes.known_text, self.wishes.known)
+        self.sorted = sort(findings, blocked, entries, self.sources, self.asked.traces, breaches)
 
     def look_deeper(self) -> None:
         """What the recording itself says of the findings that are new."""
@@ -113,6 +117,14 @@ class Report:
         return self.sorted.blocked if self.sorted else []
 
     @property
+    def breaches(self) -> list[Breach]:
+        return self.sorted.breaches if self.sorted else []
+
+    @property
+    def has_new(self) -> bool:
+        return bool(self.new or self.breaches)
+
+    @property
     def is_hung(self) -> bool:
         """Whether a thread was blocked at the end that no pattern names. What it waits for may be in no trace."""
         hung = is_hung(self.recording.summary)
@@ -124,7 +136,7 @@ class Report:
         if self.wishes.write_known:
             self.write_known()
         forms = self.wishes.forms
-        if not self.page and self.new:
+        if not self.page and self.has_new:
             self.choose_page()
         if self.page:
             forms["page"] = self.page
@@ -177,6 +189,8 @@ class Report:
             say("%s of the report left out, since %s lists them" % (counted(result.known_lines, "line"), name))
         if result.known_blocked:
             say("%s left out, since %s lists them" % (counted(result.known_blocked, "blocked thread"), name))
+        if result.known_breaches:
+            say("%s left out, since %s lists them" % (counted(result.known_breaches, "breach", "breaches"), name))
         for stale in result.stale:
             say("%s is stale in %s" % (name, stale))
         if result.moved:
@@ -191,7 +205,7 @@ class Report:
         from .symbols import has_addr2line
         from .terminal import WIDTH, Writer
         from .text import MOST_GROUPS, Text
-        news = counted(len(self.new), "finding")
+        news = counted(len(self.new) + len(self.breaches), "finding")
         news = "new: " + news if self.wishes.known else news
         is_named = self.page not in ("", STANDARD_OUTPUT)
         say("%s; look at %s" % (news, self.page) if is_named else "%s, recorded in %s" % (news, self.recording.folder))
@@ -200,6 +214,8 @@ class Report:
         stream = StringIO()
         text = Text(Writer(stream, WIDTH if is_terminal() else 0), self.sources, self.recorded)
         left = text.groups(groups_of(self.new), MOST_GROUPS if is_terminal() else None)
+        for breach in self.breaches:
+            text.breach(breach)
         complain(bytes_of(stream.getvalue()))
         if left:
             say("%s not shown here; `lockdep confirm %s` shows all" % (counted(left, "more finding is", "more findings are"), self.recording.folder))
@@ -224,10 +240,10 @@ class Report:
         """What is printed at the end. With --quiet that is nothing, if nothing was found and nothing is in doubt."""
         nothing = "nothing new" if self.sorted and self.sorted.known_lines else "nothing"
         is_stale = bool(self.sorted and self.sorted.stale)
-        if self.new or self.is_hung:
+        if self.has_new or self.is_hung:
             self.recording.say_messages()
             self.say_of_known()
-            if self.new:
+            if self.has_new:
                 self.explain()
             else:
                 say("%s was found but that a thread waited for a lock at the end" % nothing)
@@ -256,7 +272,7 @@ class Report:
     @property
     def is_error(self) -> bool:
         """Whether what was found makes the status of --error-exitcode."""
-        if self.is_hung or self.wishes.strict_known and self.sorted and (self.sorted.stale or self.sorted.moved):
+        if self.is_hung or self.breaches or self.wishes.strict_known and self.sorted and (self.sorted.stale or self.sorted.moved):
             return True
         return any(finding.is_confirmed or not self.wishes.confirmed_only for finding in self.new)
 
@@ -264,7 +280,7 @@ class Report:
     def status(self) -> int:
         if self.is_error and self.wishes.error_exitcode is not None:
             return self.wishes.error_exitcode
-        if (self.new or self.is_hung) and not self.recording.is_whole:
+        if (self.has_new or self.is_hung) and not self.recording.is_whole:
             return NOT_JUDGED
         return NOT_JUDGED if self.is_unwritten else self.recording.status
 
@@ -275,6 +291,11 @@ def is_hung(summary: str) -> bool:
         return False
     from .blocked import is_hung as was_hung
     return was_hung(summary)
+
+
+def has_breaches(summary: str) -> bool:
+    """Whether something was done against what a program says of its locks."""
+    return any(line.startswith(("out-of-order ", "not-held ")) for line in summary.split("\n"))
 
 
 def hides_blocked(known_text: str) -> bool:

@@ -8,6 +8,7 @@ import re
 from urllib.parse import quote
 
 from .blocked import Blocked
+from .breaches import Breach
 from .checker import version
 from .findings import Event, Finding
 from .forms import HANG, Found
@@ -38,6 +39,15 @@ RULES = {
         "A thread waited for a lock when its process ended",
         "The lock was held by another thread, or by one that had ended, and the process didn't end by itself.",
         "Look at who held the lock, and what that thread waited for."),
+    "order": (
+        "Locks of a class are taken against the order that the program says",
+        "The program says by LOCKDEP_ORDERED or LOCKDEP_BY_ADDRESS in which order it takes locks of this class, and took one of them "
+        "with one held that comes later.",
+        "Take them in that order, or say another one."),
+    "hold": (
+        "A lock isn't held where the program says that it is",
+        "The program says by LOCKDEP_ASSERT_HELD that the thread holds this lock, which it didn't.",
+        "Take the lock before, or call the function only with it held."),
 }
 
 
@@ -109,12 +119,13 @@ def finding_result(finding: Finding, found: Found) -> dict:
     return result
 
 
-def blocked_result(thread: Blocked, found: Found) -> dict:
-    """A thread that was blocked at the end, where it waits."""
-    result = {"ruleId": "blocked", "level": "error", "message": {"text": sarif_text(as_sentence(thread.sentence))},
-              "partialFingerprints": {"lockdepLines/v1": fingerprint(["blocked " + " ".join(thread.keys)])},
-              "ruleIndex": list(RULES).index("blocked")}
-    events = [location(event, "record %d" % event.record, found.sources) for event in thread.events]
+def blocked_result(thread: Blocked | Breach, found: Found) -> dict:
+    """A thread that was blocked at the end, where it waits, or a breach, where the lock was taken or wasn't held."""
+    result = {"ruleId": thread.type, "level": "error", "message": {"text": sarif_text(as_sentence(thread.sentence))},
+              "partialFingerprints": {"lockdepLines/v1": fingerprint(["%s %s" % (thread.type, " ".join(thread.keys))])},
+              "ruleIndex": list(RULES).index(thread.type)}
+    is_blocked = thread.type == "blocked"
+    events = [location(event, "record %d" % event.record if is_blocked else words, found.sources) for words, event in thread.lines()]
     result["locations"] = events[:1]
     result["relatedLocations"] = [dict(event, id=number) for number, event in enumerate(events, 1)]
     return result
@@ -144,6 +155,6 @@ def sarif(found: Found) -> str:
     run = {"tool": {"driver": driver}, "invocations": [invocation_of(found)], "columnKind": "utf16CodeUnits",
            "originalUriBaseIds": {"%SRCROOT%": {"uri": here}}}
     results = [finding_result(finding, found) for finding in found.new + found.known]
-    results += [blocked_result(thread, found) for thread in found.blocked]
+    results += [blocked_result(thread, found) for thread in found.blocked + found.breaches]
     return '{"$schema": "%s", "version": "2.1.0", "runs": [\n%s, "results": [\n%s\n]}\n]}\n' % (
         SCHEMA, json.dumps(run)[:-1], ",\n".join(map(json.dumps, results)))

@@ -132,12 +132,19 @@ def say_lines(before: str, lines: list[str]) -> None:
         say("  " + line)
 
 
+HEADS = {
+    "waiting": "waiting for a lock at the end, which is what a deadlock looks like:",
+    "held-at-end": "ended with a lock held:",
+    "out-of-order": "taken against the order that the program says:",
+    "not-held": "not held where the program says that it is:",
+}
+
+
 def say_notes(summary: Summary) -> None:
-    """Who waited for a lock or held one at the end."""
+    """Who waited for a lock or held one at the end, and what was done against what the program says of its locks."""
     for count in summary.counts:
-        if count.number and count.code in ("waiting", "held-at-end"):
-            is_waiting = count.code == "waiting"
-            say_lines("waiting for a lock at the end, which is what a deadlock looks like:" if is_waiting else "ended with a lock held:", count.notes)
+        if count.number and count.code in HEADS:
+            say_lines(HEADS[count.code], count.notes)
 
 
 def say_of_traces(summary: Summary) -> None:

@@ -2,6 +2,7 @@
 from __future__ import annotations
 
 import os
+import re
 from typing import Iterable
 
 from .cplusplus import Demangler
@@ -13,6 +14,8 @@ from .words import bytes_of, class_of_lock, name_in, text_of, type_of_class
 
 AROUND = 5  # how many source lines are shown above a record's line, and below it
 MOST_OF_SOURCE = 1 << 23  # bytes
+MOST_OF_LINE = 200  # letters
+OFFSET = re.compile(r"\+0x[0-9a-f]+")  # in code, as names of places have it
 
 # File names of sources. Debug information can name any file, and lines of other files aren't shown.
 SUFFIXES = tuple(
@@ -64,10 +67,13 @@ class Sources:
         return self.read_folders[folder]
 
     def want_names(self, names: Iterable[str]) -> None:
-        for name in dict.fromkeys(names):
-            for made in self.made_as(name):
-                for place in made.places():
-                    self.symbols.want(place)
+        self.want_made([made for name in dict.fromkeys(names) for made in self.made_as(name)])
+
+    def want_made(self, several: list[Made]) -> None:
+        for made in several:
+            for place in made.places():
+                self.symbols.want(place)
+        self.want_events(made.record for made in several if made.record)
 
     def ask(self) -> None:
         self.symbols.ask()
@@ -97,6 +103,23 @@ class Sources:
             if not frames or not frames[0].path:
                 frames = self.symbols.frames(place)
         return without_wrappers(frames)
+
+    def frames_of_callers(self, made: Made) -> list[Frame]:
+        """Where a class is made, with all callers that it is known by."""
+        return self.frames(made.record) if self.callers.get(made.record) else self.frames_of(made)
+
+    def alike(self, made: Made) -> list[Made]:
+        """The other classes that the same functions make, by the names of their places."""
+        functions = OFFSET.sub("", made.place_name)
+        return [other for other in self.classes.values() if other is not made and other.kind == made.kind and
+                OFFSET.sub("", other.place_name) == functions]
+
+    def text_at(self, frame: Frame, made: Made) -> str:
+        """How a line reads where a class is made, with single spaces; empty if that isn't known, or if the file has changed since."""
+        if not frame.path or (made.record and has_changed(frame.path, made.record.file)):
+            return ""
+        text = next((line for number, line in self.excerpt(frame) if number == frame.line), "")
+        return " ".join(text.split())[:MOST_OF_LINE]
 
     def made_words(self, made: Made) -> str:
         """Such as `static abba.c:3`."""

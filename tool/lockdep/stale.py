@@ -58,12 +58,28 @@ class Judge:
         left, more = listed_places(entry), []
         for made, now in self.places(entry):
             type = type_of_class(made.name)
-            same = next((place for place in left.get(type, ()) if not place.is_elsewhere(now, entry.kind is not None)), None)
+            same = next((place for place in left.get(type, ()) if self.is_same(entry, place, made, now)), None)
             if same:
                 left[type].remove(same)
             elif type in left:
                 more.append((type, now))
         return [elsewhere_words(type, left[type], now) for type, now in more]
+
+    def is_same(self, entry: Entry, place: Place, made: Made, now: Place) -> bool:
+        """Whether a class is made at a listed place. If other classes are so too, only the lines tell which of them it is."""
+        is_exact = entry.kind is not None
+        if place.is_elsewhere(now, is_exact):
+            return False
+        others = [place_now(other, self.sources, shown=True) for other in self.alike(made)]
+        return place.has_lines_of(now) or all(not other or place.is_elsewhere(other, is_exact) for other in others)
+
+    def alike(self, made: Made) -> list[Made]:
+        """The other classes that the same functions make, looked up."""
+        others = self.sources.alike(made) if made.place.is_code else []
+        if others:
+            self.sources.want_made(others)
+            self.sources.ask()
+        return others
 
     def moved_names(self, entry: Entry) -> list[str]:
         """The names with an offset in code that stand for another line of the same function now."""
@@ -97,4 +113,6 @@ def elsewhere_words(name: str, left: list[Place], now: Place) -> str:
     """That a lock was made elsewhere, if listed places are left that no lock is made at any more; otherwise that there is one more."""
     if not left:
         return "%s is now also made %s" % (name, now.where)
-    return "%s was made %s, and is now %s" % (name, " and ".join(dict.fromkeys(place.where for place in left)), now.where)
+    texts = [(one.text, other.text) for place in left for one, other in zip(place.callers, now.callers)]
+    reads = next((", where `%s` was and `%s` is" % (was, reads) for was, reads in texts if was and reads and was != reads), "")
+    return "%s was made %s, and is now %s%s" % (name, " and ".join(dict.fromkeys(place.where for place in left)), now.where, reads)

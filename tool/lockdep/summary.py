@@ -6,7 +6,7 @@ import os
 from . import losses
 
 VERSION = 1  # of summary.json
-NOTED = ("waiting", "held-at-end")  # whose lines are notes from the first one on
+NOTED = ("waiting", "held-at-end") + losses.BREACHES  # whose lines are notes from the first one on
 
 
 class File:

@@ -16,11 +16,12 @@ from .where_made import Place, place_of
 from .words import Refusal, visible
 
 LINE = re.compile(r"(circle \S+/[0-7] [ES][RN]|double (hardirq|softirq)|inversion (hardirq|softirq) \S+/[0-7]) \S+/[0-7]")
-PATTERN = re.compile(r"(cycle|circle|double|inversion|blocked)((?: +(?:class|function|file):\S+)+)")
+PATTERN = re.compile(r"(cycle|circle|double|inversion|blocked|order|hold)((?: +(?:class|function|file):\S+)+)")
 FIELD = re.compile(r"(class|function|file):(\S+)")
 UNTIL = re.compile(r"\buntil\b", re.IGNORECASE)
 DATE = re.compile(r"\buntil (\d{4}-\d{2}-\d{2})\s*$", re.IGNORECASE)
 PLACE = re.compile(r"#   ([^ ]+): (made in|any object of|the class object of|\S+) (.+)")
+TEXT = re.compile(r"#     at (.+?:\d+): (.+)")  # how the line of a caller reads, under its place
 REASON = re.compile(r"\s+# ?(.*)$")
 WHAT = "the list of known findings"
 NO_FINDING = "%s: line %d is no finding: a line is a circle, double or inversion of a report, a pattern, " \
@@ -53,6 +54,7 @@ class Entry:
     fields: list[tuple[str, str]] = field(default_factory=list)
     until: str = ""
     places: dict[str, Place] = field(default_factory=dict)
+    last: str = ""  # the name whose place was read last
     kind: Kind | None = None  # the strongest verdict that a line of a report excuses, if that is known
 
     @property
@@ -126,7 +128,11 @@ def take_comment(entry: Entry, line: str) -> None:
     """Takes what a comment says of the entry above it, if it says something."""
     place = PLACE.fullmatch(line)
     if place:
-        entry.places[place.group(1)] = place_of(place.group(2), place.group(3))
+        entry.last = place.group(1)
+        entry.places[entry.last] = place_of(place.group(2), place.group(3))
+    text = TEXT.fullmatch(line)
+    if text and entry.last:
+        entry.places[entry.last] = entry.places[entry.last].with_text(text.group(1), text.group(2))
     entry.kind = VERDICT.get(line, entry.kind)
 
 

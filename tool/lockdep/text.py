@@ -1,13 +1,15 @@
 """The findings as text, with their sources."""
 from __future__ import annotations
 
+from .breaches import Breach
 from .explanation import Annotator, block_of
 from .findings import Finding
 from .groups import Group
 from .sources import Sources
+from .symbols import place_words
 from .terminal import Writer
 from .verdict import Recorded, notes_of, verdict_of
-from .words import counted
+from .words import counted, name_in
 
 MOST_GROUPS = 20  # on a terminal
 
@@ -25,6 +27,15 @@ class Text:
         seen = verdict_of(finding, self.recorded)
         for line in block_of(finding, notes_of(finding, self.recorded), seen, self.sources):
             self.writer.line(self.sources.demangler.text(line.text), self.annotator.under(line.items))
+
+    def breach(self, breach: Breach) -> None:
+        """What was done against what the program says of its locks, and where."""
+        self.writer.line("")
+        self.annotator.begin_block()
+        names = self.annotator.under(tuple(name_in(key) for key in breach.keys))
+        self.writer.line(self.sources.demangler.text(breach.sentence), names)
+        for words, event in breach.lines():
+            self.writer.line("  %s: %s" % (words, place_words(self.sources.frames(event)) or "unknown"))
 
     def group(self, group: Group) -> None:
         """The first finding of a group, and the others by one line each."""

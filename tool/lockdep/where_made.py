@@ -2,7 +2,7 @@
 from __future__ import annotations
 
 import os
-from dataclasses import dataclass
+from dataclasses import dataclass, replace
 
 from .words import CALLED_FROM
 
@@ -13,20 +13,22 @@ if TYPE_CHECKING:
     from .symbols import Frame
 
 UP = ".."
+NAMED = "named"  # the kind of a class that the program names
 
 
 @dataclass(frozen=True)
 class Caller:
-    """A function of a place, with its file and line, as far as they are known."""
+    """A function of a place, with its file and line, and how that reads, as far as they are known."""
 
     function: str
     file: str
     line: str
+    text: str = ""
 
     def is_elsewhere(self, other: Caller, is_exact: bool) -> bool:
-        """Whether the other one is in another function or file. An unknown file is no known one."""
+        """Whether the other one is in another function or file, or in a line that reads otherwise. An unknown file is no known one."""
         is_same = is_same_file(self.file, other.file) if is_exact else is_same_path(self.file, other.file)
-        return self.function != other.function or not is_same
+        return self.function != other.function or not is_same or self.text != other.text != "" != self.text
 
     @property
     def source(self) -> str:
@@ -46,8 +48,16 @@ class Place:
     callers: tuple[Caller, ...]
 
     def is_elsewhere(self, other: Place, is_exact: bool = False) -> bool:
-        """Whether the other place is of another kind, or has another function or file among the callers that both have."""
+        """Whether the other place is of another kind, or has another function, file or text among the callers that both have."""
         return self.kind != other.kind or any(one.is_elsewhere(another, is_exact) for one, another in zip(self.callers, other.callers))
+
+    def has_lines_of(self, other: Place) -> bool:
+        """Whether the callers that both have are in the same lines."""
+        return all(one.line == another.line for one, another in zip(self.callers, other.callers))
+
+    def with_text(self, source: str, text: str) -> Place:
+        """The place with how the line of a caller reads."""
+        return replace(self, callers=tuple(replace(caller, text=text) if caller.source == source else caller for caller in self.callers))
 
     @property
     def words(self) -> str:
@@ -102,13 +112,15 @@ def place_of(kind: str, words: str) -> Place:
 # ---- Places of today.
 
 
-def caller_of_frame(frame: Frame, shown: bool) -> Caller:
+def caller_of_frame(frame: Frame, shown: bool, text: str) -> Caller:
     if frame.path:
-        return Caller(frame.function, shown_path(frame.path) if shown else frame.path, str(frame.line))
+        return Caller(frame.function, shown_path(frame.path) if shown else frame.path, str(frame.line), text)
     return Caller(frame.function, frame.address.rpartition("+")[0] or frame.address, "")
 
 
 def place_now(made: Made, sources: Sources, shown: bool = False) -> Place | None:
-    """Where a class is made now."""
-    frames = sources.frames_of(made)
-    return Place(made.kind, tuple(caller_of_frame(frame, shown) for frame in frames)) if frames else None
+    """Where a class is made now. One that the program names is the same wherever that is."""
+    frames = sources.frames_of_callers(made) if made.kind != NAMED else []
+    texts = [sources.text_at(frame, made) if made.place.is_code else "" for frame in frames]
+    callers = tuple(caller_of_frame(frame, shown, text) for frame, text in zip(frames, texts))
+    return Place(made.kind, callers) if frames else None

@@ -6,6 +6,9 @@
    FOLDER/task-NNNN.csv.places for each of its records, where the call came from
    FOLDER/objects              the same traces with the names of single locks
    FOLDER/classes              for each class's name, where that is
+   FOLDER/classes.places       by which callers it is made, if it is known by them
+   FOLDER/breaches             what a program did against what it says of its locks, if it did
+   FOLDER/breaches.places      where, in two places for each of these
    FOLDER/SUMMARY              what was recorded, and what was left out
 
    A place is named by FRAMES callers, 3 if it isn't given. */
@@ -58,7 +61,26 @@ static uint64_t lost_threads(const struct raw_arena *a) { return a->no_thread; }
 static uint64_t namespaces(const struct raw_arena *a) { return a->namespaces; }
 static uint64_t deep_bound(const struct raw_arena *a) { return a->deep_bound; }
 static uint64_t unknown_pieces(const struct raw_arena *a) { return a->unknown; }
+static uint64_t asserted(const struct raw_arena *a) { return a->asserted; }
+static uint64_t unknown_annotations(const struct raw_arena *a) { return a->unknown_annotations; }
+static uint64_t refused_annotations(const struct raw_arena *a) { return a->refused_annotations; }
+static uint64_t refused_names(const struct raw_arena *a) { return a->refused_names; }
 static uint64_t is_small(const struct raw_arena *a) { return a->bytes < RAW_SMALL; }
+
+/* What the programs said of their locks. */
+static void tell_annotations(FILE *file) {
+    tell_loss(file, "assertions", sum_of(asserted), "times that a program said that it holds a lock: nothing is lost by these");
+    uint64_t ignored = ignored_acquisitions();
+    tell_loss(file, "ignored-locks", ignored, "acquisitions that a program said to ignore: no order that they are part of was recorded");
+    if (ignored)
+        tell_reasons(file);
+    tell_loss(file, "refused-names", sum_of(refused_names),
+              "names for locks that are not 1 to 48 bytes from 0x21 to 0x7E: these locks are named as without them");
+    tell_loss(file, "refused-annotations", sum_of(refused_annotations),
+              "annotations of no lock or no bytes, with a subclass above 7, or without room for them: they were left out");
+    tell_loss(file, "unknown-annotations", sum_of(unknown_annotations),
+              "annotations that this recorder doesn't know, as of a newer lockdep.h: they were left out");
+}
 
 static void tell_losses(FILE *file) {
     const struct raw_left_out *raw = &sums.raw;
@@ -158,6 +180,14 @@ static void tell_loaded(FILE *file) {
             fprintf(file, "loaded %s\n", modules[i].path);
 }
 
+static void tell_breaches_of(FILE *file, const char *name, enum breach_kind kind) {
+    uint64_t count = breaches(kind);
+    if (!count)
+        return;
+    tell(file, name, count);
+    tell_breaches(file, kind);
+}
+
 static void write_summary(const char *folder) {
     char path[4300];
     snprintf(path, sizeof path, "%s/SUMMARY", folder);
@@ -170,8 +200,11 @@ static void write_summary(const char *folder) {
     tell_text(file, "waiting", sums.waiting, waiting_text);
     tell(file, "at-exit", sums.waiting_at_exit);
     tell_text(file, "held-at-end", sums.held_at_end, held_text);
+    tell_breaches_of(file, "out-of-order", BREACH_OF_ORDER);
+    tell_breaches_of(file, "not-held", BREACH_OF_HOLD);
     if (sums.operations == 0)
         tell_unseen(file);
+    tell_annotations(file);
     tell_losses(file);
     tell_started(file);
     tell_loaded(file);
@@ -212,6 +245,8 @@ int main(int argc, char **argv) {
     find_shared();
     name_objects();
     write_traces(argv[1], version);
+    find_breaches();
+    write_breaches(argv[1]);
     write_classes(argv[1]);
     write_summary(argv[1]);
     forget_looks();

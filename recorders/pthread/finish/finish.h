@@ -137,6 +137,7 @@ struct key {
     char *identity; /* what the name stands for: two classes of one name aren't mixed up */
     const struct type *type;
     char *place; /* in full, if the name has a type */
+    const struct place *made; /* by which callers; NULL of one that isn't known by them */
     uint64_t at;
     enum class_kind kind;
     const char *path; /* of a file that the lock is in, `at` being where */
@@ -154,6 +155,7 @@ bool is_in_fork(uint64_t word);
 uint32_t hash_of(const char *text);
 void fill_spaces(char *name);
 void tell_symbol(char *text, size_t room, const char *symbol);
+void tell_place(char *text, size_t room, const struct place *place, bool plainly);
 void tell_class(char *text, size_t room, struct arena *a, const struct raw_class *class, bool plainly);
 int key_of(struct arena *a, uint32_t class);
 
@@ -171,6 +173,19 @@ void forget_shared_numbers(void);
 void name_objects(void);
 int key_of_object(struct arena *a, uint32_t process, uint32_t object);
 void tell_object(char *text, size_t room, int number);
+
+/* ---- annotations.c: what the programs said of their locks. */
+
+uint32_t class_itself(const struct arena *a, uint32_t class); /* without its subclass */
+uint32_t object_itself(const struct arena *a, uint32_t object);
+unsigned subclass_of(const struct arena *a, uint32_t object);
+const struct raw_text *text_of(const struct arena *a, const struct raw_class *class);
+uint64_t ignored_acquisitions(void);
+void tell_reasons(FILE *file); /* lines of SUMMARY */
+void find_breaches(void);
+uint64_t breaches(enum breach_kind kind);
+void tell_breaches(FILE *file, enum breach_kind kind); /* lines of SUMMARY */
+void write_breaches(const char *folder);
 
 /* ---- repeats.c */
 
@@ -196,6 +211,8 @@ extern char *waiting_text, *held_text; /* lines of SUMMARY */
 void write_traces(const char *folder, int version);
 void tell_dropped(FILE *file);
 void write_classes(const char *folder);
+void begin_places(FILE *file);
+void write_place(FILE *file, const struct place *place);
 FILE *created(const char *path);
 void closed(FILE *file, const char *path);
 

@@ -244,7 +244,7 @@ static void tell_address(char *text, size_t room, uint64_t word, bool is_call, e
         snprintf(text, room, "%s+0x%lx", name, (unsigned long)(offset - s->value));
 }
 
-static void tell_place(char *text, size_t room, const struct place *place, bool plainly) {
+void tell_place(char *text, size_t room, const struct place *place, bool plainly) {
     snprintf(text, room, "unknown");
     for (uint32_t i = 0; i < place->count && i < (uint32_t)frames; i++) {
         size_t have = i ? strlen(text) : 0;
@@ -289,6 +289,10 @@ static void tell_file(char *text, size_t room, struct arena *a, const struct raw
 
 void tell_class(char *text, size_t room, struct arena *a, const struct raw_class *class, bool plainly) {
     char offset[32];
+    if (class->kind == CLASS_NAMED) { /* no other class has a space in its words */
+        snprintf(text, room, "%s%s", plainly ? "named " : "", text_of(a, class)->text);
+        return;
+    }
     if (class->kind == CLASS_FILE) {
         tell_file(text, room, a, class, plainly);
         return;
@@ -357,6 +361,13 @@ static int add_key(struct key key) {
     return (int)key_count - 1;
 }
 
+/* The callers that a class is known by, or NULL. */
+static const struct place *callers_of(struct arena *a, const struct raw_class *class) {
+    if (is_by_word(class) || class->kind == CLASS_FILE)
+        return NULL;
+    return place_numbered(a, class->kind == CLASS_NAMED ? text_of(a, class)->place : class->place);
+}
+
 static uint64_t first_word(struct arena *a, const struct raw_class *class) {
     if (class->kind == CLASS_THREAD)
         return UINT64_MAX; /* it is at another address in each thread */
@@ -364,7 +375,7 @@ static uint64_t first_word(struct arena *a, const struct raw_class *class) {
         return class->offset == RAW_WHOLE_FILE ? 0 : class->offset;
     if (is_by_word(class))
         return told_word(a, class->word);
-    const struct place *place = place_numbered(a, class->place);
+    const struct place *place = callers_of(a, class);
     return place->count ? place->words[0] : UINT64_MAX;
 }
 
@@ -395,7 +406,8 @@ static int make_key(struct arena *a, const struct raw_class *class, const struct
     char place[LONGEST_NAME], identity[LONGEST_NAME];
     tell_class(identity, sizeof identity, a, class, true);
     tell_class(place, sizeof place, a, class, false);
-    struct key key = {.at = first_word(a, class), .kind = (enum class_kind)class->kind, .path = file_path(a, class), .type = type};
+    struct key key = {.at = first_word(a, class), .kind = (enum class_kind)class->kind, .path = file_path(a, class), .type = type,
+                      .made = callers_of(a, class)};
     put_class_name(&key, place, place);
     int there = key_named(key.name);
     if (there != NO_KEY && strcmp(keys[there].identity, identity) != 0) {
@@ -406,13 +418,14 @@ static int make_key(struct arena *a, const struct raw_class *class, const struct
         return there;
     key.identity = checked(strdup(identity));
     key.place = type ? checked(strdup(place)) : NULL;
-    if (!type && !key.path && key.at != UINT64_MAX)
+    if (!type && !key.path && key.at != UINT64_MAX && key.kind != CLASS_NAMED)
         note_unnamed(raw_word_module(key.at));
     return add_key(key);
 }
 
 /* A class that has no key yet is marked by 0, and others by what is one more than their key. */
 int key_of(struct arena *a, uint32_t class) {
+    class = class_itself(a, class);
     if (!a->keys[class]) {
         const struct raw_class *c = part_of(a, RAW_CLASSES, class);
         a->keys[class] = make_key(a, c, a->types[class]) + 1;

@@ -76,6 +76,7 @@ static int *known_key(struct arena *a, uint32_t process, uint32_t object) {
 }
 
 int key_of_object(struct arena *a, uint32_t process, uint32_t object) {
+    object = object_itself(a, object);
     const struct raw_object *o = part_of(a, RAW_OBJECTS, object);
     int *shared = shared_number(a, object), key = NO_KEY;
     if (shared && *shared != NO_KEY)

@@ -18,8 +18,8 @@ static size_t shared_count;
 
 /* Memory without a file has the arena and its number there. */
 static struct shared identity_of(struct arena *a, const struct raw_object *o, const struct raw_file *file) {
-    struct shared s = {.device = file->device, .inode = file->inode, .offset = o->offset, .arena = a, .class = o->class,
-                       .is_signal = o->is_signal};
+    struct shared s = {.device = file->device, .inode = file->inode, .offset = o->offset, .arena = a,
+                       .class = class_itself(a, o->class), .is_signal = o->is_signal};
     if (file->place) {
         s.device = (uint64_t)(a - arenas);
         s.inode = UINT64_MAX - o->file;
@@ -41,11 +41,13 @@ static enum class_kind kind_of(const struct shared *s) {
     return (enum class_kind)((const struct raw_class *)part_of(s->arena, RAW_CLASSES, s->class))->kind;
 }
 
-/* Whether the first class is the better name: one that somebody initialised, or of two of these the first of the alphabet. */
+/* How good a class is as a name: best is one that a program gave, and then one that somebody initialised. */
+static int rank_of(const struct shared *s) { return kind_of(s) == CLASS_NAMED ? 2 : kind_of(s) == CLASS_INIT; }
+
+/* Whether the first class is the better name, or of two that are as good the first of the alphabet. */
 static bool is_better(const struct shared *a, const struct shared *b) {
-    bool a_is_made = kind_of(a) == CLASS_INIT, b_is_made = kind_of(b) == CLASS_INIT;
-    if (a_is_made != b_is_made)
-        return a_is_made;
+    if (rank_of(a) != rank_of(b))
+        return rank_of(a) > rank_of(b);
     int first = key_of(a->arena, a->class), second = key_of(b->arena, b->class); /* either may move the list */
     return strcmp(keys[first].name, keys[second].name) < 0;
 }

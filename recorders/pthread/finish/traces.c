@@ -27,8 +27,9 @@ void closed(FILE *file, const char *path) {
 #define MOST_TOLD 5 /* classes that were dropped */
 
 struct held {
-    uint32_t object;
+    uint32_t object, place;
     int key;
+    enum mode mode;
     bool is_written;
 };
 
@@ -62,7 +63,7 @@ static void write_name(FILE *file, const char *name) {
 
 /* ---- The places' file: a word, the modules, how many callers a record has, and eight bytes for each. */
 
-static void begin_places(FILE *file) {
+void begin_places(FILE *file) {
     uint32_t many = (uint32_t)module_count, each = (uint32_t)frames;
     fwrite("places1\n", 8, 1, file);
     fwrite(&many, sizeof many, 1, file);
@@ -74,7 +75,7 @@ static void begin_places(FILE *file) {
     fwrite(&each, sizeof each, 1, file);
 }
 
-static void write_place(FILE *file, const struct place *place) {
+void write_place(FILE *file, const struct place *place) {
     for (uint32_t i = 0; i < (uint32_t)frames; i++) {
         uint64_t word = place && i < place->count ? place->words[i] : UINT64_MAX;
         fwrite(&word, sizeof word, 1, file);
@@ -83,23 +84,21 @@ static void write_place(FILE *file, const struct place *place) {
 
 /* ---- Records. */
 
-static void write_line(FILE *file, const char *name, const char *mode) {
+static void write_line(FILE *file, const char *name, unsigned subclass, const char *mode) {
     fputs(mode ? "acq," : "rel,", file);
     write_name(file, name);
-    if (mode)
-        fprintf(file, ",0,%s\n", mode);
-    else
-        fputs(",0\n", file);
+    fprintf(file, ",%u%s%s\n", subclass, mode ? "," : "", mode ? mode : "");
 }
 
 static void write_event(struct trace *t, const struct held *h, const char *mode, uint32_t place) {
     char object[MAX_OBJECT_NAME + 1];
     int object_key = key_of_object(t->arena, t->raw->process, h->object);
+    unsigned subclass = subclass_of(t->arena, h->object);
     tell_object(object, sizeof object, object_key);
     add_content(&t->content, (uint64_t)(uint32_t)object_key << 32 | (uint32_t)h->key);
-    add_content(&t->content, mode ? (uint64_t)(mode[0] | mode[1] << 8 | (mode[1] ? mode[2] << 16 : 0)) : 0);
-    write_line(t->text, keys[h->key].name, mode);
-    write_line(t->objects, object, mode);
+    add_content(&t->content, (uint64_t)subclass << 32 | (mode ? (uint64_t)(mode[0] | mode[1] << 8 | (mode[1] ? mode[2] << 16 : 0)) : 0));
+    write_line(t->text, keys[h->key].name, subclass, mode);
+    write_line(t->objects, object, subclass, mode);
     write_place(t->places, place_numbered(t->arena, place));
     t->events++;
 }
@@ -149,9 +148,29 @@ void tell_dropped(FILE *file) {
     fputs(dropped[key] ? ", ..\n" : "\n", file);
 }
 
+/* ---- Locks whose order the program says. One that comes after all of its class that are held isn't taken under these: the trace gives
+   them back before, and has them taken again by tries, which wait for nobody. Version 1 of the format can't say that. */
+
+static bool is_set_aside(const struct trace *t, const struct held *h, const struct held *new) {
+    return h->is_written && h->key == new->key && subclass_of(t->arena, h->object) == subclass_of(t->arena, new->object);
+}
+
+static void set_aside(struct trace *t, const struct held *new, const struct raw_record *r) {
+    for (size_t i = 0; i < t->depth; i++)
+        if (is_set_aside(t, &t->held[i], new))
+            write_event(t, &t->held[i], NULL, r->place);
+}
+
+static void take_back(struct trace *t, const struct held *new) {
+    for (size_t i = 0; i < t->depth; i++)
+        if (is_set_aside(t, &t->held[i], new))
+            write_event(t, &t->held[i], mode_words[t->held[i].mode % MODE_TRY_WRITE + MODE_TRY_WRITE], t->held[i].place);
+}
+
 static void take(struct trace *t, const struct raw_record *r) {
     enum mode mode = raw_mode(r->what);
-    struct held h = {raw_object(r->what), 0, false};
+    bool is_in_order = raw_is_in_order(r->what) && t->version > 1;
+    struct held h = {raw_object(r->what), r->place, 0, mode, false};
     if (t->depth == RAW_HELD)
         return;
     h.key = class_key_of(t->arena, h.object);
@@ -159,17 +178,20 @@ static void take(struct trace *t, const struct raw_record *r) {
         sums.tries++;
     else if (h.key >= MAX_KEYS)
         sums.classes++;
-    else if (t->events + 2 + MAX_HELD > MAX_EVENTS) /* with a lock that is dropped, and the releases at the end */
+    else if (t->events + 2 + 3 * MAX_HELD > MAX_EVENTS) /* with a lock that is dropped, those set aside, and the releases at the end */
         sums.raw.full++;
     else
         h.is_written = true;
     if (h.is_written && t->written == MAX_HELD)
         drop_oldest(t, r);
-    t->held[t->depth++] = h;
-    if (h.is_written) {
-        t->written++;
+    if (h.is_written && is_in_order)
+        set_aside(t, &h, r);
+    if (h.is_written)
         write_event(t, &h, mode_words[mode], r->place);
-    }
+    if (h.is_written && is_in_order)
+        take_back(t, &h);
+    t->written += h.is_written;
+    t->held[t->depth++] = h;
 }
 
 /* A release ends the newest acquisition of its object. */
@@ -375,7 +397,10 @@ void write_traces(const char *folder, int version) {
 
 /* ---- The classes. */
 
-static const char *const kind_words[CLASS_KINDS] = {"unknown", "init", "static", "heap", "stack", "thread", "take", "file"};
+static const char *const kind_words[CLASS_KINDS] = {
+    [CLASS_NONE] = "unknown", [CLASS_INIT] = "init", [CLASS_STATIC] = "static", [CLASS_HEAP] = "heap",     [CLASS_THREAD] = "thread",
+    [CLASS_TAKE] = "take",    [CLASS_FILE] = "file", [CLASS_NESTED] = "nested", [CLASS_STACK] = "stack", [CLASS_NAMED] = "named",
+    [CLASS_IGNORED] = "ignored"};
 
 /* A path in a line of `classes`: one that has a line break or the like is named with a question mark there, and isn't found. */
 static void write_path(FILE *file, const char *path) {
@@ -396,10 +421,15 @@ static void write_class(FILE *file, const struct key *key) {
 }
 
 void write_classes(const char *folder) {
-    char path[4300];
+    char path[4300], places[4300];
     snprintf(path, sizeof path, "%s/classes", folder);
-    FILE *file = created(path);
-    for (size_t i = 0; i < key_count && i < MAX_KEYS; i++)
+    snprintf(places, sizeof places, "%s/classes.places", folder);
+    FILE *file = created(path), *callers = created(places);
+    begin_places(callers);
+    for (size_t i = 0; i < key_count && i < MAX_KEYS; i++) {
         write_class(file, &keys[i]);
+        write_place(callers, keys[i].made);
+    }
     closed(file, path);
+    closed(callers, places);
 }

@@ -273,7 +273,7 @@ static void add_made(struct arena *a, struct made **made, size_t *count) {
     char identity[LONGEST_NAME];
     for (uint32_t i = 1; i <= count_of(a, RAW_CLASSES); i++) {
         const struct raw_class *class = part_of(a, RAW_CLASSES, i);
-        if (!class->kind)
+        if (!class->kind || class->kind == CLASS_NESTED)
             continue;
         tell_class(identity, sizeof identity, a, class, true);
         struct made one = {checked(strdup(identity)), &a->types[i]};

@@ -230,25 +230,31 @@ struct waiting {
     uintptr_t lock;
     struct call call;
     bool is_released;
+    uint32_t subclass; /* as which it is held */
 };
 
 static void begin_wait(struct waiting *w, bool is_sound) {
     w->is_released = is_sound && is_held_once(w->lock);
-    if (w->is_released)
+    if (w->is_released) {
+        w->subclass = subclass_held(w->lock);
         releasing(w->lock, w->call);
+    }
 }
 
 static void end_wait(void *value) {
     struct waiting *w = value;
-    if (w->is_released)
+    if (w->is_released) {
+        if (RARELY(w->subclass))
+            say_subclass(w->lock, w->subclass);
         acquired(w->lock, MODE_WRITE, KIND_MUTEX, w->call);
+    }
 }
 
 #define WAITING(name, is_sound, parameters, arguments)                                                                 \
     EXPORT int name parameters {                                                                                       \
         if (!resolved())                                                                                               \
             return 0;                                                                                                  \
-        struct waiting w = {(uintptr_t)lock, HERE, false};                                                             \
+        struct waiting w = {(uintptr_t)lock, HERE, false, 0};                                                          \
         int answer;                                                                                                    \
         begin_wait(&w, is_sound);                                                                                      \
         pthread_cleanup_push(end_wait, &w);                                                                            \

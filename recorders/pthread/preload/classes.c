@@ -187,6 +187,9 @@ const uint8_t *looks_left_at(uint32_t class) { return looks_of(class); }
 
 static bool is_known_by_address(uint32_t kind) { return kind == CLASS_STATIC || kind == CLASS_THREAD || kind == CLASS_FILE; }
 
+/* By the program itself. */
+static bool is_said(uint32_t kind) { return kind == CLASS_NAMED || kind == CLASS_IGNORED || kind == CLASS_NESTED; }
+
 static uint32_t define_class(const struct raw_class *new) {
     uint32_t number = take_part(RAW_CLASSES);
     if (!number)
@@ -196,7 +199,7 @@ static uint32_t define_class(const struct raw_class *new) {
     class->place = new->place;
     class->word = new->word;
     class->offset = new->offset;
-    class->look = is_known_by_address(new->kind) ? RAW_NO_LOOK : 0;
+    class->look = is_known_by_address(new->kind) || is_said(new->kind) ? RAW_NO_LOOK : 0;
     STORE(&class->kind, new->kind);
     return number;
 }
@@ -276,6 +279,30 @@ static uint32_t class_in_file(uint32_t file, uint64_t offset) {
                              : (struct raw_class){.kind = CLASS_FILE, .place = file, .offset = offset});
 }
 
+/* ---- Memory that the program gives out itself, as it says. A lock that comes to lie there isn't known by that memory. */
+
+#define STATIC_MEMORY UINT32_MAX
+static struct names given_out; /* where the program got the memory of such a lock: the place of an allocation, or STATIC_MEMORY */
+
+/* The lock that is known here is gone, and the program may put another one here. */
+void note_given_out(uintptr_t lock) {
+    struct memory memory = {0, 0, 0};
+    bool is_known = known_module(lock) || find_memory(lock, &memory);
+    uint32_t *slot = is_known ? added_slot(&given_out, mixed(lock)) : NULL;
+    if (slot)
+        STORE(slot, memory.place ? memory.place : STATIC_MEMORY);
+}
+
+static bool is_given_out(uintptr_t lock, uint32_t by) {
+    const uint32_t *slot = name_slot(&given_out, mixed(lock));
+    return slot && LOAD(slot) == by;
+}
+
+static uint32_t class_by_taker(struct call call) {
+    uint32_t place = place_here(call);
+    return place ? known_class((struct raw_class){.kind = CLASS_TAKE, .place = place}) : 0;
+}
+
 /* The class of a lock that no call initialised. Modules that aren't known yet are looked for last, since that is slow. */
 static uint32_t class_of_lock(uintptr_t lock, struct memory *memory, struct call call) {
     struct raw_class class = {.kind = CLASS_HEAP};
@@ -285,18 +312,21 @@ static uint32_t class_of_lock(uintptr_t lock, struct memory *memory, struct call
     if (!is_static && find_shared(lock, &file, &class.offset))
         return class_in_file(file, class.offset);
     if (!is_static && find_memory(lock, memory)) {
+        if (RARELY(is_given_out(lock, memory->place)))
+            return class_by_taker(call);
         class.place = memory->place;
         class.offset = lock - memory->from;
         return known_class(class);
     }
     if (is_static || module_of(lock))
-        return known_class((struct raw_class){.kind = CLASS_STATIC, .word = word_of(lock)});
+        return is_given_out(lock, STATIC_MEMORY) ? class_by_taker(call)
+                                                 : known_class((struct raw_class){.kind = CLASS_STATIC, .word = word_of(lock)});
     if (own_part_with(lock, &class.word)) {
         class = (struct raw_class){.kind = CLASS_THREAD, .word = class.word};
         return known_class(class);
     }
-    uint32_t in_frame = class_in_frame(lock, call), place = in_frame ? 0 : place_here(call);
-    return place ? known_class((struct raw_class){.kind = CLASS_TAKE, .place = place}) : in_frame;
+    uint32_t in_frame = class_in_frame(lock, call);
+    return in_frame ? in_frame : class_by_taker(call);
 }
 
 /* ---- Objects. */
@@ -347,11 +377,11 @@ static enum class_kind kind_of(uint32_t class) {
 
 /* Whether another lock lay there before: in a frame they come and go without a word. */
 static bool is_outdated(uintptr_t lock, uint32_t object, struct call call) {
-    uint32_t class = class_of(object);
-    if (LIKELY(kind_of(class) != CLASS_STACK) || !is_on_stack(lock, call))
+    const struct raw_class *class = part_of(RAW_CLASSES, class_of(object));
+    uint64_t function, offset;
+    if (LIKELY(class->kind < CLASS_STACK) || !class->word || !is_on_stack(lock, call))
         return false;
-    uint32_t now = class_in_frame(lock, call);
-    return now && now != class;
+    return frame_with(lock, call, &function, &offset) && (function != class->word || offset != class->offset);
 }
 
 /* Whether the lock ends with this thread. */
@@ -424,6 +454,12 @@ bool is_lasting(uint32_t object, bool is_nested) {
 
 /* ---- Locks that are initialised, and those that are no more. */
 
+/* The name that the program gives to the lock, or that it ignores it, stays when it is initialised. 0 if it says neither. */
+static uint32_t class_that_stays(uintptr_t lock, struct call call) {
+    uint32_t object = lock_object(lock);
+    return object && kind_of(class_of(object)) > CLASS_STACK && !is_outdated(lock, object, call) ? class_of(object) : 0;
+}
+
 /* What a call has initialised is destroyed by one. */
 void forget_own_lock(uintptr_t lock) {
     uint32_t object = lock_object(lock);
@@ -434,11 +470,51 @@ void forget_own_lock(uintptr_t lock) {
 /* The memory that the lock is in is marked, so that it is forgotten with that. */
 void know_by_place(uintptr_t lock, struct call call) {
     struct memory memory;
+    uint32_t class = class_that_stays(lock, call), place = class ? 0 : place_here(call);
     drop_lock(lock);
     find_memory(lock, &memory);
-    uint32_t place = place_here(call), class = place ? known_class((struct raw_class){.kind = CLASS_INIT, .place = place}) : 0;
+    if (place)
+        class = known_class((struct raw_class){.kind = CLASS_INIT, .place = place});
     look_once(class, lock, &memory, call);
     new_object(lock, class);
+}
+
+/* What the program says the lock is, which is more than what else is known of it. */
+void know_by_text(uintptr_t lock, enum class_kind kind, uint32_t text, struct call call) {
+    uint32_t object = object_of_lock(lock, call), before = object ? class_of(object) : 0;
+    if (!before || kind_of(before) == CLASS_IGNORED)
+        return;
+    const struct raw_class *old = part_of(RAW_CLASSES, before);
+    struct raw_class new = {.kind = kind, .place = text};
+    if (old->kind >= CLASS_STACK) {
+        new.word = old->word;
+        new.offset = old->offset;
+    }
+    uint32_t class = known_class(new);
+    if (!class || class == before)
+        return;
+    drop_lock(lock);
+    new_object(lock, class);
+}
+
+/* Why the program ignores the lock, as the number of a text; 0 if it doesn't. */
+uint32_t reason_to_ignore(uint32_t object) {
+    const struct raw_class *class = part_of(RAW_CLASSES, class_of(object));
+    return class->kind == CLASS_IGNORED ? class->place : 0;
+}
+
+static struct names nested;
+
+/* A lock's object as one of a subclass; the same one if there is no room. */
+uint32_t object_of_subclass(uintptr_t lock, uint32_t object, uint32_t subclass) {
+    uint32_t itself = apart(lock, object), *slot = added_slot(&nested, mixed((uint64_t)itself << 32 | subclass));
+    uint32_t known = slot ? LOAD(slot) : 0;
+    if (known || !slot)
+        return known ? known : itself;
+    const struct raw_object *o = part_of(RAW_OBJECTS, itself);
+    uint32_t class = known_class((struct raw_class){.kind = CLASS_NESTED, .place = o->class, .offset = subclass});
+    uint32_t made = class ? settled(slot, define_object(class, o->ordinal, o->file, o->file ? o->offset : itself)) : 0;
+    return made ? made : itself;
 }
 
 /* A lock of a file, of which a class is all of it. */

@@ -138,6 +138,7 @@ uint32_t put_lock(uintptr_t lock, uint32_t object); /* the object that it is the
 uint32_t add_lock(uintptr_t lock, uint32_t object); /* the same of a lock that isn't there */
 void drop_lock(uintptr_t lock);
 void drop_locks_between(uintptr_t from, uintptr_t to);
+void each_lock_between(uintptr_t from, uintptr_t to, void (*visit)(uintptr_t lock));
 
 /* ---- modules.c */
 
@@ -269,6 +270,10 @@ bool is_mapped_place(uint32_t place);
 void note_size(uint32_t place, uint64_t bytes);
 void look_at_taker(uint32_t class, struct call call);
 void know_by_place(uintptr_t lock, struct call call);
+void know_by_text(uintptr_t lock, enum class_kind kind, uint32_t text, struct call call);
+uint32_t reason_to_ignore(uint32_t object);
+void note_given_out(uintptr_t lock);
+uint32_t object_of_subclass(uintptr_t lock, uint32_t object, uint32_t subclass);
 void know_by_file(uintptr_t lock, uint32_t file, uint64_t offset);
 void forget_own_lock(uintptr_t lock); /* whose thread has ended */
 void forget_places_in_closed_modules(void);
@@ -316,5 +321,24 @@ void note_own_lock(uintptr_t lock);
 void enter_loader(uintptr_t loader, uintptr_t function, struct call call);
 void change_era(void);
 void begin_threads(void);
+bool enter_recorder(struct call call); /* if so, end_inside is to follow */
+bool may_hold(uintptr_t lock);
+struct held_lock {
+    uintptr_t lock;
+    uint32_t object, place;
+};
+bool nth_held(uint32_t n, struct held_lock *held); /* of this thread, the newest first */
+void end_own_holds(uintptr_t from, uintptr_t to, struct call call); /* inside the recorder */
+uint32_t held_object(uintptr_t lock); /* as which this thread holds it; 0 if it doesn't */
+
+/* ---- annotations.c */
+
+extern uint32_t is_anything_said; /* about how locks are to be recorded */
+uint32_t object_as_said(uintptr_t lock, uint32_t object, uint8_t *mode, enum kind kind, struct call call); /* 0 if it isn't recorded */
+bool is_ignored(uintptr_t lock);
+bool count_ignored(uintptr_t lock); /* if it is */
+uint32_t subclass_held(uintptr_t lock);
+void say_subclass(uintptr_t lock, uint32_t subclass); /* of the next acquisition by this thread */
+bool end_nesting(uintptr_t lock);
 
 #endif

@@ -259,3 +259,25 @@ void drop_locks_between(uintptr_t from, uintptr_t to) {
         if (lock_level(level, false))
             drop_in_level(level, from, to);
 }
+
+static void each_in_level(int level, uintptr_t from, uintptr_t to, void (*visit)(uintptr_t lock)) {
+    uint64_t lines = UINT64_C(1) << lock_bits[level];
+    for (uint64_t i = 0; i < lines * LOCK_WAYS; i++) {
+        uint64_t there = LOAD(&lock_levels[level][i]);
+        uintptr_t lock = there ? address_of(there >> OBJECT_BITS, level, i / LOCK_WAYS) : 0;
+        if (there && lock >= from && lock < to)
+            visit(lock);
+    }
+}
+
+void each_lock_between(uintptr_t from, uintptr_t to, void (*visit)(uintptr_t lock)) {
+    if (from >= to || !has_marked_part(from, to))
+        return;
+    bool is_few = to - from <= FEW_BYTES;
+    for (uintptr_t lock = from & ~(uintptr_t)3; is_few && lock < to; lock += 4)
+        if (lock_object(lock))
+            visit(lock);
+    for (int level = 0; !is_few && level < LOCK_LEVELS; level++)
+        if (lock_level(level, false))
+            each_in_level(level, from, to, visit);
+}

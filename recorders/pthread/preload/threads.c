@@ -431,12 +431,12 @@ static inline void settle(struct thread *t, struct call call) {
     look_at_others(t, call.caller);
 }
 
-/* Whether this thread was seen to take the lock. */
+/* Whether this thread was seen to take the lock, or ignores it. */
 static bool release_own(struct thread *t, uintptr_t lock, struct call call) {
     settle(t, call);
     uint32_t i = find_held(t, lock);
-    if (i == RAW_HELD && !t->unnoted)
-        return false;
+    if (i == RAW_HELD && (!t->unnoted || is_ignored(lock)))
+        return is_ignored(lock);
     t->raw->calls++;
     if (RARELY(i == RAW_HELD))
         t->unnoted--;
@@ -501,7 +501,7 @@ static void tell_apart(struct thread *t, uint32_t i) {
     uint32_t before = object_of(h), object = apart(h->lock, before);
     if (object == before)
         return;
-    h->what[BY_OBJECTS] = raw_what(object, mode_of(h));
+    h->what[BY_OBJECTS] = raw_what(object, h->what[BY_OBJECTS] >> RAW_OBJECT_BITS);
     if (h->is_written)
         record_at(t, h->record)->what = h->what[BY_OBJECTS];
     uint32_t at = newest_of(t, BY_OBJECTS, before);
@@ -542,9 +542,9 @@ static void push_held(struct thread *t, uintptr_t lock, uint32_t object, uint8_t
         for (uint32_t i = 0; i < t->depth; i++)
             tell_apart(t, i);
     }
-    if (mode < MODE_TRY_WRITE && t->failed != lock) /* else it may be std::lock, which takes what it is given in any order */
+    if (raw_plain(mode) < MODE_TRY_WRITE && t->failed != lock) /* else it may be std::lock, which takes what it is given in any order */
         look_at_taker(class_of(object), call);
-    uint32_t what[READERS] = {raw_what(object, (enum mode)mode), raw_what(class_of(object), (enum mode)mode)};
+    uint32_t what[READERS] = {raw_what(object, mode), raw_what(class_of(object), mode)};
     uint64_t start = t->raw->count;
     struct entry *e = &t->entries[t->depth];
     e->level = (struct level){.start = start, .hash = hash_of(t, t->depth)};
@@ -578,13 +578,19 @@ __attribute__((noinline)) static bool add_entries(struct thread *t) {
 static inline bool has_entry_left(struct thread *t) { return LIKELY(t->depth < t->room) || add_entries(t); }
 
 /* The lock's object, if there is room for one more that is held; else the hold has no entry. A semaphore has one of its own before it is
-   nested, since it may be found to be no lock. */
-static inline uint32_t object_to_hold(struct thread *t, uintptr_t lock, enum kind kind, struct call call) {
+   nested, since it may be found to be no lock. The program may have said something of the lock, or that it isn't to be recorded. */
+static inline uint32_t object_to_hold(struct thread *t, uintptr_t lock, uint8_t *mode, enum kind kind, struct call call) {
     uint32_t object = LIKELY(t->depth < RAW_HELD) && has_entry_left(t) ? object_of_lock(lock, call) : 0;
+    if (RARELY(is_anything_said && object))
+        object = object_as_said(lock, object, mode, kind, call);
     return RARELY(kind == KIND_COUNTED && object) ? apart(lock, object) : object;
 }
 
-static void leave_unnoted(struct thread *t) {
+static void leave_unnoted(struct thread *t, uintptr_t lock) {
+    if (count_ignored(lock)) {
+        t->raw->calls--;
+        return;
+    }
     t->unnoted++;
     if (t->depth == RAW_HELD)
         t->raw->left_out.deep++;
@@ -592,7 +598,7 @@ static void leave_unnoted(struct thread *t) {
         t->raw->left_out.no_room++;
 }
 
-static bool is_read(uint8_t mode) { return mode % TRIES != MODE_WRITE; }
+static bool is_read(uint8_t mode) { return raw_plain(mode) % TRIES != MODE_WRITE; }
 
 /* Of a mutex that this thread has just taken: it had it before. */
 static bool is_recursion(const pthread_mutex_t *lock) {
@@ -620,9 +626,10 @@ static void end_stale(struct thread *t, uintptr_t lock, uint8_t mode, uintptr_t 
 __attribute__((noinline)) static bool take_again(struct thread *t, uint32_t held, uint8_t mode, enum kind kind, uintptr_t caller) {
     struct held *h = &t->entries[held].held;
     bool is_same = is_same_hold(h->lock, kind);
-    if (is_same)
+    if (is_same) {
         h->depth++;
-    else
+        end_nesting(h->lock);
+    } else
         end_stale(t, h->lock, mode, caller);
     return is_same;
 }
@@ -709,9 +716,9 @@ static void take_lock(struct thread *t, uintptr_t lock, uint8_t mode, enum kind 
     uint32_t again = kind != KIND_COUNTED && t->depth ? find_held(t, lock) : RAW_HELD;
     if (RARELY(again != RAW_HELD) && take_again(t, again, mode, kind, call.caller))
         return;
-    uint32_t object = object_to_hold(t, lock, kind, call);
+    uint32_t object = object_to_hold(t, lock, &mode, kind, call);
     if (RARELY(!object)) {
-        leave_unnoted(t);
+        leave_unnoted(t, lock);
         return;
     }
     push_held(t, lock, object, mode, kind, call, false);
@@ -754,7 +761,7 @@ bool begin_wish(uintptr_t lock, uint8_t mode, enum kind kind, struct call call) 
     if (!t)
         return false;
     settle(t, call);
-    uint32_t object = object_to_hold(t, lock, kind, call);
+    uint32_t object = object_to_hold(t, lock, &mode, kind, call);
     if (object) {
         t->raw->calls++;
         push_held(t, lock, object, mode, kind, call, true);
@@ -906,7 +913,7 @@ void tried(uintptr_t lock, bool has_failed, struct call call) {
     struct thread *t = has_failed || (self.thread && self.thread->failed) ? enter(call) : NULL;
     if (!t)
         return;
-    if (t->failed == lock && t->failed_under)
+    if (t->failed == lock && t->failed_under && !is_ignored(lock))
         t->raw->left_out.retried++;
     t->failed = has_failed ? lock : 0;
     t->failed_under = has_failed ? t->depth : 0;
@@ -939,6 +946,28 @@ bool is_held_once(uintptr_t lock) {
 
 bool is_any_held(void) { return self.thread && self.thread->depth; }
 
+/* ---- What is asked about this thread because of what the program says. */
+
+bool enter_recorder(struct call call) { return enter(call) != NULL; }
+
+/* Whether this thread holds the lock, as far as that is known. */
+bool may_hold(uintptr_t lock) { return self.thread->unnoted || find_held(self.thread, lock) != RAW_HELD; }
+
+uint32_t held_object(uintptr_t lock) {
+    struct thread *t = self.thread;
+    uint32_t i = t ? find_held(t, lock) : RAW_HELD;
+    return i == RAW_HELD ? 0 : object_of(&t->entries[i].held);
+}
+
+bool nth_held(uint32_t n, struct held_lock *held) {
+    struct thread *t = self.thread;
+    if (n >= t->depth)
+        return false;
+    const struct held *h = &t->entries[t->depth - 1 - n].held;
+    *held = (struct held_lock){h->lock, object_of(h), h->is_written ? record_at(t, h->record)->place : 0};
+    return true;
+}
+
 /* ---- Locks that are initialised, and those that are no more: with a lock its thread's holds of it end. */
 
 static void end_holds_between(struct thread *t, uintptr_t from, uintptr_t to, uintptr_t caller) {
@@ -946,6 +975,8 @@ static void end_holds_between(struct thread *t, uintptr_t from, uintptr_t to, ui
         if (t->entries[i].held.lock >= from && t->entries[i].held.lock < to)
             release_at(t, i, caller);
 }
+
+void end_own_holds(uintptr_t from, uintptr_t to, struct call call) { end_holds_between(self.thread, from, to, call.caller); }
 
 void initialised(uintptr_t lock, struct call call) {
     struct thread *t = enter(call);
