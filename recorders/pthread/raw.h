@@ -208,7 +208,7 @@ struct raw_left_out {
 };
 
 #define RAW_WAITS_AT_EXIT 2
-#define RAW_NAME 16 /* bytes of a thread's name, with the 0 at its end */
+#define RAW_CALLED 16 /* bytes of a thread's name, with the 0 at its end */
 
 struct raw_thread {
     uint32_t process;
@@ -219,7 +219,7 @@ struct raw_thread {
     uint64_t calls; /* how many acquisitions and releases were seen */
     struct raw_left_out left_out;
     uint64_t self; /* its pthread_t */
-    char name[RAW_NAME];
+    char name[RAW_CALLED];
     uint64_t chunks[RAW_CHUNKS]; /* where they begin in the file; 0 if there is none yet */
 };
 

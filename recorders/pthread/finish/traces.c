@@ -329,7 +329,7 @@ static void write_task(const char *folder, const struct trace *t, const char *tr
     if (!tasks)
         tasks = created(tasks_path);
     fprintf(tasks, "%s.csv %u ", trace, process->id);
-    for (const char *name = t->raw->name; name < t->raw->name + RAW_NAME && *name; name++)
+    for (const char *name = t->raw->name; name < t->raw->name + RAW_CALLED && *name; name++)
         putc((unsigned char)*name < ' ' ? '?' : *name, tasks);
     putc('\n', tasks);
 }

@@ -10,7 +10,7 @@ FIND_AT_START(REALS)
 FOUND_WHEN_LOADED(this_thread, pthread_self);
 
 static EARLY_THREAD_LOCAL struct raw_thread *own_part; /* of its newest trace, if it has any */
-static EARLY_THREAD_LOCAL char own_name[RAW_NAME];
+static EARLY_THREAD_LOCAL char own_name[RAW_CALLED];
 
 #define LOOKED_AT 4096 /* a thread that is named by another one is looked for among so many traces: those that began last */
 
@@ -18,12 +18,12 @@ static EARLY_THREAD_LOCAL char own_name[RAW_NAME];
 #define EARLY_NAMES 64
 static struct early_name {
     pthread_t thread; /* written last; 0: none */
-    char name[RAW_NAME];
+    char name[RAW_CALLED];
 } early_names[EARLY_NAMES];
 static uint32_t early_count;
 
 static void copy_name(char *to, const char *name) {
-    for (int i = 0; i < RAW_NAME - 1 && (to[i] = name[i]); i++)
+    for (int i = 0; i < RAW_CALLED - 1 && (to[i] = name[i]); i++)
         AS_WRITTEN;
 }
 
