@@ -581,8 +581,11 @@ static inline bool has_entry_left(struct thread *t) { return LIKELY(t->depth < t
    nested, since it may be found to be no lock. The program may have said something of the lock, or that it isn't to be recorded. */
 static inline uint32_t object_to_hold(struct thread *t, uintptr_t lock, uint8_t *mode, enum kind kind, struct call call) {
     uint32_t object = LIKELY(t->depth < RAW_HELD) && has_entry_left(t) ? object_of_lock(lock, call) : 0;
-    if (RARELY(is_anything_said && object))
-        object = object_as_said(lock, object, mode, kind, call);
+    if (RARELY(is_anything_said && object)) {
+        uint8_t said = *mode; /* so that the mode itself needn't lie in memory */
+        object = object_as_said(lock, object, &said, kind, call);
+        *mode = said;
+    }
     return RARELY(kind == KIND_COUNTED && object) ? apart(lock, object) : object;
 }
 

@@ -64,6 +64,7 @@ static void *wait_for_one(void *nothing) {
 /* The process is killed while a thread that holds one waits for the next. */
 static void be_killed(void) {
     pthread_t thread;
+    take_two(0, 1); /* which gives them their numbers */
     pthread_mutex_lock(&pool[1]);
     if (pthread_create(&thread, NULL, wait_for_one, NULL) == 0)
         while (pthread_mutex_trylock(&pool[0]) == 0) {
