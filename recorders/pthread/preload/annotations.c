@@ -152,15 +152,25 @@ uint32_t subclass_held(uintptr_t lock) {
 /* Two locks of a class are compared only if both have a number, and of one kind. */
 static bool are_comparable(const struct order *a, const struct order *b) { return a && b && a->is_address == b->is_address; }
 
+/* Locks of one name are of one class, which the recorder has several of if they lie in frames. */
+static bool are_of_one_class(uint32_t a, uint32_t b) {
+    const struct raw_class *one = part_of(RAW_CLASSES, a), *other = part_of(RAW_CLASSES, b);
+    if (a == b || one->kind != other->kind)
+        return a == b;
+    if (one->kind == CLASS_NESTED)
+        return one->offset == other->offset && are_of_one_class(one->place, other->place);
+    return one->kind == CLASS_NAMED && one->place == other->place;
+}
+
 /* Whether a lock comes after all of its class that the thread holds, if there are any. If it comes before one, that is noted. */
 static bool is_in_order(uintptr_t lock, uint32_t object, struct call call) {
     const struct order *own = order_of(lock, class_of(object));
     struct held_lock held;
     bool is_any = false;
     for (uint32_t n = 0; own && nth_held(n, &held); n++) {
-        if (class_of(held.object) != class_of(object))
+        if (!are_of_one_class(class_of(held.object), class_of(object)))
             continue;
-        const struct order *other = order_of(held.lock, class_of(object));
+        const struct order *other = order_of(held.lock, class_of(held.object));
         if (!are_comparable(own, other))
             return false;
         if (own->number <= other->number) {
