@@ -85,10 +85,14 @@ static uint32_t class_itself(uint32_t class) {
     return c->kind == CLASS_NESTED ? c->place : class;
 }
 
-static struct order *order_of(uintptr_t lock, uint32_t class) {
+static struct order *order_kept(uintptr_t lock) {
     const uint32_t *slot = LOAD(&order_count) ? name_slot(&orders_of_locks, mixed(lock)) : NULL;
     uint32_t number = slot ? LOAD(slot) : 0;
-    struct order *order = number ? &orders[number - 1] : NULL;
+    return number ? &orders[number - 1] : NULL;
+}
+
+static struct order *order_of(uintptr_t lock, uint32_t class) {
+    struct order *order = order_kept(lock);
     return order && order->class == class_itself(class) ? order : NULL;
 }
 
@@ -137,6 +141,13 @@ bool end_nesting(uintptr_t lock) {
         return false;
     nested_lock = 0;
     return true;
+}
+
+void forget_words(uintptr_t lock) {
+    struct order *order = lock_object(lock) ? order_kept(lock) : NULL;
+    end_nesting(lock);
+    if (order)
+        order->class = 0;
 }
 
 static uint32_t with_subclass(uintptr_t lock, uint32_t object) {
@@ -211,7 +222,7 @@ bool count_ignored(uintptr_t lock) {
 
 /* The order that was given to the lock before stays. */
 static void give_text(uintptr_t lock, enum class_kind kind, const char *text, struct call call) {
-    uint32_t number = text_numbered(text, kind, call), object = lock_object(lock);
+    uint32_t number = text_numbered(text, kind, call), object = object_of_lock(lock, call);
     struct order *order = object ? order_of(lock, class_of(object)) : NULL;
     if (number)
         know_by_text(lock, kind, number, call);
@@ -269,6 +280,8 @@ static void end_locks(uintptr_t from, unsigned long bytes, struct call call) {
         return;
     }
     end_own_holds(from, from + bytes, call);
+    if (nested_lock - from < bytes)
+        end_nesting(nested_lock);
     each_lock_between(from, from + bytes, note_given_out);
     drop_locks_between(from, from + bytes);
 }
