@@ -20,6 +20,16 @@ class Names(unittest.TestCase):
         self.assertEqual([checked(path) for path in ("-x", "a=b", "/a=b", "traces")], ["./-x", "./a=b", "/a=b", "traces"])
         self.assertRaises(Refusal, checked, "a\nb")
 
+    def test_a_current_folder_that_has_been_removed(self):
+        self.addCleanup(os.chdir, os.getcwd())
+        room = tempfile.mkdtemp()
+        os.chdir(room)
+        os.rmdir(room)
+        with self.assertRaises(Refusal) as raised:
+            Folder("traces")
+        self.assertEqual(raised.exception.line, "the current folder has been removed, so traces can't be found; change to another folder")
+        self.assertEqual(Folder("/nowhere/traces").raw, "/nowhere/traces/raw")
+
     def test_a_word_as_one_types_it(self):
         self.assertEqual([typed(word) for word in ("a/b.c", "", "it's", "a b")], ["a/b.c", "''", "'it'\\''s'", "'a b'"])
 

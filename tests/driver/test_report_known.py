@@ -74,7 +74,13 @@ class Grammar(unittest.TestCase):
             self.assertEqual(entries_of("circle a/0 EN b/0 # x %s\n" % reason, "list")[0].until, date)
 
     def test_a_name_may_have_a_number_sign(self):
-        self.assertEqual(entries_of("circle x#0123/0 EN y/0\n", "list")[0].line, "circle x#0123/0 EN y/0")
+        for line in ("circle x#0123/0 EN y/0", "circle #y/0 EN x/0", "circle #/0 EN #/0", "double hardirq #x/0", "inversion softirq x/0 #y/1"):
+            self.assertEqual(entries_of(line + "\n", "list")[0].line, line)
+            entry = entries_of(line + " # by design until 2030-12-01\n", "list")[0]
+            self.assertEqual((entry.line, entry.until), (line, "2030-12-01"))
+        self.assertEqual(entries_of("cycle class:#y class:x # known\n", "list")[0].fields, [("class", "#y"), ("class", "x")])
+        self.assertEqual(list_of(findings([circle("#y/0", "x/0")]), "", Made_up({})).split("\n")[1], "circle #y/0 EN x/0")
+        self.assertEqual(sorted_by("circle #y/0 EN x/0\ncircle x/0 EN #y/0\n", said=[circle("#y/0", "x/0")]).new, [])
 
     def test_places(self):
         self.assertEqual(vars(place_of("heap", "main at heap.cc:6 < run at x.cc:1")),

@@ -51,7 +51,10 @@ class Folder:
 
     def __init__(self, path: str) -> None:
         self.path, self.list = path, os.path.join(path, "RECORDED")
-        self.raw = os.path.join(os.path.realpath(path), "raw")
+        try:
+            self.raw = os.path.join(os.path.realpath(path), "raw")
+        except FileNotFoundError:
+            raise Refusal("the current folder has been removed, so %s can't be found; change to another folder" % path)
 
     # ---- The list.
 

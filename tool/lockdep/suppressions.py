@@ -23,6 +23,7 @@ DATE = re.compile(r"\buntil (\d{4}-\d{2}-\d{2})\s*$", re.IGNORECASE)
 PLACE = re.compile(r"#   ([^ ]+): (made in|any object of|the class object of|\S+) (.+)")
 TEXT = re.compile(r"#     at (.+?:\d+): (.+)")  # how the line of a caller reads, under its place
 REASON = re.compile(r"\s+# ?(.*)$")
+BEGINS_WITH_LINE = re.compile(LINE.pattern + r"(?!\S)")  # the names in one may begin with # too
 WHAT = "the list of known findings"
 NO_FINDING = "%s: line %d is no finding: a line is a circle, double or inversion of a report, a pattern, " \
     "a comment (#), or blank"
@@ -109,7 +110,8 @@ def date_of(reason: str, name: str, number: int) -> str:
 
 def entry_of(number: int, text: str, name: str) -> Entry:
     """The entry of a line that is neither blank nor a comment."""
-    reason = REASON.search(text)
+    line = BEGINS_WITH_LINE.match(text)
+    reason = REASON.search(text, line.end() if line else 0)
     bare = text[:reason.start()] if reason else text
     entry = Entry(number, bare)
     pattern = PATTERN.fullmatch(bare)

@@ -85,10 +85,14 @@ static uint32_t class_itself(uint32_t class) {
     return c->kind == CLASS_NESTED ? c->place : class;
 }
 
-static struct order *order_of(uintptr_t lock, uint32_t class) {
+static struct order *order_kept(uintptr_t lock) {
     const uint32_t *slot = LOAD(&order_count) ? name_slot(&orders_of_locks, mixed(lock)) : NULL;
     uint32_t number = slot ? LOAD(slot) : 0;
-    struct order *order = number ? &orders[number - 1] : NULL;
+    return number ? &orders[number - 1] : NULL;
+}
+
+static struct order *order_of(uintptr_t lock, uint32_t class) {
+    struct order *order = order_kept(lock);
     return order && order->class == class_itself(class) ? order : NULL;
 }
 
@@ -139,6 +143,13 @@ bool end_nesting(uintptr_t lock) {
     return true;
 }
 
+void forget_words(uintptr_t lock) {
+    struct order *order = lock_object(lock) ? order_kept(lock) : NULL;
+    end_nesting(lock);
+    if (order)
+        order->class = 0;
+}
+
 static uint32_t with_subclass(uintptr_t lock, uint32_t object) {
     return end_nesting(lock) && next_subclass ? object_of_subclass(lock, object, next_subclass) : object;
 }
@@ -152,15 +163,25 @@ uint32_t subclass_held(uintptr_t lock) {
 /* Two locks of a class are compared only if both have a number, and of one kind. */
 static bool are_comparable(const struct order *a, const struct order *b) { return a && b && a->is_address == b->is_address; }
 
+/* Locks of one name are of one class, which the recorder has several of if they lie in frames. */
+static bool are_of_one_class(uint32_t a, uint32_t b) {
+    const struct raw_class *one = part_of(RAW_CLASSES, a), *other = part_of(RAW_CLASSES, b);
+    if (a == b || one->kind != other->kind)
+        return a == b;
+    if (one->kind == CLASS_NESTED)
+        return one->offset == other->offset && are_of_one_class(one->place, other->place);
+    return one->kind == CLASS_NAMED && one->place == other->place;
+}
+
 /* Whether a lock comes after all of its class that the thread holds, if there are any. If it comes before one, that is noted. */
 static bool is_in_order(uintptr_t lock, uint32_t object, struct call call) {
     const struct order *own = order_of(lock, class_of(object));
     struct held_lock held;
     bool is_any = false;
     for (uint32_t n = 0; own && nth_held(n, &held); n++) {
-        if (class_of(held.object) != class_of(object))
+        if (!are_of_one_class(class_of(held.object), class_of(object)))
             continue;
-        const struct order *other = order_of(held.lock, class_of(object));
+        const struct order *other = order_of(held.lock, class_of(held.object));
         if (!are_comparable(own, other))
             return false;
         if (own->number <= other->number) {
@@ -201,7 +222,7 @@ bool count_ignored(uintptr_t lock) {
 
 /* The order that was given to the lock before stays. */
 static void give_text(uintptr_t lock, enum class_kind kind, const char *text, struct call call) {
-    uint32_t number = text_numbered(text, kind, call), object = lock_object(lock);
+    uint32_t number = text_numbered(text, kind, call), object = object_of_lock(lock, call);
     struct order *order = object ? order_of(lock, class_of(object)) : NULL;
     if (number)
         know_by_text(lock, kind, number, call);
@@ -259,6 +280,8 @@ static void end_locks(uintptr_t from, unsigned long bytes, struct call call) {
         return;
     }
     end_own_holds(from, from + bytes, call);
+    if (nested_lock - from < bytes)
+        end_nesting(nested_lock);
     each_lock_between(from, from + bytes, note_given_out);
     drop_locks_between(from, from + bytes);
 }

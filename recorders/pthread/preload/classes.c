@@ -464,7 +464,7 @@ static uint32_t class_that_stays(uintptr_t lock, struct call call) {
 void forget_own_lock(uintptr_t lock) {
     uint32_t object = lock_object(lock);
     if (object && kind_of(class_of(object)) != CLASS_INIT)
-        drop_lock(lock);
+        end_lock(lock);
 }
 
 /* The memory that the lock is in is marked, so that it is forgotten with that. */

@@ -202,7 +202,7 @@ static void forget_locks(uintptr_t address, uint64_t about) {
     if (locks == SOME_LOCKS)
         drop_locks_between(address, address + (about >> SIZE_SHIFT));
     else if (locks)
-        drop_lock(address + (locks - 1) * 4);
+        end_lock(address + (locks - 1) * 4);
 }
 
 /* What the thread holds of the locks in memory that it gives back, from `kept` bytes on. */

@@ -137,6 +137,7 @@ const uint64_t *lock_slot(uintptr_t lock, uint32_t object, uint64_t *word); /* w
 uint32_t put_lock(uintptr_t lock, uint32_t object); /* the object that it is then, or 0 if there is no room */
 uint32_t add_lock(uintptr_t lock, uint32_t object); /* the same of a lock that isn't there */
 void drop_lock(uintptr_t lock);
+void end_lock(uintptr_t lock); /* the same, and what was said of it has ended too */
 void drop_locks_between(uintptr_t from, uintptr_t to);
 void each_lock_between(uintptr_t from, uintptr_t to, void (*visit)(uintptr_t lock));
 
@@ -340,5 +341,6 @@ bool count_ignored(uintptr_t lock); /* if it is */
 uint32_t subclass_held(uintptr_t lock);
 void say_subclass(uintptr_t lock, uint32_t subclass); /* of the next acquisition by this thread */
 bool end_nesting(uintptr_t lock);
+void forget_words(uintptr_t lock); /* which is no more */
 
 #endif

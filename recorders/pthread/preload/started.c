@@ -78,10 +78,7 @@ static uint32_t define_program(const char *path, bool is_along) {
 
 static struct names programs;
 
-/* Counts a start; `by` is -1 if it has failed. */
-static void count_start(const char *path, char *const *environment, uint64_t by) {
-    if (!arena || !path)
-        return;
+static void count_path(const char *path, char *const *environment, uint64_t by) {
     bool is_along = goes_along(environment);
     uint32_t *slot = added_slot(&programs, key_of(path, is_along)), number = slot ? LOAD(slot) : 0, none = 0;
     if (slot && !number) {
@@ -91,6 +88,30 @@ static void count_start(const char *path, char *const *environment, uint64_t by)
     }
     if (number)
         ADD(&((struct raw_program *)part_of(RAW_PROGRAMS, number))->starts, by);
+}
+
+/* A link that is another file to each process, as /proc/self/exe: `record` would find its own. */
+static bool is_own_link(const char *path) { return strncmp(path, "/proc/", 6) == 0 || strncmp(path, "/dev/fd/", 8) == 0; }
+
+/* What such a link leads to. */
+__attribute__((noinline)) static void count_link(const char *link, char *const *environment, uint64_t by) {
+    char path[RAW_PATH + 1];
+    int saved = errno;
+    ssize_t length = readlink(link, path, RAW_PATH);
+    errno = saved;
+    if (length > 0)
+        path[length] = 0;
+    count_path(length > 0 ? path : link, environment, by);
+}
+
+/* Counts a start; `by` is -1 if it has failed. */
+static void count_start(const char *path, char *const *environment, uint64_t by) {
+    if (!arena || !path)
+        return;
+    if (is_own_link(path))
+        count_link(path, environment, by);
+    else
+        count_path(path, environment, by);
 }
 
 #define FAILED ((uint64_t)-1)

@@ -233,6 +233,12 @@ void drop_lock(uintptr_t lock) {
     }
 }
 
+void end_lock(uintptr_t lock) {
+    if (RARELY(is_anything_said))
+        forget_words(lock);
+    drop_lock(lock);
+}
+
 static void drop_in_level(int level, uintptr_t from, uintptr_t to) {
     uint64_t lines = UINT64_C(1) << lock_bits[level];
     for (uint64_t i = 0; i < lines * LOCK_WAYS; i++) {
@@ -241,7 +247,7 @@ static void drop_in_level(int level, uintptr_t from, uintptr_t to) {
             continue;
         uintptr_t lock = address_of(there >> OBJECT_BITS, level, i / LOCK_WAYS);
         if (lock >= from && lock < to)
-            empty_slot(&lock_levels[level][i], there >> OBJECT_BITS);
+            end_lock(lock);
     }
 }
 
@@ -252,7 +258,7 @@ void drop_locks_between(uintptr_t from, uintptr_t to) {
         return;
     if (to - from <= FEW_BYTES) {
         for (uintptr_t lock = from & ~(uintptr_t)3; lock < to; lock += 4)
-            drop_lock(lock);
+            end_lock(lock);
         return;
     }
     for (int level = 0; level < LOCK_LEVELS; level++)

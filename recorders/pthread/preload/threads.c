@@ -995,7 +995,7 @@ void destroyed(uintptr_t lock, struct call call) {
     if (!t)
         return;
     end_holds_between(t, lock, lock + 1, call.caller);
-    drop_lock(lock);
+    end_lock(lock);
     leave();
 }
 
