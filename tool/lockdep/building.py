@@ -7,7 +7,7 @@ from .processes import output_of
 from .saying import Refusal
 
 # What is built from what, below recorders/pthread, besides the script `build` and raw.h.
-SOURCES = {"preload.so": "preload", "finish": "finish", "where": "where.c", "run": "run.c", "look": "look.c"}
+SOURCES = {"preload.so": "preload", "finish": "finish", "run": "run.c", "look": "look.c"}
 UNNAMEABLE = " :$"  # LD_PRELOAD takes these for separators, or for the beginning of something else
 
 
