@@ -1,11 +1,8 @@
 -- What a thread has read ahead, when its table has more names, and when a part of it goes.
-use Rattle.ld_read.proofs.Names.{[], ◌++◌, ◌+◌, ◌∷◌, ◌≡◌, All, All-push, AreFrom, Bool, Event, IfSome, IsAhead, IsFrom, IsNumbered, IsPart, KeysBelow, List, Name, None, Option, ReadsTo, Some, ap, arith, false, get_or, if◌then◌else◌, length, length-append, suc, take, take-append-le, take-append_seam, take-length, true, ℕ}
-use Rattle.ld_trace.specs.declared.joining.NumberedTrace.{NumberedTrace}
-use Rattle.ld_trace.specs.JoinedTraces.{AreReadTo}
+use Rattle.ld_read.proofs.Names.{[], ◌++◌, ◌∷◌, ◌≡◌, All, All-push, AreFrom, Bool, Event, IfSome, IsAhead, IsFrom, IsPart, KeysBelow, List, Name, None, Option, ReadsTo, Some, ap, arith, false, get_or, if◌then◌else◌, length, length-append, suc, take, take-append-le, take-append_seam, take-length, true, ℕ}
 use Rattle.ld_trace.specs.Laws.{RenumberingsStay}
 use Rattle.ld_read.specs.declared.ahead.Ahead.{Ahead}
 use Rattle.ld_read.specs.declared.ahead.Part.{Part}
-use Rattle.ld_read.specs.Inside.Ahead.{AreHeld}
 
 pub if-some : {X : Type 0} (known : Option X) (P Q : X → Type 0) → ((x : X) → P x → Q x) → IfSome known P → IfSome known Q
 if-some None P Q f h = tt
@@ -65,16 +62,3 @@ all-ahead-longer stay names added aheads all = λ k d lt.
 
 pub none-known : (aheads : List Ahead) → All (AreFrom (λ place. None)) aheads
 none-known aheads = λ k d lt i e l. tt
-
--- ---- traces that were read as one
-pub numbered-part : (own : List Name) (one : NumberedTrace) (place : ℕ) → IsNumbered own one → IsPart own (record { place = place; before = one.before; after = one.after; trace = one.trace })
-numbered-part own one place is = record { more = is.more; within = is.within; below = is.below }
-
--- the first of them is from its source, and the others are those of the places after it
-pub next-read : (holds : ℕ → Option (List ℕ)) (place next room : ℕ) (own : List Name) (texts : List (List ℕ)) (one : NumberedTrace) (more : List NumberedTrace) → next ≡ place + 1 → AreHeld holds place texts → AreReadTo room own texts (one ∷ more)
-    → (rest : List (List ℕ)) × AreHeld holds next rest × AreReadTo room own rest more × IsFrom holds own (record { place = place; before = one.before; after = one.after; trace = one.trace })
-unfolding AreHeld AreReadTo
-next-read holds place next room own [] one more e held read = absurd read
-next-read holds place next room own (text ∷ texts) one more e held read =
-    let here : next ≡ suc place = omega arith in
-    (texts, rw here held.1, read.1, if-some (holds place) _ _ (λ known is. (room, rw is read.0)) held.0)

@@ -4,14 +4,9 @@ pub use Rattle.std.proofs.Math.Seq.{take-add, take-append_seam, take-length}
 pub use Rattle.std.proofs.lemmas.List.{append-nil, append_cancel_left, length-take, take-append-drop, take-append-le, take_min}
 pub use Rattle.std.proofs.lemmas.List.Elements.{All-append, All-cons, All-nil, All-push, All-set}
 pub use Rattle.std.proofs.lemmas.Result.{IfErr-weaker, IfOk-weaker, on_ok_weaker}
-pub use Rattle.std.specs.Io.Buffered.{reader_buffer, reader_capacity, reader_remaining}
-pub use Rattle.std.specs.Io.KnownBytes.{Consumes, prepend_known}
-pub use Rattle.ld_read.specs.Inside.Ahead.{AreFrom, AreJoined, AreParts, IsAhead, IsFrom, IsPart}
-pub use Rattle.ld_read.specs.Inside.Pieces.{Advances, IsPiece, MayBePiece, ReadsOn, bytes_of, left_of}
+pub use Rattle.ld_read.specs.Inside.Ahead.{AreFrom, AreParts, IsAhead, IsFrom, IsPart}
 pub use Rattle.ld_read.specs.Reading.{IsRead, StopsAfter}
 pub use Rattle.ld_trace.specs.Events.{KeyIsBelow, KeysBelow}
-pub use Rattle.ld_trace.specs.JoinedTraces.{IsNumbered}
 pub use Rattle.ld_trace.specs.Names.{Name}
-pub use Rattle.ld_trace.specs.Pieces.{AreLines, header_line}
 pub use Rattle.ld_trace.specs.Reading.{ReadsTo, StopsAt}
 pub use Rattle.ld_trace.specs.declared.event.Event.{Event}

@@ -1,14 +1,12 @@
 //! What a thread reads ahead, over a table of its own.
 
-ghost use Rattle.std.specs.Prelude.{◌≡◌, ◌≤◌, ◌∷◌, ◌++◌, [], ℕ, List, Option, All, IsTrue, IsFalse};
+ghost use Rattle.std.specs.Prelude.{◌≡◌, ◌∷◌, ◌++◌, [], ℕ, List, Option, IsTrue, IsFalse};
 ghost use Rattle.ld_trace.specs.declared.event.Event.{Event};
-ghost use Rattle.ld_trace.specs.JoinedTraces.{AreReadTo, IsNumbered};
 ghost use Rattle.ld_read.specs.Reading.{IsRead};
-ghost use Rattle.ld_read.specs.Inside.Ahead.{AreFrom, AreHeld, AreJoined, AreParts, IsAhead};
+ghost use Rattle.ld_read.specs.Inside.Ahead.{AreFrom, AreParts, IsAhead};
 
-use crate::joined::join_texts;
 use crate::sources::Sources;
-use ld_trace::{KeyTable, MAX_KEYS, NumberedTrace, RawTrace, Renumbering, read_joined, read_trace};
+use ld_trace::{KeyTable, MAX_KEYS, RawTrace, Renumbering, read_trace};
 use std::alloc::Global;
 use std::collections::VecDeque;
 use std::sync::atomic::{AtomicUsize, Ordering};
@@ -30,12 +28,11 @@ pub(crate) struct Ahead {
     pub(crate) parts: VecDeque<Part>,
 }
 
-// Reads the traces that this thread claims, a group of `group` at a time, until all are claimed or one can't be read.
+// Reads the traces that this thread claims, one at a time, until all are claimed or one can't be read.
 pub(crate) fn read_claimed<S: Sources>(
     alloc: Global,
     sources: &S,
     count: usize,
-    group: usize,
     next: &AtomicUsize,
 ) -> Ahead
     ensures by { result.by ≡ [] }
@@ -43,15 +40,12 @@ pub(crate) fn read_claimed<S: Sources>(
     ensures from { AreFrom (S.holds sources.now) result }
 {
     let mut ahead = Ahead::new(alloc);
-    let mut bytes = Vec::new(alloc);
-    let group = group.max(1);
     for _ in 0..count {
-        let first = next.fetch_add(group, Ordering::SeqCst);
-        if first >= count {
+        let place = next.fetch_add(1, Ordering::SeqCst);
+        if place >= count {
             break;
         }
-        let end = first.saturating_add(group).min(count);
-        if !ahead.read_group(alloc, sources, first, end, &mut bytes) {
+        if !ahead.read(alloc, sources, place) {
             next.store(count, Ordering::SeqCst);
             break;
         }
@@ -73,73 +67,6 @@ impl Ahead {
             by: Renumbering::new(alloc),
             parts: VecDeque::new(alloc),
         }
-    }
-
-    // Reads the traces at the places from `first` to before `end`, by one CSV reader if they are several and short, and returns whether
-    // all were read and kept. The bytes are room for their texts.
-    fn read_group<S: Sources>(
-        &mut self,
-        alloc: Global,
-        sources: &S,
-        first: usize,
-        end: usize,
-        bytes: &mut Vec<u8>,
-    ) -> bool
-        requires { first ≤ end }
-        ensures by { self.new.by ≡ self.old.by }
-        ensures parts { AreParts self.old → AreParts self.new }
-        ensures from { AreParts self.old → AreFrom (S.holds sources.now) self.old → AreFrom (S.holds sources.now) self.new }
-    {
-        bytes.clear();
-        if end - first > 1 && join_texts(sources, first, end, bytes) {
-            return self.read_as_one(alloc, bytes.as_slice(), first, end);
-        }
-        for place in first..end {
-            if !self.read(alloc, sources, place) {
-                return false;
-            }
-        }
-        true
-    }
-
-    // Reads the traces at the places from `first` to before `end`, whose texts these bytes are as one, and returns whether all were read
-    // and kept.
-    fn read_as_one(&mut self, alloc: Global, bytes: &[u8], first: usize, end: usize) -> bool
-        requires { first ≤ end }
-        ensures by { self.new.by ≡ self.old.by }
-        ensures parts { AreParts self.old → AreParts self.new }
-        ensures from { (holds : ℕ → Option (List ℕ)) → AreJoined holds first end bytes.now
-            → AreParts self.old → AreFrom holds self.old → AreFrom holds self.new }
-    {
-        match read_joined(alloc, bytes, end - first, &mut self.own) {
-            Some(traces) => self.keep(first, end, traces),
-            None => false,
-        }
-    }
-
-    // Keeps these traces of the places from `first` to before `end`, and returns whether it could.
-    fn keep(&mut self, first: usize, end: usize, mut traces: VecDeque<NumberedTrace>) -> bool
-        requires { All (IsNumbered self.old.own.names) traces.items }
-        ensures by { self.new.by ≡ self.old.by }
-        ensures parts { AreParts self.old → AreParts self.new }
-        ensures from { (holds : ℕ → Option (List ℕ)) (room : ℕ) (texts : List (List ℕ)) → AreHeld holds first texts
-            → AreReadTo room self.old.own.names texts traces.items → AreFrom holds self.old → AreFrom holds self.new }
-    {
-        for place in first..end {
-            let Some(one) = traces.pop_front() else {
-                return false;
-            };
-            let part = Part {
-                place,
-                before: one.before,
-                after: one.after,
-                trace: one.trace,
-            };
-            if self.parts.push_back(part).is_err() {
-                return false;
-            }
-        }
-        true
     }
 
     // Reads the trace at this place, and returns whether it was read and kept.

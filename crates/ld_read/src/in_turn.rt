@@ -8,7 +8,6 @@ ghost use Rattle.ld_trace.specs.Names.{Name};
 ghost use Rattle.ld_trace.specs.Reading.{ReadsTo, StopsAt};
 ghost use Rattle.ld_read.specs.Reading.{AreRead, IsNotRead, IsRead, StopsAfter};
 
-use crate::pieces::read_in_pieces;
 use crate::sources::Sources;
 use crate::taking::read_ahead;
 use crate::unread::{ReadFault, Unread};
@@ -17,14 +16,10 @@ use std::alloc::Global;
 use std::io::Read;
 use std::thread::Threads;
 
-// About how many bytes of one trace all threads together read at a time.
-const ROUND: usize = 1_048_576;
-
 /// Reads the traces of the first `count` sources over one table, and puts them after the others. The result is that of reading them
-/// in turn, whatever the number of threads and the size of the groups: with more than one, later sources may be opened and read before
-/// an earlier one was read whole, each thread over a table of its own. A thread reads a group of short sources by one CSV reader; and
-/// the threads read pieces of a source that is the only one. What fails ahead of several sources is tried again, so it isn't told if it
-/// succeeds in its turn; a read of the only source that fails is always told.
+/// in turn, whatever the number of threads: with more than one, later sources may be opened and read before an earlier one was read
+/// whole, each thread over a table of its own. What fails ahead of its turn is tried again, so it isn't told if it succeeds then; a
+/// read that fails in its turn is always told.
 ///
 /// If a source can't be opened, or its trace is refused, the first such source is returned with its place and why it wasn't read; the
 /// traces before it are kept, and the names are those that reading in turn leaves.
@@ -32,7 +27,6 @@ pub fn read_all<R: Threads + Sync, S: Sources + Sync>(
     rt: &R,
     alloc: Global,
     threads: usize,
-    group: usize,
     sources: &S,
     count: usize,
     keys: &mut KeyTable,
@@ -46,16 +40,13 @@ pub fn read_all<R: Threads + Sync, S: Sources + Sync>(
         → All (KeysBelow (length keys.new.names)) traces.new.items }
     ensures room { keys.new.room ≡ keys.old.room }
 {
-    let first = read_ahead(rt, alloc, threads, group, sources, count, keys, traces);
-    let apart = if count < 2 { threads } else { 1 };
-    read_from(rt, alloc, apart, sources, first, count, keys, traces)
+    let first = read_ahead(rt, alloc, threads, sources, count, keys, traces);
+    read_from(alloc, sources, first, count, keys, traces)
 }
 
-// Reads the traces of the sources from this place on, each by this many threads.
-fn read_from<R: Threads + Sync, S: Sources>(
-    rt: &R,
+// Reads the traces of the sources from this place on.
+fn read_from<S: Sources>(
     alloc: Global,
-    threads: usize,
     sources: &S,
     first: usize,
     count: usize,
@@ -70,18 +61,16 @@ fn read_from<R: Threads + Sync, S: Sources>(
     ensures room { keys.new.room ≡ keys.old.room }
 {
     for place in first..count {
-        if let Err(fault) = read_one(rt, alloc, threads, sources, place, keys, traces) {
+        if let Err(fault) = read_one(alloc, sources, place, keys, traces) {
             return Err(Unread { place, fault });
         }
     }
     Ok(())
 }
 
-// Reads the trace of the source at this place by this many threads.
-fn read_one<R: Threads + Sync, S: Sources>(
-    rt: &R,
+// Reads the trace of the source at this place.
+fn read_one<S: Sources>(
     alloc: Global,
-    threads: usize,
     sources: &S,
     place: usize,
     keys: &mut KeyTable,
@@ -99,8 +88,7 @@ fn read_one<R: Threads + Sync, S: Sources>(
     if traces.reserve(1).is_err() {
         return Err(ReadFault::Trace(no_room()));
     }
-    let size = ROUND / threads.max(1);
-    let read = read_in_pieces(rt, alloc, threads, size, source, keys).map_err(ReadFault::Trace)?;
+    let read = read_trace(alloc, source, keys).map_err(ReadFault::Trace)?;
     traces.push_reserved(read);
     Ok(())
 }

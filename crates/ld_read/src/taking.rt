@@ -13,13 +13,12 @@ use std::sync::atomic::AtomicUsize;
 use std::thread;
 use std::thread::Threads;
 
-// Reads the sources by several threads or in groups, puts the traces of the first ones after the others, and returns how many these
-// are: none with fewer than two threads and no groups of two or more, with fewer than two sources, or if memory runs out.
+// Reads the sources by several threads, puts the traces of the first ones after the others, and returns how many these are: none with
+// fewer than two threads, with fewer than two sources, or if memory runs out.
 pub(crate) fn read_ahead<R: Threads + Sync, S: Sources + Sync>(
     rt: &R,
     alloc: Global,
     threads: usize,
-    group: usize,
     sources: &S,
     count: usize,
     keys: &mut KeyTable,
@@ -30,21 +29,20 @@ pub(crate) fn read_ahead<R: Threads + Sync, S: Sources + Sync>(
         × AreRead keys.old.room (S.holds sources.now) 0 keys.old.names keys.new.names added }
     ensures room { keys.new.room ≡ keys.old.room }
 {
-    if count < 2 || threads < 2 && group < 2 {
+    if count < 2 || threads < 2 {
         return 0;
     }
-    match read_in_threads(rt, alloc, threads.max(1), group, sources, count) {
+    match read_in_threads(rt, alloc, threads, sources, count) {
         Ok(mut aheads) => take_in_all(aheads.as_mut_slice(), count, keys, traces),
         Err(_) => 0,
     }
 }
 
-// What this many threads have read of the sources, each a group at a time.
+// What this many threads have read of the sources.
 fn read_in_threads<R: Threads + Sync, S: Sources + Sync>(
     rt: &R,
     alloc: Global,
     threads: usize,
-    group: usize,
     sources: &S,
     count: usize,
 ) -> Result<Vec<Ahead>, AllocError>
@@ -57,7 +55,7 @@ fn read_in_threads<R: Threads + Sync, S: Sources + Sync>(
         threads,
         &|_: usize| -> Ahead
             ensures { (result.by ≡ []) × AreParts result × AreFrom (S.holds sources.entry.now) result }
-        { read_claimed(alloc, sources, count, group, &next) },
+        { read_claimed(alloc, sources, count, &next) },
     )
 }
 

@@ -1,9 +1,9 @@
 -- A text may be cut at a newline if its records have no newline in a field: a quote that is open there shows in a record.
-use Rattle.ld_trace.proofs.Names.{[], ◌&&◌, ◌++◌, ◌==◌, ◌∙◌, ◌∷◌, ◌≡◌, Bool, List, Record, State, and_parts, ap, default_config, false, field_after, fields_after, if◌then◌else◌, is_bom, is_line, is_one_line, list_all, list_all-append, not, refl, step, sym, true, true≢false, ℕ}
+use Rattle.ld_trace.proofs.Names.{[], ◌&&◌, ◌++◌, ◌==◌, ◌∙◌, ◌∷◌, ◌≡◌, Bool, List, Record, State, and_parts, ap, default_config, false, field_after, fields_after, if◌then◌else◌, is_bom, list_all, list_all-append, not, refl, step, sym, true, true≢false, ℕ}
 use Rattle.csv.specs.Reading.{strip_bom}
 use Rattle.csv.specs.declared.parser.Action.TheVariants as act
 use Rattle.csv.specs.declared.parser.State.TheVariants as st
-use Rattle.ld_trace.proofs.RowLemmas.{IsKept, Does, ends, goes, skips, IsAt, at-skipped, at-start, at-within, does, first-row, is_between, rows-byte, rows-within, rows_from, rows_of}
+use Rattle.ld_trace.proofs.RowLemmas.{IsKept, Does, ends, goes, skips, IsAt, at-skipped, at-start, at-within, does, first-row, is_between, is_line, is_one_line, rows-byte, rows-within, rows_from, rows_of}
 
 -- ---- a newline within quotes
 abbrev HasNewline : Record → Type 0

@@ -1,5 +1,5 @@
--- A name that stands in a table, and the record that names it.
-use Rattle.ld_trace.proofs.Names.{[], ◌==◌, ◌∙◌, ◌∷◌, ◌≡◌, Acquire, AllByRecursion, AreNumbered, Bool, Decides-eqb, Event, IsEventOf, IsSomeAnd, List, MAX_SUB, Mode, Name, None, Option, Release, Some, Table, Version, acquire_line, and_from, and_parts, ap, arith, bytes_eq, bytes_eq-Decides, codes, false, gives_back, is_class_name, is_known, is_name, is_same, list_all, mode_of, name_of_fields, nat_le, place_of, refl, release_line, slice_get, sub_of, suc, sym, takes, true, true≢false, zero, ℕ}
+-- A name that stands in a table.
+use Rattle.ld_trace.proofs.Names.{[], ◌==◌, ◌∙◌, ◌∷◌, ◌≡◌, AllByRecursion, Bool, Decides-eqb, List, Name, Some, and_from, and_parts, ap, arith, bytes_eq, bytes_eq-Decides, false, is_known, is_name, is_same, list_all, place_of, refl, slice_get, suc, sym, true, true≢false, zero, ℕ}
 use Rattle.std.specs.Cmp.{IsEquivalence}
 use Rattle.std.specs.List.{IsDistinct}
 
@@ -58,35 +58,3 @@ pub named-there : (names : List Name) (name : Name) (i : ℕ) → list_all is_na
 named-there [] name i a h = absurd (cc)
 named-there (x ∷ xs) name zero a h = let same : x ≡ name = cc in ap is_name (sym same) ∙ (and_parts (is_name x) (list_all is_name xs) a).0
 named-there (x ∷ xs) name (suc i) a h = named-there xs name i (and_parts (is_name x) (list_all is_name xs) a).1 h
-
-module _ (table : Table) (class digits : List ℕ) (sub key : ℕ) (numbered : AreNumbered table) (digit : sub_of digits ≡ Some sub) (here : slice_get table.names key ≡ Some (class, sub)) where
-  there : (place_of table.names (class, sub) ≡ key) × (is_known table.names (class, sub) ≡ true)
-  there = place_of-there table.names (class, sub) key numbered.once here
-
-  good : is_class_name class ≡ true
-  good = (and_parts (is_class_name class) (nat_le sub MAX_SUB) (named-there table.names (class, sub) key numbered.named here)).0
-
-  -- a record that gives back a name of the table
-  pub release-known : (verb : List ℕ) → bytes_eq verb (codes "rel") ≡ true → IsEventOf table.room table.names (release_line verb (name_of_fields class (sub_of digits))) (Release key)
-  release-known verb rel = record {
-    line = gives_back (class, sub);
-    says = rw (rel, digit, good) refl;
-    fits = rw there.1 refl;
-    known = rw there.1 refl;
-    is_event = ap Release (sym there.0);
-  }
-
-  -- a record that takes one
-  pub acquire-known : (version : Version) (verb word : List ℕ) (mode : Mode) → bytes_eq verb (codes "acq") ≡ true → mode_of version word ≡ Some mode → IsEventOf table.room table.names (acquire_line verb (name_of_fields class (sub_of digits)) (mode_of version word)) (Acquire mode key)
-  acquire-known version verb word mode acq is = record {
-    line = takes (class, sub) mode;
-    says = rw (acq, digit, good, is) refl;
-    fits = rw there.1 refl;
-    known = rw there.1 refl;
-    is_event = ap (Acquire mode) (sym there.0);
-  }
-
-  -- the same, of what is found of the mode
-  pub acquire-found : (version : Version) (verb word : List ℕ) (event : Event) → bytes_eq verb (codes "acq") ≡ true → (read : Option Mode) → mode_of version word ≡ read → IsSomeAnd read (λ mode. event ≡ Acquire mode key) → IsEventOf table.room table.names (acquire_line verb (name_of_fields class (sub_of digits)) (mode_of version word)) event
-  acquire-found version verb word event acq None none found = absurd found
-  acquire-found version verb word event acq (Some mode) is found = rw found (acquire-known version verb word mode acq is)

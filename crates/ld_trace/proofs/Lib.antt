@@ -10,8 +10,6 @@ pub mod TakenLemmas
 pub mod PlainLemmas
 mod RowLemmas
 mod CutLemmas
-pub mod Joins
-mod JoinedLemmas
 mod KnownLemmas
 mod WriteLemmas
 mod LineLemmas
@@ -19,3 +17,6 @@ mod Alike
 mod ReadBack
 mod TakenIn
 mod PieceLemmas
+mod Advancing
+mod BlockLemmas
+mod KnownLines

@@ -24,11 +24,9 @@ pub use Rattle.csv.specs.declared.reader.Reader.{Reader}
 pub use Rattle.indexmap.specs.IndexSet.{IndexSet, IsUnique, insert_key}
 pub use Rattle.ld_trace.specs.Classes.{before_at, class_by, class_of, name_by, numbers_at, some_or, text_at}
 pub use Rattle.ld_trace.specs.Events.{KeyIsBelow, KeysBelow, is_try}
-pub use Rattle.ld_trace.specs.Inside.Joined.{TakesInTurn}
 pub use Rattle.ld_trace.specs.Inside.Progress.{AreRead, AreRefused, AreTaken, Gives, HasGiven, HasTaken, IsEventOf, IsFresh, ReadsPlain, Returns, TakesLine, TakesOn}
 pub use Rattle.ld_trace.specs.Inside.Renumbered.{event_with}
 pub use Rattle.ld_trace.specs.Inside.Stored.{name_of, names_of}
-pub use Rattle.ld_trace.specs.Joining.{ArePlain, IsPlain, TextsComeApart, between, is_line, is_one_line, point}
 pub use Rattle.ld_trace.specs.Laws.{AreOfTable, NewTablesHaveRoom, RenumberingsStay, TextsReadBack, TextsReadThemselves, TracesReadAlike, lines_at}
 pub use Rattle.ld_trace.specs.Lines.{Line, Record, acquire_line, enters, event_of, gives_back, giving_back, irq_line, irq_of, is_over, leave_line, leaves, mode_of, name_of_fields, release_line, sub_of, takes, taking, try_mode_of, turns_off, turns_on, version_named, with_line}
 pub use Rattle.ld_trace.specs.Names.{AreNumbered, Name, Table, are_visible, is_class_name, is_known, is_name, is_one_too_many, is_same, place_of, with_name}

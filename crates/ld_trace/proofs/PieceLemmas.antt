@@ -1,5 +1,5 @@
 -- A trace of whole lines, and what is read after it.
-use Rattle.ld_trace.proofs.Names.{[], ◌++◌, ◌+◌, ◌∙◌, ◌∷◌, ◌≡◌, ◌≤◌, AreLines, AreTaken, Event, HasTaken, HeadersRead, IfSome, IsFresh, List, MAX_EVENTS, Name, None, One, Option, PiecesJoin, Reader, ReadsTo, Some, Two, Version, ap, append-nil, append_assoc, arith, codes, header_line, header_of, is_one_line, length, list_all, option_map, records_of, refl, sym, true, version_of_trace, ℕ}
+use Rattle.ld_trace.proofs.Names.{[], ◌++◌, ◌+◌, ◌∙◌, ◌∷◌, ◌≡◌, ◌≤◌, AreLines, AreTaken, Event, HasTaken, HeadersRead, IfSome, IsFresh, KeysBelow, List, MAX_EVENTS, Name, None, One, Option, PiecesJoin, Reader, ReadsTo, Some, Two, Version, ap, append-nil, append_assoc, arith, codes, header_line, header_of, length, list_all, option_map, records_of, refl, sym, true, version_of_trace, ℕ, and_from}
 use Rattle.csv.specs.Machine.{next_record}
 use Rattle.std.specs.Fmt.{option_append}
 use Rattle.csv.specs.Reading.{records_from, strip_bom}
@@ -8,11 +8,11 @@ use Rattle.ld_trace.specs.Lines.{version_of}
 use Rattle.ld_trace.proofs.Alike.{IsSaid, reads-said}
 use Rattle.ld_trace.proofs.CsvLemmas.{given-on}
 use Rattle.ld_trace.proofs.CutLemmas.{cut-rows, mark-first}
-use Rattle.ld_trace.proofs.Joins.{plain-lines}
 use Rattle.ld_trace.proofs.LineLemmas.{Say, events_with, length-events_with, taken-said}
-use Rattle.ld_trace.proofs.PlainLemmas.{taken-plain}
+use Rattle.ld_trace.proofs.PlainLemmas as Plain
+use Rattle.ld_trace.proofs.PlainLemmas.{said-lines}
 use Rattle.ld_trace.proofs.ReadLemmas.{reads-to, taken-header}
-use Rattle.ld_trace.proofs.RowLemmas.{records-rows, rows_from, rows_of}
+use Rattle.ld_trace.proofs.RowLemmas.{is_one_line, records-rows, rows_from, rows_of}
 
 -- ---- a text that is cut after a newline
 -- a newline at the start of a record is skipped
@@ -85,7 +85,12 @@ module _ (room : ℕ) (old names : List Name) (bytes : List ℕ) (events : List 
   }
 
   pub read-one-line : list_all is_one_line (records_of bytes) ≡ true
-  read-one-line = plain-lines (records_of bytes) (taken-plain room said.version old (records_of bytes) names events read-taken).plain
+  read-one-line =
+      rw said.records_are (and_from (is_one_line said.header) (list_all is_one_line said.rows) (Plain.header-lines said.header said.version said.named) (said-lines said.version said.rows said.lines said.say))
+
+-- so the keys of its events are those of its names
+pub reads-below : (room : ℕ) (old names : List Name) (bytes : List ℕ) (events : List Event) → ReadsTo room old bytes names events → KeysBelow (length names) events
+reads-below room old names bytes events reads = (read-taken room old names bytes events reads (reads-said room old names bytes events reads)).below
 
 as-said : (room : ℕ) (old : List Name) (bytes : List ℕ) (new names : List Name) (events more others : List Event) → new ≡ names → more ≡ others
     → ReadsTo room old bytes names (events ++ others) → ReadsTo room old bytes new (events ++ more)

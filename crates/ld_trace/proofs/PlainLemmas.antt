@@ -1,7 +1,8 @@
--- The records of a trace without fault are plain.
-use Rattle.ld_trace.proofs.Names.{[], ◌&&◌, ◌-◌, ◌<◌, ◌==◌, ◌∙◌, ◌∷◌, ◌≡◌, ArePlain, AreTaken, BadName, BadRecord, BadSub, Bool, Err, Event, Irq, IsPlain, Line, List, MAX_EVENTS, MAX_NAME, Mode, Name, None, Ok, One, Option, Record, Result, Some, TooManyRecords, TraceFaultKind, Two, Version, and_from, and_parts, ap, are_visible, arith, bytes_eq, bytes_eq-Decides, codes, false, get_or, giving_back, header_fault, if◌then◌else◌, irq_line, irq_of, is_class_name, is_line, is_one_line, length, line_fault, mode_of, name_of_fields, names_before, nat_le, nat_lt, nat_tests, not, record_fault, refl, slice_get, slice_get-get_or, sub_of, suc, taking, true, try_mode_of, version_fault, version_named, zero, ℕ}
+-- No field of a trace's records has a newline.
+use Rattle.ld_trace.proofs.Names.{[], ◌&&◌, ◌-◌, ◌==◌, ◌∙◌, ◌∷◌, ◌≡◌, BadName, BadSub, Bool, Err, Irq, Line, List, MAX_NAME, Mode, Name, None, Ok, One, Option, Record, Result, Some, TraceFaultKind, Two, Version, and_from, and_parts, ap, are_visible, arith, bytes_eq, bytes_eq-Decides, codes, false, giving_back, if◌then◌else◌, irq_line, irq_of, is_class_name, length, mode_of, name_of_fields, nat_le, nat_tests, not, refl, sub_of, taking, true, try_mode_of, version_named, ℕ, list_all}
 use Rattle.ld_trace.specs.Lines.{line_of_record, version_of}
-use Rattle.ld_trace.specs.Reading.{fault_at}
+use Rattle.ld_trace.proofs.LineLemmas.{Say}
+use Rattle.ld_trace.proofs.RowLemmas.{is_line, is_one_line}
 
 -- a word of the format has no newline
 word-line : (field word : List ℕ) → bytes_eq field word ≡ true → is_line word ≡ true → is_line field ≡ true
@@ -101,7 +102,7 @@ irq-lines verb word line e = by (irq_of word) refl e
       irq-line word irq some,
     )
 
-pub says-lines : (version : Version) (row : Record) (line : Line) → line_of_record version row ≡ Ok line → is_one_line row ≡ true
+says-lines : (version : Version) (row : Record) (line : Line) → line_of_record version row ≡ Ok line → is_one_line row ≡ true
 unfolding line_of_record
 says-lines version [] line e = cc
 says-lines version (verb ∷ []) line e =
@@ -123,17 +124,10 @@ says-lines version (verb ∷ class ∷ sub ∷ mode ∷ []) line e =
     rw (own, rest.0, rest.1, last) refl
 says-lines version (verb ∷ class ∷ sub ∷ mode ∷ more ∷ rest) line e = cc
 
-pub says-plain : (version : Version) (row : Record) (line : Line) → line_of_record version row ≡ Ok line → IsPlain row
-unfolding line_of_record
-says-plain version row line e = record {
-  one_line = says-lines version row line e;
-  other = λ same. let wrong : Err BadRecord ≡ Ok line = rw same at e in cc;
-}
-
 version-line : (word : List ℕ) (version : Version) → version_named word ≡ Some version → is_line word ≡ true
 version-line word version e = one-word word (codes "1") _ _ version refl e (λ e. one-word word (codes "2") _ _ version refl e (λ e. cc))
 
-header-lines : (row : Record) (version : Version) → version_of row ≡ Some version → is_one_line row ≡ true
+pub header-lines : (row : Record) (version : Version) → version_of row ≡ Some version → is_one_line row ≡ true
 unfolding version_of
 header-lines [] version e = cc
 header-lines (word ∷ []) version e = cc
@@ -144,46 +138,9 @@ header-lines (word ∷ named ∷ []) version e = by (bytes_eq word (codes "lockd
     by false same e = cc
 header-lines (word ∷ named ∷ more ∷ rest) version e = cc
 
-pub header-plain : (row : Record) (version : Version) → version_of row ≡ Some version → IsPlain row
-unfolding version_of
-header-plain row version e = record {
-  one_line = header-lines row version e;
-  other = λ same. let wrong : None ≡ Some version = rw same at e in cc;
-}
-
--- ---- records without fault
-first-plain : (row : Record) → header_fault (Some row) ≡ None → IsPlain row
-first-plain row e = by (version_of row) refl e
-  where
-    by : (named : Option Version) → version_of row ≡ named → version_fault named ≡ None → IsPlain row
-    by None none e = cc
-    by (Some version) some e = header-plain row version some
-
-later-plain : (room : ℕ) (version : Version) (names : List Name) (place : ℕ) (row : Record) → record_fault room version names place (Some row) ≡ None → IsPlain row
-later-plain room version names place row e = by (nat_lt MAX_EVENTS place) e
-  where
-    said : (what : Result Line TraceFaultKind) → line_of_record version row ≡ what → line_fault room names what ≡ None → IsPlain row
-    said (Err fault) is e = cc
-    said (Ok line) is e = says-plain version row line is
-
-    by : (b : Bool) → (if b then Some TooManyRecords else line_fault room names (line_of_record version row)) ≡ None → IsPlain row
-    by true e = cc
-    by false e = said (line_of_record version row) refl e
-
-module _ (room : ℕ) (version : Version) (old : List Name) (rows : List Record) (faultless : (i : ℕ) → i < length rows → fault_at room version old rows i ≡ None) where
-  plain-at : (k : ℕ) (row : Record) → slice_get rows k ≡ Some row → k < length rows → IsPlain row
-  unfolding fault_at
-  plain-at zero row is below = first-plain row (rw is at (faultless zero below))
-  plain-at (suc k) row is below = later-plain room version (names_before version old rows (suc k)) (suc k) row (rw is at (faultless (suc k) below))
-
-  -- records without fault, of which there are some, are plain and begin with a header
-  pub faultless-plain : 0 < length rows → ArePlain rows
-  unfolding fault_at
-  faultless-plain some = record {
-    header = faultless 0 some;
-    plain = λ k d below. plain-at k (get_or rows k d) (slice_get-get_or rows k d below) below;
-  }
-
--- so are those that were taken
-pub taken-plain : (room : ℕ) (version : Version) (old : List Name) (rows : List Record) (now : List Name) (events : List Event) → AreTaken room version old rows now events → ArePlain rows
-taken-plain room version old rows now events taken = faultless-plain room version old rows taken.faultless (omega (arith, taken.count))
+-- ---- the records of a trace without fault
+pub said-lines : (version : Version) (rows : List Record) (lines : List Line) → Say version rows lines → list_all is_one_line rows ≡ true
+said-lines version [] lines say = refl
+said-lines version (row ∷ rows) [] say = absurd say
+said-lines version (row ∷ rows) (line ∷ lines) say =
+    and_from (is_one_line row) (list_all is_one_line rows) (says-lines version row line say.0) (said-lines version rows lines say.1)

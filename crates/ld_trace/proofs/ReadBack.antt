@@ -21,7 +21,7 @@ use Rattle.ld_trace.proofs.LineLemmas.{Say, events_with, head-below, lines_at-ev
 
 -- ---- a record says what it was written for
 -- the line's name is one, and its mode is one of the version's
-abbrev IsGood : Version → Line → Type 0
+abbrev pub IsGood : Version → Line → Type 0
 IsGood version (takes name mode) = (is_name name ≡ true) × (mode_of version (mode_word mode) ≡ Some mode)
 IsGood version (gives_back name) = is_name name ≡ true
 IsGood version (enters irq) = ⊤
@@ -36,7 +36,7 @@ sub_of-word sub small =
     let back : (48 + sub) - 48 ≡ sub = omega arith in
     rw (low, high, back) refl
 
-line_of_record-of : (version : Version) (line : Line) → IsGood version line → line_of_record version (record_of line) ≡ Ok line
+pub line_of_record-of : (version : Version) (line : Line) → IsGood version line → line_of_record version (record_of line) ≡ Ok line
 unfolding line_of_record
 line_of_record-of version (takes name mode) good =
     let parts = and_parts (is_class_name name.0) (nat_le name.1 MAX_SUB) good.0 in
@@ -63,7 +63,7 @@ name_at-there (x ∷ xs) zero h = refl
 name_at-there (x ∷ xs) (suc key) h = name_at-there xs key (omega arith)
 
 -- the version has the event's mode
-abbrev Has : Version → Event → Type 0
+abbrev pub Has : Version → Event → Type 0
 Has One event = is_try event ≡ false
 Has Two event = ⊤
 
@@ -90,7 +90,7 @@ mode-good Two mode key h = any_mode mode
 name-good : (names : List Name) (key : ℕ) → list_all is_name names ≡ true → key < length names → is_name (name_at names key) ≡ true
 name-good names key named below = named-there names (name_at names key) key named (name_at-there names key below)
 
-line-good : (version : Version) (names : List Name) (event : Event) → list_all is_name names ≡ true → KeyIsBelow (length names) event → Has version event → IsGood version (line_at names event)
+pub line-good : (version : Version) (names : List Name) (event : Event) → list_all is_name names ≡ true → KeyIsBelow (length names) event → Has version event → IsGood version (line_at names event)
 line-good version names (Acquire mode key) named below has = (name-good names key named below, mode-good version mode key has)
 line-good version names (Release key) named below has = name-good names key named below
 line-good version names (Enter irq) named below has = tt
@@ -126,7 +126,7 @@ lines-good version names (event ∷ events) named below have = (
 )
 
 -- ---- the records of the text
-read_back-record : (line : Line) → read_back (record_of line) ≡ record_of line
+pub read_back-record : (line : Line) → read_back (record_of line) ≡ record_of line
 read_back-record (takes name mode) = refl
 read_back-record (gives_back name) = refl
 read_back-record (enters irq) = refl
@@ -141,7 +141,7 @@ events-reached names (event ∷ events) =
     let row = record_of (line_at names event) in
     ((read_back row, st.StartRecord, flat_map (event_text names) events), read-write row (flat_map (event_text names) events), sym (read_back-record (line_at names event)), events-reached names events)
 
-read_back-header : (version : Version) → read_back (header_of version) ≡ header_of version
+pub read_back-header : (version : Version) → read_back (header_of version) ≡ header_of version
 read_back-header One = refl
 read_back-header Two = refl
 
@@ -152,7 +152,7 @@ trace-reached names events =
     let rest = flat_map (event_text names) events in
     ((read_back row, st.StartRecord, rest), read-write row rest, sym (read_back-header (version_for events)), events-reached names events)
 
-no-mark : (version : Version) (rest : List ℕ) → strip_bom (record_text (header_of version) ++ rest) ≡ record_text (header_of version) ++ rest
+pub no-mark : (version : Version) (rest : List ℕ) → strip_bom (record_text (header_of version) ++ rest) ≡ record_text (header_of version) ++ rest
 unfolding strip_bom fields_text is_blank escaped
 no-mark One rest = refl
 no-mark Two rest = refl
@@ -161,7 +161,7 @@ no-mark-text : (names : List Name) (events : List Event) → strip_bom (trace_te
 unfolding trace_text
 no-mark-text names events = no-mark (version_for events) (flat_map (event_text names) events)
 
-ended : next_record default_config st.StartRecord [] [] [] ≡ None
+pub ended : next_record default_config st.StartRecord [] [] [] ≡ None
 unfolding next_record
 ended = refl
 
@@ -205,7 +205,7 @@ texts-read-back table events are room old fits = (
 )
 
 -- over the table of the names themselves
-line-known : (names : List Name) (event : Event) → IsDistinct is_same names → KeyIsBelow (length names) event → (with_line names (line_at names event) ≡ names) × (event_of names (line_at names event) ≡ event)
+pub line-known : (names : List Name) (event : Event) → IsDistinct is_same names → KeyIsBelow (length names) event → (with_line names (line_at names event) ≡ names) × (event_of names (line_at names event) ≡ event)
 line-known names (Acquire mode key) once below =
     let there = place_of-there names (name_at names key) key once (name_at-there names key below) in
     (rw there.1 refl, ap (Acquire mode) there.0)

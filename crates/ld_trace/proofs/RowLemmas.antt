@@ -1,5 +1,5 @@
 -- The records of a text, byte after byte, as the machine of the crate `csv` gives them with its defaults.
-use Rattle.ld_trace.proofs.Names.{[], ◌++◌, ◌+◌, ◌<◌, ◌==◌, ◌∙◌, ◌∷◌, ◌≡◌, Bool, List, None, Option, Record, Some, State, after_end, ap, arith, default_config, ends_at_end, ends_with, false, field_after, fields_after, if◌then◌else◌, in_field, inl, inr, is_end, length, records, records_next, refl, start_field, start_record, step, subst, suc, sym, true, true≢false, zero, ℕ}
+use Rattle.ld_trace.proofs.Names.{[], ◌++◌, ◌+◌, ◌<◌, ◌==◌, ◌∙◌, ◌∷◌, ◌≡◌, Bool, List, None, Option, Record, Some, State, after_end, ap, arith, default_config, ends_at_end, ends_with, false, field_after, fields_after, if◌then◌else◌, in_field, inl, inr, is_end, length, records, records_next, refl, start_field, start_record, step, subst, suc, sym, true, true≢false, zero, ℕ, list_all, not}
 use Rattle.csv.specs.Machine.{Read, next_record}
 use Rattle.csv.specs.Reading.{records_from}
 use Rattle.csv.specs.declared.parser.Action.{Action}
@@ -66,6 +66,14 @@ pub records-rows : (xs : List ℕ) → records default_config xs ≡ rows_of xs
 records-rows xs = rows-enough (length xs + 1) st.StartRecord xs (omega arith)
 
 -- ---- what a byte does
+-- whether bytes have no newline
+abbrev pub is_line : List ℕ → Bool
+is_line bytes = list_all (λ byte. not (byte == 10)) bytes
+
+-- whether no field of a record has one
+abbrev pub is_one_line : Record → Bool
+is_one_line row = list_all is_line row
+
 -- whether the machine is between two records
 abbrev pub is_between : State → Bool
 is_between st.StartRecord = true

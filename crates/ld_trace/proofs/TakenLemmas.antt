@@ -117,7 +117,7 @@ event-below names leaves = tt
 event-below names (turns_on irq) = tt
 event-below names (turns_off irq) = tt
 
-KeyIsBelow-mono : (m n : ℕ) (event : Event) → m ≤ n → KeyIsBelow m event → KeyIsBelow n event
+pub KeyIsBelow-mono : (m n : ℕ) (event : Event) → m ≤ n → KeyIsBelow m event → KeyIsBelow n event
 KeyIsBelow-mono m n (Acquire mode key) h below = omega arith
 KeyIsBelow-mono m n (Release key) h below = omega arith
 KeyIsBelow-mono m n (Enter irq) h below = tt

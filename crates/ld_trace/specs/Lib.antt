@@ -1,9 +1,8 @@
 pub mod Classes
 pub mod Inside
 pub mod Events
-pub mod Joining
-pub mod JoinedTraces
 pub mod KeyFaults
+pub mod KnownLines
 pub mod Laws
 pub mod Lines
 pub mod Modes

@@ -1,15 +1,23 @@
 //! The table that numbers lock keys.
 
-ghost use Rattle.std.specs.Prelude.{◌≡◌, ◌≤◌, ◌<◌, ◌↔◌, [], IsOk, IsOkAnd, IfOk, IfErr, OnErr, IsErrOf, IfSome, length, slice_get, take, option_map, true, false, ◌⊎◌};
+ghost use Rattle.std.specs.Prelude.{◌≡◌, ◌≤◌, ◌<◌, ◌↔◌, [], IsOk, IsOkAnd, IfOk, IfErr, OnErr, IsErrOf, IfSome, OnOk, length, slice_get, take, option_map, true, false, ◌⊎◌};
 ghost use Rattle.ld_trace.specs.Names.{AreNumbered, is_class_name, is_known, is_name, is_one_too_many, is_same, place_of, with_name};
+ghost use Rattle.ld_trace.specs.Inside.KnownLines.{ReadsOn};
 ghost use Rattle.ld_trace.specs.Inside.Stored.{name_of, names_of};
+ghost use Rattle.ld_trace.specs.Inside.Written.{IsBetween};
+ghost use Rattle.csv.specs.Writing.{writer_pending};
+ghost use Rattle.ld_trace.specs.declared.raw_trace.TheConstants.{MAX_EVENTS};
 ghost use Rattle.std.specs.List.{IsDistinct};
 
-use crate::stored_name::{SLOTS, StoredName, is_class_name, slot_of};
-use crate::{GRAPH_KEYS, KeyFault, KeyId, MAX_KEYS, MAX_NAME};
+use crate::known_lines::{Lines, append_event};
+use crate::stored_name::{StoredName, is_class_name};
+use crate::version::Version;
+use crate::{Event, GRAPH_KEYS, KeyFault, KeyId, MAX_KEYS, MAX_NAME};
+use csv::Writer;
 use indexmap::IndexSet;
-use std::alloc::Global;
+use std::alloc::{AllocError, Global};
 use std::marker::Model;
+use std::mem;
 
 /// The greatest subclass.
 pub const MAX_SUB: u8 = 7;
@@ -23,19 +31,23 @@ pub struct KeyTable {
     names: IndexSet<StoredName>,
     // The most names that it takes.
     room: u16,
-    // Where a name of each slot was found last. It is a hint: it may be anything, and is looked at before it is believed.
-    recent: [u16; SLOTS],
+    // Lines of traces whose keys it has.
+    lines: Lines,
+    // Room for the bytes of a trace, kept from one to the next.
+    block: Vec<u8>,
 }
 
 impl Model for KeyTable {
     ghost use Rattle.ld_trace.specs.Names.{AreNumbered, Table};
+    ghost use Rattle.ld_trace.specs.Inside.KnownLines.{IsKnownLine};
     ghost use Rattle.ld_trace.specs.Inside.Stored.{names_of};
+    ghost use Rattle.std.specs.Prelude.{All};
 
     ghost Value = { Table };
 
     ghost view = { λ t. record { room = t.room; names = names_of t.names } };
 
-    ghost invariant = { λ t. AreNumbered (record { room = t.room; names = names_of t.names }) };
+    ghost invariant = { λ t. AreNumbered (record { room = t.room; names = names_of t.names }) × All (IsKnownLine (names_of t.names)) t.lines.known.items };
 }
 
 impl KeyTable {
@@ -56,7 +68,8 @@ impl KeyTable {
         Ok(KeyTable {
             names: IndexSet::new(alloc),
             room,
-            recent: [0; SLOTS],
+            lines: Lines::new(alloc),
+            block: Vec::new(alloc),
         })
     }
 
@@ -112,19 +125,7 @@ impl KeyTable {
         ensures refused { OnErr result (self.new ≡ self.old) }
     {
         let place = place_among(&mut self.names, self.room, StoredName::new(name, sub))?;
-        self.recent[slot_of(name.as_bytes(), sub)] = place as u16;
         Ok(KeyId::from_place(place))
-    }
-
-    // The number of the key of this name and subclass, if the table found it lately. It takes a fraction of the time of
-    // `number_name`. None says nothing.
-    pub(crate) fn known(&self, name: &[u8], sub: u8) -> Option<KeyId>
-        ensures hit { IfSome result (λ key. slice_get self.now.names key ≡ Some (name.now, sub)) }
-        ensures numbered { AreNumbered self.now }
-    {
-        let place = self.recent[slot_of(name, sub)] as usize;
-        let stored = self.names.get_index(place)?;
-        stored.is(name, sub).then_some(KeyId::from_place(place))
     }
 
     // The class's name and the subclass at this place. None exactly if there is none.
@@ -143,12 +144,77 @@ impl KeyTable {
         let _names = &self.names;
     }
 
+    // Learns the line of an event, if the table has its key and there is room for it. The writer is for texts of events.
+    pub(crate) fn learn(
+        &mut self,
+        rows: &mut Writer<Vec<u8>>,
+        event: Event,
+    ) -> Result<(), AllocError>
+        requires between { IsBetween rows.old }
+        requires out { writer_pending rows.old ≡ [] }
+        ensures same { self.new ≡ self.old }
+        ensures between { OnOk result (IsBetween rows.new) }
+        ensures out { OnOk result (writer_pending rows.new ≡ []) }
+    {
+        if event.key_is_below(self.len() as u16) {
+            let at = append_event(rows, self, event)?;
+            self.lines.learn(&rows.get_ref().as_slice()[at..], event);
+        }
+        Ok(())
+    }
+
+    // Whether it knows a line of this hash.
+    pub(crate) fn knows(&self, hash: u64) -> bool {
+        self.lines.knows(hash)
+    }
+
+    // Takes lines that it knows from the front of the bytes as events, and returns how many bytes these have. Its first `seen` names are
+    // those of the trace so far; a line may need the next one, and is not taken if it needs a later one.
+    pub(crate) fn take_known(
+        &mut self,
+        version: Version,
+        bytes: &[u8],
+        seen: &mut u16,
+        events: &mut Vec<Event>,
+    ) -> usize
+        requires seen { seen.old ≤ length self.old.names }
+        requires few { length events.old.items ≤ MAX_EVENTS }
+        ensures few { length events.new.items ≤ MAX_EVENTS }
+        ensures within { result ≤ length bytes.now }
+        ensures seen { (seen.old ≤ seen.new) × (seen.new ≤ length self.old.names) }
+        ensures on { ReadsOn version self.old.room (take seen.old self.old.names) (take seen.new self.old.names) events.old.items events.new.items
+            (take result bytes.now) }
+        ensures same { self.new ≡ self.old }
+    {
+        self.lines.take(version, bytes, seen, events)
+    }
+
+    // Lends its room for the bytes of a trace, without any.
+    pub(crate) fn lend_block(&mut self, alloc: Global) -> Vec<u8>
+        ensures none { result.items ≡ [] }
+        ensures same { self.new ≡ self.old }
+    {
+        let mut block = mem::replace(&mut self.block, Vec::new(alloc));
+        block.clear();
+        block
+    }
+
+    // Gets it back.
+    pub(crate) fn keep_block(&mut self, block: Vec<u8>)
+        ensures { self.new ≡ self.old }
+    {
+        self.block = block;
+    }
+
     // Removes the names from this place on.
     pub(crate) fn forget_from(&mut self, place: usize)
         ensures names { self.new.names ≡ take place self.old.names }
         ensures room { self.new.room ≡ self.old.room }
     {
-        self.names.truncate(place);
+        if place < self.names.len() {
+            self.names.truncate(place);
+            self.lines.clear();
+        }
     }
 
     /// The class's name and the subclass of the key of this number. None exactly if no key has it.

@@ -1,6 +1,6 @@
 //! Laws of the definitions, each carried by a function that does nothing.
 
-ghost use Rattle.ld_trace.specs.Joining.{TextsComeApart};
+ghost use Rattle.ld_trace.specs.KnownLines.{KnownLinesRead, KnownLinesStay, WrittenLinesRead};
 ghost use Rattle.ld_trace.specs.Laws.{NewTablesHaveRoom, RenumberingsStay, TextsReadBack, TextsReadThemselves, TracesReadAlike};
 ghost use Rattle.ld_trace.specs.Pieces.{HeadersRead, PiecesJoin};
 
@@ -19,13 +19,6 @@ pub fn traces_read_alike()
     ensures alike { TracesReadAlike }
 {}
 
-/// Texts that are read as one, with a record `.` between each two, come apart again: if the records come in as many parts as
-/// there are texts, each like those of a trace without fault, then each part is the records of its own text. A quote that a text
-/// leaves open shows as a newline in a field.
-pub fn texts_come_apart()
-    ensures apart { TextsComeApart }
-{}
-
 /// A renumbering stays one when the table that takes in gets more names.
 pub fn renumberings_stay()
     ensures stay { RenumberingsStay }
@@ -40,4 +33,12 @@ pub fn pieces_join()
 /// The line of a header is a trace without events.
 pub fn headers_read()
     ensures read { HeadersRead }
+{}
+
+/// The text of an event whose key the table has is a line that stands for it: a trace of whole lines goes on by it, and no name is
+/// added. It stays that event's text when the table gets more names.
+pub fn known_lines_read()
+    ensures written { WrittenLinesRead }
+    ensures read { KnownLinesRead }
+    ensures stay { KnownLinesStay }
 {}

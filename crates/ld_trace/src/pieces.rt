@@ -44,39 +44,6 @@ impl Version {
     }
 }
 
-impl KeyTable {
-    /// Takes in the trace of a piece, which was read over the table `own`, a new one, with a header before it: puts its events after
-    /// those of what was read before. False if there would be more than 1,000,000 events, if the table has no room for the names, or
-    /// if memory runs out; then nothing is changed, and the piece's trace is dropped.
-    pub fn take_in_piece(
-        &mut self,
-        alloc: Global,
-        own: &KeyTable,
-        piece: RawTrace,
-        whole: &mut RawTrace,
-    ) -> bool
-        requires { KeysBelow (length own.now.names) piece }
-        ensures joined { IsTrue result → (any : ℕ) (version : Version) (old : List Name) (done bytes : List ℕ) → AreLines version done
-            → ReadsTo self.old.room old done self.old.names whole.old → ReadsTo any [] (header_line version ++ bytes) own.now.names piece
-            → ReadsTo self.old.room old (done ++ bytes) self.new.names whole.new }
-        ensures kept { (added : List Name) × (self.new.names ≡ self.old.names ++ added) }
-        ensures room { self.new.room ≡ self.old.room }
-        ensures none { IsFalse result → (self.new ≡ self.old) × (whole.new ≡ whole.old) }
-    {
-        let before = self.len();
-        let mut by = Renumbering::new(alloc);
-        let Ok(taken) = self.take_in(own, own.len(), &mut by, piece) else {
-            return false;
-        };
-        self.keeps_its_rule();
-        if !whole.append(taken) {
-            self.forget_from(before);
-            return false;
-        }
-        true
-    }
-}
-
 /// Reads on after whole lines that were read as these events: what `read_trace` does with those lines and then the reader's bytes.
 pub fn read_on<R: Read + Drop>(
     alloc: Global,

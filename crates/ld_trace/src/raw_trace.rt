@@ -60,19 +60,6 @@ impl RawTrace {
         self.events
     }
 
-    // Puts the events of another trace after these. False if these would be more than 1,000,000, or if memory runs out; then nothing
-    // is changed.
-    pub(crate) fn append(&mut self, mut more: RawTrace) -> bool
-        ensures joined { IsTrue result → self.new ≡ self.old ++ more }
-        ensures few { IsTrue result → length self.old + length more ≤ MAX_EVENTS }
-        ensures none { IsFalse result → self.new ≡ self.old }
-    {
-        if self.events.len() + more.events.len() > MAX_EVENTS {
-            return false;
-        }
-        self.events.append(&mut more.events).is_ok()
-    }
-
     /// How many events there are, at most 1,000,000.
     pub fn len(&self) -> usize
         ensures count { result ≡ length self.now }

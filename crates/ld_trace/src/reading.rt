@@ -10,7 +10,6 @@ ghost use Rattle.ld_trace.specs.Inside.Progress.{AreRead, AreRefused, HasGiven, 
 ghost use Rattle.ld_trace.specs.Reading.{ReadsTo, StopsAt, line_fault};
 ghost use Rattle.ld_trace.specs.TraceFaults.{is_of_text};
 
-use crate::known::known_event;
 use crate::record::{line_of, version_of};
 use crate::version::Version;
 use crate::{Event, KeyTable, MAX_EVENTS, RawTrace, TraceFault, TraceFaultKind};
@@ -18,18 +17,8 @@ use csv::{ByteRecord, ErrorKind, Reader, ReaderBuilder};
 use std::alloc::Global;
 use std::io::Read;
 
-/// Reads a trace in the text format of version 1 or 2, and numbers its keys in the table.
-///
-/// The records are those of CSV with the comma and the double quote, without a header row of CSV's own, of any length
-/// and untrimmed. The first is `lockdep,1` or `lockdep,2`. Each of the others is an event: `acq,NAME,SUB,MODE`,
-/// `rel,NAME,SUB`, `enter,STATE`, `leave`, `on,STATE` or `off,STATE`, where a name is 1 to 64 bytes of 0x21 to 0x7E, a
-/// subclass is a digit 0 to 7, a mode is `w`, `r` or `rr`, or in version 2 also `tw`, `tr` or `trr`, and a state is
-/// `hardirq` or `softirq`.
-///
-/// The first faulty record is refused, with the first of its faults in this order: T8 or T9 in getting it, T1, T7, T2,
-/// T3, T4, T5, T9 for the event's room, T6, T9 for the key. Keys that had numbers keep them. After a refusal the keys
-/// of the events before it have numbers too, and the refused record has added none.
-pub fn read_trace<R: Read + Drop>(
+// Reads a trace, each record by CSV.
+pub(crate) fn read_by_csv<R: Read + Drop>(
     alloc: Global,
     reader: R,
     keys: &mut KeyTable,
@@ -228,9 +217,6 @@ fn take_record(
         ⊎ (kind ≡ TraceFaultKind.Memory)) }
     ensures refused { OnErr result ((keys.new ≡ keys.old) × (events.new.items ≡ events.old.items)) }
 {
-    if let Some(event) = known_event(version, row, keys) {
-        return events.push(event).map_err(|_| TraceFaultKind::Memory);
-    }
     let line = line_of(version, row)?;
     if events.reserve(1).is_err() {
         return Err(TraceFaultKind::Memory);

@@ -3,7 +3,6 @@
 ghost use Rattle.std.specs.Prelude.{◌≡◌, ◌<◌, codes, length, true, Ok, Err, IfErr, IsTrue, Some, option_map, if◌then◌else◌};
 ghost use Rattle.std.specs.Str.{bytes_eq};
 ghost use Rattle.csv.specs.Records.{field_at, fields_of};
-ghost use Rattle.ld_trace.specs.Joining.{point};
 ghost use Rattle.ld_trace.specs.Lines.{acquire_line, irq_of, leave_line, mode_of, name_of_fields, release_line, line_of_record, irq_line, sub_of, version_named, version_of};
 ghost use Rattle.ld_trace.specs.Names.{is_class_name};
 ghost use Rattle.ld_trace.specs.Inside.ReadLines.{Says, SaysName};
@@ -30,13 +29,6 @@ pub(crate) fn version_of(row: &ByteRecord) -> Option<Version>
     } else {
         None
     }
-}
-
-// Whether a record is the one that is put between two traces.
-pub(crate) fn is_point(row: &ByteRecord) -> bool
-    ensures { IsTrue result → fields_of row.now ≡ point }
-{
-    row.len() == 1 && is_word(field(row, 0), b".")
 }
 
 fn version_named(word: &[u8]) -> Option<Version>

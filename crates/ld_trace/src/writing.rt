@@ -83,7 +83,7 @@ fn write_header<W: Write + Drop>(rows: &mut Writer<W>, version: Version) -> Resu
     }
 }
 
-fn write_event<W: Write + Drop>(
+pub(crate) fn write_event<W: Write + Drop>(
     rows: &mut Writer<W>,
     keys: &KeyTable,
     event: Event,

@@ -1,7 +1,6 @@
 -- What a thread has read ahead. No public clause speaks of these.
-use Rattle.std.specs.Prelude.{◌≡◌, ℕ, suc, ◌+◌, ◌≤◌, List, [], ◌∷◌, Option, IfSome, All, length, take}
+use Rattle.std.specs.Prelude.{◌≤◌, ℕ, List, Option, IfSome, All, length, take}
 use Rattle.ld_trace.specs.Events.{KeysBelow}
-use Rattle.ld_trace.specs.Joining.{joined}
 use Rattle.ld_trace.specs.Names.{Name}
 use Rattle.ld_trace.specs.Reading.{ReadsTo}
 use Rattle.ld_trace.specs.TakingIn.{Leads}
@@ -28,15 +27,3 @@ AreFrom holds ahead = All (IsFrom holds ahead.own.names) ahead.parts.items
 pub record IsAhead (names : List Name) (ahead : Ahead) : Type 0 where
   pub leads : Leads ahead.own.names ahead.by names
   pub parts : AreParts ahead
-
--- these are the texts at the places from this one on, as far as those are known
-unfoldable pub AreHeld : (holds : ℕ → Option (List ℕ)) (place : ℕ) → List (List ℕ) → Type 0
-AreHeld holds place [] = Unit {0}
-AreHeld holds place (text ∷ texts) = IfSome (holds place) (λ known. known ≡ text) × AreHeld holds (suc place) texts
-
--- these bytes are the texts at the places from `first` to before `end`, as one
-pub record AreJoined (holds : ℕ → Option (List ℕ)) (first end : ℕ) (bytes : List ℕ) : Type 0 where
-  pub texts : List (List ℕ)
-  pub as_one : bytes ≡ joined texts
-  pub count : first + length texts ≡ end
-  pub held : AreHeld holds first texts
