@@ -80,6 +80,11 @@ impl Board {
         Ok((board, all))
     }
 
+    /// The allocator that it was opened with.
+    pub fn alloc(&self) -> Global {
+        self.alloc
+    }
+
     /// Claims the next number, counted from 0: one that no seat of the board has claimed. The caller makes sure that
     /// the seat's `claims_left` isn't 0.
     pub fn claim(&self, seat: &mut Seat) -> u64

@@ -8,3 +8,4 @@ pub mod Settlements
 pub mod Counts
 pub mod Working
 pub mod Crews
+pub mod Knowing

@@ -1,8 +1,15 @@
 -- Going along a trace, and what is put on a board and known on the way.
-use Rattle.ld_run.proofs.Names.{[], ◌++◌, ◌+◌, ◌<◌, ◌↔◌, ◌∙◌, ◌∷◌, ◌≡◌, ◌≤◌, ◌⊎◌, All-pop, All-take, Any-push, AreSame, ChainHas, ChainKeysAreTheTraces, ChainKeysBelow, ChainParts, ChainsHave, ComesNext, EndState, Err, Event, Fact, GoesOn, HasGathered, Holds, IsErr, IsStateAfter, KeyIsBelow, KeysBelow, KnowsFact, List, None, Ok, Option, PutsOnly, Result, Some, StepFault, View, WalksOn, append-nil, arith, fault_in, inl, inr, length, refl, slice_get, subst, suc, sym, take, true≢false, zero, ℕ}
+use Rattle.ld_run.proofs.Names.{[], ◌++◌, ◌+◌, ◌<◌, ◌↔◌, ◌∙◌, ◌∷◌, ◌≡◌, ◌≤◌, ◌⊎◌, All-pop, All-take, Any-push, AreSame, Bool, BeginningsKeepTheirChains, BeginningsKeepTheirFaults, CallsBelow, ChainCallsBelow, ChainHas, ChainKeysAreTheTraces, ChainKeysBelow, ChainParts, ChainsHave, EndState, Err, Event, Fact, GoesOn, HasBeforeFault, HasGathered, HasWalked, Holds, IfSome, IsErr, IsStateAfter, IsStep, IsWalking, IsWellFormed, KeyIsBelow, KeysBelow, KnowsFact, List, None, Ok, Option, PutsOnly, Result, Some, StepAt, StepFault, TraceFactsAreTheChains, View, WalksOn, ap, append-nil, arith, count_by, false, fault_in, from_bool, inl, inr, length, makes_chain, refl, slice_get, subst, suc, sym, take, take_all, true, true≢false, zero, ℕ}
+use Rattle.std.specs.Prelude.{IsSome, IsTrue, OnOk, is_some}
+use Rattle.std.proofs.lemmas.List.{length-take}
+use Rattle.std.proofs.lemmas.List.Sums.{count_by-le-length}
+use Rattle.ld_run.proofs.BeforeFaults.{before_fault-refused, before_fault-whole, beginning_has}
+use Rattle.ld_run.proofs.Counts.{count_more}
+use Rattle.ld_run.specs.declared.known_steps.Walk.{Walk}
 use Rattle.ld_task.specs.Positions.{positions_below}
 use Rattle.ld_task.specs.TraceChains.{chains}
 use Rattle.ld_run.specs.declared.worker.OutOfMemory.{OutOfMemory}
+use Rattle.std.specs.Borrow.{Bor}
 
 -- the chain of an event of a trace has the trace's keys
 pub chain_below : ChainKeysAreTheTraces → (keys : ℕ) (t : List Event) (n : ℕ) (state : EndState) (r : Result (Option ChainParts) StepFault) (c : ChainParts) → r ≡ Ok (Some c) → GoesOn t n state r → KeysBelow keys t → ChainKeysBelow keys c
@@ -10,6 +17,12 @@ chain_below law keys t n state r c is on below =
     let after = subst (λ x. GoesOn t n state x) is on in
     let all = law (take (n + 1) t) keys (All-take (KeyIsBelow keys) (n + 1) t below) in
     (All-pop (ChainKeysBelow keys) (chains (take (n + 1) t)) (chains (take n t)) (Some c) after.1 all).1
+
+-- the same by what its keys are called
+pub chain_called_below : ChainKeysAreTheTraces → (others : Option (Bor (List ℕ))) (keys : ℕ) (t : List Event) (n : ℕ) (state : EndState) (r : Result (Option ChainParts) StepFault) (c : ChainParts) →
+    r ≡ Ok (Some c) → GoesOn t n state r → CallsBelow others keys t → ChainCallsBelow others keys c
+chain_called_below law None keys t n state r c is on below = chain_below law keys t n state r c is on below
+chain_called_below law (Some others) keys t n state r c is on (low, below) = (low, chain_below law (length others.now) t n state r c is on below)
 
 -- ---- what is put and known
 -- nothing is put
@@ -40,7 +53,7 @@ pub no_chains : (x : Fact) → ChainsHave [] x → ⊥
 no_chains x any = let l = any.2 in omega (arith, l)
 
 -- an allowed event with a chain
-pub walks_on-chain : (keys : ℕ) (start old new : View) (t : List Event) (n : ℕ) (state : EndState) (r : Result (Option ChainParts) StepFault) (c : ChainParts) → r ≡ Ok (Some c) → GoesOn t n state r → new.claimed ≡ old.claimed → PutsOnly keys old new (ChainHas c) → Holds (KnowsFact keys new) (ChainHas c) → HasGathered keys start old t n → WalksOn keys start new state t n None
+pub walks_on-chain : (keys : ℕ) (start old new : View) (t : List Event) (n : ℕ) (state : EndState) (r : Result (Option ChainParts) StepFault) (c : ChainParts) → r ≡ Ok (Some c) → GoesOn t n state r → new.claimed ≡ old.claimed → PutsOnly keys old new (ChainHas c) → Holds (KnowsFact keys new) (ChainHas c) → HasGathered keys start old t n → IsStateAfter t (n + 1) state × HasGathered keys start new t (n + 1)
 walks_on-chain keys start old new t n state r c is on claimed puts knows gathered =
     let after = subst (λ x. GoesOn t n state x) is on in
     let cs : List ChainParts = chains (take n t) in
@@ -56,7 +69,7 @@ walks_on-chain keys start old new t n state r c is on claimed puts knows gathere
     )
 
 -- an allowed event without one
-pub walks_on-none : (keys : ℕ) (start now : View) (t : List Event) (n : ℕ) (state : EndState) (r : Result (Option ChainParts) StepFault) → r ≡ Ok None → GoesOn t n state r → HasGathered keys start now t n → WalksOn keys start now state t n None
+pub walks_on-none : (keys : ℕ) (start now : View) (t : List Event) (n : ℕ) (state : EndState) (r : Result (Option ChainParts) StepFault) → r ≡ Ok None → GoesOn t n state r → HasGathered keys start now t n → IsStateAfter t (n + 1) state × HasGathered keys start now t (n + 1)
 walks_on-none keys start now t n state r is on gathered =
     let after = subst (λ x. GoesOn t n state x) is on in
     let same = sym (after.1 ∙ append-nil (chains (take n t))) in (
@@ -68,43 +81,59 @@ walks_on-none keys start now t n state r is on gathered =
       },
     )
 
--- the first n events of the trace were allowed, this is the state after them, and the facts of their chains, of which there
--- were no more than events, were gathered
-pub record IsWalking (keys : ℕ) (start now : View) (t : List Event) (n : ℕ) (state : EndState) (number : ℕ) : Type 0 where
-  pub after : IsStateAfter t n state
-  pub gathered : HasGathered keys start now t n
-  pub few : number ≤ n
-
-pub IsWalking-none : (keys : ℕ) (v : View) (t : List Event) (state : EndState) → IsStateAfter t 0 state → IsWalking keys v v t 0 state 0
+-- before the first event
+pub IsWalking-none : (keys : ℕ) (v : View) (t : List Event) (walk : Walk) → walk.place ≡ 0 → walk.number ≡ 0 → IsStateAfter t 0 walk.state → IsWalking keys v v t walk
 unfolding chains positions_below
-IsWalking-none keys v t state after = record {
-  after = after;
-  gathered = record { claimed = refl; puts = PutsOnly-none keys v (ChainsHave []); knows = λ x h. absurd (no_chains x h) };
-  few = omega arith;
+IsWalking-none keys v t walk place number after = record {
+  after = subst (λ n. IsStateAfter t n walk.state) (sym place) after;
+  gathered = subst (HasGathered keys v v t) (sym place) none;
+  counted = subst (λ n. walk.number ≡ count_by makes_chain (take n t)) (sym place) number;
 }
+  where
+    none : HasGathered keys v v t 0
+    none = record { claimed = refl; puts = PutsOnly-none keys v (ChainsHave []); knows = λ x h. absurd (no_chains x h) }
 
 -- one more event
-pub IsWalking-next : (keys : ℕ) (start old new : View) (t : List Event) (n : ℕ) (state next : EndState) (number number' : ℕ) → IsWalking keys start old t n state number → number' ≤ number + 1 → WalksOn keys start new next t n None → IsWalking keys start new t (n + 1) next number'
-IsWalking-next keys start old new t n state next number number' before few on = record {
-  after = on.0;
-  gathered = on.1;
-  few = (let l = before.few in omega (arith, few, l));
+pub IsWalking-next : (keys : ℕ) (start old new : View) (t : List Event) (walk next : Walk) (event : Event) → IsWalking keys start old t walk → slice_get t walk.place ≡ Some event
+    → next.place ≡ walk.place + 1 → next.number ≡ walk.number + from_bool (makes_chain event) → IsStateAfter t (walk.place + 1) next.state × HasGathered keys start new t (walk.place + 1) → IsWalking keys start new t next
+IsWalking-next keys start old new t walk next event walking here place number on = record {
+  after = subst (λ n. IsStateAfter t n next.state) (sym place) on.0;
+  gathered = subst (HasGathered keys start new t) (sym place) on.1;
+  counted = subst (λ n. next.number ≡ count_by makes_chain (take n t)) (sym place)
+      (number ∙ ap (λ n. n + from_bool (makes_chain event)) walking.counted ∙ sym (count_more t walk.place event here));
 }
+
+-- one more event by a step that is known
+pub IsWalking-known : (keys : ℕ) (start now : View) (t : List Event) (walk next : Walk) (event : Event) → IsStep keys now walk.state event next.state → IsWalking keys start now t walk → slice_get t walk.place ≡ Some event
+    → next.place ≡ walk.place + 1 → next.number ≡ walk.number + from_bool (makes_chain event) → IsWalking keys start now t next
+IsWalking-known keys start now t walk next event step walking here place number =
+    IsWalking-next keys start now now t walk next event walking here place number (by_answer step.answer (step.goes_on t walk.place walking.after here) step.knows)
+  where
+    by_answer : (answer : Option ChainParts) → GoesOn t walk.place next.state (Ok answer) → IfSome answer (λ c. Holds (KnowsFact keys now) (ChainHas c)) → IsStateAfter t (walk.place + 1) next.state × HasGathered keys start now t (walk.place + 1)
+    by_answer None on knows = walks_on-none keys start now t walk.place next.state (Ok None) refl on walking.gathered
+    by_answer (Some c) on knows = walks_on-chain keys start now now t walk.place next.state (Ok (Some c)) c refl on refl (PutsOnly-none keys now (ChainHas c)) knows walking.gathered
+
+-- no more chains than events
+pub few_chains : (keys : ℕ) (start now : View) (t : List Event) (walk : Walk) → IsWalking keys start now t walk → walk.number ≤ walk.place
+few_chains keys start now t walk walking =
+    let c = walking.counted in
+    let f = count_by-le-length makes_chain (take walk.place t) in
+    let l = length-take walk.place t in
+    omega (arith, c, f, l)
+
+-- what was put or seen still is
+pub IsStep-later : (keys : ℕ) (old new : View) (from : EndState) (event : Event) (to : EndState) → Holds (KnowsFact keys new) (KnowsFact keys old) → IsStep keys old from event to → IsStep keys new from event to
+IsStep-later keys old new from event to up step = record { answer = step.answer; goes_on = step.goes_on; knows = later step.answer step.knows }
+  where
+    later : (answer : Option ChainParts) → IfSome answer (λ c. Holds (KnowsFact keys old) (ChainHas c)) → IfSome answer (λ c. Holds (KnowsFact keys new) (ChainHas c))
+    later None knows = tt
+    later (Some c) knows = λ x h. up x (knows x h)
 
 -- a place of the trace has an event
 pub never_past : {A : Type 0} (xs : List A) (i : ℕ) → i < length xs → slice_get xs i ≡ None → ⊥
 never_past [] i l e = omega (arith, l)
 never_past (x ∷ xs) zero l e = cc
 never_past (x ∷ xs) (suc i) l e = never_past xs i (omega (arith, l)) e
-
--- the event that is read next
-pub comes_next : (keys : ℕ) (start now : View) (t : List Event) (n : ℕ) (state : EndState) (number : ℕ) (r : Option Event) (event : Event) → IsWalking keys start now t n state number → r ≡ slice_get t n → r ≡ Some event → KeysBelow keys t → ComesNext keys start now state event t n
-comes_next keys start now t n state number r event walking read is below = record {
-  after = walking.after;
-  here = sym read ∙ is;
-  below = below;
-  gathered = walking.gathered;
-}
 
 -- what was gathered of a trace, by another name
 pub gathered_puts : (keys : ℕ) (start now : View) (t : List Event) (n : ℕ) (Q : Fact → Type 0) → AreSame (ChainsHave (chains (take n t))) Q → HasGathered keys start now t n → PutsOnly keys start now Q
@@ -114,6 +143,52 @@ pub gathered_knows : (keys : ℕ) (start now : View) (t : List Event) (n : ℕ) 
 gathered_knows keys start now t n Q same gathered x h = gathered.knows x ((same x).1 h)
 
 -- nothing is refused if the worker was lost
-pub none_in : (r : Result (Option StepFault) OutOfMemory) → IsErr r → fault_in r ≡ None
-none_in (Ok fault) is = absurd (true≢false (sym is))
+pub none_in : (r : Result (Option StepAt) OutOfMemory) → IsErr r → fault_in r ≡ None
+none_in (Ok found) is = absurd (true≢false (sym is))
 none_in (Err lost) is = refl
+
+-- a trace was walked to its end
+pub walked-whole : TraceFactsAreTheChains → BeginningsKeepTheirChains → (keys : ℕ) (start now : View) (t : List Event) (walk : Walk) → length t ≤ walk.place → IsWalking keys start now t walk → HasWalked keys start now t (Ok None)
+walked-whole chain_facts keep keys start now t walk past walking =
+    let same = before_fault-whole chain_facts keep t walk.place past walking.after.well_formed in
+    record {
+      claimed = walking.gathered.claimed;
+      puts = gathered_puts keys start now t walk.place (HasBeforeFault t) same walking.gathered;
+      knows = gathered_knows keys start now t walk.place (HasBeforeFault t) same walking.gathered;
+      fault = subst IsWellFormed (take_all walk.place t past) walking.after.well_formed;
+    }
+
+-- it was walked to its first event that isn't allowed
+pub walked-refused : TraceFactsAreTheChains → BeginningsKeepTheirChains → BeginningsKeepTheirFaults → (keys : ℕ) (start now : View) (t : List Event) (walk : Walk) (found : StepAt) → WalksOn keys start now walk t (Some found)
+    → HasWalked keys start now t (Ok (Some found))
+walked-refused chain_facts keep keep_faults keys start now t walk found on =
+    let same = before_fault-refused chain_facts keep keep_faults t found.place found.fault on.1 on.0 in
+    record {
+      claimed = on.2.claimed;
+      puts = gathered_puts keys start now t found.place (HasBeforeFault t) same on.2;
+      knows = gathered_knows keys start now t found.place (HasBeforeFault t) same on.2;
+      fault = on.0;
+    }
+
+-- the worker was lost
+pub walked-lost : TraceFactsAreTheChains → (keys : ℕ) (start now : View) (t : List Event) (walk : Walk) (r : Result (Option StepAt) OutOfMemory) → IsErr r → IsWalking keys start now t walk → HasWalked keys start now t r
+walked-lost chain_facts keys start now t walk (Ok found) is walking = absurd (true≢false (sym is))
+walked-lost chain_facts keys start now t walk (Err lost) is walking = record {
+  claimed = walking.gathered.claimed;
+  puts = PutsOnly-more keys start now (ChainsHave (chains (take walk.place t))) (HasBeforeFault t) (beginning_has chain_facts t walk.place walking.after.well_formed) walking.gathered.puts;
+  knows = tt;
+  fault = tt;
+}
+
+-- ---- whether an event makes a chain
+pub made-some : {A : Type 0} (b : Bool) (answer : Option A) (x : A) → (IsSome answer ↔ IsTrue b) → answer ≡ Some x → from_bool b ≡ 1
+made-some b answer x made is = ap from_bool (made.0 (ap is_some is))
+
+pub made-none : {A : Type 0} (b : Bool) (answer : Option A) → (IsSome answer ↔ IsTrue b) → answer ≡ None → from_bool b ≡ 0
+made-none true answer made is = absurd (true≢false (sym (made.1 refl) ∙ ap is_some is))
+made-none false answer made is = refl
+
+-- what holds in any case holds if it went well
+pub on_ok : {A E : Type 0} {P : Type 0} (r : Result A E) → P → OnOk r P
+on_ok (Ok x) p = p
+on_ok (Err e) p = tt

@@ -1,3 +1,4 @@
 pub mod Crews
 pub mod Walks
 pub mod Walked
+pub mod KnownSteps

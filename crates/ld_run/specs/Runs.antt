@@ -4,6 +4,7 @@ use Rattle.ld_trace.specs.declared.event.Event.{Event}
 use Rattle.ld_task.specs.WellFormed.{IsWellFormed}
 use Rattle.ld_facts.specs.FactBits.{FactParts, HasFact}
 use Rattle.ld_facts.specs.Facts.{AreSame}
+use Rattle.ld_facts.specs.Renaming.{TracesHaveBy}
 use Rattle.ld_facts.specs.TraceFacts.{TracesHave, IsFirstRefused}
 use Rattle.ld_run.specs.declared.fault.RunFault.{RunFault}
 use Rattle.ld_run.specs.declared.fault.RunFault.TheVariants.{BadWorkers, TooManyTraces, Unsettled, Memory, Refused, TooTangled}
@@ -21,6 +22,13 @@ pub record CompletesRun (traces : List (List Event)) (workers : ℕ) (facts : Fa
   pub few : length traces ≤ MAX_TRACES
   pub well_formed : All IsWellFormed traces
   pub facts_are : AreSame (HasFact facts) (TracesHave traces)
+
+-- the same by what the keys of the traces are called
+pub record CompletesRunBy (rename : ℕ → ℕ) (traces : List (List Event)) (workers : ℕ) (facts : FactParts) : Type 0 where
+  pub crew : IsCrew workers
+  pub few : length traces ≤ MAX_TRACES
+  pub well_formed : All IsWellFormed traces
+  pub facts_are : AreSame (HasFact facts) (TracesHaveBy rename traces)
 
 -- the run of this many workers over these traces of this many keys was refused: because of the number of workers;
 -- because of the number of traces; at the first trace that isn't well formed, with its first event that isn't allowed;

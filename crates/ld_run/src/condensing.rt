@@ -56,7 +56,7 @@ fn facts_of(alloc: Global, trace: &RawTrace, keys: u16) -> Result<Facts, Condens
     ensures facts { IfOk result (λ facts. AreSame (TraceHas trace.now) (HasFact facts)) }
 {
     let mut facts = Facts::new(alloc, keys)?;
-    match add_trace(&mut facts, trace) {
+    match add_trace(&mut facts, trace, None) {
         Ok(()) => Ok(facts),
         Err(_) => Err(CondenseFault::Unequal),
     }

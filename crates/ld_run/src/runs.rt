@@ -287,7 +287,7 @@ fn chains_of(trace: &RawTrace) -> u64
 }
 
 // Whether the event takes a lock or turns a flag on.
-fn makes_chain(event: Event) -> bool
+pub(crate) fn makes_chain(event: Event) -> bool
     ensures { result ≡ makes_chain event }
 {
     matches!(event, Event::Acquire { .. } | Event::TurnOn { .. })

@@ -1,11 +1,11 @@
 //! Many traces, of which each of several threads walks a share.
 
-ghost use Rattle.std.specs.Prelude.{◌≤◌, ℕ, All, drop, length, take};
+ghost use Rattle.std.specs.Prelude.{◌≤◌, ℕ, List, Option, All, drop, length, take};
+ghost use Rattle.std.specs.Borrow.{Bor};
 ghost use denote.Param.Send.{IsSync};
 ghost use Rattle.ld_trace.specs.declared.key_id.TheConstants.{MAX_KEYS};
-ghost use Rattle.ld_trace.specs.Events.{KeysBelow};
 ghost use Rattle.ld_task.specs.WellFormed.{IsWellFormed};
-ghost use Rattle.ld_run.specs.Inside.Walked.{EndsWalk, StopsWalk};
+ghost use Rattle.ld_run.specs.Inside.Walked.{CallsBelow, EndsWalk, StopsWalk};
 
 use crate::trace_facts::add_trace;
 use ld_facts::Facts;
@@ -24,50 +24,56 @@ pub(crate) enum Unwalked {
     Refused { trace: usize, first: StepAt },
 }
 
-// The facts of all traces, if they are well formed. Half of the threads walk the first of them, and the others the rest, each into
-// facts of its own; if a thread can't be made, the calling thread does its work.
+// The facts of all traces by what their keys are called, if they are well formed; see `add_trace`. Half of the threads walk the first
+// of them, and the others the rest, each into facts of its own; if a thread can't be made, the calling thread does its work.
 #[cycle(halves)]
 pub(crate) fn facts_of_all<R: Threads + Sync>(
     rt: &R,
     alloc: Global,
     traces: &[RawTrace],
+    others: Option<&[u16]>,
     keys: u16,
     threads: usize,
 ) -> Result<Facts, Unwalked>
     requires few { keys ≤ MAX_KEYS }
-    requires below { All (KeysBelow keys) traces.now }
-    ensures { EndsWalk keys traces.now result }
+    requires below { All (CallsBelow others keys) traces.now }
+    ensures { EndsWalk others.entry keys traces.now result }
 {
     if threads < 2 || traces.len() < 2 {
-        return facts_in_turn(alloc, traces, keys);
+        return facts_in_turn(alloc, traces, others, keys);
     }
     let part = threads / 2;
     let rest = threads - part;
     let place = place_of_share(traces, threads);
     let (low, high) = traces.split_at(place);
     let first = move || -> Result<Facts, Unwalked>
-        requires { IsSync R.row × (keys ≤ MAX_KEYS) × All (KeysBelow keys) low.now }
-        ensures { EndsWalk keys low.entry.now result }
-    { facts_of_all(rt, alloc, low, keys, part) };
+        requires { IsSync R.row × (keys ≤ MAX_KEYS) × All (CallsBelow others keys) low.now }
+        ensures { EndsWalk others.entry keys low.entry.now result }
+    { facts_of_all(rt, alloc, low, others, keys, part) };
     let second = move || -> Result<Facts, Unwalked>
-        requires { IsSync R.row × (keys ≤ MAX_KEYS) × All (KeysBelow keys) high.now }
-        ensures { EndsWalk keys high.entry.now result }
-    { facts_of_all(rt, alloc, high, keys, rest) };
+        requires { IsSync R.row × (keys ≤ MAX_KEYS) × All (CallsBelow others keys) high.now }
+        ensures { EndsWalk others.entry keys high.entry.now result }
+    { facts_of_all(rt, alloc, high, others, keys, rest) };
     let (first, second) = thread::join(rt, first, second);
     united(traces, place, first, second)
 }
 
 // The facts of all traces, if they are well formed, walked one after the other by the calling thread.
-fn facts_in_turn(alloc: Global, traces: &[RawTrace], keys: u16) -> Result<Facts, Unwalked>
+fn facts_in_turn(
+    alloc: Global,
+    traces: &[RawTrace],
+    others: Option<&[u16]>,
+    keys: u16,
+) -> Result<Facts, Unwalked>
     requires few { keys ≤ MAX_KEYS }
-    requires below { All (KeysBelow keys) traces.now }
-    ensures { EndsWalk keys traces.now result }
+    requires below { All (CallsBelow others keys) traces.now }
+    ensures { EndsWalk others.entry keys traces.now result }
 {
     let Ok(mut facts) = Facts::new(alloc, keys) else {
         return Err(Unwalked::Memory);
     };
     for trace in 0..traces.len() {
-        if let Err(first) = add_trace(&mut facts, &traces[trace]) {
+        if let Err(first) = add_trace(&mut facts, &traces[trace], others) {
             return Err(Unwalked::Refused { trace, first });
         }
     }
@@ -82,10 +88,10 @@ fn united(
     second: Result<Facts, Unwalked>,
 ) -> Result<Facts, Unwalked>
     requires place { place ≤ length traces.now }
-    requires parts { (keys : ℕ) × EndsWalk keys (take place traces.now) first
-        × EndsWalk keys (drop place traces.now) second }
-    ensures { (keys : ℕ) → EndsWalk keys (take place traces.now) first
-        → EndsWalk keys (drop place traces.now) second → EndsWalk keys traces.now result }
+    requires parts { (others : Option (Bor (List ℕ))) × (keys : ℕ) × EndsWalk others keys (take place traces.now) first
+        × EndsWalk others keys (drop place traces.now) second }
+    ensures { (others : Option (Bor (List ℕ))) (keys : ℕ) → EndsWalk others keys (take place traces.now) first
+        → EndsWalk others keys (drop place traces.now) second → EndsWalk others keys traces.now result }
 {
     if lacks_memory(&first) || lacks_memory(&second) {
         return Err(Unwalked::Memory);

@@ -1,22 +1,24 @@
 //! A worker: it claims traces from a board, walks them, puts what is new in them on the board, and records it.
 
-ghost use Rattle.std.specs.Prelude.{◌≡◌, ◌<◌, ◌≤◌, ◌+◌, ℕ, List, All, IfOk, OnOk, length};
+ghost use Rattle.std.specs.Prelude.{◌≡◌, ◌<◌, ◌≤◌, ◌+◌, List, All, None, OnOk, length};
 ghost use Rattle.ld_trace.specs.declared.event.Event.{Event};
 ghost use Rattle.ld_trace.specs.Events.{KeysBelow};
 ghost use Rattle.ld_facts.specs.Facts.{Holds};
 ghost use Rattle.ld_board.specs.Boards.{keys_of, IsSeatOf};
 ghost use Rattle.ld_board.specs.Seats.{view};
-ghost use Rattle.ld_board.specs.Views.{KnowsFact, PutsOnly};
-ghost use Rattle.ld_run.specs.Tallies.{HasBeforeFault};
+ghost use Rattle.ld_board.specs.Views.{KnowsFact};
 ghost use Rattle.ld_run.specs.Work.{HasWorked};
-ghost use Rattle.ld_run.specs.Inside.Walks.{ComesNext, FirstFaultIs, WalksOn, fault_in, first_refused_of};
+ghost use Rattle.ld_run.specs.Inside.KnownSteps.{AreKnown};
+ghost use Rattle.ld_run.specs.Inside.Walks.{ComesNext, HasWalked, IsStep, IsWalking, WalksOn, fault_in, first_refused_of};
 ghost use Rattle.ld_board.specs.declared.seat.TheConstants.{MAX_CLAIMS};
 ghost use Rattle.ld_board.specs.declared.view.View.{View};
 
 use crate::gate::Gate;
+use crate::known_steps::{KnownSteps, Walk};
+use crate::news::News;
 use ld_board::{Board, Seat};
 use ld_book::{BookFault, LockedBook};
-use ld_task::{Chain, StepAt, StepFault, TaskState};
+use ld_task::{Chain, StepAt};
 use ld_trace::{Event, MAX_EVENTS, RawTrace};
 use std::sync::Wait;
 
@@ -33,12 +35,13 @@ pub struct Worked {
 }
 
 // What the workers of a run share besides the board: how they wait, the book that they record in, and the gate that
-// they call.
+// they call; and how many of this worker's chains are new.
 #[derive(Clone, Copy)]
 struct Desk<'a, R, G> {
     rt: &'a R,
     book: &'a LockedBook,
     gate: &'a G,
+    news: News,
 }
 
 /// The worker ended because memory was refused.
@@ -67,12 +70,25 @@ pub fn work<R: Wait, G: Gate>(
     ensures seat { IsSeatOf board.now result.seat }
     ensures worked { HasWorked (keys_of board.now) traces.now (view seat) result }
 {
-    let desk = Desk { rt, book, gate };
+    let mut desk = Desk {
+        rt,
+        book,
+        gate,
+        news: News::new(),
+    };
+    let mut known = KnownSteps::new(board.alloc());
     let mut refused = None;
     let mut number = board.claim(&mut seat);
     while number < traces.len() as u64 {
         let trace = number as usize;
-        let Ok(found) = walk_trace(&desk, board, &mut seat, trace, &traces[trace]) else {
+        let Ok(found) = walk_trace(
+            &mut desk,
+            board,
+            &mut seat,
+            trace,
+            &traces[trace],
+            &mut known,
+        ) else {
             return Worked {
                 seat,
                 refused,
@@ -89,74 +105,129 @@ pub fn work<R: Wait, G: Gate>(
     }
 }
 
-// Walks a trace up to its first event that isn't allowed, and returns that one, if there is one.
+// Walks a trace up to its first event that isn't allowed, and returns that one, if there is one. It goes by steps that are known, as
+// long as enough of them are; what is missed is learnt.
 fn walk_trace<R: Wait, G: Gate>(
-    desk: &Desk<R, G>,
+    desk: &mut Desk<R, G>,
     board: &Board,
     seat: &mut Seat,
+    trace: usize,
+    events: &RawTrace,
+    known: &mut KnownSteps,
+) -> Result<Option<StepAt>, OutOfMemory>
+    requires seat { IsSeatOf board.now seat.old }
+    requires below { KeysBelow (keys_of board.now) events.now }
+    requires trace { trace < MAX_CLAIMS }
+    requires known { AreKnown (keys_of board.now) (view seat.old) known.old }
+    ensures seat { IsSeatOf board.now seat.new }
+    ensures known { OnOk result (AreKnown (keys_of board.now) (view seat.new) known.new) }
+    ensures walked { HasWalked (keys_of board.now) (view seat.old) (view seat.new) events.now result }
+{
+    ld_facts::trace_facts_are_the_chains();
+    ld_task::beginnings_keep_their_chains();
+    ld_task::beginnings_keep_their_faults();
+    let mut walk = Walk::new();
+    let mut here = known.number_of(&walk.state);
+    while known.are_worth_it() {
+        let (before, chains) = (walk.place, walk.number);
+        here = known.follow(events, here, &mut walk);
+        desk.news
+            .lower(desk.book, walk.number.saturating_sub(chains));
+        if walk.place >= events.len() {
+            return Ok(None);
+        }
+        let Some(event) = events.event(walk.place) else {
+            unreachable!();
+        };
+        known.pay(walk.place - before);
+        let found = walk_event(desk, board, seat, &mut walk, trace, event)?;
+        if let Some(first) = found {
+            return Ok(Some(first));
+        }
+        here = known.learn(here, &event, &walk.state);
+    }
+    walk_rest(desk, board, seat, walk, trace, events)
+}
+
+// Walks the rest of a trace, event by event.
+fn walk_rest<R: Wait, G: Gate>(
+    desk: &mut Desk<R, G>,
+    board: &Board,
+    seat: &mut Seat,
+    mut walk: Walk,
     trace: usize,
     events: &RawTrace,
 ) -> Result<Option<StepAt>, OutOfMemory>
     requires seat { IsSeatOf board.now seat.old }
     requires below { KeysBelow (keys_of board.now) events.now }
     requires trace { trace < MAX_CLAIMS }
+    requires within { walk.place ≤ length events.now }
+    requires walking { (start : View) × IsWalking (keys_of board.now) start (view seat.old) events.now walk }
     ensures seat { IsSeatOf board.now seat.new }
-    ensures claimed { (view seat.new).claimed ≡ (view seat.old).claimed }
-    ensures puts { PutsOnly (keys_of board.now) (view seat.old) (view seat.new) (HasBeforeFault events.now) }
-    ensures knows { OnOk result (Holds (KnowsFact (keys_of board.now) (view seat.new)) (HasBeforeFault events.now)) }
-    ensures found { IfOk result (FirstFaultIs events.now) }
+    ensures keeps { Holds (KnowsFact (keys_of board.now) (view seat.new)) (KnowsFact (keys_of board.now) (view seat.old)) }
+    ensures walked { (start : View) → IsWalking (keys_of board.now) start (view seat.old) events.now walk
+        → HasWalked (keys_of board.now) start (view seat.new) events.now result }
 {
     ld_facts::trace_facts_are_the_chains();
     ld_task::beginnings_keep_their_chains();
     ld_task::beginnings_keep_their_faults();
-    let mut state = TaskState::new();
-    let mut number = 0;
-    for place in 0..events.len() {
-        let Some(event) = events.event(place) else {
+    while walk.place < events.len() {
+        let Some(event) = events.event(walk.place) else {
             unreachable!();
         };
-        let refused = walk_event(desk, board, seat, &mut state, trace, &mut number, event)?;
-        if let Some(fault) = refused {
-            return Ok(Some(StepAt { fault, place }));
+        let refused = walk_event(desk, board, seat, &mut walk, trace, event)?;
+        if let Some(first) = refused {
+            return Ok(Some(first));
         }
     }
     Ok(None)
 }
 
-// Advances by one event of a trace, and returns why it isn't allowed, if it isn't. The number is that of the trace's
-// next chain: the events of a trace that make a chain are counted.
+// Walks the next event of a trace, and returns it if it isn't allowed.
+#[inline(always)]
 fn walk_event<R: Wait, G: Gate>(
-    desk: &Desk<R, G>,
+    desk: &mut Desk<R, G>,
     board: &Board,
     seat: &mut Seat,
-    state: &mut TaskState,
+    walk: &mut Walk,
     trace: usize,
-    number: &mut u64,
     event: Event,
-) -> Result<Option<StepFault>, OutOfMemory>
+) -> Result<Option<StepAt>, OutOfMemory>
     requires seat { IsSeatOf board.now seat.old }
-    requires next { (start : View) × (t : List Event) × (n : ℕ)
-        × ComesNext (keys_of board.now) start (view seat.old) state.old event t n }
-    requires number { number.old < MAX_EVENTS }
+    requires next { (start : View) × (t : List Event)
+        × ComesNext (keys_of board.now) start (view seat.old) walk.old event t }
+    requires place { walk.old.place < MAX_EVENTS }
+    requires number { walk.old.number ≤ walk.old.place }
     requires trace { trace < MAX_CLAIMS }
     ensures seat { IsSeatOf board.now seat.new }
-    ensures number { number.new ≤ number.old + 1 }
-    ensures walks_on { (start : View) (t : List Event) (n : ℕ)
-        → ComesNext (keys_of board.now) start (view seat.old) state.old event t n
-        → WalksOn (keys_of board.now) start (view seat.new) state.new t n (fault_in result) }
+    ensures keeps { Holds (KnowsFact (keys_of board.now) (view seat.new)) (KnowsFact (keys_of board.now) (view seat.old)) }
+    ensures on { fault_in result ≡ None → walk.new.place ≡ walk.old.place + 1 }
+    ensures step { fault_in result ≡ None
+        → IsStep (keys_of board.now) (view seat.new) walk.old.state event walk.new.state }
+    ensures walks_on { (start : View) (t : List Event)
+        → ComesNext (keys_of board.now) start (view seat.old) walk.old event t
+        → WalksOn (keys_of board.now) start (view seat.new) walk.new t (fault_in result) }
 {
     ld_task::chain_keys_are_the_traces();
-    match state.step(event) {
+    match walk.state.step(event) {
         Ok(answer) => {
+            walk.place += 1;
             if let Some(chain) = answer {
+                let number = walk.number;
+                walk.number += 1;
                 if board.put_unless_covered(seat, &chain) {
-                    record_chain(desk, trace, *number, chain)?;
+                    desk.news.raise(desk.book);
+                    record_chain(desk, trace, number, chain)?;
+                } else {
+                    desk.news.lower(desk.book, 1);
                 }
-                *number += 1;
             }
             Ok(None)
         }
-        Err(fault) => Ok(Some(fault)),
+        Err(fault) => {
+            let place = walk.place;
+            Ok(Some(StepAt { fault, place }))
+        }
     }
 }
 

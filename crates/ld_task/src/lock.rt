@@ -55,6 +55,11 @@ impl Lock {
         }
     }
 
+    // Its word.
+    pub(crate) fn word(self) -> u16 {
+        self.word
+    }
+
     // The mode that it is taken in.
     pub(crate) fn mode(self) -> Mode
         ensures { result ≡ self.mode }

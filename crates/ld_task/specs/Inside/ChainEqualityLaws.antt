@@ -17,13 +17,13 @@ use Rattle.ld_task.specs.Chains.{ChainParts}
 use Rattle.ld_task.specs.Laws.Locks.{lock_of_word-word}
 use Rattle.ld_task.specs.Locks.{LockParts, lock_of_word, lock_word}
 
-lock_eq-decides : (a b : LockParts) → Decides (lock_eq a b) (a ≡ b)
+pub lock_eq-decides : (a b : LockParts) → Decides (lock_eq a b) (a ≡ b)
 lock_eq-decides a b = (
   λ h. sym (lock_of_word-word a) ∙ ap lock_of_word ((Decides-eqb (lock_word a) (lock_word b)).0 h) ∙ lock_of_word-word b,
   λ e. (Decides-eqb (lock_word a) (lock_word b)).1 (ap lock_word e),
 )
 
-frame_eq-decides : (a b : Frame) → Decides (frame.eq-value.it a b) (a ≡ b)
+pub frame_eq-decides : (a b : Frame) → Decides (frame.eq-value.it a b) (a ≡ b)
 frame_eq-decides Task Task = (λ _. refl, λ _. refl)
 frame_eq-decides Softirq Softirq = (λ _. refl, λ _. refl)
 frame_eq-decides Hardirq Hardirq = (λ _. refl, λ _. refl)
@@ -35,7 +35,7 @@ frame_eq-decides Hardirq Task = (λ h. absurd (true≢false (sym h)), λ h. cc)
 frame_eq-decides Hardirq Softirq = (λ h. absurd (true≢false (sym h)), λ h. cc)
 
 -- two tests decide what their facts together are
-both : {P Q R : Type 0} (r s : Bool) → Decides r P → Decides s Q → (P × Q → R) → (R → P × Q) → Decides (r && s) R
+pub both : {P Q R : Type 0} (r s : Bool) → Decides r P → Decides s Q → (P × Q → R) → (R → P × Q) → Decides (r && s) R
 both r s d e there back =
     (λ h. let h' = and_parts r s h in there (d.0 h'.0, e.0 h'.1), λ x. and_from r s (d.1 (back x).0) (e.1 (back x).1))
 
@@ -50,7 +50,7 @@ option_eq-decides eq d None (Some b) = (λ h. absurd (true≢false (sym h)), λ 
 option_eq-decides eq d (Some a) None = (λ h. absurd (true≢false (sym h)), λ h. cc)
 option_eq-decides eq d (Some a) (Some b) = (λ h. ap Some ((d a b).0 h), λ e. let same : a ≡ b = cc in (d a b).1 same)
 
-flags_eq-decides : (a b : Flags) → Decides (flags.eq-value.it a b) (a ≡ b)
+pub flags_eq-decides : (a b : Flags) → Decides (flags.eq-value.it a b) (a ≡ b)
 flags_eq-decides a b =
     both (beq a.hard_on b.hard_on) (beq a.soft_on b.soft_on) (booleans_Decides a.hard_on b.hard_on) (booleans_Decides a.soft_on b.soft_on)
     (λ p i. record { hard_on = p.0 i; soft_on = p.1 i }) (λ e. (λ i. (e i).hard_on, λ i. (e i).soft_on))

@@ -1,8 +1,13 @@
-use Rattle.ld_run.proofs.Names.{IsSeatOf, keys_of, view}
-use Rattle.ld_run.proofs.Walking.{IsWalking}
+use Rattle.ld_run.proofs.Names.{◌-◌, ◌≡◌, ◌≤◌, AreKnown, IfSome, IsSeatOf, IsWalking, Some, keys_of, length, slice_get, view}
 use Rattle.ld_run.proofs.worker.walk_trace.Given as goal
 
--- the events so far were allowed, and the facts of their chains are put or seen
-abbrev pub invariant-loop-place : goal.invariant-loop-place
-invariant-loop-place g l =
-    IsSeatOf l.board l.seat × IsWalking (keys_of l.board) (view l.initial.seat) (view l.seat) l.events l.place l.state l.number
+-- the events so far were walked, what is known of steps is known, and the state has the number, if there is one
+abbrev pub invariant-loop-here : goal.invariant-loop-here
+invariant-loop-here g l =
+    IsSeatOf l.board l.seat × (l.walk.place ≤ length l.events) × (l.walk.number ≤ l.walk.place)
+    × AreKnown (keys_of l.board) (view l.seat) l.known
+    × IfSome l.here (λ n. slice_get l.known.states.items n ≡ Some l.walk.state)
+    × IsWalking (keys_of l.board) (view l.fn.seat) (view l.seat) l.events l.walk
+
+abbrev pub decreases-loop-here : goal.decreases-loop-here
+decreases-loop-here g l = length l.events - l.walk.place

@@ -1,0 +1,52 @@
+//! Whether a worker's chains are mostly new.
+
+use ld_book::LockedBook;
+
+// By how much a new chain raises the level; one that isn't new lowers it by 1. So it rises if more than a third are new.
+const RAISED: u64 = 2;
+
+// The highest level.
+const HIGHEST: u64 = 128;
+
+// From this level on the chains are mostly new.
+const HIGH: u64 = 96;
+
+// From this level down they no longer are.
+const LOW: u64 = 32;
+
+// How many of a worker's last chains were new, as a level.
+#[derive(Clone, Copy)]
+pub(crate) struct News {
+    level: u64,
+    are_many: bool,
+}
+
+impl News {
+    // None were.
+    pub(crate) fn new() -> News {
+        News {
+            level: 0,
+            are_many: false,
+        }
+    }
+
+    // One more was. If they are mostly new by now, the book is told.
+    #[inline(always)]
+    pub(crate) fn raise(&mut self, book: &LockedBook) {
+        self.level = self.level.saturating_add(RAISED).min(HIGHEST);
+        if self.level >= HIGH && !self.are_many {
+            self.are_many = true;
+            book.tell_crowd(true);
+        }
+    }
+
+    // So many more weren't.
+    #[inline(always)]
+    pub(crate) fn lower(&mut self, book: &LockedBook, chains: u64) {
+        self.level = self.level.saturating_sub(chains);
+        if self.level <= LOW && self.are_many {
+            self.are_many = false;
+            book.tell_crowd(false);
+        }
+    }
+}
