@@ -270,6 +270,10 @@ pub none_left : (words : List ℕ) (at k : ℕ) → get_or words (at / 64) 0 / 2
     has_bit words k ≡ false
 none_left words at k none la lb = bit_from words at k la lb ∙ rw (none, bit_at-zero (k - at)) refl
 
+-- no bit of a word without one
+pub none_in : (words : List ℕ) (i k : ℕ) → get_or words i 0 ≡ 0 → 64 * i ≤ k → k < 64 * (i + 1) → has_bit words k ≡ false
+none_in words i k none la lb = rw ((let at : k / 64 ≡ i = omega (arith, la, lb) in at), none, bit_at-zero (k % 64)) refl
+
 pub record IsFirstFrom (words : List ℕ) (at bit : ℕ) : Type 0 where
   pub near : bit < at + (64 - at % 64)
   pub set : has_bit words bit ≡ true

@@ -7,7 +7,9 @@ pub mod Words
 pub mod Uniting
 pub mod WordTables
 pub mod Gathering
+pub mod GrowingBy
 pub mod Meeting
 pub mod LawProofs
+pub mod Leading
 pub mod RenamedChains
 pub mod Renaming

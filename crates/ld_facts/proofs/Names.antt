@@ -10,7 +10,7 @@ pub use Rattle.std.proofs.lemmas.Option.{none-some, same_Some, slice_get-get_or,
 pub use Rattle.std.specs.Int.{bit_at, bit_not, trailing_zeros}
 pub use Rattle.std.specs.List.{zip}
 pub use Rattle.std.specs.Option.{ForSome}
-pub use Rattle.std.specs.Prelude.{Any, Contains, IfSome, IsFalse, IsTrue, map, slice_get}
+pub use Rattle.std.specs.Prelude.{All, Any, Contains, IfSome, IsFalse, IsTrue, map, slice_get}
 pub use Rattle.ld_facts.specs.ChainFacts.{chain_fact, dependency_from, fact_slots, mark_by_opening, mark_by_taking, mark_if, mark_of_held}
 pub use Rattle.ld_facts.specs.Counting.{IsNumberOf}
 pub use Rattle.ld_facts.specs.FactBits.{AreCounted, AreFacts, FactBelow, FactParts, HasFact, SetsBit, UnitesWord, dependency_count, mark_count, rows_allowed, rows_for}
@@ -22,7 +22,7 @@ pub use Rattle.ld_facts.specs.Laws.Bits.{count_below-le, count_below-one_more, c
 pub use Rattle.ld_facts.specs.Laws.Chains.{FactBelow-chain, chain_fact-complete, chain_fact-sound, chains_give_what_they_have, later_slots_are_of_newer_locks, mark_if-some, slots_have_what_is_given}
 pub use Rattle.ld_facts.specs.Laws.Counting.{IsNumberOf-unique, dependency_count-le, listed, listed-from, listed-has, listed-length, listed-once, mark_count-le}
 pub use Rattle.ld_facts.specs.Laws.Growing.{Adds-grown, Grown, Grown-add, Grown-same, Grown-start, Holds-grown, StandsIn-cases, StandsIn-later}
-pub use Rattle.ld_facts.specs.Laws.Numbers.{dependency-lt, dependency_of, dependency_of-is, fact_number-lt, fact_number-same, fact_of, kind_of, mark-lt, mark_of, marked_of, marked_of-is}
+pub use Rattle.ld_facts.specs.Laws.Numbers.{dependency-lt, dependency_of, dependency_of-is, fact_number-lt, fact_number-same, fact_of, kind_number-lt, kind_number-of, kind_of, mark-lt, mark_of, marked_of, marked_of-is}
 pub use Rattle.ld_facts.specs.Laws.Words.{bit_or-bits, bits_if, bits_if-other, bits_if-same, bits_of-append, or_assoc, or_zero}
 pub use Rattle.ld_facts.specs.Numbers.{bit_total, dependency_total, fact_number, mark_index, mark_total}
 pub use Rattle.ld_facts.specs.Renaming.{Image, ImageBelow, RenamedFactsAreTheImage, TraceHasBy, TracesHaveBy, chain_by, lock_by}

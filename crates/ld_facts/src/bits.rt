@@ -96,9 +96,25 @@ pub(crate) fn first_between(words: &[u64], start: usize, end: usize) -> Option<u
             let bit = at + rest.trailing_zeros() as usize;
             return if bit < end { Some(bit) } else { None };
         }
-        at += 64 - at % 64;
+        at = 64 * next_filled(words, at / 64 + 1, (end + 63) / 64);
     }
     None
+}
+
+// The number of the first word from `first` on and before `end` in which a bit is set, or `end` if there is none.
+fn next_filled(words: &[u64], first: usize, end: usize) -> usize
+    requires order { first ≤ end }
+    requires within { end ≤ length words.now }
+    ensures onwards { first ≤ result }
+    ensures within { result ≤ end }
+    ensures none { (k : ℕ) → 64 * first ≤ k → k < 64 * result → IsFalse (has_bit words.now k) }
+{
+    for i in first..end {
+        if words[i] != 0 {
+            return i;
+        }
+    }
+    end
 }
 
 // Whether bit `k` of the word is set.

@@ -1,6 +1,6 @@
 //! Facts about lock keys, as bits in words of 64.
 
-ghost use Rattle.std.specs.Prelude.{◌≡◌, ℕ, ◌+◌, ◌*◌, ◌<◌, ◌≤◌, ◌↔◌, IsTrue, IsFalse, IsNone, IfOk, IfSome, not, [], ◌∷◌, length, slice_get};
+ghost use Rattle.std.specs.Prelude.{◌≡◌, ℕ, ◌+◌, ◌*◌, ◌<◌, ◌≤◌, ◌↔◌, IsTrue, IsFalse, IsNone, All, IfOk, IfSome, not, [], ◌∷◌, length, slice_get, slice_index};
 ghost use Rattle.ld_task.specs.Chains.{ChainKeysBelow};
 ghost use Rattle.ld_facts.specs.Inside.Bits.{has_bit};
 ghost use Rattle.ld_facts.specs.Numbers.{bit_total, dependency_total};
@@ -8,6 +8,7 @@ ghost use Rattle.ld_facts.specs.Facts.{ChainHas, AreSame, Holds, Adds, Dependenc
 ghost use Rattle.ld_facts.specs.FactBits.{HasFact, FactBelow, SetsBit, UnitesWord, dependency_count, mark_count, rows_allowed, rows_for};
 ghost use Rattle.ld_facts.specs.WordPairs.{word_total, NonePast, PairsHave};
 ghost use Rattle.ld_facts.specs.Counting.{IsNumberOf};
+ghost use Rattle.ld_facts.specs.Renaming.{Image};
 ghost use Rattle.ld_task.specs.declared.kind.Kind.{Kind};
 ghost use Rattle.ld_facts.specs.Inside.Rows.{IsNextFrom, row_place};
 ghost use Rattle.ld_facts.specs.declared.fact.Fact.{Fact};
@@ -147,6 +148,21 @@ impl Facts {
         fresh
     }
 
+    /// Adds the facts of a chain by what its keys are called: the key at place `k` of `others` for the key `k`. The list has a
+    /// place for each key of the chain, and its keys are below the bound.
+    pub fn add_chain_by(&mut self, chain: &Chain, others: &[u16])
+        requires all { ChainKeysBelow (length others.now) chain.now }
+        requires below { All (λ key. key < self.old.keys) others.now }
+        ensures keys { self.new.keys ≡ self.old.keys }
+        ensures adds { Adds (HasFact self.old) (HasFact self.new) (Image (slice_index others.now) (ChainHas chain.now)) }
+    {
+        for slot in 0..chain_facts::fact_slots(chain) {
+            if let Some(fact) = chain_facts::fact_in_slot(chain, slot) {
+                self.add(fact.at_places(others));
+            }
+        }
+    }
+
     /// Adds all facts of `other`, which is about the same keys.
     pub fn unite(&mut self, other: &Facts)
         requires { self.old.keys ≡ other.now.keys }
@@ -210,6 +226,35 @@ impl Facts {
         let end = row + usize::from(self.keys) * 4;
         let bit = bits::first_between(&self.bits, row + n, end)?;
         Some(Dependency::at(from, bit - row))
+    }
+
+    /// Whether there is a dependency from the key, to whichever other.
+    pub fn leads_on(&self, from: u16) -> bool
+        ensures { IsTrue result ↔ ((to : ℕ) × (kind : Kind) × HasFact self.now (Fact.Dependency from to kind)) }
+    {
+        if from >= self.keys {
+            return false;
+        }
+        let row = usize::from(self.keys) * 4;
+        let start = usize::from(from) * row;
+        match bits::first_between(&self.bits, start, start + row) {
+            Some(_) => true,
+            None => false,
+        }
+    }
+
+    /// Whether there is a dependency from the one key to the other, of whichever kind.
+    pub fn leads(&self, from: u16, to: u16) -> bool
+        ensures { IsTrue result ↔ ((kind : Kind) × HasFact self.now (Fact.Dependency from to kind)) }
+    {
+        if from >= self.keys || to >= self.keys {
+            return false;
+        }
+        let start = (usize::from(from) * usize::from(self.keys) + usize::from(to)) * 4;
+        match bits::first_between(&self.bits, start, start + 4) {
+            Some(_) => true,
+            None => false,
+        }
     }
 
     /// The number of the first dependency whose number is `n` or more.

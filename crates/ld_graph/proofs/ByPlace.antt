@@ -1,5 +1,5 @@
 -- Facts taken over by the keys of a list, each key by its place there, in the order of their numbers.
-use Rattle.ld_graph.proofs.Names.{◌*◌, ◌+◌, ◌<◌, ◌∙◌, ◌≡◌, ◌≤◌, Adds, AreSame, Fact, Kind, ap, cases_lt, kind_number-lt, FactBelow, FactParts, HasFact, List, Renumbered, arith, bit_total, cases_eq, fact_by, fact_number, fact_number-lt, fact_number-same, inl, inr, length, slice_index, suc, subst, sym, ℕ}
+use Rattle.ld_graph.proofs.Names.{◌*◌, ◌+◌, ◌<◌, ◌∙◌, ◌≡◌, ◌≤◌, Adds, AreSame, Fact, Kind, ap, cases_lt, kind_number-lt, FactBelow, FactParts, HasFact, List, Renumbered, arith, bit_total, cases_eq, fact_by, fact_number, fact_number-lt, fact_number-same, kind_number, inl, inr, length, slice_index, suc, subst, sym, ℕ}
 use Rattle.ld_facts.specs.declared.fact.Fact.TheVariants.{Dependency, Marked}
 use Rattle.std.proofs.Math.Nat.{mul-le-mul_right, mul_assoc, suc-mul}
 use Rattle.ld_graph.specs.Inside.TakingOver.{IsTakenOver}
@@ -90,6 +90,40 @@ module _ (facts : FactParts) (keys : List ℕ) where
       ]),
     );
   }
+
+  -- nothing is taken over from a key to another that no dependency leads to from it
+  pub TakenOver-pair : (now : FactParts) (place other : ℕ) → place < length keys → other < length keys →
+      ¬ ((kind : Kind) × HasFact facts (Dependency (slice_index keys place) (slice_index keys other) kind)) →
+      IsTakenOver facts now keys (place * (length keys * 4) + other * 4) → IsTakenOver facts now keys (place * (length keys * 4) + (other + 1) * 4)
+  TakenOver-pair now place other within among none was = record {
+    keys = was.keys;
+    exact = λ x. (
+      (λ h. let (there, less) = (was.exact x).0 h in (there, omega (arith, less))),
+      (λ (there, less). elim (cases_lt (fact_number (length keys) x) (place * (length keys * 4) + other * 4)) [
+        | inl before ↦ (was.exact x).1 (there, before)
+        | inr after ↦ absurd (at_pair x there less after)
+      ]),
+    );
+  }
+    where
+      at_pair : (x : Fact) → Renumbered (HasFact facts) keys x → fact_number (length keys) x < place * (length keys * 4) + (other + 1) * 4 →
+          place * (length keys * 4) + other * 4 ≤ fact_number (length keys) x → ⊥
+      at_pair x there less after =
+          let (to, kind, is) = in_row place within x there.0 (omega (arith, after)) (omega (arith, less, among)) in
+          let number : fact_number (length keys) x ≡ (place * length keys + to) * 4 + kind_number kind = ap (fact_number (length keys)) is in
+          let to_is : to ≡ other = omega (arith, less, after, number, kind_number-lt kind, mul_assoc place (length keys) 4) in
+          none (
+            kind,
+            subst (λ k. HasFact facts (Dependency (slice_index keys place) (slice_index keys k) kind)) to_is
+                (subst (λ z. HasFact facts (fact_by (slice_index keys) z)) is there.1),
+          )
+
+  -- the numbers of the dependencies of a pair
+  pub pair-at : (place other : ℕ) → (place * length keys + other) * 4 ≡ place * (length keys * 4) + other * 4
+  pair-at place other = omega (arith, mul_assoc place (length keys) 4)
+
+  pub pairs-end : (place : ℕ) → place * (length keys * 4) + length keys * 4 ≡ (place + 1) * (length keys * 4)
+  pairs-end place = row-after place
 
   pub AreSame-all : (now : FactParts) (n : ℕ) → n ≡ bit_total (length keys) → IsTakenOver facts now keys n →
       AreSame (HasFact now) (Renumbered (HasFact facts) keys)

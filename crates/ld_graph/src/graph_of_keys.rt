@@ -1,12 +1,11 @@
-//! The graph of the facts among some keys, each key by its place in a list of them.
+//! The graph of the facts among some keys, each key by its place in a list of them. Most keys of a program have no dependency, and
+//! lead to few others: what has no dependency is passed over at once.
 
-ghost use Rattle.std.specs.Prelude.{◌≡◌, ◌≤◌, ℕ, IfOk, IsFalse, length};
+ghost use Rattle.std.specs.Prelude.{◌≡◌, ◌+◌, ◌*◌, ◌<◌, ◌≤◌, IfOk, length};
 ghost use Rattle.ld_facts.specs.FactBits.{HasFact};
 ghost use Rattle.ld_facts.specs.Facts.{AreSame};
 ghost use Rattle.ld_facts.specs.Numbers.{bit_total};
 ghost use Rattle.ld_facts.specs.Renumbered.{Renumbered};
-ghost use Rattle.ld_facts.specs.declared.fact.Fact.{Fact};
-ghost use Rattle.ld_task.specs.declared.kind.Kind.{Kind};
 ghost use Rattle.ld_graph.specs.Inside.TakingOver.{IsTakenOver};
 ghost use Rattle.ld_trace.specs.declared.key_id.TheConstants.{GRAPH_KEYS};
 
@@ -24,14 +23,28 @@ impl Graph {
     {
         let places = keys.len() as u16;
         let mut graph = Graph::new(alloc, places)?;
-        let row = keys.len() * 4;
         for place in 0..keys.len() {
-            if may_lead_from(facts, keys[place]) {
-                graph.take_over(facts, keys, place * row, place * row + row);
+            if facts.leads_on(keys[place]) {
+                graph.take_over_row(facts, keys, place);
             }
         }
-        graph.take_over(facts, keys, keys.len() * row, fact_total(places));
+        graph.take_over(facts, keys, keys.len() * keys.len() * 4, fact_total(places));
         Ok(graph)
+    }
+
+    // Takes over the dependencies from the key at this place, after those from the places before it.
+    fn take_over_row(&mut self, facts: &Facts, keys: &[u16], place: usize)
+        requires few { length keys.now ≤ GRAPH_KEYS }
+        requires within { place < length keys.now }
+        requires before { IsTakenOver facts.now self.old.facts keys.now (place * (length keys.now * 4)) }
+        ensures { IsTakenOver facts.now self.new.facts keys.now ((place + 1) * (length keys.now * 4)) }
+    {
+        for other in 0..keys.len() {
+            if facts.leads(keys[place], keys[other]) {
+                let first = (place * keys.len() + other) * 4;
+                self.take_over(facts, keys, first, first + 4);
+            }
+        }
     }
 
     // Takes over the facts whose numbers, by places, are from `first` on and below `end`.
@@ -49,17 +62,5 @@ impl Graph {
                 self.add(fact);
             }
         }
-    }
-}
-
-// Whether there may be a dependency from the key. Most keys of a program have none, and their rows are passed over at once.
-fn may_lead_from(facts: &Facts, key: u16) -> bool
-    ensures { IsFalse result → (to : ℕ) (kind : Kind) → ¬ HasFact facts.now (Fact.Dependency key to kind) }
-{
-    let row = usize::from(facts.keys()) * 4;
-    let start = usize::from(key) * row;
-    match facts.next_dependency(start) {
-        Some(found) => found < start + row,
-        None => false,
     }
 }

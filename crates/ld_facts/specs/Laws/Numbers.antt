@@ -36,7 +36,7 @@ kind_number-lt En = omega arith
 kind_number-lt Sr = omega arith
 kind_number-lt Sn = omega arith
 
-kind_number-of : (n : ℕ) → n < 4 → kind_number (kind_of n) ≡ n
+pub kind_number-of : (n : ℕ) → n < 4 → kind_number (kind_of n) ≡ n
 unfolding kind_of
 kind_number-of zero l = refl
 kind_number-of (suc zero) l = refl

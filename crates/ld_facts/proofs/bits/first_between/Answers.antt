@@ -1,14 +1,17 @@
-use Rattle.ld_facts.proofs.Names.{◌%◌, ◌+◌, ◌/◌, ◌^◌, arith, cases_lt, get_or, inl, inr, refl, trailing_zeros, w64}
+use Rattle.ld_facts.proofs.Names.{◌%◌, ◌+◌, ◌-◌, ◌/◌, ◌^◌, arith, cases_lt, get_or, inl, inr, refl, trailing_zeros, w64}
 use Rattle.ld_facts.proofs.BitLemmas.{none_left, IsFirstFrom, first_left}
 use Rattle.ld_facts.proofs.bits.first_between.Goals as goal
 use Rattle.ld_facts.proofs.bits.first_between.Goals.{Then-rest-ne0}
 
 pub loop-at-preserved : goal.loop-at-preserved
 loop-at-preserved c = record {
-  onwards = let h = c.loop-at.invariant.onwards in omega arith;
+  onwards = let h = c.loop-at.invariant.onwards in let o = c.next_filled-at.ensures.onwards in omega arith;
   none = λ k la lb. elim (cases_lt k c.loop-at.at) [
     | inl before ↦ c.loop-at.invariant.none k la before
-    | inr here ↦ none_left c.args.words.now c.loop-at.at k c.if-rest-ne0.false here lb
+    | inr here ↦ elim (cases_lt k (c.loop-at.at + (64 - c.loop-at.at % 64))) [
+      | inl near ↦ none_left c.args.words.now c.loop-at.at k c.if-rest-ne0.false here near
+      | inr far ↦ c.next_filled-at.ensures.none k (omega (arith, far)) lb
+    ]
   ];
 }
 
