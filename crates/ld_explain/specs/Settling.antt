@@ -31,6 +31,18 @@ abbrev pub IsSure : List Name → Fact → Type 0
 IsSure names (Dependency from to kind) = IsFalse (is_rest (name_at names from).0) × IsFalse (is_rest (name_at names to).0)
 IsSure names (Marked key mark) = IsFalse (is_rest (name_at names key).0)
 
+-- what is settled between types; the type of each lock; and the types' names
+pub record TypeParts : Type 0 where
+  pub types : FactParts
+  pub type_of : List ℕ
+  pub type_names : List Name
+
+-- they are those of these traces, whose keys have these names
+pub record AreTypes (traces : List (List Event)) (names : List Name) (parts : TypeParts) : Type 0 where
+  pub type_names_are : parts.type_names ≡ names_at Types names
+  pub type_of_is : parts.type_of ≡ numbers_at Types names parts.type_names
+  pub types_are : AreSame (HasFact parts.types) (TracesHaveBy (slice_index parts.type_of) traces)
+
 -- facts of single locks, of single locks for sure, and of classes, each if they are settled; those of types; the class and the type of
 -- each lock; and the types' names
 pub record LevelParts : Type 0 where

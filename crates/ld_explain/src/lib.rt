@@ -33,6 +33,6 @@ pub use laws::{circles_of_locks_are_seen, own_names_change_nothing};
 pub use levels::Levels;
 pub use naming::Naming;
 pub use origins::{Origin, Origins};
-pub use settling::SettledLevels;
+pub use settling::{SettledLevels, SettledTypes};
 pub use verdict::{Between, Verdict, count_ranked, has_finding};
 pub use verdicts::verdicts_of;

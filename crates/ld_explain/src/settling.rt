@@ -11,7 +11,8 @@ ghost use Rattle.ld_facts.specs.FactBits.{HasFact};
 ghost use Rattle.ld_facts.specs.Facts.{AreSame};
 ghost use Rattle.ld_facts.specs.Renaming.{Image};
 ghost use Rattle.ld_facts.specs.TraceFacts.{TracesHave};
-ghost use Rattle.ld_explain.specs.Settling.{AreLevels, AreVerdictsAt, Borrows, IsSure};
+ghost use Rattle.ld_graph.specs.Links.{IsClean};
+ghost use Rattle.ld_explain.specs.Settling.{AreLevels, AreTypes, AreVerdictsAt, Borrows, IsSure};
 ghost use Rattle.ld_explain.specs.Inside.Sure.{AreSureNumbers, no_key};
 ghost use Rattle.ld_parts.specs.declared.parting_fault.PartingFault.TheVariants.{TooTangled};
 
@@ -25,6 +26,65 @@ use ld_trace::{KeyId, KeyTable, Level, RawTrace, Renaming, is_rest};
 use std::alloc::{AllocError, Global};
 use std::marker::Model;
 
+/// What is settled between the types of the locks of some traces, and what these are called.
+#[derive(Drop)]
+pub struct SettledTypes {
+    settled: Settled,
+    by_type: Renaming,
+}
+
+impl Model for SettledTypes {
+    ghost use Rattle.ld_explain.specs.Settling.{TypeParts};
+
+    ghost Value = { TypeParts };
+
+    ghost view = { λ s. record {
+      types = s.settled;
+      type_of = s.by_type.keys.items;
+      type_names = s.by_type.names.names;
+    } };
+}
+
+impl SettledTypes {
+    /// Settles these facts of traces by the types of their locks. It fails if more than 256 types lead to one another, or if memory
+    /// is refused.
+    pub fn of(alloc: Global, facts: Facts, by_type: Renaming) -> Result<SettledTypes, PartingFault>
+        ensures value { IfOk result (λ s. s ≡ record { types = facts; type_of = by_type.keys.items; type_names = by_type.names.names }) }
+        ensures tangled { result ≡ Err TooTangled → GRAPH_KEYS < facts.keys }
+    {
+        let settled = settled(alloc, facts)?;
+        Ok(SettledTypes { settled, by_type })
+    }
+
+    /// Whether nothing was found between the types.
+    pub fn is_clean(&self) -> bool
+        ensures { IsTrue result ↔ IsClean (HasFact self.now.types) }
+    {
+        self.settled.is_clean()
+    }
+
+    // What is settled.
+    fn settled(&self) -> &Settled
+        ensures { result.now ≡ self.now.types }
+    {
+        &self.settled
+    }
+
+    // The number of each lock's type.
+    fn type_of(&self) -> &[u16]
+        ensures { result.now ≡ self.now.type_of }
+    {
+        &self.by_type.keys
+    }
+
+    // The names of the types.
+    fn type_names(&self) -> &KeyTable
+        ensures { result.now.names ≡ self.now.type_names }
+    {
+        &self.by_type.names
+    }
+}
+
 /// What is settled about some traces at each level, and what their locks are called there.
 #[derive(Drop)]
 pub struct SettledLevels {
@@ -35,9 +95,8 @@ pub struct SettledLevels {
     // Only if some class isn't a type; otherwise the facts are those of `types`.
     classes: Option<Settled>,
     has_places: bool,
-    types: Settled,
+    types: SettledTypes,
     by_class: Renaming,
-    by_type: Renaming,
 }
 
 impl Model for SettledLevels {
@@ -49,44 +108,54 @@ impl Model for SettledLevels {
     ghost view = { λ s. record {
       locks = s.locks;
       sure = if s.has_several then s.sure else s.locks;
-      classes = if s.has_places then s.classes else Some s.types;
-      types = s.types;
+      classes = if s.has_places then s.classes else Some s.types.types;
+      types = s.types.types;
       class_of = s.by_class.keys.items;
-      type_of = s.by_type.keys.items;
-      type_names = s.by_type.names.names;
+      type_of = s.types.type_of;
+      type_names = s.types.type_names;
     } };
 }
 
 impl SettledLevels {
-    /// Settles these facts of traces at each level of the names of their keys. If the facts between types are clean, nothing will be
-    /// asked of the other levels, and they are left open; so is one at which more than 256 keys lead to one another.
-    ///
-    /// It fails if more than 256 types lead to one another, or if memory is refused.
-    pub fn of(alloc: Global, facts: Facts, names: &KeyTable) -> Result<SettledLevels, PartingFault>
+    /// Those of types alone, between which nothing was found: nothing will be asked of the other levels, and they are left open. It
+    /// fails only if memory is refused.
+    pub fn of_clean_types(
+        alloc: Global,
+        types: SettledTypes,
+        names: &KeyTable,
+    ) -> Result<SettledLevels, AllocError>
+        requires { IsClean (HasFact types.types) }
+        ensures { (traces : List (List Event)) → AreTypes traces names.now.names types → IfOk result (AreLevels traces names.now.names) }
+    {
+        let by_class = Renaming::of(alloc, names, Level::Classes)?;
+        Ok(SettledLevels {
+            locks: None,
+            sure: None,
+            has_several: true,
+            classes: None,
+            has_places: true,
+            types,
+            by_class,
+        })
+    }
+
+    /// Those of types, and of these facts of the same traces at each other level of the names of their keys. A level at which more
+    /// than 256 keys lead to one another is left open. It fails only if memory is refused.
+    pub fn of(
+        alloc: Global,
+        types: SettledTypes,
+        facts: Facts,
+        names: &KeyTable,
+    ) -> Result<SettledLevels, AllocError>
         requires { facts.keys ≡ length names.now.names }
-        ensures ok { (traces : List (List Event)) → AreSame (HasFact facts) (TracesHave traces)
+        ensures { (traces : List (List Event)) → AreTypes traces names.now.names types → AreSame (HasFact facts) (TracesHave traces)
             → IfOk result (AreLevels traces names.now.names) }
-        ensures tangled { result ≡ Err TooTangled → GRAPH_KEYS < length names.now.names }
     {
         ld_facts::renamed_facts_are_the_image();
-        let by_type = Renaming::of(alloc, names, Level::Types)?;
         let by_class = Renaming::of(alloc, names, Level::Classes)?;
         let singles = single_keys(alloc, names)?;
         let has_several = has_several(&singles);
-        let has_places = differ(&by_class.keys, &by_type.keys);
-        let types = settled_by(alloc, &facts, &by_type)?;
-        if types.is_clean() {
-            return Ok(SettledLevels {
-                locks: None,
-                sure: None,
-                has_several: true,
-                classes: None,
-                has_places: true,
-                types,
-                by_class,
-                by_type,
-            });
-        }
+        let has_places = differ(&by_class.keys, types.type_of());
         let classes = classes_unless_types(alloc, &facts, &by_class, has_places)?;
         let sure = sure_unless_all(alloc, &facts, names, &singles, has_several)?;
         let locks = unless_tangled(settled(alloc, facts))?;
@@ -98,7 +167,6 @@ impl SettledLevels {
             has_places,
             types,
             by_class,
-            by_type,
         })
     }
 
@@ -116,11 +184,11 @@ impl SettledLevels {
             classes: if self.has_places {
                 self.classes.as_ref()
             } else {
-                Some(&self.types)
+                Some(self.types.settled())
             },
-            types: &self.types,
+            types: self.types.settled(),
             class_of: &self.by_class.keys,
-            type_of: &self.by_type.keys,
+            type_of: self.types.type_of(),
         }
     }
 
@@ -147,7 +215,7 @@ impl SettledLevels {
     pub fn type_names(&self) -> &KeyTable
         ensures { result.now.names ≡ self.now.type_names }
     {
-        &self.by_type.names
+        self.types.type_names()
     }
 }
 

@@ -70,7 +70,7 @@ impl PictureView<'_> {
     }
 
     // The lines of the dependencies from the key. Marks the keys of the list to which one that is part of a finding leads,
-    // and returns whether there is one.
+    // and returns whether there is one. Most keys have no dependency, and are passed over at once.
     fn add_edges_from(
         self,
         text: &mut Vec<u8>,
@@ -88,6 +88,9 @@ impl PictureView<'_> {
             ⊎ Leads (HasFact self.entry.settled.now) from (slice_index self.entry.keys.now n))) }
         ensures any { IfOk result (λ any. IsTrue any ↔ Any (Leads (HasFact self.entry.settled.now) from) self.entry.keys.now) }
     {
+        if !self.settled.facts().leads_on(from.get()) {
+            return Ok(false);
+        }
         let mut any = false;
         for to in 0..self.keys.len() {
             if self.add_edges_to(text, from, self.keys[to])? {

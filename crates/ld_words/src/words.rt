@@ -12,6 +12,12 @@ use std::alloc::{AllocError, Global};
 /// The program's version.
 pub const VERSION: &str = "0.7.0";
 
+// The last line of the help for what looks for findings, and for what only writes a text.
+const FINDS: &str =
+    "Exit status: 0 if nothing was found, 1 if something was, 2 if the run was refused";
+
+const WRITES: &str = "Exit status: 0 if the text was written, 2 if the run was refused";
+
 /// What a command line asks for.
 #[derive(Debug, Drop)]
 pub enum Line<'a> {
@@ -113,6 +119,7 @@ fn many_command<'a>(alloc: Global, name: &'a str, about: &'a str) -> Result<Comm
 {
     Command::new(alloc, name)
         .about(about)
+        .after_help(FINDS)
         .arg(workers_option(alloc))?
         .arg(flag(alloc, "many", "Take up to 8192 lock keys instead of 256"))
 }
@@ -125,7 +132,7 @@ fn check_command<'a>(alloc: Global) -> Result<Command<'a>, AllocError>
     many_command(
         alloc,
         "check",
-        "Reads traces and writes the report of their lock order",
+        "Report the lock order of traces, and which of it can deadlock",
     )?
     .arg(files_argument(alloc))
 }
@@ -138,7 +145,7 @@ fn explain_command<'a>(alloc: Global) -> Result<Command<'a>, AllocError>
     many_command(
         alloc,
         "explain",
-        "Reads traces and writes what was found, with the records that it comes from",
+        "Explain each finding by the records that cause it",
     )?
     .arg(flag(alloc, "json", "Write the findings as JSON"))?
     .arg(flag(
@@ -162,7 +169,7 @@ fn graph_command<'a>(alloc: Global) -> Result<Command<'a>, AllocError>
     many_command(
         alloc,
         "graph",
-        "Reads traces and writes their lock order as a graph in the language DOT",
+        "Draw the lock order as a graph in the language DOT",
     )?
     .arg(flag(alloc, "findings", "Show only what is part of a finding"))?
     .arg(files_argument(alloc))
@@ -174,7 +181,8 @@ fn condense_command<'a>(alloc: Global) -> Result<Command<'a>, AllocError>
     ensures local { IfOk result (λ command. (out-Command command).has_globals ≡ false) }
 {
     Command::new(alloc, "condense")
-        .about("Reads traces and writes one trace that has their lock order and usage")
+        .about("Write one small trace with the lock order and usage of all traces")
+        .after_help(WRITES)
         .arg(workers_option(alloc))?
         .arg(files_argument(alloc))
 }
@@ -185,7 +193,8 @@ fn chains_command<'a>(alloc: Global) -> Result<Command<'a>, AllocError>
     ensures local { IfOk result (λ command. (out-Command command).has_globals ≡ false) }
 {
     Command::new(alloc, "chains")
-        .about("Reads a trace and writes its chains")
+        .about("Write the chains of a trace")
+        .after_help(WRITES)
         .arg(file_argument(alloc))
 }
 
@@ -207,7 +216,8 @@ fn command<'a>(alloc: Global) -> Result<Command<'a>, AllocError>
     ensures { IfOk result (λ command. app_of command ≡ lockdep_app) }
 {
     let app = Command::new(alloc, "lockdep")
-        .about("Checks recorded traces of tasks for lock orders that can deadlock")
+        .about("Check recorded traces of tasks for lock orders that can deadlock")
+        .after_help(FINDS)
         .version(VERSION)
         .subcommand_required(true);
     let app = with_subcommand(app, check_command(alloc))?;

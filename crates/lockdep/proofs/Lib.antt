@@ -2,3 +2,4 @@ pub mod Names
 pub mod CondensedLemmas
 pub mod FaultLemmas
 pub mod ProgramLemmas
+pub mod TypeLemmas

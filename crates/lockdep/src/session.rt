@@ -87,14 +87,13 @@ impl Session {
         read_into(self.alloc, reader, &mut self.keys, &mut self.traces)
     }
 
-    /// Reads the traces of the first `count` sources by several threads, in groups of `group`, and keeps them after the others. The
-    /// result is that of reading them in turn by `add`, whatever the number of threads and the size of the groups, but that what fails
-    /// ahead of several sources and then succeeds in its turn isn't told; see `read_all`.
+    /// Reads the traces of the first `count` sources by several threads, and keeps them after the others. The result is that of reading
+    /// them in turn by `add`, whatever the number of threads, but that what fails ahead of its turn and then succeeds isn't told; see
+    /// `read_all`.
     pub fn add_all<R: Threads + Sync, S: Sources + Sync>(
         &mut self,
         rt: &R,
         threads: usize,
-        group: usize,
         sources: &S,
         count: usize,
     ) -> Result<(), Unread>
@@ -109,7 +108,6 @@ impl Session {
             rt,
             self.alloc,
             threads,
-            group,
             sources,
             count,
             &mut self.keys,

@@ -2,7 +2,6 @@
 
 mod chains;
 mod gates;
-mod groups;
 mod helpers;
 mod long;
 mod programs;

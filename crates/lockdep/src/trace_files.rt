@@ -23,23 +23,8 @@ use std::thread::Threads;
 // With fewer bytes for each, more threads take as long as one.
 const BYTES_PER_THREAD: u64 = 262_144;
 
-// The same for each that reads pieces of one file.
-const BYTES_PER_PIECE_THREAD: u64 = 524_288;
-
-// More threads for one file would need too much room for what they read.
-const MOST_FOR_ONE: u64 = 8;
-
 // Of how many files the size is asked for.
 const SIZES_ASKED: usize = 64;
-
-// Beside reading a larger file, making a CSV reader for it costs little.
-const SMALL_FILE: u64 = 16_384;
-
-// About how many bytes the files of a group have together.
-const BYTES_PER_GROUP: u64 = 65_536;
-
-// The most files of a group.
-const FILES_PER_GROUP: u64 = 64;
 
 /// How the traces of files are added to those of a session.
 pub trait Adds {
@@ -80,7 +65,7 @@ impl<R: Files> Adds for InTurn<'_, R> {
 }
 
 /// Adds the traces of the files as `Adds` says, read by as many of the workers as are worth their threads: later files may be opened
-/// before an earlier one was read whole. Small files are read in groups, by one worker too.
+/// before an earlier one was read whole.
 pub(crate) fn add_side_by_side<'a, T: Threads + Sync, R: Files + Sync>(
     threads: &T,
     rt: &R,
@@ -98,11 +83,9 @@ where
     ensures named { IfErr result (λ refusal. (place : ℕ) × (length session.new.traces ≡ length session.old.traces + place)
         × NamesFileAt (map (λ file. file.now) files.entry.now) place refusal) }
 {
-    let mean = mean_size(rt, files);
-    let count = useful_threads(mean, workers, files.len());
-    let group = useful_group(mean, count, files.len());
+    let count = useful_threads(mean_size(rt, files), workers, files.len());
     let sources = NamedFiles { rt, files };
-    match session.add_all(threads, count, group, &sources, files.len()) {
+    match session.add_all(threads, count, &sources, files.len()) {
         Ok(()) => Ok(()),
         Err(unread) => Err(unread_refusal(files, unread)),
     }
@@ -176,37 +159,14 @@ fn mean_size<R: Files>(rt: &R, files: &[&str]) -> u64 {
 }
 
 // How many threads are worth it for this number of files of this mean size: one for every 256 KiB, and no more than there are workers and
-// files, unless there is one file, of which each thread reads pieces. For a number of workers that a run refuses it is one.
+// files. For a number of workers that a run refuses it is one.
 fn useful_threads(mean: u64, workers: u16, files: usize) -> usize {
-    if workers < 2 || workers > MAX_WORKERS || files == 0 {
+    if workers < 2 || workers > MAX_WORKERS || files < 2 {
         return 1;
-    }
-    if files == 1 {
-        return useful_for_one(mean, workers);
     }
     let shares = mean.saturating_mul(files as u64) / BYTES_PER_THREAD;
     let threads = shares.saturating_add(1).min(u64::from(workers)) as usize;
     threads.min(files)
-}
-
-// How many files a thread claims at a time, and reads by one CSV reader: as many as have 64 KiB together, at most 64, and few enough
-// that each thread claims four times. One, unless the files are small.
-pub(crate) fn useful_group(mean: u64, threads: usize, files: usize) -> usize
-    ensures { (1 ≤ result) × (result ≤ 64) }
-{
-    if mean > SMALL_FILE {
-        return 1;
-    }
-    let fitting = (BYTES_PER_GROUP / mean.max(1)).min(FILES_PER_GROUP) as usize;
-    let fair = files / threads.saturating_mul(4).max(1);
-    fitting.min(fair).max(1)
-}
-
-// The same for a single file of this size: one for every 512 KiB, and no more than 8.
-fn useful_for_one(size: u64, workers: u16) -> usize {
-    let shares = size / BYTES_PER_PIECE_THREAD;
-    let most = u64::from(workers).min(MOST_FOR_ONE);
-    shares.saturating_add(1).min(most) as usize
 }
 
 // The refusal of the file at whose place reading stopped.

@@ -4,7 +4,7 @@ ghost use Rattle.std.specs.Prelude.{◌≡◌, ◌<◌, ◌≤◌, Err, List, Op
 ghost use Rattle.ld_trace.specs.Events.{KeysBelow};
 ghost use Rattle.ld_task.specs.WellFormed.{IsWellFormed};
 ghost use Rattle.ld_run.specs.Runs.{IsCrew};
-ghost use Rattle.ld_explain.specs.Settling.{AreLevels};
+ghost use Rattle.ld_explain.specs.Settling.{AreLevels, AreTypes};
 ghost use Rattle.ld_text.specs.Words.{Text};
 ghost use Rattle.ld_text.specs.declared.findings.Format.{Format};
 ghost use Rattle.ld_text.specs.WriteFaults.{StopsWriting};
@@ -13,16 +13,17 @@ ghost use Rattle.lockdep.specs.Inside.Tangled.{fault_of_parting};
 
 use crate::fault::ReportFault;
 use crate::settled::run_fault;
-use ld_explain::{SettledLevels, has_finding};
+use ld_explain::{SettledLevels, SettledTypes, has_finding};
 use ld_parts::PartingFault;
-use ld_run::{MAX_TRACES, RunFault, facts_of};
+use ld_run::{MAX_TRACES, RunFault, facts_at, facts_of};
 use ld_text::{Format, WriteFault, verdicts_of_traces, write_verdicts};
-use ld_trace::{KeyTable, RawTrace};
+use ld_trace::{KeyTable, Level, RawTrace};
 use std::alloc::Global;
 use std::io::Write;
 use std::thread::Threads;
 
-// The facts of the traces, settled at each level of what their locks are called.
+// The facts of the traces, settled at each level of what their locks are called. Each circle of single locks has an image among their
+// types, so if nothing was found between these, the facts of single locks aren't gathered.
 fn levels_of<R: Threads + Sync>(
     rt: &R,
     alloc: Global,
@@ -36,12 +37,43 @@ fn levels_of<R: Threads + Sync>(
     ensures refused { IfErr result (λ fault. (known : Option (List ℕ)) (format : Format) (files : List Text)
         → StopsVerdicts format files keys.now.names traces.now workers known known fault) }
 {
+    let types = types_of(rt, alloc, workers, traces, keys)?;
+    if types.is_clean() {
+        return match SettledLevels::of_clean_types(alloc, types, keys) {
+            Ok(levels) => Ok(levels),
+            Err(_) => Err(ReportFault::Run(RunFault::Memory)),
+        };
+    }
     let facts = match facts_of(rt, alloc, traces, keys.len() as u16, workers) {
         Ok(facts) => facts,
         Err(fault) => return Err(run_fault(fault, traces)),
     };
-    match SettledLevels::of(alloc, facts, keys) {
+    match SettledLevels::of(alloc, types, facts, keys) {
         Ok(levels) => Ok(levels),
+        Err(_) => Err(ReportFault::Run(RunFault::Memory)),
+    }
+}
+
+// The facts of the traces, settled between the types of their locks.
+fn types_of<R: Threads + Sync>(
+    rt: &R,
+    alloc: Global,
+    workers: u16,
+    traces: &[RawTrace],
+    keys: &KeyTable,
+) -> Result<SettledTypes, ReportFault>
+    requires { All (KeysBelow (length keys.now.names)) traces.now }
+    ensures types { IfOk result (AreTypes traces.now keys.now.names) }
+    ensures ok { OnOk result (IsCrew workers × (length traces.now ≤ MAX_TRACES) × All IsWellFormed traces.now) }
+    ensures refused { IfErr result (λ fault. (known : Option (List ℕ)) (format : Format) (files : List Text)
+        → StopsVerdicts format files keys.now.names traces.now workers known known fault) }
+{
+    let (facts, by_type) = match facts_at(rt, alloc, traces, keys, Level::Types, workers) {
+        Ok(found) => found,
+        Err(fault) => return Err(run_fault(fault, traces)),
+    };
+    match SettledTypes::of(alloc, facts, by_type) {
+        Ok(types) => Ok(types),
         Err(fault) => Err(ReportFault::Run(fault_of_parting(fault))),
     }
 }

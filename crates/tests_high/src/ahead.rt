@@ -134,27 +134,18 @@ fn are_named(names: &[&str], keys: &KeyTable) -> bool {
     names.len() == keys.len()
 }
 
-// Whether this many threads, in groups of this size, read of the sources the traces that are written like this, are stopped like this
-// at the next one, and leave these names.
+// Whether this many threads read of the sources the traces that are written like this, are stopped like this at the next one, and leave
+// these names.
 pub(crate) fn are_read<R: Threads + Sync, S: Sources + Sync>(
     rt: &R,
     alloc: Global,
-    (threads, group): (usize, usize),
+    threads: usize,
     (sources, count): (&S, usize),
     (written, stop, names): (&[&str], Stop, &[&str]),
 ) -> Option<bool> {
     let mut keys = KeyTable::new(alloc).ok()?;
     let mut traces = Vec::new(alloc);
-    let read = read_all(
-        rt,
-        alloc,
-        threads,
-        group,
-        sources,
-        count,
-        &mut keys,
-        &mut traces,
-    );
+    let read = read_all(rt, alloc, threads, sources, count, &mut keys, &mut traces);
     let wanted = match stop {
         Some((kind, at)) => Err(Unread {
             place: written.len(),
@@ -182,7 +173,7 @@ fn reads<R: Threads + Wait + Sync + Abort>(
         in_turn: AtomicUsize::new(0),
     };
     let wanted = (texts.get(..count)?, stop, names);
-    let right = are_read(rt, alloc, (threads, 1), (&sources, texts.len()), wanted)?;
+    let right = are_read(rt, alloc, threads, (&sources, texts.len()), wanted)?;
     let met = sources.met.load(Ordering::SeqCst);
     Some((right, met, sources.in_turn.load(Ordering::SeqCst)))
 }
@@ -224,26 +215,11 @@ impl Sources for InTurn {
     }
 }
 
-// How many of 4,096 sources have the trace that is at its place, read by this many threads in groups of this size.
-fn right_ones<R: Threads + Sync>(
-    rt: &R,
-    alloc: Global,
-    threads: usize,
-    group: usize,
-) -> Option<usize> {
+// How many of 4,096 sources have the trace that is at its place, read by this many threads.
+fn right_ones<R: Threads + Sync>(rt: &R, alloc: Global, threads: usize) -> Option<usize> {
     let mut keys = KeyTable::new(alloc).ok()?;
     let mut traces = Vec::new(alloc);
-    read_all(
-        rt,
-        alloc,
-        threads,
-        group,
-        &InTurn,
-        4096,
-        &mut keys,
-        &mut traces,
-    )
-    .ok()?;
+    read_all(rt, alloc, threads, &InTurn, 4096, &mut keys, &mut traces).ok()?;
     let events = traces.iter().map(|trace: &RawTrace| trace.len());
     Some(
         events
@@ -255,7 +231,7 @@ fn right_ones<R: Threads + Sync>(
 
 #[test]
 fn as_many_as_a_run_takes_are_read(rt: HostRuntime) {
-    for (threads, group) in [(1, 1), (1, 64), (4, 1)] {
-        assert_eq!(rt; right_ones(&rt, rt.alloc(), threads, group), Some(4096));
+    for threads in [1, 4] {
+        assert_eq!(rt; right_ones(&rt, rt.alloc(), threads), Some(4096));
     }
 }

@@ -12,8 +12,9 @@ use tests_low::steps::{A, B, last_chain};
 const ASKED: usize = 50_000;
 
 // Whether the book of both orders of two locks is never said to be clean, though another thread nearly always has it.
-fn is_never_clean<R: Threads + Wait + Sync>(rt: &R, alloc: Global) -> Option<bool> {
+fn is_never_clean<R: Threads + Wait + Sync>(rt: &R, alloc: Global, is_crowd: bool) -> Option<bool> {
     let book = LockedBook::new(Book::new(alloc, 2, 2).ok()?);
+    book.tell_crowd(is_crowd);
     book.record(rt, 0, last_chain(&[Write(A), Write(B)])?).ok()?;
     book.record(rt, 1, last_chain(&[Write(B), Write(A)])?).ok()?;
     let ask = &|_: usize| -> bool { (0..ASKED).any(|_| book.is_clean(rt)) };
@@ -23,5 +24,7 @@ fn is_never_clean<R: Threads + Wait + Sync>(rt: &R, alloc: Global) -> Option<boo
 
 #[test]
 fn a_book_that_another_thread_has_is_as_unclean(rt: HostRuntime) {
-    assert_eq!(rt; is_never_clean(&rt, rt.alloc()), Some(true));
+    for is_crowd in [false, true] {
+        assert_eq!(rt; is_never_clean(&rt, rt.alloc(), is_crowd), Some(true));
+    }
 }

@@ -8,14 +8,14 @@ mod boards;
 #[cfg(test)]
 mod books;
 #[cfg(test)]
-mod grouped;
+mod by_lines;
 #[cfg(test)]
 mod levels;
 #[cfg(test)]
 mod lines;
 #[cfg(test)]
-mod origins;
+mod odd_texts;
 #[cfg(test)]
-mod pieces;
+mod origins;
 #[cfg(test)]
 mod runs;

@@ -104,7 +104,7 @@ struct Calls {
     numbers: u64,
 }
 
-static CALLS: [Calls; 3] = [
+static CALLS: [Calls; 4] = [
     Calls {
         about: "of the four chains of both orders the third, B by itself, brings nothing new",
         traces: BOTH_ORDERS,
@@ -133,6 +133,21 @@ static CALLS: [Calls; 3] = [
         times: 1,
         calls: 3,
         numbers: 0_1_2,
+    },
+    Calls {
+        about: "chains of steps that were taken before are numbered too",
+        traces: &[&[
+            Write(A),
+            Give(A),
+            Write(A),
+            Give(A),
+            Write(A),
+            Give(A),
+            Write(B),
+        ]],
+        times: 1,
+        calls: 2,
+        numbers: 0_3,
     },
 ];
 

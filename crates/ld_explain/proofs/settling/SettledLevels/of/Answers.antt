@@ -1,47 +1,28 @@
-use Rattle.ld_explain.proofs.Names.{Contains, Err, Some, ◌<◌, ◌∙◌, HasFact, IfOk-weaker, IsNone, TracesHave, ap, arith, inl, inr, length, slice_index, subst, sym}
+use Rattle.ld_explain.proofs.Names.{Contains, Some, ◌<◌, ◌∙◌, HasFact, IfOk-weaker, IsNone, TracesHave, ap, arith, inl, inr, length, slice_index, subst, sym}
 use Rattle.ld_facts.specs.Facts.{AreSame}
 use Rattle.ld_facts.specs.Renaming.{TracesHaveBy}
 use Rattle.ld_trace.specs.declared.key_id.TheConstants.{GRAPH_KEYS}
-use Rattle.ld_parts.specs.declared.parting_fault.PartingFault.TheVariants.{TooTangled}
 use Rattle.ld_explain.specs.Inside.Sure.{AreSureNumbers, no_key}
 use Rattle.ld_trace.specs.Classes.{numbers_at}
-use Rattle.ld_trace.specs.declared.level.Level.TheVariants.{Classes, Types}
-use Rattle.ld_explain.proofs.SettlingLemmas.{IfSome-weaker, chosen, err-passed, facts-by, names_at-few, not-chosen, open-facts, sure-of_all, sure-of_traces}
+use Rattle.ld_trace.specs.declared.level.Level.TheVariants.{Classes}
+use Rattle.ld_explain.proofs.SettlingLemmas.{IfSome-weaker, chosen, facts-by, names_at-few, not-chosen, open-facts, sure-of_all, sure-of_traces}
 use Rattle.ld_explain.proofs.settling.SettledLevels.of.Goals as goal
 
-pub returns-in_err-types-clause-tangled : goal.returns-in_err-types-clause-tangled
-returns-in_err-types-clause-tangled c = λ is.
-    let failed = err-passed c.from_residual-in_err-types.result c.in_err-types.field-0.0 TooTangled c.from_residual-in_err-types.ensures.1 is in
-    omega (arith, c.in_err-types.ensures.tangled (ap Err failed), ap length c.in_ok-by_type.ensures.names, names_at-few Types c.args.names.now.names)
-
-pub returns-then-is_clean-clause-ok : goal.returns-then-is_clean-clause-ok
-returns-then-is_clean-clause-ok c = λ traces of_traces. record {
-  type_names_are = c.in_ok-by_type.ensures.names;
-  type_of_is = c.in_ok-by_type.ensures.keys;
-  class_of_is = c.in_ok-by_class.ensures.keys ∙ ap (numbers_at Classes c.args.names.now.names) c.in_ok-by_class.ensures.names;
-  types_are = facts-by c.renamed_facts_are_the_image.ensures traces c.args.facts (slice_index c.in_ok-by_type.by_type.keys.items) of_traces _ c.in_ok-types.ensures.exact;
-  classes_are = tt;
-  locks_are = tt;
-  sure_are = tt;
-  left_open = λ _. inl (c.is_clean.ensures.0 c.if-is_clean.true);
-}
-
-pub returns-clause-ok : goal.returns-clause-ok
-returns-clause-ok c = λ traces of_traces.
+pub returns : goal.returns
+returns c = λ traces of_types of_traces.
     let names = c.args.names.now.names in
     let law = c.renamed_facts_are_the_image.ensures in
-    let types = facts-by law traces c.args.facts (slice_index c.in_ok-by_type.by_type.keys.items) of_traces _ c.in_ok-types.ensures.exact in
     let locks = open-facts c.in_ok-locks.locks c.settled.result _ c.in_ok-locks.ensures.some
     (IfOk-weaker c.settled.result _ _ (λ locks is. subst (λ facts. AreSame (HasFact facts) (TracesHave traces)) (sym is) of_traces) c.settled.ensures.value) in
     let tangled : IsNone c.in_ok-locks.locks → GRAPH_KEYS < length names = λ none. omega (arith, c.settled.ensures.tangled (c.in_ok-locks.ensures.none none), c.requires) in
     record {
-      type_names_are = c.in_ok-by_type.ensures.names;
-      type_of_is = c.in_ok-by_type.ensures.keys;
+      type_names_are = of_types.type_names_are;
+      type_of_is = of_types.type_of_is;
       class_of_is = c.in_ok-by_class.ensures.keys ∙ ap (numbers_at Classes names) c.in_ok-by_class.ensures.names;
-      types_are = types;
-      classes_are = chosen c.differ-has_places.result c.in_ok-classes.classes (Some c.in_ok-types.types) _
+      types_are = of_types.types_are;
+      classes_are = chosen c.differ-has_places.result c.in_ok-classes.classes (Some c.args.types.types) _
           (IfSome-weaker c.in_ok-classes.classes _ _ (λ classes exact. facts-by law traces c.args.facts (slice_index c.in_ok-by_class.by_class.keys.items) of_traces (HasFact classes) exact) c.in_ok-classes.ensures.exact)
-          (λ off. subst (λ keys. AreSame (HasFact c.in_ok-types.types) (TracesHaveBy (slice_index keys) traces)) (sym (sym c.deref-2.ensures.value ∙ c.differ-has_places.ensures.0 off ∙ c.deref-3.ensures.value)) types);
+          (λ off. subst (λ keys. AreSame (HasFact c.args.types.types) (TracesHaveBy (slice_index keys) traces)) (sym (sym c.deref-2.ensures.value ∙ c.differ-has_places.ensures.0 off ∙ c.type_of.ensures)) of_types.types_are);
       locks_are = locks;
       sure_are = chosen c.has_several-has_several.result c.in_ok-sure.sure c.in_ok-locks.locks _
           (IfSome-weaker c.in_ok-sure.sure _ _ (λ sure exact. sure-of_traces traces names c.args.facts of_traces (HasFact sure) exact) c.in_ok-sure.ensures.exact)
@@ -50,7 +31,7 @@ returns-clause-ok c = λ traces of_traces.
         | inl locks ↦ tangled locks
         | inr (inl sure) ↦ not-chosen c.has_several-has_several.result c.in_ok-sure.sure c.in_ok-locks.locks
             (λ none on. omega (arith, c.in_ok-sure.ensures.open none on, c.requires)) tangled sure
-        | inr (inr classes) ↦ not-chosen c.differ-has_places.result c.in_ok-classes.classes (Some c.in_ok-types.types)
+        | inr (inr classes) ↦ not-chosen c.differ-has_places.result c.in_ok-classes.classes (Some c.args.types.types)
             (λ none on. omega (arith, c.in_ok-classes.ensures.open none on, ap length c.in_ok-by_class.ensures.names, names_at-few Classes names)) (λ none. absurd (let no = none in cc)) classes
       ]);
     }

@@ -1,16 +1,14 @@
-//! One trace that several threads read in pieces.
+//! A trace that is read by known lines, and one that is read by CSV.
 
-use ld_read::read_in_pieces;
 use ld_trace::{KeyTable, RawTrace, TraceFault, read_trace};
 use std::alloc::Global;
 use std::io;
 use std::io::Read;
-use std::thread::Threads;
 
 // A text that is read: six times the second one, between the others.
 type Case<'t> = (&'t str, &'t str, &'t str);
 
-static CASES: [Case<'_>; 12] = [
+static CASES: [Case<'_>; 13] = [
     (
         "lockdep,1\n",
         "acq,A,0,w\nrel,A,0\nenter,softirq\nleave\n",
@@ -23,8 +21,18 @@ static CASES: [Case<'_>; 12] = [
     ),
     // The last line has no newline.
     ("lockdep,1\n", "acq,A,0,w\nrel,A,0\n", "acq,C,7,w"),
-    // Names with a comma or a quote, so that cuts fall after quoted fields.
-    ("lockdep,1\n", "acq,\"a,b\",0,w\nacq,\"c\"\"d\",0,r\n", ""),
+    // Names with a comma or a quote, and one that needs no quotes.
+    (
+        "lockdep,1\n",
+        "acq,\"a,b\",0,w\nacq,\"c\"\"d\",0,r\n",
+        "acq,\"e\",0,w\n",
+    ),
+    // A key whose first line comes after those of later ones, and a try of version 2.
+    (
+        "lockdep,1\n",
+        "rel,A,0\nacq,C,0,w\nacq,B,0,w\n",
+        "acq,D,0,tw\n",
+    ),
     // Newlines within quotes aren't the ends of records.
     (
         "lockdep,1\n",
@@ -82,31 +90,57 @@ fn are_alike(
     same && left.len() == right.len()
 }
 
-// Whether this many threads read the text as one does, with this many bytes to a piece.
-fn reads<R: Threads + Sync>(
-    rt: &R,
-    alloc: Global,
-    text: &[u8],
-    threads: usize,
-    size: usize,
-) -> Option<bool> {
+// The same text with a header that CSV alone reads, since it is in quotes. None if it has no plain header, or if memory runs out.
+fn by_csv(alloc: Global, text: &[u8]) -> Option<Vec<u8>> {
+    let rest = text.strip_prefix(b"lockdep")?;
+    let mut quoted = Vec::new(alloc);
+    quoted.extend_from_slice(b"\"lockdep\"").ok()?;
+    quoted.extend_from_slice(rest).ok()?;
+    Some(quoted)
+}
+
+// A reader that gives at most so many bytes at a call.
+#[derive(Clone, Copy)]
+struct Slowly<'t> {
+    text: &'t [u8],
+    most: usize,
+}
+
+impl Read for Slowly<'_> {
+    fn read(&mut self, buf: &mut [u8]) -> io::Result<usize> {
+        let count = self.text.len().min(buf.len()).min(self.most);
+        let (given, left) = self.text.split_at(count);
+        buf[..count].copy_from_slice(given);
+        self.text = left;
+        Ok(count)
+    }
+}
+
+// Whether the text is read by lines as it is by CSV, with so many bytes at a call, and once more when its lines are known.
+fn reads(alloc: Global, text: &[u8], most: usize) -> Option<bool> {
+    let quoted = match by_csv(alloc, text) {
+        Some(quoted) => quoted,
+        None => Vec::from_slice(alloc, text).ok()?,
+    };
     let mut keys = KeyTable::new(alloc).ok()?;
     let mut others = KeyTable::new(alloc).ok()?;
-    let apart = read_in_pieces(rt, alloc, threads, size, text, &mut keys);
-    let in_turn = read_trace(alloc, text, &mut others);
-    Some(are_alike(&apart, &in_turn, &keys, &others))
+    let mut all = true;
+    for _ in 0..2 {
+        let lines = read_trace(alloc, Slowly { text, most }, &mut keys);
+        let csv = read_trace(alloc, quoted.as_slice(), &mut others);
+        all = all && are_alike(&lines, &csv, &keys, &others);
+    }
+    Some(all)
 }
 
 #[test]
-fn pieces_read_as_one(rt: HostRuntime) {
+fn lines_read_as_records(rt: HostRuntime) {
     for case in &CASES {
         let text = text_of(rt.alloc(), case);
-        for size in [1, 30, 200] {
-            for threads in [2, 3] {
-                let bytes = text.as_ref().map(|text| text.as_bytes());
-                let alike = bytes.and_then(|bytes| reads(&rt, rt.alloc(), bytes, threads, size));
-                assert_eq!(rt; alike, Some(true));
-            }
+        for most in [1, 7, 4096] {
+            let bytes = text.as_ref().map(|text| text.as_bytes());
+            let alike = bytes.and_then(|bytes| reads(rt.alloc(), bytes, most));
+            assert_eq!(rt; alike, Some(true));
         }
     }
 }
@@ -145,24 +179,21 @@ impl Read for FailsOnce<'_> {
     }
 }
 
-// Whether a read that fails after this many bytes is told as T8 at the record that it was in, as reading in turn tells it, with the
-// same names.
-fn tells<R: Threads + Sync>(
-    rt: &R,
-    alloc: Global,
-    text: &[u8],
-    threads: usize,
-    bytes: usize,
-) -> Option<bool> {
+// Whether a read that fails after this many bytes is told as T8 at the record that it was in, with the names before it.
+fn tells(alloc: Global, text: &[u8], bytes: usize) -> Option<bool> {
+    let quoted = by_csv(alloc, text)?;
     let mut keys = KeyTable::new(alloc).ok()?;
     let mut others = KeyTable::new(alloc).ok()?;
-    let failing = FailsOnce::new(text, bytes);
-    let apart = read_in_pieces(rt, alloc, threads, 50, failing, &mut keys);
-    let in_turn = read_trace(alloc, FailsOnce::new(text, bytes), &mut others);
-    let same = are_alike(&apart, &in_turn, &keys, &others);
-    let lines = text.iter().take(bytes).filter(|byte| **byte == b'\n');
-    let fault = apart.err()?;
-    Some(same && fault.code() == "T8 Source" && fault.at == lines.count().saturating_add(1))
+    let lines = read_trace(alloc, FailsOnce::new(text, bytes), &mut keys);
+    let csv = read_trace(
+        alloc,
+        FailsOnce::new(quoted.as_slice(), bytes.saturating_add(2)),
+        &mut others,
+    );
+    let same = are_alike(&lines, &csv, &keys, &others);
+    let ended = text.iter().take(bytes).filter(|byte| **byte == b'\n');
+    let fault = lines.err()?;
+    Some(same && fault.code() == "T8 Source" && fault.at == ended.count().saturating_add(1))
 }
 
 #[test]
@@ -170,8 +201,6 @@ fn a_read_that_fails_once_is_told(rt: HostRuntime) {
     let text = text_of(rt.alloc(), &CASES[0]);
     let text = text.as_ref().map(|text| text.as_bytes()).unwrap_or(b"");
     for bytes in 0..239 {
-        for threads in [2, 4] {
-            assert_eq!(rt; tells(&rt, rt.alloc(), text, threads, bytes), Some(true));
-        }
+        assert_eq!(rt; tells(rt.alloc(), text, bytes), Some(true));
     }
 }

@@ -1,21 +1,19 @@
-//! Traces that a thread reads in groups, by one CSV reader.
+//! Odd texts that are read together.
 
 ghost use Rattle.std.specs.Prelude.{None};
 
 use crate::ahead::{Stop, are_read};
 use ld_read::Sources;
-use ld_trace::{KeyTable, TraceFaultKind, read_joined};
+use ld_trace::TraceFaultKind;
 use std::alloc::Global;
 use std::process::Abort;
 use std::sync::Wait;
-use std::sync::atomic::{AtomicUsize, Ordering};
 use std::thread::Threads;
 
-// Texts as sources. Those that are opened in their turn are counted.
-#[derive(Drop)]
+// Texts as sources.
+#[derive(Clone, Copy)]
 struct Texts<'t> {
     texts: &'t [&'t str],
-    in_turn: AtomicUsize,
 }
 
 impl<'t> Texts<'t> {
@@ -35,14 +33,12 @@ impl<'t> Sources for Texts<'t> {
     }
 
     fn open(&self, place: usize) -> Option<&'t [u8]> {
-        self.in_turn.fetch_add(1, Ordering::SeqCst);
         self.text(place)
     }
 }
 
-// Texts; those that the traces are written as which can be read; what stops the next one; the names then; and how many texts are opened in
-// their turn if all are one group.
-type Case<'t> = (&'t [&'t str], &'t [&'t str], Stop, &'t [&'t str], usize);
+// Texts; those that the traces are written as which can be read; what stops the next one; and the names then.
+type Case<'t> = (&'t [&'t str], &'t [&'t str], Stop, &'t [&'t str]);
 
 static CASES: [Case<'_>; 9] = [
     (
@@ -58,7 +54,6 @@ static CASES: [Case<'_>; 9] = [
         ],
         None,
         &["B", "A"],
-        0,
     ),
     // A quote that is open at the end of a text ends there.
     (
@@ -66,7 +61,6 @@ static CASES: [Case<'_>; 9] = [
         &[],
         Some((TraceFaultKind::BadRecord, 2)),
         &[],
-        1,
     ),
     // A text that has the record `.` is no trace, though two traces can be made of it.
     (
@@ -77,7 +71,6 @@ static CASES: [Case<'_>; 9] = [
         &[],
         Some((TraceFaultKind::BadRecord, 3)),
         &["A"],
-        1,
     ),
     // Neither is an empty text.
     (
@@ -85,7 +78,6 @@ static CASES: [Case<'_>; 9] = [
         &["lockdep,1\nacq,A,0,w\n"],
         Some((TraceFaultKind::NoHeader, 1)),
         &["A"],
-        2,
     ),
     // The last line needs no newline.
     (
@@ -97,7 +89,6 @@ static CASES: [Case<'_>; 9] = [
         ],
         None,
         &["A", "B"],
-        0,
     ),
     // Lines may end with CR LF, or with CR alone.
     (
@@ -113,7 +104,6 @@ static CASES: [Case<'_>; 9] = [
         ],
         None,
         &["A", "B"],
-        0,
     ),
     // A byte order mark may stand before the first text.
     (
@@ -121,71 +111,39 @@ static CASES: [Case<'_>; 9] = [
         &["lockdep,1\nacq,A,0,w\n", "lockdep,1\nacq,B,0,w\n"],
         None,
         &["A", "B"],
-        0,
     ),
-    // If one stands before another, the texts are read one by one.
+    // One may stand before another as well.
     (
         &["lockdep,1\nacq,A,0,w\n", "\u{FEFF}lockdep,1\nacq,B,0,w\n"],
         &["lockdep,1\nacq,A,0,w\n", "lockdep,1\nacq,B,0,w\n"],
         None,
         &["A", "B"],
-        2,
     ),
     (
         &["lockdep,1\nacq,A,0,w\n", "lockdep,1\nacq,B,9,w\n"],
         &["lockdep,1\nacq,A,0,w\n"],
         Some((TraceFaultKind::BadSub, 2)),
         &["A"],
-        2,
     ),
 ];
 
-// Whether this many threads give what the case says, and how many texts were opened in their turn.
+// Whether this many threads give what the case says.
 fn reads<R: Threads + Wait + Sync + Abort>(
     rt: &R,
     alloc: Global,
     threads: usize,
-    group: usize,
     case: &Case<'_>,
-) -> Option<(bool, usize)> {
-    let (texts, written, stop, names, _) = *case;
-    let in_turn = AtomicUsize::new(0);
-    let sources = Texts { texts, in_turn };
+) -> Option<bool> {
+    let (texts, written, stop, names) = *case;
     let wanted = (written, stop, names);
-    let right = are_read(rt, alloc, (threads, group), (&sources, texts.len()), wanted)?;
-    Some((right, sources.in_turn.load(Ordering::SeqCst)))
+    are_read(rt, alloc, threads, (&Texts { texts }, texts.len()), wanted)
 }
 
 #[test]
-fn groups_read_as_one_by_one(rt: HostRuntime) {
+fn odd_texts_are_read_one_by_one(rt: HostRuntime) {
     for case in &CASES {
-        let one_group = reads(&rt, rt.alloc(), 1, 8, case);
-        assert_eq!(rt; one_group, Some((true, case.4)));
-        for sizes in [(1, 1), (1, 2), (2, 2), (4, 1), (0, 0)] {
-            let got = reads(&rt, rt.alloc(), sizes.0, sizes.1, case);
-            assert_eq!(rt; got.map(|read| read.0), Some(true));
+        for threads in [0, 1, 2, 4] {
+            assert_eq!(rt; reads(&rt, rt.alloc(), threads, case), Some(true));
         }
     }
-}
-
-// How many names there were before and after each trace of a text that is several.
-fn counts(alloc: Global, text: &[u8], count: usize) -> Option<[(usize, usize, usize); 2]> {
-    let mut keys = KeyTable::new(alloc).ok()?;
-    let mut traces = read_joined(alloc, text, count, &mut keys)?;
-    let mut counts = [(0, 0, 0); 2];
-    for found in &mut counts {
-        let one = traces.pop_front()?;
-        *found = (one.before, one.after, one.trace.len());
-    }
-    Some(counts)
-}
-
-#[test]
-fn traces_of_one_text_tell_their_names(rt: HostRuntime) {
-    let text = b"lockdep,1\nacq,A,0,w\nacq,B,0,w\n.\nlockdep,1\nacq,C,0,w\n";
-    let alloc = rt.alloc();
-    assert_eq!(rt; counts(alloc, text, 2), Some([(0, 2, 2), (2, 3, 1)]));
-    assert_eq!(rt; counts(alloc, text, 1), None);
-    assert_eq!(rt; counts(alloc, text, 3), None);
-    assert_eq!(rt; counts(alloc, b"lockdep,1\n.\nlockdep,1\n.\n", 2), None);
 }
