@@ -6,7 +6,8 @@
        #define LOCKDEP_RECORD_CODE
        #include "lockdep_record.h"
 
-   and in the others only the include. README.md beside this file has an example, and docs/RECORDING.md says what a
+   and in the others only the include. With LDR_KNOWN_STEPS defined before that code, it has ldr_known, and is 0.7 KB
+   larger. README.md beside this file has an example, and docs/RECORDING.md says what a
    faithful trace is.
 
    Who calls. The calls for one task are made by that task, and by the interrupts that come in while it runs. An interrupt
@@ -82,6 +83,14 @@ struct ldr_stream {
 struct ldr_lock {
     const char *name;
     unsigned sub;
+    uint32_t step; /* 1 + the index of its step, or LDR_NO_STEP */
+};
+
+/* A step of a task: it took this lock, so and here, with the locks of the steps before this one held. */
+struct ldr_step {
+    const char *name, *place, *function; /* without a name there is no step here */
+    uint32_t before;                     /* 1 + the index of the step before, or 0 if nothing was held */
+    unsigned char sub, mode;
 };
 
 /* A frame: which interrupt it is, which are off in it, and how many locks were held when it began. */
@@ -101,6 +110,9 @@ struct ldr_task {
     uint32_t left[LDR_REASONS];  /* how often each reason occurred */
     struct ldr_frame frames[3];
     struct ldr_lock locks[LDR_HELD];
+    struct ldr_step *steps;      /* that are known; NULL if repeats are written */
+    uint32_t last_step;          /* the last index of these, a power of two less one */
+    unsigned written;            /* how many of the held locks the trace has; known steps took the others */
 };
 
 /* ---- The calls. The caller's place, as the arguments of the functions that end in _at. */
@@ -119,6 +131,14 @@ int ldr_begin(struct ldr_task *task, char *buffer, size_t size, ldr_put *put, vo
    leaves it out. Without this call no places are written. The end of the trace is among them: without it `lockdep run`
    can't tell whether a trace is whole, and doesn't call it clean. */
 void ldr_places(struct ldr_task *task, char *buffer, size_t size, ldr_put *put, void *cookie);
+
+/* Is there if LDR_KNOWN_STEPS is defined where the code is. After ldr_begin: what the task did before in the same way
+   isn't written again, which takes a few nanoseconds instead of some 30. `steps` has room for this many steps, at least
+   1; only a power of two of them is used, and each way to take a lock on top of others takes one. What doesn't fit is
+   written each time. Names and places must never change while the trace goes on, as string constants don't. Written each
+   time, too: all in an interrupt, or with interrupts off. Takes time for each step. Acquisitions that aren't written yet
+   are put by ldr_flush and ldr_end. */
+void ldr_known(struct ldr_task *task, struct ldr_step *steps, size_t count);
 
 /* The task takes a lock of this class. Called before waiting for the lock, or else what a hung task waits for is missing;
    or once it was taken, if the wait can fail, as a try. ldr_flush puts the record of a task that hangs.
@@ -167,6 +187,7 @@ static inline int ldr_named(int first, ...) { return first; }
 static inline int ldr_nothing(int number) { return number; }
 #define ldr_begin(task, buffer, size, put, cookie) ldr_nothing(LDR_NEVER(task, buffer, size, put, cookie))
 #define ldr_places(task, buffer, size, put, cookie) ((void)LDR_NEVER(task, buffer, size, put, cookie))
+#define ldr_known(task, steps, count) ((void)LDR_NEVER(task, steps, count))
 #define ldr_acquire_at(...) ((void)LDR_NEVER(__VA_ARGS__))
 #define ldr_acquire(task, name, sub, mode) ((void)LDR_NEVER(task, name, sub, mode))
 #define ldr_release(task, name, sub) ((void)LDR_NEVER(task, name, sub))
@@ -375,11 +396,7 @@ void ldr_places(struct ldr_task *task, char *buffer, size_t size, ldr_put *put, 
 }
 
 /* Writes an acquisition if the format can express it. Returns whether it was written. */
-static bool ldr_take(struct ldr_task *task, const char *name, unsigned sub, unsigned mode) {
-    if (task->held == LDR_HELD) {
-        task->left[LDR_LEFT_HELD]++;
-        return false;
-    }
+static bool ldr_write(struct ldr_task *task, const char *name, unsigned sub, unsigned mode) {
     char *to = ldr_record(task, "acq,");
     if (!to)
         return false;
@@ -394,17 +411,137 @@ static bool ldr_take(struct ldr_task *task, const char *name, unsigned sub, unsi
         *to++ = 'r';
     *to++ = mode & (LDR_R | LDR_RR) ? 'r' : 'w';
     ldr_record_ends(task, to);
-    task->locks[task->held].name = name;
-    task->locks[task->held++].sub = sub;
     return true;
 }
+
+/* ---- Known steps. A step is known once the trace has it. An acquisition by a known step isn't written, unless something
+   new happens before its release: then those of all held locks are written first. So the trace has each order and use, as
+   often as it needs. */
+
+#ifdef LDR_KNOWN_STEPS
+
+#define LDR_NO_STEP UINT32_MAX
+#define LDR_LOOKS 4u /* how many places in the table a step may have */
+
+void ldr_known(struct ldr_task *task, struct ldr_step *steps, size_t count) {
+    task->steps = count > 0 ? steps : NULL;
+    task->last_step = 0;
+    while (task->last_step < INT32_MAX && 2 * (size_t)task->last_step + 2 <= count)
+        task->last_step = 2 * task->last_step + 1;
+    for (size_t i = 0; task->steps && i <= task->last_step; i++) {
+        steps[i].name = NULL;
+        LDR_FENCE();
+    }
+}
+
+static bool ldr_has_steps(const struct ldr_task *task) { return task->steps != NULL; }
+
+/* The step after which all held locks are held: 1 + its index, 0 if there are none, or LDR_NO_STEP. */
+static uint32_t ldr_step_before(const struct ldr_task *task) {
+    return task->held > 0 ? task->locks[task->held - 1].step : 0;
+}
+
+/* Where a step is, or goes: 1 + its index. LDR_NO_STEP if there is no room, or steps aren't known now. */
+static uint32_t ldr_find(const struct ldr_task *task, const char *name, unsigned sub, unsigned mode, const char *place,
+                         const char *function) {
+    uint32_t before = ldr_step_before(task), low = (uint32_t)(uintptr_t)place;
+    if (!ldr_has_steps(task) || !name || task->frame->off != 0 || before == LDR_NO_STEP)
+        return LDR_NO_STEP;
+    uint32_t hash = (uint32_t)(uintptr_t)name ^ before << 7 ^ sub << 28 ^ mode << 25;
+    hash = (hash ^ hash >> 15) + (low << 5 | low >> 27);
+    hash ^= hash >> 11;
+    for (unsigned look = 0; look < LDR_LOOKS; look++) {
+        uint32_t index = (hash + look) & task->last_step;
+        const struct ldr_step *known = &task->steps[index];
+        if (!known->name || (known->name == name && known->place == place && known->function == function &&
+                             known->before == before && known->sub == sub && known->mode == mode))
+            return index + 1;
+    }
+    return LDR_NO_STEP;
+}
+
+static bool ldr_is_known(const struct ldr_task *task, uint32_t found) {
+    return found != LDR_NO_STEP && task->steps[found - 1].name;
+}
+
+/* Writes the acquisitions of held locks that weren't written. Returns whether the trace has all of them. */
+static bool ldr_catch_up(struct ldr_task *task) {
+    while (task->written < task->held) {
+        const struct ldr_step *step = &task->steps[task->locks[task->written].step - 1];
+        if (!ldr_write(task, step->name, step->sub, step->mode))
+            return false;
+        ldr_line(task, task->events + 1, step->place, step->function);
+        task->written++;
+    }
+    return true;
+}
+
+/* Remembers a step that was written, where ldr_find found room for it. */
+static void ldr_note(struct ldr_task *task, const char *name, unsigned sub, unsigned mode, const char *place,
+                     const char *function, uint32_t found) {
+    if (found == LDR_NO_STEP)
+        return;
+    struct ldr_step *step = &task->steps[found - 1];
+    step->name = name;
+    step->place = place;
+    step->function = function;
+    step->before = ldr_step_before(task);
+    step->sub = (unsigned char)sub;
+    step->mode = (unsigned char)mode;
+}
+
+/* Notes what is held. */
+static void ldr_hold(struct ldr_task *task, const char *name, unsigned sub, uint32_t found) {
+    task->locks[task->held].step = found;
+    task->locks[task->held].name = name;
+    task->locks[task->held++].sub = sub;
+}
+
+/* Notes that all held locks are written, and that those from this one on have others below them than they had. */
+static void ldr_all_written(struct ldr_task *task, unsigned place) {
+    task->written = task->held;
+    for (; place < task->held; place++)
+        task->locks[place].step = LDR_NO_STEP;
+}
+
+/* Whether the held lock at this index is the newest, and isn't written. */
+static bool ldr_is_unwritten(const struct ldr_task *task, unsigned place) {
+    return place + 1 == task->held && place >= task->written;
+}
+
+#else
+
+#define ldr_has_steps(task) false
+#define ldr_find(...) 0
+#define ldr_is_known(task, found) false
+#define ldr_catch_up(task) true
+#define ldr_note(...) ((void)0)
+#define ldr_all_written(task, place) ((void)0)
+#define ldr_is_unwritten(task, place) false
+
+static void ldr_hold(struct ldr_task *task, const char *name, unsigned sub, uint32_t found) {
+    (void)found;
+    task->locks[task->held].name = name;
+    task->locks[task->held++].sub = sub;
+}
+
+#endif
 
 void ldr_acquire_at(struct ldr_task *task, const char *name, unsigned sub, unsigned mode, const char *place,
                     const char *function) {
     if (ldr_is_out(task, 0))
         return;
-    if (ldr_take(task, name, sub, mode))
+    uint32_t found = ldr_find(task, name, sub, mode, place, function);
+    if (ldr_is_known(task, found)) {
+        ldr_hold(task, name, sub, found);
+    } else if (task->held == LDR_HELD) {
+        task->left[LDR_LEFT_HELD]++;
+    } else if (ldr_catch_up(task) && ldr_write(task, name, sub, mode)) {
         ldr_line(task, task->events + 1, place, function);
+        ldr_note(task, name, sub, mode, place, function, found);
+        ldr_hold(task, name, sub, found);
+        ldr_all_written(task, task->held);
+    }
     ldr_is_done(task);
 }
 
@@ -418,7 +555,8 @@ static bool ldr_is_same(const char *one, const char *other) {
     return true;
 }
 
-/* Writes the release of the held lock at this index, and removes it. Returns whether it was written. */
+/* Writes the release of the held lock at this index, and removes it, when all held locks are written. Returns whether it
+   was written. */
 static bool ldr_give(struct ldr_task *task, unsigned place) {
     char *to = ldr_record(task, "rel,");
     if (to)
@@ -427,10 +565,11 @@ static bool ldr_give(struct ldr_task *task, unsigned place) {
         return false;
     ldr_record_ends(task, to);
     task->held--;
-    for (; place < task->held; place++) {
-        task->locks[place] = task->locks[place + 1];
+    for (unsigned next = place; next < task->held; next++) {
+        task->locks[next] = task->locks[next + 1];
         LDR_FENCE();
     }
+    ldr_all_written(task, place);
     return true;
 }
 
@@ -443,10 +582,12 @@ void ldr_release(struct ldr_task *task, const char *name, unsigned sub) {
         const struct ldr_lock *lock = &task->locks[--place];
         is_found = lock->sub == sub && ldr_is_same(lock->name, name);
     }
-    if (is_found)
-        ldr_give(task, place);
-    else
+    if (!is_found)
         task->left[LDR_LEFT_RELEASES]++;
+    else if (ldr_is_unwritten(task, place))
+        task->held--;
+    else if (ldr_catch_up(task))
+        ldr_give(task, place);
     ldr_is_done(task);
 }
 
@@ -457,6 +598,8 @@ static unsigned ldr_closed(const struct ldr_frame *frame) {
 
 /* Writes the entry of an interrupt, after turning on what has to be on. */
 static void ldr_open(struct ldr_task *task, unsigned irq) {
+    if (!ldr_catch_up(task))
+        return;
     struct ldr_frame *frame = task->frame + 1;
     frame->irq = irq;
     frame->off = irq | LDR_SOFTIRQ; /* a hardirq has both off */
@@ -513,6 +656,8 @@ static bool ldr_turn(struct ldr_task *task, const char *word, unsigned irq, unsi
         task->left[LDR_LEFT_FLAGS]++;
         return false;
     }
+    if (!ldr_catch_up(task))
+        return false;
     frame->off ^= irq;
     return ldr_irqs(task, word, irq);
 }
@@ -541,12 +686,16 @@ void ldr_flush(struct ldr_task *task) {
         return;
     task->is_inside = 1;
     LDR_FENCE();
+    if (task->ended == LDR_REASONS)
+        (void)ldr_catch_up(task);
     ldr_put_trace(task);
     ldr_put_all(&task->places);
     ldr_is_done(task);
 }
 
 void ldr_end(struct ldr_task *task) {
+    if (ldr_has_steps(task))
+        ldr_flush(task);
     task->ended = LDR_LEFT_PUTS;
     LDR_FENCE();
     ldr_put_trace(task);

@@ -408,6 +408,48 @@ static void many(void) {
     say(" lines\n");
 }
 
+#ifdef LDR_KNOWN_STEPS
+
+static void nest(const char *innermost) {
+    take("a");
+    take("b");
+    if (innermost) {
+        take(innermost);
+        give(innermost);
+    }
+    give("b");
+    give("a");
+}
+
+static void hold(void) { take("a"); }
+
+/* What is done again isn't written, but for what is held round something new, and at a flush. */
+static void known(void) {
+    static struct ldr_step steps[16];
+    begin_case("known");
+    ldr_known(&task, steps, 16);
+    nest(NULL);
+    nest(NULL);
+    nest("c");
+    nest("c");
+    nest(NULL);
+    hold();
+    ldr_off(&task, LDR_HARDIRQ);
+    ldr_on(&task, LDR_HARDIRQ);
+    give("a");
+    hold();
+    ldr_off(&task, LDR_HARDIRQ);
+    ldr_on(&task, LDR_HARDIRQ);
+    give("a");
+    hold();
+    ldr_flush(&task);
+    give("a");
+    hold();
+    end_case();
+}
+
+#endif
+
 void begin(void) {
     modes();
     names();
@@ -429,5 +471,8 @@ void begin(void) {
     unbegun();
     deep();
     many();
+#ifdef LDR_KNOWN_STEPS
+    known();
+#endif
     end_program();
 }
