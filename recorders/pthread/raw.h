@@ -10,8 +10,8 @@
 #include <stdint.h>
 #include <string.h>
 
-/* "lockrec6", little endian. */
-#define RAW_MAGIC UINT64_C(0x366365726b636f6c)
+/* "lockrec8", little endian. */
+#define RAW_MAGIC UINT64_C(0x386365726b636f6c)
 
 /* The file's size, if no limit forbids it, and the size under which a recording may well be too small. */
 #define RAW_BYTES (UINT64_C(4) << 30)
@@ -28,8 +28,9 @@
 /* The most callers that are recorded for one place. */
 #define RAW_FRAMES 16
 
-/* Objects of one class that are told apart; the rest of them share a name. */
+/* Objects of one class that are told apart; the rest of them share a name. So many are before they are nested. */
 #define RAW_APART 32
+#define RAW_EARLY 8
 
 /* A thread's records lie in chunks: the first has room for so many, and each further one for twice as many. */
 #define RAW_FIRST_CHUNK 64
@@ -40,22 +41,26 @@
 enum mode { MODE_WRITE, MODE_READ, MODE_REC_READ, MODE_TRY_WRITE, MODE_TRY_READ, MODE_TRY_REC_READ, MODE_RELEASE };
 
 /* Added to the mode of an acquisition: the program says in which order locks of the class are nested, and this one comes after all of them
-   that are held. */
+   that are held. And of one that comes under others: the wait for it gives up at a time; the thread itself made the lock, has held
+   others ever since, and no other thread has come to it. */
 #define RAW_IN_ORDER 8
+#define RAW_TIMED 16
+#define RAW_NEW 32
+#define RAW_WEAK (RAW_TIMED | RAW_NEW)
 
-/* One acquisition or release: the object in the low 27 bits and the mode above them, and where it happened. */
+/* One acquisition or release: the object in the low 24 bits and the mode above them, and where it happened. */
 struct raw_record {
     uint32_t what;
     uint32_t place;
 };
 
-#define RAW_OBJECT_BITS 27
+#define RAW_OBJECT_BITS 24
 
 static inline uint32_t raw_what(uint32_t object, uint32_t mode) { return mode << RAW_OBJECT_BITS | object; }
 static inline uint32_t raw_object(uint32_t what) { return what & ((UINT32_C(1) << RAW_OBJECT_BITS) - 1); }
 static inline enum mode raw_plain(uint32_t mode) { return (enum mode)(mode & (RAW_IN_ORDER - 1)); }
 static inline enum mode raw_mode(uint32_t what) { return raw_plain(what >> RAW_OBJECT_BITS); }
-static inline int raw_is_in_order(uint32_t what) { return (what >> RAW_OBJECT_BITS & RAW_IN_ORDER) != 0; }
+static inline int raw_has(uint32_t what, uint32_t added) { return (what >> RAW_OBJECT_BITS & added) != 0; }
 
 /* An address as a module's number and an offset in its file, in 16 bits and 48; RAW_NOWHERE where it is in no module. */
 #define RAW_NOWHERE UINT64_C(0xffff)
@@ -95,18 +100,19 @@ struct raw_place {
     uint64_t callers[RAW_FRAMES];
 };
 
-/* By what a lock is known: where it was initialised, its symbol, where its memory was allocated, the function in whose frame
-   it lies, the thread-local symbol, the file that it is in, or, if nothing else is known of it, where it was taken first. A class is
-   also a subclass of another one. What the program says comes before all this: the name that it gives, or that it ignores the lock. The
-   last three are of locks that may lie in a frame. */
-enum class_kind { CLASS_NONE, CLASS_INIT, CLASS_STATIC, CLASS_HEAP, CLASS_THREAD, CLASS_TAKE, CLASS_FILE, CLASS_NESTED, CLASS_STACK, CLASS_NAMED,
-                  CLASS_IGNORED, CLASS_KINDS };
+/* By what a lock is known: where it was initialised, its symbol, where its memory was allocated, the function in whose frame it lies,
+   the thread-local symbol, the file that it is in, or, if nothing else is known of it, where it was taken first. A thread that is
+   joined is known by the function that it runs, or by where it was started. A class is also a subclass of another one. What the
+   program says comes before all this: the name that it gives, or that it ignores the lock. The last three are of locks that may lie
+   in a frame. */
+enum class_kind { CLASS_NONE, CLASS_INIT, CLASS_STATIC, CLASS_HEAP, CLASS_THREAD, CLASS_TAKE, CLASS_FILE, CLASS_RUN, CLASS_NESTED, CLASS_STACK,
+                  CLASS_NAMED, CLASS_IGNORED, CLASS_KINDS };
 
 struct raw_class {
     uint32_t kind; /* written last */
     uint32_t place;  /* of CLASS_INIT, CLASS_HEAP and CLASS_TAKE; of CLASS_FILE the file, of CLASS_NESTED the class that it is a subclass of, of
                         CLASS_NAMED and CLASS_IGNORED the text */
-    uint64_t word;   /* of CLASS_STATIC the lock's address, of CLASS_STACK the function's, of CLASS_THREAD that in the module's
+    uint64_t word;   /* of CLASS_STATIC the lock's address, of CLASS_STACK and CLASS_RUN the function's, of CLASS_THREAD that in the module's
                         thread-local part; of CLASS_NAMED and CLASS_IGNORED as of CLASS_STACK, or 0 if the lock is in no frame */
     uint64_t offset; /* of CLASS_HEAP in the piece of memory, of CLASS_STACK down from the frame's end, of CLASS_FILE in the file, of
                         CLASS_NESTED the subclass */
@@ -207,18 +213,20 @@ struct raw_left_out {
     uint64_t repeated;  /* records that repeated what the thread had done before: nothing is lost by these */
 };
 
-#define RAW_WAITS_AT_EXIT 2
+/* Whether a thread's last record is a lock that it waits for, and how: while its process exits, or by a wait that gives up. */
+enum raw_waits { RAW_WAITS_NOT, RAW_WAITS, RAW_WAITS_AT_EXIT, RAW_WAITS_FOR_A_TIME };
 #define RAW_CALLED 16 /* bytes of a thread's name, with the 0 at its end */
 
 struct raw_thread {
     uint32_t process;
     uint32_t is_ready;
-    uint32_t waits; /* its last record is a lock that it waits for: 1, or RAW_WAITS_AT_EXIT if the process exits meanwhile */
+    uint32_t waits; /* an enum raw_waits */
     uint32_t ended; /* it came to its end, and the process went on */
     uint64_t count; /* how many records there are */
     uint64_t calls; /* how many acquisitions and releases were seen */
     struct raw_left_out left_out;
     uint64_t self; /* its pthread_t */
+    uint32_t joined; /* the object as which it is joined, or 0 */
     char name[RAW_CALLED];
     uint64_t chunks[RAW_CHUNKS]; /* where they begin in the file; 0 if there is none yet */
 };

@@ -97,7 +97,7 @@ static void number_processes(struct arena *a) {
     a->processes[1] = (uint32_t)++process_count;
     for (uint32_t n = 1; n <= count_of(a, RAW_THREADS); n++) {
         const struct raw_thread *t = part_of(a, RAW_THREADS, n);
-        if (part_of(a, RAW_PROCESSES, t->process) && !a->processes[t->process])
+        if (t->calls && part_of(a, RAW_PROCESSES, t->process) && !a->processes[t->process])
             a->processes[t->process] = (uint32_t)++process_count;
     }
 }

@@ -7,6 +7,7 @@
    FOLDER/objects              the same traces with the names of single locks
    FOLDER/classes              for each class's name, where that is
    FOLDER/classes.places       by which callers it is made, if it is known by them
+   FOLDER/weak                 which acquisitions are by waits that give up, or of new locks, if any are
    FOLDER/breaches             what a program did against what it says of its locks, if it did
    FOLDER/breaches.places      where, in two places for each of these
    FOLDER/SUMMARY              what was recorded, and what was left out
@@ -243,6 +244,7 @@ int main(int argc, char **argv) {
     find_arrays();
     spread_types();
     find_shared();
+    find_joins();
     name_objects();
     write_traces(argv[1], version);
     find_breaches();

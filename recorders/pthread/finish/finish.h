@@ -78,6 +78,7 @@ struct arena {
     struct place *places;
     int *keys;         /* of its classes: one more than the key's number, 0 if it has none yet */
     int **object_keys; /* of each of its processes, and there of each object: one more than the key's number, 0 if it has none yet */
+    uint8_t *threads;    /* of its objects that are threads, as joins.c says; NULL if none is joined */
     uint32_t *processes; /* from its numbers to those of all; 0 if it locked nothing */
 };
 
@@ -164,9 +165,20 @@ int key_of(struct arena *a, uint32_t class);
 void find_shared(void);
 int class_key_of(struct arena *a, uint32_t object);
 bool is_signal(struct arena *a, uint32_t object);
+bool is_left_out(struct arena *a, uint32_t object);
 uint64_t signals(void);
 int *shared_number(struct arena *a, uint32_t object);
 void forget_shared_numbers(void);
+
+/* ---- joins.c */
+
+void find_joins(void);
+static inline bool waits_for_ever(const struct raw_thread *t) { return t->waits && t->waits != RAW_WAITS_FOR_A_TIME; }
+bool is_thread(const struct arena *a, uint32_t object);
+bool is_thread_left_out(const struct arena *a, uint32_t object);
+uint32_t own_object(const struct arena *a, const struct raw_thread *t);
+const struct place *start_of(struct arena *a, uint32_t object, struct place *room);
+bool is_going_on(const struct arena *a, uint32_t object);
 
 /* ---- objects.c */
 

@@ -267,10 +267,10 @@ static void tell_offset(char *text, size_t room, struct arena *a, const struct r
 }
 
 static const enum symbol_kind symbol_kinds[CLASS_KINDS] = {
-    [CLASS_STATIC] = SYMBOL_DATA, [CLASS_STACK] = SYMBOL_CODE, [CLASS_THREAD] = SYMBOL_THREAD};
+    [CLASS_STATIC] = SYMBOL_DATA, [CLASS_STACK] = SYMBOL_CODE, [CLASS_THREAD] = SYMBOL_THREAD, [CLASS_RUN] = SYMBOL_CODE};
 
 static bool is_by_word(const struct raw_class *class) {
-    return class->kind == CLASS_STATIC || class->kind == CLASS_STACK || class->kind == CLASS_THREAD;
+    return class->kind == CLASS_STATIC || class->kind == CLASS_STACK || class->kind == CLASS_THREAD || (class->kind == CLASS_RUN && class->word);
 }
 
 /* The file's name and where in it the lock is. What tells the file from others of that name is its number. */
@@ -287,6 +287,8 @@ static void tell_file(char *text, size_t room, struct arena *a, const struct raw
     fill_spaces(text);
 }
 
+#define THREAD "thread:" /* before what a thread is known by */
+
 void tell_class(char *text, size_t room, struct arena *a, const struct raw_class *class, bool plainly) {
     char offset[32];
     if (class->kind == CLASS_NAMED) { /* no other class has a space in its words */
@@ -297,12 +299,13 @@ void tell_class(char *text, size_t room, struct arena *a, const struct raw_class
         tell_file(text, room, a, class, plainly);
         return;
     }
+    size_t have = (size_t)snprintf(text, room, "%s", class->kind == CLASS_RUN ? THREAD : "");
     if (is_by_word(class))
-        tell_address(text, room, told_word(a, class->word), false, symbol_kinds[class->kind], plainly);
+        tell_address(text + have, room - have, told_word(a, class->word), false, symbol_kinds[class->kind], plainly);
     else
-        tell_place(text, room, place_numbered(a, class->place), plainly);
+        tell_place(text + have, room - have, place_numbered(a, class->place), plainly);
     tell_offset(offset, sizeof offset, a, class);
-    size_t have = strlen(text);
+    have = strlen(text);
     snprintf(text + have, room - have, "%s", offset);
 }
 
@@ -418,7 +421,7 @@ static int make_key(struct arena *a, const struct raw_class *class, const struct
         return there;
     key.identity = checked(strdup(identity));
     key.place = type ? checked(strdup(place)) : NULL;
-    if (!type && !key.path && key.at != UINT64_MAX && key.kind != CLASS_NAMED)
+    if (!type && !key.path && key.at != UINT64_MAX && key.kind != CLASS_NAMED && key.kind != CLASS_RUN)
         note_unnamed(raw_word_module(key.at));
     return add_key(key);
 }

@@ -129,7 +129,7 @@ static void forget_all(void) {
 static void name_objects_of(struct arena *a, const struct raw_thread *t) {
     for (uint64_t i = 0; i < t->count && object_key_count <= MAX_KEYS; i++) {
         const struct raw_record *r = record_of(a, t, i);
-        if (r && raw_mode(r->what) != MODE_RELEASE && !is_signal(a, raw_object(r->what)))
+        if (r && raw_mode(r->what) != MODE_RELEASE && !is_left_out(a, raw_object(r->what)))
             key_of_object(a, t->process, raw_object(r->what));
     }
 }

@@ -101,6 +101,9 @@ bool is_signal(struct arena *a, uint32_t object) {
     return s ? s->is_signal : o && o->is_signal;
 }
 
+/* Whether nothing of it is written. */
+bool is_left_out(struct arena *a, uint32_t object) { return is_signal(a, object) || is_thread_left_out(a, object); }
+
 /* How many semaphores are. */
 uint64_t signals(void) {
     uint64_t count = 0;

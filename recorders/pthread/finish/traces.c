@@ -31,6 +31,7 @@ struct held {
     int key;
     enum mode mode;
     bool is_written;
+    bool is_own; /* it is the thread itself */
 };
 
 struct trace {
@@ -43,6 +44,10 @@ struct trace {
     uint64_t events;
     int version;
     bool waits; /* its last record is a lock that it waits for */
+    const char *name;
+    FILE *weak; /* lines about its weak acquisitions; NULL if it has none */
+    char *weak_text;
+    size_t weak_length;
 };
 
 static bool is_try(enum mode mode) { return mode >= MODE_TRY_WRITE && mode <= MODE_TRY_REC_READ; }
@@ -91,6 +96,7 @@ static void write_line(FILE *file, const char *name, unsigned subclass, const ch
 }
 
 static void write_event(struct trace *t, const struct held *h, const char *mode, uint32_t place) {
+    struct place start;
     char object[MAX_OBJECT_NAME + 1];
     int object_key = key_of_object(t->arena, t->raw->process, h->object);
     unsigned subclass = subclass_of(t->arena, h->object);
@@ -99,7 +105,7 @@ static void write_event(struct trace *t, const struct held *h, const char *mode,
     add_content(&t->content, (uint64_t)subclass << 32 | (mode ? (uint64_t)(mode[0] | mode[1] << 8 | (mode[1] ? mode[2] << 16 : 0)) : 0));
     write_line(t->text, keys[h->key].name, subclass, mode);
     write_line(t->objects, object, subclass, mode);
-    write_place(t->places, place_numbered(t->arena, place));
+    write_place(t->places, h->is_own ? start_of(t->arena, h->object, &start) : place_numbered(t->arena, place));
     t->events++;
 }
 
@@ -167,10 +173,58 @@ static void take_back(struct trace *t, const struct held *new) {
             write_event(t, &t->held[i], mode_words[t->held[i].mode % MODE_TRY_WRITE + MODE_TRY_WRITE], t->held[i].place);
 }
 
+/* ---- Weak acquisitions: under others, and by a wait that gives up, or of a lock that no other thread knew yet. They are in the trace as
+   any others; a file says which they are. */
+
+static const struct {
+    uint32_t added;
+    const char *word;
+} weak_kinds[] = {{RAW_TIMED, "timed"}, {RAW_NEW, "new-lock"}};
+
+static void tell_weak(struct trace *t, uint32_t what) {
+    for (size_t i = 0; i < sizeof weak_kinds / sizeof *weak_kinds; i++) {
+        if (!raw_has(what, weak_kinds[i].added))
+            continue;
+        if (!t->weak)
+            t->weak = checked(open_memstream(&t->weak_text, &t->weak_length));
+        add_content(&t->content, weak_kinds[i].added);
+        fprintf(t->weak, "%s.csv %lu %s\n", t->name, (unsigned long)t->events + 1, weak_kinds[i].word);
+    }
+}
+
+/* A file that is made when there is something to write. */
+struct late_file {
+    FILE *file;
+    char path[4300];
+};
+
+static FILE *begun(struct late_file *late, const char *folder, const char *name) {
+    snprintf(late->path, sizeof late->path, "%s/%s", folder, name);
+    if (!late->file)
+        late->file = created(late->path);
+    return late->file;
+}
+
+static void end_file(struct late_file *late) {
+    if (late->file)
+        closed(late->file, late->path);
+}
+
+static struct late_file weak_file, tasks_file;
+
+static void write_weak(const char *folder, struct trace *t, bool is_kept) {
+    if (!t->weak)
+        return;
+    fclose(t->weak);
+    if (is_kept)
+        fputs(t->weak_text, begun(&weak_file, folder, "weak"));
+    free(t->weak_text);
+}
+
 static void take(struct trace *t, const struct raw_record *r) {
     enum mode mode = raw_mode(r->what);
-    bool is_in_order = raw_is_in_order(r->what) && t->version > 1;
-    struct held h = {raw_object(r->what), r->place, 0, mode, false};
+    bool is_in_order = raw_has(r->what, RAW_IN_ORDER) && t->version > 1;
+    struct held h = {.object = raw_object(r->what), .place = r->place, .mode = mode, .is_own = raw_object(r->what) == own_object(t->arena, t->raw)};
     if (t->depth == RAW_HELD)
         return;
     h.key = class_key_of(t->arena, h.object);
@@ -188,6 +242,8 @@ static void take(struct trace *t, const struct raw_record *r) {
         set_aside(t, &h, r);
     if (h.is_written)
         write_event(t, &h, mode_words[mode], r->place);
+    if (h.is_written)
+        tell_weak(t, r->what);
     if (h.is_written && is_in_order)
         take_back(t, &h);
     t->written += h.is_written;
@@ -260,18 +316,25 @@ static void tell_last(const struct trace *t, const char *name) {
 /* ---- A trace. */
 
 static void write_records(struct trace *t) {
-    t->waits = t->raw->waits;
+    uint32_t own = own_object(t->arena, t->raw);
+    t->waits = waits_for_ever(t->raw);
+    if (own)
+        take(t, &(struct raw_record){raw_what(own, MODE_WRITE), 0});
     for (uint64_t i = 0; i < t->raw->count; i++) {
         const struct raw_record *r = record_of(t->arena, t->raw, i);
-        bool is_left_out = r && is_signal(t->arena, raw_object(r->what));
-        t->waits = t->raw->waits && !is_left_out;
-        if (!r || is_left_out)
+        bool is_out = r && is_left_out(t->arena, raw_object(r->what));
+        t->waits = waits_for_ever(t->raw) && !is_out && !(r && is_going_on(t->arena, raw_object(r->what)));
+        if (!r || is_out)
             continue;
         if (raw_mode(r->what) == MODE_RELEASE)
             give_back(t, r);
         else
             take(t, r);
     }
+    if (t->raw->waits == RAW_WAITS_FOR_A_TIME && t->depth) /* it gives up in the end */
+        give_back(t, &(struct raw_record){raw_what(t->held[t->depth - 1].object, MODE_RELEASE), t->held[t->depth - 1].place});
+    if (own && t->raw->ended)
+        give_back(t, &(struct raw_record){raw_what(own, MODE_RELEASE), 0});
 }
 
 /* The files of a trace: by classes and by objects, and the places, which are the same for both. */
@@ -317,18 +380,13 @@ static void close_files(struct trace *t, const struct names *n, bool is_kept) {
     }
 }
 
-/* The file with the names of threads, which is made for the first one that has a name. */
-static FILE *tasks;
-static char tasks_path[4300];
-
-static void write_task(const char *folder, const struct trace *t, const char *trace) {
+/* The name of a thread that has one. */
+static void write_task(const char *folder, const struct trace *t) {
     const struct raw_process *process = part_of(t->arena, RAW_PROCESSES, t->raw->process);
     if (!t->raw->name[0] || !process)
         return;
-    snprintf(tasks_path, sizeof tasks_path, "%s/tasks", folder);
-    if (!tasks)
-        tasks = created(tasks_path);
-    fprintf(tasks, "%s.csv %u ", trace, process->id);
+    FILE *tasks = begun(&tasks_file, folder, "tasks");
+    fprintf(tasks, "%s.csv %u ", t->name, process->id);
     for (const char *name = t->raw->name; name < t->raw->name + RAW_CALLED && *name; name++)
         putc((unsigned char)*name < ' ' ? '?' : *name, tasks);
     putc('\n', tasks);
@@ -341,17 +399,19 @@ static void write_trace(const char *folder, struct trace *t) {
     snprintf(n.objects, sizeof n.objects, "%s/objects/%s.csv", folder, n.trace);
     snprintf(n.places, sizeof n.places, "%s.places", n.text);
     snprintf(n.object_places, sizeof n.object_places, "%s.places", n.objects);
+    t->name = n.trace;
     open_files(t, &n);
     write_records(t);
     bool is_told = t->events && !is_told_at_end(t) && is_told_enough(&t->content, (uint32_t)sums.threads + 1);
     close_files(t, &n, t->events && !is_told);
+    write_weak(folder, t, t->events && !is_told);
     sums.alike += is_told;
     if (t->events == 0 || is_told)
         return;
     sums.threads++;
     sums.events += t->events;
     tell_last(t, n.trace);
-    write_task(folder, t, n.trace);
+    write_task(folder, t);
 }
 
 static void add_left_out(const struct raw_left_out *from) {
@@ -391,8 +451,8 @@ void write_traces(const char *folder, int version) {
             t.version = version;
             write_trace(folder, &t);
         }
-    if (tasks)
-        closed(tasks, tasks_path);
+    end_file(&tasks_file);
+    end_file(&weak_file);
 }
 
 /* ---- The classes. */
@@ -400,7 +460,7 @@ void write_traces(const char *folder, int version) {
 static const char *const kind_words[CLASS_KINDS] = {
     [CLASS_NONE] = "unknown", [CLASS_INIT] = "init", [CLASS_STATIC] = "static", [CLASS_HEAP] = "heap",     [CLASS_THREAD] = "thread",
     [CLASS_TAKE] = "take",    [CLASS_FILE] = "file", [CLASS_NESTED] = "nested", [CLASS_STACK] = "stack", [CLASS_NAMED] = "named",
-    [CLASS_IGNORED] = "ignored"};
+    [CLASS_IGNORED] = "ignored", [CLASS_RUN] = "started"};
 
 /* A path in a line of `classes`: one that has a line break or the like is named with a question mark there, and isn't found. */
 static void write_path(FILE *file, const char *path) {
@@ -410,8 +470,8 @@ static void write_path(FILE *file, const char *path) {
 
 /* Where the class is. Of code it is an address after a call, and so of a function the second one. */
 static void write_class(FILE *file, const struct key *key) {
-    bool is_somewhere = key->path || key->at != UINT64_MAX;
-    uint64_t at = key->path ? key->at : is_somewhere ? raw_word_offset(key->at) + (key->kind == CLASS_STACK) : 0;
+    bool is_somewhere = key->path || key->at != UINT64_MAX, is_function = key->kind == CLASS_STACK || (key->kind == CLASS_RUN && !key->made);
+    uint64_t at = key->path ? key->at : is_somewhere ? raw_word_offset(key->at) + is_function : 0;
     fprintf(file, "%s\t", key->name);
     write_path(file, key->path ? key->path : is_somewhere ? modules[raw_word_module(key->at)].path : "-");
     fprintf(file, "\t%lx\t%s", (unsigned long)at, kind_words[key->kind < CLASS_KINDS ? key->kind : 0]);

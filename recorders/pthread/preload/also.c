@@ -303,26 +303,26 @@ EXPORT int sem_destroy(sem_t *lock) {
 }
 
 /* Tries first, as with a mutex. A wait that a signal ends is withdrawn. */
-#define WAITING(name, is_sound, parameters, arguments)                                                                 \
+#define WAITING(name, mode, is_sound, parameters, arguments)                                                           \
     EXPORT int name parameters {                                                                                       \
         if (!SEMAPHORES || !(is_sound) || is_left_out(lock))                                                           \
             return REAL(name) arguments;                                                                               \
         int saved = errno, answer = REAL(sem_trywait)(lock);                                                           \
         if (answer == 0) {                                                                                             \
-            took(lock, MODE_WRITE, HERE);                                                                              \
+            took(lock, mode, HERE);                                                                                    \
             return 0;                                                                                                  \
         }                                                                                                              \
         errno = saved;                                                                                                 \
-        bool is_wish = begin_wish((uintptr_t)lock, MODE_WRITE, KIND_COUNTED, HERE);                                    \
+        bool is_wish = begin_wish((uintptr_t)lock, mode, KIND_COUNTED, HERE);                                          \
         answer = REAL(name) arguments;                                                                                 \
         if (is_wish ? !end_wish((uintptr_t)lock, answer == 0, HERE) : answer == 0)                                     \
-            took(lock, MODE_WRITE, HERE);                                                                              \
+            took(lock, mode, HERE);                                                                                    \
         return answer;                                                                                                 \
     }
 
-WAITING(sem_wait, true, (sem_t * lock), (lock))
-WAITING(sem_timedwait, is_time(until), (sem_t *restrict lock, const struct timespec *restrict until), (lock, until))
-WAITING(sem_clockwait, IS_CLOCK(clock) && is_time(until), (sem_t *restrict lock, clockid_t clock, const struct timespec *restrict until), (lock, clock, until))
+WAITING(sem_wait, MODE_WRITE, true, (sem_t * lock), (lock))
+WAITING(sem_timedwait, MODE_WRITE | RAW_TIMED, is_time(until), (sem_t *restrict lock, const struct timespec *restrict until), (lock, until))
+WAITING(sem_clockwait, MODE_WRITE | RAW_TIMED, IS_CLOCK(clock) && is_time(until), (sem_t *restrict lock, clockid_t clock, const struct timespec *restrict until), (lock, clock, until))
 
 EXPORT int sem_trywait(sem_t *lock) {
     bool is_seen = SEMAPHORES && !is_left_out(lock);

@@ -201,7 +201,7 @@ uint32_t object_as_said(uintptr_t lock, uint32_t object, uint8_t *mode, enum kin
     if (kind == KIND_COUNTED)
         return object;
     uint32_t said = with_subclass(lock, object);
-    if (*mode < MODE_TRY_WRITE && is_in_order(lock, said, call))
+    if (raw_plain(*mode) < MODE_TRY_WRITE && is_in_order(lock, said, call))
         *mode |= RAW_IN_ORDER;
     return said;
 }

@@ -174,8 +174,8 @@ INITIALISING(pthread_mutex_init, pthread_mutex_t, const pthread_mutexattr_t *how
 DESTROYING(pthread_mutex_destroy, pthread_mutex_t)
 TAKING(pthread_mutex_lock, pthread_mutex_trylock, EBUSY, MODE_WRITE, true, true, (pthread_mutex_t * lock), (lock))
 TRYING(pthread_mutex_trylock, MODE_TRY_WRITE, (pthread_mutex_t * lock), (lock))
-TAKING(pthread_mutex_timedlock, pthread_mutex_trylock, EBUSY, MODE_WRITE, true, false, (pthread_mutex_t * lock, deadline until), (lock, until))
-TAKING(pthread_mutex_clocklock, pthread_mutex_trylock, EBUSY, MODE_WRITE, IS_CLOCK(clock), false, (pthread_mutex_t * lock, clockid_t clock, deadline until), (lock, clock, until))
+TAKING(pthread_mutex_timedlock, pthread_mutex_trylock, EBUSY, MODE_WRITE | RAW_TIMED, true, false, (pthread_mutex_t * lock, deadline until), (lock, until))
+TAKING(pthread_mutex_clocklock, pthread_mutex_trylock, EBUSY, MODE_WRITE | RAW_TIMED, IS_CLOCK(clock), false, (pthread_mutex_t * lock, clockid_t clock, deadline until), (lock, clock, until))
 RELEASING(pthread_mutex_unlock, pthread_mutex_t)
 
 /* A read-write lock of glibc lets readers pass waiting writers, unless it was made to prefer writers. */
@@ -187,12 +187,12 @@ INITIALISING(pthread_rwlock_init, pthread_rwlock_t, const pthread_rwlockattr_t *
 DESTROYING(pthread_rwlock_destroy, pthread_rwlock_t)
 TAKING(pthread_rwlock_rdlock, pthread_rwlock_tryrdlock, EBUSY, reads(lock), true, true, (pthread_rwlock_t * lock), (lock))
 TRYING(pthread_rwlock_tryrdlock, (uint8_t)(reads(lock) + TRIES), (pthread_rwlock_t * lock), (lock))
-TAKING(pthread_rwlock_timedrdlock, pthread_rwlock_tryrdlock, EBUSY, reads(lock), is_time(until), false, (pthread_rwlock_t * lock, deadline until), (lock, until))
-TAKING(pthread_rwlock_clockrdlock, pthread_rwlock_tryrdlock, EBUSY, reads(lock), IS_CLOCK(clock) && is_time(until), false, (pthread_rwlock_t * lock, clockid_t clock, deadline until), (lock, clock, until))
+TAKING(pthread_rwlock_timedrdlock, pthread_rwlock_tryrdlock, EBUSY, reads(lock) | RAW_TIMED, is_time(until), false, (pthread_rwlock_t * lock, deadline until), (lock, until))
+TAKING(pthread_rwlock_clockrdlock, pthread_rwlock_tryrdlock, EBUSY, reads(lock) | RAW_TIMED, IS_CLOCK(clock) && is_time(until), false, (pthread_rwlock_t * lock, clockid_t clock, deadline until), (lock, clock, until))
 TAKING(pthread_rwlock_wrlock, pthread_rwlock_trywrlock, EBUSY, MODE_WRITE, true, true, (pthread_rwlock_t * lock), (lock))
 TRYING(pthread_rwlock_trywrlock, MODE_TRY_WRITE, (pthread_rwlock_t * lock), (lock))
-TAKING(pthread_rwlock_timedwrlock, pthread_rwlock_trywrlock, EBUSY, MODE_WRITE, is_time(until), false, (pthread_rwlock_t * lock, deadline until), (lock, until))
-TAKING(pthread_rwlock_clockwrlock, pthread_rwlock_trywrlock, EBUSY, MODE_WRITE, IS_CLOCK(clock) && is_time(until), false, (pthread_rwlock_t * lock, clockid_t clock, deadline until), (lock, clock, until))
+TAKING(pthread_rwlock_timedwrlock, pthread_rwlock_trywrlock, EBUSY, MODE_WRITE | RAW_TIMED, is_time(until), false, (pthread_rwlock_t * lock, deadline until), (lock, until))
+TAKING(pthread_rwlock_clockwrlock, pthread_rwlock_trywrlock, EBUSY, MODE_WRITE | RAW_TIMED, IS_CLOCK(clock) && is_time(until), false, (pthread_rwlock_t * lock, clockid_t clock, deadline until), (lock, clock, until))
 RELEASING(pthread_rwlock_unlock, pthread_rwlock_t)
 
 INITIALISING(pthread_spin_init, pthread_spinlock_t volatile, int shared, shared)
@@ -219,7 +219,7 @@ EXPORT void mtx_destroy(mtx_t *lock) {
 }
 
 TAKING(mtx_lock, mtx_trylock, thrd_busy, MODE_WRITE, true, true, (mtx_t * lock), (lock))
-TAKING(mtx_timedlock, mtx_trylock, thrd_busy, MODE_WRITE, true, false, (mtx_t * restrict lock, const struct timespec *restrict until), (lock, until))
+TAKING(mtx_timedlock, mtx_trylock, thrd_busy, MODE_WRITE | RAW_TIMED, true, false, (mtx_t * restrict lock, const struct timespec *restrict until), (lock, until))
 TRYING(mtx_trylock, MODE_TRY_WRITE, (mtx_t * lock), (lock))
 RELEASING(mtx_unlock, mtx_t)
 
@@ -275,11 +275,14 @@ WAITING(cnd_timedwait, is_time(until), (cnd_t *restrict condition, mtx_t *restri
 EXPORT int pthread_create(pthread_t *thread, const pthread_attr_t *how, void *(*run)(void *), void *with) {
     if (!resolved())
         return EAGAIN;
+    uint32_t before = traces_so_far();
     if (is_recording())
         note_frames(HERE);
     int error = REAL(pthread_create)(thread, how, run, with);
-    if (!error)
+    if (!error) {
         forget_name(*thread);
+        note_start(*thread, (uintptr_t)run, before, HERE);
+    }
     return error;
 }
 

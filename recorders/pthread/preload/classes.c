@@ -199,7 +199,7 @@ static uint32_t define_class(const struct raw_class *new) {
     class->place = new->place;
     class->word = new->word;
     class->offset = new->offset;
-    class->look = is_known_by_address(new->kind) || is_said(new->kind) ? RAW_NO_LOOK : 0;
+    class->look = is_known_by_address(new->kind) || is_said(new->kind) || new->kind == CLASS_RUN ? RAW_NO_LOOK : 0;
     STORE(&class->kind, new->kind);
     return number;
 }
@@ -435,6 +435,15 @@ uint32_t apart(uintptr_t lock, uint32_t object) {
     return own && put_lock(lock, own) == own ? own : object;
 }
 
+/* The same of a lock that isn't nested in another one: it may be held while a thread is waited for, and so may the thread that takes it. Most
+   ordinals are kept for locks that are nested. */
+uint32_t apart_early(uintptr_t lock, uint32_t object) {
+    if (LIKELY(ordinal_of(object)))
+        return object;
+    struct kept_of_class *kept = kept_of(class_of(object));
+    return kept && __builtin_popcount(LOAD(&kept->given)) < RAW_EARLY ? apart(lock, object) : object;
+}
+
 /* Whether the object is of one lock alone, at one address, and stays so. */
 bool is_single(uint32_t object) {
     uint32_t ordinal = ordinal_of(object);
@@ -468,7 +477,7 @@ void forget_own_lock(uintptr_t lock) {
 }
 
 /* The memory that the lock is in is marked, so that it is forgotten with that. */
-void know_by_place(uintptr_t lock, struct call call) {
+bool know_by_place(uintptr_t lock, struct call call) {
     struct memory memory;
     uint32_t class = class_that_stays(lock, call), place = class ? 0 : place_here(call);
     drop_lock(lock);
@@ -476,7 +485,8 @@ void know_by_place(uintptr_t lock, struct call call) {
     if (place)
         class = known_class((struct raw_class){.kind = CLASS_INIT, .place = place});
     look_once(class, lock, &memory, call);
-    new_object(lock, class);
+    uint32_t object = new_object(lock, class);
+    return object && ordinal_of(object) != RAW_SHARED;
 }
 
 /* What the program says the lock is, which is more than what else is known of it. */
@@ -523,6 +533,21 @@ void know_by_file(uintptr_t lock, uint32_t file, uint64_t offset) {
     uint32_t object = class ? object_in_file(class, file, offset) : 0;
     if (object)
         add_lock(lock, object);
+}
+
+/* ---- Threads that are joined. The threads of C++, and of other libraries, run one function of the library: these are known by where they were
+   started. */
+
+uint32_t class_of_threads(uintptr_t run, struct call call) {
+    const struct module *module = module_of(run);
+    bool is_of_program = module && module->number && !raw_is_of_system(((struct raw_module *)part_of(RAW_MODULES, module->number))->path);
+    return known_class(is_of_program ? (struct raw_class){.kind = CLASS_RUN, .word = word_of(run)}
+                                     : (struct raw_class){.kind = CLASS_RUN, .place = place_of_call(call, RAW_FRAMES)});
+}
+
+uint32_t next_object(uint32_t class) {
+    struct kept_of_class *kept = kept_of(class);
+    return object_numbered(class, kept ? taken_ordinal(kept) : 0);
 }
 
 /* ---- A library was closed: places in it, and classes by them, are to be defined anew if the same addresses come again. */

@@ -2,7 +2,7 @@
    it is. The operators `new` of C++ call malloc, so their callers are among the callers of that.
 
    Pieces are kept by address, in lines of some slots, in levels of which each has more lines than the one before. */
-#include "own.h"
+#include "held.h"
 
 #include <errno.h>
 #include <malloc.h>
@@ -172,6 +172,7 @@ static inline void put_noted(void *piece, size_t size, uint64_t element, struct 
         return;
     uint64_t place = RARELY(element) ? place_of_array(call, PIECE_FRAMES, element) : place_of_call(call, PIECE_FRAMES);
     put_piece((uintptr_t)piece, (uint64_t)size << SIZE_SHIFT | place);
+    note_own_piece((uintptr_t)piece);
     if (RARELY(size >= LONG_PIECE))
         put_parts((uintptr_t)piece, size);
 }

@@ -20,6 +20,7 @@ struct held {
     uint8_t kind;
     bool is_written; /* there is a record of it */
     bool is_wish;    /* the thread still waits for it */
+    uint8_t weak;    /* what of RAW_WEAK its record has besides */
     uint64_t record; /* the number of its record */
     uint64_t fresh_before; /* where the last record of something new ended then */
 };
@@ -36,6 +37,7 @@ struct links {
 struct level {
     uint64_t start; /* how many records there were before it */
     uint64_t hash;  /* of the locks that were held then */
+    uint64_t calls; /* of the thread up to it */
 };
 
 /* What is known at one depth of nesting. */
@@ -54,7 +56,7 @@ struct step {
     uint64_t word;        /* that is there as long as the lock is that object */
     const uint8_t *looks; /* that are left at its class */
     uint64_t era;
-    uint32_t place;
+    struct raw_record record;
     uint64_t missed; /* the key of the step that was looked for here last, and wasn't here */
 };
 
@@ -66,6 +68,13 @@ struct step {
 #define PLACES 16
 #define OWN_LOCKS 16
 #define FIRST_HELD 8
+
+/* A piece of memory that the thread has allocated, after so many calls. */
+#define OWN_PIECES 16
+struct own_piece {
+    uintptr_t address;
+    uint64_t calls;
+};
 
 /* The function of the loader's that a thread is in, or was in when it came last. */
 struct loading {
@@ -90,6 +99,7 @@ struct thread {
     struct raw_record *records; /* the chunk that the last record came to: it has those from one number on, and so many */
     uint64_t records_from, records_room;
     struct raw_record *chunks[RAW_CHUNKS];
+    uint32_t number;   /* of its trace */
     uint32_t is_taken; /* some thread has this */
     uint32_t steps_room, steps_replaced;
     struct step *all_steps; /* room for so many; NULL until it is needed */
@@ -100,6 +110,11 @@ struct thread {
     uint32_t *held_by_trace; /* room for mending; NULL until it is needed */
     uintptr_t own_locks[OWN_LOCKS]; /* the last ones that were met first by it, in its frames or among its own variables; 0: none */
     uint32_t own_lock_count; /* so many there were, with those that aren't here any more */
+    struct own_piece own_pieces[OWN_PIECES]; /* the last ones that it allocated with something held */
+    uint32_t own_piece_count;
+    bool is_started;      /* by another thread, which may wait for its end */
+    uint64_t last_making; /* after how many calls it last made a lock, or allocated memory for one, with something held */
+    uint64_t new_since;   /* after so many calls a lock was released that it held then: what was made before isn't new any more */
     struct thread *next;
     struct {
         uintptr_t caller;
@@ -132,9 +147,15 @@ extern uint64_t is_memo_off; /* by LOCKDEP_MEMO=off, for tests: what is recorded
 /* Whether there is nothing that the thread has to look at on its way. */
 QUICK bool is_settled(const struct thread *t) { return !(t->loading.lock | t->wish.frame | t->failed_under | is_memo_off); }
 
+QUICK void note_own_piece(uintptr_t address) {
+    struct thread *t = self.thread;
+    if (RARELY(t && t->depth))
+        t->own_pieces[t->own_piece_count++ % OWN_PIECES] = (struct own_piece){address, t->last_making = t->raw->calls};
+}
+
 /* ---- Steps. */
 
-QUICK uintptr_t step_from(uintptr_t caller, uint8_t mode, enum kind kind) { return caller << 8 | (uintptr_t)kind << 4 | mode; }
+QUICK uintptr_t step_from(uintptr_t caller, uint8_t mode, enum kind kind) { return caller << 8 | (uintptr_t)kind << 5 | mode; }
 
 QUICK uint64_t step_key(uint64_t before, uintptr_t lock, uintptr_t from) {
     return before ^ (lock ^ from) * UINT64_C(0x9e3779b97f4a7c15) >> 32;
@@ -161,11 +182,12 @@ QUICK bool step_on(struct thread *t, uintptr_t lock, uintptr_t from) {
     e->links = s->links;
     e->level.start = count;
     e->level.hash = before;
+    e->level.calls = raw->calls + 1;
     __atomic_signal_fence(__ATOMIC_RELEASE);
     t->hash = s->links.hash;
     t->depth++;
     raw->calls++;
-    t->records[nth] = (struct raw_record){s->held.what[BY_OBJECTS], s->place};
+    t->records[nth] = s->record;
     __atomic_signal_fence(__ATOMIC_RELEASE);
     raw->count = count + 1;
     return true;

@@ -136,6 +136,8 @@ uint32_t lock_object(uintptr_t lock); /* the object of a lock, or 0 */
 const uint64_t *lock_slot(uintptr_t lock, uint32_t object, uint64_t *word); /* what says so, and with which word; NULL: it isn't */
 uint32_t put_lock(uintptr_t lock, uint32_t object); /* the object that it is then, or 0 if there is no room */
 uint32_t add_lock(uintptr_t lock, uint32_t object); /* the same of a lock that isn't there */
+void note_new(uintptr_t lock, uint32_t thread, uint64_t calls); /* it was made by a thread after so many calls */
+bool comes_to_new(uintptr_t lock, uint32_t thread, uint64_t since); /* whether no other one has come since; else it isn't new any more */
 void drop_lock(uintptr_t lock);
 void end_lock(uintptr_t lock); /* the same, and what was said of it has ended too */
 void drop_locks_between(uintptr_t from, uintptr_t to);
@@ -261,6 +263,7 @@ uint32_t place_of_call(struct call call, uint32_t most);
 uint32_t place_of_array(struct call call, uint32_t most, uint64_t element);
 uint32_t object_of_lock(uintptr_t lock, struct call call); /* makes one of a new lock; 0: no room */
 uint32_t apart(uintptr_t lock, uint32_t object); /* an object of its own for a nested lock, or the same */
+uint32_t apart_early(uintptr_t lock, uint32_t object);
 static inline uint32_t class_of(uint32_t object) { return ((struct raw_object *)part_of(RAW_OBJECTS, object))->class; }
 /* Whether the object is a semaphore that was found to be no lock. */
 static inline bool is_signal(uint32_t object) { return LOAD(&((struct raw_object *)part_of(RAW_OBJECTS, object))->is_signal); }
@@ -270,9 +273,11 @@ const uint8_t *looks_left_at(uint32_t class);
 bool is_mapped_place(uint32_t place);
 void note_size(uint32_t place, uint64_t bytes);
 void look_at_taker(uint32_t class, struct call call);
-void know_by_place(uintptr_t lock, struct call call);
+bool know_by_place(uintptr_t lock, struct call call); /* whether it is a lock of this process alone */
 void know_by_text(uintptr_t lock, enum class_kind kind, uint32_t text, struct call call);
 uint32_t reason_to_ignore(uint32_t object);
+uint32_t class_of_threads(uintptr_t run, struct call call); /* that run a function */
+uint32_t next_object(uint32_t class);
 void note_given_out(uintptr_t lock);
 uint32_t object_of_subclass(uintptr_t lock, uint32_t object, uint32_t subclass);
 void know_by_file(uintptr_t lock, uint32_t file, uint64_t offset);
@@ -295,6 +300,7 @@ enum kind {
     KIND_SPIN,
     KIND_RECURSIVE, /* it is the same hold, once more */
     KIND_COUNTED,   /* each time is a hold of its own */
+    KIND_THREAD,    /* the same, of a thread that ends */
 };
 
 bool begin_inside(struct call call);
@@ -305,6 +311,9 @@ void acquired(uintptr_t lock, uint8_t mode, enum kind kind, struct call call);
 void acquired_anew(uintptr_t lock, uint8_t mode, enum kind kind, struct call call); /* without looking up whether it repeats */
 bool begin_wish(uintptr_t lock, uint8_t mode, enum kind kind, struct call call);
 bool end_wish(uintptr_t lock, bool is_taken, struct call call);
+bool wish_for_end(uintptr_t thread, uint32_t object, uint8_t mode, struct call call); /* inside the recorder; end_wish is to follow */
+void pass_end(uintptr_t thread, uint32_t object, uint8_t mode, struct call call); /* inside the recorder */
+bool has_trace(void);
 void releasing(uintptr_t lock, struct call call);
 bool releasing_own(uintptr_t lock, struct call call);
 void released_unseen(struct call call);
@@ -331,6 +340,13 @@ struct held_lock {
 bool nth_held(uint32_t n, struct held_lock *held); /* of this thread, the newest first */
 void end_own_holds(uintptr_t from, uintptr_t to, struct call call); /* inside the recorder */
 uint32_t held_object(uintptr_t lock); /* as which this thread holds it; 0 if it doesn't */
+
+/* ---- joins.c */
+
+uint32_t traces_so_far(void);
+void note_start(pthread_t thread, uintptr_t run, uint32_t before, struct call call);
+void note_trace(struct raw_thread *part, uint32_t number);
+bool is_first_thread(void);
 
 /* ---- annotations.c */
 

@@ -46,7 +46,9 @@ static bool begin_trace(struct thread *t) {
         return false;
     t->raw = part_of(RAW_THREADS, number);
     t->raw->process = own_process;
+    t->number = number;
     begin_name(t->raw);
+    note_trace(t->raw, number);
     for (int i = 0; i < RAW_CHUNKS; i++) {
         AS_WRITTEN;
         t->chunks[i] = NULL;
@@ -61,6 +63,10 @@ static bool begin_trace(struct thread *t) {
     t->depth = 0;
     t->failed = 0;
     t->failed_under = 0;
+    t->own_piece_count = 0;
+    t->is_started = !is_first_thread();
+    t->last_making = 0;
+    t->new_since = 0;
     t->loading.lock = 0;
     t->wish.frame = 0;
     t->unnoted = 0;
@@ -264,6 +270,8 @@ static void pop_links(struct thread *t, const struct held *gone) {
 
 static inline uint32_t object_of(const struct held *h) { return raw_object(h->what[BY_OBJECTS]); }
 static inline enum mode mode_of(const struct held *h) { return raw_mode(h->what[BY_OBJECTS]); }
+static inline uint8_t mode_with_weak(const struct held *h) { return (uint8_t)(mode_of(h) | h->weak); }
+static inline uint32_t what_written(const struct held *h) { return h->what[BY_OBJECTS] | raw_what(0, h->weak); }
 
 static void put_seen(uint64_t *seen, size_t mask, uint64_t way) {
     size_t i = way >> 1 & mask;
@@ -298,6 +306,12 @@ static bool is_seen(const struct thread *t, uint64_t way) {
     return false;
 }
 
+/* The way in which the newest of so many locks was taken. A weak acquisition is none if the lock was taken so otherwise. */
+static uint64_t way_at(const struct thread *t, uint32_t depth) {
+    uint64_t hash = hash_of(t, depth), weak = (&t->entries[depth] - 1)->held.weak;
+    return way_of(weak && !is_seen(t, way_of(hash)) ? hash + weak : hash);
+}
+
 /* Whether the way is new. It isn't any more. */
 static bool see(struct thread *t, uint64_t way) {
     if (is_seen(t, way))
@@ -328,6 +342,8 @@ static uint32_t cached_place(struct thread *t, uintptr_t caller) {
 static void release_at(struct thread *t, uint32_t i, uintptr_t caller) {
     struct held gone = t->entries[i].held;
     bool was_newest = i + 1 == t->depth;
+    if (RARELY(t->depth > 1 && t->entries[i].level.calls <= t->last_making))
+        t->new_since = t->raw->calls;
     t->failed_under -= i < t->failed_under;
     for (; i + 1 < t->depth; i++)
         t->entries[i].held = t->entries[i + 1].held;
@@ -503,14 +519,14 @@ static void tell_apart(struct thread *t, uint32_t i) {
         return;
     h->what[BY_OBJECTS] = raw_what(object, h->what[BY_OBJECTS] >> RAW_OBJECT_BITS);
     if (h->is_written)
-        record_at(t, h->record)->what = h->what[BY_OBJECTS];
+        record_at(t, h->record)->what = what_written(h);
     uint32_t at = newest_of(t, BY_OBJECTS, before);
     if (at == RAW_HELD)
         return;
     t->entries[at].links.what[BY_OBJECTS] = h->what[BY_OBJECTS];
     rehash(t, at, t->depth);
     for (uint32_t depth = at + 1; depth <= t->depth; depth++)
-        if (see(t, way_of(hash_of(t, depth))))
+        if (see(t, way_at(t, depth)))
             t->fresh_end = t->raw->count;
 }
 
@@ -537,25 +553,29 @@ static bool write_acquisition(struct thread *t, uint32_t what, struct call call,
 }
 
 static void push_held(struct thread *t, uintptr_t lock, uint32_t object, uint8_t mode, enum kind kind, struct call call, bool is_wish) {
-    if (t->depth) {
+    if (!t->depth && kind != KIND_THREAD)
+        object = apart_early(lock, object);
+    else if (t->depth && !(kind == KIND_THREAD && is_wish)) { /* a thread that is waited for may have no locks */
         object = apart(lock, object);
         for (uint32_t i = 0; i < t->depth; i++)
             tell_apart(t, i);
     }
     if (raw_plain(mode) < MODE_TRY_WRITE && t->failed != lock) /* else it may be std::lock, which takes what it is given in any order */
         look_at_taker(class_of(object), call);
+    uint8_t weak = mode & RAW_WEAK;
+    mode ^= weak;
     uint32_t what[READERS] = {raw_what(object, mode), raw_what(class_of(object), mode)};
     uint64_t start = t->raw->count;
     struct entry *e = &t->entries[t->depth];
-    e->level = (struct level){.start = start, .hash = hash_of(t, t->depth)};
+    e->level = (struct level){.start = start, .hash = hash_of(t, t->depth), .calls = t->raw->calls};
     e->held = (struct held){.lock = lock, .record = start, .fresh_before = t->fresh_end, .what = {what[0], what[1]},
-                            .released = releases_so_far(lock), .kind = (uint8_t)kind, .is_wish = is_wish};
+                            .released = releases_so_far(lock), .kind = (uint8_t)kind, .is_wish = is_wish, .weak = weak};
     memcpy(e->links.what, what, sizeof what);
     rehash(t, t->depth, t->depth + 1);
     t->depth++;
-    uint64_t way = way_of(hash_of(t, t->depth));
+    uint64_t way = way_at(t, t->depth);
     bool is_new = is_wish ? !is_seen(t, way) : see(t, way);
-    e->held.is_written = write_acquisition(t, what[BY_OBJECTS], call, is_new);
+    e->held.is_written = write_acquisition(t, what_written(&e->held), call, is_new);
     if (is_new)
         t->fresh_end = t->raw->count;
 }
@@ -577,15 +597,39 @@ __attribute__((noinline)) static bool add_entries(struct thread *t) {
 
 static inline bool has_entry_left(struct thread *t) { return LIKELY(t->depth < t->room) || add_entries(t); }
 
+/* After how many calls the thread came to hold something, which it has done ever since, with all that it held when it made a lock last. */
+static inline uint64_t held_since(const struct thread *t) {
+    if (!t->depth)
+        return UINT64_MAX;
+    return t->entries[0].level.calls > t->new_since ? t->entries[0].level.calls : t->new_since;
+}
+
+/* A lock that nobody has come to yet is new if its memory was allocated in this hold. */
+static void note_if_own(struct thread *t, uintptr_t lock) {
+    struct memory memory;
+    uint32_t count = t->own_piece_count < OWN_PIECES ? t->own_piece_count : OWN_PIECES;
+    bool is_known = find_memory(lock, &memory);
+    for (uint32_t i = 0; is_known && i < count; i++)
+        if (t->own_pieces[i].address == memory.from && t->own_pieces[i].calls >= held_since(t))
+            note_new(lock, t->number, t->own_pieces[i].calls);
+}
+
 /* The lock's object, if there is room for one more that is held; else the hold has no entry. A semaphore has one of its own before it is
    nested, since it may be found to be no lock. The program may have said something of the lock, or that it isn't to be recorded. */
 static inline uint32_t object_to_hold(struct thread *t, uintptr_t lock, uint8_t *mode, enum kind kind, struct call call) {
+    bool is_first = t->depth && t->own_piece_count && !lock_object(lock);
     uint32_t object = LIKELY(t->depth < RAW_HELD) && has_entry_left(t) ? object_of_lock(lock, call) : 0;
+    if (RARELY(is_first && object))
+        note_if_own(t, lock);
     if (RARELY(is_anything_said && object)) {
         uint8_t said = *mode; /* so that the mode itself needn't lie in memory */
         object = object_as_said(lock, object, &said, kind, call);
         *mode = said;
     }
+    if (object && comes_to_new(lock, t->number, held_since(t)) && raw_plain(*mode) < MODE_TRY_WRITE)
+        *mode |= RAW_NEW;
+    if (!t->depth)
+        *mode &= (uint8_t)(t->is_started ? ~RAW_NEW : ~RAW_WEAK);
     return RARELY(kind == KIND_COUNTED && object) ? apart(lock, object) : object;
 }
 
@@ -694,7 +738,7 @@ static void write_step(struct step *s, const struct thread *t, uintptr_t from, c
     s->word = word;
     s->looks = looks_left_at(raw_object(e->held.what[BY_CLASSES]));
     s->era = t->era;
-    s->place = place;
+    s->record = (struct raw_record){what_written(&e->held), place};
     __atomic_signal_fence(__ATOMIC_SEQ_CST);
     s->from = from;
 }
@@ -703,7 +747,7 @@ static void write_step(struct step *s, const struct thread *t, uintptr_t from, c
 static void note_step(struct thread *t, uintptr_t from, uintptr_t caller) {
     const struct held *h = &(&t->entries[t->depth] - 1)->held;
     uint64_t word;
-    if (h->record < t->fresh_end || !h->is_written || h->kind == KIND_COUNTED)
+    if (h->record < t->fresh_end || !h->is_written || h->kind == KIND_COUNTED || h->weak & RAW_NEW)
         return;
     struct step *s = place_of_step(t, step_key(hash_of(t, t->depth - 1), h->lock, from));
     if (!s || !is_lasting(object_of(h), t->depth > 1) || !are_single(t))
@@ -752,10 +796,22 @@ void note_waits_at_exit(void) {
     uint32_t used = LOAD(&threads->used);
     for (uint32_t number = 1; number <= used && number <= threads->room; number++) {
         struct raw_thread *thread = part_of(RAW_THREADS, number);
-        uint32_t waits = 1;
+        uint32_t waits = RAW_WAITS;
         if (LOAD(&thread->is_ready) && thread->process == own_process)
             __atomic_compare_exchange_n(&thread->waits, &waits, RAW_WAITS_AT_EXIT, false, __ATOMIC_RELAXED, __ATOMIC_RELAXED);
     }
+}
+
+static enum raw_waits waits_by(uint8_t mode) {
+    if (mode & RAW_TIMED)
+        return RAW_WAITS_FOR_A_TIME;
+    return LOAD(&is_exiting) ? RAW_WAITS_AT_EXIT : RAW_WAITS;
+}
+
+static void push_wish(struct thread *t, uintptr_t lock, uint32_t object, uint8_t mode, enum kind kind, struct call call) {
+    push_held(t, lock, object, mode, kind, call, true);
+    if (!t->wish.frame)
+        t->wish = call;
 }
 
 /* Whether the wish was recorded; end_wish is to follow then. */
@@ -764,16 +820,41 @@ bool begin_wish(uintptr_t lock, uint8_t mode, enum kind kind, struct call call) 
     if (!t)
         return false;
     settle(t, call);
+    enum raw_waits waits = waits_by(mode);
     uint32_t object = object_to_hold(t, lock, &mode, kind, call);
     if (object) {
         t->raw->calls++;
-        push_held(t, lock, object, mode, kind, call, true);
-        if (!t->wish.frame)
-            t->wish = call;
-        STORE(&t->raw->waits, LOAD(&is_exiting) ? RAW_WAITS_AT_EXIT : 1);
+        push_wish(t, lock, object, mode, kind, call);
+        STORE(&t->raw->waits, waits);
     }
     leave();
     return object != 0;
+}
+
+/* Whether there is room for a thread that ends among what is held. */
+static bool has_room_for_end(struct thread *t, struct call call) {
+    settle(t, call);
+    return t->depth < RAW_HELD && has_entry_left(t);
+}
+
+static uint8_t mode_of_end(const struct thread *t, uint8_t mode) { return t->depth ? mode : MODE_WRITE; }
+
+bool wish_for_end(uintptr_t thread, uint32_t object, uint8_t mode, struct call call) {
+    struct thread *t = self.thread;
+    if (!has_room_for_end(t, call))
+        return false;
+    push_wish(t, thread, object, mode_of_end(t, mode), KIND_THREAD, call);
+    STORE(&t->raw->waits, waits_by(mode));
+    return true;
+}
+
+/* A thread that has ended is taken and given back, unless its object is 0. */
+void pass_end(uintptr_t thread, uint32_t object, uint8_t mode, struct call call) {
+    struct thread *t = self.thread;
+    if (!has_room_for_end(t, call) || !object)
+        return;
+    push_held(t, thread, object, mode_of_end(t, mode), KIND_THREAD, call, false);
+    release_at(t, t->depth - 1, call.caller);
 }
 
 /* Nothing is left of a wish that is the newest record. Else a signal's handler has recorded something since. */
@@ -792,7 +873,7 @@ static void withdraw(struct thread *t, uint32_t i, uintptr_t caller) {
 
 static void end_waiting(struct thread *t) {
     t->wish.frame = 0;
-    STORE(&t->raw->waits, 0);
+    STORE(&t->raw->waits, RAW_WAITS_NOT);
 }
 
 static void withdraw_all(struct thread *t, uintptr_t caller) {
@@ -842,7 +923,7 @@ static bool fulfil(struct thread *t, uint32_t i, uintptr_t caller) {
     }
     h->is_wish = false;
     h->released = releases_so_far(h->lock);
-    see(t, way_of(hash_of(t, i + 1)));
+    see(t, way_at(t, i + 1));
     return true;
 }
 
@@ -853,7 +934,8 @@ bool end_wish(uintptr_t lock, bool is_taken, struct call call) {
         return true;
     if (t->wish.frame == call.frame)
         end_waiting(t);
-    look_at_others(t, call.caller);
+    if (is_taken) /* else it is done at the next call, so that the wish is still the newest record */
+        look_at_others(t, call.caller);
     uint32_t i = find_wish(t, lock);
     bool is_held = is_taken && !(i != RAW_HELD && is_signal(object_of(&t->entries[i].held))), is_recorded = !is_held;
     if (i != RAW_HELD && is_held)
@@ -891,7 +973,7 @@ static void hold_again(struct thread *t, struct call call) {
         struct held h = t->entries[i].held;
         if (i > 0 && h.lock == before.lock && h.record == before.record)
             continue;
-        push_held(t, h.lock, object_of(&h), (uint8_t)mode_of(&h), (enum kind)h.kind, call, h.is_wish);
+        push_held(t, h.lock, object_of(&h), mode_with_weak(&h), (enum kind)h.kind, call, h.is_wish);
         t->entries[t->depth - 1].held.depth = h.depth;
         t->entries[t->depth - 1].held.released = h.released;
         before = h;
@@ -918,6 +1000,8 @@ void tried(uintptr_t lock, bool has_failed, struct call call) {
         return;
     if (t->failed == lock && t->failed_under && !is_ignored(lock))
         t->raw->left_out.retried++;
+    if (has_failed)
+        comes_to_new(lock, t->number, held_since(t));
     t->failed = has_failed ? lock : 0;
     t->failed_under = has_failed ? t->depth : 0;
     leave();
@@ -946,6 +1030,8 @@ bool is_held_once(uintptr_t lock) {
     uint32_t i = self.thread ? find_held(self.thread, lock) : RAW_HELD;
     return i != RAW_HELD && self.thread->entries[i].held.depth == 0;
 }
+
+bool has_trace(void) { return self.thread != NULL; }
 
 bool is_any_held(void) { return self.thread && self.thread->depth; }
 
@@ -986,7 +1072,8 @@ void initialised(uintptr_t lock, struct call call) {
     if (!t)
         return;
     end_holds_between(t, lock, lock + 1, call.caller);
-    know_by_place(lock, call);
+    if (know_by_place(lock, call) && t->depth)
+        note_new(lock, t->number, t->last_making = t->raw->calls);
     leave();
 }
 
@@ -1029,7 +1116,7 @@ void look_at_inherited(struct call call) {
 static void take_over(struct thread *t, const struct held *h) {
     if (h->is_wish || is_released_by_other(h) || is_free(h) || !has_entry_left(t))
         return;
-    push_held(t, h->lock, object_of(h), (uint8_t)mode_of(h), (enum kind)h->kind, HERE, false);
+    push_held(t, h->lock, object_of(h), mode_with_weak(h), (enum kind)h->kind, HERE, false);
     t->entries[t->depth - 1].held.depth = h->depth;
 }
 

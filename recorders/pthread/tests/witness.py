@@ -395,6 +395,9 @@ def read_log(path):
 NAME = re.compile(r"^(?:init_|new_)?(mark|normal|made|read_made|read|spin|heap|mapped)_(\d+)")
 
 
+THREAD = "thread:"  # before the name of a thread that is joined, which is none of the locks that the log has
+
+
 def slot_of(name):
     found = NAME.match(name)
     if not found:
@@ -409,6 +412,8 @@ def read_trace(path):
     with open(path) as trace:
         for line in list(trace)[1:]:
             words = line.strip().split(",")
+            if words[1].startswith(THREAD):
+                continue
             slot = slot_of(words[1])
             if words[0] == "rel":
                 newest = next((at for at in range(len(held) - 1, -1, -1) if held[at][1] == words[1]), None)

@@ -1,0 +1,140 @@
+/* Threads that are waited for. A thread is a lock that it holds from its start to its end, and that whoever joins it takes and gives back
+   at once. `finish` puts into the traces what of this can matter. */
+#include "own.h"
+
+#include <errno.h>
+#include <pthread.h>
+#include <threads.h>
+
+#define REALS(X) X(pthread_join) X(pthread_timedjoin_np) X(pthread_clockjoin_np) X(thrd_create) X(thrd_join)
+REALS(KNOWN_REAL)
+FIND_AT_START(REALS)
+
+/* What is known of a thread by its number, which another one has later: its class, how many traces there were before it started, its own
+   trace, and the object as which it is joined. */
+enum about { CLASS, BEFORE, TRACE, OBJECT };
+static struct names lives;
+
+static uint64_t key_of(pthread_t thread, enum about what) { return (uint64_t)thread + 2 * what; }
+
+static uint32_t known(pthread_t thread, enum about what) {
+    const uint32_t *slot = name_slot(&lives, key_of(thread, what));
+    return slot ? LOAD(slot) : 0;
+}
+
+static void note(pthread_t thread, enum about what, uint32_t value) {
+    uint32_t *slot = added_slot(&lives, key_of(thread, what));
+    if (slot)
+        __atomic_store_n(slot, value, __ATOMIC_SEQ_CST);
+}
+
+uint32_t traces_so_far(void) { return is_recording() ? LOAD(&arena->regions[RAW_THREADS].used) : 0; }
+
+void note_start(pthread_t thread, uintptr_t run, uint32_t before, struct call call) {
+    if (!is_recording() || !begin_inside(call))
+        return;
+    int saved = errno;
+    note(thread, CLASS, class_of_threads(run, call));
+    note(thread, BEFORE, before);
+    note(thread, OBJECT, 0);
+    errno = saved;
+    end_inside();
+}
+
+/* The thread's trace begins. It may be joined already: one of it and the joiner sees what the other has noted. */
+void note_trace(struct raw_thread *part, uint32_t number) {
+    note(part->self, TRACE, number);
+    part->joined = known(part->self, OBJECT);
+}
+
+/* The part of a thread that has a trace; NULL for another. */
+static struct raw_thread *part_of_life(pthread_t thread) {
+    uint32_t trace = known(thread, TRACE);
+    struct raw_thread *part = trace > known(thread, BEFORE) ? part_of(RAW_THREADS, trace) : NULL;
+    return part && part->process == own_process ? part : NULL;
+}
+
+static EARLY_THREAD_LOCAL uint32_t unused_object; /* of a thread that took no lock */
+
+/* The object of the thread as a lock, which the thread's own trace notes too. Returns 0 if nothing is known of the thread. */
+static uint32_t object_of(pthread_t thread) {
+    uint32_t class = known(thread, CLASS), object = known(thread, OBJECT);
+    if (!object && class) {
+        object = unused_object && class_of(unused_object) == class ? unused_object : next_object(class);
+        unused_object = 0;
+        note(thread, OBJECT, object);
+    }
+    struct raw_thread *part = object ? part_of_life(thread) : NULL;
+    if (part)
+        STORE(&part->joined, object);
+    return object;
+}
+
+FOUND_WHEN_LOADED(this_thread, pthread_self);
+
+static pthread_t first_thread;
+
+__attribute__((constructor)) static void note_first_thread(void) { first_thread = this_thread(); }
+
+/* Whether this is the thread that the program began with, for which no other waits. */
+bool is_first_thread(void) { return this_thread() == first_thread; }
+
+/* Whether it can matter that this thread joins another one: it holds something, or may be joined itself. */
+static bool matters(void) { return is_any_held() || known(this_thread(), CLASS); }
+
+/* Whether it is recorded that the thread is waited for. Nothing is, if this one has no trace: then it holds nothing. */
+static bool begin_join(pthread_t thread, uint8_t weak, struct call call) {
+    if (!is_recording() || !has_trace() || !matters() || !enter_recorder(call))
+        return false;
+    uint32_t object = object_of(thread);
+    bool is_wish = object && wish_for_end((uintptr_t)thread, object, MODE_WRITE | weak, call);
+    end_inside();
+    return is_wish;
+}
+
+/* What was recorded while it was waited for is taken back: that the thread has locks may be known only now, and if it has none, nothing is
+   recorded. What it has released of this one's locks is looked at here, whether it was quick or not. */
+static void end_join(pthread_t thread, uint8_t weak, bool is_wish, bool has_ended, struct call call) {
+    if (is_wish)
+        end_wish((uintptr_t)thread, false, call);
+    if (!is_recording() || !has_ended)
+        return;
+    const struct raw_thread *part = part_of_life(thread);
+    bool is_told = part && LOAD(&part->count) && matters();
+    if ((is_told || has_trace()) && enter_recorder(call)) {
+        pass_end((uintptr_t)thread, is_told ? object_of(thread) : 0, MODE_WRITE | weak, call);
+        end_inside();
+    }
+    if (!is_told)
+        unused_object = known(thread, OBJECT);
+    note(thread, OBJECT, 0);
+}
+
+#define JOINING(name, weak, parameters, arguments)                                                                     \
+    EXPORT int name parameters {                                                                                       \
+        bool is_wish = begin_join(thread, weak, HERE);                                                                 \
+        int answer = REAL(name) arguments;                                                                             \
+        end_join(thread, weak, is_wish, answer == 0, HERE);                                                            \
+        return answer;                                                                                                 \
+    }
+
+typedef const struct timespec *deadline;
+
+JOINING(pthread_join, 0, (pthread_t thread, void **value), (thread, value))
+/* (without a time they wait until the thread has ended) */
+JOINING(pthread_timedjoin_np, until ? RAW_TIMED : 0, (pthread_t thread, void **value, deadline until), (thread, value, until))
+JOINING(pthread_clockjoin_np, until ? RAW_TIMED : 0, (pthread_t thread, void **value, clockid_t clock, deadline until), (thread, value, clock, until))
+JOINING(thrd_join, 0, (thrd_t thread, int *value), (thread, value))
+
+/* (glibc starts and joins the threads of C11 without calling the functions of pthreads) */
+EXPORT int thrd_create(thrd_t *thread, thrd_start_t run, void *with) {
+    uint32_t before = traces_so_far();
+    if (is_recording())
+        note_frames(HERE);
+    int answer = REAL(thrd_create)(thread, run, with);
+    if (answer == thrd_success) {
+        forget_name(*thread);
+        note_start(*thread, (uintptr_t)run, before, HERE);
+    }
+    return answer;
+}

@@ -1,0 +1,88 @@
+/* A lock is made under another one and is taken there before anybody else can know it. The other order comes later. Its maker takes it so
+   once more when another thread has tried it (`tried`), or has had it (`later`), or has made it with nothing held (`before`). Or it takes it
+   under another lock, when it has released the one under which it was made (`moved`): then another thread may have found it. */
+#include "common.h"
+
+static pthread_mutex_t global = PTHREAD_MUTEX_INITIALIZER, other = PTHREAD_MUTEX_INITIALIZER;
+static pthread_mutex_t *shared;
+
+static int is_made;
+
+static void make(void) {
+    shared = malloc(sizeof *shared);
+    pthread_mutex_init(shared, NULL);
+}
+
+static void create_or_acquire(void) {
+    pthread_mutex_lock(&global);
+    if (!is_made) {
+        is_made = 1;
+        if (!shared)
+            make();
+        pthread_mutex_lock(shared);
+        pthread_mutex_unlock(&global);
+    } else {
+        pthread_mutex_unlock(&global);
+        pthread_mutex_lock(shared);
+    }
+}
+
+static void *use(void *unused) {
+    create_or_acquire();
+    pthread_mutex_lock(&global);
+    pthread_mutex_unlock(&global);
+    pthread_mutex_unlock(shared);
+    return unused;
+}
+
+static void *try_in_vain(void *unused) {
+    if (pthread_mutex_trylock(shared) == 0)
+        abort();
+    return unused;
+}
+
+static void use_again(void) {
+    pthread_mutex_lock(&global);
+    pthread_mutex_lock(shared);
+    pthread_mutex_unlock(shared);
+    pthread_mutex_unlock(&global);
+}
+
+static void make_and_move_on(void) {
+    pthread_mutex_lock(&global);
+    make();
+    pthread_mutex_lock(&other);
+    pthread_mutex_unlock(&global);
+    pthread_mutex_lock(shared);
+    pthread_mutex_unlock(shared);
+    pthread_mutex_unlock(&other);
+}
+
+static void *use_other(void *unused) {
+    pthread_mutex_lock(shared);
+    pthread_mutex_lock(&other);
+    pthread_mutex_unlock(&other);
+    pthread_mutex_unlock(shared);
+    return unused;
+}
+
+int main(int argc, char **argv) {
+    const char *way = argc > 1 ? argv[1] : "";
+    if (strcmp(way, "moved") == 0) {
+        make_and_move_on();
+        in_thread(use_other, NULL);
+        return 0;
+    }
+    if (strcmp(way, "before") == 0)
+        make();
+    use(NULL);
+    if (strcmp(way, "tried") == 0) {
+        pthread_mutex_lock(shared);
+        in_thread(try_in_vain, NULL);
+        pthread_mutex_unlock(shared);
+        use_again();
+    }
+    in_thread(use, NULL);
+    if (strcmp(way, "later") == 0)
+        use_again();
+}
