@@ -4,7 +4,7 @@ from __future__ import annotations
 import os
 
 from .checker import REFUSED, Answer, ask
-from .folder import OBJECTS
+from .folder import OBJECTS, WEAK
 from .words import text_of
 
 BY_LOCKS = ["explain", "--locks", "--json", "--many", "--"]
@@ -26,8 +26,9 @@ class Asked:
     """What the checker answered about a recording: `reason` says why it wasn't asked about single locks, if so, and `said` what
     it wrote on standard error then. A refused answer is about the traces of classes."""
 
-    def __init__(self, answer: Answer, traces: list[str], reason: str = "", said: bytes = b"") -> None:
-        self.answer, self.traces, self.reason, self.said = answer, traces, reason, said
+    def __init__(self, folder: str, answer: Answer, traces: list[str], reason: str = "", said: bytes = b"") -> None:
+        self.folder, self.answer, self.traces, self.reason, self.said = folder, answer, traces, reason, said
+        self.found: list | None = None
 
     @property
     def is_refused(self) -> bool:
@@ -40,11 +41,21 @@ class Asked:
 
     def findings(self) -> list:
         """What was found. If single locks weren't asked about, it isn't known what a finding was seen between."""
+        if self.found is None:
+            self.found = self.read_findings() if self.has_findings else []
+        return list(self.found)
+
+    def read_findings(self) -> list:
         from .findings import Between, Kind, findings_of
         from .verdict import by_importance
-        findings = findings_of(self.answer.output) if self.has_findings else []
+        findings = findings_of(self.answer.output)
         for finding in findings:
             finding.between = finding.between or Between(Kind.UNKNOWN, reason=self.reason)
+        if os.path.exists(os.path.join(self.folder, WEAK)):
+            from .room import room_for
+            from .weak import weaken
+            with room_for(self.folder) as room:
+                weaken(findings, self.folder, self.traces, room)
         return by_importance(findings)
 
 
@@ -55,10 +66,10 @@ def ask_about(folder: str) -> Asked:
     if objects:
         answer = ask(BY_LOCKS + objects, with_errors=True)
         if answer.status < REFUSED:
-            return Asked(answer, objects)
+            return Asked(folder, answer, objects)
         reason, said = REFUSED_OBJECTS, answer.said
     traces = traces_in(folder)
-    return Asked(ask(BY_CLASSES + traces, with_errors=True), traces, reason, said)
+    return Asked(folder, ask(BY_CLASSES + traces, with_errors=True), traces, reason, said)
 
 
 def text_in(path: str) -> str:

@@ -7,7 +7,9 @@ from .processes import output_of
 from .saying import Refusal
 
 # What is built from what, below recorders/pthread, besides the script `build` and raw.h.
-SOURCES = {"preload.so": "preload", "finish": "finish", "run": "run.c", "look": "look.c"}
+SOURCES = {"preload.so": "preload", "finish": "finish", "run": "run.c", "look": "look.c", "names": "names"}
+WITHOUT_LIBDW = "no-libdw"  # is there if `names` was built without libdw
+LIBDW = ("/usr/include/elfutils/libdw.h", "/usr/local/include/elfutils/libdw.h")
 UNNAMEABLE = " :$"  # LD_PRELOAD takes these for separators, or for the beginning of something else
 
 
@@ -33,9 +35,10 @@ def is_current(recorder: str, out: str) -> bool:
     try:
         common = max(changed(os.path.join(recorder, name)) for name in ("build", "raw.h"))
         sources = [(os.path.join(out, target), os.path.join(recorder, source)) for target, source in SOURCES.items()]
-        return all(changed(target) >= max(common, newest(source)) for target, source in sources if os.path.exists(source))
+        is_newer = all(changed(target) >= max(common, newest(source)) for target, source in sources if os.path.exists(source))
     except OSError:
         return False
+    return is_newer and not (os.path.exists(os.path.join(out, WITHOUT_LIBDW)) and any(map(os.path.exists, LIBDW)))
 
 
 def changed(path: str) -> int:

@@ -17,7 +17,9 @@ class Kind(Enum):
     LOCKS = "locks"
     PERHAPS = "perhaps"
     UNKNOWN = "unknown"
+    TIMED = "timed"  # between locks, and only by waits that give up: this and the next are no kinds of the checker's
     CLASSES = "classes"
+    NEW = "new-lock"  # between locks, and only while a lock was new
     TYPES = "types"
     NESTED = "nested"
 

@@ -81,7 +81,7 @@ class Found:
         """SARIF's level: by what the finding was seen between."""
         if finding in self.known or finding.is_note:
             return "note"
-        return "warning" if finding.kind in (Kind.CLASSES, Kind.TYPES) else "error"
+        return "error" if finding.is_confirmed or finding.kind is Kind.PERHAPS else "warning"
 
     def class_files(self) -> list[str]:
         """The traces of classes, of which the picture is."""

@@ -5,7 +5,17 @@ import itertools
 import os
 import shutil
 
+TYPE_CHECKING = False
+if TYPE_CHECKING:
+    from tempfile import TemporaryDirectory
+
 numbers = itertools.count(1)  # one room may be in use beside another one
+
+
+def room_for(folder: str) -> Room | TemporaryDirectory:
+    """A room in a recording's folder, or elsewhere if nothing can be written there."""
+    from tempfile import TemporaryDirectory
+    return Room(folder) if os.access(folder, os.W_OK) else TemporaryDirectory(prefix="lockdep-")
 
 
 class RoomMissing(Exception):

@@ -9,6 +9,7 @@ from .findings import Event, Finding
 # How a lock is taken, for modes other than a writer's.
 MODES = {"r": " as a reader", "rr": " as a recursive reader", "tw": " by a try", "tr": " as a reader, by a try",
          "trr": " as a recursive reader, by a try"}
+THREAD = "thread:"  # before the function of a thread, in the name of the lock that it has from its start to its end
 VERBS = {"takes": "takes", "waits": "waits for"}
 TYPES = ("circle", "double", "inversion")
 
@@ -27,11 +28,17 @@ class Step:
     event: Event | None = None
 
 
+def awaited(key: str, shown: Shown = str) -> str:
+    """What a task waits for that waits for a key."""
+    return ("the thread's end, %s" if key.startswith(THREAD) else "%s") % shown(key)
+
+
 def words_of(step: Step, shown: Shown = str) -> str:
     """What a step does, in words."""
     if step.verb in VERBS:
         state = " with %ss on" % step.irq if step.irq else ""
-        return "%s %s%s%s" % (VERBS[step.verb], shown(step.key), MODES.get(step.mode or "", ""), state)
+        key = awaited(step.key, shown) if step.verb == "waits" else shown(step.key)
+        return "%s %s%s%s" % (VERBS[step.verb], key, MODES.get(step.mode or "", ""), state)
     if step.verb == "opens":
         return "turns %ss on" % step.irq
     return "a %s comes in" % step.irq
@@ -71,7 +78,7 @@ def events_of(steps: list[Step]) -> list[Event]:
 def task_words(finding: Finding, shown: Shown = str) -> list[str]:
     """What each task of the walk holds and waits for."""
     first = 1 if finding.type == "circle" else 2
-    return ["task %d holds %s and waits for %s" % (place, shown(order.start), shown(order.end))
+    return ["task %d holds %s and waits for %s" % (place, shown(order.start), awaited(order.end, shown))
             for place, order in enumerate(finding.orders, first)]
 
 

@@ -36,7 +36,9 @@ EXCUSED = {
     Kind.LOCKS: "seen between locks",
     Kind.PERHAPS: "perhaps seen between locks",
     Kind.UNKNOWN: "not known whether seen between locks",
+    Kind.TIMED: "seen only by timed waits",
     Kind.CLASSES: "seen only between classes",
+    Kind.NEW: "seen only while a lock was new",
     Kind.TYPES: "seen only between types",
     Kind.NESTED: "seen only between types, as one type nested in itself",
 }

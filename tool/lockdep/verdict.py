@@ -19,6 +19,11 @@ ONLY = {
     Kind.TYPES: ("seen only between types, not between classes",) * 2,
     Kind.NESTED: ("seen only between types, as one type nested in itself: a note, and no finding",) * 2,
 }
+BETWEEN_LOCKS = {
+    Kind.LOCKS: "seen between locks",
+    Kind.TIMED: "seen only by timed waits",
+    Kind.NEW: "seen only while a lock was new",
+}
 TOO_MANY = "more than 256 keys lead to one another"
 WITH_DEPTH = (Kind.PERHAPS, Kind.UNKNOWN, Kind.CLASSES, Kind.TYPES)
 
@@ -161,8 +166,8 @@ def verdict_of(finding: Finding, recorded: Recorded) -> str:
         words = ONLY[between.kind][finding.type != "circle"]
     elif between.kind is Kind.UNKNOWN or not inner:
         words = unknown_words(between.reason)
-    elif between.kind is Kind.LOCKS:
-        words = "seen between locks: %s" % seen_words(finding, inner, recorded)
+    elif between.kind in BETWEEN_LOCKS:
+        words = "%s: %s" % (BETWEEN_LOCKS[between.kind], seen_words(finding, inner, recorded))
     else:
         several = [plain_key(key) for key in locks_of(finding, inner) if stands_for_several(name_in(key))]
         words = "perhaps seen between locks: %s; %s is several locks" % (
@@ -189,7 +194,7 @@ def notes_of(finding: Finding, recorded: Recorded) -> list[str]:
         if is_doubtful(gate, finding, recorded):
             notes[place] += "; but %s is several locks" % plain_key(gate.key)
     inner = finding.between.finding
-    is_under_itself = finding.kind is Kind.LOCKS and inner and inner.type == "circle" and len(inner.orders) == 1
+    is_under_itself = finding.kind in BETWEEN_LOCKS and inner and inner.type == "circle" and len(inner.orders) == 1
     if finding.only and is_under_itself and len(notes) > len(finding.gates):
         notes[-1] += UNDER_ITSELF
     return notes

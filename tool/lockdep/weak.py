@@ -1,0 +1,80 @@
+"""Which findings are seen between single locks only by waits that give up, or only while a lock was new. A recorder marks such acquisitions.
+The traces are written again with them as tries, which wait for nobody, and the same command is asked about those."""
+from __future__ import annotations
+
+import os
+import re
+from typing import Dict, List
+
+from .asking import BY_LOCKS
+from .checker import REFUSED, ask
+from .files import contents, write_in_place
+from .findings import Finding, Kind, findings_of, report_lines
+from .folder import WEAK
+from .words import bytes_of, text_of
+
+WITH_TRIES = b"lockdep,2"  # the header of a trace that may have tries
+LINE = re.compile(r"^(task-[0-9]+\.csv) ([1-9][0-9]*) (timed|new-lock)$", re.MULTILINE)
+ACQUISITION = re.compile(rb"^(acq,.*,)(w|rr?)$")
+
+Records = Dict[str, List[int]]  # of traces: the numbers of their acquisitions that are of one kind
+
+
+def weak_in(folder: str) -> dict[Kind, Records]:
+    """The acquisitions that a recording marks, by kind and trace."""
+    weak: dict[Kind, Records] = {Kind.TIMED: {}, Kind.NEW: {}}
+    for trace, record, kind in LINE.findall(text_of(contents(os.path.join(folder, WEAK)) or b"")):
+        weak[Kind(kind)].setdefault(trace, []).append(int(record))
+    return weak
+
+
+def with_tries(trace: bytes, records: list[int]) -> bytes:
+    """A trace of a recording, one record a line, in which these acquisitions are tries."""
+    lines = trace.split(b"\n")
+    lines[0] = WITH_TRIES
+    for record in records:
+        lines[record - 1:record] = [ACQUISITION.sub(rb"\1t\2", line) for line in lines[record - 1:record]]
+    return b"\n".join(lines)
+
+
+def written_again(traces: list[str], records: Records, room: str) -> list[str]:
+    """The traces, of which those with such acquisitions are in the room."""
+    again = []
+    for trace in traces:
+        name = os.path.basename(trace)
+        again.append(os.path.join(room, name) if name in records else trace)
+        if name in records:
+            write_in_place(bytes_of(again[-1]), with_tries(contents(trace) or b"", records[name]))
+    return again
+
+
+def lines_left(traces: list[str]) -> set[str] | None:
+    """The report's lines of what is seen between locks in these traces; None if that can't be said."""
+    answer = ask(BY_LOCKS + traces, with_errors=True)
+    if answer.status >= REFUSED:
+        return None
+    return set(report_lines([finding for finding in findings_of(answer.output) if finding.kind is Kind.LOCKS]))
+
+
+def gone_without(findings: list[Finding], left: set[str]) -> list[Finding]:
+    """The findings that aren't seen between locks any more. Each order that still is stays in a finding that says so: one of such orders
+    alone, if there is one."""
+    gone: list[Finding] = []
+    said: set[str] = set()
+    for finding in sorted(findings, key=lambda finding: not left.issuperset(finding.lines)):
+        still = left.intersection(finding.lines)
+        if still.issuperset(finding.lines) or still - said:
+            said |= still
+        else:
+            gone.append(finding)
+    return gone
+
+
+def weaken(findings: list[Finding], folder: str, traces: list[str], room: str) -> None:
+    """Gives those findings their own verdicts. The room is an empty folder."""
+    for kind, records in weak_in(folder).items():
+        seen = [finding for finding in findings if finding.between and finding.between.kind is Kind.LOCKS]
+        left = lines_left(written_again(traces, records, room)) if seen and records else None
+        for finding in gone_without(seen, left) if left is not None else ():
+            finding.between.kind = kind
+            finding.json["between"]["kind"] = kind.value
