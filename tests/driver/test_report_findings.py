@@ -9,10 +9,12 @@ from lockdep.explanation import thread_of
 from lockdep.findings import Event, Kind, findings_of
 from lockdep.groups import groups_of
 from lockdep.sources import Sources
+from lockdep.steps import task_words
 from lockdep.terminal import Writer
 from lockdep.text import Text
 from lockdep.threads import called
 from lockdep.verdict import Recorded, by_importance, notes_of, verdict_of
+from lockdep.weak import gone_without, with_tries
 from lockdep.words import Refusal
 
 
@@ -165,6 +167,39 @@ class Verdicts(unittest.TestCase):
         self.assertEqual([one.keys[0] for one in by_importance(findings([under, perhaps, free]))], ["c/0", "a/0", "e/0"])
 
 
+    def test_timed_waits_and_new_locks_come_before_and_after_classes(self):
+        said = [circle(kind + "/0", "x/0", between=between(kind)) for kind in ("types", "new-lock", "classes", "timed", "unknown", "perhaps", "locks")]
+        self.assertEqual([one.kind.value for one in by_importance(findings(said))],
+                         ["locks", "perhaps", "unknown", "timed", "classes", "new-lock", "types"])
+
+    def test_timed_waits_and_new_locks_are_said(self):
+        inner = circle("a#1/0", "b#2/0")
+        self.assertEqual(self.said("timed", inner), "seen only by timed waits: a#1, b#2, by 2 threads")
+        self.assertEqual(self.said("new-lock", inner), "seen only while a lock was new: a#1, b#2, by 2 threads")
+
+
+class Weak(unittest.TestCase):
+    """Findings that need acquisitions which are tries in another answer."""
+
+    def gone(self, left, *said):
+        return [one.keys for one in gone_without(findings(list(said)), {"circle %s EN %s" % tuple(pair.split()) for pair in left})]
+
+    def test_acquisitions_become_tries(self):
+        trace = b'lockdep,1\nacq,a,0,w\nacq,"b,1",0,rr\nrel,"b,1",0\n'
+        self.assertEqual(with_tries(trace, [3]), b'lockdep,2\nacq,a,0,w\nacq,"b,1",0,trr\nrel,"b,1",0\n')
+
+    def test_a_finding_is_gone_if_no_order_of_it_is_left(self):
+        self.assertEqual(self.gone([], circle("a/0", "b/0")), [["a/0", "b/0"]])
+        self.assertEqual(self.gone(["a/0 b/0", "b/0 a/0"], circle("a/0", "b/0")), [])
+
+    def test_an_order_that_is_left_stays_in_a_finding(self):
+        self.assertEqual(self.gone(["a/0 b/0", "b/0 c/0", "c/0 a/0"], circle("a/0", "b/0")), [])
+
+    def test_an_order_that_is_left_stays_in_one_of_such_orders_alone(self):
+        two, three = circle("a/0", "b/0"), circle("a/0", "b/0", "c/0")
+        self.assertEqual(self.gone(["a/0 b/0", "b/0 c/0", "c/0 a/0"], two, three), [["a/0", "b/0"]])
+
+
 class Groups(unittest.TestCase):
     def test_findings_that_share_an_order_are_one_group(self):
         shared = [circle("a/0", "b/0", other) for other in ("c/0", "d/0")]
@@ -197,6 +232,11 @@ class Shown(unittest.TestCase):
         left, text = self.shown(said, 20)
         self.assertEqual((left, text.count("\ncircle ")), (10, 20))
         self.assertEqual(self.shown(said)[0], 0)
+
+    def test_a_task_waits_for_the_end_of_a_thread(self):
+        self.assertEqual(task_words(finding(circle("state/0", "thread:worker/0"))),
+                         ["task 1 holds state/0 and waits for the thread's end, thread:worker/0",
+                          "task 2 holds thread:worker/0 and waits for state/0"])
 
     def test_a_task_is_named_with_its_trace(self):
         self.assertIn("\n  task 2 holds b/0 and waits for a/0 (task-0002)\n", self.shown([circle("a/0", "b/0", between=between("classes"))])[1])
