@@ -1,7 +1,8 @@
-/* A preloaded library that refuses one request of a program, or makes its reads and writes short.
+/* A preloaded library that refuses one request of a program or all from one on, or makes its reads and writes short.
 
    REFUSE      memory, thread, read, write or open: which kind of request
    REFUSE_AT   the number of the request that is refused, counted from 1
+   REFUSE_ON   if set, all later requests of the kind are refused too
    REFUSE_TOLD a file that is made when the request is refused
    SHORT       if set, each read and write is of one byte
 
@@ -21,22 +22,27 @@
 
 static const char *kind = "", *told;
 static long at;
+static bool goes_on;
 static bool is_short;
 static atomic_long count;
 
 __attribute__((constructor)) static void begin(void) {
     const char *number = getenv("REFUSE_AT");
     told = getenv("REFUSE_TOLD");
+    goes_on = getenv("REFUSE_ON") != NULL;
     is_short = getenv("SHORT") != NULL;
     at = number ? atol(number) : 0;
     kind = getenv("REFUSE") ? getenv("REFUSE") : "";
 }
 
-/* Whether this request is the one. */
+/* Whether this request is the one, or a later one where these are refused too. */
 static bool is_refused(const char *what) {
-    if (strcmp(kind, what) != 0 || atomic_fetch_add(&count, 1) + 1 != at)
+    if (strcmp(kind, what) != 0)
         return false;
-    if (told) {
+    long number = atomic_fetch_add(&count, 1) + 1;
+    if (number < at || (number > at && !goes_on))
+        return false;
+    if (told && number == at) {
         long file = syscall(SYS_openat, AT_FDCWD, told, O_WRONLY | O_CREAT, 0666);
         syscall(SYS_close, file);
     }
