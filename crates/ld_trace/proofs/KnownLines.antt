@@ -12,7 +12,7 @@ use Rattle.ld_trace.specs.declared.version.Version.{Version}
 use Rattle.ld_trace.specs.declared.version.Version.TheVariants.{One, Two}
 use Rattle.ld_trace.specs.Events.{KeyIsBelow, is_try}
 use Rattle.ld_trace.specs.declared.known_lines.KnownLine.{KnownLine}
-use Rattle.ld_trace.specs.Inside.KnownLines.{IsKnownLine, ReadsOn, SeenAfter, TakesKnown}
+use Rattle.ld_trace.specs.Inside.KnownLines.{IsKnownLine, ReadsOn, SeenAfter, TakesEvent, TakesKnown}
 use Rattle.ld_trace.specs.KnownLines.{KnownLinesRead, KnownLinesStay, WrittenLinesRead, has_event, line_text}
 use Rattle.ld_trace.specs.Laws.{with_lines}
 use Rattle.ld_trace.specs.Lines.{Line, takes, gives_back, enters, leaves, turns_on, turns_off, event_of, line_of_record, version_of, with_line}
@@ -250,11 +250,11 @@ seen-on table version before after events event numbered below can few within (i
     )
 
 pub takes-known : (version : Version) (lines : List KnownLine) (number : ℕ) (known : KnownLine) (before after : ℕ) (events more : List Event) (taken : List ℕ)
-    → number < length lines → known ≡ get_or lines number known → has_event version known.event ≡ true → length events < MAX_EVENTS → SeenAfter before known.event after
-    → more ≡ events ++ known.event ∷ [] → taken ≡ known.text.items → TakesKnown version lines before after events more taken
-takes-known version lines number known before after events more taken lt there can few seen pushed bytes table numbered all within =
+    → number < length lines → known ≡ get_or lines number known → TakesEvent version known.event before after events more
+    → taken ≡ known.text.items → TakesKnown version lines before after events more taken
+takes-known version lines number known before after events more taken lt there added bytes table numbered all within =
     let one : IsKnownLine table.names known = subst (IsKnownLine table.names) (sym there) (all number known lt) in
-    rw (bytes, one.1, pushed) (seen-on table version before after events known.event numbered one.0 can few within seen)
+    rw (bytes, one.1, added.3) (seen-on table version before after events known.event numbered one.0 added.0 added.1 within added.2)
 
 pub takes-none : (version : Version) (lines : List KnownLine) (seen : ℕ) (events : List Event) → TakesKnown version lines seen seen events events []
 takes-none version lines seen events table numbered all within = (omega arith, within, on-nothing version table.room (take seen table.names) events)

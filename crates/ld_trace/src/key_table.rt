@@ -171,20 +171,19 @@ impl KeyTable {
     // Takes lines that it knows from the front of the bytes as events, and returns how many bytes these have. Its first `seen` names are
     // those of the trace so far; a line may need the next one, and is not taken if it needs a later one.
     pub(crate) fn take_known(
-        &mut self,
+        &self,
         version: Version,
         bytes: &[u8],
         seen: &mut u16,
         events: &mut Vec<Event>,
     ) -> usize
-        requires seen { seen.old ≤ length self.old.names }
+        requires seen { seen.old ≤ length self.now.names }
         requires few { length events.old.items ≤ MAX_EVENTS }
         ensures few { length events.new.items ≤ MAX_EVENTS }
         ensures within { result ≤ length bytes.now }
-        ensures seen { (seen.old ≤ seen.new) × (seen.new ≤ length self.old.names) }
-        ensures on { ReadsOn version self.old.room (take seen.old self.old.names) (take seen.new self.old.names) events.old.items events.new.items
+        ensures seen { (seen.old ≤ seen.new) × (seen.new ≤ length self.now.names) }
+        ensures on { ReadsOn version self.now.room (take seen.old self.now.names) (take seen.new self.now.names) events.old.items events.new.items
             (take result bytes.now) }
-        ensures same { self.new ≡ self.old }
     {
         self.lines.take(version, bytes, seen, events)
     }

@@ -3,7 +3,7 @@
 ghost use Rattle.std.specs.Prelude.{◌≡◌, ◌≤◌, ◌<◌, ◌+◌, [], List, All, IfOk, IfSome, IsNone, OnOk, drop, length, take};
 ghost use Rattle.csv.specs.Writing.{writer_pending, writer_under};
 ghost use Rattle.ld_trace.specs.Events.{KeyIsBelow};
-ghost use Rattle.ld_trace.specs.Inside.KnownLines.{IsKnownLine, SeenAfter, TakesKnown};
+ghost use Rattle.ld_trace.specs.Inside.KnownLines.{IsKnownLine, SeenAfter, TakesEvent, TakesKnown};
 ghost use Rattle.ld_trace.specs.Inside.Written.{IsBetween};
 ghost use Rattle.ld_trace.specs.KnownLines.{has_event};
 ghost use Rattle.ld_trace.specs.Names.{Name};
@@ -41,13 +41,10 @@ pub(crate) struct KnownLine {
     hash: u64,
 }
 
-// The lines that a table knows, and which of them came after each. All but the lines are hints: they may be anything, and are looked at
-// before they are believed.
+// The lines that a table knows. All but the lines are hints: they may be anything, and are looked at before they are believed.
 #[derive(Drop)]
 pub(crate) struct Lines {
     known: Vec<KnownLine>,
-    // For each line the one that came after it last.
-    next: Vec<u16>,
     // The line of each slot.
     slots: Vec<u16>,
 }
@@ -59,7 +56,6 @@ impl Lines {
     {
         Lines {
             known: Vec::new(alloc),
-            next: Vec::new(alloc),
             slots: Vec::new(alloc),
         }
     }
@@ -69,7 +65,6 @@ impl Lines {
         ensures { self.new.known.items ≡ [] }
     {
         self.known.clear();
-        self.next.clear();
         self.slots.clear();
     }
 
@@ -97,14 +92,9 @@ impl Lines {
             event,
             hash,
         };
-        if self.next.push(0).is_ok() && self.known.push(line).is_ok() {
+        if self.known.push(line).is_ok() {
             note(&mut self.slots, hash, number);
         }
-    }
-
-    // The number of the line that the bytes begin with, if it is known: its hash is that of the line.
-    fn find(&self, bytes: &[u8]) -> Option<u16> {
-        self.find_hash(front_line(bytes)?.hash)
     }
 
     // The number of the line with this hash.
@@ -127,7 +117,7 @@ impl Lines {
     // Takes known lines from the front of the bytes as events, and returns how many bytes these have. The first `seen` names of a table
     // have the keys of the events so far.
     pub(crate) fn take(
-        &mut self,
+        &self,
         version: Version,
         bytes: &[u8],
         seen: &mut u16,
@@ -136,13 +126,11 @@ impl Lines {
         requires few { length events.old.items ≤ MAX_EVENTS }
         ensures few { length events.new.items ≤ MAX_EVENTS }
         ensures within { result ≤ length bytes.now }
-        ensures takes { TakesKnown version self.old.known.items seen.old seen.new events.old.items events.new.items (take result bytes.now) }
-        ensures same { self.new.known ≡ self.old.known }
+        ensures takes { TakesKnown version self.now.known.items seen.old seen.new events.old.items events.new.items (take result bytes.now) }
     {
         let mut at = 0;
-        let mut last = 0;
         for _ in 0..bytes.len() {
-            match self.take_next(version, &mut last, &bytes[at..], seen, events) {
+            match self.take_next(version, &bytes[at..], seen, events) {
                 Some(count) => at += count,
                 None => return at,
             }
@@ -150,11 +138,12 @@ impl Lines {
         at
     }
 
-    // Takes the known line at the front of the bytes, and returns how many bytes it has. The line before it tells which one to try first.
+    // Takes the known line at the front of the bytes, and returns how many bytes it has. This is how many there are up to the newline, so
+    // that a processor can look for the next line while it waits for this one.
+    #[inline(always)]
     fn take_next(
-        &mut self,
+        &self,
         version: Version,
-        last: &mut usize,
         bytes: &[u8],
         seen: &mut u16,
         events: &mut Vec<Event>,
@@ -162,26 +151,18 @@ impl Lines {
         requires few { length events.old.items ≤ MAX_EVENTS }
         ensures few { length events.new.items ≤ MAX_EVENTS }
         ensures within { IfSome result (λ count. count ≤ length bytes.now) }
-        ensures takes { IfSome result (λ count. TakesKnown version self.old.known.items seen.old seen.new events.old.items events.new.items (take count bytes.now)) }
+        ensures takes { IfSome result (λ count. TakesKnown version self.now.known.items seen.old seen.new events.old.items events.new.items (take count bytes.now)) }
         ensures none { IsNone result → (events.new.items ≡ events.old.items) × (seen.new ≡ seen.old) }
-        ensures same { self.new.known ≡ self.old.known }
     {
-        let guess = match self.next.get(*last) {
-            Some(number) => *number as usize,
-            None => 0,
-        };
-        if let Some(count) = take_line(&self.known, guess, version, bytes, seen, events) {
-            *last = guess;
-            return Some(count);
+        let front = front_line(bytes)?;
+        let number = self.find_hash(front.hash)?;
+        let known = self.known.get(number as usize)?;
+        let text = known.text.as_slice();
+        if front.count > bytes.len() || &bytes[..front.count] != text {
+            return None;
         }
-        let number = self.find(bytes)?;
-        let found = number as usize;
-        let count = take_line(&self.known, found, version, bytes, seen, events)?;
-        if let Some(after) = self.next.get_mut(*last) {
-            *after = number;
-        }
-        *last = found;
-        Some(count)
+        add_event(version, &known.event, seen, events)?;
+        Some(front.count)
     }
 }
 
@@ -216,36 +197,22 @@ pub(crate) fn append_event(
     Ok(at)
 }
 
-// Takes the line of this number as an event, if the bytes begin with it, and returns how many bytes it has. Any number may be asked for.
-fn take_line(
-    lines: &[KnownLine],
-    number: usize,
-    version: Version,
-    bytes: &[u8],
-    seen: &mut u16,
-    events: &mut Vec<Event>,
-) -> Option<usize>
+// Adds an event, unless the version hasn't got it, there are too many, it has the key of a later name, or memory runs out.
+fn add_event(version: Version, event: &Event, seen: &mut u16, events: &mut Vec<Event>) -> Option<()>
     requires few { length events.old.items ≤ MAX_EVENTS }
     ensures few { length events.new.items ≤ MAX_EVENTS }
-    ensures within { IfSome result (λ count. count ≤ length bytes.now) }
-    ensures takes { IfSome result (λ count. TakesKnown version lines.now seen.old seen.new events.old.items events.new.items (take count bytes.now)) }
+    ensures takes { IfSome result (λ _. TakesEvent version event.now seen.old seen.new events.old.items events.new.items) }
     ensures none { IsNone result → (events.new.items ≡ events.old.items) × (seen.new ≡ seen.old) }
 {
-    let known = lines.get(number)?;
-    let text = known.text.as_slice();
-    let count = text.len();
-    if count > bytes.len() || &bytes[..count] != text {
+    if events.len() >= MAX_EVENTS || !has_event(version, *event) {
         return None;
     }
-    if events.len() >= MAX_EVENTS || !has_event(version, known.event) {
-        return None;
-    }
-    let after = seen_after(*seen, known.event)?;
-    if events.push(known.event).is_err() {
+    let after = seen_after(*seen, *event)?;
+    if events.push(*event).is_err() {
         return None;
     }
     *seen = after;
-    Some(count)
+    Some(())
 }
 
 // How many names are seen after an event, of which `seen` were before. None if it has the key of a later one.
@@ -282,6 +249,7 @@ pub(crate) struct FrontLine {
 }
 
 // None if there is no newline among so many bytes as a known line has.
+#[inline(always)]
 pub(crate) fn front_line(bytes: &[u8]) -> Option<FrontLine> {
     let mut mixed = 0u64;
     for place in 0..LONGEST / 8 {
@@ -316,8 +284,15 @@ fn word_from(bytes: &[u8], at: usize) -> u64
     requires { at ≤ LONGEST }
 {
     if at + 8 <= bytes.len() {
-        return word_at(bytes, at);
+        word_at(bytes, at)
+    } else {
+        last_word(bytes, at)
     }
+}
+
+// The bytes from a place on, at most eight, with zeros after them.
+#[inline(never)]
+fn last_word(bytes: &[u8], at: usize) -> u64 {
     let mut word = 0u64;
     for byte in bytes.iter().skip(at).rev() {
         word = word << 8 | u64::from(*byte);

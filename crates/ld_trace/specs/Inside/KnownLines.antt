@@ -1,11 +1,13 @@
 -- Known lines that are taken one after the other, and what a trace is read on by. No public clause speaks of these.
-use Rattle.std.specs.Prelude.{◌≡◌, ◌≤◌, ◌+◌, ◌⊎◌, ℕ, List, Option, Some, ◌++◌, All, length, take}
+use Rattle.std.specs.Prelude.{◌≡◌, ◌≤◌, ◌<◌, ◌+◌, ◌⊎◌, ℕ, List, [], ◌∷◌, Option, Some, ◌++◌, All, length, take, true}
 use Rattle.std.specs.Fmt.{option_append}
 use Rattle.std.specs.Io.KnownBytes.{Consumes}
 use Rattle.ld_trace.specs.declared.event.Event.{Event}
 use Rattle.ld_trace.specs.declared.known_lines.KnownLine.{KnownLine}
+use Rattle.ld_trace.specs.declared.raw_trace.TheConstants.{MAX_EVENTS}
 use Rattle.ld_trace.specs.declared.version.Version.{Version}
 use Rattle.ld_trace.specs.Events.{KeyIsBelow}
+use Rattle.ld_trace.specs.KnownLines.{has_event}
 use Rattle.ld_trace.specs.Names.{AreNumbered, Name, Table}
 use Rattle.ld_trace.specs.Pieces.{AreLines}
 use Rattle.ld_trace.specs.Reading.{ReadsTo}
@@ -24,6 +26,10 @@ pub record ReadsOn (version : Version) (room : ℕ) (names new : List Name) (who
 -- one more event, whose key is one of the names that were seen, or the next one
 abbrev pub SeenAfter : ℕ → Event → ℕ → Type 0
 SeenAfter seen event after = ((after ≡ seen) × KeyIsBelow seen event) ⊎ ((after ≡ seen + 1) × ¬ (KeyIsBelow seen event) × KeyIsBelow after event)
+
+-- the version has the event, and there is room for it after the others
+abbrev pub TakesEvent : Version → Event → (before after : ℕ) → (events more : List Event) → Type 0
+TakesEvent version event before after events more = (has_event version event ≡ true) × (length events < MAX_EVENTS) × SeenAfter before event after × (more ≡ events ++ event ∷ [])
 
 -- with some of the first names of any table that has these lines, a trace is read on by the bytes, which may need more of its names
 abbrev pub TakesKnown : Version → List KnownLine → (before after : ℕ) → (events more : List Event) → List ℕ → Type 0
