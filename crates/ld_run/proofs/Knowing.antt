@@ -1,5 +1,5 @@
 -- Steps that are known: that each event has a code of its own, and what leaves them known.
-use Rattle.ld_run.proofs.Names.{[], ◌++◌, ◌<◌, ◌∙◌, ◌∷◌, ◌≡◌, ◌≤◌, All, AreKnown, EndState, Event, Holds, IsKnown, IsStep, KnowsFact, List, Some, View, ap, arith, event_code, length, refl, slice_get, slice_index_or, subst, suc, sym, zero, ℕ}
+use Rattle.ld_run.proofs.Names.{[], ◌++◌, ◌<◌, ◌∙◌, ◌∷◌, ◌≡◌, ◌≤◌, All, AreKnown, EndState, Event, HasThere, Holds, IsKnown, IsStep, List, Some, Store, ap, arith, event_code, length, refl, slice_get, slice_index_or, subst, suc, sym, zero, ℕ}
 use Rattle.std.specs.Prelude.{◌/◌, ◌%◌}
 use Rattle.std.proofs.Math.ListN.{set}
 use Rattle.std.proofs.lemmas.List.Elements.{All-set}
@@ -74,8 +74,8 @@ slice_get-left [] ys k x is = cc
 slice_get-left (y ∷ xs) ys zero x is = is
 slice_get-left (y ∷ xs) ys (suc k) x is = slice_get-left xs ys k x is
 
-module _ (keys : ℕ) (now : View) (states : List EndState) (step : KnownStep) (is : IsKnown keys now states step) where
-  known-later : (new : View) → Holds (KnowsFact keys new) (KnowsFact keys now) → IsKnown keys new states step
+module _ (store : Store) (states : List EndState) (step : KnownStep) (is : IsKnown store states step) where
+  known-later : (new : Store) → Holds (HasThere new) (HasThere store) → IsKnown new states step
   known-later new up = record {
     event = is.event;
     from = is.from;
@@ -83,10 +83,10 @@ module _ (keys : ℕ) (now : View) (states : List EndState) (step : KnownStep) (
     code_is = is.code_is;
     from_is = is.from_is;
     to_is = is.to_is;
-    is_step = IsStep-later keys now new is.from is.event is.to up is.is_step;
+    is_step = IsStep-later store new is.from is.event is.to up is.is_step;
   }
 
-  known-more : (more : List EndState) → IsKnown keys now (states ++ more) step
+  known-more : (more : List EndState) → IsKnown store (states ++ more) step
   known-more more = record {
     event = is.event;
     from = is.from;
@@ -98,41 +98,41 @@ module _ (keys : ℕ) (now : View) (states : List EndState) (step : KnownStep) (
   }
 
   -- by its code and the state before it, it is the step of an event
-  pub known-found : (event : Event) (from : EndState) → step.code ≡ event_code event → slice_get states step.from ≡ Some from → (next : EndState) × (slice_get states step.to ≡ Some next) × IsStep keys now from event next
+  pub known-found : (event : Event) (from : EndState) → step.code ≡ event_code event → slice_get states step.from ≡ Some from → (next : EndState) × (slice_get states step.to ≡ Some next) × IsStep store from event next
   known-found event from code at =
       let same = some_same (sym is.from_is ∙ at) in
       let event_is = same_event is.event event (sym is.code_is ∙ code) in
-      (is.to, is.to_is, subst (λ e. IsStep keys now from e is.to) event_is (subst (λ s. IsStep keys now s is.event is.to) same is.is_step))
+      (is.to, is.to_is, subst (λ e. IsStep store from e is.to) event_is (subst (λ s. IsStep store s is.event is.to) same is.is_step))
 
 -- more was put or seen
-pub AreKnown-later : (keys : ℕ) (old new : View) (known : KnownSteps) → Holds (KnowsFact keys new) (KnowsFact keys old) → AreKnown keys old known → AreKnown keys new known
-AreKnown-later keys old new known up are = record {
+pub AreKnown-later : (old new : Store) (known : KnownSteps) → Holds (HasThere new) (HasThere old) → AreKnown old known → AreKnown new known
+AreKnown-later old new known up are = record {
   few = are.few;
-  steps = λ k d l from. known-later keys old known.states.items (slice_index_or known.steps.items k d) (are.steps k d l from) new up;
+  steps = λ k d l from. known-later old known.states.items (slice_index_or known.steps.items k d) (are.steps k d l from) new up;
 }
 
 -- there are more states
-pub AreKnown-more : (keys : ℕ) (now : View) (old new : KnownSteps) (more : List EndState) → new.states.items ≡ old.states.items ++ more → new.steps ≡ old.steps → length new.states.items ≤ NO_STATE → AreKnown keys now old → AreKnown keys now new
-AreKnown-more keys now old new more states steps few are = record {
+pub AreKnown-more : (store : Store) (old new : KnownSteps) (more : List EndState) → new.states.items ≡ old.states.items ++ more → new.steps ≡ old.steps → length new.states.items ≤ NO_STATE → AreKnown store old → AreKnown store new
+AreKnown-more store old new more states steps few are = record {
   few = few;
-  steps = subst (λ (all : List KnownStep). All (λ (step : KnownStep). step.from < NO_STATE → IsKnown keys now new.states.items step) all) (sym (ap (λ v. v.items) steps))
-      (λ k d l from. subst (λ all. IsKnown keys now all (slice_index_or old.steps.items k d)) (sym states)
-      (known-more keys now old.states.items (slice_index_or old.steps.items k d) (are.steps k d l from) more));
+  steps = subst (λ (all : List KnownStep). All (λ (step : KnownStep). step.from < NO_STATE → IsKnown store new.states.items step) all) (sym (ap (λ v. v.items) steps))
+      (λ k d l from. subst (λ all. IsKnown store all (slice_index_or old.steps.items k d)) (sym states)
+      (known-more store old.states.items (slice_index_or old.steps.items k d) (are.steps k d l from) more));
 }
 
 -- one step is another one
-pub AreKnown-set : (keys : ℕ) (now : View) (old new : KnownSteps) (slot : ℕ) (step : KnownStep) → new.states ≡ old.states → new.steps.items ≡ set old.steps.items slot step → IsKnown keys now old.states.items step → AreKnown keys now old → AreKnown keys now new
-AreKnown-set keys now old new slot step states steps is are = record {
+pub AreKnown-set : (store : Store) (old new : KnownSteps) (slot : ℕ) (step : KnownStep) → new.states ≡ old.states → new.steps.items ≡ set old.steps.items slot step → IsKnown store old.states.items step → AreKnown store old → AreKnown store new
+AreKnown-set store old new slot step states steps is are = record {
   few = subst (λ all. length all.items ≤ NO_STATE) (sym states) are.few;
-  steps = subst (λ all. All (λ (one : KnownStep). one.from < NO_STATE → IsKnown keys now all.items one) new.steps.items) (sym states)
-      (subst (All (λ (one : KnownStep). one.from < NO_STATE → IsKnown keys now old.states.items one)) (sym steps)
-      (All-set (λ (one : KnownStep). one.from < NO_STATE → IsKnown keys now old.states.items one) old.steps.items slot step (λ below. is) are.steps));
+  steps = subst (λ all. All (λ (one : KnownStep). one.from < NO_STATE → IsKnown store all.items one) new.steps.items) (sym states)
+      (subst (All (λ (one : KnownStep). one.from < NO_STATE → IsKnown store old.states.items one)) (sym steps)
+      (All-set (λ (one : KnownStep). one.from < NO_STATE → IsKnown store old.states.items one) old.steps.items slot step (λ below. is) are.steps));
 }
 
 -- nothing is another
-pub AreKnown-same : (keys : ℕ) (now : View) (old new : KnownSteps) → new.states ≡ old.states → new.steps ≡ old.steps → AreKnown keys now old → AreKnown keys now new
-AreKnown-same keys now old new states steps are = record {
+pub AreKnown-same : (store : Store) (old new : KnownSteps) → new.states ≡ old.states → new.steps ≡ old.steps → AreKnown store old → AreKnown store new
+AreKnown-same store old new states steps are = record {
   few = subst (λ all. length all.items ≤ NO_STATE) (sym states) are.few;
-  steps = subst (λ all. All (λ (one : KnownStep). one.from < NO_STATE → IsKnown keys now all.items one) new.steps.items) (sym states)
-      (subst (λ all. All (λ (one : KnownStep). one.from < NO_STATE → IsKnown keys now old.states.items one) all.items) (sym steps) are.steps);
+  steps = subst (λ all. All (λ (one : KnownStep). one.from < NO_STATE → IsKnown store all.items one) new.steps.items) (sym states)
+      (subst (λ all. All (λ (one : KnownStep). one.from < NO_STATE → IsKnown store old.states.items one) all.items) (sym steps) are.steps);
 }

@@ -14,13 +14,14 @@ pub use Rattle.ld_board.specs.declared.view.View.{View}
 pub use Rattle.ld_facts.specs.FactBits.{FactParts, HasFact}
 pub use Rattle.ld_facts.specs.Facts.{Adds, AreSame, ChainHas, ChainsHave, Holds, TraceHas}
 pub use Rattle.ld_facts.specs.Laws.{TraceFactsAreTheChains}
+pub use Rattle.ld_facts.specs.Renumbered.{fact_by}
 pub use Rattle.ld_facts.specs.Laws.Lists.{Any-push, Contains-head}
 pub use Rattle.ld_facts.specs.TraceFacts.{IsFirstRefused, TracesHave}
 pub use Rattle.ld_facts.specs.declared.fact.Fact.{Fact}
 pub use Rattle.ld_run.specs.Inside.Crews.{HasDrawn, SomeHasDrawn, earlier_refused}
-pub use Rattle.ld_run.specs.Inside.Walked.{AreWalked, CalledBy, CallsBelow, ChainCallsBelow, EndsWalk, StopsWalk}
+pub use Rattle.ld_run.specs.Inside.Walked.{AreWalked, CalledBy, CallsBelow, ChainCallsBelow, EndsWalk, IsNext, IsSumming, StopsWalk}
 pub use Rattle.ld_run.specs.Inside.KnownSteps.{AreKnown, Follows, IsFound, IsKnown, Keeps, Learns, Reaches, event_code, irq_number}
-pub use Rattle.ld_run.specs.Inside.Walks.{ComesNext, FirstFaultIs, HasGathered, HasWalked, IsStep, IsWalking, WalksOn, fault_in, first_refused_of}
+pub use Rattle.ld_run.specs.Inside.Walks.{ComesNext, FirstFaultIs, GoesAlong, HasGathered, HasThere, HasWalked, IsStep, IsWalking, Store, WalksOn, fault_in, first_refused_of, in_facts, on_board}
 pub use Rattle.ld_run.specs.Runs.{CompletesRun, EndsRun, IsCrew, StopsRun}
 pub use Rattle.ld_run.specs.Tallies.{AreWellFormed, Every, HasBeforeFault, IsRefused, IsTally, LeastRefusedIs, OfSome}
 pub use Rattle.ld_run.specs.Work.{DrawnHave, HasFinished, HasWorked}

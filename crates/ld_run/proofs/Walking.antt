@@ -1,5 +1,5 @@
 -- Going along a trace, and what is put on a board and known on the way.
-use Rattle.ld_run.proofs.Names.{[], ◌++◌, ◌+◌, ◌<◌, ◌↔◌, ◌∙◌, ◌∷◌, ◌≡◌, ◌≤◌, ◌⊎◌, All-pop, All-take, Any-push, AreSame, Bool, BeginningsKeepTheirChains, BeginningsKeepTheirFaults, CallsBelow, ChainCallsBelow, ChainHas, ChainKeysAreTheTraces, ChainKeysBelow, ChainParts, ChainsHave, EndState, Err, Event, Fact, GoesOn, HasBeforeFault, HasGathered, HasWalked, Holds, IfSome, IsErr, IsStateAfter, IsStep, IsWalking, IsWellFormed, KeyIsBelow, KeysBelow, KnowsFact, List, None, Ok, Option, PutsOnly, Result, Some, StepAt, StepFault, TraceFactsAreTheChains, View, WalksOn, ap, append-nil, arith, count_by, false, fault_in, from_bool, inl, inr, length, makes_chain, refl, slice_get, subst, suc, sym, take, take_all, true, true≢false, zero, ℕ}
+use Rattle.ld_run.proofs.Names.{[], ◌++◌, ◌+◌, ◌<◌, ◌↔◌, ◌∙◌, ◌∷◌, ◌≡◌, ◌≤◌, ◌⊎◌, All-pop, All-take, Any-push, AreSame, Bool, BeginningsKeepTheirChains, BeginningsKeepTheirFaults, CallsBelow, ChainCallsBelow, ChainHas, ChainKeysAreTheTraces, ChainKeysBelow, ChainParts, ChainsHave, EndState, Err, Event, Fact, GoesAlong, GoesOn, HasBeforeFault, HasGathered, HasThere, HasWalked, Holds, IfSome, IsErr, IsStateAfter, IsStep, IsWalking, IsWellFormed, KeyIsBelow, KeysBelow, KnowsFact, List, None, Ok, Option, PutsOnly, Result, Some, StepAt, StepFault, Store, TraceFactsAreTheChains, View, WalksOn, ap, append-nil, arith, cases_lt, count_by, false, fault_in, from_bool, inl, inr, length, makes_chain, on_board, refl, slice_get, slice_get_within, subst, suc, sym, take, take_all, true, true≢false, zero, ℕ}
 use Rattle.std.specs.Prelude.{IsSome, IsTrue, OnOk, is_some}
 use Rattle.std.proofs.lemmas.List.{length-take}
 use Rattle.std.proofs.lemmas.List.Sums.{count_by-le-length}
@@ -103,15 +103,52 @@ IsWalking-next keys start old new t walk next event walking here place number on
       (number ∙ ap (λ n. n + from_bool (makes_chain event)) walking.counted ∙ sym (count_more t walk.place event here));
 }
 
--- one more event by a step that is known
-pub IsWalking-known : (keys : ℕ) (start now : View) (t : List Event) (walk next : Walk) (event : Event) → IsStep keys now walk.state event next.state → IsWalking keys start now t walk → slice_get t walk.place ≡ Some event
-    → next.place ≡ walk.place + 1 → next.number ≡ walk.number + from_bool (makes_chain event) → IsWalking keys start now t next
-IsWalking-known keys start now t walk next event step walking here place number =
-    IsWalking-next keys start now now t walk next event walking here place number (by_answer step.answer (step.goes_on t walk.place walking.after here) step.knows)
+-- ---- along known steps
+-- nowhere
+pub GoesAlong-none : (store : Store) (t : List Event) (walk : Walk) → IsStateAfter t walk.place walk.state → GoesAlong store t walk walk
+GoesAlong-none store t walk after = record { after = after; counted = refl; keeps = λ x h. h; knows = λ x h. inl h }
+
+-- one more event, by a step that is known
+pub GoesAlong-step : (store : Store) (t : List Event) (from : Walk) (place number more : ℕ) (state next : EndState) (event : Event) → IsStep store state event next → slice_get t place ≡ Some event
+    → more ≡ from_bool (makes_chain event) → GoesAlong store t from (record { place = place; state = state; number = number })
+    → GoesAlong store t from (record { place = place + 1; state = next; number = number + more })
+GoesAlong-step store t from place number more state next event step here made along = by_answer step.answer (step.goes_on t place along.after here) step.knows
   where
-    by_answer : (answer : Option ChainParts) → GoesOn t walk.place next.state (Ok answer) → IfSome answer (λ c. Holds (KnowsFact keys now) (ChainHas c)) → IsStateAfter t (walk.place + 1) next.state × HasGathered keys start now t (walk.place + 1)
-    by_answer None on knows = walks_on-none keys start now t walk.place next.state (Ok None) refl on walking.gathered
-    by_answer (Some c) on knows = walks_on-chain keys start now now t walk.place next.state (Ok (Some c)) c refl on refl (PutsOnly-none keys now (ChainHas c)) knows walking.gathered
+    counted : number + more + count_by makes_chain (take from.place t) ≡ from.number + count_by makes_chain (take (place + 1) t)
+    counted = let was = along.counted in let one = count_more t place event here in omega (arith, was, one, made)
+
+    by_answer : (answer : Option ChainParts) → GoesOn t place next (Ok answer) → IfSome answer (λ c. Holds (HasThere store) (ChainHas c))
+        → GoesAlong store t from (record { place = place + 1; state = next; number = number + more })
+    by_answer None on knows =
+        let same : chains (take (place + 1) t) ≡ chains (take place t) = on.1 ∙ append-nil (chains (take place t)) in
+        record {
+          after = on.0;
+          counted = counted;
+          keeps = subst (λ cs. Holds (ChainsHave cs) (ChainsHave (chains (take from.place t)))) (sym same) along.keeps;
+          knows = subst (λ cs. (x : Fact) → ChainsHave cs x → ChainsHave (chains (take from.place t)) x ⊎ HasThere store x) (sym same) along.knows;
+        }
+    by_answer (Some c) on knows =
+        let cs : List ChainParts = chains (take place t) in
+        let push : (x : Fact) → ChainsHave (cs ++ c ∷ []) x ↔ (ChainsHave cs x ⊎ ChainHas c x) = λ x. Any-push (λ y. ChainHas y x) cs c in
+        record {
+          after = on.0;
+          counted = counted;
+          keeps = subst (λ ds. Holds (ChainsHave ds) (ChainsHave (chains (take from.place t)))) (sym on.1) (λ x h. (push x).1 (inl (along.keeps x h)));
+          knows = subst (λ ds. (x : Fact) → ChainsHave ds x → ChainsHave (chains (take from.place t)) x ⊎ HasThere store x) (sym on.1)
+              (λ x h. elim ((push x).0 h) [ inl b ↦ along.knows x b | inr y ↦ inr (knows x y) ]);
+        }
+
+-- a walk that puts facts on a board goes on
+pub IsWalking-along : (keys : ℕ) (start now : View) (t : List Event) (from to : Walk) → GoesAlong (on_board keys now) t from to → IsWalking keys start now t from → IsWalking keys start now t to
+IsWalking-along keys start now t from to along walking = record {
+  after = along.after;
+  gathered = record {
+    claimed = walking.gathered.claimed;
+    puts = PutsOnly-more keys start now (ChainsHave (chains (take from.place t))) (ChainsHave (chains (take to.place t))) along.keeps walking.gathered.puts;
+    knows = λ x h. elim (along.knows x h) [ inl b ↦ walking.gathered.knows x b | inr there ↦ there ];
+  };
+  counted = let more = along.counted in let was = walking.counted in omega (arith, more, was);
+}
 
 -- no more chains than events
 pub few_chains : (keys : ℕ) (start now : View) (t : List Event) (walk : Walk) → IsWalking keys start now t walk → walk.number ≤ walk.place
@@ -121,11 +158,11 @@ few_chains keys start now t walk walking =
     let l = length-take walk.place t in
     omega (arith, c, f, l)
 
--- what was put or seen still is
-pub IsStep-later : (keys : ℕ) (old new : View) (from : EndState) (event : Event) (to : EndState) → Holds (KnowsFact keys new) (KnowsFact keys old) → IsStep keys old from event to → IsStep keys new from event to
-IsStep-later keys old new from event to up step = record { answer = step.answer; goes_on = step.goes_on; knows = later step.answer step.knows }
+-- what was there still is
+pub IsStep-later : (old new : Store) (from : EndState) (event : Event) (to : EndState) → Holds (HasThere new) (HasThere old) → IsStep old from event to → IsStep new from event to
+IsStep-later old new from event to up step = record { answer = step.answer; goes_on = step.goes_on; knows = later step.answer step.knows }
   where
-    later : (answer : Option ChainParts) → IfSome answer (λ c. Holds (KnowsFact keys old) (ChainHas c)) → IfSome answer (λ c. Holds (KnowsFact keys new) (ChainHas c))
+    later : (answer : Option ChainParts) → IfSome answer (λ c. Holds (HasThere old) (ChainHas c)) → IfSome answer (λ c. Holds (HasThere new) (ChainHas c))
     later None knows = tt
     later (Some c) knows = λ x h. up x (knows x h)
 
@@ -141,6 +178,10 @@ gathered_puts keys start now t n Q same gathered = PutsOnly-more keys start now 
 
 pub gathered_knows : (keys : ℕ) (start now : View) (t : List Event) (n : ℕ) (Q : Fact → Type 0) → AreSame (ChainsHave (chains (take n t))) Q → HasGathered keys start now t n → Holds (KnowsFact keys now) Q
 gathered_knows keys start now t n Q same gathered x h = gathered.knows x ((same x).1 h)
+
+-- no event comes next at the end of the trace
+pub past_end : {A : Type 0} (xs : List A) (i : ℕ) → slice_get xs i ≡ None → length xs ≤ i
+past_end xs i none = elim (cases_lt i (length xs)) [ inl near ↦ absurd (never_past xs i near none) | inr past ↦ past ]
 
 -- nothing is refused if the worker was lost
 pub none_in : (r : Result (Option StepAt) OutOfMemory) → IsErr r → fault_in r ≡ None
@@ -187,6 +228,11 @@ made-some b answer x made is = ap from_bool (made.0 (ap is_some is))
 pub made-none : {A : Type 0} (b : Bool) (answer : Option A) → (IsSome answer ↔ IsTrue b) → answer ≡ None → from_bool b ≡ 0
 made-none true answer made is = absurd (true≢false (sym (made.1 refl) ∙ ap is_some is))
 made-none false answer made is = refl
+
+-- an event of the trace stands below its length
+pub place_below : {A : Type 0} (xs : List A) (i most : ℕ) (o : Option A) → o ≡ slice_get xs i → length xs ≤ most → IfSome o (λ x. i < most)
+place_below xs i most (Some x) is few = let within = slice_get_within xs i x (sym is) in omega (arith, within, few)
+place_below xs i most None is few = tt
 
 -- what holds in any case holds if it went well
 pub on_ok : {A E : Type 0} {P : Type 0} (r : Result A E) → P → OnOk r P

@@ -12,6 +12,7 @@ ghost use Rattle.ld_facts.specs.Facts.{AreSame, TraceHas};
 ghost use Rattle.ld_run.specs.Condensing.{IsCondensed};
 
 use crate::condense_fault::CondenseFault;
+use crate::known_steps::KnownSteps;
 use crate::trace_facts::add_trace;
 use ld_facts::Facts;
 use ld_graph::{Kind, Mark};
@@ -56,7 +57,7 @@ fn facts_of(alloc: Global, trace: &RawTrace, keys: u16) -> Result<Facts, Condens
     ensures facts { IfOk result (λ facts. AreSame (TraceHas trace.now) (HasFact facts)) }
 {
     let mut facts = Facts::new(alloc, keys)?;
-    match add_trace(&mut facts, trace, None) {
+    match add_trace(&mut facts, trace, None, &mut KnownSteps::none(alloc)) {
         Ok(()) => Ok(facts),
         Err(_) => Err(CondenseFault::Unequal),
     }

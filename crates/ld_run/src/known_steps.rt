@@ -1,12 +1,13 @@
-//! Steps that a worker knows: from which state an event led to which, once the facts of its chain were put or seen.
+//! Steps that are known: from which state an event led to which, once the facts of its chain were gathered.
 
 ghost use Rattle.std.specs.Prelude.{◌≡◌, ◌≤◌, ◌<◌, ◌++◌, ℕ, List, Some, IfSome, length, slice_get};
 ghost use Rattle.ld_task.specs.EndState.{EndState};
-ghost use Rattle.ld_board.specs.declared.view.View.{View};
 ghost use Rattle.ld_run.specs.Inside.KnownSteps.{AreKnown, Follows, IsFound, Keeps, Learns, Reaches, event_code, irq_number};
+ghost use Rattle.ld_run.specs.Inside.Walks.{Store};
 ghost use Rattle.ld_task.specs.Locks.{mode_number};
 ghost use Rattle.ld_task.specs.Steps.{IsStateAfter};
 ghost use Rattle.ld_trace.specs.declared.event.Event.{Event};
+ghost use Rattle.ld_trace.specs.declared.raw_trace.TheConstants.{MAX_EVENTS};
 
 use crate::runs::makes_chain;
 use ld_task::TaskState;
@@ -14,16 +15,16 @@ use ld_trace::{Event, Irq, Mode, RawTrace};
 use std::alloc::Global;
 
 // The most states that are kept.
-const MOST_STATES: usize = 4_096;
+const MOST_STATES: usize = 8_192;
 
 // The most locks of a state that is kept.
 const MOST_LOCKS: usize = 16;
 
 // How many slots there are for steps.
-const STEP_SLOTS: usize = 8_192;
+const STEP_SLOTS: usize = 16_384;
 
 // How many slots there are for states.
-const STATE_SLOTS: usize = 8_192;
+const STATE_SLOTS: usize = 16_384;
 
 // How many slots are looked at for a state.
 const LOOKS: usize = 16;
@@ -92,7 +93,7 @@ impl Walk {
 impl KnownSteps {
     // No steps. If there is no memory, none are learnt.
     pub(crate) fn new(alloc: Global) -> KnownSteps
-        ensures { (keys : ℕ) (now : View) → AreKnown keys now result }
+        ensures { (store : Store) → AreKnown store result }
     {
         let none = KnownStep {
             code: 0,
@@ -111,27 +112,59 @@ impl KnownSteps {
         }
     }
 
+    // No steps, and none are learnt.
+    pub(crate) fn none(alloc: Global) -> KnownSteps
+        ensures { (store : Store) → AreKnown store result }
+    {
+        KnownSteps {
+            states: Vec::new(alloc),
+            steps: Vec::new(alloc),
+            slots: Vec::new(alloc),
+            balance: 0,
+        }
+    }
+
     // Whether enough steps were known to go on with them.
     pub(crate) fn are_worth_it(&self) -> bool {
         self.balance > 0
     }
 
-    // Takes note of a step that was missed, after so many that were known.
-    pub(crate) fn pay(&mut self, known: usize)
+    // Walks on by known steps, and returns the event that comes next, whose step is missed, unless the trace ends there.
+    // The number of the state, if it has one, becomes that of the state there.
+    pub(crate) fn next_missed(
+        &mut self,
+        events: &RawTrace,
+        here: &mut Option<u16>,
+        walk: &mut Walk,
+    ) -> Option<Event>
+        requires within { walk.old.place ≤ length events.now }
+        requires few { walk.old.number ≤ walk.old.place }
+        ensures few { walk.new.number ≤ walk.new.place }
+        ensures on { walk.old.place ≤ walk.new.place }
+        ensures follows { Follows self.old events.now here.old walk.old here.new walk.new }
+        ensures next { result ≡ slice_get events.now walk.new.place }
+        ensures room { IfSome result (λ _. walk.new.place < MAX_EVENTS) }
+        ensures states { self.new.states ≡ self.old.states }
+        ensures steps { self.new.steps ≡ self.old.steps }
+    {
+        let before = walk.place;
+        *here = self.follow(events, *here, walk);
+        let missed = walk.place < events.len();
+        self.pay(walk.place - before, missed);
+        events.event(walk.place)
+    }
+
+    // Takes note of so many steps that were known, and of whether one was missed after them.
+    fn pay(&mut self, known: usize, missed: bool)
         ensures states { self.new.states ≡ self.old.states }
         ensures steps { self.new.steps ≡ self.old.steps }
     {
         let earned = self.balance.saturating_add(known / KNOWN_FOR_MISSED);
-        self.balance = earned.min(MOST_BALANCE).saturating_sub(1);
+        self.balance = earned.min(MOST_BALANCE).saturating_sub(usize::from(missed));
     }
 
     // Walks on by known steps from the state of this number, as far as they lead, and returns the number of the state there.
-    pub(crate) fn follow(
-        &self,
-        events: &RawTrace,
-        here: Option<u16>,
-        walk: &mut Walk,
-    ) -> Option<u16>
+    fn follow(&self, events: &RawTrace, here: Option<u16>, walk: &mut Walk) -> Option<u16>
         requires within { walk.old.place ≤ length events.now }
         requires few { walk.old.number ≤ walk.old.place }
         ensures within { walk.new.place ≤ length events.now }
@@ -268,7 +301,7 @@ impl KnownSteps {
 // The slot of the step from the state of this number by the event of this code.
 fn slot_of(from: u16, code: u16) -> usize {
     let both = u32::from(from) * 65_536 + u32::from(code);
-    (both.wrapping_mul(0x9E37_79B1) >> 19) as usize % STEP_SLOTS
+    (both.wrapping_mul(0x9E37_79B1) >> 18) as usize % STEP_SLOTS
 }
 
 // Each event has a code of its own.

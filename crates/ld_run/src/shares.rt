@@ -7,6 +7,7 @@ ghost use Rattle.ld_trace.specs.declared.key_id.TheConstants.{MAX_KEYS};
 ghost use Rattle.ld_task.specs.WellFormed.{IsWellFormed};
 ghost use Rattle.ld_run.specs.Inside.Walked.{CallsBelow, EndsWalk, StopsWalk};
 
+use crate::known_steps::KnownSteps;
 use crate::trace_facts::add_trace;
 use ld_facts::Facts;
 use ld_task::StepAt;
@@ -58,7 +59,8 @@ pub(crate) fn facts_of_all<R: Threads + Sync>(
     united(traces, place, first, second)
 }
 
-// The facts of all traces, if they are well formed, walked one after the other by the calling thread.
+// The facts of all traces, if they are well formed, walked one after the other by the calling thread. Steps that one of
+// them made known are known in the next.
 fn facts_in_turn(
     alloc: Global,
     traces: &[RawTrace],
@@ -72,8 +74,9 @@ fn facts_in_turn(
     let Ok(mut facts) = Facts::new(alloc, keys) else {
         return Err(Unwalked::Memory);
     };
+    let mut known = KnownSteps::new(alloc);
     for trace in 0..traces.len() {
-        if let Err(first) = add_trace(&mut facts, &traces[trace], others) {
+        if let Err(first) = add_trace(&mut facts, &traces[trace], others, &mut known) {
             return Err(Unwalked::Refused { trace, first });
         }
     }

@@ -9,7 +9,7 @@ ghost use Rattle.ld_board.specs.Seats.{view};
 ghost use Rattle.ld_board.specs.Views.{KnowsFact};
 ghost use Rattle.ld_run.specs.Work.{HasWorked};
 ghost use Rattle.ld_run.specs.Inside.KnownSteps.{AreKnown};
-ghost use Rattle.ld_run.specs.Inside.Walks.{ComesNext, HasWalked, IsStep, IsWalking, WalksOn, fault_in, first_refused_of};
+ghost use Rattle.ld_run.specs.Inside.Walks.{ComesNext, HasWalked, IsStep, IsWalking, WalksOn, fault_in, first_refused_of, on_board};
 ghost use Rattle.ld_board.specs.declared.seat.TheConstants.{MAX_CLAIMS};
 ghost use Rattle.ld_board.specs.declared.view.View.{View};
 
@@ -118,9 +118,9 @@ fn walk_trace<R: Wait, G: Gate>(
     requires seat { IsSeatOf board.now seat.old }
     requires below { KeysBelow (keys_of board.now) events.now }
     requires trace { trace < MAX_CLAIMS }
-    requires known { AreKnown (keys_of board.now) (view seat.old) known.old }
+    requires known { AreKnown (on_board (keys_of board.now) (view seat.old)) known.old }
     ensures seat { IsSeatOf board.now seat.new }
-    ensures known { OnOk result (AreKnown (keys_of board.now) (view seat.new) known.new) }
+    ensures known { OnOk result (AreKnown (on_board (keys_of board.now) (view seat.new)) known.new) }
     ensures walked { HasWalked (keys_of board.now) (view seat.old) (view seat.new) events.now result }
 {
     ld_facts::trace_facts_are_the_chains();
@@ -129,17 +129,13 @@ fn walk_trace<R: Wait, G: Gate>(
     let mut walk = Walk::new();
     let mut here = known.number_of(&walk.state);
     while known.are_worth_it() {
-        let (before, chains) = (walk.place, walk.number);
-        here = known.follow(events, here, &mut walk);
+        let chains = walk.number;
+        let missed = known.next_missed(events, &mut here, &mut walk);
         desk.news
             .lower(desk.book, walk.number.saturating_sub(chains));
-        if walk.place >= events.len() {
+        let Some(event) = missed else {
             return Ok(None);
-        }
-        let Some(event) = events.event(walk.place) else {
-            unreachable!();
         };
-        known.pay(walk.place - before);
         let found = walk_event(desk, board, seat, &mut walk, trace, event)?;
         if let Some(first) = found {
             return Ok(Some(first));
@@ -203,7 +199,7 @@ fn walk_event<R: Wait, G: Gate>(
     ensures keeps { Holds (KnowsFact (keys_of board.now) (view seat.new)) (KnowsFact (keys_of board.now) (view seat.old)) }
     ensures on { fault_in result ≡ None → walk.new.place ≡ walk.old.place + 1 }
     ensures step { fault_in result ≡ None
-        → IsStep (keys_of board.now) (view seat.new) walk.old.state event walk.new.state }
+        → IsStep (on_board (keys_of board.now) (view seat.new)) walk.old.state event walk.new.state }
     ensures walks_on { (start : View) (t : List Event)
         → ComesNext (keys_of board.now) start (view seat.old) walk.old event t
         → WalksOn (keys_of board.now) start (view seat.new) walk.new t (fault_in result) }

@@ -9,7 +9,7 @@ use std::alloc::Global;
 use std::process::Abort;
 use std::sync::Wait;
 use std::thread::Threads;
-use tests_low::steps::Step::{Enter, Give, Leave, Write};
+use tests_low::steps::Step::{Enter, Give, Leave, TurnOff, TurnOn, Write};
 use tests_low::steps::{A, B, BOTH_ORDERS, Step, facts_of, trace_of, traces_of};
 
 // Traces, how often the whole list of them is given, with how many workers they are run, and how each of these runs
@@ -47,7 +47,7 @@ const NOT_HELD: RunFault = RunFault::Refused {
     fault: StepFault::NotHeld,
 };
 
-static RUNS: [Run; 10] = [
+static RUNS: [Run; 12] = [
     Run {
         about: "two locks in both orders",
         traces: BOTH_ORDERS,
@@ -130,6 +130,42 @@ static RUNS: [Run; 10] = [
         times: 1000,
         workers: &[1, 2, 3, 64],
         fault: Some(NOT_HELD),
+        ..CLEAN
+    },
+    Run {
+        about: "steps that come again, some of them in interrupts, of more keys than a board takes",
+        keys: 300,
+        traces: &[
+            &[
+                TurnOff(Irq::Hard),
+                Write(A),
+                Write(B),
+                Give(B),
+                Give(A),
+                TurnOn(Irq::Hard),
+            ],
+            &[Enter(Irq::Hard), Write(B), Give(B), Leave],
+        ],
+        times: 800,
+        workers: &[1, 2, 3, 64],
+        dependencies: &[(A, B, Kind::En)],
+        used: &[A, B],
+        ..CLEAN
+    },
+    Run {
+        about: "an event that isn't allowed after steps that come again, of more keys than a board takes",
+        keys: 300,
+        traces: &[
+            &[Write(A), Give(A), Write(B), Give(B)],
+            &[Write(A), Give(A), Write(B), Give(B), Give(B)],
+        ],
+        times: 1000,
+        workers: &[1, 2, 3, 64],
+        fault: Some(RunFault::Refused {
+            trace: 1,
+            place: 4,
+            fault: StepFault::NotHeld,
+        }),
         ..CLEAN
     },
 ];

@@ -1,4 +1,4 @@
-use Rattle.ld_run.proofs.Names.{[], ◌<◌, ◌∙◌, ◌∷◌, All, AreKnown, Contains-head, List, View, ap, arith, keys_of, length, refl, slice_get_read, subst, sym, true≢false, view, with_claim, ℕ}
+use Rattle.ld_run.proofs.Names.{[], ◌<◌, ◌∙◌, ◌∷◌, All, AreKnown, Contains-head, List, View, ap, arith, keys_of, length, on_board, refl, slice_get_read, subst, sym, true≢false, view, with_claim, ℕ}
 use Rattle.ld_run.proofs.Knowing.{AreKnown-later}
 use Rattle.ld_run.proofs.Working.{IsWorking, IsWorking-none, IsWorking-next, found_among, finishes, puts_among, walked_puts}
 use Rattle.ld_run.proofs.worker.work.Goals as goal
@@ -7,7 +7,7 @@ pub loop-number-init : goal.loop-number-init
 loop-number-init g c =
     let e = c.claim-number.ensures in
     let len = ap (λ (v : View). length v.claimed) e.claimed in
-    (e.seat, ([], IsWorking-none (keys_of c.args.board.now) c.args.traces.now (view c.args.seat) (view c.claim-number.new.seat) c.claim-number.result e.claimed), omega arith, c.new-known.ensures (keys_of c.args.board.now) (view c.claim-number.new.seat))
+    (e.seat, ([], IsWorking-none (keys_of c.args.board.now) c.args.traces.now (view c.args.seat) (view c.claim-number.new.seat) c.claim-number.result e.claimed), omega arith, c.new-known.ensures (on_board (keys_of c.args.board.now) (view c.claim-number.new.seat)))
 
 pub loop-number-preserved : goal.loop-number-preserved
 loop-number-preserved g c =
@@ -25,8 +25,8 @@ loop-number-preserved g c =
       e.seat,
       (c.loop-number.number ∷ drawn, subst (IsWorking keys c.args.traces.now (view c.args.seat) (view c.claim-number-in-loop-number.new.seat) (c.loop-number.number ∷ drawn) c.claim-number-in-loop-number.result) (sym c.first_of-refused.ensures) next),
       omega arith,
-      subst (λ v. AreKnown keys v c.walk_trace.new.known) (sym e.claimed)
-          (AreKnown-later keys (view c.walk_trace.new.seat) (with_claim (view c.walk_trace.new.seat) c.claim-number-in-loop-number.result) c.walk_trace.new.known (λ x h. h) w.known),
+      subst (λ v. AreKnown (on_board keys v) c.walk_trace.new.known) (sym e.claimed)
+          (AreKnown-later (on_board keys (view c.walk_trace.new.seat)) (on_board keys (with_claim (view c.walk_trace.new.seat) c.claim-number-in-loop-number.result)) c.walk_trace.new.known (λ x h. h) w.known),
     )
 
 pub loop-number-smaller : goal.loop-number-smaller
