@@ -316,7 +316,7 @@ fn sure_facts(
     facts.renamed(alloc, facts.keys(), singles)
 }
 
-// In place of the key of a name that stands for several locks.
+// Stands for the key of each name that stands for several locks.
 const SEVERAL: u16 = u16::MAX;
 
 // Each key of the table, but `SEVERAL` for one that stands for several locks.

@@ -22,7 +22,7 @@ pub(crate) struct News {
 }
 
 impl News {
-    // None were.
+    // No chain was new so far.
     pub(crate) fn new() -> News {
         News {
             level: 0,
@@ -30,7 +30,7 @@ impl News {
         }
     }
 
-    // One more was. If they are mostly new by now, the book is told.
+    // Takes note of one more new chain, and tells the book if chains are mostly new by now.
     #[inline(always)]
     pub(crate) fn raise(&mut self, book: &LockedBook) {
         self.level = self.level.saturating_add(RAISED).min(HIGHEST);
@@ -40,7 +40,7 @@ impl News {
         }
     }
 
-    // So many more weren't.
+    // Takes note of so many chains that weren't new, and tells the book if chains are no longer mostly new.
     #[inline(always)]
     pub(crate) fn lower(&mut self, book: &LockedBook, chains: u64) {
         self.level = self.level.saturating_sub(chains);

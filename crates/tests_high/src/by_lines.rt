@@ -179,7 +179,7 @@ impl Read for FailsOnce<'_> {
     }
 }
 
-// Whether a read that fails after this many bytes is told as T8 at the record that it was in, with the names before it.
+// Whether a read that fails after this many bytes is refused with T8 at the record that it was in, with the names before it.
 fn tells(alloc: Global, text: &[u8], bytes: usize) -> Option<bool> {
     let quoted = by_csv(alloc, text)?;
     let mut keys = KeyTable::new(alloc).ok()?;
