@@ -35,6 +35,16 @@ same() {
     if [ "$2" = "$3" ]; then pass "$1"; else fail "$1: '$3' and not '$2'"; fi
 }
 
+# Two files have to be the same: same_files NAME WANTED FOUND.
+same_files() {
+    if cmp -s "$2" "$3"; then
+        pass "$1"
+    else
+        fail "$1"
+        diff "$2" "$3" | head -n 20
+    fi
+}
+
 # A text has to be in a file: has NAME TEXT FILE.
 has() {
     if grep -qF -- "$2" "$3" 2>/dev/null; then pass "$1"; else fail "$1: no '$2' in '$(cat "$3")'"; fi
