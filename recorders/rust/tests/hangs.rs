@@ -2,7 +2,7 @@
 // that goes on says when the others wait.
 use lockdep_record::{Arc, Barrier, Mutex, RwLock};
 use std::fs::{read_dir, read_link, read_to_string};
-use std::{thread::sleep, thread::spawn, time::Duration};
+use std::{thread::sleep, thread::spawn, thread::Builder, time::Duration};
 
 static A: Mutex<i32> = Mutex::new(0);
 static B: Mutex<i32> = Mutex::new(0);
@@ -49,7 +49,7 @@ fn main() {
         Some("two") => {
             let barrier = Arc::new(Barrier::new(2));
             let other = barrier.clone();
-            spawn(move || both(&A, &B, &other));
+            Builder::new().name("pays\ndaily".into()).spawn(move || both(&A, &B, &other)).unwrap();
             spawn(move || both(&B, &A, &barrier));
         }
         Some("again") => {
