@@ -7,6 +7,7 @@ import shutil
 import signal
 import subprocess
 import sys
+import time
 
 script = os.path.dirname(os.path.realpath(sys.argv[0]))
 name_of_recorder = "recorders/" + os.path.basename(script)
@@ -42,6 +43,49 @@ def end_group(child):
         os.killpg(child.pid, signal.SIGKILL)
     except ProcessLookupError:
         pass
+
+
+def await_that(is_so):
+    """Waits until something is so, which is asked again and again; not longer than LIMIT."""
+    end = time.monotonic() + LIMIT
+    while not is_so() and time.monotonic() < end:
+        time.sleep(0.05)
+
+
+def processes_of(process):
+    """A process and all that it started, of which the number is known still."""
+    children = contents("/proc/%d/task/%d/children" % (process, process)).split()
+    return [process] + [each for child in children for each in processes_of(int(child))]
+
+
+def sleeps_of(processes):
+    """How often each thread of processes has gone to sleep. None if one of them runs."""
+    sleeps = {}
+    for each in processes:
+        for thread in os.listdir("/proc/%d/task" % each):
+            words = dict(line.split(":\t", 1) for line in contents("/proc/%d/task/%s/status" % (each, thread)).splitlines() if ":\t" in line)
+            if not words["State"].startswith("S"):
+                return None
+            sleeps[thread] = words["voluntary_ctxt_switches"]
+    return sleeps
+
+
+AWHILE = 0.2  # a thread that waits so many seconds at once waits for ever: the recorder's own waits are shorter
+
+
+def are_asleep(processes):
+    """Whether no thread of processes has run for a while."""
+    try:
+        before = sleeps_of(processes)
+        time.sleep(AWHILE)
+        return before is not None and before == sleeps_of(processes)
+    except OSError:  # (one has ended meanwhile)
+        return False
+
+
+def await_asleep(process):
+    """Waits until a process, and all that it started, waits for what doesn't come by itself."""
+    await_that(lambda: are_asleep(processes_of(process)))
 
 
 class Run:

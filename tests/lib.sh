@@ -4,11 +4,17 @@
 passed=0
 failed=0
 
-# Nothing may hang: what takes longer than this many seconds is ended, and the last line is missing: within SECONDS SCRIPT.
+# How many seconds one command may take. Beside others that use all processors it takes many times as long as alone, so this is far more
+# than it needs: it only ends what hangs.
+limit=600
+
+# Nothing may hang: none of a script's processes may use more processor time than this many seconds, and the script may take twenty times as
+# long. Then it is ended, and its last line is missing: within SECONDS SCRIPT.
 within() {
     if [ "${IS_LIMITED:-no}" = no ]; then
         export IS_LIMITED=yes
-        exec timeout "$1" "$(readlink -f -- "$2")"
+        ulimit -t "$1"
+        exec timeout $((20 * $1)) "$(readlink -f -- "$2")"
     fi
 }
 
@@ -29,6 +35,16 @@ same() {
     if [ "$2" = "$3" ]; then pass "$1"; else fail "$1: '$3' and not '$2'"; fi
 }
 
+# Two files have to be the same: same_files NAME WANTED FOUND.
+same_files() {
+    if cmp -s "$2" "$3"; then
+        pass "$1"
+    else
+        fail "$1"
+        diff "$2" "$3" | head -n 20
+    fi
+}
+
 # A text has to be in a file: has NAME TEXT FILE.
 has() {
     if grep -qF -- "$2" "$3" 2>/dev/null; then pass "$1"; else fail "$1: no '$2' in '$(cat "$3")'"; fi
@@ -39,14 +55,24 @@ lacks() {
     if grep -qF -- "$2" "$3" 2>/dev/null; then fail "$1: '$2' in '$(cat "$3")'"; else pass "$1"; fi
 }
 
-# Waits until a file is there, for at most ten seconds.
-await() {
+# Waits until a command succeeds, as long as one may take: await_that COMMAND...
+await_that() {
     tries=0
-    while [ ! -e "$1" ] && [ $tries -lt 100 ]; do
+    until "$@" || [ $tries -ge $((10 * limit)) ]; do
         sleep 0.1
         tries=$((tries + 1))
     done
-    [ -e "$1" ]
+    "$@"
+}
+
+# Waits until a file is there.
+await() {
+    await_that [ -e "$1" ]
+}
+
+# Waits until a text is in a file: await_text TEXT FILE.
+await_text() {
+    await_that grep -qsF -- "$1" "$2"
 }
 
 # The end of a script.

@@ -35,7 +35,8 @@
 /* How long the end of what was left in the background is waited for without a word. */
 #define PATIENCE_NANOSECONDS 500000000
 
-/* How often it is seen whether a signal came to the whole group, and how long it takes from one look to the next. */
+/* How often it is seen whether a signal came to the whole group, and how long it takes from the first look to the second; then twice as long each
+   time. Who sends it to this process and then to the group may have to wait for a processor in between. */
 #define WITNESS_LOOKS 5
 #define WITNESS_NANOSECONDS 1000000
 
@@ -211,8 +212,8 @@ static bool has_got(pid_t witness, int signal_number) {
     return pending >> (signal_number - 1) & 1;
 }
 
-static void pause_shortly(void) {
-    struct timespec pause = {0, WITNESS_NANOSECONDS};
+static void pause_for(long nanoseconds) {
+    struct timespec pause = {0, nanoseconds};
     nanosleep(&pause, NULL);
 }
 
@@ -221,7 +222,7 @@ static void pause_shortly(void) {
 static bool is_to_group(pid_t *witness, int signal_number) {
     for (int i = 0; i < WITNESS_LOOKS; i++) {
         bool has_it = has_got(*witness, signal_number);
-        pause_shortly();
+        pause_for(WITNESS_NANOSECONDS << i);
         if (!has_it)
             continue;
         sigset_t alike;

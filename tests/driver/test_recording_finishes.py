@@ -41,6 +41,14 @@ class Rust(Room):
         self.assertEqual(self.text("classes"), "m.rs:2:2\tm.rs:2\t-\tmade in\nm.rs:1:2\tm.rs:1\t-\tmade in\n")
         self.assertEqual(summary.text_of(counted), "processes 1\nthreads 1\noperations 6\nevents 4\nclasses 2\n")
 
+    def test_names_of_threads(self):
+        self.put(ONE, "operations 4\n")
+        self.put(ONE + "-1", "N the payer\nA a 1 w m.rs:1\nR a 1\nE\n")
+        self.put(ONE + "-2", "A a 1 w m.rs:1\nR a 1\nE\n")
+        self.put(ONE + "-3", "N cut back to nothing\n")
+        self.assertEqual(summary.text_of(self.rust()), "processes 1\nthreads 2\noperations 4\nevents 4\nclasses 1\n")
+        self.assertEqual(self.text("tasks"), "task-0001.csv %s the payer\n" % ONE.partition("-")[2])
+
     def test_how_threads_end(self):
         self.put(ONE, "operations 4\n")
         self.put(ONE + "-2", "A a 1 w m.rs:1\nW b 1 w m.rs:2\n")

@@ -1,9 +1,12 @@
 """Text, places and blocked threads."""
+import fcntl
 import io
 import os
 import shutil
+import struct
 import subprocess
 import tempfile
+import termios
 import unittest
 
 from lockdep.blocked import blocked_threads
@@ -12,7 +15,7 @@ from lockdep.elf import within_functions
 from lockdep.explanation import Line
 from lockdep.places import key_of_record, made_of, record_lines
 from lockdep.symbols import Address, Symbols, place_words, source_frame
-from lockdep.terminal import Writer, broken, note_lines
+from lockdep.terminal import Writer, broken, note_lines, width_of
 from lockdep.words import class_of_lock, stands_for_several, type_of_class, visible
 
 
@@ -30,6 +33,15 @@ class Lines(unittest.TestCase):
             stream = io.StringIO()
             Writer(stream, width).line("  a word and one more word")
             self.assertEqual(stream.getvalue().count("\n"), lines)
+
+    def test_lines_are_as_long_as_a_terminal_is_wide(self):
+        own, other = os.openpty()
+        self.addCleanup(os.close, own)
+        with open(other, "w", encoding="utf-8") as stream:
+            for columns, width in ((0, 120), (10, 40), (80, 80), (300, 120)):
+                fcntl.ioctl(other, termios.TIOCSWINSZ, struct.pack("4H", 24, columns, 0, 0))
+                self.assertEqual(width_of(stream), width)
+        self.assertEqual([width_of(io.StringIO()), width_of(stream), width_of(None)], [0, 0, 0])
 
     def test_hidden_characters_are_shown(self):
         self.assertEqual(visible("a\n\x1b\u202e\udcff"), "a\\n\\x1b\\u202e\\xff")

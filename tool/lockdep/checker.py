@@ -12,6 +12,8 @@ REFUSED = 2  # the least status with which the program refuses
 PATIENCE = 60
 PATIENCE_WITH_DOT = 30
 
+known_version = ""  # what `run` has asked the program for already
+
 
 def program() -> str:
     """The checker: the one that the variable LOCKDEP names, or the script of this tool."""
@@ -51,7 +53,7 @@ def text_answer(words: list[str]) -> str:
 
 
 def version() -> str:
-    return text_answer(["--version"]).strip()
+    return known_version or text_answer(["--version"]).strip()
 
 
 def other_answer(words: list[str | bytes], given: bytes, patience: int = PATIENCE) -> bytes | None:

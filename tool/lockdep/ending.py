@@ -12,6 +12,7 @@ import shutil
 import signal
 import sys
 
+from . import checker
 from .asking import text_in, traces_in
 from .checker import HOME
 from .files import complain
@@ -153,6 +154,7 @@ class Ending:
 def end_in(room: str, words: list[str]) -> int:
     _, folder, status, *left = words
     os.environ["LOCKDEP"] = variable("PROGRAM")
+    checker.known_version = variable("VERSION")
     os.environ["TMPDIR"] = room  # temporary files of the parts are kept in the folder too
     return Ending(folder, int(status), left, room).run()
 

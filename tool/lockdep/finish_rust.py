@@ -5,7 +5,7 @@ import os
 import re
 from itertools import chain
 
-from .finishing import LOSSES, MOST_KEYS, MOST_NAME, MOST_TRACES, OBJECTS, LockNames, Tally, Trace, is_running, trace_name, write_classes
+from .finishing import LOSSES, MOST_KEYS, MOST_NAME, MOST_TRACES, OBJECTS, LockNames, Tally, Trace, is_running, trace_name, write_classes, write_tasks
 from .summary import NOTED, Count, Summary
 
 TYPE_CHECKING = False  # for a tool that checks types, it is true
@@ -17,6 +17,7 @@ TARGET = "/target/"  # the folder of a package that Cargo builds in
 MOST_PARTS = 20  # of a path, which tell packages apart
 HASHED = 8  # letters of a long name that its hash takes, with what follows it
 UNKNOWN = "?:0"  # the place of a class that isn't known
+NAMED = "N "  # begins the line with a thread's name
 
 
 def lines_of(path: str) -> Iterator[str]:
@@ -155,6 +156,7 @@ class Making:
         self.tally, self.locks = Tally("rust"), LockNames()
         self.used: list[str] = []  # the classes
         self.is_used: set[str] = set()
+        self.named: list[tuple[str, int, str]] = []  # the threads that have names: the trace, the process, and the name
 
     def lock_name(self, name: str, lock: int, process: int) -> str | None:
         """The name of a lock, or none if there are too many classes."""
@@ -166,7 +168,7 @@ class Making:
             self.is_used.add(name)
         return self.locks.name(name, lock, process, "@%d" % process if self.is_several else "")
 
-    def make(self, process: Process, number: int, lines: Iterable[str]) -> None:
+    def make(self, process: Process, number: int, called: str, lines: Iterable[str]) -> None:
         if self.tally.numbers.get("threads") == MOST_TRACES:
             self.tally.add("beyond-traces")
             return
@@ -177,6 +179,7 @@ class Making:
         name = trace_name(self.tally.numbers["threads"])
         self.tally.note_end(name, thread.held_classes(), thread.waits, thread.has_ended)
         thread.write(self.path, name)
+        self.named.append((name, int(process.identity), called))
 
 
 def still_running(processes: list[Process], path: str) -> int:
@@ -201,15 +204,18 @@ def finish(path: str, raw: str) -> Summary:
     making, numbers = Making(path, len(names) > 1), {}
     for thread in threads:
         lines = lines_of(os.path.join(raw, thread))
-        first = next(lines, None)
+        first, called = next(lines, None), ""
+        if first is not None and first.startswith(NAMED):
+            first, called = next(lines, None), first[len(NAMED):]
         if first is not None:
             name = thread.rpartition("-")[0]
-            making.make(processes[name], numbers.setdefault(name, len(numbers) + 1), chain([first], lines))
+            making.make(processes[name], numbers.setdefault(name, len(numbers) + 1), called, chain([first], lines))
     places: dict[str, str] = {}
     for process in in_order:
         for name, place in process.classes:
             places.setdefault(process.in_package.get(name, name), place)
     write_classes(path, [(name, places.get(name, UNKNOWN), "made in") for name in making.used])
+    write_tasks(path, making.named)
     return summary_of(making, in_order, path)
 
 

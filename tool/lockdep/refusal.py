@@ -17,13 +17,16 @@ OF_FILE = re.compile(r"lockdep: (.*): P2 CannotOpen", re.S)
 OF_ELSE = re.compile(r"lockdep: ([A-Z]\d) [A-Z].*", re.S)
 LOOKED_AT = re.compile(r"T[1-5]|S\d")  # the codes that a record says more of
 PATIENCE = 5  # how many seconds a trace may be looked at
+PIECE = 1 << 18  # bytes that are read at once, and the longest line that is looked at
+MOST_PIECES = 320  # a million records whose names are as long as they may be
+MOST_LINES = 1_000_000  # of a record: what a double quote that is never closed may take in
 LONGEST_PATH = 60
 VERBS = ("acq", "rel", "enter", "leave", "on", "off")
 OTHER_VERBS = {"acquire": "acq", "lock": "acq", "take": "acq", "release": "rel", "unlock": "rel", "free": "rel"}
 
 TYPE_CHECKING = False  # for a tool that checks types, it is true
 if TYPE_CHECKING:
-    from typing import Any
+    from typing import Any, BinaryIO
 
 
 def words_for(code: str, facts: dict[str, Any]) -> str:
@@ -49,18 +52,33 @@ def visible(path: str) -> str:
 
 # ---- A fault of a trace.
 
-def content(file: str, words: list[str]) -> str | None:
-    """What is in a trace, if it can be read again as it was: none if it is standard input, a pipe, has NUL bytes, or is one of the kernel's, of which
-    reading may wait, as of /proc/kmsg."""
+def beginning(opened: BinaryIO, number: int) -> tuple[bytes, bool]:
+    """As much of a trace as it takes to look at a record, and whether that is all of it. The records before it are well formed, and so they are
+    short, and each one is a line."""
+    pieces: list[bytes] = []
+    lines = of_line = 0
+    while len(pieces) < MOST_PIECES and lines < number + MOST_LINES and of_line < PIECE:
+        piece = opened.read(PIECE)
+        if not piece:
+            return b"".join(pieces), True
+        pieces.append(piece)
+        lines += piece.count(b"\n")
+        of_line = len(piece) - piece.rfind(b"\n") - 1 + (0 if b"\n" in piece else of_line)
+    return b"".join(pieces), not opened.read(1)
+
+
+def content(file: str, words: list[str], number: int) -> tuple[bytes, bool] | None:
+    """What is in a trace up to a record, and whether that is all of it, if it can be read again as it was: none if it is standard input, a pipe, has
+    NUL bytes, or is one of the kernel's, of which reading may wait, as of /proc/kmsg."""
     path = bytes_of(file)
     if (file == "stdin" and "stdin" not in words) or not os.path.isfile(path) or os.path.realpath(path).startswith((b"/proc/", b"/sys/")):
         return None
     try:
         with open(path, "rb") as opened:
-            text = opened.read()
+            raw, is_whole = beginning(opened, number)
     except OSError:
         return None
-    return None if b"\0" in text else text.decode("latin-1")
+    return None if b"\0" in raw else (raw, is_whole)
 
 
 def look_at_trace(file: str, words: list[str], code: str, number: int) -> dict[str, Any]:
@@ -70,8 +88,8 @@ def look_at_trace(file: str, words: list[str], code: str, number: int) -> dict[s
     before = signal.signal(signal.SIGALRM, give_up)
     signal.alarm(PATIENCE)
     try:
-        text = content(file, words)
-        facts = facts_of(text, code, number) if text is not None else {}
+        read = content(file, words, number)
+        facts = facts_of(*read, code, number) if read else {}
     except (TimeoutError, MemoryError):
         facts = {}
     finally:
@@ -135,6 +153,8 @@ def of_trace(file: str, number: int, code: str, words: list[str]) -> str:
 def where(facts: dict[str, Any]) -> str:
     if "first" not in facts:
         return ""
+    if facts["last"] is None:
+        return "it begins on line %d: " % facts["first"]
     if facts["first"] == facts["last"]:
         return "line %d is '%s': " % (facts["first"], facts["text"])
     return "it stands on the lines %d to %d: " % (facts["first"], facts["last"])

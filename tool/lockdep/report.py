@@ -203,7 +203,7 @@ class Report:
         """Writes the explanation of what is new, with source lines."""
         from .groups import groups_of
         from .symbols import has_addr2line
-        from .terminal import WIDTH, Writer
+        from .terminal import Writer, width_of
         from .text import MOST_GROUPS, Text
         news = counted(len(self.new) + len(self.breaches), "finding")
         news = "new: " + news if self.wishes.known else news
@@ -212,8 +212,9 @@ class Report:
         if not has_addr2line():
             say("addr2line isn't there, so places are modules and offsets; it is a part of binutils")
         stream = StringIO()
-        text = Text(Writer(stream, WIDTH if is_terminal() else 0), self.sources, self.recorded)
-        left = text.groups(groups_of(self.new), MOST_GROUPS if is_terminal() else None)
+        width = width_of(sys.stderr)
+        text = Text(Writer(stream, width), self.sources, self.recorded)
+        left = text.groups(groups_of(self.new), MOST_GROUPS if width else None)
         for breach in self.breaches:
             text.breach(breach)
         complain(bytes_of(stream.getvalue()))
@@ -223,10 +224,10 @@ class Report:
     def say_blocked(self) -> None:
         """Who is blocked, with the places of all that is named."""
         from .explanation import Annotator
-        from .terminal import WIDTH, Writer
+        from .terminal import Writer, width_of
         from .words import name_in
         stream = StringIO()
-        writer, annotator = Writer(stream, WIDTH if is_terminal() else 0), Annotator(self.sources)
+        writer, annotator = Writer(stream, width_of(sys.stderr)), Annotator(self.sources)
         for thread in self.blocked:
             writer.line("")
             annotator.begin_block()
@@ -306,10 +307,6 @@ def hides_blocked(known_text: str) -> bool:
 
 def say(text: str) -> None:
     complain(bytes_of("lockdep: %s\n" % text))
-
-
-def is_terminal() -> bool:
-    return sys.stderr is not None and sys.stderr.isatty()
 
 
 def report(recording: Recording, wishes: Wishes) -> Report:

@@ -120,18 +120,20 @@ def wishes(home: str, line: Words, recorder: Recorder) -> dict[str, str]:
     known = {"LOCKDEP_RUN_" + name: line.last(option) for name, option in (
         ("KNOWN", "--known"), ("WRITE_KNOWN", "--write-known"), ("QUIET", "--quiet"), ("ERROR_EXITCODE", "--error-exitcode"),
         ("CONFIRMED_ONLY", "--confirmed-only"), ("STRICT_KNOWN", "--strict-known"), ("HTML", "--html"), ("SARIF", "--sarif"), ("JUNIT", "--junit"), ("JSON", "--json"))}
-    known["LOCKDEP_RUN_HOME"], known["LOCKDEP_RUN_RECORDER"], known["LOCKDEP_RUN_PROGRAM"] = home, recorder.name, checker(home)
+    known["LOCKDEP_RUN_HOME"], known["LOCKDEP_RUN_RECORDER"] = home, recorder.name
+    known["LOCKDEP_RUN_PROGRAM"], known["LOCKDEP_RUN_VERSION"] = checker(home)
     known["LOCKDEP_RUN_PROCESS"] = str(os.getpid())  # which this goes on to be when the command has ended
     known["LOCKDEP_RUN_ACCEPTED"] = " ".join(line.values.get("--accept-left-out", []))
     return known
 
 
-def checker(home: str) -> str:
-    """The proved program. In a checkout it may have to be built."""
+def checker(home: str) -> tuple[str, str]:
+    """The proved program, which in a checkout may have to be built, and its version, if that is known."""
     script = os.path.join(home, "lockdep")
     if not os.path.isfile(os.path.join(home, "crates.txt")):
-        return script
-    status, output = output_of([script, "--program"])
+        return script, ""
+    status, output = output_of([script, "--program", "--version"])
     if status:
         raise Refusal("", NOT_BUILT)
-    return os.fsdecode(output).rstrip("\n")
+    path, _, version = os.fsdecode(output).rstrip("\n").rpartition("\n")
+    return path, version

@@ -1,19 +1,25 @@
 """Writing text for people: lines that are too long are broken only if they go to a terminal."""
 from __future__ import annotations
 
+import os
 from typing import IO
 
 from .explanation import INDENT
 from .words import CALLED_FROM
 
-WIDTH = 120  # lines longer than this are broken where they have a space
+WIDTH = 120  # lines longer than this are broken where they have a space, on a wide terminal and on one that doesn't say how wide it is
+LEAST_WIDTH = 40  # on a narrower terminal lines are as long as this
 
 
-def is_terminal(stream: IO[str]) -> bool:
+def width_of(stream: IO[str] | None) -> int:
+    """How long lines may be; 0 if they may be of any length, since they don't go to a terminal."""
     try:
-        return stream.isatty()
-    except ValueError:
-        return False
+        if stream is None or not stream.isatty():
+            return 0
+        columns = os.get_terminal_size(stream.fileno()).columns
+    except (OSError, ValueError):  # (it is closed)
+        return 0
+    return min(WIDTH, max(LEAST_WIDTH, columns)) if columns else WIDTH
 
 
 def break_of(text: str, room: int) -> int:
@@ -49,7 +55,7 @@ class Writer:
 
     def __init__(self, stream: IO[str], width: int | None = None) -> None:
         self.stream = stream
-        self.width = width if width is not None else WIDTH if is_terminal(stream) else 0
+        self.width = width if width is not None else width_of(stream)
 
     def line(self, text: str, notes: list[str] | tuple[str, ...] = ()) -> None:
         bare = text.lstrip(" ")

@@ -43,7 +43,7 @@ public class Locks {
 
     static void fails() throws InterruptedException {
         Thread thread = new Thread(() -> {
-            first.tryLock();
+            for (int i = 0; i < 2; i++) first.tryLock();
             try {
                 first.tryLock(1, TimeUnit.MILLISECONDS);
                 Thread.currentThread().interrupt();

@@ -1,9 +1,11 @@
-/* What the program calls its threads, by pthread_setname_np. The system isn't asked. */
+/* What the program calls its threads, by pthread_setname_np or prctl. The system isn't asked. */
 #include "own.h"
 
 #include <pthread.h>
+#include <stdarg.h>
+#include <sys/prctl.h>
 
-#define REALS(X) X(pthread_setname_np)
+#define REALS(X) X(pthread_setname_np) X(prctl)
 REALS(KNOWN_REAL)
 FIND_AT_START(REALS)
 
@@ -75,10 +77,8 @@ static void keep_name(pthread_t thread, const char *name) {
     STORE(&early->thread, thread);
 }
 
-EXPORT int pthread_setname_np(pthread_t thread, const char *name) {
-    int error = REAL(pthread_setname_np)(thread, name);
-    if (error || !is_recording())
-        return error;
+/* A thread has a name, which may be given by another one. */
+static void take_name(pthread_t thread, const char *name) {
     struct raw_thread *part = part_of_thread(thread);
     bool is_own = thread == this_thread();
     if (part)
@@ -87,5 +87,25 @@ EXPORT int pthread_setname_np(pthread_t thread, const char *name) {
         keep_name(thread, name);
     if (is_own)
         copy_name(own_name, name);
-    return 0;
+}
+
+EXPORT int pthread_setname_np(pthread_t thread, const char *name) {
+    int error = REAL(pthread_setname_np)(thread, name);
+    if (!error && is_recording())
+        take_name(thread, name);
+    return error;
+}
+
+/* It takes as many words as the option needs, and the C library passes on four in any case. */
+EXPORT int prctl(int option, ...) {
+    unsigned long words[4];
+    va_list rest;
+    va_start(rest, option);
+    for (int i = 0; i < 4; i++)
+        words[i] = va_arg(rest, unsigned long);
+    va_end(rest);
+    int result = REAL(prctl)(option, words[0], words[1], words[2], words[3]);
+    if (option == PR_SET_NAME && result == 0 && is_recording())
+        take_name(this_thread(), (const char *)words[0]);
+    return result;
 }

@@ -1,5 +1,6 @@
 /* A thread that is cancelled while it waits holds the mutex again in its clean-up. */
 #include "common.h"
+#include "asleep.h"
 static pthread_mutex_t m = PTHREAD_MUTEX_INITIALIZER, after = PTHREAD_MUTEX_INITIALIZER;
 static pthread_cond_t changed = PTHREAD_COND_INITIALIZER;
 
@@ -22,7 +23,7 @@ static void *waits(void *unused) {
 int main(void) {
     pthread_t t;
     pthread_create(&t, NULL, waits, NULL);
-    usleep(50000);
+    await_asleep();
     pthread_cancel(t);
     pthread_join(t, NULL);
 }

@@ -7,6 +7,7 @@
      anew   a semaphore is initialised while it is held, and then destroyed, and `x` is taken under nothing each time
      hides  a lock of the same place is handed over while a thread holds `second`, takes `z` under it, and another one the other way round */
 #include "common.h"
+#include "asleep.h"
 #include <semaphore.h>
 static pthread_mutex_t x = PTHREAD_MUTEX_INITIALIZER, z = PTHREAD_MUTEX_INITIALIZER;
 static pthread_mutex_t mutex = PTHREAD_MUTEX_INITIALIZER;
@@ -77,7 +78,7 @@ static void waits(void) {
     take();
     pthread_create(&other, NULL, waits_and_takes_x, NULL);
     await(to_main);
-    usleep(200000);
+    await_asleep();
     in_thread(gives, NULL);
     pthread_join(other, NULL);
     take_x();

@@ -1,5 +1,6 @@
-/* Each of two threads holds a lock and waits for the other's: what they wait for is their last record. It ends by its alarm. */
+/* Each of two threads holds a lock and waits for the other's: what they wait for is their last record. A signal ends them. */
 #include "common.h"
+#include "asleep.h"
 static pthread_mutex_t accounts = PTHREAD_MUTEX_INITIALIZER, journal = PTHREAD_MUTEX_INITIALIZER;
 static pthread_barrier_t both;
 
@@ -19,9 +20,9 @@ static void *audits(void *unused) {
 
 int main(void) {
     pthread_t one;
-    alarm(1);
     pthread_barrier_init(&both, NULL, 2);
     pthread_create(&one, NULL, pays, NULL);
-    usleep(100000);
+    await_asleep();
+    end_when_asleep();
     audits(NULL);
 }

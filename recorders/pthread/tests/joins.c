@@ -15,6 +15,7 @@
      made_hangs as made, and the joiner is first
      asleep   as held, but the thread gives the lock back before, and doesn't end */
 #include "common.h"
+#include "asleep.h"
 
 static pthread_mutex_t state = PTHREAD_MUTEX_INITIALIZER, log_lock = PTHREAD_MUTEX_INITIALIZER, made, *taken = &state;
 static const char *way;
@@ -27,7 +28,7 @@ static int is_joiner_first(void) { return is("hangs") || is("made_hangs"); }
 static void *worker(void *unused) {
     struct timespec until = in_milliseconds(CLOCK_REALTIME, 1000);
     if (is_joiner_first())
-        usleep(50000);
+        await_asleep();
     if (is("briefly"))
         pthread_mutex_timedlock(taken, &until);
     else
@@ -49,7 +50,7 @@ static pthread_t started(void *(*run)(void *)) {
     pthread_t thread;
     pthread_create(&thread, NULL, run, NULL);
     if (!is_joiner_first())
-        usleep(30000);
+        await_asleep();
     return thread;
 }
 
@@ -82,6 +83,8 @@ int main(int argc, char **argv) {
         pthread_mutex_init(&made, NULL);
         taken = &made;
     }
+    if (is_joiner_first() || is("asleep"))
+        end_when_asleep();
     if (is("held") || is("made") || is("briefly") || is("asleep") || is_joiner_first())
         join_under(taken, started(worker));
     if (is("other"))

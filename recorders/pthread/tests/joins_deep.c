@@ -1,5 +1,6 @@
 /* A thread that is joined with a lock held has as many locks as its argument says, of which the innermost is that lock. The thread is one more. */
 #include "common.h"
+#include "asleep.h"
 static pthread_mutex_t locks[64], outer = PTHREAD_MUTEX_INITIALIZER;
 static int count;
 
@@ -17,7 +18,7 @@ int main(int argc, char **argv) {
     pthread_t thread;
     count = argc > 1 ? atoi(argv[1]) : 1;
     pthread_create(&thread, NULL, worker, NULL);
-    usleep(30000);
+    await_asleep();
     pthread_mutex_lock(&outer);
     pthread_join(thread, NULL);
     pthread_mutex_unlock(&outer);

@@ -1,7 +1,8 @@
-/* Threads with names: given by itself before its first lock and after it, given by its starter, and none. Two take their locks in opposite orders. One that
-   takes no lock is named, and the next thread may get its number. */
+/* Threads with names: given by itself before its first lock and after it, by prctl, by its starter, and none. Two take their locks in
+   opposite orders. One that takes no lock is named, and the next thread may get its number. */
 #define _GNU_SOURCE
 #include <pthread.h>
+#include <sys/prctl.h>
 
 static pthread_mutex_t a = PTHREAD_MUTEX_INITIALIZER, b = PTHREAD_MUTEX_INITIALIZER, gate = PTHREAD_MUTEX_INITIALIZER;
 
@@ -30,6 +31,11 @@ static void *waits(void *unused) {
     return unused;
 }
 
+static void *calls_itself(void *unused) {
+    prctl(PR_SET_NAME, "one-of-more-than-15-bytes");
+    return waits(unused);
+}
+
 static void *ends(void *unused) { return unused; }
 
 static void run(void *(*what)(void *), const char *name) {
@@ -47,6 +53,7 @@ int main(void) {
     run(pays, NULL);
     run(audits, NULL);
     run(waits, "waiter-of-15-by");
+    run(calls_itself, NULL);
     run(ends, "ends");
     run(waits, NULL);
     return 0;

@@ -7,6 +7,8 @@
 #include <thread>
 #include <unistd.h>
 
+#include "asleep.h"
+
 static std::mutex a;
 static std::once_flag flag;
 static pthread_once_t plain = PTHREAD_ONCE_INIT;
@@ -18,7 +20,7 @@ struct Table {
     Table() {
         take_a();
         is_running = true;
-        usleep(200000);
+        await_asleep();
     }
 };
 

@@ -2,6 +2,7 @@
    each maps where it likes. The processes take them in both orders, and hang: each has one when it waits for the other. A signal
    ends them. */
 #include "common.h"
+#include "asleep.h"
 #include <fcntl.h>
 #include <stdatomic.h>
 #include <stdbool.h>
@@ -51,6 +52,7 @@ static APART void audits(struct both *b) {
 
 int main(int argc, char **argv) {
     if (argc > 2) { /* the other process, which has inherited nothing: the memory is at another address */
+        end_when_asleep();
         mmap(NULL, 1 << 20, PROT_READ, MAP_PRIVATE | MAP_ANONYMOUS, -1, 0);
         audits(map(argv[1]));
         return 1;
@@ -63,9 +65,9 @@ int main(int argc, char **argv) {
     }
     signal(SIGALRM, SIG_DFL);
     pid_t child = fork();
-    alarm(3);
     if (child == 0 && has_file)
         execl("/proc/self/exe", argv[0], argv[1], "again", NULL);
+    end_when_asleep();
     if (child == 0) {
         audits(b);
         _exit(1);

@@ -5,6 +5,7 @@
      alone   there is nothing but such semaphores
      shared  processes share one: the child waits for it, the parent posts it */
 #include "common.h"
+#include "asleep.h"
 #include <semaphore.h>
 #include <sys/mman.h>
 static sem_t full, idle, mutex, *both;
@@ -53,7 +54,7 @@ static void beside(void) {
     pthread_create(&consumer, NULL, consumes, NULL);
     for (int i = 0; i < 2; i++) {
         pthread_mutex_lock(&y);
-        usleep(10000);
+        await_asleep();
         sem_post(&full);
         pthread_mutex_unlock(&y);
     }
@@ -61,7 +62,7 @@ static void beside(void) {
     in_thread(takes_x_last, NULL);
     pthread_create(&idle_ones[0], NULL, idles, NULL);
     pthread_create(&idle_ones[1], NULL, idles, &y);
-    usleep(100000);
+    await_asleep();
     _exit(0);
 }
 
@@ -82,7 +83,7 @@ static void late(void) {
     pthread_t other;
     make_full(60);
     pthread_create(&other, NULL, waits_under_x, NULL);
-    usleep(100000);
+    await_asleep();
     sem_post(&full);
     sem_post(&full);
     pthread_join(other, NULL);

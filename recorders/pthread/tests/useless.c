@@ -6,7 +6,7 @@ static pthread_cond_t changed = PTHREAD_COND_INITIALIZER;
 static volatile int is_waiting;
 
 static void *waits(void *unused) {
-    struct timespec later = in_milliseconds(CLOCK_REALTIME, 500);
+    struct timespec later = in_milliseconds(CLOCK_REALTIME, 600000);
     pthread_mutex_lock(&m);
     is_waiting = 1;
     if (pthread_cond_timedwait(&changed, &m, &later) != ENOTRECOVERABLE)
@@ -34,5 +34,6 @@ int main(void) {
     if (pthread_mutex_lock(&m) != EOWNERDEAD)
         abort();
     pthread_mutex_unlock(&m);
+    pthread_cond_signal(&changed);
     pthread_join(waiter, NULL);
 }

@@ -1,10 +1,13 @@
 /* Locks that are waited for in vain, by each call that can: nothing of them is left, however often. A handler that locks meanwhile
    is recorded. A lock that is waited for and taken is one acquisition. */
 #include "common.h"
+#include "asleep.h"
 static pthread_mutex_t a = PTHREAD_MUTEX_INITIALIZER, b = PTHREAD_MUTEX_INITIALIZER, taken = PTHREAD_MUTEX_INITIALIZER,
                        checking = PTHREAD_ERRORCHECK_MUTEX_INITIALIZER_NP;
 static pthread_rwlock_t written = PTHREAD_RWLOCK_INITIALIZER;
 static pthread_barrier_t both;
+static pthread_t first;
+static volatile sig_atomic_t is_handled;
 
 static void *holds(void *unused) {
     pthread_mutex_lock(&taken);
@@ -12,7 +15,11 @@ static void *holds(void *unused) {
     pthread_barrier_wait(&both);
     pthread_barrier_wait(&both);
     pthread_rwlock_unlock(&written);
-    usleep(100000);
+    await_asleep();
+    pthread_kill(first, SIGALRM);
+    while (!is_handled)
+        usleep(1000);
+    await_asleep();
     pthread_mutex_unlock(&taken);
     return unused;
 }
@@ -20,7 +27,7 @@ static void *holds(void *unused) {
 static void handle(int number) {
     pthread_mutex_lock(&b);
     pthread_mutex_unlock(&b);
-    (void)number;
+    is_handled = number;
 }
 
 static void wait_in_vain(void) {
@@ -40,12 +47,12 @@ static void wait_in_vain(void) {
 
 int main(void) {
     pthread_t t;
+    first = pthread_self();
     pthread_barrier_init(&both, NULL, 2);
     pthread_create(&t, NULL, holds, NULL);
     pthread_barrier_wait(&both);
     wait_in_vain();
     signal(SIGALRM, handle);
-    ualarm(20000, 0);
     pthread_barrier_wait(&both);
     pthread_mutex_lock(&a);
     pthread_mutex_lock(&taken);

@@ -8,7 +8,9 @@ from lockdep_record.folder import RUN, Folder, Refusal, say_refusal
 
 PASSED_ON = (signal.SIGHUP, signal.SIGINT, signal.SIGQUIT, signal.SIGTERM, signal.SIGUSR1, signal.SIGUSR2)
 FROM_KERNEL = 128  # the code of a signal that a terminal sends
-WITNESS_LOOKS, WITNESS_PAUSE = 5, 0.001  # how often it is seen whether a signal came to the whole group, and the seconds in between
+# How often it is seen whether a signal came to the whole group, and the seconds from the first look to the second; then twice as many each time.
+# Who sends it to this process and then to the group may have to wait for a processor in between.
+WITNESS_LOOKS, WITNESS_PAUSE = 5, 0.001
 PATIENCE = 2  # how long after Ctrl-C, in seconds, a command may still run before that is said
 
 
@@ -81,14 +83,14 @@ class Witness:
     def saw(self, number):
         """Whether a signal that has just come was for the whole group. Then the next one like it is seen by a new witness, and what came
         to this process twice, as by `timeout`, counts once."""
-        for _ in range(WITNESS_LOOKS):
+        for look in range(WITNESS_LOOKS):
             if self.has(number):
                 sleep(WITNESS_PAUSE)
                 signal.sigtimedwait([number], 0)
                 self.end_it()
                 self.begin()
                 return True
-            sleep(WITNESS_PAUSE)
+            sleep(WITNESS_PAUSE * 2 ** look)
         return False
 
     def end_it(self):

@@ -1,8 +1,8 @@
 // Programs that hang: two threads with two locks, a thread with its own lock, and a reader behind a writer that waits for it. A thread
 // that goes on says when the others wait.
 use lockdep_record::{Arc, Barrier, Mutex, RwLock};
-use std::thread::{sleep, spawn};
-use std::time::Duration;
+use std::fs::{read_dir, read_link, read_to_string};
+use std::{thread::sleep, thread::spawn, thread::Builder, time::Duration};
 
 static A: Mutex<i32> = Mutex::new(0);
 static B: Mutex<i32> = Mutex::new(0);
@@ -14,12 +14,42 @@ fn both(first: &'static Mutex<i32>, second: &'static Mutex<i32>, barrier: &Barri
     drop(second.lock().unwrap());
 }
 
+// How often the other threads have gone to sleep, if they all sleep.
+fn times_asleep() -> Option<u64> {
+    let own = read_link("/proc/thread-self").ok()?;
+    let mut times = 0;
+    for thread in read_dir("/proc/self/task").ok()? {
+        let path = thread.ok()?.path();
+        if path.file_name() == own.file_name() {
+            continue;
+        }
+        let status = read_to_string(path.join("status")).ok()?;
+        let word = |name| status.lines().find_map(|line| line.strip_prefix(name)?.strip_prefix(":\t"));
+        if !word("State")?.starts_with('S') {
+            return None;
+        }
+        times += word("voluntary_ctxt_switches")?.parse::<u64>().ok()?;
+    }
+    Some(times)
+}
+
+// Waits until the other threads all wait: none has woken between two looks.
+fn say_when_others_wait(words: &str) {
+    loop {
+        let before = times_asleep();
+        sleep(Duration::from_millis(20));
+        if before.is_some() && before == times_asleep() {
+            return print!("{words}");
+        }
+    }
+}
+
 fn main() {
     match std::env::args().nth(1).as_deref() {
         Some("two") => {
             let barrier = Arc::new(Barrier::new(2));
             let other = barrier.clone();
-            spawn(move || both(&A, &B, &other));
+            Builder::new().name("pays\ndaily".into()).spawn(move || both(&A, &B, &other)).unwrap();
             spawn(move || both(&B, &A, &barrier));
         }
         Some("again") => {
@@ -28,12 +58,11 @@ fn main() {
         _ => {
             let reader = L.read().unwrap();
             spawn(|| *L.write().unwrap() += 1);
-            sleep(Duration::from_millis(200));
-            spawn(|| (sleep(Duration::from_millis(200)), println!("waits")));
+            say_when_others_wait("");
+            spawn(|| say_when_others_wait("waits\n"));
             drop((L.read().unwrap(), reader));
         }
     }
-    sleep(Duration::from_millis(200));
-    println!("waits");
+    say_when_others_wait("waits\n");
     std::thread::park();
 }

@@ -1,5 +1,6 @@
 /* Locks of classes whose order is said. The word says what is done: so many locks of a class are taken by index, downwards, with one index
    twice, by address, by tries, with another class in between, or by a thread that waits at the end. */
+#include "../asleep.h"
 #include <lockdep.h>
 #include <pthread.h>
 #include <signal.h>
@@ -71,7 +72,7 @@ static void be_killed(void) {
             pthread_mutex_unlock(&pool[0]);
             usleep(1000);
         }
-    usleep(200000);
+    await_asleep();
     kill(getpid(), SIGKILL);
 }
 

@@ -22,6 +22,7 @@ pub enum Mode {
 
 const MODES: [&[u8]; 4] = [b" w ", b" r ", b" tw ", b" tr "];
 const MOST_HELD: usize = 48;
+const MOST_NAME: usize = 64;
 const MOST_EVENTS: u64 = 1_000_000 - 2 * MOST_HELD as u64;
 
 /// After how many operations of a thread its counts are written.
@@ -593,7 +594,12 @@ impl Task {
             return;
         }
         let mut text = Text::new();
-        if self.pid != std::process::id() {
+        let is_forked = self.pid != std::process::id();
+        if is_forked || self.trace.as_ref().is_none_or(|trace| trace.length == 0) {
+            add_name(&mut text);
+        }
+        let begin = text.bytes.len();
+        if is_forked {
             self.begin_in_child(&mut text);
         }
         if self.trace.is_none() {
@@ -607,7 +613,7 @@ impl Task {
                 add_record(&mut text, names, self.records[at], is_wish);
             }
         });
-        if text.bytes.is_empty() && is_formed.is_some() {
+        if text.bytes.len() == begin && is_formed.is_some() {
             return;
         }
         if is_formed.is_none() || !self.trace.as_mut().is_some_and(|trace| trace.add(&text)) {
@@ -686,6 +692,17 @@ impl Task {
             trace.add(&text);
         }
     }
+}
+
+/// Adds what the program calls the running thread, if it does. (`main` is what the library calls the first one.)
+fn add_name(text: &mut Text) {
+    let thread = std::thread::current();
+    let Some(name) = thread.name().filter(|name| *name != "main") else { return };
+    text.add(b"N ");
+    for byte in name.bytes().take(MOST_NAME) {
+        text.add(&[if byte.is_ascii_control() { b'?' } else { byte }]);
+    }
+    text.add(b"\n");
 }
 
 /// Adds a record in the form of the files.
