@@ -1,6 +1,7 @@
 /* A lock is made under another one and is taken there before anybody else can know it. The other order comes later. Its maker takes it so
    once more when another thread has tried it (`tried`), or has had it (`later`), or has made it with nothing held (`before`). Or it takes it
-   under another lock, when it has released the one under which it was made (`moved`): then another thread may have found it. */
+   under another lock, when it has released the one under which it was made (`moved`): then another thread may have found it. Or another
+   thread takes it so too, by a wait that gives up (`timed`). */
 #include "common.h"
 
 static pthread_mutex_t global = PTHREAD_MUTEX_INITIALIZER, other = PTHREAD_MUTEX_INITIALIZER;
@@ -48,6 +49,16 @@ static void use_again(void) {
     pthread_mutex_unlock(&global);
 }
 
+static void *use_timed(void *unused) {
+    struct timespec until = in_milliseconds(CLOCK_REALTIME, 1000);
+    pthread_mutex_lock(&global);
+    if (pthread_mutex_timedlock(shared, &until) != 0)
+        abort();
+    pthread_mutex_unlock(shared);
+    pthread_mutex_unlock(&global);
+    return unused;
+}
+
 static void make_and_move_on(void) {
     pthread_mutex_lock(&global);
     make();
@@ -85,4 +96,6 @@ int main(int argc, char **argv) {
     in_thread(use, NULL);
     if (strcmp(way, "later") == 0)
         use_again();
+    if (strcmp(way, "timed") == 0)
+        in_thread(use_timed, NULL);
 }
