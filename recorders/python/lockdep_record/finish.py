@@ -9,7 +9,8 @@ from .folder import summary as summaries
 
 MOST_ALIKE = 2
 RELEASE = 2
-WORDS = ("w", "tw", None, "r", "tr", "rr", "trr")  # of the modes; None is a release
+WORDS = ("w", "tw", None, "r", "tr", "r", "w")  # of the modes; None is a release
+TIMED = (5, 6)  # modes of waits that give up at a time
 FILE = re.compile(r"[0-9]+-[0-9]+")  # the name of a process's file
 LIBRARY = "library"  # the kind of a class that the standard library makes for itself
 NOT_MADE = ("any object of", "the class object of")  # kinds of classes; all others are made somewhere
@@ -22,6 +23,10 @@ class Task:
     def __init__(self, process):
         self.process, self.records, self.waits, self.has_ended, self.broken_off = process, [], False, False, []
         self.name = ""
+
+    def is_last_timed(self):
+        """Whether the last record is of a wait that gives up at a time."""
+        return bool(self.records) and self.records[-1][0] & 7 in TIMED
 
     def content(self):
         """What is equal for equal traces."""
@@ -225,7 +230,8 @@ class Trace(finishing.Trace):
         is_written = self.names.use(key[0])
         self.lost += not is_written
         places = [text for text in process.places.get(place, "").split("\t") if text]
-        self.take(code >> 3, key[0].name, self.names.of_lock(key) if is_written else None, WORDS[code & 7], places)
+        weak = "timed" if code & 7 in TIMED else ""
+        self.take(code >> 3, key[0].name, self.names.of_lock(key) if is_written else None, WORDS[code & 7], places, weak)
 
 
 def began(path):
@@ -249,7 +255,7 @@ def read_all(raw):
 def note_end(tally, trace, name):
     """Who waits for a lock at the end, and who ended with one."""
     task = trace.task
-    tally.note_end(name, trace.held_classes(), task.waits, task.has_ended)
+    tally.note_end(name, trace.held_classes(), task.waits and not task.is_last_timed(), task.has_ended)
     for codes in task.broken_off:
         names = [task.process.key(code >> 3)[0].name for code in codes]
         tally.note("waiting", "%s waited for %s, holding %s, until that was interrupted" % (name, names[-1], ", ".join(names[:-1])))
@@ -274,7 +280,7 @@ def chosen(tasks, tally):
 def write_all(folder, names, tasks, tally):
     """Writes the traces of tasks, and the classes."""
     os.makedirs(os.path.join(folder, finishing.OBJECTS), exist_ok=True)
-    named = []
+    named, written = [], []
     for task in tasks:
         trace = Trace(task, names)
         tally.add("beyond-classes", trace.lost)
@@ -286,7 +292,9 @@ def write_all(folder, names, tasks, tally):
         note_end(tally, trace, name)
         trace.write(folder, name)
         named.append((name, task.process.pid, task.name))
+        written.append((name, trace))
     finishing.write_tasks(folder, named)
+    finishing.write_weak(folder, written)
     finishing.write_classes(folder, [(each.name, each.place, each.kind if each.kind in NOT_MADE else "made in") for each in names.used])
 
 

@@ -10,7 +10,7 @@ import threading
 from importlib import _bootstrap
 
 from . import recording, starts
-from .recording import TRY, WRITE, Lock as Record, break_off, failed_try, gave, getframe, grant, made_at, not_granted, took, wish
+from .recording import TIMED, TRY, WRITE, Lock as Record, break_off, failed_try, gave, getframe, grant, made_at, not_granted, took, wish
 
 # How long a thread waits for a lock before that is written, in seconds. In a deadlock it waits longer.
 PATIENCE = 0.05
@@ -38,7 +38,7 @@ def take(record, inner, blocking, timeout):
         failed_try(record)
         return False
     if inner.acquire(False):
-        return keep(record, WRITE, inner.release)
+        return keep(record, WRITE if timeout == -1 else TIMED, inner.release)
     return wait_for(record, inner.acquire, inner.release, timeout)
 
 
@@ -47,10 +47,10 @@ def wait_for(record, acquire, release, timeout):
     if timeout < 0:
         return wait_without_end(record, acquire, release)
     if acquire(True, min(PATIENCE, timeout)):
-        return keep(record, WRITE, release)
+        return keep(record, TIMED, release)
     if timeout <= PATIENCE:
         return False
-    wish(record)
+    wish(record, mode=TIMED)
     is_taken = False
     try:
         is_taken = acquire(True, timeout - PATIENCE)
@@ -59,7 +59,7 @@ def wait_for(record, acquire, release, timeout):
             not_granted(record)
     if not is_taken or grant(record):
         return is_taken
-    return keep(record, WRITE, release)
+    return keep(record, TIMED, release)
 
 
 def wait_without_end(record, acquire, release):
@@ -290,9 +290,10 @@ def take_or_wait(record, is_held, acquire, release, blocking, timeout):
             return keep(record, TRY, release)
         failed_try(record)
         return False
+    mode = WRITE if timeout == -1 else TIMED
     if not is_held:
-        return acquire(blocking, timeout) and keep(record, WRITE, release)
-    wish(record, False)
+        return acquire(blocking, timeout) and keep(record, mode, release)
+    wish(record, False, mode)
     try:
         is_taken = acquire(blocking, timeout)
     except BaseException:
@@ -301,7 +302,7 @@ def take_or_wait(record, is_held, acquire, release, blocking, timeout):
     if not is_taken:
         not_granted(record)
         return is_taken
-    return grant(record) or keep(record, WRITE, release)
+    return grant(record) or keep(record, mode, release)
 
 
 def replace_python_rlocks():
@@ -403,7 +404,7 @@ def replace_semaphores():
                 return False
             return keep(record, TRY, self.release)
         if acquire_really(False):
-            return keep(record, WRITE, self.release)
+            return keep(record, WRITE if timeout is None else TIMED, self.release)
         return wait_for(record, acquire_really, self.release, -1 if timeout is None else timeout)
 
     def noting(real_release):
@@ -445,11 +446,12 @@ def replace_asyncio(module):
         record = self._lockdep_record
         if record is None:  # it is a copy: its class is where it is first taken
             record = self._lockdep_record = Record(made_at(getframe(0).f_back, "asyncio.Lock"))
+        mode = TIMED if has_limit(getframe(0)) else WRITE
         if not self._locked and not self._waiters:
             self._locked = True
-            took(record, WRITE)
+            took(record, mode)
             return True
-        return await wait_in_loop(record, self, real_acquire)
+        return await wait_in_loop(record, self, real_acquire, mode)
 
     def release(self):
         record = self._lockdep_record
@@ -474,11 +476,12 @@ def replace_asyncio_semaphores(real):
         record = vars(self).get("_lockdep_record")
         if record is None:
             return await real_acquire(self)
+        mode = TIMED if has_limit(getframe(0)) else WRITE
         if not self.locked() and not getattr(self, "_wakeup_scheduled", False):  # (as in Python 3.10)
             self._value -= 1
-            took(record, WRITE)
+            took(record, mode)
             return True
-        return await wait_in_loop(record, self, real_acquire)
+        return await wait_in_loop(record, self, real_acquire, mode)
 
     def release(self):
         record = vars(self).get("_lockdep_record")
@@ -489,18 +492,18 @@ def replace_asyncio_semaphores(real):
     put_in_place(real, __init__, acquire, release)
 
 
-async def wait_in_loop(record, real, real_acquire):
+async def wait_in_loop(record, real, real_acquire, mode):
     """Waits for a lock of asyncio that isn't free, in its `acquire`."""
-    wish(record, False)
+    wish(record, False, mode)
     try:
         is_taken = await real_acquire(real)
     except GeneratorExit:  # it is not the task itself that runs this: its end says what it waited for
         raise
     except BaseException:
-        (not_granted if has_limit(getframe(0).f_back) else break_off)(record)
+        (break_off if mode == WRITE else not_granted)(record)
         raise
     if not grant(record):
-        took(record, WRITE)
+        took(record, mode)
     return is_taken
 
 
@@ -509,8 +512,9 @@ def has_limit(frame):
     above = frame.f_back
     if above is not None and above.f_code is sys.modules["asyncio.tasks"].wait_for.__code__:
         return above.f_locals.get("timeout") is not None
-    running = recording.find_task(recording.find_loop())
-    return getattr(running.get_coro(), "cr_frame", None) is frame and recording.caller_of(running) is not None
+    loop = recording.find_loop()
+    running = recording.find_task(loop) if loop is not None else None
+    return running is not None and getattr(running.get_coro(), "cr_frame", None) is frame and recording.caller_of(running) is not None
 
 
 def leave_alone(module, name):

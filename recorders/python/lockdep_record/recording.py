@@ -29,7 +29,7 @@ from collections import deque
 from itertools import count as counting
 from time import monotonic, time_ns
 
-WRITE, TRY, RELEASE = 0, 1, 2
+WRITE, TRY, RELEASE, TIMED = 0, 1, 2, 6  # modes; `finish` has all of them
 MOST_HELD, MOST_EVENTS, MOST_APART, MOST_ALIKE = 48, 1000000 - 2 * 48, 32, 32
 
 # How long before the end of the process, in seconds, a wait can have been broken off that is still named; and how many are.
@@ -700,7 +700,7 @@ def failed_try(lock):
 
 # ---- What is waited for.
 
-def wish(lock, is_long=True):
+def wish(lock, is_long=True, mode=WRITE):
     """The running task waits for a lock: that is noted before it waits, as if it had taken it. It is written if it waits for long, or
     if nothing was taken in this way before."""
     task = current()
@@ -711,7 +711,7 @@ def wish(lock, is_long=True):
         settle(task)
         if task.held:
             tell_all_apart(task.held, task, lock)
-        code = 8 * lock.key + WRITE
+        code = 8 * lock.key + mode
         entry = Held(lock)
         entry.task, entry.code, entry.before = task, code, task.way
         entry.record = entry.start = task.base + len(task.records)
