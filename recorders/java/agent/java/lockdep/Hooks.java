@@ -146,7 +146,7 @@ public final class Hooks {
     // ---- Locks.
 
     public static void lock(Lock lock, int site) {
-        Wish wish = Wish.of(lock, site);
+        Wish wish = Wish.of(lock, Modes.Manner.WAITS, site);
         boolean isTaken = false;
         try {
             lock.lock();
@@ -157,7 +157,7 @@ public final class Hooks {
     }
 
     public static void lockInterruptibly(Lock lock, int site) throws InterruptedException {
-        Wish wish = Wish.of(lock, site);
+        Wish wish = Wish.of(lock, Modes.Manner.WAITS, site);
         boolean isTaken = false;
         try {
             lock.lockInterruptibly();
@@ -182,7 +182,7 @@ public final class Hooks {
             tried(lock, isTaken, site);
             return isTaken;
         }
-        Wish wish = Wish.of(lock, site);
+        Wish wish = Wish.of(lock, Modes.Manner.WAITS_FOR_A_TIME, site);
         boolean isTaken = false;
         try {
             isTaken = lock.tryLock(time, unit);
@@ -217,7 +217,7 @@ public final class Hooks {
         Task task = Task.begin();
         if (task == null) return;
         try {
-            if (isTaken) task.took(task.lock(lock), true, site);
+            if (isTaken) task.took(task.lock(lock), Modes.Manner.TRIES, site);
             else task.failed(task.lock(lock));
         } catch (Throwable error) {
             task.abandon();
@@ -304,7 +304,7 @@ public final class Hooks {
     // ---- Stamped locks: each acquisition is separate.
 
     public static long writeLock(StampedLock lock, int site) {
-        Wish wish = Wish.of(Part.of(lock, false), site);
+        Wish wish = Wish.of(Part.of(lock, false), Modes.Manner.WAITS, site);
         long stamp = 0;
         try {
             stamp = lock.writeLock();
@@ -315,7 +315,7 @@ public final class Hooks {
     }
 
     public static long readLock(StampedLock lock, int site) {
-        Wish wish = Wish.of(Part.of(lock, true), site);
+        Wish wish = Wish.of(Part.of(lock, true), Modes.Manner.WAITS, site);
         long stamp = 0;
         try {
             stamp = lock.readLock();
@@ -326,7 +326,7 @@ public final class Hooks {
     }
 
     public static long writeLockInterruptibly(StampedLock lock, int site) throws InterruptedException {
-        Wish wish = Wish.of(Part.of(lock, false), site);
+        Wish wish = Wish.of(Part.of(lock, false), Modes.Manner.WAITS, site);
         long stamp = 0;
         try {
             stamp = lock.writeLockInterruptibly();
@@ -340,7 +340,7 @@ public final class Hooks {
     }
 
     public static long readLockInterruptibly(StampedLock lock, int site) throws InterruptedException {
-        Wish wish = Wish.of(Part.of(lock, true), site);
+        Wish wish = Wish.of(Part.of(lock, true), Modes.Manner.WAITS, site);
         long stamp = 0;
         try {
             stamp = lock.readLockInterruptibly();
@@ -366,7 +366,7 @@ public final class Hooks {
     }
 
     public static long tryWriteLock(StampedLock lock, long time, TimeUnit unit, int site) throws InterruptedException {
-        Wish wish = Wish.of(Part.of(lock, false), site);
+        Wish wish = Wish.of(Part.of(lock, false), Modes.Manner.WAITS_FOR_A_TIME, site);
         long stamp = 0;
         try {
             stamp = lock.tryWriteLock(time, unit);
@@ -377,7 +377,7 @@ public final class Hooks {
     }
 
     public static long tryReadLock(StampedLock lock, long time, TimeUnit unit, int site) throws InterruptedException {
-        Wish wish = Wish.of(Part.of(lock, true), site);
+        Wish wish = Wish.of(Part.of(lock, true), Modes.Manner.WAITS_FOR_A_TIME, site);
         long stamp = 0;
         try {
             stamp = lock.tryReadLock(time, unit);

@@ -193,10 +193,10 @@ final class Task {
     }
 
     /** The task is about to wait for a lock: it is written as if it were taken. Null if there is nothing to write. */
-    Held want(Known lock, int site) {
+    Held want(Known lock, Modes.Manner manner, int site) {
         settle();
         if (again(lock) != null) return null;
-        Held entry = push(lock.target, null, Modes.of(lock.isReader, false), site);
+        Held entry = push(lock.target, null, Modes.of(lock.isReader, manner), site);
         if (entry == null) return null;
         wish = entry;
         if (isNew()) Recording.write(this);
@@ -208,14 +208,14 @@ final class Task {
     }
 
     /** What was wanted was taken. */
-    void grant(Known lock, Held wanted, int site) {
+    void grant(Known lock, Held wanted, Modes.Manner manner, int site) {
         failed = null;
         if (wanted == null) {
             takeAgain(lock);
             return;
         }
         if (wish != wanted) { // one of the program's own calls came in between
-            took(lock, false, site);
+            took(lock, manner, site);
             return;
         }
         wish = null;
@@ -262,13 +262,13 @@ final class Task {
     }
 
     /** A lock was taken, by a try or by a call that other code makes. */
-    void took(Known lock, boolean isTry, int site) {
+    void took(Known lock, Modes.Manner manner, int site) {
         failed = null;
         if (again(lock) != null) {
             takeAgain(lock);
             return;
         }
-        Held entry = take(lock.target, null, Modes.of(lock.isReader, isTry), site);
+        Held entry = take(lock.target, null, Modes.of(lock.isReader, manner), site);
         if (entry != null && !lock.target.isReentrant) lock.target.addHolder(this);
     }
 
