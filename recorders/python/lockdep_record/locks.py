@@ -658,7 +658,7 @@ def replace_hooks():
 
 def begin(folder, is_fork_server):
     """Records this process from here on. Of the server that forks processes for `multiprocessing` only these are recorded."""
-    from . import green
+    from . import green, threads
     recording.is_typed = getattr(sys, "argv", [])[:1] == ["-c"]
     recording.begin_process(folder, is_fork_server)
     replace_hooks()
@@ -666,6 +666,7 @@ def begin(folder, is_fork_server):
         own.__module__ = "_thread"
         drop_unknown(own, real)
     replace_locks()
+    threads.replace_threads()
     replace_exit()
     sys.meta_path.insert(0, Finder)
     Finder.awaited.update(green.AWAITED)
