@@ -125,6 +125,33 @@ public final class Hooks {
         task.leave();
     }
 
+    // ---- Threads.
+
+    public static void start(Object thread, int site) {
+        Task task = thread == null ? null : Task.begin();
+        if (task != null) {
+            try {
+                Known.started((Thread) thread, Site.of(site).ofThreads(), task.probe);
+                task.leave();
+            } catch (Throwable error) {
+                task.abandon();
+            }
+        }
+        ((Thread) thread).start();
+    }
+
+    public static void join(Object thread, int site) throws InterruptedException {
+        Join.join((Thread) thread, 0, 0, site);
+    }
+
+    public static void join(Object thread, long milliseconds, int site) throws InterruptedException {
+        Join.join((Thread) thread, milliseconds, 0, site);
+    }
+
+    public static void join(Object thread, long milliseconds, int nanoseconds, int site) throws InterruptedException {
+        Join.join((Thread) thread, milliseconds, nanoseconds, site);
+    }
+
     // ---- Programs that are started.
 
     /** A program is started by a builder, or by its words. Errors never reach the program. */
