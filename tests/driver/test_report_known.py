@@ -4,15 +4,38 @@ import unittest
 from unittest import mock
 
 from cases import between, circle, findings
+from lockdep.breaches import Breach
+from lockdep.findings import Event
 from lockdep.known import list_of, sort
 from lockdep.places import Made
 from lockdep.report import hides_blocked
 from lockdep.sources import Sources
-from lockdep.suppressions import entries_of
+from lockdep.suppressions import entries_of, pattern_text
 from lockdep.symbols import Address, Frame
 from lockdep.taking_part import TakingPart
 from lockdep.where_made import Caller, is_same_path, place_of
 from lockdep.words import Refusal, type_of_class
+
+
+class Patterns(unittest.TestCase):
+    """The patterns that are written of what is against what a program says of its locks."""
+
+    def test_a_pattern_fits_its_own_text_alone(self):
+        for name in ("Striped::stripes[]", "main+0x2d[].m0", "Map<int, char*>::lock", "what?"):
+            text = pattern_text("order", [name, name], "f[abi:cxx11]")
+            entry = entries_of(text + "\n", "list")[0]
+            self.assertTrue(entry.hides("order", [(name,)], [("f[abi:cxx11]", "x.c")]), text)
+            self.assertFalse(entry.hides("order", [(name + "x",)], [("f[abi:cxx11]", "x.c")]), text)
+            self.assertFalse(entry.hides("order", [(name,)], [("fa", "x.c")]), text)
+
+    def test_a_class_is_named_once_and_an_unknown_function_not_at_all(self):
+        self.assertEqual(pattern_text("order", ["account", "account"], ""), "order class:account")
+
+    def test_a_list_has_a_pattern_for_each_breach_that_no_other_one_fits(self):
+        sources = Made_up({"a": ("named", []), "b": ("named", [])})
+        breaches = [Breach(type, ("%s/0" % name,), "", (Event("breaches", 0),)) for type, name in (("hold", "a"), ("hold", "b"), ("order", "a"))]
+        text = list_of([], "# mine\nhold class:b\n", sources, (), breaches + breaches)
+        self.assertEqual(text, "# mine\nhold class:b\nhold class:a function:flush_all\norder class:a function:flush_all\n")
 
 
 class Made_up(Sources):

@@ -93,6 +93,17 @@ class Entry:
                    for function, path in frames)
 
 
+def escaped(text: str) -> str:
+    """A text as a pattern that fits it alone. Patterns have no spaces, so each of its own may be any letter."""
+    return "".join("[%s]" % letter if letter in "*?[" else "?" if letter.isspace() else letter for letter in text)
+
+
+def pattern_text(type: str, classes: list[str], function: str) -> str:
+    """The pattern that fits what has these classes and comes from this function, if that is known."""
+    fields = ["class:" + escaped(name) for name in dict.fromkeys(classes)] + (["function:" + escaped(function)] if function else [])
+    return " ".join([type] + fields)
+
+
 def fits_one(text: str, patterns: list[str]) -> bool:
     return any(fnmatchcase(text, pattern) for pattern in patterns)
 
