@@ -359,6 +359,7 @@ bool count_ignored(uintptr_t lock); /* if it is */
 uint32_t subclass_held(uintptr_t lock);
 void say_subclass(uintptr_t lock, uint32_t subclass); /* of the next acquisition by this thread */
 bool end_nesting(uintptr_t lock);
+void keep_nesting(uintptr_t lock);
 void forget_words(uintptr_t lock); /* which is no more */
 
 #endif

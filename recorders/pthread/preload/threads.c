@@ -1079,7 +1079,9 @@ void initialised(uintptr_t lock, struct call call) {
     if (!t)
         return;
     end_holds_between(t, lock, lock + 1, call.caller);
-    if (know_by_place(lock, call) && t->depth)
+    bool is_own = know_by_place(lock, call);
+    keep_nesting(lock);
+    if (is_own && t->depth)
         note_new(lock, t->number, handed_on(t));
     leave();
 }
