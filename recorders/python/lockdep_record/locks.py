@@ -18,6 +18,8 @@ PATIENCE = 0.05
 allocate, RealRLock, RealLock = _thread.allocate_lock, _thread.RLock, _thread.LockType
 of_imports = vars(_bootstrap)
 of_condition, of_rlock = threading.Condition.__init__.__code__, threading.RLock.__code__
+of_wait_for = None  # the code of `asyncio.wait_for`, once that is needed
+AWAITS = 0x3a0  # the flags of code that is awaited, or waits for others: coroutines and generators of all kinds
 
 
 def keep(record, mode, release):
@@ -509,9 +511,13 @@ async def wait_in_loop(record, real, real_acquire, mode):
 
 def has_limit(frame):
     """Whether it is `asyncio.wait_for` that awaits the coroutine of this frame, and for a time: that is an acquisition with a timeout."""
+    global of_wait_for
+    of_wait_for = of_wait_for or sys.modules["asyncio.tasks"].wait_for.__code__
     above = frame.f_back
-    if above is not None and above.f_code is sys.modules["asyncio.tasks"].wait_for.__code__:
+    if above is not None and above.f_code is of_wait_for:
         return above.f_locals.get("timeout") is not None
+    if above is not None and above.f_code.co_flags & AWAITS:  # it isn't the task itself that runs this
+        return False
     loop = recording.find_loop()
     running = recording.find_task(loop) if loop is not None else None
     return running is not None and getattr(running.get_coro(), "cr_frame", None) is frame and recording.caller_of(running) is not None

@@ -35,18 +35,31 @@ def function_of(thread):
     return function if hasattr(function, "__code__") else None
 
 
+def is_of_program(function):
+    name = function.__code__.co_filename
+    return (recording.kinds[name] if name in recording.kinds else recording.kind_of(name)) == recording.PLAIN
+
+
 def class_of(thread, frame):
     """The class of a thread that is started in this frame: the function that it runs, and, if that isn't the program's, where it is started."""
     function = function_of(thread)
-    names, chain = [], ()
+    chain = ((function.__code__, WHOLE),) if function is not None else ()
+    place = () if function is not None and is_of_program(function) else chain_of(frame)[-1:]
+    key = (PREFIX,) + key_of(chain + place)
+    made = recording.classes.get(key)
+    if made is None:
+        name = PREFIX + name_of_thread(function, frame, place)
+        made = class_in(key, lambda number: Made(number, name, chain + place, STARTED))
+    return made
+
+
+def name_of_thread(function, frame, place):
+    """The name of a thread: its function with the module, or, if it is given, with the place where the thread is started."""
+    names = [name_of(frame, place)] if place else [name_of_module(function.__globals__, function.__code__)]
     if function is not None:
-        names, chain = [visible(function.__qualname__.replace("<locals>.", ""))], ((function.__code__, WHOLE),)
-    if function is None or recording.kind_of(function.__code__.co_filename) != recording.PLAIN:
-        place = chain_of(frame)[-1:]
-        names, chain = names + [name_of(frame, place)], chain + place
-    else:
-        names[0] = "%s.%s" % (name_of_module(function.__globals__, function.__code__), names[0])
-    return class_in((PREFIX,) + key_of(chain), lambda number: Made(number, PREFIX + "~".join(names), chain, STARTED))
+        name = visible(function.__qualname__.replace("<locals>.", ""))
+        names = [name] + names if place else names + [name]
+    return ("~" if place else ".").join(names)
 
 
 def note_start(thread, frame):
