@@ -3,6 +3,7 @@ at once. `joins` puts into the traces what of this can matter."""
 import functools
 import threading
 from _thread import get_ident
+from types import FunctionType, MethodType
 
 from . import recording
 from .locks import PATIENCE, put_in_place
@@ -28,11 +29,12 @@ unused = {}  # of classes: the lock of a thread that took none after all
 def function_of(thread):
     """The function in Python that a thread is about to run; None if it runs something else."""
     is_given = type(thread).run is threading.Thread.run
-    function = getattr(thread, "_target", None) if is_given else type(thread).run
+    function = vars(thread).get("_target") if is_given else type(thread).run
     while isinstance(function, functools.partial):
         function = function.func
-    function = getattr(function, "__func__", function)
-    return function if hasattr(function, "__code__") else None
+    if type(function) is MethodType:
+        function = function.__func__
+    return function if type(function) is FunctionType else None  # (an object may claim to have anything, as one of `unittest.mock`)
 
 
 def is_of_program(function):
@@ -65,7 +67,7 @@ def name_of_thread(function, frame, place):
 def note_start(thread, frame):
     """A thread is about to be started."""
     if not recording.process.is_off:
-        thread._lockdep_life = Life(class_of(thread, frame))
+        vars(thread)["_lockdep_life"] = Life(class_of(thread, frame))
 
 
 def life_of(thread):
