@@ -14,7 +14,7 @@ from lockdep.terminal import Writer
 from lockdep.text import Text
 from lockdep.threads import called
 from lockdep.verdict import Recorded, by_importance, notes_of, verdict_of
-from lockdep.weak import gone_without, with_tries
+from lockdep.weak import by_verdict, gone_without, with_tries
 from lockdep.words import Refusal
 
 
@@ -168,14 +168,16 @@ class Verdicts(unittest.TestCase):
 
 
     def test_timed_waits_and_new_locks_come_before_and_after_classes(self):
-        said = [circle(kind + "/0", "x/0", between=between(kind)) for kind in ("types", "new-lock", "classes", "timed", "unknown", "perhaps", "locks")]
+        said = [circle(kind + "/0", "x/0", between=between(kind)) for kind in ("types", "new-lock", "classes", "timed-or-new-lock", "timed", "unknown", "perhaps", "locks")]
         self.assertEqual([one.kind.value for one in by_importance(findings(said))],
-                         ["locks", "perhaps", "unknown", "timed", "classes", "new-lock", "types"])
+                         ["locks", "perhaps", "unknown", "timed", "timed-or-new-lock", "classes", "new-lock", "types"])
 
     def test_timed_waits_and_new_locks_are_said(self):
         inner = circle("a#1/0", "b#2/0")
         self.assertEqual(self.said("timed", inner), "seen only by timed waits: a#1, b#2, by 2 threads")
         self.assertEqual(self.said("new-lock", inner), "seen only while a lock was new: a#1, b#2, by 2 threads")
+        self.assertEqual(self.said("timed-or-new-lock", inner),
+                         "seen only by timed waits or while a lock was new: a#1, b#2, by 2 threads")
 
 
 class Weak(unittest.TestCase):
@@ -187,6 +189,12 @@ class Weak(unittest.TestCase):
     def test_acquisitions_become_tries(self):
         trace = b'lockdep,1\nacq,a,0,w\nacq,"b,1",0,rr\nrel,"b,1",0\n'
         self.assertEqual(with_tries(trace, [3]), b'lockdep,2\nacq,a,0,w\nacq,"b,1",0,trr\nrel,"b,1",0\n')
+
+    def test_acquisitions_of_both_kinds_are_tries_together(self):
+        timed, new = {"task-0001.csv": [3]}, {"task-0001.csv": [5], "task-0002.csv": [2]}
+        both = {"task-0001.csv": [3, 5], "task-0002.csv": [2]}
+        self.assertEqual(by_verdict({Kind.TIMED: timed, Kind.NEW: new}), {Kind.TIMED: timed, Kind.NEW: new, Kind.EITHER: both})
+        self.assertEqual(by_verdict({Kind.TIMED: timed, Kind.NEW: {}}), {Kind.TIMED: timed, Kind.NEW: {}, Kind.EITHER: {}})
 
     def test_a_finding_is_gone_if_no_order_of_it_is_left(self):
         self.assertEqual(self.gone([], circle("a/0", "b/0")), [["a/0", "b/0"]])

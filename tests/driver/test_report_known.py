@@ -4,15 +4,38 @@ import unittest
 from unittest import mock
 
 from cases import between, circle, findings
+from lockdep.breaches import Breach
+from lockdep.findings import Event
 from lockdep.known import list_of, sort
 from lockdep.places import Made
 from lockdep.report import hides_blocked
 from lockdep.sources import Sources
-from lockdep.suppressions import entries_of
+from lockdep.suppressions import entries_of, pattern_text
 from lockdep.symbols import Address, Frame
 from lockdep.taking_part import TakingPart
 from lockdep.where_made import Caller, is_same_path, place_of
 from lockdep.words import Refusal, type_of_class
+
+
+class Patterns(unittest.TestCase):
+    """The patterns that are written of what is against what a program says of its locks."""
+
+    def test_a_pattern_fits_its_own_text_alone(self):
+        for name in ("Striped::stripes[]", "main+0x2d[].m0", "Map<int, char*>::lock", "what?"):
+            text = pattern_text("order", [name, name], "f[abi:cxx11]")
+            entry = entries_of(text + "\n", "list")[0]
+            self.assertTrue(entry.hides("order", [(name,)], [("f[abi:cxx11]", "x.c")]), text)
+            self.assertFalse(entry.hides("order", [(name + "x",)], [("f[abi:cxx11]", "x.c")]), text)
+            self.assertFalse(entry.hides("order", [(name,)], [("fa", "x.c")]), text)
+
+    def test_a_class_is_named_once_and_an_unknown_function_not_at_all(self):
+        self.assertEqual(pattern_text("order", ["account", "account"], ""), "order class:account")
+
+    def test_a_list_has_a_pattern_for_each_breach_that_no_other_one_fits(self):
+        sources = Made_up({"a": ("named", []), "b": ("named", [])})
+        breaches = [Breach(type, ("%s/0" % name,), "", (Event("breaches", 0),)) for type, name in (("hold", "a"), ("hold", "b"), ("order", "a"))]
+        text = list_of([], "# mine\nhold class:b\n", sources, (), breaches + breaches)
+        self.assertEqual(text, "# mine\nhold class:b\nhold class:a function:flush_all\norder class:a function:flush_all\n")
 
 
 class Made_up(Sources):
@@ -235,6 +258,15 @@ class OtherLocks(unittest.TestCase):
                 self.assertEqual(bool(result.new), now in kinds[:place], (listed, now))
         self.assertIn("it was seen only between types, as one type nested in itself, and is now seen only between types, so that entry hides nothing",
                       self.list_then([circle("a/0", between=between("nested"))], {}, [circle("a/0", between=between("types"))])[1].stale[0])
+
+    def test_timed_waits_are_as_strong_as_they_are_with_new_locks(self):
+        inner = circle("a#1/0", "b#1/0")
+        for listed, now, is_new in (("timed", "timed-or-new-lock", False), ("timed-or-new-lock", "timed", False),
+                                    ("timed-or-new-lock", "new-lock", False), ("new-lock", "timed-or-new-lock", True),
+                                    ("classes", "timed-or-new-lock", True), ("timed-or-new-lock", "classes", False)):
+            said = [circle("a/0", "b/0", between=between(now, inner))]
+            _, result = self.list_then([circle("a/0", "b/0", between=between(listed, inner))], {}, said)
+            self.assertEqual(bool(result.new), is_new, (listed, now))
 
     def test_a_list_without_verdicts_excuses_all(self):
         self.assertEqual(sorted_by("circle a/0 EN a/0\n", {}, [circle("a/0", between=between("locks", circle("a#1/0")))]).new, [])

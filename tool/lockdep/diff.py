@@ -1,5 +1,5 @@
 """`lockdep diff`: the findings of two recordings beside each other: which are new, which are gone, and which are the same, by their
-names and by where their locks are made."""
+names and by where their locks are made; and so what the programs did against what they say of their locks, by its classes and function."""
 from __future__ import annotations
 
 import json
@@ -8,14 +8,19 @@ import sys
 from dataclasses import dataclass, field
 
 from .asking import ask_about
+from .blocked import sources_wanted
+from .breaches import breaches_in
 from .checker import HOME
+from .cplusplus import without_parameters
 from .files import need_output, print_file, text_named
 from .findings import Finding, finding_of
+from .known import pattern_of
 from .sources import Sources, keys_of, sources_of
+from .suppressions import pattern_text
 from .terminal import Writer, text_stream
 from .verdict import Recorded, verdict_of
 from .where_made import Place, place_now, place_of
-from .words import Refusal, counted, name_in, type_of_class, visible
+from .words import Refusal, class_of_lock, counted, name_in, type_of_class, visible
 
 WHAT = "which is neither a recording's folder nor JSON of `lockdep run --json`"
 
@@ -55,8 +60,11 @@ def sides_of_folder(folder: str) -> list[Side]:
         sys.stderr.buffer.write(asked.answer.said)
         raise Refusal("the traces of %s were refused" % visible(folder))
     findings = [finding for finding in asked.findings() if not finding.is_note]
-    sources, recorded = sources_of(findings, [folder]), Recorded(asked.traces)
-    return [side_of_finding(finding, verdict_of(finding, recorded), places_of(finding, sources)) for finding in findings]
+    sources, recorded, breaches = sources_of(findings, [folder]), Recorded(asked.traces), breaches_in(folder)
+    sources_wanted(breaches, sources)
+    sources.ask()
+    return [side_of_finding(finding, verdict_of(finding, recorded), places_of(finding, sources)) for finding in findings] + [
+        Side(breach.sentence, frozenset([pattern_of(breach, sources)])) for breach in breaches]
 
 
 def side_of_json(number: int, said: dict) -> Side:
@@ -66,10 +74,20 @@ def side_of_json(number: int, said: dict) -> Side:
     return side_of_finding(finding_of(number, said), said.get("verdict", ""), places)
 
 
+def side_of_breach(said: dict) -> Side:
+    """A breach of a file, by the same pattern as that of a folder."""
+    classes = [type_of_class(class_of_lock(name_in(key))) for key in said["keys"]]
+    frames = said["records"][0]["places"] if said["records"] else []
+    functions = [without_parameters(frame["function"]) for frame in frames if frame.get("function")]
+    return Side(said["sentence"], frozenset([pattern_text(said["type"], classes, functions[0] if functions else "")]))
+
+
 def sides_of_json(name: str) -> list[Side]:
     """The findings of a file, with the places that it has."""
     try:
-        return [side_of_json(number, said) for number, said in enumerate(json.loads(text_named(name, WHAT))["findings"], 1)]
+        said = json.loads(text_named(name, WHAT))
+        findings = [side_of_json(number, finding) for number, finding in enumerate(said["findings"], 1)]
+        return findings + [side_of_breach(breach) for breach in said.get("breaches", [])]
     except (ValueError, KeyError, TypeError, AttributeError) as error:
         raise Refusal("%s, %s, can't be read: %s" % (visible(name), WHAT, visible(repr(error))))
 

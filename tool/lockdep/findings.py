@@ -18,8 +18,9 @@ class Kind(Enum):
     PERHAPS = "perhaps"
     UNKNOWN = "unknown"
     TIMED = "timed"  # between locks, and only by waits that give up: this and the next are no kinds of the checker's
+    EITHER = "timed-or-new-lock"  # between locks, and only so or while a lock was new
     CLASSES = "classes"
-    NEW = "new-lock"  # between locks, and only while a lock was new
+    NEW = "new-lock"  # between locks, and only while a lock was new; nor is this one
     TYPES = "types"
     NESTED = "nested"
 

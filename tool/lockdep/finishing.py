@@ -3,7 +3,7 @@ from __future__ import annotations
 
 import os
 
-from .folder import OBJECTS, TASKS
+from .folder import OBJECTS, TASKS, WEAK
 from .losses import words_of
 from .summary import Count, put
 
@@ -75,6 +75,7 @@ class Trace:
 
     def __init__(self) -> None:
         self.by_class, self.by_lock, self.places = [HEADER], [HEADER], []
+        self.weak: list[str] = []  # of acquisitions that are weak: the number of the record, and in which way
         self.held: list[tuple[object, str, str | None]] = []
         self.texts: dict[str, str] = {}  # of lines: each is kept once, since a trace repeats itself
 
@@ -82,12 +83,13 @@ class Trace:
         self.by_class.append(self.texts.setdefault(line, line))
         self.by_lock.append(self.texts.setdefault(line_of_lock, line_of_lock))
 
-    def take(self, key: object, of: str, lock: str | None, mode: str, places: list[str]) -> None:
-        """A lock is taken: its key, its class, and its name, or none if it isn't written."""
+    def take(self, key: object, of: str, lock: str | None, mode: str, places: list[str], weak: str = "") -> None:
+        """A lock is taken: its key, its class, and its name, or none if it isn't written. How it is taken weakly matters if something is held."""
         self.held.append((key, of, lock))
         if lock is not None:
             self.add("acq,%s,0,%s" % (of, mode), "acq,%s,0,%s" % (lock, mode))
             self.places += ["%d %s" % (len(self.by_class), place) for place in places]
+            self.weak += ["%d %s" % (len(self.by_class), weak)] if weak and len(self.held) > 1 else []
 
     def give_back(self, key: object) -> None:
         """The newest lock of this key is given back, if there is one."""
@@ -127,6 +129,13 @@ def write_classes(folder: str, classes: list[tuple[str, str, str]]) -> None:
 def write_tasks(folder: str, tasks: list[tuple[str, int, str]]) -> None:
     """Writes the names of threads that have some: of each its trace, the number of its process, and its name."""
     write_lines(os.path.join(folder, TASKS), ["%s.csv %d %s" % task for task in tasks if task[2]])
+
+
+def write_weak(folder: str, traces: list[tuple[str, Trace]]) -> None:
+    """Writes which acquisitions are weak, if any are: the traces come with their names."""
+    lines = ["%s.csv %s" % (name, weak) for name, trace in traces for weak in trace.weak]
+    if lines:
+        write_lines(os.path.join(folder, WEAK), lines)
 
 
 def is_running(process: int | str) -> bool:

@@ -11,7 +11,7 @@ from .cplusplus import without_parameters
 from .findings import Finding, by_line, report_lines
 from .sources import Sources, keys_of
 from .stale import Judge
-from .suppressions import EXCUSED, KINDS, TEXT, VERDICT, Entry, entries_of, today
+from .suppressions import EXCUSED, KINDS, TEXT, VERDICT, Entry, entries_of, pattern_text, today
 from .taking_part import TakingPart
 from .where_made import Place, place_now
 from .words import class_of_lock, name_in, type_of_class
@@ -67,6 +67,12 @@ def fits_finding(entry: Entry, finding: Finding, sources: Sources) -> bool:
 
 def fits_blocked(entry: Entry, thread: Blocked | Breach, sources: Sources) -> bool:
     return entry.is_pattern and entry.hides(thread.type, classes_of(thread.keys, sources), frames_of(thread.events, sources))
+
+
+def pattern_of(breach: Breach, sources: Sources) -> str:
+    """The pattern that fits a breach: of its classes, and of the function in which the lock was taken or wasn't held."""
+    functions = [without_parameters(frame.function) for frame in sources.frames(breach.events[0]) if frame.function]
+    return pattern_text(breach.type, [names[0] for names in classes_of(breach.keys, sources)], functions[0] if functions else "")
 
 
 # ---- All together.
@@ -131,8 +137,9 @@ def is_comment_of_entry(line: str) -> bool:
     return bool(PLACE_COMMENT.match(line.strip()) or TEXT.fullmatch(line.strip())) or line.strip() in VERDICT
 
 
-def list_of(findings: list[Finding], old: str, sources: Sources, traces: list[str] = ()) -> str:
-    """A list of all findings. In an existing one comments and patterns stay, and entries that weren't found are removed."""
+def list_of(findings: list[Finding], old: str, sources: Sources, traces: list[str] = (), breaches: list[Breach] = ()) -> str:
+    """A list of all findings, with a pattern for each breach. In an existing one comments and patterns stay, and entries that weren't found
+    are removed."""
     found, kept, listed = report_lines(findings), [], set()
     comments = Comments(findings, TakingPart(sources, list(traces)))
     entries = {entry.number: entry for entry in entries_of(old, "")}
@@ -150,4 +157,6 @@ def list_of(findings: list[Finding], old: str, sources: Sources, traces: list[st
     for line in found:
         if line not in listed and line not in hidden:
             kept += [line] + comments.of(line)
+    kept += dict.fromkeys(pattern_of(breach, sources) for breach in breaches
+                          if not any(fits_blocked(entry, breach, sources) for entry in patterns))
     return "".join(line + "\n" for line in kept)

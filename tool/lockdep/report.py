@@ -66,6 +66,7 @@ class Report:
         self.is_unwritten = False
         self.sorted: Sorted | None = None
         self.sources: Sources | None = None
+        self.all_breaches: list[Breach] = []
         self.recorded: Recorded | None = None
 
     # ---- What was found.
@@ -84,12 +85,12 @@ class Report:
         blocked = blocked_threads(self.recording.folder, self.recording.summary) if hung else []
         self.sources = sources_of(findings, [self.recording.folder])
         from .breaches import breaches_in
-        breaches = breaches_in(self.recording.folder) if is_breached else []
-        if blocked or breaches:
-            sources_wanted(blocked + breaches, self.sources)
+        self.all_breaches = breaches_in(self.recording.folder) if is_breached else []
+        if blocked or self.all_breaches:
+            sources_wanted(blocked + self.all_breaches, self.sources)
             self.sources.ask()
         entries = entries_of(self.wishes.known_text, self.wishes.known)
-        self.sorted = sort(findings, blocked, entries, self.sources, self.asked.traces, breaches)
+        self.sorted = sort(findings, blocked, entries, self.sources, self.asked.traces, self.all_breaches)
 
     def look_deeper(self) -> None:
         """What the recording itself says of the findings that are new."""
@@ -173,11 +174,14 @@ class Report:
         from .files import write_in_place
         from .known import list_of
         name = self.wishes.write_known
-        text = list_of(self.asked.findings(), text_in(name), self.sources, self.asked.traces)
+        text = list_of(self.asked.findings(), text_in(name), self.sources, self.asked.traces, self.all_breaches)
         try:
             write_in_place(bytes_of(name), bytes_of(text))
         except OSError:
             raise Refusal("%s can't be written" % visible(name))
+        if self.blocked:
+            say("%s not in %s: if they are meant, write a pattern, as `blocked class:NAME`" % (
+                counted(len(self.blocked), "blocked thread is", "blocked threads are"), visible(name)))
 
     # ---- What is printed.
 

@@ -37,6 +37,7 @@ EXCUSED = {
     Kind.PERHAPS: "perhaps seen between locks",
     Kind.UNKNOWN: "not known whether seen between locks",
     Kind.TIMED: "seen only by timed waits",
+    Kind.EITHER: "seen only by timed waits or while a lock was new",
     Kind.CLASSES: "seen only between classes",
     Kind.NEW: "seen only while a lock was new",
     Kind.TYPES: "seen only between types",
@@ -44,6 +45,11 @@ EXCUSED = {
 }
 KINDS = list(EXCUSED)  # the strongest first
 VERDICT = {"#   " + words: kind for kind, words in EXCUSED.items()}
+
+
+def strength(kind: Kind) -> int:
+    """The place of a verdict among all, from the strongest on. Timed waits are the stronger half of either kind."""
+    return KINDS.index(Kind.TIMED if kind is Kind.EITHER else kind)
 
 
 @dataclass
@@ -70,7 +76,7 @@ class Entry:
     def excuses(self, kind: Kind | None) -> bool:
         """Whether a line of a report may hide a finding with this verdict, which isn't stronger than the one of the list. If one of
         them isn't known, it may."""
-        return None in (self.kind, kind) or KINDS.index(kind) >= KINDS.index(self.kind)
+        return None in (self.kind, kind) or strength(kind) >= strength(self.kind)
 
     def hides(self, type: str, classes: list[tuple[str, ...]], frames: list[tuple[str, str]]) -> bool:
         """Whether a pattern fits a finding: each of its classes, by one of its names, fits one of the pattern's, if that names any;
@@ -85,6 +91,17 @@ class Entry:
             return True
         return any((not functions or fits_one(function, functions)) and (not files or fits_path(path, files))
                    for function, path in frames)
+
+
+def escaped(text: str) -> str:
+    """A text as a pattern that fits it alone. Patterns have no spaces, so each of its own may be any letter."""
+    return "".join("[%s]" % letter if letter in "*?[" else "?" if letter.isspace() else letter for letter in text)
+
+
+def pattern_text(type: str, classes: list[str], function: str) -> str:
+    """The pattern that fits what has these classes and comes from this function, if that is known."""
+    fields = ["class:" + escaped(name) for name in dict.fromkeys(classes)] + (["function:" + escaped(function)] if function else [])
+    return " ".join([type] + fields)
 
 
 def fits_one(text: str, patterns: list[str]) -> bool:

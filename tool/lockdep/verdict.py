@@ -22,6 +22,7 @@ ONLY = {
 BETWEEN_LOCKS = {
     Kind.LOCKS: "seen between locks",
     Kind.TIMED: "seen only by timed waits",
+    Kind.EITHER: "seen only by timed waits or while a lock was new",
     Kind.NEW: "seen only while a lock was new",
 }
 TOO_MANY = "more than 256 keys lead to one another"

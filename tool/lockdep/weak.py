@@ -1,5 +1,6 @@
 """Which findings are seen between single locks only by waits that give up, or only while a lock was new. A recorder marks such acquisitions.
-The traces are written again with them as tries, which wait for nobody, and the same command is asked about those."""
+The traces are written again with them as tries, which wait for nobody, and the same command is asked about those: of either kind alone,
+and of both, since an order may have been seen once by a timed wait and once while a lock was new."""
 from __future__ import annotations
 
 import os
@@ -26,6 +27,15 @@ def weak_in(folder: str) -> dict[Kind, Records]:
     for trace, record, kind in LINE.findall(text_of(contents(os.path.join(folder, WEAK)) or b"")):
         weak[Kind(kind)].setdefault(trace, []).append(int(record))
     return weak
+
+
+def by_verdict(weak: dict[Kind, Records]) -> dict[Kind, Records]:
+    """The acquisitions that are to be tries for each verdict. With those of one kind alone both together say nothing new."""
+    both: Records = {}
+    for records in weak.values() if all(weak.values()) else ():
+        for trace, numbers in records.items():
+            both.setdefault(trace, []).extend(numbers)
+    return {**weak, Kind.EITHER: both}
 
 
 def with_tries(trace: bytes, records: list[int]) -> bytes:
@@ -72,7 +82,7 @@ def gone_without(findings: list[Finding], left: set[str]) -> list[Finding]:
 
 def weaken(findings: list[Finding], folder: str, traces: list[str], room: str) -> None:
     """Gives those findings their own verdicts. The room is an empty folder."""
-    for kind, records in weak_in(folder).items():
+    for kind, records in by_verdict(weak_in(folder)).items():
         seen = [finding for finding in findings if finding.between and finding.between.kind is Kind.LOCKS]
         left = lines_left(written_again(traces, records, room)) if seen and records else None
         for finding in gone_without(seen, left) if left is not None else ():

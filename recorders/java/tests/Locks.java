@@ -1,3 +1,4 @@
+import java.util.concurrent.CountDownLatch;
 import java.util.concurrent.TimeUnit;
 import java.util.concurrent.locks.Lock;
 import java.util.concurrent.locks.ReentrantLock;
@@ -42,10 +43,12 @@ public class Locks {
     }
 
     static void fails() throws InterruptedException {
+        CountDownLatch hasTried = new CountDownLatch(1);
         Thread thread = new Thread(() -> {
             for (int i = 0; i < 2; i++) first.tryLock();
             try {
                 first.tryLock(1, TimeUnit.MILLISECONDS);
+                hasTried.countDown();
                 Thread.currentThread().interrupt();
                 first.lockInterruptibly();
             } catch (InterruptedException expected) {
@@ -55,6 +58,7 @@ public class Locks {
         });
         first.lock();
         thread.start();
+        hasTried.await();
         thread.join();
         first.unlock();
     }

@@ -335,6 +335,7 @@ EXPORT int sem_trywait(sem_t *lock) {
 }
 
 EXPORT int sem_post(sem_t *lock) {
+    note_handing_on();
     if (SEMAPHORES)
         posting(lock, HERE);
     return REAL(sem_post)(lock);

@@ -126,21 +126,30 @@ static void note_breach(struct raw_breach new, struct call call) {
 
 /* ---- How a lock is recorded that is taken. */
 
-/* What the thread says of its next acquisition of a lock; 0: of none. */
+/* What the thread says of its next acquisition of a lock; 0: of none. The lock's object tells whether that lock has ended meanwhile, as by
+   another thread; it is 0 if the lock wasn't known yet. */
 static EARLY_THREAD_LOCAL uintptr_t nested_lock;
-static EARLY_THREAD_LOCAL uint32_t next_subclass;
+static EARLY_THREAD_LOCAL uint32_t next_subclass, nested_object;
 
 void say_subclass(uintptr_t lock, uint32_t subclass) {
+    uint32_t object = lock_object(lock);
     nested_lock = lock;
     next_subclass = subclass;
+    nested_object = object ? apart(lock, object) : 0;
 }
 
-/* That acquisition of the lock is here. */
+/* This thread has given the lock another object, by its name or by initialising it again. */
+void keep_nesting(uintptr_t lock) {
+    if (RARELY(nested_lock == lock))
+        nested_object = lock_object(lock);
+}
+
+/* That acquisition of the lock is here. Returns whether it is still the same lock. */
 bool end_nesting(uintptr_t lock) {
     if (nested_lock != lock)
         return false;
     nested_lock = 0;
-    return true;
+    return !is_single(nested_object) || lock_object(lock) == nested_object;
 }
 
 void forget_words(uintptr_t lock) {
@@ -228,9 +237,10 @@ static void give_text(uintptr_t lock, enum class_kind kind, const char *text, st
         know_by_text(lock, kind, number, call);
     else
         refuse(&arena->refused_annotations);
-    object = order ? lock_object(lock) : 0;
-    if (object)
+    object = lock_object(lock);
+    if (order && object)
         order->class = class_of(object);
+    keep_nesting(lock);
 }
 
 static void give_name(uintptr_t lock, const char *name, struct call call) {

@@ -276,6 +276,7 @@ EXPORT int pthread_create(pthread_t *thread, const pthread_attr_t *how, void *(*
     if (!resolved())
         return EAGAIN;
     uint32_t before = traces_so_far();
+    note_handing_on();
     if (is_recording())
         note_frames(HERE);
     int error = REAL(pthread_create)(thread, how, run, with);

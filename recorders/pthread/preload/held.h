@@ -37,7 +37,6 @@ struct links {
 struct level {
     uint64_t start; /* how many records there were before it */
     uint64_t hash;  /* of the locks that were held then */
-    uint64_t calls; /* of the thread up to it */
 };
 
 /* What is known at one depth of nesting. */
@@ -69,11 +68,11 @@ struct step {
 #define OWN_LOCKS 16
 #define FIRST_HELD 8
 
-/* A piece of memory that the thread has allocated, after so many calls. */
+/* A piece of memory that the thread has allocated, and what handed_on was then. */
 #define OWN_PIECES 16
 struct own_piece {
     uintptr_t address;
-    uint64_t calls;
+    uint32_t handed_on;
 };
 
 /* The function of the loader's that a thread is in, or was in when it came last. */
@@ -112,9 +111,8 @@ struct thread {
     uint32_t own_lock_count; /* so many there were, with those that aren't here any more */
     struct own_piece own_pieces[OWN_PIECES]; /* the last ones that it allocated with something held */
     uint32_t own_piece_count;
-    bool is_started;      /* by another thread, which may wait for its end */
-    uint64_t last_making; /* after how many calls it last made a lock, or allocated memory for one, with something held */
-    uint64_t new_since;   /* after so many calls a lock was released that it held then: what was made before isn't new any more */
+    bool is_started;     /* by another thread, which may wait for its end */
+    uint32_t handed_more; /* what handed_on has besides what can be told from its calls */
     struct thread *next;
     struct {
         uintptr_t caller;
@@ -147,10 +145,14 @@ extern uint64_t is_memo_off; /* by LOCKDEP_MEMO=off, for tests: what is recorded
 /* Whether there is nothing that the thread has to look at on its way. */
 QUICK bool is_settled(const struct thread *t) { return !(t->loading.lock | t->wish.frame | t->failed_under | is_memo_off); }
 
+/* It grows whenever other threads may get to know what this one has made, by the locks that it releases and the threads that it starts, and
+   stays as it is while the thread only takes locks and keeps them. */
+QUICK uint32_t handed_on(const struct thread *t) { return (uint32_t)t->raw->calls - t->depth + t->handed_more; }
+
 QUICK void note_own_piece(uintptr_t address) {
     struct thread *t = self.thread;
     if (RARELY(t && t->depth))
-        t->own_pieces[t->own_piece_count++ % OWN_PIECES] = (struct own_piece){address, t->last_making = t->raw->calls};
+        t->own_pieces[t->own_piece_count++ % OWN_PIECES] = (struct own_piece){address, handed_on(t)};
 }
 
 /* ---- Steps. */
@@ -182,7 +184,6 @@ QUICK bool step_on(struct thread *t, uintptr_t lock, uintptr_t from) {
     e->links = s->links;
     e->level.start = count;
     e->level.hash = before;
-    e->level.calls = raw->calls + 1;
     __atomic_signal_fence(__ATOMIC_RELEASE);
     t->hash = s->links.hash;
     t->depth++;
@@ -193,11 +194,12 @@ QUICK bool step_on(struct thread *t, uintptr_t lock, uintptr_t from) {
     return true;
 }
 
-/* Releases the newest lock if nothing new was done since it was taken: all records since then are taken back. */
+/* Releases the newest lock if nothing new was done since it was taken: all records since then are taken back. (One that is new goes the long way,
+   which counts it.) */
 QUICK bool step_back(struct thread *t, uintptr_t lock) {
     const struct entry *e = &t->entries[t->depth] - 1;
     uint64_t start = e->level.start;
-    if (!is_settled(t) || e->held.lock != lock || e->held.depth || start < t->fresh_end ||
+    if (!is_settled(t) || e->held.lock != lock || e->held.depth | (e->held.weak & RAW_NEW) || start < t->fresh_end ||
         e->level.hash != e[-1].links.hash || t->era != LOAD(era) || memcmp(e->held.what, e->links.what, sizeof e->held.what) != 0)
         return false;
     struct raw_thread *raw = t->raw;

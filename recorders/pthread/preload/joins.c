@@ -129,6 +129,7 @@ JOINING(thrd_join, 0, (thrd_t thread, int *value), (thread, value))
 /* (glibc starts and joins the threads of C11 without calling the functions of pthreads) */
 EXPORT int thrd_create(thrd_t *thread, thrd_start_t run, void *with) {
     uint32_t before = traces_so_far();
+    note_handing_on();
     if (is_recording())
         note_frames(HERE);
     int answer = REAL(thrd_create)(thread, run, with);

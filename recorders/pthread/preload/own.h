@@ -136,8 +136,9 @@ uint32_t lock_object(uintptr_t lock); /* the object of a lock, or 0 */
 const uint64_t *lock_slot(uintptr_t lock, uint32_t object, uint64_t *word); /* what says so, and with which word; NULL: it isn't */
 uint32_t put_lock(uintptr_t lock, uint32_t object); /* the object that it is then, or 0 if there is no room */
 uint32_t add_lock(uintptr_t lock, uint32_t object); /* the same of a lock that isn't there */
-void note_new(uintptr_t lock, uint32_t thread, uint64_t calls); /* it was made by a thread after so many calls */
-bool comes_to_new(uintptr_t lock, uint32_t thread, uint64_t since); /* whether no other one has come since; else it isn't new any more */
+void note_new(uintptr_t lock, uint32_t thread, uint32_t handed_on); /* it was made by a thread that had handed on so much (held.h) */
+bool comes_to_new(uintptr_t lock, uint32_t thread, uint32_t handed_on); /* whether it is its maker that comes, and nothing was handed on since:
+                                                                           else it isn't new any more */
 void drop_lock(uintptr_t lock);
 void end_lock(uintptr_t lock); /* the same, and what was said of it has ended too */
 void drop_locks_between(uintptr_t from, uintptr_t to);
@@ -314,6 +315,7 @@ bool end_wish(uintptr_t lock, bool is_taken, struct call call);
 bool wish_for_end(uintptr_t thread, uint32_t object, uint8_t mode, struct call call); /* inside the recorder; end_wish is to follow */
 void pass_end(uintptr_t thread, uint32_t object, uint8_t mode, struct call call); /* inside the recorder */
 bool has_trace(void);
+void note_handing_on(void); /* by what isn't seen otherwise: what this thread has made isn't new any more */
 void releasing(uintptr_t lock, struct call call);
 bool releasing_own(uintptr_t lock, struct call call);
 void released_unseen(struct call call);
@@ -357,6 +359,7 @@ bool count_ignored(uintptr_t lock); /* if it is */
 uint32_t subclass_held(uintptr_t lock);
 void say_subclass(uintptr_t lock, uint32_t subclass); /* of the next acquisition by this thread */
 bool end_nesting(uintptr_t lock);
+void keep_nesting(uintptr_t lock);
 void forget_words(uintptr_t lock); /* which is no more */
 
 #endif

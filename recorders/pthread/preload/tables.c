@@ -211,30 +211,30 @@ uint32_t add_lock(uintptr_t lock, uint32_t object) {
     return fill_lock(lock, object) ? lock_object(lock) : 0;
 }
 
-/* ---- Locks that are new: of each who has made it, and after how many calls. */
+/* ---- Locks that are new: of each who has made it, and what it had handed on then. */
 
 static struct names makers, makings;
 
-void note_new(uintptr_t lock, uint32_t thread, uint64_t calls) {
+void note_new(uintptr_t lock, uint32_t thread, uint32_t handed_on) {
     uint64_t *slot = find_lock(lock), word = slot ? LOAD(slot) : 0;
     uint32_t *maker = word ? added_slot(&makers, lock) : NULL, *making = maker ? added_slot(&makings, lock) : NULL;
     if (!making)
         return;
-    STORE(making, (uint32_t)calls);
+    STORE(making, handed_on);
     STORE(maker, thread);
     SWAP(slot, &word, word | IS_NEW);
 }
 
-static bool is_made(uintptr_t lock, uint32_t thread, uint64_t since) {
+static bool is_made(uintptr_t lock, uint32_t thread, uint32_t handed_on) {
     const uint32_t *maker = name_slot(&makers, lock), *making = name_slot(&makings, lock);
-    return maker && making && LOAD(maker) == thread && (int32_t)(LOAD(making) - (uint32_t)since) >= 0;
+    return maker && making && LOAD(maker) == thread && LOAD(making) == handed_on;
 }
 
-bool comes_to_new(uintptr_t lock, uint32_t thread, uint64_t since) {
+bool comes_to_new(uintptr_t lock, uint32_t thread, uint32_t handed_on) {
     uint64_t *slot = find_lock(lock);
     if (LIKELY(!slot || !(LOAD(slot) & IS_NEW)))
         return false;
-    bool is_new = is_made(lock, thread, since);
+    bool is_new = is_made(lock, thread, handed_on);
     if (!is_new)
         __atomic_fetch_and(slot, ~IS_NEW, __ATOMIC_ACQ_REL);
     return is_new;

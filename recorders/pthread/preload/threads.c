@@ -65,8 +65,7 @@ static bool begin_trace(struct thread *t) {
     t->failed_under = 0;
     t->own_piece_count = 0;
     t->is_started = !is_first_thread();
-    t->last_making = 0;
-    t->new_since = 0;
+    t->handed_more = 0;
     t->loading.lock = 0;
     t->wish.frame = 0;
     t->unnoted = 0;
@@ -342,8 +341,6 @@ static uint32_t cached_place(struct thread *t, uintptr_t caller) {
 static void release_at(struct thread *t, uint32_t i, uintptr_t caller) {
     struct held gone = t->entries[i].held;
     bool was_newest = i + 1 == t->depth;
-    if (RARELY(t->depth > 1 && t->entries[i].level.calls <= t->last_making))
-        t->new_since = t->raw->calls;
     t->failed_under -= i < t->failed_under;
     for (; i + 1 < t->depth; i++)
         t->entries[i].held = t->entries[i + 1].held;
@@ -447,6 +444,19 @@ static inline void settle(struct thread *t, struct call call) {
     look_at_others(t, call.caller);
 }
 
+void note_handing_on(void) {
+    if (self.thread)
+        self.thread->handed_more++;
+}
+
+/* A release hands on what was made before, unless nobody else can have come to the lock: it was new when it was taken. Then what the release
+   adds to handed_on, by the call and by the hold that ends, is taken back. */
+static void give_back(struct thread *t, uint32_t i, uintptr_t caller) {
+    if (RARELY(t->entries[i].held.weak & RAW_NEW))
+        t->handed_more -= 2;
+    release_at(t, i, caller);
+}
+
 /* Whether this thread was seen to take the lock, or ignores it. */
 static bool release_own(struct thread *t, uintptr_t lock, struct call call) {
     settle(t, call);
@@ -456,10 +466,11 @@ static bool release_own(struct thread *t, uintptr_t lock, struct call call) {
     t->raw->calls++;
     if (RARELY(i == RAW_HELD))
         t->unnoted--;
-    else if (t->entries[i].held.depth)
+    else if (t->entries[i].held.depth) {
         t->entries[i].held.depth--;
-    else
-        release_at(t, i, call.caller);
+        t->handed_more--;
+    } else
+        give_back(t, i, call.caller);
     return true;
 }
 
@@ -567,7 +578,7 @@ static void push_held(struct thread *t, uintptr_t lock, uint32_t object, uint8_t
     uint32_t what[READERS] = {raw_what(object, mode), raw_what(class_of(object), mode)};
     uint64_t start = t->raw->count;
     struct entry *e = &t->entries[t->depth];
-    e->level = (struct level){.start = start, .hash = hash_of(t, t->depth), .calls = t->raw->calls};
+    e->level = (struct level){.start = start, .hash = hash_of(t, t->depth)};
     e->held = (struct held){.lock = lock, .record = start, .fresh_before = t->fresh_end, .what = {what[0], what[1]},
                             .released = releases_so_far(lock), .kind = (uint8_t)kind, .is_wish = is_wish, .weak = weak};
     memcpy(e->links.what, what, sizeof what);
@@ -597,36 +608,30 @@ __attribute__((noinline)) static bool add_entries(struct thread *t) {
 
 static inline bool has_entry_left(struct thread *t) { return LIKELY(t->depth < t->room) || add_entries(t); }
 
-/* After how many calls the thread came to hold something, which it has done ever since, with all that it held when it made a lock last. */
-static inline uint64_t held_since(const struct thread *t) {
-    if (!t->depth)
-        return UINT64_MAX;
-    return t->entries[0].level.calls > t->new_since ? t->entries[0].level.calls : t->new_since;
-}
-
-/* A lock that nobody has come to yet is new if its memory was allocated in this hold. */
-static void note_if_own(struct thread *t, uintptr_t lock) {
+/* A lock that nobody has come to yet is new if its memory was allocated with what is held now, and nothing was handed on since. */
+static void note_if_own(struct thread *t, uintptr_t lock, uint32_t handed_on) {
     struct memory memory;
     uint32_t count = t->own_piece_count < OWN_PIECES ? t->own_piece_count : OWN_PIECES;
     bool is_known = find_memory(lock, &memory);
     for (uint32_t i = 0; is_known && i < count; i++)
-        if (t->own_pieces[i].address == memory.from && t->own_pieces[i].calls >= held_since(t))
-            note_new(lock, t->number, t->own_pieces[i].calls);
+        if (t->own_pieces[i].address == memory.from && t->own_pieces[i].handed_on == handed_on)
+            note_new(lock, t->number, handed_on);
 }
 
 /* The lock's object, if there is room for one more that is held; else the hold has no entry. A semaphore has one of its own before it is
-   nested, since it may be found to be no lock. The program may have said something of the lock, or that it isn't to be recorded. */
+   nested, since it may be found to be no lock. The program may have said something of the lock, or that it isn't to be recorded. The call is
+   among the thread's already, and the lock isn't held yet. */
 static inline uint32_t object_to_hold(struct thread *t, uintptr_t lock, uint8_t *mode, enum kind kind, struct call call) {
     bool is_first = t->depth && t->own_piece_count && !lock_object(lock);
     uint32_t object = LIKELY(t->depth < RAW_HELD) && has_entry_left(t) ? object_of_lock(lock, call) : 0;
     if (RARELY(is_first && object))
-        note_if_own(t, lock);
+        note_if_own(t, lock, handed_on(t) - 1);
     if (RARELY(is_anything_said && object)) {
         uint8_t said = *mode; /* so that the mode itself needn't lie in memory */
         object = object_as_said(lock, object, &said, kind, call);
         *mode = said;
     }
-    if (object && comes_to_new(lock, t->number, held_since(t)) && raw_plain(*mode) < MODE_TRY_WRITE)
+    if (object && comes_to_new(lock, t->number, handed_on(t) - 1) && raw_plain(*mode) < MODE_TRY_WRITE)
         *mode |= RAW_NEW;
     if (!t->depth)
         *mode &= (uint8_t)(t->is_started ? ~RAW_NEW : ~RAW_WEAK);
@@ -675,6 +680,7 @@ __attribute__((noinline)) static bool take_again(struct thread *t, uint32_t held
     bool is_same = is_same_hold(h->lock, kind);
     if (is_same) {
         h->depth++;
+        t->handed_more--; /* as if that was no call: the lock is held as before */
         end_nesting(h->lock);
     } else
         end_stale(t, h->lock, mode, caller);
@@ -821,12 +827,13 @@ bool begin_wish(uintptr_t lock, uint8_t mode, enum kind kind, struct call call) 
         return false;
     settle(t, call);
     enum raw_waits waits = waits_by(mode);
+    t->raw->calls++;
     uint32_t object = object_to_hold(t, lock, &mode, kind, call);
     if (object) {
-        t->raw->calls++;
         push_wish(t, lock, object, mode, kind, call);
         STORE(&t->raw->waits, waits);
-    }
+    } else
+        t->raw->calls--;
     leave();
     return object != 0;
 }
@@ -1001,7 +1008,7 @@ void tried(uintptr_t lock, bool has_failed, struct call call) {
     if (t->failed == lock && t->failed_under && !is_ignored(lock))
         t->raw->left_out.retried++;
     if (has_failed)
-        comes_to_new(lock, t->number, held_since(t));
+        comes_to_new(lock, t->number, handed_on(t));
     t->failed = has_failed ? lock : 0;
     t->failed_under = has_failed ? t->depth : 0;
     leave();
@@ -1072,8 +1079,10 @@ void initialised(uintptr_t lock, struct call call) {
     if (!t)
         return;
     end_holds_between(t, lock, lock + 1, call.caller);
-    if (know_by_place(lock, call) && t->depth)
-        note_new(lock, t->number, t->last_making = t->raw->calls);
+    bool is_own = know_by_place(lock, call);
+    keep_nesting(lock);
+    if (is_own && t->depth)
+        note_new(lock, t->number, handed_on(t));
     leave();
 }
 

@@ -4,15 +4,19 @@ import re
 from binascii import crc32
 
 from . import starts
+from .joins import STARTED as THREAD, Joins
 from .folder import finishing, losses
 from .folder import summary as summaries
 
 MOST_ALIKE = 2
 RELEASE = 2
-WORDS = ("w", "tw", None, "r", "tr", "rr", "trr")  # of the modes; None is a release
+WORDS = ("w", "tw", None, "r", "tr", "r", "w")  # of the modes; None is a release
+TIMED = (5, 6)  # modes of waits that give up at a time
 FILE = re.compile(r"[0-9]+-[0-9]+")  # the name of a process's file
+MOST_HELD = 48  # locks that a trace has at a time
+LIFE = "life"  # the key of a thread in its own trace
 LIBRARY = "library"  # the kind of a class that the standard library makes for itself
-NOT_MADE = ("any object of", "the class object of")  # kinds of classes; all others are made somewhere
+KEPT_KINDS = ("any object of", "the class object of", THREAD)  # kinds of classes; all others are made somewhere
 
 LONGEST_COMMAND = 160
 
@@ -21,7 +25,11 @@ class Task:
 
     def __init__(self, process):
         self.process, self.records, self.waits, self.has_ended, self.broken_off = process, [], False, False, []
-        self.name = ""
+        self.name, self.life = "", 0  # what its thread is called, and which lock it is; 0 if it isn't joined
+
+    def is_last_timed(self):
+        """Whether the last record is of a wait that gives up at a time."""
+        return bool(self.records) and self.records[-1][0] & 7 in TIMED
 
     def content(self):
         """What is equal for equal traces."""
@@ -34,7 +42,7 @@ class Process:
     def __init__(self, number, names):
         self.number, self.names, self.pid, self.began = number, names, 0, 0
         self.classes, self.keys, self.places, self.tasks, self.counts = {}, {}, {}, {}, {}
-        self.words, self.starts = None, []
+        self.words, self.starts, self.joins = None, [], None
 
     def read(self, path):
         if os.path.exists(path + ".lost") or not os.path.getsize(path):
@@ -46,6 +54,7 @@ class Process:
                         self.take(line[:-1])
                     except (ValueError, IndexError, KeyError):
                         self.counts["unwritten"] = 1
+        self.joins = Joins(self)
 
     def take(self, line):
         kind, _, rest = line.partition(" ")
@@ -102,6 +111,8 @@ class Process:
             task.waits = kind == "W"
         elif kind == "E":
             task.has_ended = True
+        elif kind == "T":
+            task.life = words[1]
         elif kind == "I":
             task.broken_off.append(words[1:])
 
@@ -208,24 +219,43 @@ def cut(name):
 
 
 class Trace(finishing.Trace):
-    """The trace of a task. `lost` counts what isn't in it, since there are too many classes."""
+    """The trace of a task. `lost` counts what isn't in it, since there are too many classes, and `beyond_held` how often what its thread is itself
+    couldn't be among what is held."""
 
     def __init__(self, task, names):
         super().__init__()
-        self.task, self.names, self.lost = task, names, 0
+        self.task, self.names, self.lost, self.beyond_held = task, names, 0, 0
+        self.is_joined = task.process.joins.is_kept(task.life)
+        self.take_life()
         for code, place in task.records:
-            if code & 7 == RELEASE:
-                self.give_back(code >> 3)
-            else:
+            if not task.process.joins.is_left_out(code >> 3):
                 self.take_record(code, place)
+        if task.has_ended:
+            self.give_back(LIFE)
+
+    def take_life(self):
+        """If nothing else is held, the thread has what it is itself, from its start on."""
+        if not self.is_joined or self.held:
+            return
+        key = self.task.process.key(self.task.life)
+        is_written = self.names.use(key[0])
+        self.take(LIFE, key[0].name, self.names.of_lock(key) if is_written else None, "w", [key[0].place])
 
     def take_record(self, code, place):
+        if code & 7 == RELEASE:
+            self.give_back(code >> 3)
+            self.take_life()
+            return
+        if self.is_joined and len(self.held) == MOST_HELD:
+            self.give_back(LIFE)
+            self.beyond_held += 1
         process = self.task.process
         key = process.key(code >> 3)
         is_written = self.names.use(key[0])
         self.lost += not is_written
         places = [text for text in process.places.get(place, "").split("\t") if text]
-        self.take(code >> 3, key[0].name, self.names.of_lock(key) if is_written else None, WORDS[code & 7], places)
+        weak = "timed" if code & 7 in TIMED else ""
+        self.take(code >> 3, key[0].name, self.names.of_lock(key) if is_written else None, WORDS[code & 7], places, weak)
 
 
 def began(path):
@@ -249,7 +279,7 @@ def read_all(raw):
 def note_end(tally, trace, name):
     """Who waits for a lock at the end, and who ended with one."""
     task = trace.task
-    tally.note_end(name, trace.held_classes(), task.waits, task.has_ended)
+    tally.note_end(name, [of for key, of, _ in trace.held if key != LIFE], task.process.joins.is_waiting(task), task.has_ended)
     for codes in task.broken_off:
         names = [task.process.key(code >> 3)[0].name for code in codes]
         tally.note("waiting", "%s waited for %s, holding %s, until that was interrupted" % (name, names[-1], ", ".join(names[:-1])))
@@ -274,10 +304,11 @@ def chosen(tasks, tally):
 def write_all(folder, names, tasks, tally):
     """Writes the traces of tasks, and the classes."""
     os.makedirs(os.path.join(folder, finishing.OBJECTS), exist_ok=True)
-    named = []
+    named, written = [], []
     for task in tasks:
         trace = Trace(task, names)
         tally.add("beyond-classes", trace.lost)
+        tally.add("beyond-held", trace.beyond_held)
         if not trace.events():
             continue
         tally.add("threads")
@@ -286,8 +317,10 @@ def write_all(folder, names, tasks, tally):
         note_end(tally, trace, name)
         trace.write(folder, name)
         named.append((name, task.process.pid, task.name))
+        written.append((name, trace))
     finishing.write_tasks(folder, named)
-    finishing.write_classes(folder, [(each.name, each.place, each.kind if each.kind in NOT_MADE else "made in") for each in names.used])
+    finishing.write_weak(folder, written)
+    finishing.write_classes(folder, [(each.name, each.place, each.kind if each.kind in KEPT_KINDS else "made in") for each in names.used])
 
 
 def write_traces(raw, folder, recorder, is_chosen):
@@ -312,6 +345,6 @@ def why_nothing(recorder, tally, processes, used):
     """Why no lock of the program's own was seen, if none was."""
     if not tally.numbers.get("operations"):
         return [summaries.Count("unseen %s-%s" % (recorder, "nothing" if processes else "off"), None)]
-    if used and all(each.kind == LIBRARY for each in used):
+    if used and all(each.kind in (LIBRARY, THREAD) for each in used):
         return [summaries.Count("library-only", len(used), losses.words_of("library-only", recorder))]
     return []

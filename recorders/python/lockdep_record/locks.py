@@ -10,7 +10,7 @@ import threading
 from importlib import _bootstrap
 
 from . import recording, starts
-from .recording import TRY, WRITE, Lock as Record, break_off, failed_try, gave, getframe, grant, made_at, not_granted, took, wish
+from .recording import TIMED, TRY, WRITE, Lock as Record, break_off, failed_try, gave, getframe, grant, made_at, not_granted, took, wish
 
 # How long a thread waits for a lock before that is written, in seconds. In a deadlock it waits longer.
 PATIENCE = 0.05
@@ -18,6 +18,8 @@ PATIENCE = 0.05
 allocate, RealRLock, RealLock = _thread.allocate_lock, _thread.RLock, _thread.LockType
 of_imports = vars(_bootstrap)
 of_condition, of_rlock = threading.Condition.__init__.__code__, threading.RLock.__code__
+of_wait_for = None  # the code of `asyncio.wait_for`, once that is needed
+AWAITS = 0x3a0  # the flags of code that is awaited, or waits for others: coroutines and generators of all kinds
 
 
 def keep(record, mode, release):
@@ -38,7 +40,7 @@ def take(record, inner, blocking, timeout):
         failed_try(record)
         return False
     if inner.acquire(False):
-        return keep(record, WRITE, inner.release)
+        return keep(record, WRITE if timeout == -1 else TIMED, inner.release)
     return wait_for(record, inner.acquire, inner.release, timeout)
 
 
@@ -47,10 +49,10 @@ def wait_for(record, acquire, release, timeout):
     if timeout < 0:
         return wait_without_end(record, acquire, release)
     if acquire(True, min(PATIENCE, timeout)):
-        return keep(record, WRITE, release)
+        return keep(record, TIMED, release)
     if timeout <= PATIENCE:
         return False
-    wish(record)
+    wish(record, mode=TIMED)
     is_taken = False
     try:
         is_taken = acquire(True, timeout - PATIENCE)
@@ -59,7 +61,7 @@ def wait_for(record, acquire, release, timeout):
             not_granted(record)
     if not is_taken or grant(record):
         return is_taken
-    return keep(record, WRITE, release)
+    return keep(record, TIMED, release)
 
 
 def wait_without_end(record, acquire, release):
@@ -290,9 +292,10 @@ def take_or_wait(record, is_held, acquire, release, blocking, timeout):
             return keep(record, TRY, release)
         failed_try(record)
         return False
+    mode = WRITE if timeout == -1 else TIMED
     if not is_held:
-        return acquire(blocking, timeout) and keep(record, WRITE, release)
-    wish(record, False)
+        return acquire(blocking, timeout) and keep(record, mode, release)
+    wish(record, False, mode)
     try:
         is_taken = acquire(blocking, timeout)
     except BaseException:
@@ -301,7 +304,7 @@ def take_or_wait(record, is_held, acquire, release, blocking, timeout):
     if not is_taken:
         not_granted(record)
         return is_taken
-    return grant(record) or keep(record, WRITE, release)
+    return grant(record) or keep(record, mode, release)
 
 
 def replace_python_rlocks():
@@ -403,7 +406,7 @@ def replace_semaphores():
                 return False
             return keep(record, TRY, self.release)
         if acquire_really(False):
-            return keep(record, WRITE, self.release)
+            return keep(record, WRITE if timeout is None else TIMED, self.release)
         return wait_for(record, acquire_really, self.release, -1 if timeout is None else timeout)
 
     def noting(real_release):
@@ -445,11 +448,12 @@ def replace_asyncio(module):
         record = self._lockdep_record
         if record is None:  # it is a copy: its class is where it is first taken
             record = self._lockdep_record = Record(made_at(getframe(0).f_back, "asyncio.Lock"))
+        mode = TIMED if has_limit(getframe(0)) else WRITE
         if not self._locked and not self._waiters:
             self._locked = True
-            took(record, WRITE)
+            took(record, mode)
             return True
-        return await wait_in_loop(record, self, real_acquire)
+        return await wait_in_loop(record, self, real_acquire, mode)
 
     def release(self):
         record = self._lockdep_record
@@ -474,11 +478,12 @@ def replace_asyncio_semaphores(real):
         record = vars(self).get("_lockdep_record")
         if record is None:
             return await real_acquire(self)
+        mode = TIMED if has_limit(getframe(0)) else WRITE
         if not self.locked() and not getattr(self, "_wakeup_scheduled", False):  # (as in Python 3.10)
             self._value -= 1
-            took(record, WRITE)
+            took(record, mode)
             return True
-        return await wait_in_loop(record, self, real_acquire)
+        return await wait_in_loop(record, self, real_acquire, mode)
 
     def release(self):
         record = vars(self).get("_lockdep_record")
@@ -489,28 +494,33 @@ def replace_asyncio_semaphores(real):
     put_in_place(real, __init__, acquire, release)
 
 
-async def wait_in_loop(record, real, real_acquire):
+async def wait_in_loop(record, real, real_acquire, mode):
     """Waits for a lock of asyncio that isn't free, in its `acquire`."""
-    wish(record, False)
+    wish(record, False, mode)
     try:
         is_taken = await real_acquire(real)
     except GeneratorExit:  # it is not the task itself that runs this: its end says what it waited for
         raise
     except BaseException:
-        (not_granted if has_limit(getframe(0).f_back) else break_off)(record)
+        (break_off if mode == WRITE else not_granted)(record)
         raise
     if not grant(record):
-        took(record, WRITE)
+        took(record, mode)
     return is_taken
 
 
 def has_limit(frame):
     """Whether it is `asyncio.wait_for` that awaits the coroutine of this frame, and for a time: that is an acquisition with a timeout."""
+    global of_wait_for
+    of_wait_for = of_wait_for or sys.modules["asyncio.tasks"].wait_for.__code__
     above = frame.f_back
-    if above is not None and above.f_code is sys.modules["asyncio.tasks"].wait_for.__code__:
+    if above is not None and above.f_code is of_wait_for:
         return above.f_locals.get("timeout") is not None
-    running = recording.find_task(recording.find_loop())
-    return getattr(running.get_coro(), "cr_frame", None) is frame and recording.caller_of(running) is not None
+    if above is not None and above.f_code.co_flags & AWAITS:  # it isn't the task itself that runs this
+        return False
+    loop = recording.find_loop()
+    running = recording.find_task(loop) if loop is not None else None
+    return running is not None and getattr(running.get_coro(), "cr_frame", None) is frame and recording.caller_of(running) is not None
 
 
 def leave_alone(module, name):
@@ -654,7 +664,7 @@ def replace_hooks():
 
 def begin(folder, is_fork_server):
     """Records this process from here on. Of the server that forks processes for `multiprocessing` only these are recorded."""
-    from . import green
+    from . import green, threads
     recording.is_typed = getattr(sys, "argv", [])[:1] == ["-c"]
     recording.begin_process(folder, is_fork_server)
     replace_hooks()
@@ -662,6 +672,7 @@ def begin(folder, is_fork_server):
         own.__module__ = "_thread"
         drop_unknown(own, real)
     replace_locks()
+    threads.replace_threads()
     replace_exit()
     sys.meta_path.insert(0, Finder)
     Finder.awaited.update(green.AWAITED)

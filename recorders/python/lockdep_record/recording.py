@@ -13,6 +13,7 @@ is opened for each write, so that the program has no open file that it doesn't k
     B task count                 M task record code     only this many records stay; a record has another lock
     E task                                              the task has ended
     N task name                                         what its thread is called
+    T task key                                          the lock that its thread is, to those that join it (`threads`)
     I task code code...                                 it waited for the last lock, with the others held, just before the process ended,
                                                         till an error broke that off
     S name count                                        what was counted so far
@@ -29,8 +30,10 @@ from collections import deque
 from itertools import count as counting
 from time import monotonic, time_ns
 
-WRITE, TRY, RELEASE = 0, 1, 2
+WRITE, TRY, RELEASE, TIMED = 0, 1, 2, 6  # modes; `finish` has all of them
+STARTED = "started"  # the kind of the class of a thread
 MOST_HELD, MOST_EVENTS, MOST_APART, MOST_ALIKE = 48, 1000000 - 2 * 48, 32, 32
+MOST_EARLY = 8  # so many locks of a class have names of their own before they are nested: their thread may be joined, or may join one
 
 # How long before the end of the process, in seconds, a wait can have been broken off that is still named; and how many are.
 LATELY, MOST_BROKEN_OFF = 2, 16
@@ -134,10 +137,10 @@ def visible(text):
 class Made:
     """The place where locks were made: a class."""
 
-    __slots__ = ("number", "name", "chain", "kind", "rest", "ordinals")
+    __slots__ = ("number", "name", "chain", "kind", "early", "rest", "ordinals")
 
     def __init__(self, number, name, chain, kind):
-        self.number, self.name, self.chain, self.kind = number, name, chain, kind
+        self.number, self.name, self.chain, self.kind, self.early = number, name, chain, kind, 0
         self.rest, self.ordinals = Key(self, 0), counting(1)
 
 
@@ -169,12 +172,18 @@ def call_number(code, instruction):
     return max(number, 1)
 
 
+def name_of_module(names, code):
+    """The name of the module that has a code and these names."""
+    module = names.get("__name__") or "?"
+    if module in ("__main__", "__mp_main__"):  # as the main module is called in a process that `multiprocessing` spawned
+        module = os.path.splitext(os.path.basename(code.co_filename))[0]
+    return module
+
+
 def name_at(frame):
     """A place as part of a name: `module.function:line`, and which call on the line if it isn't the first."""
     code, instruction = frame.f_code, frame.f_lasti
-    module = frame.f_globals.get("__name__") or "?"
-    if module in ("__main__", "__mp_main__"):  # as the main module is called in a process that `multiprocessing` spawned
-        module = os.path.splitext(os.path.basename(code.co_filename))[0]
+    module = name_of_module(frame.f_globals, code)
     function = function_of(frame)
     function = "" if function == "<module>" else "." + function
     number = call_number(code, instruction)
@@ -195,10 +204,18 @@ def made_at(frame, kind):
     made = classes.get(key)
     if made is None:
         name = name_of(frame, chain)
+        made = class_in(key, lambda number: Made(number, name, chain, "library" if is_library_own(chain) else kind))
+    return made
+
+
+def class_in(key, make):
+    """The class that the table has under a key, which is made with its number if there is none."""
+    made = classes.get(key)
+    if made is None:
         with class_lock:
             made = classes.get(key)
             if made is None:
-                made = classes[key] = Made(len(classes) + 1, name, chain, "library" if is_library_own(chain) else kind)
+                made = classes[key] = make(len(classes) + 1)
     return made
 
 
@@ -228,6 +245,9 @@ class Lock:
 
     def __init__(self, made):
         self.made, self.key, self.is_apart, self.entry, self.spare = made, made.rest.number, False, None, None
+        if made.early < MOST_EARLY:
+            made.early += 1
+            tell_apart(self)
 
     def __reduce__(self):
         """In a copy of what has it, as of a lock of asyncio that is pickled, this is None."""
@@ -278,10 +298,10 @@ class Task:
     when it last did something new."""
 
     __slots__ = ("number", "held", "way", "records", "base", "fresh", "dropped", "wish", "is_busy", "is_over", "operations",
-                 "repeats", "failed", "aside", "lent")
+                 "repeats", "failed", "aside", "lent", "life")
 
     def __init__(self):
-        self.aside, self.lent = None, 0
+        self.aside, self.lent, self.life = None, 0, None
         self.number, self.held, self.way, self.records = 0, [], Way(process.common), []
         self.base = self.fresh = self.operations = self.repeats = 0
         self.dropped, self.wish, self.is_busy, self.is_over, self.failed = [], None, False, False, None
@@ -379,6 +399,7 @@ def begin_thread():
     """A thread takes its first lock."""
     here.task = Task()
     here.guard = Guard(here.task)
+    begin_task(here.task)
     return here.task
 
 
@@ -442,6 +463,14 @@ def took_oddly(lock, mode, task):
 def begin_again(task):
     """The running thread or task gets another trace."""
     begin_running(running_one())
+
+
+def begin_task(task):
+    """`threads` puts its own in the place of this."""
+
+
+def tell_life(life):
+    """So with this."""
 
 
 def running_one():
@@ -700,7 +729,7 @@ def failed_try(lock):
 
 # ---- What is waited for.
 
-def wish(lock, is_long=True):
+def wish(lock, is_long=True, mode=WRITE):
     """The running task waits for a lock: that is noted before it waits, as if it had taken it. It is written if it waits for long, or
     if nothing was taken in this way before."""
     task = current()
@@ -711,7 +740,7 @@ def wish(lock, is_long=True):
         settle(task)
         if task.held:
             tell_all_apart(task.held, task, lock)
-        code = 8 * lock.key + WRITE
+        code = 8 * lock.key + mode
         entry = Held(lock)
         entry.task, entry.code, entry.before = task, code, task.way
         entry.record = entry.start = task.base + len(task.records)
@@ -903,6 +932,8 @@ def write(task):
         task.number = process.task_count
         name = thread_name(task)
         put("N %d\t%s\n" % (task.number, name) if name else "")
+    if task.life is not None:
+        tell_life(task.life)
     lines = []
     for code, place, at in task.records:
         declare(code)

@@ -1,5 +1,5 @@
 /* What is said of a lock's order and of its next acquisition ends with the lock. The first word says what was said of it, and the second how it
-   ends: another lock comes to lie there, which has the same name and nothing else. */
+   ends: another lock comes to lie there, which has the same name and nothing else. With a third word another thread ends it. */
 #include <lockdep.h>
 #include <pthread.h>
 #include <stdlib.h>
@@ -31,6 +31,26 @@ static pthread_mutex_t *end(pthread_mutex_t *lock, const char *how) {
     return lock;
 }
 
+struct ending {
+    pthread_mutex_t *lock;
+    const char *how;
+};
+
+static void *end_elsewhere(void *of) {
+    struct ending *ending = of;
+    ending->lock = end(ending->lock, ending->how);
+    make(ending->lock);
+    return NULL;
+}
+
+static pthread_mutex_t *ended_elsewhere(pthread_mutex_t *lock, const char *how) {
+    struct ending ending = {lock, how};
+    pthread_t thread;
+    pthread_create(&thread, NULL, end_elsewhere, &ending);
+    pthread_join(thread, NULL);
+    return ending.lock;
+}
+
 int main(int count, char **words) {
     const char *what = count > 2 ? words[1] : "", *how = count > 2 ? words[2] : "";
     pthread_mutex_t *lock = strcmp(how, "freed") == 0 ? malloc(sizeof *lock) : &pool[0], *before = lock;
@@ -41,8 +61,9 @@ int main(int count, char **words) {
         LOCKDEP_NESTED(lock, 1);
     else
         LOCKDEP_ORDERED(lock, 1);
-    lock = end(lock, how);
-    make(lock);
+    lock = count > 3 ? ended_elsewhere(lock, how) : end(lock, how);
+    if (count <= 3)
+        make(lock);
     take_two(&pool[1], lock);
     return lock != before; /* else this is no test */
 }

@@ -24,6 +24,6 @@ final class Held {
     }
 
     boolean isReader() {
-        return (code & 7) >= Modes.READ;
+        return Modes.isOfReader(code);
     }
 }

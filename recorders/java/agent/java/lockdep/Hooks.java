@@ -125,6 +125,33 @@ public final class Hooks {
         task.leave();
     }
 
+    // ---- Threads.
+
+    public static void start(Object thread, int site) {
+        Task task = thread == null ? null : Task.begin();
+        if (task != null) {
+            try {
+                Known.started((Thread) thread, Site.of(site).ofThreads(), task.probe);
+                task.leave();
+            } catch (Throwable error) {
+                task.abandon();
+            }
+        }
+        ((Thread) thread).start();
+    }
+
+    public static void join(Object thread, int site) throws InterruptedException {
+        Join.join((Thread) thread, 0, 0, site);
+    }
+
+    public static void join(Object thread, long milliseconds, int site) throws InterruptedException {
+        Join.join((Thread) thread, milliseconds, 0, site);
+    }
+
+    public static void join(Object thread, long milliseconds, int nanoseconds, int site) throws InterruptedException {
+        Join.join((Thread) thread, milliseconds, nanoseconds, site);
+    }
+
     // ---- Programs that are started.
 
     /** A program is started by a builder, or by its words. Errors never reach the program. */
@@ -146,7 +173,7 @@ public final class Hooks {
     // ---- Locks.
 
     public static void lock(Lock lock, int site) {
-        Wish wish = Wish.of(lock, site);
+        Wish wish = Wish.of(lock, Modes.Manner.WAITS, site);
         boolean isTaken = false;
         try {
             lock.lock();
@@ -157,7 +184,7 @@ public final class Hooks {
     }
 
     public static void lockInterruptibly(Lock lock, int site) throws InterruptedException {
-        Wish wish = Wish.of(lock, site);
+        Wish wish = Wish.of(lock, Modes.Manner.WAITS, site);
         boolean isTaken = false;
         try {
             lock.lockInterruptibly();
@@ -182,7 +209,7 @@ public final class Hooks {
             tried(lock, isTaken, site);
             return isTaken;
         }
-        Wish wish = Wish.of(lock, site);
+        Wish wish = Wish.of(lock, Modes.Manner.WAITS_FOR_A_TIME, site);
         boolean isTaken = false;
         try {
             isTaken = lock.tryLock(time, unit);
@@ -217,7 +244,7 @@ public final class Hooks {
         Task task = Task.begin();
         if (task == null) return;
         try {
-            if (isTaken) task.took(task.lock(lock), true, site);
+            if (isTaken) task.took(task.lock(lock), Modes.Manner.TRIES, site);
             else task.failed(task.lock(lock));
         } catch (Throwable error) {
             task.abandon();
@@ -304,7 +331,7 @@ public final class Hooks {
     // ---- Stamped locks: each acquisition is separate.
 
     public static long writeLock(StampedLock lock, int site) {
-        Wish wish = Wish.of(Part.of(lock, false), site);
+        Wish wish = Wish.of(Part.of(lock, false), Modes.Manner.WAITS, site);
         long stamp = 0;
         try {
             stamp = lock.writeLock();
@@ -315,7 +342,7 @@ public final class Hooks {
     }
 
     public static long readLock(StampedLock lock, int site) {
-        Wish wish = Wish.of(Part.of(lock, true), site);
+        Wish wish = Wish.of(Part.of(lock, true), Modes.Manner.WAITS, site);
         long stamp = 0;
         try {
             stamp = lock.readLock();
@@ -326,7 +353,7 @@ public final class Hooks {
     }
 
     public static long writeLockInterruptibly(StampedLock lock, int site) throws InterruptedException {
-        Wish wish = Wish.of(Part.of(lock, false), site);
+        Wish wish = Wish.of(Part.of(lock, false), Modes.Manner.WAITS, site);
         long stamp = 0;
         try {
             stamp = lock.writeLockInterruptibly();
@@ -340,7 +367,7 @@ public final class Hooks {
     }
 
     public static long readLockInterruptibly(StampedLock lock, int site) throws InterruptedException {
-        Wish wish = Wish.of(Part.of(lock, true), site);
+        Wish wish = Wish.of(Part.of(lock, true), Modes.Manner.WAITS, site);
         long stamp = 0;
         try {
             stamp = lock.readLockInterruptibly();
@@ -366,7 +393,7 @@ public final class Hooks {
     }
 
     public static long tryWriteLock(StampedLock lock, long time, TimeUnit unit, int site) throws InterruptedException {
-        Wish wish = Wish.of(Part.of(lock, false), site);
+        Wish wish = Wish.of(Part.of(lock, false), Modes.Manner.WAITS_FOR_A_TIME, site);
         long stamp = 0;
         try {
             stamp = lock.tryWriteLock(time, unit);
@@ -377,7 +404,7 @@ public final class Hooks {
     }
 
     public static long tryReadLock(StampedLock lock, long time, TimeUnit unit, int site) throws InterruptedException {
-        Wish wish = Wish.of(Part.of(lock, true), site);
+        Wish wish = Wish.of(Part.of(lock, true), Modes.Manner.WAITS_FOR_A_TIME, site);
         long stamp = 0;
         try {
             stamp = lock.tryReadLock(time, unit);

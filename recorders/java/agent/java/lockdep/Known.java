@@ -65,6 +65,10 @@ final class Known extends WeakReference<Object> {
     private boolean isEarly;
     /** Who holds a lock that another thread may release. */
     private Task[] holders;
+    /** Of a thread as a lock: its task, once it has one; whether somebody waits for its end; and whether the file says so. */
+    volatile Task task;
+    volatile boolean isWaitedFor;
+    boolean isTold;
 
     private Known(Object object, boolean isMonitor, boolean isReader, Known target, Made made) {
         super(object, gone);
@@ -217,7 +221,34 @@ final class Known extends WeakReference<Object> {
         return lock;
     }
 
+    // ---- Threads, which are locks to who joins them.
+
+    static void started(Thread thread, Made made, Probe probe) {
+        if (probe.find(thread, false) == null) add(new Known(thread, false, false, null, made));
+    }
+
+    /** What is known of a thread that was seen to start, or null. */
+    static Known ofThread(Thread thread, Probe probe) {
+        Known known = probe.find(thread, false);
+        return known != null && known.made != null && known.made.kind.equals(Made.STARTED) ? known : null;
+    }
+
+    /** Somebody waits for the end of this thread. */
+    void waitFor() {
+        if (!isApart) tellApart();
+        isWaitedFor = true;
+        Recording.tellLife(this);
+    }
+
     // ---- Single locks.
+
+    /**
+     * A lock is taken alone by a thread that may be joined: the first ones of a class get their own names even so, since
+     * they may be held by who joins it.
+     */
+    void tellApartEarly() {
+        if (!isApart && !isEarly && made != null && made.hasEarly()) tellApart();
+    }
 
     /** A lock that is nested with others gets its own name, if not too many of its class have one. */
     synchronized void tellApart() {

@@ -6,6 +6,10 @@ import java.util.concurrent.ConcurrentHashMap;
 final class Made {
     private static final ConcurrentHashMap<String, Made> all = new ConcurrentHashMap<>();
     private static int count;
+    /** The kind of the class of a thread. */
+    static final String STARTED = "started";
+    /** So many locks of a class have names of their own before they are nested. */
+    private static final int MOST_EARLY = 8;
 
     final int number;
     final String name;
@@ -56,6 +60,10 @@ final class Made {
         if (lambda >= 0) return name.substring(0, lambda + "$$Lambda".length());
         int hidden = name.indexOf('/');
         return hidden < 0 ? name : name.substring(0, hidden);
+    }
+
+    synchronized boolean hasEarly() {
+        return ordinals < MOST_EARLY;
     }
 
     /** The next number of a lock that is told apart. */

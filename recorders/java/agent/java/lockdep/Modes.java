@@ -7,11 +7,23 @@ final class Modes {
     static final int RELEASE = 2;
     static final int READ = 3;
     static final int TRY_READ = 4;
+    /** By a wait that gives up at a time. */
+    static final int TIMED_READ = 5;
+    static final int TIMED_WRITE = 6;
+
+    /** In which manner a lock is taken, by a reader or a writer. */
+    enum Manner { WAITS, TRIES, WAITS_FOR_A_TIME }
 
     private Modes() {
     }
 
-    static int of(boolean isReader, boolean isTry) {
-        return (isReader ? READ : WRITE) + (isTry ? 1 : 0);
+    static int of(boolean isReader, Manner manner) {
+        if (manner == Manner.WAITS) return isReader ? READ : WRITE;
+        if (manner == Manner.TRIES) return isReader ? TRY_READ : TRY_WRITE;
+        return isReader ? TIMED_READ : TIMED_WRITE;
+    }
+
+    static boolean isOfReader(int code) {
+        return (code & 7) >= READ && (code & 7) <= TIMED_READ;
     }
 }

@@ -117,6 +117,15 @@ public final class Recording {
         }
     }
 
+    /** The lock that a thread is to who joins it, once its task is in the file. */
+    static void tellLife(Known life) {
+        synchronized (it) {
+            StringBuilder text = new StringBuilder();
+            it.addLife(life, text);
+            it.put(text.toString());
+        }
+    }
+
     static void interrupted() {
         synchronized (it) {
             it.counts[6]++;
@@ -182,6 +191,7 @@ public final class Recording {
             task.number = ++taskCount;
             text.append("N ").append(task.number).append('\t').append(task.threadName()).append('\n');
         }
+        if (task.life != null) addLife(task.life, text);
         StringBuilder lines = new StringBuilder();
         for (int at = 0; at < task.size; at++) {
             int code = task.records[2 * at];
@@ -196,6 +206,14 @@ public final class Recording {
         count(task);
         addCounts(lines);
         put(text.append(lines).toString());
+    }
+
+    private void addLife(Known life, StringBuilder text) {
+        Task task = life.task;
+        if (life.isTold || !life.isWaitedFor || task == null || task.number == 0) return;
+        life.isTold = true;
+        declare(life.key << 3, text);
+        text.append("T ").append(task.number).append(' ').append(life.key).append('\n');
     }
 
     /** The number of a place, which is written if the file doesn't have it. */

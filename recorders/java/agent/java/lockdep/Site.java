@@ -7,6 +7,8 @@ import java.util.Set;
 public final class Site {
     /** How many bytes the name of a class of locks may have, so that there is room for a single lock's number. */
     private static final int MOST_NAME = 53;
+    /** Before what a thread is known by. */
+    private static final String THREAD = "thread:";
     private static final StackWalker walker = StackWalker.getInstance(Set.of(StackWalker.Option.RETAIN_CLASS_REFERENCE,
             StackWalker.Option.SHOW_REFLECT_FRAMES));
 
@@ -91,6 +93,16 @@ public final class Site {
         return known;
     }
 
+    /** The class of the threads that are started here. */
+    Made ofThreads() {
+        Made known = made;
+        if (known == null) {
+            String name = source.className + "." + method + ":" + line;
+            known = made = Made.of(THREAD + fitting(name, MOST_NAME - THREAD.length()), place(), Made.STARTED);
+        }
+        return known;
+    }
+
     /**
      * The class of an object whose constructor runs: where it is called. Null if the JDK calls it, as in reflection.
      */
@@ -133,10 +145,14 @@ public final class Site {
 
     /** A name whose packages are shortened to their first letters, one after the other, until it fits. */
     static String fitting(String name) {
+        return fitting(name, MOST_NAME);
+    }
+
+    private static String fitting(String name, int most) {
         String rest = visible(name);
         StringBuilder begin = new StringBuilder();
         int dot = rest.indexOf('.');
-        while (begin.length() + rest.length() > MOST_NAME && dot > 0 && Character.isLowerCase(rest.charAt(0))) {
+        while (begin.length() + rest.length() > most && dot > 0 && Character.isLowerCase(rest.charAt(0))) {
             begin.append(rest.charAt(0)).append('.');
             rest = rest.substring(dot + 1);
             dot = rest.indexOf('.');

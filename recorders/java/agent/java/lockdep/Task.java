@@ -51,6 +51,8 @@ final class Task {
     private int fresh;
     /** What it waits for: the newest held lock. */
     private Held wish;
+    /** What its thread is to who joins it; null if it wasn't seen to start. */
+    final Known life;
     /** What it took without a record, one entry for each level. */
     private ArrayList<Object> leftOut;
     private Known failed;
@@ -60,6 +62,8 @@ final class Task {
 
     private Task() {
         thread = new WeakReference<>(Thread.currentThread());
+        life = Known.ofThread(Thread.currentThread(), probe);
+        if (life != null) life.task = this;
     }
 
     // ---- The running task.
@@ -193,10 +197,10 @@ final class Task {
     }
 
     /** The task is about to wait for a lock: it is written as if it were taken. Null if there is nothing to write. */
-    Held want(Known lock, int site) {
+    Held want(Known lock, Modes.Manner manner, int site) {
         settle();
         if (again(lock) != null) return null;
-        Held entry = push(lock.target, null, Modes.of(lock.isReader, false), site);
+        Held entry = push(lock.target, null, Modes.of(lock.isReader, manner), site);
         if (entry == null) return null;
         wish = entry;
         if (isNew()) Recording.write(this);
@@ -208,14 +212,14 @@ final class Task {
     }
 
     /** What was wanted was taken. */
-    void grant(Known lock, Held wanted, int site) {
+    void grant(Known lock, Held wanted, Modes.Manner manner, int site) {
         failed = null;
         if (wanted == null) {
             takeAgain(lock);
             return;
         }
         if (wish != wanted) { // one of the program's own calls came in between
-            took(lock, false, site);
+            took(lock, manner, site);
             return;
         }
         wish = null;
@@ -261,14 +265,21 @@ final class Task {
         giveBack(wanted);
     }
 
+    /** A thread whose end was wanted has ended: it is taken and given back, which isn't among the program's operations. */
+    void passed(Held wanted) {
+        long before = operations;
+        breakOff(wanted);
+        operations = before;
+    }
+
     /** A lock was taken, by a try or by a call that other code makes. */
-    void took(Known lock, boolean isTry, int site) {
+    void took(Known lock, Modes.Manner manner, int site) {
         failed = null;
         if (again(lock) != null) {
             takeAgain(lock);
             return;
         }
-        Held entry = take(lock.target, null, Modes.of(lock.isReader, isTry), site);
+        Held entry = take(lock.target, null, Modes.of(lock.isReader, manner), site);
         if (entry != null && !lock.target.isReentrant) lock.target.addHolder(this);
     }
 
@@ -379,6 +390,7 @@ final class Task {
     private Held push(Known lock, Object object, int mode, int site) {
         failed = null;
         if (depth > 0) tellAllApart(lock);
+        else if (life != null) lock.tellApartEarly();
         if (depth == MOST_HELD || base + size >= MOST_EVENTS) return null;
         if (depth == held.length) held = Arrays.copyOf(held, 2 * depth);
         Held entry = held[depth];

@@ -2,17 +2,19 @@ package java.lockdep;
 
 /** A call that waits for a lock and may fail. */
 final class Wish {
-    private static final Wish NONE = new Wish(null, null, null);
+    private static final Wish NONE = new Wish(null, null, null, null);
 
     private final Task task;
     private final Known lock;
+    private final Modes.Manner manner;
     /** What is already written; null if there is nothing to write, or if it is written after the lock was taken. */
     private final Held wanted;
     private boolean isBrokenOff;
 
-    private Wish(Task task, Known lock, Held wanted) {
+    private Wish(Task task, Known lock, Modes.Manner manner, Held wanted) {
         this.task = task;
         this.lock = lock;
+        this.manner = manner;
         this.wanted = wanted;
     }
 
@@ -20,13 +22,13 @@ final class Wish {
      * What is to be waited for. A lock of the JDK is written before the wait. One of the program's own locks may call
      * others, so it is written after it was taken.
      */
-    static Wish of(Object lock, int site) {
+    static Wish of(Object lock, Modes.Manner manner, int site) {
         Task task = lock == null ? null : Task.begin();
         if (task == null) return NONE;
         Wish wish;
         try {
             Known known = task.lock(lock);
-            wish = new Wish(task, known, known.isOfJdk ? task.want(known, site) : null);
+            wish = new Wish(task, known, manner, known.isOfJdk ? task.want(known, manner, site) : null);
         } catch (Throwable error) {
             task.abandon();
             return NONE;
@@ -52,8 +54,8 @@ final class Wish {
         if (isBrokenOff || task == null || Task.begin() == null) return;
         try {
             if (!isTaken) task.withdraw(wanted);
-            else if (lock.isOfJdk) task.grant(lock, wanted, site);
-            else task.took(lock, false, site);
+            else if (lock.isOfJdk) task.grant(lock, wanted, manner, site);
+            else task.took(lock, manner, site);
         } catch (Throwable error) {
             task.abandon();
             return;

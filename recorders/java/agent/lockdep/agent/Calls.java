@@ -31,6 +31,7 @@ final class Calls {
             "tryConvertToReadLock(J)J", "tryConvertToOptimisticRead(J)J");
     private static final Map<String, String> VIEWS = new HashMap<>();
     private static final Set<String> WAITS = Set.of("wait()V", "wait(J)V", "wait(JI)V");
+    private static final Set<String> OF_THREAD = Set.of("start()V", "join()V", "join(J)V", "join(JI)V");
 
     static {
         for (String view : new String[] {"asReadLock()L" + LOCK + ";", "asWriteLock()L" + LOCK + ";",
@@ -47,6 +48,10 @@ final class Calls {
         if (call.getOpcode() != Opcodes.INVOKEVIRTUAL && call.getOpcode() != Opcodes.INVOKEINTERFACE) return null;
         String signature = call.name + call.desc;
         if (WAITS.contains(signature)) return "java/lang/Object";
+        // (as an object of any class, so that the JVM needn't load that class to see that it is a thread)
+        if (OF_THREAD.contains(signature)) {
+            return locking.hierarchy.isThread(call.owner, locking.loader) ? "java/lang/Object" : null;
+        }
         if (OF_LOCK.contains(signature)) return isLock(call.owner, locking) ? LOCK : null;
         if (signature.equals("newCondition()L" + CONDITION + ";")) return isLock(call.owner, locking) ? LOCK : null;
         if (OF_CONDITION.contains(signature)) return call.owner.equals(CONDITION) ? CONDITION : null;

@@ -6,17 +6,22 @@ import java.util.Set;
 
 import org.objectweb.asm.ClassReader;
 
-/** Whether a class of the program is a lock: its file names its superclasses, and no class is loaded for that. */
+/** Whether a class of the program is a lock, or a thread: its file names its superclasses, and no class is loaded for that. */
 final class Hierarchy {
     static final String LOCKS = "java/util/concurrent/locks/";
     static final Set<String> LOCK = Set.of(LOCKS + "Lock", LOCKS + "ReentrantLock",
             LOCKS + "ReentrantReadWriteLock$ReadLock",
             LOCKS + "ReentrantReadWriteLock$WriteLock");
+    private static final Set<String> THREAD = Set.of("java/lang/Thread");
     private static final int MOST_ABOVE = 16;
 
     /** Whether a class is a Lock, or one below it. */
     boolean isLock(String name, ClassLoader loader) {
         return isBelow(name, loader, LOCK, MOST_ABOVE);
+    }
+
+    boolean isThread(String name, ClassLoader loader) {
+        return isBelow(name, loader, THREAD, MOST_ABOVE);
     }
 
     boolean isBelow(String name, ClassLoader loader, Set<String> wanted, int most) {

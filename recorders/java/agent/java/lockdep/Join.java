@@ -1,0 +1,107 @@
+package java.lockdep;
+
+/**
+ * A wait for the end of a thread. To who joins it, a thread is a lock that it has from its start to its end, and that is
+ * taken and given back at once. What of this can matter is found out when the traces are made
+ * (recorders/python/lockdep_record/joins.py).
+ */
+final class Join {
+    /** How long is waited before that is written, in milliseconds. */
+    private static final long PATIENCE = 50;
+
+    private final Task task;
+    private final Known life;
+    private final Modes.Manner manner;
+    private final int site;
+    private Held wanted;
+
+    private Join(Task task, Known life, Modes.Manner manner, int site) {
+        this.task = task;
+        this.life = life;
+        this.manner = manner;
+        this.site = site;
+    }
+
+    /**
+     * Null if it can't matter that the running task waits for a thread: it holds nothing, and is no thread that may be
+     * joined itself; or nobody saw the other one start.
+     */
+    private static Join of(Thread thread, boolean isTimed, int site) {
+        Task task = thread == null ? null : Task.begin();
+        if (task == null) return null;
+        Join join = null;
+        try {
+            Known life = task.depth() > 0 || task.life != null ? Known.ofThread(thread, task.probe) : null;
+            if (life != null) {
+                join = new Join(task, life, isTimed ? Modes.Manner.WAITS_FOR_A_TIME : Modes.Manner.WAITS, site);
+            }
+        } catch (Throwable error) {
+            task.abandon();
+            return null;
+        }
+        task.leave();
+        return join;
+    }
+
+    /** Waits for a thread; 0 milliseconds and nanoseconds are no limit. */
+    static void join(Thread thread, long milliseconds, int nanoseconds, int site) throws InterruptedException {
+        boolean isTimed = milliseconds != 0 || nanoseconds != 0;
+        Join join = of(thread, isTimed, site);
+        boolean isShort = isTimed && milliseconds <= PATIENCE;
+        if (join == null || isShort) thread.join(milliseconds, nanoseconds);
+        else thread.join(PATIENCE);
+        if (join == null) return;
+        if (!thread.isAlive()) join.pass();
+        else if (!isShort) join.waitLong(thread, isTimed ? milliseconds - PATIENCE : 0, nanoseconds);
+    }
+
+    private void waitLong(Thread thread, long milliseconds, int nanoseconds) throws InterruptedException {
+        want();
+        boolean isBrokenOff = false;
+        try {
+            thread.join(milliseconds, nanoseconds);
+        } catch (InterruptedException brokenOff) {
+            isBrokenOff = manner == Modes.Manner.WAITS; // it would have waited for ever, so the order stays
+            throw brokenOff;
+        } finally {
+            end(isBrokenOff || !thread.isAlive() && life.task != null);
+        }
+    }
+
+    private void want() {
+        if (Task.begin() == null) return;
+        try {
+            life.waitFor();
+            wanted = task.want(life, manner, site);
+        } catch (Throwable error) {
+            task.abandon();
+            return;
+        }
+        task.leave();
+    }
+
+    private void end(boolean isPassed) {
+        if (Task.begin() == null) return;
+        try {
+            if (isPassed) task.passed(wanted);
+            else task.withdraw(wanted);
+        } catch (Throwable error) {
+            task.abandon();
+            return;
+        }
+        task.leave();
+    }
+
+    /** The thread has ended, and may have taken locks. */
+    private void pass() {
+        if (life.task == null || Task.begin() == null) return;
+        try {
+            life.waitFor();
+            task.passed(task.want(life, manner, site));
+        } catch (Throwable error) {
+            task.abandon();
+            return;
+        }
+        task.leave();
+    }
+}

@@ -1,0 +1,102 @@
+import java.util.concurrent.locks.ReentrantLock;
+
+/**
+ * Threads that are joined, in ways that differ by what is held meanwhile: the lock that the thread takes (held, timed,
+ * hangs), one that it doesn't take (other), none (none); by a thread that joins the one that takes it (passed); and
+ * threads that take none (idle), of which there are many before one that does (many).
+ */
+public class Joins {
+    private static final ReentrantLock state = new ReentrantLock();
+    private static final Object log = new Object();
+    private static String way;
+
+    /** A thread with a class of its own. */
+    static class Worker extends Thread {
+        @Override
+        public void run() {
+            work();
+        }
+    }
+
+    static void work() {
+        if (way.equals("hangs")) pause();
+        state.lock();
+        state.unlock();
+    }
+
+    static void pause() {
+        try {
+            Thread.sleep(way.equals("idle") ? 150 : 50);
+        } catch (InterruptedException error) {
+            throw new Error(error);
+        }
+    }
+
+    static Thread started(Runnable what) {
+        Thread thread = new Thread(what);
+        thread.setDaemon(true);
+        thread.start();
+        if (!way.equals("hangs") && !way.equals("idle")) pause();
+        return thread;
+    }
+
+    static void joinWithState(Thread thread) throws InterruptedException {
+        state.lock();
+        thread.join();
+        state.unlock();
+    }
+
+    static void joinQuietly(Thread thread) {
+        try {
+            thread.join();
+        } catch (InterruptedException error) {
+            throw new Error(error);
+        }
+    }
+
+    static void joinMany() throws InterruptedException {
+        Thread last = started(Joins::work);
+        for (int count = 0; count < 39; count++) {
+            Thread thread = new Thread(() -> { });
+            thread.start();
+            joinWithState(thread);
+        }
+        joinWithState(last);
+    }
+
+    static void joinForATime() throws InterruptedException {
+        Thread thread = started(Joins::work);
+        state.lock();
+        thread.join(5000);
+        state.unlock();
+    }
+
+    static void joinOther(Thread thread) throws InterruptedException {
+        synchronized (log) {
+            thread.join();
+        }
+    }
+
+    public static void main(String[] words) throws InterruptedException {
+        way = words[0];
+        if (way.equals("held") || way.equals("hangs")) joinWithState(started(Joins::work));
+        if (way.equals("timed")) joinForATime();
+        if (way.equals("other")) joinOther(started(Joins::work));
+        if (way.equals("none")) started(Joins::work).join();
+        if (way.equals("idle")) joinWithState(started(Joins::pause));
+        if (way.equals("many")) joinMany();
+        if (way.equals("passed")) {
+            Thread first = started(Joins::work);
+            Thread second = new Thread(() -> joinQuietly(first));
+            second.start();
+            pause();
+            joinWithState(second);
+        }
+        if (way.equals("own")) {
+            Worker worker = new Worker();
+            worker.start();
+            pause();
+            joinWithState(worker);
+        }
+    }
+}
