@@ -3,6 +3,7 @@
 _lockdep_options() {
     case $1 in
         run) echo -o --recorder --frames --known --write-known --strict-known --html --sarif --junit --json --accept-left-out --quiet --error-exitcode --confirmed-only --help ;;
+        provoke) echo -o --from --runs --pause --finding --keep --stdin --help ;;
         check) echo --workers --many --help ;;
         explain) echo --workers --many --json --locks --confirmed-only --help ;;
         graph) echo --workers --many --findings --help ;;
@@ -17,7 +18,7 @@ _lockdep_options() {
 }
 
 _lockdep() {
-    local word=$2 before=$3 command=${COMP_WORDS[1]} commands='run check explain graph condense chains record confirm where diff view help'
+    local word=$2 before=$3 command=${COMP_WORDS[1]} commands='run provoke check explain graph condense chains record confirm where diff view help'
     local place
     # What `-o` names: a folder, or a file for `view`.
     local kind=-d
@@ -32,7 +33,7 @@ _lockdep() {
             mapfile -t COMPREPLY < <(compgen -W "$commands" -- "$word")
             return
             ;;
-        run | record)
+        run | provoke | record)
             # What comes after `--`, or from the first word on that is neither an option nor an option's value, is a command.
             for ((place = 2; place < COMP_CWORD; place++)); do
                 case ${COMP_WORDS[place]} in
@@ -40,7 +41,7 @@ _lockdep() {
                         place=$((place + 1))
                         break
                         ;;
-                    -o | --recorder | --frames | --known | --write-known | --html | --sarif | --junit | --json | --accept-left-out | --error-exitcode | --finish | --summary)
+                    -o | --recorder | --frames | --known | --write-known | --html | --sarif | --junit | --json | --accept-left-out | --error-exitcode | --from | --runs | --pause | --finding | --stdin | --finish | --summary)
                         place=$((place + 1))
                         ;;
                     = | -*) ;;
@@ -61,11 +62,11 @@ _lockdep() {
         -o) mapfile -t COMPREPLY < <(compgen "$kind" -- "$word") ;;
         --recorder) mapfile -t COMPREPLY < <(compgen -W 'pthread python java rust embed' -- "$word") ;;
         --frames) mapfile -t COMPREPLY < <(compgen -W '1 2 3 4 6 8 12 16' -- "$word") ;;
-        --known | --write-known | --confirmed) mapfile -t COMPREPLY < <(compgen -f -- "$word") ;;
+        --known | --write-known | --stdin | --confirmed) mapfile -t COMPREPLY < <(compgen -f -- "$word") ;;
         --html | --sarif | --junit | --json) mapfile -t COMPREPLY < <(compgen -W 'files' -- "$word") ;;
-        --accept-left-out | --error-exitcode | --left-out | --waiting) ;;
+        --accept-left-out | --error-exitcode | --runs | --pause | --finding | --left-out | --waiting) ;;
+        --from | --finish | --summary) mapfile -t COMPREPLY < <(compgen -d -- "$word") ;;
         --workers) mapfile -t COMPREPLY < <(compgen -W '1 2 4 8 16 32 64' -- "$word") ;;
-        --finish | --summary) mapfile -t COMPREPLY < <(compgen -d -- "$word") ;;
         *)
             case $word in
                 -*) mapfile -t COMPREPLY < <(compgen -W "$(_lockdep_options "$command")" -- "$word") ;;

@@ -11,6 +11,7 @@ end
 
 complete -c lockdep -n __lockdep_first -f
 complete -c lockdep -n __lockdep_first -a run -d 'Record a command, check its traces, and explain what was found'
+complete -c lockdep -n __lockdep_first -a provoke -d 'Make a finding happen'
 complete -c lockdep -n __lockdep_first -a check -d 'Write the report of traces'
 complete -c lockdep -n __lockdep_first -a explain -d 'Write what was found, with the records behind it'
 complete -c lockdep -n __lockdep_first -a graph -d 'Write the lock order as a graph in the DOT language'
@@ -24,7 +25,7 @@ complete -c lockdep -n __lockdep_first -a view -d 'Write what was found as a pag
 complete -c lockdep -n __lockdep_first -a help -d 'Print help'
 complete -c lockdep -n __lockdep_first -l version -s V -d 'Print the version'
 complete -c lockdep -n 'not __lockdep_in help' -l help -s h -d 'Print help'
-complete -c lockdep -n '__lockdep_in help' -f -a 'run check explain graph condense chains record confirm where diff view'
+complete -c lockdep -n '__lockdep_in help' -f -a 'run provoke check explain graph condense chains record confirm where diff view'
 
 complete -c lockdep -n '__lockdep_in run' -s o -x -a '(__fish_complete_directories)' -d 'Where the recording is kept'
 complete -c lockdep -n '__lockdep_in run' -l recorder -x -a 'pthread python java rust embed' -d 'What records the command'
@@ -40,6 +41,13 @@ complete -c lockdep -n '__lockdep_in run' -l accept-left-out -x -d 'Do not count
 complete -c lockdep -n '__lockdep_in run' -l quiet -d 'Print only if something was found'
 complete -c lockdep -n '__lockdep_in run' -l error-exitcode -x -d 'The status if something was found'
 complete -c lockdep -n '__lockdep_in run' -l confirmed-only -d 'Only for what was seen between single locks'
+complete -c lockdep -n '__lockdep_in provoke' -s o -x -a '(__fish_complete_directories)' -d 'Where the recording is kept'
+complete -c lockdep -n '__lockdep_in provoke' -l from -x -a '(__fish_complete_directories)' -d 'Take this recording, and make none'
+complete -c lockdep -n '__lockdep_in provoke' -l runs -x -d 'How often a finding is tried'
+complete -c lockdep -n '__lockdep_in provoke' -l pause -x -d 'How long a thread is held back'
+complete -c lockdep -n '__lockdep_in provoke' -l finding -x -d 'Try this finding'
+complete -c lockdep -n '__lockdep_in provoke' -l keep -d 'Leave the program standing'
+complete -c lockdep -n '__lockdep_in provoke' -l stdin -r -d 'What the runs read'
 complete -c lockdep -n '__lockdep_in check' -l workers -x -d 'How many workers check the traces, from 1 to 64'
 complete -c lockdep -n '__lockdep_in check' -l many -d 'Take up to 8192 lock keys'
 complete -c lockdep -n '__lockdep_in explain' -l workers -x -d 'How many workers check the traces, from 1 to 64'
@@ -71,4 +79,4 @@ complete -c lockdep -n '__lockdep_in view' -l waiting -x -d 'Who waited for a lo
 complete -c lockdep -n '__lockdep_in confirm where' -f -a '(__fish_complete_directories)'
 
 # The command that is recorded, and its words.
-complete -c lockdep -n '__lockdep_in run record' -x -a '(__fish_complete_subcommand --fcs-skip=2)'
+complete -c lockdep -n '__lockdep_in run provoke record' -x -a '(__fish_complete_subcommand --fcs-skip=2)'

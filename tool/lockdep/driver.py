@@ -22,7 +22,7 @@ def main(home: str, words: list[str]) -> None:
     """Does what the command line says, and ends with its status."""
     undo_start()
     try:
-        status = {"run": run, "record": record}[words[0]](home, words[1:])
+        status = {"run": run, "record": record, "provoke": provoke}[words[0]](home, words[1:])
     except Help:
         status = print_help(home, words[0])
     except Refusal as refusal:
@@ -97,6 +97,16 @@ def run(home: str, words: list[str]) -> int:
     from . import running
     line = parse(COMMANDS["run"], words)
     return running.run(home, line)
+
+
+def provoke(home: str, words: list[str]) -> int:
+    leave_others()
+    os.environ[RUN] = home
+    look_at_limits()
+    line = parse(COMMANDS["provoke"], words)
+    os.environ.setdefault("LOCKDEP", os.path.join(home, "lockdep"))
+    from . import provoke as provoking
+    return provoking.provoke(home, line)
 
 
 def record(home: str, words: list[str]) -> int:

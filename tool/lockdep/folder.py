@@ -16,7 +16,8 @@ WEAK = "weak"  # the file that says which acquisitions wait for a time only, or 
 FIRST_LINE = "a recording by lockdep made these:"
 LOCK = 9  # the open file whose lock says that a recording is under way; `run` closes it in the command
 PAGE = "report.html"  # isn't written by what records, which leaves another's alone
-MADE = ("classes", "SUMMARY", "summary.json", PAGE, "raw.tar.gz", "objects", "classes.places", "breaches", "breaches.places")
+PROVOKED, OF_PROVOKE = "provoked.json", "provoke"  # what `lockdep provoke` made happen, and the folder with what its runs left
+MADE = ("classes", "SUMMARY", "summary.json", PAGE, "raw.tar.gz", "objects", "classes.places", "breaches", "breaches.places", PROVOKED, OF_PROVOKE)
 MARKS = ("settings", "python", "java")  # one of these is in `raw` if it has a recording
 ELSEWHERE = "choose another folder by -o"
 
@@ -187,8 +188,10 @@ class Folder:
         """Removes what the list says that an earlier recording made, and only what a recording can have made."""
         listed = self.listed()[1:]
         for name in listed:
-            if is_made(name) and name != "objects":
+            if is_made(name) and name not in ("objects", OF_PROVOKE):
                 remove(os.path.join(self.path, name))
+        if OF_PROVOKE in listed:
+            remove_tree(os.path.join(self.path, OF_PROVOKE))
         if "objects" in listed:
             try:
                 os.rmdir(os.path.join(self.path, "objects"))

@@ -18,6 +18,8 @@ OUTPUT = Kind("a file", "FILE", completed="files")  # or `-`, standard output af
 RECORDER, CODE = Kind("a name", "NAME", completed=" ".join(RECORDERS)), Kind("the code of a count", "CODE")
 FRAMES = Kind("a number from 1 to 16", "N", 16, "1 2 3 4 6 8 12 16")
 STATUS = Kind("a number from 1 to 255", "N", 255)
+RUNS, PAUSE = Kind("a number from 1 to 999", "N", 999), Kind("a number of milliseconds from 1 to 999", "MS", 999)
+FINDING = Kind("a number from 1 to 999", "N", 999)
 
 
 class Option:
@@ -112,7 +114,18 @@ RECORD = Command("record", "record a command", "Runs a command, records the lock
     ACCEPT,
 ])
 
-COMMANDS = {command.name: command for command in (RUN, RECORD)}
+PROVOKE = Command("provoke", "make a finding happen", "Makes cycles that were found happen: runs a command again and holds its threads back where a cycle can close.",
+                  ("[OPTIONS] -- COMMAND...",), "command", [
+    Option("-o", FOLDER, "where the recording is kept", "Where the recording is kept [default: lockdep-traces]"),
+    Option("--from", FOLDER, "take this recording, and make none", "Take the findings of this recording of the command, and make none"),
+    Option("--runs", RUNS, "how often a finding is tried", "How many runs a finding is tried in at most, from 1 to 999 [default: 10]"),
+    Option("--pause", PAUSE, "how long a thread is held back", "For how many milliseconds a thread is held back at first, from 1 to 999 [default: 300]"),
+    Option("--finding", FINDING, "try this finding", "Try the finding of this number alone. The option may be given several times"),
+    Option("--keep", None, "leave the program standing", "Leave the program standing when it stands still, with its process number, for a debugger"),
+    Option("--stdin", FILE, "what the runs read", "What the runs after the recorded one read from standard input [default: nothing]"),
+])
+
+COMMANDS = {command.name: command for command in (RUN, RECORD, PROVOKE)}
 
 
 class Help(Exception):

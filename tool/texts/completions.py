@@ -1,10 +1,10 @@
 """The completions for bash, zsh and fish, made from the table of options."""
 from __future__ import annotations
 
-from lockdep.options import FILE, FOLDER, RECORD, RUN, Command, Kind, Option
+from lockdep.options import FILE, FOLDER, PROVOKE, RECORD, RUN, Command, Kind, Option
 from other_commands import ALL
 
-RECORDED = (RUN, RECORD)  # behind whose options a command follows
+RECORDED = (RUN, PROVOKE, RECORD)  # behind whose options a command follows
 
 
 def named(options: list[Option]) -> str:
@@ -64,7 +64,7 @@ def zsh_arguments(command: Command) -> str:
 
 
 def zsh_option(option: Option) -> str:
-    many = "*" if option.name == "--accept-left-out" else ""
+    many = "*" if option.name in ("--accept-left-out", "--finding") else ""
     if option.kind is None:
         return "'%s[%s]'" % (option.name, option.brief)
     return "'%s%s[%s]:%s:%s'" % (many, option.name, option.brief, option.kind.argument.lower() if option.kind.argument != "N" else option.kind.words[2:],

@@ -22,7 +22,7 @@ _lockdep() {
             mapfile -t COMPREPLY < <(compgen -W "$commands" -- "$word")
             return
             ;;
-        run | record)
+        run | provoke | record)
             # What comes after `--`, or from the first word on that is neither an option nor an option's value, is a command.
             for ((place = 2; place < COMP_CWORD; place++)); do
                 case ${COMP_WORDS[place]} in

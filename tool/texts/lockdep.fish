@@ -20,4 +20,4 @@ complete -c lockdep -n '__lockdep_in help' -f -a '@NAMES@'
 complete -c lockdep -n '__lockdep_in confirm where' -f -a '(__fish_complete_directories)'
 
 # The command that is recorded, and its words.
-complete -c lockdep -n '__lockdep_in run record' -x -a '(__fish_complete_subcommand --fcs-skip=2)'
+complete -c lockdep -n '__lockdep_in run provoke record' -x -a '(__fish_complete_subcommand --fcs-skip=2)'

@@ -1,7 +1,7 @@
 """The commands that the driver doesn't take apart itself, as completions need them: those of the proved program, and those of the other scripts."""
 from __future__ import annotations
 
-from lockdep.options import FILE, RECORD, RUN, Command, Kind, Option
+from lockdep.options import FILE, PROVOKE, RECORD, RUN, Command, Kind, Option
 
 WORKERS_KIND, TEXT = Kind("a number from 1 to 64", "N", 64, "1 2 4 8 16 32 64"), Kind("a text", "TEXT")
 WORKERS = Option("--workers", WORKERS_KIND, "how many workers check the traces, from 1 to 64", "")
@@ -14,6 +14,7 @@ def command(name: str, brief: str, words: str, options: list[Option]) -> Command
 
 ALL = (
     RUN,
+    PROVOKE,
     command("check", "write the report of traces", "files", [WORKERS, MANY]),
     command("explain", "write what was found, with the records behind it", "files", [
         WORKERS, MANY, Option("--json", None, "write the findings as JSON", ""),

@@ -1,0 +1,162 @@
+/* The plan: for each order of a finding the places where its first lock is taken and where its second one is asked for. */
+#define _GNU_SOURCE
+#include "provoke.h"
+
+#include <limits.h>
+#include <link.h>
+#include <stdio.h>
+#include <stdlib.h>
+#include <string.h>
+#include <unistd.h>
+#include <unwind.h>
+
+/* Places by their addresses. */
+#define SLOTS 1024
+#define LOOKS 16
+
+/* The innermost callers that may be wrappers of a lock's function. */
+#define WRAPPERS 8
+
+static struct place {
+    uintptr_t address;
+    struct fits fits;
+} places[SLOTS];
+
+static unsigned slot_of(uintptr_t address) { return (unsigned)((address * 0x9E3779B97F4A7C15u) >> 32) % SLOTS; }
+
+static struct place *place_at(uintptr_t address, bool is_new) {
+    for (unsigned look = 0; look < LOOKS; look++) {
+        struct place *place = &places[(slot_of(address) + look) % SLOTS];
+        if (place->address == address)
+            return place;
+        if (place->address == 0) {
+            if (is_new)
+                place->address = address;
+            return is_new ? place : NULL;
+        }
+    }
+    return NULL;
+}
+
+/* ---- Modules. */
+
+struct sought {
+    const char *path;
+    uintptr_t base;
+};
+
+static int is_sought(struct dl_phdr_info *module, size_t size, void *with) {
+    struct sought *sought = with;
+    char own[PATH_MAX], path[PATH_MAX];
+    const char *name = *module->dlpi_name ? module->dlpi_name : "/proc/self/exe";
+    (void)size;
+    if (!realpath(name, own) || !realpath(sought->path, path) || strcmp(own, path) != 0)
+        return 0;
+    sought->base = module->dlpi_addr;
+    return 1;
+}
+
+/* A line `hold OFFSET MODULE` or `want OFFSET MODULE`, of the order that was named last. A module that isn't loaded at the start fits
+   nothing. */
+static void take_place(const char *line, unsigned order) {
+    uintptr_t offset;
+    char word[8], path[PATH_MAX];
+    if (sscanf(line, "%7s %lx %4095[^\n]", word, &offset, path) != 3)
+        return;
+    struct sought sought = {path, 0};
+    if (!dl_iterate_phdr(is_sought, &sought))
+        return;
+    struct place *place = place_at(sought.base + offset, true);
+    if (!place)
+        return;
+    if (strcmp(word, "hold") == 0)
+        place->fits.holds |= 1ull << order;
+    else
+        place->fits.wants |= 1ull << order;
+}
+
+/* Whether there is a plan with an order. */
+bool read_plan(const char *path) {
+    FILE *file = fopen(path, "re");
+    if (!file)
+        return false;
+    char line[PATH_MAX + 64];
+    unsigned orders = 0;
+    while (fgets(line, sizeof line, file)) {
+        if (strncmp(line, "order", 5) == 0)
+            orders++;
+        else if (orders > 0 && orders <= MOST_ORDERS)
+            take_place(line, orders - 1);
+    }
+    fclose(file);
+    return orders > 0;
+}
+
+/* ---- Stacks. */
+
+static _Unwind_Reason_Code take_frame(struct _Unwind_Context *context, void *with) {
+    struct stack *stack = with;
+    int is_before = 0;
+    uintptr_t caller = _Unwind_GetIPInfo(context, &is_before);
+    stack->is_in_handler |= is_before != 0;
+    if (caller == 0 || stack->depth == MOST_CALLERS)
+        return _URC_END_OF_STACK;
+    stack->callers[stack->depth++] = caller;
+    return _URC_NO_REASON;
+}
+
+void look_at_stack(struct stack *stack) {
+    stack->depth = 0;
+    stack->is_whole = true;
+    stack->is_in_handler = false;
+    _Unwind_Backtrace(take_frame, stack);
+}
+
+/* The place of a call is its innermost caller, but for wrappers: so any of the first callers may be planned. */
+static struct fits fits_of(const struct stack *stack) {
+    struct fits fits = {0, 0};
+    for (int i = 0; i < stack->depth && i < WRAPPERS; i++) {
+        const struct place *place = place_at(stack->callers[i], false);
+        if (!place)
+            continue;
+        fits.holds |= place->fits.holds;
+        fits.wants |= place->fits.wants;
+    }
+    return fits;
+}
+
+/* ---- Calls. */
+
+/* A stack takes time to look at. Of a caller that fitted no place so often, only each so many-th call is looked at. */
+#define CALLERS 4096
+#define OFTEN 256
+#define SELDOM 16
+
+static struct caller {
+    uintptr_t address;
+    uint32_t unfit; /* how many of its calls fitted no place */
+    bool is_fit;    /* whether one did */
+} callers[CALLERS];
+
+static bool is_worth_a_look(struct caller *caller, uintptr_t address) {
+    if (caller->address != address)
+        *caller = (struct caller){address, 0, false};
+    return caller->is_fit || caller->unfit < OFTEN || caller->unfit++ % SELDOM == 0;
+}
+
+/* The stack of a call with this innermost caller, and the orders that it belongs to. Several threads may write at once what is kept of a
+   caller: it only says how often to look. */
+struct fits look_at_call(struct stack *stack, uintptr_t address) {
+    struct caller *caller = &callers[slot_of(address) * (CALLERS / SLOTS) + (address >> 4) % (CALLERS / SLOTS)];
+    if (!is_worth_a_look(caller, address) && !place_at(address, false)) {
+        *stack = (struct stack){.depth = 1, .callers = {address}};
+        return (struct fits){0, 0};
+    }
+    look_at_stack(stack);
+    struct fits fits = fits_of(stack);
+    if (fits.holds || fits.wants)
+        caller->is_fit = true;
+    else
+        caller->unfit++;
+    return fits;
+}

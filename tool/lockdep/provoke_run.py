@@ -1,0 +1,126 @@
+"""One run of the program with its threads held back where a plan says."""
+from __future__ import annotations
+
+import os
+import signal
+import subprocess
+import time
+from dataclasses import dataclass
+
+from .provoke_table import Modules, Table, Thread, cycle_in, name_of, sleeps
+
+LOOK = 0.02  # seconds from one look to the next
+SURE = 0.2  # seconds for which threads that were let go have to stand
+SURE_UNPLANNED = 2.0  # the same of others
+GRACE = 0.5  # seconds that a process has to end
+
+
+@dataclass(frozen=True)
+class Standing:
+    """A thread of a program that stands still: its number, its name, the planned order that it stood at, or 0, and the places of its callers
+    where it waits, and where it took the lock that the thread before it waits for."""
+
+    number: int
+    name: str
+    order: int
+    waits: list[tuple[str, int]]
+    holds: list[tuple[str, int]]
+
+
+@dataclass
+class Outcome:
+    """How a run ended: with the command's status, or standing still, or at the limit of its time."""
+
+    status: int | None = None
+    process: int = 0
+    standing: list[Standing] | None = None
+    is_too_long: bool = False
+
+
+class Watch:
+    """Looks for threads that wait for one another, and says so when they did long enough."""
+
+    def __init__(self, table: Table) -> None:
+        self.table = table
+        self.seen: tuple[tuple[int, int], ...] = ()
+        self.since = 0.0
+
+    def standstill(self) -> list[Thread]:
+        """The threads of a cycle in which nothing has changed for a time, and all are asleep."""
+        cycle = cycle_in(self.table.threads())
+        seen = tuple(sorted((thread.thread, thread.changes) for thread in cycle))
+        now = time.monotonic()
+        if not cycle or seen != self.seen:
+            self.seen, self.since = seen, now
+            return []
+        sure = SURE if all(thread.order for thread in cycle) else SURE_UNPLANNED
+        return cycle if now - self.since >= sure and all(map(sleeps, cycle)) else []
+
+
+class Run:
+    """A run of the command under the library."""
+
+    def __init__(self, command: list[str], library: str, plan: str, table: Table, pause: str, given: str, output: int) -> None:
+        others = os.environ.get("LD_PRELOAD", "")
+        environment = dict(os.environ, LD_PRELOAD=library + (":" + others if others else ""), LOCKDEP_PROVOKE_PLAN=plan,
+                           LOCKDEP_PROVOKE_TABLE=table.path)
+        if pause:
+            environment["LOCKDEP_PROVOKE_PAUSE"] = pause
+        self.table = table
+        with open(given or os.devnull, "rb") as stdin:
+            self.child = subprocess.Popen(command, stdin=stdin, stdout=output, stderr=output, env=environment, start_new_session=True)
+
+    def outcome(self, limit: float) -> Outcome:
+        """Waits until the command ends or stands still, for so many seconds at most."""
+        watch, end = Watch(self.table), time.monotonic() + limit
+        while time.monotonic() < end:
+            standing = watch.standstill()
+            if standing:
+                return Outcome(process=standing[0].process, standing=described(standing))
+            if self.child.poll() is not None:
+                return Outcome(status=self.child.returncode)
+            time.sleep(LOOK)
+        return Outcome(is_too_long=True)
+
+    def end(self, process: int) -> None:
+        """Ends what stands still, and all that the run has left."""
+        if process:
+            send(process, signal.SIGABRT)
+            self.wait_shortly()
+        for other in self.table.processes():
+            send(other, signal.SIGKILL)
+        send(-self.child.pid, signal.SIGKILL)
+        send(self.child.pid, signal.SIGKILL)
+        self.child.wait()
+
+    def wait_shortly(self) -> None:
+        try:
+            self.child.wait(GRACE)
+        except subprocess.TimeoutExpired:
+            pass
+
+
+def send(process: int, number: int) -> None:
+    try:
+        os.kill(process, number)
+    except OSError:
+        pass
+
+
+def described(cycle: list[Thread]) -> list[Standing]:
+    """The threads of a cycle, each with its places, from the one at the first order on. The one before in the cycle waits for what a thread
+    holds."""
+    modules = Modules(cycle[0].process)
+    first = min(range(len(cycle)), key=lambda at: cycle[at].order or len(cycle) + 1)
+    cycle = cycle[first:] + cycle[:first]
+    numbers = {number: place for place, number in enumerate(sorted(thread.thread for thread in cycle), 1)}
+    found = []
+    for at, thread in enumerate(cycle):
+        held = thread.hold_before(cycle[at - 1])
+        found.append(Standing(numbers[thread.thread], name_of(thread), thread.order, placed(modules, thread.callers),
+                              placed(modules, held.callers)))
+    return found
+
+
+def placed(modules: Modules, callers: tuple[int, ...]) -> list[tuple[str, int]]:
+    return [place for place in map(modules.place, callers) if place]

@@ -1,0 +1,177 @@
+"""What the threads of a provoked run hold and wait for: the file that recorders/pthread/provoke/provoke.h describes, and the cycles in it."""
+from __future__ import annotations
+
+import mmap
+import os
+import struct
+from dataclasses import dataclass
+
+HEAD, COUNTS = struct.Struct("=8sII"), struct.Struct("=4I")
+THREAD, HELD = struct.Struct("=iiIIIIQII16QII"), struct.Struct("=QIIQ8Q")
+MAGIC = b"provoke1"
+MOST_ORDERS, MOST_THREADS, MOST_HELD, MOST_CALLERS = 64, 1024, 48, 16
+SIZE_OF_THREAD = THREAD.size + MOST_HELD * HELD.size
+FIRST_THREAD = HEAD.size + MOST_ORDERS * COUNTS.size
+SIZE = FIRST_THREAD + MOST_THREADS * SIZE_OF_THREAD
+STANDS, WAITS = 1, 2
+WRITES = 0
+
+
+@dataclass(frozen=True)
+class Counts:
+    """Of an order: how often its second lock was asked for, how often so with the first one held, and how often a thread stood there."""
+
+    reached: int
+    under: int
+    pauses: int
+
+
+@dataclass(frozen=True)
+class Held:
+    """A lock that a thread holds."""
+
+    lock: int
+    mode: int
+    callers: tuple[int, ...]
+
+
+@dataclass(frozen=True)
+class Thread:
+    """A thread as the file has it. `order` is the planned one that it stood at, from 1 on, or 0; `changes` is another number after each change."""
+
+    process: int
+    thread: int
+    changes: int
+    state: int
+    order: int
+    mode: int
+    awaited: int
+    callers: tuple[int, ...]
+    held: tuple[Held, ...]
+
+    def is_in_the_way(self, other: Thread) -> bool:
+        """Whether it holds what the other one waits for."""
+        return self.process == other.process and any(
+            held.lock == other.awaited and WRITES in (held.mode, other.mode) for held in self.held)
+
+    def hold_before(self, other: Thread) -> Held:
+        """The lock of this thread's that the other one waits for."""
+        return next(held for held in self.held if held.lock == other.awaited)
+
+
+class Table:
+    """The file of one run."""
+
+    def __init__(self, path: str) -> None:
+        self.path = path
+        with open(path, "wb") as file:
+            file.write(HEAD.pack(MAGIC, MOST_ORDERS, MOST_THREADS))
+            file.truncate(SIZE)
+        with open(path, "rb") as file:
+            self.raw = mmap.mmap(file.fileno(), SIZE, access=mmap.ACCESS_READ)
+
+    def counts(self, order: int) -> Counts:
+        return Counts(*COUNTS.unpack_from(self.raw, HEAD.size + order * COUNTS.size)[:3])
+
+    def threads(self) -> list[Thread]:
+        """All threads that there are."""
+        starts = range(FIRST_THREAD, SIZE, SIZE_OF_THREAD)
+        return [self.thread_at(start) for start in starts if self.raw[start:start + 4] != b"\0\0\0\0"]
+
+    def thread_at(self, start: int) -> Thread:
+        process, thread, changes, state, order, mode, awaited, depth, held_count, *rest = THREAD.unpack_from(self.raw, start)
+        places = [start + THREAD.size + n * HELD.size for n in range(min(held_count, MOST_HELD))]
+        held = tuple(self.held_at(place) for place in places)
+        return Thread(process, thread, changes, state, order, mode, awaited, tuple(rest[:min(depth, MOST_CALLERS)]),
+                      tuple(each for each in held if each.lock))
+
+    def held_at(self, start: int) -> Held:
+        lock, mode, depth, _, *callers = HELD.unpack_from(self.raw, start)
+        return Held(lock, mode, tuple(callers[:depth]))
+
+    def processes(self) -> set[int]:
+        return {thread.process for thread in self.threads()}
+
+
+def cycle_in(threads: list[Thread]) -> list[Thread]:
+    """Threads that wait for one another: each for a lock that the next one holds. Empty if there are none."""
+    waiting = [thread for thread in threads if thread.state == WAITS]
+    for first in waiting:
+        path = path_back(first, first, waiting, {first.thread})
+        if path:
+            return path
+    return []
+
+
+def path_back(at: Thread, first: Thread, waiting: list[Thread], seen: set[int]) -> list[Thread]:
+    """The threads from this one to the first one, which is in the way of the last."""
+    if first.is_in_the_way(at):
+        return [at]
+    for other in waiting:
+        if other.thread in seen or not other.is_in_the_way(at):
+            continue
+        seen.add(other.thread)
+        rest = path_back(other, first, waiting, seen)
+        if rest:
+            return [at] + rest
+    return []
+
+
+def sleeps(thread: Thread) -> bool:
+    """Whether the kernel has the thread asleep."""
+    try:
+        with open("/proc/%d/task/%d/stat" % (thread.process, thread.thread), "rb") as file:
+            return file.read().rpartition(b")")[2].split()[:1] == [b"S"]
+    except OSError:
+        return False
+
+
+def name_of(thread: Thread) -> str:
+    """The thread's name, as the program or the system gave it."""
+    try:
+        with open("/proc/%d/task/%d/comm" % (thread.process, thread.thread), encoding="utf-8", errors="surrogateescape") as file:
+            return file.read().rstrip("\n")
+    except OSError:
+        return ""
+
+
+# ---- Modules.
+
+EXECUTABLE_AT_ITS_ADDRESS = 2  # the type of an ELF file that isn't moved when it is loaded
+
+
+def is_moved(path: str) -> bool:
+    """Whether a module's addresses are counted from where it was loaded."""
+    try:
+        with open(path, "rb") as file:
+            head = file.read(18)
+        return len(head) < 18 or struct.unpack_from("=H", head, 16)[0] != EXECUTABLE_AT_ITS_ADDRESS
+    except OSError:
+        return True
+
+
+class Modules:
+    """Where the modules of a process are."""
+
+    def __init__(self, process: int) -> None:
+        self.parts: list[tuple[int, int, str]] = []
+        self.bases: dict[str, int] = {}
+        try:
+            with open("/proc/%d/maps" % process, encoding="utf-8", errors="surrogateescape") as file:
+                for line in file:
+                    self.take(line.rstrip("\n").split(None, 5))
+        except OSError:
+            pass
+
+    def take(self, words: list[str]) -> None:
+        if len(words) < 6 or words[5][:1] != "/":
+            return
+        start, end = (int(word, 16) for word in words[0].split("-"))
+        self.parts.append((start, end, words[5]))
+        if words[5] not in self.bases:
+            self.bases[words[5]] = start - int(words[2], 16) if is_moved(words[5]) else 0
+
+    def place(self, address: int) -> tuple[str, int] | None:
+        """The module and the offset of an address."""
+        path = next((path for start, end, path in self.parts if start <= address < end), None)
+        return (path, address - self.bases[path]) if path else None
