@@ -103,6 +103,7 @@ class Finding:
     between: Between | None = None
     json: dict = field(default_factory=dict)
     number: int = 0
+    happened: int = 0  # the run of `lockdep provoke` in which it happened; 0 if it didn't
 
     @property
     def head(self) -> str:

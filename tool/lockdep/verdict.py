@@ -25,6 +25,7 @@ BETWEEN_LOCKS = {
     Kind.EITHER: "seen only by timed waits or while a lock was new",
     Kind.NEW: "seen only while a lock was new",
 }
+HAPPENED = "happened in run %d of `lockdep provoke`"
 TOO_MANY = "more than 256 keys lead to one another"
 WITH_DEPTH = (Kind.PERHAPS, Kind.UNKNOWN, Kind.CLASSES, Kind.TYPES)
 
@@ -143,10 +144,10 @@ def is_kept_apart(inner: Finding) -> bool:
 
 
 def by_importance(findings: list[Finding]) -> list[Finding]:
-    """What to look at first comes first: of what was seen between single locks, that which nothing kept apart."""
-    def rank(finding: Finding) -> tuple[int, bool]:
+    """What to look at first comes first: what happened, and of what was seen between single locks that which nothing kept apart."""
+    def rank(finding: Finding) -> tuple[bool, int, bool]:
         inner = finding.between.finding if finding.between else None
-        return list(Kind).index(finding.kind) if finding.kind else 0, bool(inner) and is_kept_apart(inner)
+        return not finding.happened, list(Kind).index(finding.kind) if finding.kind else 0, bool(inner) and is_kept_apart(inner)
     return sorted(findings, key=rank)
 
 
@@ -158,7 +159,14 @@ def unknown_words(reason: str) -> str:
 
 
 def verdict_of(finding: Finding, recorded: Recorded) -> str:
-    """What was seen of a finding; empty if nothing was asked."""
+    """What was seen of a finding, first of all that it happened; empty if nothing was asked."""
+    words = [HAPPENED % finding.happened] if finding.happened else []
+    seen = words_seen(finding, recorded)
+    return "; ".join(words + ([seen] if seen else []))
+
+
+def words_seen(finding: Finding, recorded: Recorded) -> str:
+    """What a finding was seen between; empty if nothing was asked."""
     between = finding.between
     if not between:
         return ""
