@@ -8,7 +8,7 @@ import sys
 import time
 
 from .asking import ask_about
-from .building import recorder_folder
+from .building import is_preloadable, recorder_folder
 from .findings import Finding, Kind
 from .folder import OF_PROVOKE, PROVOKED, Folder, fault
 from .options import Words
@@ -38,6 +38,8 @@ def provoke(home: str, line: Words) -> int:
     """Records the command, or takes a recording of it, and tries each cycle that was found."""
     look_at_command(line)
     library = os.path.join(recorder_folder(home), LIBRARY)
+    if not is_preloadable(library):
+        raise Refusal("%s can't be preloaded, since its path has a space, colon or dollar, which LD_PRELOAD takes for something else" % library)
     folder, seconds = line.last("--from"), 0.0
     if folder and not os.path.exists(os.path.join(folder, "SUMMARY")):
         raise Refusal("%s has no recording" % folder)

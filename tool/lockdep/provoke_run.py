@@ -8,6 +8,7 @@ import time
 from dataclasses import dataclass
 
 from .provoke_table import Modules, Table, Thread, cycle_in, name_of, sleeps
+from .recording import ASAN
 
 LOOK = 0.02  # seconds from one look to the next
 SURE = 0.2  # seconds for which threads that were let go have to stand
@@ -66,6 +67,8 @@ class Run:
                            LOCKDEP_PROVOKE_TABLE=table.path)
         if pause:
             environment["LOCKDEP_PROVOKE_PAUSE"] = pause
+        if ASAN not in environment.get("ASAN_OPTIONS", ""):
+            environment["ASAN_OPTIONS"] = ":".join(filter(None, [environment.get("ASAN_OPTIONS"), ASAN + "=0"]))
         self.table = table
         with open(given or os.devnull, "rb") as stdin:
             self.child = subprocess.Popen(command, stdin=stdin, stdout=output, stderr=output, env=environment, start_new_session=True)
