@@ -143,10 +143,11 @@ def is_kept_apart(inner: Finding) -> bool:
 
 
 def by_importance(findings: list[Finding]) -> list[Finding]:
-    """What to look at first comes first: of what was seen between single locks, that which nothing kept apart."""
-    def rank(finding: Finding) -> tuple[int, bool]:
+    """What to look at first comes first: of what was seen between single locks, that which nothing kept apart, and the shortest cycles."""
+    def rank(finding: Finding) -> tuple[int, bool, int]:
         inner = finding.between.finding if finding.between else None
-        return list(Kind).index(finding.kind) if finding.kind else 0, bool(inner) and is_kept_apart(inner)
+        return (list(Kind).index(finding.kind) if finding.kind else 0, bool(inner) and is_kept_apart(inner),
+                len(inner.orders) if inner else 0)
     return sorted(findings, key=rank)
 
 
