@@ -172,6 +172,11 @@ class Verdicts(unittest.TestCase):
         self.assertEqual([one.kind.value for one in by_importance(findings(said))],
                          ["locks", "perhaps", "unknown", "timed", "timed-or-new-lock", "classes", "new-lock", "types"])
 
+    def test_the_shortest_cycle_of_single_locks_comes_first(self):
+        long, short = circle("o#1/0", "s#1/0", "t#1/0"), circle("s#1/0", "t#1/0")
+        said = [circle("a/0", "s/0", "t/0", between=between("locks", long)), circle("o/0", "s/0", "t/0", between=between("locks", short))]
+        self.assertEqual([one.keys[0] for one in by_importance(findings(said))], ["o/0", "a/0"])
+
     def test_timed_waits_and_new_locks_are_said(self):
         inner = circle("a#1/0", "b#2/0")
         self.assertEqual(self.said("timed", inner), "seen only by timed waits: a#1, b#2, by 2 threads")

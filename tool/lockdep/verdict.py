@@ -144,10 +144,12 @@ def is_kept_apart(inner: Finding) -> bool:
 
 
 def by_importance(findings: list[Finding]) -> list[Finding]:
-    """What to look at first comes first: what happened, and of what was seen between single locks that which nothing kept apart."""
-    def rank(finding: Finding) -> tuple[bool, int, bool]:
+    """What to look at first comes first: what happened, and of what was seen between single locks that which nothing kept apart, and the
+    shortest cycles."""
+    def rank(finding: Finding) -> tuple[bool, int, bool, int]:
         inner = finding.between.finding if finding.between else None
-        return not finding.happened, list(Kind).index(finding.kind) if finding.kind else 0, bool(inner) and is_kept_apart(inner)
+        return (not finding.happened, list(Kind).index(finding.kind) if finding.kind else 0, bool(inner) and is_kept_apart(inner),
+                len(inner.orders) if inner else 0)
     return sorted(findings, key=rank)
 
 
