@@ -63,7 +63,8 @@ def sleeps_of(processes):
     sleeps = {}
     for each in processes:
         for thread in os.listdir("/proc/%d/task" % each):
-            words = dict(line.split(":\t", 1) for line in contents("/proc/%d/task/%s/status" % (each, thread)).splitlines() if ":\t" in line)
+            status = contents("/proc/%d/task/%s/status" % (each, thread)).splitlines()
+            words = dict(line.split(":\t", 1) for line in status if ":\t" in line)
             if not words["State"].startswith("S"):
                 return None
             sleeps[thread] = words["voluntary_ctxt_switches"]

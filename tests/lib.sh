@@ -4,12 +4,12 @@
 passed=0
 failed=0
 
-# How many seconds one command may take. Beside others that use all processors it takes many times as long as alone, so this is far more
-# than it needs: it only ends what hangs.
+# How many seconds one command may take. Beside others that use all processors it takes many times as long as alone, so
+# this is far more than it needs: it only ends what hangs.
 limit=600
 
-# Nothing may hang: none of a script's processes may use more processor time than this many seconds, and the script may take twenty times as
-# long. Then it is ended, and its last line is missing: within SECONDS SCRIPT.
+# Nothing may hang: none of a script's processes may use more processor time than this many seconds, and the script may
+# take twenty times as long. Then it is ended, and its last line is missing: within SECONDS SCRIPT.
 within() {
     if [ "${IS_LIMITED:-no}" = no ]; then
         export IS_LIMITED=yes

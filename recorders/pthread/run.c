@@ -35,8 +35,9 @@
 /* How long the end of what was left in the background is waited for without a word. */
 #define PATIENCE_NANOSECONDS 500000000
 
-/* How often it is seen whether a signal came to the whole group, and how long it takes from the first look to the second; then twice as long each
-   time. Who sends it to this process and then to the group may have to wait for a processor in between. */
+/* How often it is seen whether a signal came to the whole group, and how long it takes from the first look to the second;
+   then twice as long each time. Who sends it to this process and then to the group may have to wait for a processor in
+   between. */
 #define WITNESS_LOOKS 5
 #define WITNESS_NANOSECONDS 1000000
 

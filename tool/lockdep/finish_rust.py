@@ -5,7 +5,8 @@ import os
 import re
 from itertools import chain
 
-from .finishing import LOSSES, MOST_KEYS, MOST_NAME, MOST_TRACES, OBJECTS, LockNames, Tally, Trace, is_running, trace_name, write_classes, write_tasks
+from .finishing import (LOSSES, MOST_KEYS, MOST_NAME, MOST_TRACES, OBJECTS, LockNames, Tally, Trace, is_running, trace_name,
+                        write_classes, write_tasks)
 from .summary import NOTED, Count, Summary
 
 TYPE_CHECKING = False  # for a tool that checks types, it is true

@@ -53,8 +53,8 @@ def visible(path: str) -> str:
 # ---- A fault of a trace.
 
 def beginning(opened: BinaryIO, number: int) -> tuple[bytes, bool]:
-    """As much of a trace as it takes to look at a record, and whether that is all of it. The records before it are well formed, and so they are
-    short, and each one is a line."""
+    """As much of a trace as it takes to look at a record, and whether that is all of it. The records before it are well
+    formed, and so they are short, and each one is a line."""
     pieces: list[bytes] = []
     lines = of_line = 0
     while len(pieces) < MOST_PIECES and lines < number + MOST_LINES and of_line < PIECE:
@@ -68,8 +68,8 @@ def beginning(opened: BinaryIO, number: int) -> tuple[bytes, bool]:
 
 
 def content(file: str, words: list[str], number: int) -> tuple[bytes, bool] | None:
-    """What is in a trace up to a record, and whether that is all of it, if it can be read again as it was: none if it is standard input, a pipe, has
-    NUL bytes, or is one of the kernel's, of which reading may wait, as of /proc/kmsg."""
+    """What is in a trace up to a record, and whether that is all of it, if it can be read again as it was: none if it is
+    standard input, a pipe, has NUL bytes, or is one of the kernel's, of which reading may wait, as of /proc/kmsg."""
     path = bytes_of(file)
     if (file == "stdin" and "stdin" not in words) or not os.path.isfile(path) or os.path.realpath(path).startswith((b"/proc/", b"/sys/")):
         return None

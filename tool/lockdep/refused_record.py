@@ -1,11 +1,11 @@
 """What is wrong with a refused record, by what the trace has up to it: facts by names, which are what the table `words` needs.
 
-Records are read as the program reads them: a record ends with its line unless a double quote is open, and blank lines aren't records. A record of
-several lines is always refused, so each one before the refused record is a line. Texts have a character for each byte. Nothing is known if a line
-ends with a CR alone, since editors count such lines differently.
+Records are read as the program reads them: a record ends with its line unless a double quote is open, and blank lines
+aren't records. A record of several lines is always refused, so each one before the refused record is a line. Texts have a
+character for each byte. Nothing is known if a line ends with a CR alone, since editors count such lines differently.
 
-A trace may have a million records, but few different ones, since it has few locks: only different lines are taken apart, and only those that still
-matter at the refused record are followed one by one."""
+A trace may have a million records, but few different ones, since it has few locks: only different lines are taken apart,
+and only those that still matter at the refused record are followed one by one."""
 from __future__ import annotations
 
 import re
@@ -38,7 +38,8 @@ def shown(text: str, longest: int, more: str = "") -> str:
 
 
 class Record:
-    """A record: its lines, from the first to the last, and its fields. Its end may be missing, if the trace is only looked at up to there."""
+    """A record: its lines, from the first to the last, and its fields. Its end may be missing, if the trace is only looked
+    at up to there."""
 
     def __init__(self, first: int) -> None:
         self.first = self.last = first
@@ -173,7 +174,7 @@ class Past:
 
 
 def kept(records: dict[bytes, Record], times: Counter[bytes]) -> dict[str, int]:
-    """How many more times each lock was taken than it was released, by the different lines and how often each stands there."""
+    """How many more times each lock was taken than released, by the different lines and how often each stands there."""
     count: Counter[str] = Counter()
     for line, record in records.items():
         verb = record.field(0)
@@ -188,8 +189,8 @@ def open_interrupts(records: dict[bytes, Record], times: Counter[bytes]) -> int:
 
 
 def what_matters(records: dict[bytes, Record], times: Counter[bytes], code: str) -> set[bytes]:
-    """The different lines that a refusal with this code depends on. For the locks that are held these are the lines of locks that were taken more
-    often than released, since an interrupt that is over has released what it took."""
+    """The different lines that a refusal with this code depends on. For the locks that are held these are the lines of
+    locks that were taken more often than released, since an interrupt that is over has released what it took."""
     if code == "S3":
         return {line for line, record in records.items() if record.field(0) in IRQS + ("leave",)}
     count = kept(records, times)

@@ -7,7 +7,7 @@ from typing import IO
 from .explanation import INDENT
 from .words import CALLED_FROM
 
-WIDTH = 120  # lines longer than this are broken where they have a space, on a wide terminal and on one that doesn't say how wide it is
+WIDTH = 120  # lines longer than this are broken where they have a space, also on a terminal that doesn't say how wide it is
 LEAST_WIDTH = 40  # on a narrower terminal lines are as long as this
 
 

@@ -6,6 +6,7 @@
 #include <mutex>
 #include <string>
 #include <thread>
+#include <utility>
 #include <vector>
 
 struct Account {
@@ -83,6 +84,24 @@ APART void by_malloc() {
     free(accounts);
 }
 
+// Nothing tells that it is an array but how many there are: each is taken by a call of its own.
+template <int at, class A> APART void take_alone(A *elements) { guard one(elements[at].lock); }
+
+template <class A, int... at> APART void take_each(A *elements, std::integer_sequence<int, at...>) {
+    (new (&elements[at]) A, ...);
+    (take_alone<at>(elements), ...);
+}
+
+template <int count> APART void by_size() {
+    auto accounts = static_cast<Account *>(malloc(count * sizeof(Account)));
+    auto journals = static_cast<Journal *>(malloc(count * sizeof(Journal)));
+    take_each(accounts, std::make_integer_sequence<int, count>());
+    take_each(journals, std::make_integer_sequence<int, count>());
+    both_ways(accounts, journals);
+    free(journals);
+    free(accounts);
+}
+
 APART void pairs() {
     auto pairs = std::make_unique<Pair[]>(4);
     for (int i = 0; i < 4; i++) {
@@ -117,6 +136,7 @@ APART void members() {
 }
 
 int main(int argc, char **argv) {
-    void (*cases[])() = {by_vector, by_deque, by_new, by_calloc, by_malloc, pairs, lines, at_once, shards, members};
+    void (*cases[])() = {by_vector, by_deque, by_new, by_calloc, by_malloc, pairs, lines, at_once, shards, members,
+                         by_size<7>, by_size<8>};
     cases[argc > 1 ? atoi(argv[1]) : 0]();
 }

@@ -1,4 +1,5 @@
-/* Waiting for a state instead of a time, so that a test holds on a busy machine too: until threads wait for a lock, a join or the like. */
+/* Waiting for a state instead of a time, so that a test holds on a busy machine too: until threads wait for a lock, a join
+   or the like. */
 #ifndef ASLEEP_H
 #define ASLEEP_H
 #include <dirent.h>

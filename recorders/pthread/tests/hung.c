@@ -1,4 +1,5 @@
-/* Each of two threads holds a lock and waits for the other's: what they wait for is their last record. A signal ends them. */
+/* Each of two threads holds a lock and waits for the other's: what they wait for is their last record. A signal ends
+   them. */
 #include "common.h"
 #include "asleep.h"
 static pthread_mutex_t accounts = PTHREAD_MUTEX_INITIALIZER, journal = PTHREAD_MUTEX_INITIALIZER;

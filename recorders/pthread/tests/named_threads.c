@@ -1,5 +1,5 @@
-/* Threads with names: given by itself before its first lock and after it, by prctl, by its starter, and none. Two take their locks in
-   opposite orders. One that takes no lock is named, and the next thread may get its number. */
+/* Threads with names: given by itself before its first lock and after it, by prctl, by its starter, and none. Two take
+   their locks in opposite orders. One that takes no lock is named, and the next thread may get its number. */
 #define _GNU_SOURCE
 #include <pthread.h>
 #include <sys/prctl.h>

@@ -8,8 +8,8 @@ from lockdep_record.folder import RUN, Folder, Refusal, say_refusal
 
 PASSED_ON = (signal.SIGHUP, signal.SIGINT, signal.SIGQUIT, signal.SIGTERM, signal.SIGUSR1, signal.SIGUSR2)
 FROM_KERNEL = 128  # the code of a signal that a terminal sends
-# How often it is seen whether a signal came to the whole group, and the seconds from the first look to the second; then twice as many each time.
-# Who sends it to this process and then to the group may have to wait for a processor in between.
+# How often it is seen whether a signal came to the whole group, and the seconds from the first look to the second; then
+# twice as many each time. Who sends it to this process and then to the group may have to wait for a processor in between.
 WITNESS_LOOKS, WITNESS_PAUSE = 5, 0.001
 PATIENCE = 2  # how long after Ctrl-C, in seconds, a command may still run before that is said
 
