@@ -1,6 +1,6 @@
-"""Threads that are waited for, in what a process has written. Each is a lock, which is written only if it can be part of
-a cycle: if the thread is joined with a lock held, or by a thread of which that is true, and if it takes a lock itself,
-or joins a thread that does."""
+"""Threads that are waited for, in what a process has written. Each is a lock, which is written only if it can be part
+of a cycle: if the thread is joined with a lock held, or by a thread of which that is true, and if it takes a lock
+itself, or joins a thread that does."""
 STARTED = "started"  # the kind of the class of a thread
 RELEASE = 2
 
@@ -11,7 +11,8 @@ class Joins:
     def __init__(self, process):
         self.process = process
         classes = process.classes
-        self.threads = {key for key, (made, _) in process.keys.items() if made in classes and classes[made].kind == STARTED}
+        self.threads = {key for key, (made, _) in process.keys.items()
+                        if made in classes and classes[made].kind == STARTED}
         self.reached, self.useful = set(), set()
         while self.threads and any([self.go_through(task) for task in process.tasks.values()]):
             continue

@@ -7,8 +7,8 @@ from types import FunctionType, MethodType
 
 from . import recording
 from .locks import PATIENCE, put_in_place
-from .recording import (STARTED, TIMED, WRITE, Lock as Record, Made, break_off, chain_of, class_in, gave, getframe, grant,
-                        key_of, name_of, name_of_module, not_granted, took, visible, wish)
+from .recording import (STARTED, TIMED, WRITE, Lock as Record, Made, break_off, chain_of, class_in, gave, getframe,
+                        grant, key_of, name_of, name_of_module, not_granted, took, visible, wish)
 
 PREFIX = "thread:"  # before what a thread is known by
 WHOLE = -1  # in the place of an instruction: a function itself
