@@ -144,12 +144,13 @@ def is_kept_apart(inner: Finding) -> bool:
 
 
 def by_importance(findings: list[Finding]) -> list[Finding]:
-    """What to look at first comes first: what happened, and of what was seen between single locks that which nothing kept apart, and the
-    shortest cycles."""
-    def rank(finding: Finding) -> tuple[bool, int, bool, int]:
+    """What to look at first comes first: what happened, and of what was seen between single locks that which nothing kept apart, and of
+    cycles the shortest."""
+    def rank(finding: Finding) -> tuple[bool, int, bool, bool, int]:
         inner = finding.between.finding if finding.between else None
-        return (not finding.happened, list(Kind).index(finding.kind) if finding.kind else 0, bool(inner) and is_kept_apart(inner),
-                len(inner.orders) if inner else 0)
+        is_other = inner is None or inner.type != "circle"
+        return (not finding.happened, list(Kind).index(finding.kind) if finding.kind else 0, bool(inner) and is_kept_apart(inner), is_other,
+                0 if is_other else len(inner.orders))
     return sorted(findings, key=rank)
 
 

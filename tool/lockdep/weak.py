@@ -1,6 +1,7 @@
-"""Which findings are seen between single locks only by waits that give up, or only while a lock was new. A recorder marks such acquisitions.
-The traces are written again with them as tries, which wait for nobody, and the same command is asked about those: of either kind alone,
-and of both, since an order may have been seen once by a timed wait and once while a lock was new."""
+"""Which findings are seen between single locks only by waits that give up, or only while a lock was new. A recorder marks
+such acquisitions. The traces are written again with them as tries, which wait for nobody, and the same command is asked
+about those: of either kind alone, and of both, since an order may have been seen once by a timed wait and once while a
+lock was new."""
 from __future__ import annotations
 
 import os
@@ -30,7 +31,8 @@ def weak_in(folder: str) -> dict[Kind, Records]:
 
 
 def by_verdict(weak: dict[Kind, Records]) -> dict[Kind, Records]:
-    """The acquisitions that are to be tries for each verdict. With those of one kind alone both together say nothing new."""
+    """The acquisitions that are to be tries for each verdict. With those of one kind alone both together say nothing
+    new."""
     both: Records = {}
     for records in weak.values() if all(weak.values()) else ():
         for trace, numbers in records.items():

@@ -1,5 +1,6 @@
-"""Threads that are waited for, in what a process has written. Each is a lock, which is written only if it can be part of a cycle: if the thread is
-joined with a lock held, or by a thread of which that is true, and if it takes a lock itself, or joins a thread that does."""
+"""Threads that are waited for, in what a process has written. Each is a lock, which is written only if it can be part
+of a cycle: if the thread is joined with a lock held, or by a thread of which that is true, and if it takes a lock
+itself, or joins a thread that does."""
 STARTED = "started"  # the kind of the class of a thread
 RELEASE = 2
 
@@ -9,7 +10,9 @@ class Joins:
 
     def __init__(self, process):
         self.process = process
-        self.threads = {key for key, (made, _) in process.keys.items() if made in process.classes and process.classes[made].kind == STARTED}
+        classes = process.classes
+        self.threads = {key for key, (made, _) in process.keys.items()
+                        if made in classes and classes[made].kind == STARTED}
         self.reached, self.useful = set(), set()
         while self.threads and any([self.go_through(task) for task in process.tasks.values()]):
             continue
@@ -35,8 +38,8 @@ class Joins:
         return key in self.threads and not self.is_kept(key)
 
     def is_waiting(self, task):
-        """Whether a task waits at the end for what doesn't come: for the end of a thread it may only have to wait for a while, unless that thread
-        waits itself."""
+        """Whether a task waits at the end for what doesn't come: for the end of a thread it may only have to wait for a
+        while, unless that thread waits itself."""
         passed = set()
         while task is not None and task.waits and not task.is_last_timed() and id(task) not in passed:
             passed.add(id(task))

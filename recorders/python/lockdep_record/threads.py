@@ -1,5 +1,5 @@
-"""Threads that are waited for. A thread is a lock that it holds from its start to its end, and that whoever joins it takes and gives back
-at once. `joins` puts into the traces what of this can matter."""
+"""Threads that are waited for. A thread is a lock that it holds from its start to its end, and that whoever joins it
+takes and gives back at once. `joins` puts into the traces what of this can matter."""
 import functools
 import threading
 from _thread import get_ident
@@ -7,15 +7,16 @@ from types import FunctionType, MethodType
 
 from . import recording
 from .locks import PATIENCE, put_in_place
-from .recording import STARTED, TIMED, WRITE, Lock as Record, Made, break_off, chain_of, class_in, gave, getframe, grant, key_of, name_of
-from .recording import name_of_module, not_granted, took, visible, wish
+from .recording import (STARTED, TIMED, WRITE, Lock as Record, Made, break_off, chain_of, class_in, gave, getframe,
+                        grant, key_of, name_of, name_of_module, not_granted, took, visible, wish)
 
 PREFIX = "thread:"  # before what a thread is known by
 WHOLE = -1  # in the place of an instruction: a function itself
 
 
 class Life:
-    """What is known of a thread: the class of what it runs, its task once it has taken a lock, and the lock that it is, once that can matter."""
+    """What is known of a thread: the class of what it runs, its task once it has taken a lock, and the lock that it is,
+    once that can matter."""
 
     __slots__ = ("made", "process", "task", "record", "is_told")
 
@@ -34,7 +35,8 @@ def function_of(thread):
         function = function.func
     if type(function) is MethodType:
         function = function.__func__
-    return function if type(function) is FunctionType else None  # (an object may claim to have anything, as one of `unittest.mock`)
+    # (an object may claim to have anything, as one of `unittest.mock`)
+    return function if type(function) is FunctionType else None
 
 
 def is_of_program(function):
@@ -43,7 +45,8 @@ def is_of_program(function):
 
 
 def class_of(thread, frame):
-    """The class of a thread that is started in this frame: the function that it runs, and, if that isn't the program's, where it is started."""
+    """The class of a thread that is started in this frame: the function that it runs, and, if that isn't the program's,
+    where it is started."""
     function = function_of(thread)
     chain = ((function.__code__, WHOLE),) if function is not None else ()
     place = () if function is not None and is_of_program(function) else chain_of(frame)[-1:]
@@ -56,7 +59,7 @@ def class_of(thread, frame):
 
 
 def name_of_thread(function, frame, place):
-    """The name of a thread: its function with the module, or, if it is given, with the place where the thread is started."""
+    """The name of a thread: its function with the module, or, if it is given, with the place where it is started."""
     names = [name_of(frame, place)] if place else [name_of_module(function.__globals__, function.__code__)]
     if function is not None:
         name = visible(function.__qualname__.replace("<locals>.", ""))
@@ -101,8 +104,8 @@ def tell(life):
 
 
 def matters():
-    """Whether it can matter that the running task waits for a thread: it holds something, or is a thread that may be joined itself. Of
-    greenlets it isn't known whether they are threads."""
+    """Whether it can matter that the running task waits for a thread: it holds something, or is a thread that may be
+    joined itself. Of greenlets it isn't known whether they are threads."""
     if recording.find_greenlet is not None or recording.process.is_off:
         return False
     task = getattr(recording.here, "task", None) if recording.are_threads else recording.current()
