@@ -79,8 +79,9 @@ __attribute__((constructor)) static void note_first_thread(void) { first_thread 
 /* Whether this is the thread that the program began with, for which no other waits. */
 bool is_first_thread(void) { return this_thread() == first_thread; }
 
-/* Whether it can matter that this thread joins another one: it holds something, or may be joined itself. */
-static bool matters(void) { return is_any_held() || known(this_thread(), CLASS); }
+/* Whether it can matter that this thread joins another one: it holds something, or may be joined itself. That it was started
+   may not be noted yet, if who started it had to wait for a processor. */
+static bool matters(void) { return is_any_held() || !is_first_thread(); }
 
 /* Whether it is recorded that the thread is waited for. Nothing is, if this one has no trace: then it holds nothing. */
 static bool begin_join(pthread_t thread, uint8_t weak, struct call call) {

@@ -32,17 +32,21 @@ static inline int asleep_in_call(int process, const char *thread) {
     return call >= 0 && call != SYS_nanosleep && call != SYS_clock_nanosleep;
 }
 
-/* How often a thread has gone to sleep. */
-static inline unsigned long asleep_times(int process, const char *thread) {
-    char line[256];
-    unsigned long times = 0;
+/* Whether a thread sleeps till it is woken, and not only till the system has done something for it, such as read a disk. How
+   often it has gone to sleep is added to `times`. */
+static inline int asleep_till_woken(int process, const char *thread, unsigned long *times) {
+    char line[256], state = 0;
+    unsigned long own = 0;
     FILE *file = asleep_open(process, thread, "status");
-    while (file && fgets(line, sizeof line, file))
-        if (sscanf(line, "voluntary_ctxt_switches: %lu", &times) == 1)
+    while (file && fgets(line, sizeof line, file)) {
+        sscanf(line, "State: %c", &state);
+        if (sscanf(line, "voluntary_ctxt_switches: %lu", &own) == 1)
             break;
+    }
     if (file)
         fclose(file);
-    return times;
+    *times += own;
+    return state == 'S';
 }
 
 /* Whether all threads of a process wait, but for the calling one; `times` is how often they have gone to sleep. */
@@ -57,7 +61,7 @@ static inline int asleep_now(int process, unsigned long *times) {
         if (thread == 0 || thread == syscall(SYS_gettid) || thread == asleep_ender)
             continue;
         are_asleep &= asleep_in_call(process, each->d_name);
-        *times += asleep_times(process, each->d_name);
+        are_asleep &= asleep_till_woken(process, each->d_name, times);
     }
     if (threads)
         closedir(threads);
