@@ -3,7 +3,7 @@
 _lockdep_options() {
     case $1 in
         run) echo -o --recorder --frames --known --write-known --strict-known --html --sarif --junit --json --accept-left-out --quiet --error-exitcode --confirmed-only --help ;;
-        provoke) echo -o --from --runs --pause --finding --keep --stdin --help ;;
+        provoke) echo -o --from --runs --pause --finding --keep --while --stdin --help ;;
         check) echo --workers --many --help ;;
         explain) echo --workers --many --json --locks --confirmed-only --help ;;
         graph) echo --workers --many --findings --help ;;
@@ -41,7 +41,7 @@ _lockdep() {
                         place=$((place + 1))
                         break
                         ;;
-                    -o | --recorder | --frames | --known | --write-known | --html | --sarif | --junit | --json | --accept-left-out | --error-exitcode | --from | --runs | --pause | --finding | --stdin | --finish | --summary)
+                    -o | --recorder | --frames | --known | --write-known | --html | --sarif | --junit | --json | --accept-left-out | --error-exitcode | --from | --runs | --pause | --finding | --while | --stdin | --finish | --summary)
                         place=$((place + 1))
                         ;;
                     = | -*) ;;
@@ -64,7 +64,7 @@ _lockdep() {
         --frames) mapfile -t COMPREPLY < <(compgen -W '1 2 3 4 6 8 12 16' -- "$word") ;;
         --known | --write-known | --stdin | --confirmed) mapfile -t COMPREPLY < <(compgen -f -- "$word") ;;
         --html | --sarif | --junit | --json) mapfile -t COMPREPLY < <(compgen -W 'files' -- "$word") ;;
-        --accept-left-out | --error-exitcode | --runs | --pause | --finding | --left-out | --waiting) ;;
+        --accept-left-out | --error-exitcode | --runs | --pause | --finding | --while | --left-out | --waiting) ;;
         --from | --finish | --summary) mapfile -t COMPREPLY < <(compgen -d -- "$word") ;;
         --workers) mapfile -t COMPREPLY < <(compgen -W '1 2 4 8 16 32 64' -- "$word") ;;
         *)

@@ -19,7 +19,7 @@ RECORDER, CODE = Kind("a name", "NAME", completed=" ".join(RECORDERS)), Kind("th
 FRAMES = Kind("a number from 1 to 16", "N", 16, "1 2 3 4 6 8 12 16")
 STATUS = Kind("a number from 1 to 255", "N", 255)
 RUNS, PAUSE = Kind("a number from 1 to 999", "N", 999), Kind("a number of milliseconds from 1 to 999", "MS", 999)
-FINDING = Kind("a number from 1 to 999", "N", 999)
+FINDING, SHELL = Kind("a number from 1 to 999", "N", 999), Kind("a command of the shell", "COMMAND")
 
 
 class Option:
@@ -122,6 +122,8 @@ PROVOKE = Command("provoke", "make a finding happen", "Makes cycles that were fo
     Option("--pause", PAUSE, "how long a thread is held back", "For how many milliseconds a thread is held back at first, from 1 to 999 [default: 300]"),
     Option("--finding", FINDING, "try this finding", "Try the finding of this number alone. The option may be given several times"),
     Option("--keep", None, "leave the program standing", "Leave the program standing when it stands still, with its process number, for a debugger"),
+    Option("--while", SHELL, "run this beside each run", "Run this by the shell beside each run, from the program's first lock on, as clients of a server. When it has "
+           "ended, the program gets SIGTERM"),
     Option("--stdin", FILE, "what the runs read", "What the runs after the recorded one read from standard input [default: nothing]"),
 ])
 

@@ -12,9 +12,10 @@ from .building import is_preloadable, recorder_folder
 from .findings import Finding, Kind
 from .folder import OF_PROVOKE, PROVOKED, Folder, fault
 from .options import Words
-from .processes import find_command, run as run_program
+from .processes import find_command, start, status_of
+from .provoke_load import Load
 from .provoke_plan import PlannedOrder, plan_of
-from .provoke_run import Outcome, Run, Standing
+from .provoke_run import LOOK, Outcome, Run, Standing
 from .provoke_table import Table
 from .recorders import PTHREAD, recorder_for
 from .saying import Refusal, write_error
@@ -26,6 +27,7 @@ DEFAULT_RUNS = "10"
 LONGER = 10  # how many times as long as the recorded run another one may take
 LEAST_LIMIT = 30.0  # seconds
 LIBRARY = "provoke.so"
+ARENA = ".arena"  # of a file that a recorded process has from its first lock on
 OF_THE_SYSTEM = ("libc.so", "libpthread.so", "ld-linux")  # modules whose functions begin each thread
 DEEPEST = 6  # callers of a thread that are shown
 
@@ -45,7 +47,7 @@ def provoke(home: str, line: Words) -> int:
         raise Refusal("%s has no recording" % folder)
     if not folder:
         folder = line.last("-o", "lockdep-traces")
-        seconds = recorded(home, folder, line.rest)
+        seconds = recorded(home, folder, line.rest, line.last("--while"))
     asked = ask_about(folder)
     if asked.is_refused:
         raise Refusal("the recording in %s can't be judged; `lockdep confirm %s` says why" % (folder, folder))
@@ -72,15 +74,34 @@ def look_at_command(line: Words) -> None:
         raise Refusal("%s can't be read" % given)
 
 
-def recorded(home: str, folder: str, command: list[str]) -> float:
-    """Records the command, and returns how many seconds it took."""
+def recorded(home: str, folder: str, command: list[str], beside: str) -> float:
+    """Records the command, with another one beside it if that is wished, and returns how many seconds it took."""
     began = time.monotonic()
     signal.signal(signal.SIGINT, lambda number, frame: None)  # the command gets it too, if it hangs already
-    status = run_program([os.path.join(home, "recorders", "pthread", "record"), "-o", folder, "--", *command])
+    status = end_of_recording(start([os.path.join(home, "recorders", "pthread", "record"), "-o", folder, "--", *command]), folder, beside)
+    signal.signal(signal.SIGINT, signal.default_int_handler)
     if not os.path.exists(os.path.join(folder, "SUMMARY")):
         raise Refusal("nothing was recorded: the recorder ended with status %d" % status)
-    signal.signal(signal.SIGINT, signal.default_int_handler)
     return time.monotonic() - began
+
+
+def end_of_recording(recorder: int, folder: str, beside: str) -> int:
+    """Waits until the recorder has ended, and returns its status."""
+    load, raw = Load(beside, 2), os.path.join(folder, "raw")
+    ended, status = 0, 0
+    while beside and not ended:
+        load.step(any(name.endswith(ARENA) for name in listed(raw)), recorder)
+        time.sleep(LOOK)
+        ended, status = os.waitpid(recorder, os.WNOHANG)
+    load.end()
+    return status if ended else status_of(recorder)
+
+
+def listed(folder: str) -> list[str]:
+    try:
+        return os.listdir(folder)
+    except OSError:
+        return []
 
 
 def chosen(findings: list[Finding], line: Words) -> list[tuple[int, Finding]]:
@@ -105,6 +126,7 @@ class Tries:
     def __init__(self, recording: str, line: Words, library: str, limit: float) -> None:
         self.recording, self.library, self.limit, self.command = recording, library, limit, line.rest
         self.runs, self.pause, self.given = int(line.last("--runs", DEFAULT_RUNS)), line.last("--pause"), line.last("--stdin")
+        self.beside = line.last("--while")
         self.is_kept = line.has("--keep")
         self.room = os.path.join(os.path.realpath(recording), OF_PROVOKE)
         self.happened: list[dict] = []
@@ -153,13 +175,15 @@ class Tries:
 
     def run(self, number: int, count: int, plan: str, table: Table) -> Outcome:
         output = os.open(os.path.join(self.room, "output-%d-%d" % (number, count)), os.O_WRONLY | os.O_CREAT | os.O_TRUNC, 0o666)
-        run = Run(self.command, self.library, plan, table, self.pause, self.given, output)
+        run = Run(self.command, self.library, plan, table, self.pause, self.given, output, self.beside)
         os.close(output)
         outcome = Outcome()
         try:
             outcome = run.outcome(self.limit)
         finally:
-            if not (outcome.standing and self.is_kept):
+            if outcome.standing and self.is_kept:
+                run.load.end()
+            else:
                 run.end(outcome.process)
         return outcome
 

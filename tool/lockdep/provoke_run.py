@@ -7,6 +7,7 @@ import subprocess
 import time
 from dataclasses import dataclass
 
+from .provoke_load import Load, send
 from .provoke_table import Modules, Table, Thread, cycle_in, name_of, sleeps
 from .recording import ASAN
 
@@ -61,7 +62,7 @@ class Watch:
 class Run:
     """A run of the command under the library."""
 
-    def __init__(self, command: list[str], library: str, plan: str, table: Table, pause: str, given: str, output: int) -> None:
+    def __init__(self, command: list[str], library: str, plan: str, table: Table, pause: str, given: str, output: int, load: str) -> None:
         others = os.environ.get("LD_PRELOAD", "")
         environment = dict(os.environ, LD_PRELOAD=library + (":" + others if others else ""), LOCKDEP_PROVOKE_PLAN=plan,
                            LOCKDEP_PROVOKE_TABLE=table.path)
@@ -69,7 +70,7 @@ class Run:
             environment["LOCKDEP_PROVOKE_PAUSE"] = pause
         if ASAN not in environment.get("ASAN_OPTIONS", ""):
             environment["ASAN_OPTIONS"] = ":".join(filter(None, [environment.get("ASAN_OPTIONS"), ASAN + "=0"]))
-        self.table = table
+        self.table, self.load = table, Load(load, output)
         with open(given or os.devnull, "rb") as stdin:
             self.child = subprocess.Popen(command, stdin=stdin, stdout=output, stderr=output, env=environment, start_new_session=True)
 
@@ -82,11 +83,13 @@ class Run:
                 return Outcome(process=standing[0].process, standing=described(standing))
             if self.child.poll() is not None:
                 return Outcome(status=self.child.returncode)
+            self.load.step(bool(self.table.threads()), self.child.pid)
             time.sleep(LOOK)
         return Outcome(is_too_long=True)
 
     def end(self, process: int) -> None:
         """Ends what stands still, and all that the run has left."""
+        self.load.end()
         if process:
             send(process, signal.SIGABRT)
             self.wait_shortly()
@@ -101,13 +104,6 @@ class Run:
             self.child.wait(GRACE)
         except subprocess.TimeoutExpired:
             pass
-
-
-def send(process: int, number: int) -> None:
-    try:
-        os.kill(process, number)
-    except OSError:
-        pass
 
 
 def described(cycle: list[Thread]) -> list[Standing]:
