@@ -29,6 +29,8 @@ LEAST_LIMIT = 30.0  # seconds
 LIBRARY = "provoke.so"
 ARENA = ".arena"  # of a file that a recorded process has from its first lock on
 OF_THE_SYSTEM = ("libc.so", "libpthread.so", "ld-linux")  # modules whose functions begin each thread
+UNTRIED = {Kind.TYPES: "no class of locks takes part both ways", Kind.TIMED: "its cycle needs a wait that gives up",
+           Kind.EITHER: "its cycle needs a wait that gives up, or a lock that was new"}
 DEEPEST = 6  # callers of a thread that are shown
 
 
@@ -113,11 +115,18 @@ def chosen(findings: list[Finding], line: Words) -> list[tuple[int, Finding]]:
         raise Refusal("there is no finding %d: there are %d" % (missing[0], len(findings)))
     if not found:
         say("nothing was found, so there is nothing to provoke")
-    tried = [(number, finding) for number, finding in found if finding.type == "circle" and finding.kind is not Kind.TYPES]
-    for number, finding in found:
-        if (number, finding) not in tried:
-            say("finding %d isn't tried: only cycles of locks are" % number)
-    return tried
+    reasons = {number: why_untried(finding) for number, finding in found}
+    for number, reason in reasons.items():
+        if reason:
+            say("finding %d isn't tried: %s" % (number, reason))
+    return [(number, finding) for number, finding in found if not reasons[number]]
+
+
+def why_untried(finding: Finding) -> str:
+    """Why a finding isn't tried; empty if it is."""
+    if finding.type != "circle":
+        return "only cycles of locks are"
+    return UNTRIED.get(finding.kind, "") if finding.kind else ""
 
 
 class Tries:

@@ -9,6 +9,7 @@ from .findings import Finding, Order
 from .places import Places
 from .provoke_table import MOST_ORDERS
 from .symbols import Address
+from .verdict import type_of_key
 from .words import text_of
 
 MOST_PLACES = 64  # of an order, each
@@ -19,8 +20,13 @@ class PlannedOrder:
     """An order with all places that the recording has of it."""
 
     order: Order
+    is_of_types: bool  # the order's keys are types, and no single locks
     holds: set[Address] = field(default_factory=set)
     wants: set[Address] = field(default_factory=set)
+
+    def key(self, key: str) -> str:
+        """A key of a trace as the order has it."""
+        return type_of_key(key) if self.is_of_types else key
 
     def lines(self, number: int) -> list[str]:
         places = [("hold", place) for place in self.holds] + [("want", place) for place in self.wants]
@@ -28,25 +34,14 @@ class PlannedOrder:
             places, key=lambda pair: (pair[0], pair[1].module, pair[1].offset or 0))]
 
 
-def orders_of(finding: Finding) -> list[Order]:
-    """The orders of single locks that make the finding, or if there are none those of its classes."""
-    inner = finding.between.finding if finding.between else None
-    return (inner or finding).orders[:MOST_ORDERS]
-
-
 def plan_of(finding: Finding, traces: list[str]) -> list[PlannedOrder]:
-    """The plan of a finding: the places of every record of its orders, of which each finding names one."""
-    plan = [PlannedOrder(order) for order in orders_of(finding)]
+    """The plan of a finding, by the orders of the single locks that make it, or if there are none by those of its types: the places of every
+    record of an order, of which a finding names one."""
+    inner = finding.between.finding if finding.between else None
+    plan = [PlannedOrder(order, inner is None) for order in (inner or finding).orders[:MOST_ORDERS]]
     for trace in traces:
-        raw = contents(trace) or b""
-        here = [planned for planned in plan if all(name_of(key) in raw for key in (planned.order.start, planned.order.end))]
-        if here:
-            take_places(here, raw, Places(trace))
+        take_places(plan, contents(trace) or b"", Places(trace))
     return plan
-
-
-def name_of(key: str) -> bytes:
-    return key.rpartition("/")[0].encode("utf-8", "surrogateescape")
 
 
 def take_places(plan: list[PlannedOrder], raw: bytes, places: Places) -> None:
@@ -70,9 +65,9 @@ def release(held: list[tuple[str, int]], key: str) -> None:
 
 
 def take_acquisition(planned: PlannedOrder, key: str, record: int, held: list[tuple[str, int]], places: Places) -> None:
-    if key != planned.order.end:
+    if planned.key(key) != planned.order.end:
         return
-    since = [taken for other, taken in held if other == planned.order.start]
+    since = [taken for other, taken in held if planned.key(other) == planned.order.start]
     if not since:
         return
     add_place(planned.wants, places, record)
