@@ -10,7 +10,7 @@ from .processes import output_of
 from .refused_record import shown
 
 OF_PROGRAM = ("check", "explain", "graph", "condense", "chains")
-COMMANDS = OF_PROGRAM + ("run", "record", "where", "confirm", "view", "help")
+COMMANDS = OF_PROGRAM + ("run", "provoke", "record", "where", "confirm", "diff", "view", "help")
 WITH_OPTIONS = OF_PROGRAM + ("run", "view")
 OPTION = re.compile(r"^ *(?:-[a-zA-Z], )?(--[a-z-]*)", re.M)
 LONGEST_WORD = 60
