@@ -13,7 +13,7 @@ from .findings import Finding, Kind
 from .folder import OF_PROVOKE, PROVOKED, Folder, fault
 from .options import Words
 from .processes import find_command, start, status_of
-from .provoke_load import Load
+from .provoke_load import Load, send
 from .provoke_plan import PlannedOrder, plan_of
 from .provoke_run import LOOK, Outcome, Run, Standing
 from .provoke_table import Table
@@ -27,6 +27,7 @@ DEFAULT_RUNS = "10"
 LONGER = 10  # how many times as long as the recorded run another one may take
 LEAST_LIMIT = 30.0  # seconds
 LIBRARY = "provoke.so"
+ENDING = (signal.SIGINT, signal.SIGTERM, signal.SIGHUP)  # signals that end this command
 ARENA = ".arena"  # of a file that a recorded process has from its first lock on
 OF_THE_SYSTEM = ("libc.so", "libpthread.so", "ld-linux")  # modules whose functions begin each thread
 UNTRIED = {Kind.TYPES: "no class of locks takes part both ways", Kind.TIMED: "its cycle needs a wait that gives up",
@@ -56,10 +57,34 @@ def provoke(home: str, line: Words) -> int:
     findings = chosen(asked.findings(), line)
     if not findings:
         return NOTHING_TRIED
+    heed_signals()
     try:
         return Tries(folder, line, library, max(LEAST_LIMIT, LONGER * seconds)).all(findings, asked.traces)
     except OSError as error:
         raise Refusal(fault(error, folder))
+    except Ended as ended:  # (the run has been ended by now)
+        signal.signal(ended.number, signal.SIG_DFL)
+        os.kill(os.getpid(), ended.number)
+        raise
+
+
+class Ended(BaseException):
+    """A signal came that ends this command."""
+
+    def __init__(self, number: int) -> None:
+        super().__init__(number)
+        self.number = number
+
+
+def end_by(number: int, frame: object) -> None:
+    raise Ended(number)
+
+
+def heed_signals() -> None:
+    """Has the run be ended before a signal ends this command, unless that was started to ignore it."""
+    for number in ENDING:
+        if signal.getsignal(number) is not signal.SIG_IGN:
+            signal.signal(number, end_by)
 
 
 def look_at_command(line: Words) -> None:
@@ -77,11 +102,14 @@ def look_at_command(line: Words) -> None:
 
 
 def recorded(home: str, folder: str, command: list[str], beside: str) -> float:
-    """Records the command, with another one beside it if that is wished, and returns how many seconds it took."""
+    """Records the command, with another one beside it if that is wished, and returns how many seconds it took. A signal ends the recorded
+    run: the terminal's Ctrl-C comes to it too, and others are passed on."""
     began = time.monotonic()
-    signal.signal(signal.SIGINT, lambda number, frame: None)  # the command gets it too, if it hangs already
-    status = end_of_recording(start([os.path.join(home, "recorders", "pthread", "record"), "-o", folder, "--", *command]), folder, beside)
-    signal.signal(signal.SIGINT, signal.default_int_handler)
+    recorder = start([os.path.join(home, "recorders", "pthread", "record"), "-o", folder, "--", *command])
+    for number in ENDING:
+        if signal.getsignal(number) is not signal.SIG_IGN:
+            signal.signal(number, lambda number, frame: send(recorder, number) if number != signal.SIGINT else None)
+    status = end_of_recording(recorder, folder, beside)
     if not os.path.exists(os.path.join(folder, "SUMMARY")):
         raise Refusal("nothing was recorded: the recorder ended with status %d" % status)
     return time.monotonic() - began
