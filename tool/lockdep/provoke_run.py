@@ -8,7 +8,7 @@ import time
 from dataclasses import dataclass
 
 from .provoke_load import Load, send
-from .provoke_table import Modules, Table, Thread, cycle_in, name_of, sleeps
+from .provoke_table import Modules, Table, Thread, cycle_in, name_of, sleeps, state_of
 from .recording import ASAN
 
 LOOK = 0.02  # seconds from one look to the next
@@ -75,17 +75,17 @@ class Run:
             self.child = subprocess.Popen(command, stdin=stdin, stdout=output, stderr=output, env=environment, start_new_session=True)
 
     def outcome(self, limit: float) -> Outcome:
-        """Waits until the command ends or stands still, for so many seconds at most."""
+        """Waits until the command and what it has left in the background have ended, or stand still, for so many seconds at most."""
         watch, end = Watch(self.table), time.monotonic() + limit
         while time.monotonic() < end:
             standing = watch.standstill()
             if standing:
                 return Outcome(process=standing[0].process, standing=described(standing))
-            if self.child.poll() is not None:
+            if self.child.poll() is not None and not any(map(is_alive, self.table.processes())):
                 return Outcome(status=self.child.returncode)
             self.load.step(bool(self.table.threads()), self.child.pid)
             time.sleep(LOOK)
-        return Outcome(is_too_long=True)
+        return Outcome(status=self.child.returncode, is_too_long=self.child.returncode is None)
 
     def end(self, process: int) -> None:
         """Ends what stands still, and all that the run has left."""
@@ -104,6 +104,11 @@ class Run:
             self.child.wait(GRACE)
         except subprocess.TimeoutExpired:
             pass
+
+
+def is_alive(process: int) -> bool:
+    """Whether a process is there and hasn't ended."""
+    return state_of(process, process) not in ("", "Z", "X")
 
 
 def described(cycle: list[Thread]) -> list[Standing]:

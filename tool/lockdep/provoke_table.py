@@ -117,13 +117,18 @@ def path_back(at: Thread, first: Thread, waiting: list[Thread], seen: set[int]) 
     return []
 
 
+def state_of(process: int, thread: int) -> str:
+    """The letter that the kernel has for the state of a thread; empty if it isn't there."""
+    try:
+        with open("/proc/%d/task/%d/stat" % (process, thread), "rb") as file:
+            return file.read().rpartition(b")")[2].split()[0].decode()
+    except (OSError, IndexError):
+        return ""
+
+
 def sleeps(thread: Thread) -> bool:
     """Whether the kernel has the thread asleep."""
-    try:
-        with open("/proc/%d/task/%d/stat" % (thread.process, thread.thread), "rb") as file:
-            return file.read().rpartition(b")")[2].split()[:1] == [b"S"]
-    except OSError:
-        return False
+    return state_of(thread.process, thread.thread) == "S"
 
 
 def name_of(thread: Thread) -> str:
