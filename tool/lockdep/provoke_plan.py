@@ -2,17 +2,24 @@
 from __future__ import annotations
 
 import csv
+import functools
+import os
 from dataclasses import dataclass, field
+from typing import Tuple
 
 from .files import contents
 from .findings import Finding, Order
-from .places import Places
+from .places import Places, classes_in
+from .provoke_run import Standing
 from .provoke_table import MOST_ORDERS
 from .symbols import Address
 from .verdict import type_of_key
-from .words import text_of
+from .words import name_in, text_of
 
 MOST_PLACES = 64  # of an order, each
+
+
+Chain = Tuple[Address, ...]  # callers, the innermost first
 
 
 @dataclass
@@ -21,24 +28,33 @@ class PlannedOrder:
 
     order: Order
     is_of_types: bool  # the order's keys are types, and no single locks
-    holds: set[Address] = field(default_factory=set)
-    wants: set[Address] = field(default_factory=set)
+    start: tuple[str, int] | None  # where the first lock is, if it is static
+    end: tuple[str, int] | None  # the same of the second one
+    holds: set[Chain] = field(default_factory=set)
+    wants: set[Chain] = field(default_factory=set)
 
     def key(self, key: str) -> str:
         """A key of a trace as the order has it."""
         return type_of_key(key) if self.is_of_types else key
 
     def lines(self, number: int) -> list[str]:
-        places = [("hold", place) for place in self.holds] + [("want", place) for place in self.wants]
+        places = {("hold", chain[0]) for chain in self.holds} | {("want", chain[0]) for chain in self.wants}
         return ["order %d" % number] + ["%s %x %s" % (word, place.offset or 0, place.module) for word, place in sorted(
             places, key=lambda pair: (pair[0], pair[1].module, pair[1].offset or 0))]
 
 
-def plan_of(finding: Finding, traces: list[str]) -> list[PlannedOrder]:
+def statics_in(folder: str) -> dict[str, tuple[str, int]]:
+    """Where the static locks of a recording are, by their classes."""
+    return {made.name: (real_path(made.place.module), made.place.offset) for made in classes_in(folder) or []
+            if made.kind == "static" and made.place.offset is not None}
+
+
+def plan_of(finding: Finding, traces: list[str], statics: dict[str, tuple[str, int]]) -> list[PlannedOrder]:
     """The plan of a finding, by the orders of the single locks that make it, or if there are none by those of its types: the places of every
     record of an order, of which a finding names one."""
     inner = finding.between.finding if finding.between else None
-    plan = [PlannedOrder(order, inner is None) for order in (inner or finding).orders[:MOST_ORDERS]]
+    plan = [PlannedOrder(order, inner is None, statics.get(name_in(order.start)), statics.get(name_in(order.end)))
+            for order in (inner or finding).orders[:MOST_ORDERS]]
     for trace in traces:
         take_places(plan, contents(trace) or b"", Places(trace))
     return plan
@@ -75,8 +91,46 @@ def take_acquisition(planned: PlannedOrder, key: str, record: int, held: list[tu
         add_place(planned.holds, places, taken)
 
 
-def add_place(found: set[Address], places: Places, record: int) -> None:
-    """Adds the innermost caller of a record. Deeper ones would leave out that the same code is reached in another way."""
+def add_place(found: set[Chain], places: Places, record: int) -> None:
+    """Adds the callers of a record. Threads are held back by the innermost one, since the same code may be reached in another way; what has
+    happened is told by all of them."""
     callers = places.callers(record) if len(found) < MOST_PLACES else []
     if callers and callers[0].offset is not None:
-        found.add(callers[0])
+        found.add(tuple(callers))
+
+
+# ---- Which finding a cycle of threads is.
+
+
+def is_at(stack: list[tuple[str, int]], chains: set[Chain]) -> bool:
+    """Whether a thread's stack has the callers of one of these places, in their order. A recording leaves out callers between them."""
+    return any(has_callers(stack, chain) for chain in chains)
+
+
+def has_callers(stack: list[tuple[str, int]], chain: Chain) -> bool:
+    rest = iter(stack)
+    return all(any((real_path(caller.module), caller.offset) == place for place in rest) for caller in chain)
+
+
+@functools.lru_cache(maxsize=None)
+def real_path(module: str) -> str:
+    """The path of a module as the system has it, which a program may have opened by another one."""
+    return os.path.realpath(module)
+
+
+def orders_at(thread: Standing, plan: list[PlannedOrder]) -> set[int]:
+    """The orders, from 1 on, that a thread is at."""
+    return {number for number, planned in enumerate(plan, 1)
+            if is_at(thread.waits, planned.wants) and (is_at(thread.holds, planned.holds) or thread.orders >> (number - 1) & 1)
+            and can_be(thread.held_place, planned.start) and can_be(thread.awaited_place, planned.end)}
+
+
+def can_be(place: tuple[str, int] | None, static: tuple[str, int] | None) -> bool:
+    """Whether a lock at this place can be that one, which is at its own place if it is static."""
+    return place is None or static is None or place == static
+
+
+def is_cycle_of(threads: list[Standing], plan: list[PlannedOrder]) -> bool:
+    """Whether each of these threads is at an order of the plan, and each order has a thread."""
+    orders = [orders_at(thread, plan) for thread in threads]
+    return all(orders) and set().union(*orders) == set(range(1, len(plan) + 1))

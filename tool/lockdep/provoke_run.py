@@ -15,18 +15,25 @@ LOOK = 0.02  # seconds from one look to the next
 SURE = 0.2  # seconds for which threads that were let go have to stand
 SURE_UNPLANNED = 2.0  # the same of others
 GRACE = 0.5  # seconds that a process has to end
+MOST_GENERATIONS = 100  # of processes that are left, each by the one before
+PR_SET_CHILD_SUBREAPER = 36
 
 
 @dataclass(frozen=True)
 class Standing:
-    """A thread of a program that stands still: its number, its name, the planned order that it stood at, or 0, and the places of its callers
-    where it waits, and where it took the lock that the thread before it waits for."""
+    """A thread of a program that stands still: its number and name, the lock that it waits for and the one that the thread before it waits
+    for, each with its place if that is in a module, the places of its callers where it waits for the one and took the other, and a bit for
+    each planned order of which the latter is known as the first lock."""
 
     number: int
     name: str
-    order: int
+    awaited: int
+    held: int
+    awaited_place: tuple[str, int] | None
+    held_place: tuple[str, int] | None
     waits: list[tuple[str, int]]
     holds: list[tuple[str, int]]
+    orders: int
 
 
 @dataclass
@@ -81,11 +88,15 @@ class Run:
             standing = watch.standstill()
             if standing:
                 return Outcome(process=standing[0].process, standing=described(standing))
-            if self.child.poll() is not None and not any(map(is_alive, self.table.processes())):
+            if self.child.poll() is not None and not self.is_something_left():
                 return Outcome(status=self.child.returncode)
             self.load.step(bool(self.table.threads()), self.child.pid)
             time.sleep(LOOK)
         return Outcome(status=self.child.returncode, is_too_long=self.child.returncode is None)
+
+    def is_something_left(self) -> bool:
+        """Whether the command, which has ended, has left processes in the background, which have come to this one."""
+        return any(state_of(process, process) not in ("", "Z", "X") for process in children())
 
     def end(self, process: int) -> None:
         """Ends what stands still, and all that the run has left."""
@@ -93,11 +104,16 @@ class Run:
         if process:
             send(process, signal.SIGABRT)
             self.wait_shortly()
-        for other in self.table.processes():
-            send(other, signal.SIGKILL)
         send(-self.child.pid, signal.SIGKILL)
         send(self.child.pid, signal.SIGKILL)
         self.child.wait()
+        for _ in range(MOST_GENERATIONS):
+            left = children()
+            for other in left:
+                send(other, signal.SIGKILL)
+                reap(other)
+            if not left:
+                return
 
     def wait_shortly(self) -> None:
         try:
@@ -106,9 +122,31 @@ class Run:
             pass
 
 
-def is_alive(process: int) -> bool:
-    """Whether a process is there and hasn't ended."""
-    return state_of(process, process) not in ("", "Z", "X")
+def adopt_orphans() -> None:
+    """Has processes come to this one when what started them has ended, so that a daemon of a run is ended with it."""
+    import ctypes
+    ctypes.CDLL(None).prctl(PR_SET_CHILD_SUBREAPER, 1, 0, 0, 0)
+
+
+def children() -> list[int]:
+    """The processes that this one has."""
+    own = os.getpid()
+    return [int(name) for name in os.listdir("/proc") if name.isdigit() and parent_of(int(name)) == own]
+
+
+def parent_of(process: int) -> int:
+    try:
+        with open("/proc/%d/stat" % process, "rb") as file:
+            return int(file.read().rpartition(b")")[2].split()[1])
+    except (OSError, IndexError, ValueError):
+        return 0
+
+
+def reap(process: int) -> None:
+    try:
+        os.waitpid(process, 0)
+    except OSError:
+        pass
 
 
 def described(cycle: list[Thread]) -> list[Standing]:
@@ -121,8 +159,8 @@ def described(cycle: list[Thread]) -> list[Standing]:
     found = []
     for at, thread in enumerate(cycle):
         held = thread.hold_before(cycle[at - 1])
-        found.append(Standing(numbers[thread.thread], name_of(thread), thread.order, placed(modules, thread.callers),
-                              placed(modules, held.callers)))
+        found.append(Standing(numbers[thread.thread], name_of(thread), thread.awaited, held.lock, modules.place(thread.awaited),
+                              modules.place(held.lock), placed(modules, thread.callers), placed(modules, held.callers), held.orders))
     return found
 
 

@@ -28,10 +28,11 @@ class Counts:
 
 @dataclass(frozen=True)
 class Held:
-    """A lock that a thread holds."""
+    """A lock that a thread holds; `orders` has a bit for each order of which it is known as the first lock."""
 
     lock: int
     mode: int
+    orders: int
     callers: tuple[int, ...]
 
 
@@ -66,7 +67,8 @@ class Table:
         self.path = path
         with open(path, "wb") as file:
             file.write(HEAD.pack(MAGIC, MOST_ORDERS, MOST_THREADS))
-            file.truncate(SIZE)
+            file.flush()
+            os.posix_fallocate(file.fileno(), 0, SIZE)  # a full disk is met here, and not where it is read or written
         with open(path, "rb") as file:
             self.raw = mmap.mmap(file.fileno(), SIZE, access=mmap.ACCESS_READ)
 
@@ -86,11 +88,9 @@ class Table:
                       tuple(each for each in held if each.lock))
 
     def held_at(self, start: int) -> Held:
-        lock, mode, depth, _, *callers = HELD.unpack_from(self.raw, start)
-        return Held(lock, mode, tuple(callers[:depth]))
+        lock, mode, depth, orders, *callers = HELD.unpack_from(self.raw, start)
+        return Held(lock, mode, orders, tuple(callers[:depth]))
 
-    def processes(self) -> set[int]:
-        return {thread.process for thread in self.threads()}
 
 
 def cycle_in(threads: list[Thread]) -> list[Thread]:
@@ -169,9 +169,12 @@ class Modules:
             pass
 
     def take(self, words: list[str]) -> None:
+        """Takes a line of /proc/PID/maps. Memory without a file behind a module's is the module's too: what is zero at first."""
+        start, end = (int(word, 16) for word in words[0].split("-"))
+        if len(words) < 6 and self.parts and self.parts[-1][1] == start:
+            self.parts.append((start, end, self.parts[-1][2]))
         if len(words) < 6 or words[5][:1] != "/":
             return
-        start, end = (int(word, 16) for word in words[0].split("-"))
         self.parts.append((start, end, words[5]))
         if words[5] not in self.bases:
             self.bases[words[5]] = start - int(words[2], 16) if is_moved(words[5]) else 0

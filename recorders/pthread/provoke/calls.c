@@ -65,6 +65,7 @@ static int take(void *lock, enum mode mode, on_lock try, on_lock real, int busy,
     int before = errno;
     struct stack stack;
     is_inside = true;
+    read_plan_again();
     struct fits fits = look_at_call(&stack, caller);
     if (fits.wants)
         consider((uintptr_t)lock, mode, fits.wants, &stack);

@@ -4,6 +4,7 @@
 
 #include <limits.h>
 #include <link.h>
+#include <pthread.h>
 #include <stdio.h>
 #include <stdlib.h>
 #include <string.h>
@@ -56,16 +57,29 @@ static int is_sought(struct dl_phdr_info *module, size_t size, void *with) {
     return 1;
 }
 
-/* A line `hold OFFSET MODULE` or `want OFFSET MODULE`, of the order that was named last. A module that isn't loaded at the start fits
-   nothing. */
+/* The plan's file, if there were places in modules that weren't loaded, and how many modules had been loaded when it was read. */
+static char plan_path[PATH_MAX];
+static bool is_incomplete;
+static unsigned long long loads;
+static pthread_mutex_t reading = PTHREAD_MUTEX_INITIALIZER;
+
+static int take_loads(struct dl_phdr_info *module, size_t size, void *with) {
+    (void)size;
+    *(unsigned long long *)with = module->dlpi_adds;
+    return 1;
+}
+
+/* A line `hold OFFSET MODULE` or `want OFFSET MODULE`, of the order that was named last. */
 static void take_place(const char *line, unsigned order) {
     uintptr_t offset;
     char word[8], path[PATH_MAX];
     if (sscanf(line, "%7s %lx %4095[^\n]", word, &offset, path) != 3)
         return;
     struct sought sought = {path, 0};
-    if (!dl_iterate_phdr(is_sought, &sought))
+    if (!dl_iterate_phdr(is_sought, &sought)) {
+        is_incomplete = true;
         return;
+    }
     struct place *place = place_at(sought.base + offset, true);
     if (!place)
         return;
@@ -80,6 +94,10 @@ bool read_plan(const char *path) {
     FILE *file = fopen(path, "re");
     if (!file)
         return false;
+    is_incomplete = false;
+    dl_iterate_phdr(take_loads, &loads);
+    if (path != plan_path)
+        snprintf(plan_path, sizeof plan_path, "%s", path);
     char line[PATH_MAX + 64];
     unsigned orders = 0;
     while (fgets(line, sizeof line, file)) {
@@ -142,6 +160,21 @@ static bool is_worth_a_look(struct caller *caller, uintptr_t address) {
     if (caller->address != address)
         *caller = (struct caller){address, 0, false};
     return caller->is_fit || caller->unfit < OFTEN || caller->unfit++ % SELDOM == 0;
+}
+
+/* Reads the plan once more if modules have been loaded and it has places in others than there were. The loader's lock is waited for, so this
+   thread may hold none. */
+void read_plan_again(void) {
+    unsigned long long now = 0;
+    if (!is_incomplete || !holds_nothing())
+        return;
+    dl_iterate_phdr(take_loads, &now);
+    if (now == loads)
+        return;
+    real_lock(&reading);
+    if (now != loads && read_plan(plan_path))
+        memset(callers, 0, sizeof callers);
+    real_unlock(&reading);
 }
 
 /* The stack of a call with this innermost caller, and the orders that it belongs to. Several threads may write at once what is kept of a

@@ -77,6 +77,7 @@ struct fits {
 
 /* plan.c */
 bool read_plan(const char *path);
+void read_plan_again(void);
 struct fits look_at_call(struct stack *stack, uintptr_t caller);
 void look_at_stack(struct stack *stack);
 
@@ -84,6 +85,7 @@ void look_at_stack(struct stack *stack);
 extern struct table *table;
 bool open_table(const char *path);
 bool is_known_thread(void);
+bool holds_nothing(void);
 void forget_other_threads(void);
 void consider(uintptr_t lock, enum mode mode, uint64_t wants, const struct stack *stack);
 void begin_wait(uintptr_t lock, enum mode mode, const struct stack *stack);

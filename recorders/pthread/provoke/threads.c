@@ -86,6 +86,8 @@ bool is_known_thread(void) {
     return true;
 }
 
+bool holds_nothing(void) { return !mine || mine->held_count == 0; }
+
 /* In the child of a fork: its one thread holds what it held, and has a place of its own. */
 void forget_other_threads(void) {
     const struct thread *before = mine;

@@ -1,0 +1,207 @@
+"""The runs by which `lockdep provoke` tries one finding after the other, and what is said of them."""
+from __future__ import annotations
+
+import json
+import os
+import sys
+
+from .findings import Finding
+from .folder import OF_PROVOKE, PROVOKED, Folder
+from .options import Words
+from .provoke_plan import PlannedOrder, is_cycle_of, orders_at, plan_of, statics_in
+from .provoke_run import Outcome, Run, Standing, adopt_orphans
+from .provoke_table import Table
+from .saying import write_error
+from .symbols import Address, Frame, Symbols, without_wrappers
+from .words import class_of_lock, name_in, plain_key, visible
+
+HAPPENED, NOT_HAPPENED, NOTHING_TRIED = 1, 0, 2
+DEFAULT_RUNS = "10"
+LIBRARY = "provoke.so"
+OF_THE_SYSTEM = ("libc.so", "libpthread.so", "ld-linux")  # modules whose functions begin each thread
+DEEPEST = 6  # callers of a thread that are shown
+
+
+def say(text: str) -> None:
+    write_error("lockdep: " + text)
+
+
+class Tries:
+    """The runs of one command for its findings."""
+
+    def __init__(self, recording: str, line: Words, library: str, limit: float) -> None:
+        self.recording, self.library, self.limit, self.command = recording, library, limit, line.rest
+        self.runs, self.pause, self.given = int(line.last("--runs", DEFAULT_RUNS)), line.last("--pause"), line.last("--stdin")
+        self.beside, self.is_kept = line.last("--while"), line.has("--keep")
+        self.room = os.path.join(os.path.realpath(recording), OF_PROVOKE)
+        self.findings: dict[int, Finding] = {}
+        self.plans: dict[int, list[PlannedOrder]] = {}
+        self.happened: list[dict] = []  # also in earlier calls
+        self.numbers: set[int] = set()  # of what happened in this one
+        self.is_standing = False
+
+    def all(self, findings: list[tuple[int, Finding]], traces: list[str]) -> int:
+        """Tries one finding after the other."""
+        self.begin(findings, traces)
+        for number in self.plans:
+            if number not in self.numbers and not (self.is_standing and self.is_kept):
+                self.one(number)
+        return HAPPENED if self.is_standing else NOT_HAPPENED if self.plans else NOTHING_TRIED
+
+    def begin(self, findings: list[tuple[int, Finding]], traces: list[str]) -> None:
+        """Makes the plans, and room for what the runs leave."""
+        statics = statics_in(self.recording)
+        for number, finding in findings:
+            plan = plan_of(finding, traces, statics)
+            if all(planned.holds and planned.wants for planned in plan):
+                self.findings[number], self.plans[number] = finding, plan
+            else:
+                say("finding %d isn't tried: the recording has no places of its orders" % number)
+        self.happened = earlier(os.path.join(self.recording, PROVOKED))
+        os.makedirs(self.room, exist_ok=True)
+        self.write_happened()
+        folder = Folder(self.recording)
+        folder.lock()
+        folder.list_made()
+        adopt_orphans()
+        say("%d finding%s to provoke, each by %d runs at most; their output goes to %s" % (
+            len(self.plans), "" if len(self.plans) == 1 else "s", self.runs, os.path.join(self.recording, OF_PROVOKE)))
+
+    def one(self, number: int) -> None:
+        """Tries one finding, and says what came of it."""
+        path = os.path.join(self.room, "plan-%d" % number)
+        with open(path, "w", encoding="utf-8", errors="surrogateescape") as file:
+            for place, planned in enumerate(self.plans[number], 1):
+                file.write("\n".join(planned.lines(place)) + "\n")
+        for count in range(1, self.runs + 1):
+            table = Table(os.path.join(self.room, "table-%d-%d" % (number, count)))
+            outcome = self.run(number, count, path, table)
+            os.unlink(table.path)
+            if outcome.standing and self.take(number, count, outcome):
+                return
+            if outcome.is_too_long:
+                say("run %d for finding %d took longer than %d seconds, and was ended" % (count, number, self.limit))
+        say("finding %d: not in %d runs: %s" % (number, self.runs, why_not(table, len(self.plans[number]))))
+
+    def run(self, number: int, count: int, plan: str, table: Table) -> Outcome:
+        output = os.open(os.path.join(self.room, "output-%d-%d" % (number, count)), os.O_WRONLY | os.O_CREAT | os.O_TRUNC, 0o666)
+        run = Run(self.command, self.library, plan, table, self.pause, self.given, output, self.beside)
+        os.close(output)
+        outcome = Outcome()
+        try:
+            outcome = run.outcome(self.limit)
+        finally:
+            if outcome.standing and self.is_kept:
+                run.load.end()
+            else:
+                run.end(outcome.process)
+        return outcome
+
+    def finding_of(self, number: int, standing: list[Standing]) -> int:
+        """The number of the finding that these threads are: the one that is tried, or another one that is planned; 0 if it is none."""
+        numbers = [number] + [other for other in self.plans if other != number]
+        return next((each for each in numbers if is_cycle_of(standing, self.plans[each])), 0)
+
+    def take(self, number: int, count: int, outcome: Outcome) -> bool:
+        """Says what happened. Whether no further run is needed for the finding: it happened, or a cycle that is none of those that were found."""
+        standing = outcome.standing or []
+        found = self.finding_of(number, standing)
+        self.is_standing = True
+        if found in self.numbers and not self.is_kept:
+            return found == 0
+        say("run %d: %s: the program stands still" % (
+            count, "finding %d happened" % found if found else "a cycle that is none of these findings happened"))
+        lines = thread_lines(standing, self.plans[found] if found else [])
+        sys.stdout.write("".join(line + "\n" for line in ([self.findings[found].head] if found else []) + lines))
+        sys.stdout.flush()
+        if self.is_kept:
+            say("process %d is left standing: `gdb -p %d` looks at it, and `kill %d` ends it" % ((outcome.process,) * 3))
+        self.keep(found, count, standing)
+        return found in (0, number) or self.is_kept
+
+    def keep(self, found: int, count: int, standing: list[Standing]) -> None:
+        """Writes down what happened, in the place of what an earlier call had of the same finding."""
+        lines = self.findings[found].lines if found else []
+        self.numbers.add(found)
+        self.happened = [said for said in self.happened if not lines or said.get("lines") != lines]
+        self.happened.append({"finding": found, "lines": lines, "run": count, "threads": [
+            {"name": thread.name, "holds": words_of_places(thread.holds), "waits": words_of_places(thread.waits)} for thread in standing]})
+        self.write_happened()
+
+    def write_happened(self) -> None:
+        with open(os.path.join(self.recording, PROVOKED), "w", encoding="utf-8", errors="surrogateescape") as file:
+            json.dump({"lockdep": 1, "provoked": self.happened}, file, indent=1)
+
+
+def earlier(path: str) -> list[dict]:
+    """What earlier calls made happen in the same recording; nothing if that can't be read."""
+    try:
+        with open(path, encoding="utf-8", errors="surrogateescape") as file:
+            return [said for said in json.load(file)["provoked"] if isinstance(said, dict)]
+    except (OSError, ValueError, KeyError, TypeError):
+        return []
+
+
+def why_not(table: Table, orders: int) -> str:
+    """Why nothing happened in the last run, by its counts."""
+    counts = [table.counts(order) for order in range(orders)]
+    missed = [order for order, count in enumerate(counts, 1) if not count.reached]
+    if missed:
+        return "no thread came to the second lock of order %d by a wait without an end" % missed[0]
+    alone = [order for order, count in enumerate(counts, 1) if not count.under]
+    if alone:
+        return "no thread came to the second lock of order %d with the first one held" % alone[0]
+    return "its orders were never under way at once (they were reached %s times)" % " and ".join(str(count.under) for count in counts)
+
+
+# ---- What a person reads.
+
+
+def thread_lines(standing: list[Standing], plan: list[PlannedOrder]) -> list[str]:
+    """Each thread with what it holds and waits for, and where."""
+    symbols = Symbols()
+    for thread in standing:
+        for module, offset in shown_places(thread.waits) + shown_places(thread.holds):
+            symbols.want(Address(module, offset))
+    symbols.ask()
+    lines = []
+    for thread in standing:
+        name = ' "%s"' % visible(thread.name) if thread.name else ""
+        lines.append("  thread %d%s %s" % (thread.number, name, locks_of(thread, plan)))
+        lines += ["      waits  " + words for words in frames_of(symbols, thread.waits)]
+        lines += ["      took   " + words for words in frames_of(symbols, thread.holds)]
+    return lines
+
+
+def locks_of(thread: Standing, plan: list[PlannedOrder]) -> str:
+    """What a thread holds and waits for, by classes. Locks of one class are told apart by their addresses, since a number that the recording
+    gave to one says nothing of another run."""
+    numbers = orders_at(thread, plan)
+    start, end = classes_of(plan[min(numbers) - 1]) if numbers else ("a lock", "a lock" if thread.awaited == thread.held else "another")
+    if thread.awaited == thread.held:
+        return "holds %s and waits for it" % start
+    if numbers and start == end:
+        start, end = "%s at %#x" % (start, thread.held), "%s at %#x" % (end, thread.awaited)
+    return "holds %s and waits for %s" % (start, end)
+
+
+def classes_of(planned: PlannedOrder) -> tuple[str, str]:
+    start, end = (plain_key("%s/%s" % (class_of_lock(name_in(key)), key.rpartition("/")[2])) for key in (planned.order.start, planned.order.end))
+    return start, end
+
+
+def shown_places(places: list[tuple[str, int]]) -> list[tuple[str, int]]:
+    """Without those of this tool and of the C library."""
+    return [place for place in places if not os.path.basename(place[0]).startswith((LIBRARY,) + OF_THE_SYSTEM)]
+
+
+def frames_of(symbols: Symbols, places: list[tuple[str, int]]) -> list[str]:
+    """The callers in words, innermost first."""
+    frames: list[Frame] = []
+    for module, offset in shown_places(places):
+        frames += symbols.frames(Address(module, offset))
+    return [frame.words for frame in without_wrappers(frames)][:DEEPEST]
+
+
+def words_of_places(places: list[tuple[str, int]]) -> list[str]:
+    return ["%s+0x%x" % place for place in shown_places(places)]
