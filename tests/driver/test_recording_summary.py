@@ -50,6 +50,9 @@ class Texts(unittest.TestCase):
     def test_files_are_listed_as_they_were_read(self):
         self.assertEqual(self.summary.listed("unreached-runs")[1], "./env, 1 time: it is started without LD_PRELOAD, as by env -i")
 
+    def test_a_path_that_ends_with_a_number_is_no_count(self):
+        self.assertEqual(Summary(summary.parse("processes 1\nloaded /tmp/App 2\n")).after("loaded"), ["/tmp/App 2"])
+
     def test_words_of_an_earlier_version(self):
         earlier = Summary(summary.parse("processes 1\ncalls seen 9\nleft out: acquisitions beyond 48 held locks 3\nrepeats left out 4\nobjects 8\n"))
         self.assertEqual((earlier.operations(), earlier.left_out()), (9, ["3 acquisitions beyond 48 held locks"]))
