@@ -18,7 +18,6 @@ from .words import name_in, text_of
 
 MOST_PLACES = 64  # of an order, each
 
-
 Chain = Tuple[Address, ...]  # callers, the innermost first
 
 

@@ -23,7 +23,7 @@ PR_SET_CHILD_SUBREAPER = 36
 class Standing:
     """A thread of a program that stands still: its number and name, the lock that it waits for and the one that the thread before it waits
     for, each with its place if that is in a module, the places of its callers where it waits for the one and took the other, and a bit for
-    each planned order of which the latter is known as the first lock."""
+    each order of the run's plan of which the latter is known as the first lock."""
 
     number: int
     name: str

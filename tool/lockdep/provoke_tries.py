@@ -4,6 +4,7 @@ from __future__ import annotations
 import json
 import os
 import sys
+from dataclasses import replace
 
 from .findings import Finding
 from .folder import OF_PROVOKE, PROVOKED, Folder
@@ -97,15 +98,17 @@ class Tries:
                 run.end(outcome.process)
         return outcome
 
-    def finding_of(self, number: int, standing: list[Standing]) -> int:
-        """The number of the finding that these threads are: the one that is tried, or another one that is planned; 0 if it is none."""
-        numbers = [number] + [other for other in self.plans if other != number]
-        return next((each for each in numbers if is_cycle_of(standing, self.plans[each])), 0)
+    def finding_of(self, number: int, standing: list[Standing]) -> tuple[int, list[Standing]]:
+        """The number of the finding that these threads are: the one that is tried, or another one that is planned, or 0 if it is none; and the
+        threads with what is known of their locks by that one's plan."""
+        if is_cycle_of(standing, self.plans[number]):
+            return number, standing
+        others = [replace(thread, orders=0) for thread in standing]
+        return next((each for each in self.plans if is_cycle_of(others, self.plans[each])), 0), others
 
     def take(self, number: int, count: int, outcome: Outcome) -> bool:
         """Says what happened. Whether no further run is needed for the finding: it happened, or a cycle that is none of those that were found."""
-        standing = outcome.standing or []
-        found = self.finding_of(number, standing)
+        found, standing = self.finding_of(number, outcome.standing or [])
         self.is_standing = True
         if found in self.numbers and not self.is_kept:
             return found == 0

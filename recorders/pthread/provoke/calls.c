@@ -19,7 +19,7 @@ static bool is_planned;
 /* The C library has two versions of functions that wait for conditions, of which programs call the second. */
 #define CONDITION_VERSION "GLIBC_2.3.2"
 
-void *real_function(const char *name, const char *version) {
+static void *real_function(const char *name, const char *version) {
     void *found = version ? dlvsym(RTLD_NEXT, name, version) : NULL;
     return found ? found : dlsym(RTLD_NEXT, name);
 }

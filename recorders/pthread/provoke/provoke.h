@@ -82,7 +82,6 @@ struct fits look_at_call(struct stack *stack, uintptr_t caller);
 void look_at_stack(struct stack *stack);
 
 /* threads.c */
-extern struct table *table;
 bool open_table(const char *path);
 bool is_known_thread(void);
 bool holds_nothing(void);
@@ -95,7 +94,6 @@ struct held note_given(uintptr_t lock);
 void note_retaken(const struct held *held, uint64_t holds);
 
 /* calls.c */
-void *real_function(const char *name, const char *version);
 int real_lock(void *lock);
 int real_unlock(void *lock);
 

@@ -2,7 +2,6 @@
 #define _GNU_SOURCE
 #include "provoke.h"
 
-#include <errno.h>
 #include <fcntl.h>
 #include <pthread.h>
 #include <stdlib.h>
@@ -13,7 +12,6 @@
 #include <time.h>
 #include <unistd.h>
 
-#define NANOSECONDS 1000000000L
 #define NANOSECONDS_OF_MILLISECOND 1000000L
 #define DEFAULT_PAUSE 300 /* milliseconds */
 
@@ -24,7 +22,7 @@
 /* A pause at an order that was reached often is shorter: a half after so many pauses, and so on. */
 #define PAUSES_OF_ONE_LENGTH 10
 
-struct table *table;
+static struct table *table;
 
 static __thread struct thread *mine;
 static pthread_key_t at_exit;
@@ -139,7 +137,6 @@ void note_taken(uintptr_t lock, enum mode mode, uint64_t holds, const struct sta
 
 /* A lock that another thread of this process took is handed over to be released. */
 static struct held take_from_others(uintptr_t lock) {
-    struct held none = {0};
     for (int i = 0; i < MOST_THREADS; i++) {
         struct thread *other = &table->all[i];
         if (LOAD(&other->process) != getpid())
@@ -147,13 +144,11 @@ static struct held take_from_others(uintptr_t lock) {
         for (uint32_t k = 0; k < LOAD(&other->held_count); k++) {
             uint64_t expected = lock;
             struct held *held = &other->held[k];
-            if (__atomic_compare_exchange_n(&held->lock, &expected, 0, false, __ATOMIC_ACQ_REL, __ATOMIC_RELAXED)) {
-                none = *held;
-                return none;
-            }
+            if (__atomic_compare_exchange_n(&held->lock, &expected, 0, false, __ATOMIC_ACQ_REL, __ATOMIC_RELAXED))
+                return (struct held){.lock = lock, .mode = held->mode, .orders = held->orders};
         }
     }
-    return none;
+    return (struct held){0};
 }
 
 /* Ends the newest hold of the lock. The result is what was held, with lock 0 if nothing was. */
