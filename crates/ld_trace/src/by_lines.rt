@@ -287,7 +287,7 @@ impl KeyTable {
                 break;
             };
             let (line, rest) = left.split_at(count.min(left.len()));
-            let before = mem::replace(&mut recent[hash as usize % RECENT], hash);
+            let before = mem::replace(&mut recent[(hash >> 32) as usize % RECENT], hash);
             if before != hash && !self.knows(hash) {
                 fresh.extend_from_slice(line)?;
             }

@@ -23,30 +23,44 @@ const LONGEST: usize = 88;
 // The most lines that are known.
 const MOST_LINES: usize = 16_384;
 
-// How many slots there are for them.
-const SLOTS: usize = 32_768;
+// How many slots there are for them at first, and at most: powers of two, of which at most half have a line.
+const FIRST_SLOTS: usize = 1_024;
 
-// In a slot without a line.
-const NO_LINE: u16 = u16::MAX;
+const MOST_SLOTS: usize = 32_768;
+
+// What a slot has without a line: the number of none.
+const NO_LINE: u64 = u64::MAX;
+
+// The lowest bits of a slot are the number of its line, the others those of the line's hash.
+const NUMBER_BITS: u64 = 0xFFFF;
 
 // How many slots are looked at for a line.
 const LOOKS: usize = 16;
+
+// How many bytes are looked at at once for the end of a line.
+const SHORT: usize = 32;
+
+// Odd factors, one for each of the words that a hash is made of.
+const MIXERS: [u64; 4] = [
+    0x9E37_79B9_7F4A_7C15,
+    0xC2B2_AE3D_27D4_EB4F,
+    0x1656_67B1_9E37_79F9,
+    0xD6E8_FEB8_6659_FD93,
+];
 
 // A line with its newline, and the event that it is the text of.
 #[derive(Drop)]
 pub(crate) struct KnownLine {
     text: ArrayVec<u8, LONGEST>,
     event: Event,
-    // What it is found by: a hint, as those of `Lines`.
-    hash: u64,
 }
 
 // The lines that a table knows. All but the lines are hints: they may be anything, and are looked at before they are believed.
 #[derive(Drop)]
 pub(crate) struct Lines {
     known: Vec<KnownLine>,
-    // The line of each slot.
-    slots: Vec<u16>,
+    // The number of a line and the rest of its hash, in one of the slots that are looked at for it.
+    slots: Vec<u64>,
 }
 
 impl Lines {
@@ -76,34 +90,50 @@ impl Lines {
         let Some(FrontLine { hash, .. }) = front_line(text) else {
             return;
         };
-        if self.known.len() >= MOST_LINES || self.find_hash(hash).is_some() {
-            return;
-        }
-        if self.slots.is_empty() && self.slots.resize(SLOTS, NO_LINE).is_err() {
+        if self.known.len() >= MOST_LINES || self.knows(hash) || !self.have_slots() {
             return;
         }
         let mut kept = ArrayVec::new();
         if kept.try_extend_from_slice(text).is_err() {
             return;
         }
-        let number = self.known.len() as u16;
-        let line = KnownLine {
-            text: kept,
-            event,
-            hash,
-        };
-        if self.known.push(line).is_ok() {
-            note(&mut self.slots, hash, number);
+        let number = self.known.len() as u64;
+        if self.known.push(KnownLine { text: kept, event }).is_ok() {
+            note(&mut self.slots, hash & !NUMBER_BITS | number);
         }
     }
 
+    // Whether there are slots for one line more, of which there are twice as many if half of them have one.
+    fn have_slots(&mut self) -> bool
+        ensures { self.new.known ≡ self.old.known }
+    {
+        if self.known.len() < self.slots.len() / 2 {
+            return true;
+        }
+        let count = (self.slots.len() * 2).clamp(FIRST_SLOTS, MOST_SLOTS);
+        let mut slots = Vec::new(*self.slots.allocator());
+        if slots.resize(count, NO_LINE).is_err() {
+            return false;
+        }
+        for slot in self.slots.iter() {
+            if *slot != NO_LINE {
+                note(&mut slots, *slot);
+            }
+        }
+        self.slots = slots;
+        true
+    }
+
     // The number of the line with this hash.
+    #[inline(always)]
     fn find_hash(&self, hash: u64) -> Option<u16> {
         for step in 0..LOOKS {
-            let number = *self.slots.get(slot_of(hash, step))?;
-            let known = self.known.get(number as usize)?;
-            if known.hash == hash {
-                return Some(number);
+            let slot = *self.slots.get(slot_of(hash, step, self.slots.len()))?;
+            if slot & !NUMBER_BITS == hash & !NUMBER_BITS {
+                return Some((slot % (NUMBER_BITS + 1)) as u16);
+            }
+            if slot == NO_LINE {
+                return None;
             }
         }
         None
@@ -166,13 +196,14 @@ impl Lines {
     }
 }
 
-// Puts a line into the first free slot of those that are looked at for it.
-fn note(slots: &mut [u16], hash: u64, number: u16) {
+// Puts a line with its hash into the first free slot of those that are looked at for it.
+fn note(slots: &mut [u64], line: u64) {
+    let count = slots.len();
     for step in 0..LOOKS {
-        if let Some(free) = slots.get_mut(slot_of(hash, step))
+        if let Some(free) = slots.get_mut(slot_of(line, step, count))
             && *free == NO_LINE
         {
-            *free = number;
+            *free = line;
             return;
         }
     }
@@ -236,9 +267,9 @@ fn has_event(version: Version, event: Event) -> bool
     }
 }
 
-// The slot that is looked at for a hash after as many others.
-fn slot_of(hash: u64, step: usize) -> usize {
-    ((hash >> 32) as usize % SLOTS).wrapping_add(step) % SLOTS
+// The slot that is looked at for a hash after as many others, of as many as a power of two.
+fn slot_of(hash: u64, step: usize, count: usize) -> usize {
+    (hash >> 48).wrapping_add(step as u64) as usize & count.wrapping_sub(1)
 }
 
 // The line that some bytes begin with: its hash, and how many bytes it has, its newline included.
@@ -251,55 +282,108 @@ pub(crate) struct FrontLine {
 // None if there is no newline among so many bytes as a known line has.
 #[inline(always)]
 pub(crate) fn front_line(bytes: &[u8]) -> Option<FrontLine> {
-    let mut mixed = 0u64;
-    for place in 0..LONGEST / 8 {
-        let word = word_from(bytes, place * 8);
-        let ends = newlines_in(word);
+    if bytes.len() >= SHORT
+        && let Some(count) = short_line(bytes)
+    {
+        let hash = hash_of_short(bytes, count);
+        return Some(FrontLine { hash, count });
+    }
+    other_front_line(bytes)
+}
+
+// The same for a line that is longer, or if there are few bytes.
+#[inline(never)]
+fn other_front_line(bytes: &[u8]) -> Option<FrontLine> {
+    let count = bytes.iter().take(LONGEST).position(|byte| *byte == b'\n')? + 1;
+    let hash = hash_of_line(bytes.get(..count)?);
+    Some(FrontLine { hash, count })
+}
+
+// How many bytes the first line has, its newline included, if that is among the first 32.
+#[inline(always)]
+fn short_line(bytes: &[u8]) -> Option<usize>
+    requires { SHORT ≤ length bytes.now }
+    ensures { IfSome result (λ count. (1 ≤ count) × (count ≤ SHORT)) }
+{
+    for place in 0..SHORT / 8 {
+        let ends = newlines_in(word_at(bytes, place * 8));
         if ends != 0 {
-            let last = ends.trailing_zeros() % 64;
-            return Some(FrontLine {
-                hash: mixed_with(mixed, word & u64::MAX >> (63 - last)),
-                count: place * 8 + last as usize / 8 + 1,
-            });
+            return Some(place * 8 + ends.trailing_zeros() as usize % 64 / 8 + 1);
         }
-        mixed = mixed_with(mixed, word);
     }
     None
 }
 
-// The newlines among the bytes of a word: the highest bit of the byte of the first one is the lowest bit that is set.
+// The newlines among the bytes of a word: the lowest bit that is set is in the byte of the first one.
+#[inline(always)]
 fn newlines_in(word: u64) -> u64 {
     let other = word ^ 0x0A0A_0A0A_0A0A_0A0A;
     other.wrapping_sub(0x0101_0101_0101_0101) & !other & 0x8080_8080_8080_8080
 }
 
-fn mixed_with(mixed: u64, word: u64) -> u64 {
-    (mixed ^ word)
-        .wrapping_mul(0x9E37_79B9_7F4A_7C15)
-        .rotate_left(23)
-}
-
-// The eight bytes from a place on, with zeros for those that aren't there.
-fn word_from(bytes: &[u8], at: usize) -> u64
-    requires { at ≤ LONGEST }
+// The hash of a line, of which these are the first bytes. It doesn't depend on what comes after the line.
+#[inline(always)]
+fn hash_of_short(bytes: &[u8], count: usize) -> u64
+    requires { (1 ≤ count) × (count ≤ SHORT) × (SHORT ≤ length bytes.now) }
 {
-    if at + 8 <= bytes.len() {
-        word_at(bytes, at)
-    } else {
-        last_word(bytes, at)
+    if count < 8 {
+        return hash_of_word(word_at(bytes, 0) & u64::MAX >> (64 - 8 * count));
     }
+    hash_of_words(bytes, count)
 }
 
-// The bytes from a place on, at most eight, with zeros after them.
-#[inline(never)]
-fn last_word(bytes: &[u8], at: usize) -> u64 {
+// The hash of a line that has all of these bytes.
+fn hash_of_line(line: &[u8]) -> u64
+    requires { length line.now ≤ LONGEST }
+{
+    let count = line.len();
+    if count < 8 {
+        return hash_of_word(word_of_few(line));
+    }
+    if count <= SHORT {
+        return hash_of_words(line, count);
+    }
+    let mut mixed = 0;
+    for place in 0..LONGEST / 8 {
+        let at = (place * 8).min(count - 8);
+        mixed = (mixed ^ word_at(line, at))
+            .wrapping_mul(MIXERS[0])
+            .rotate_left(23);
+    }
+    mixed.wrapping_mul(MIXERS[1])
+}
+
+// The hash of the first 8 to 32 bytes: of four words of them, which may overlap.
+#[inline(always)]
+fn hash_of_words(bytes: &[u8], count: usize) -> u64
+    requires { (8 ≤ count) × (count ≤ SHORT) × (count ≤ length bytes.now) }
+{
+    let last = count - 8;
+    let second = last.min(8);
+    let front = word_at(bytes, 0).wrapping_mul(MIXERS[0]);
+    let middle = word_at(bytes, second).wrapping_mul(MIXERS[1]);
+    let later = word_at(bytes, last - second).wrapping_mul(MIXERS[2]);
+    let end = word_at(bytes, last).wrapping_mul(MIXERS[3]);
+    front
+        .wrapping_add(middle)
+        .wrapping_add(later)
+        .wrapping_add(end)
+}
+
+fn hash_of_word(word: u64) -> u64 {
+    word.wrapping_mul(MIXERS[0])
+}
+
+// These bytes, fewer than eight, with zeros after them.
+fn word_of_few(bytes: &[u8]) -> u64 {
     let mut word = 0u64;
-    for byte in bytes.iter().skip(at).rev() {
+    for byte in bytes.iter().rev() {
         word = word << 8 | u64::from(*byte);
     }
     word
 }
 
+#[inline(always)]
 fn word_at(bytes: &[u8], at: usize) -> u64
     requires { at + 8 ≤ length bytes.now }
 {
