@@ -9,6 +9,7 @@ pub mod WordTables
 pub mod Gathering
 pub mod GrowingBy
 pub mod Meeting
+pub mod Paged
 pub mod LawProofs
 pub mod Leading
 pub mod RenamedChains

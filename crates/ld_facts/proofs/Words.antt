@@ -1,5 +1,5 @@
 -- Words with the same bits are the same words.
-use Rattle.ld_facts.proofs.Names.{◌%◌, ◌*◌, ◌+◌, ◌/◌, ◌<◌, ◌^◌, ◌∙◌, ◌≡◌, List, ap, arith, bit_at, bit_at-lt, cases_eq, eq-eqb, eqb, eqb-true, ext_get_or, get_or, has_bit, inl, inr, length, ne_eqb, same_from_bits_below, sym, ℕ}
+use Rattle.ld_facts.proofs.Names.{◌%◌, ◌*◌, ◌+◌, ◌/◌, ◌<◌, ◌^◌, ◌∙◌, ◌≡◌, List, ap, arith, bit_at, bit_at-lt, cases_eq, eq-eqb, eqb, eqb-true, get_or, has_bit, inl, inr, ne_eqb, same_from_bits_below, sym, ℕ}
 
 same_bit : (x y : ℕ) → x < 2 → y < 2 → eqb x 1 ≡ eqb y 1 → x ≡ y
 same_bit x y lx ly e =
@@ -12,13 +12,9 @@ same_bit x y lx ly e =
           ]
     ]
 
-pub same_words : (a b : List ℕ) → length a ≡ length b →
-    ((k : ℕ) → get_or a k 0 < 2 ^ 64) → ((k : ℕ) → get_or b k 0 < 2 ^ 64) →
-    ((n : ℕ) → has_bit a n ≡ has_bit b n) → a ≡ b
-same_words a b len fits_a fits_b bits =
-    ext_get_or 0 a b len
-    (λ k l. same_from_bits_below 64 (get_or a k 0) (get_or b k 0) (fits_a k) (fits_b k) (λ i li.
-    at a b k i li (bits (k * 64 + i))))
+pub same_word : (a b : List ℕ) (k : ℕ) → get_or a k 0 < 2 ^ 64 → get_or b k 0 < 2 ^ 64 → ((n : ℕ) → has_bit a n ≡ has_bit b n) → get_or a k 0 ≡ get_or b k 0
+same_word a b k fits_a fits_b bits =
+    same_from_bits_below 64 (get_or a k 0) (get_or b k 0) fits_a fits_b (λ i li. at a b k i li (bits (k * 64 + i)))
   where
     at : (a b : List ℕ) (k i : ℕ) → i < 64 → has_bit a (k * 64 + i) ≡ has_bit b (k * 64 + i) → bit_at (get_or a k 0) i ≡ bit_at (get_or b k 0) i
     at a b k i li e =

@@ -1,4 +1,5 @@
 pub mod Bits
+pub mod Pages
 pub mod Places
 pub mod Rows
 pub mod WordTable

@@ -79,44 +79,6 @@ pub fn first_beyond(words: &[u64], taken: &[u64]) -> Option<usize>
     None
 }
 
-// The first bit that is set from `start` on and before `end`.
-pub(crate) fn first_between(words: &[u64], start: usize, end: usize) -> Option<usize>
-    requires within { end ≤ 64 * length words.now }
-    requires fits { 64 * length words.now + 64 < 2 ^ 64 }
-    ensures none { IsNone result
-        → (k : ℕ) → start ≤ k → k < end → IsFalse (has_bit words.now k) }
-    ensures some { IfSome result (λ bit. (start ≤ bit) × (bit < end)
-        × IsTrue (has_bit words.now bit)
-        × ((k : ℕ) → start ≤ k → k < bit → IsFalse (has_bit words.now k))) }
-{
-    let mut at = start;
-    while at < end {
-        let rest = words[at / 64] >> (at % 64);
-        if rest != 0 {
-            let bit = at + rest.trailing_zeros() as usize;
-            return if bit < end { Some(bit) } else { None };
-        }
-        at = 64 * next_filled(words, at / 64 + 1, (end + 63) / 64);
-    }
-    None
-}
-
-// The number of the first word from `first` on and before `end` in which a bit is set, or `end` if there is none.
-fn next_filled(words: &[u64], first: usize, end: usize) -> usize
-    requires order { first ≤ end }
-    requires within { end ≤ length words.now }
-    ensures onwards { first ≤ result }
-    ensures within { result ≤ end }
-    ensures none { (k : ℕ) → 64 * first ≤ k → k < 64 * result → IsFalse (has_bit words.now k) }
-{
-    for i in first..end {
-        if words[i] != 0 {
-            return i;
-        }
-    }
-    end
-}
-
 // Whether bit `k` of the word is set.
 pub(crate) fn is_set(word: u64, k: usize) -> bool
     requires { k < 64 }
@@ -130,20 +92,6 @@ pub(crate) fn is_within(word: u64, other: u64) -> bool
     ensures { IsTrue result → (k : ℕ) → k < 64 → bit_at word k ≡ 1 → bit_at other k ≡ 1 }
 {
     word & !other == 0
-}
-
-// Whether both are the same words.
-pub(crate) fn same(words: &[u64], others: &[u64]) -> bool
-    requires { length words.now ≡ length others.now }
-    ensures equal { IsTrue result → words.now ≡ others.now }
-    ensures bits { ((n : ℕ) → has_bit words.now n ≡ has_bit others.now n) → IsTrue result }
-{
-    for i in 0..words.len() {
-        if words[i] != others[i] {
-            return false;
-        }
-    }
-    true
 }
 
 /// How many bits are set.

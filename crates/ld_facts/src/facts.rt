@@ -16,6 +16,7 @@ ghost use Rattle.ld_trace.specs.declared.key_id.TheConstants.{GRAPH_KEYS, MAX_KE
 
 use crate::dependency::Dependency;
 use crate::fact::{Fact, fact_total, word_total};
+use crate::pages::Pages;
 use crate::{bits, chain_facts};
 use ld_task::{Chain, Kind, Mark};
 use std::alloc::{AllocError, Global};
@@ -25,7 +26,7 @@ use std::marker::Model;
 #[derive(Drop)]
 pub struct Facts {
     keys: u16,
-    bits: Vec<u64>,
+    bits: Pages,
     dependencies: u64,
     marks: u64,
 }
@@ -35,17 +36,17 @@ impl Model for Facts {
 
     ghost Value = { FactParts };
 
-    ghost view = { λ f. record { keys = f.keys; words = f.bits.items } };
+    ghost view = { λ f. record { keys = f.keys; words = f.bits } };
 
     ghost invariant = { λ f. AreCounted (record {
       keys = f.keys;
-      words = f.bits.items;
+      words = f.bits;
     }) f.dependencies f.marks };
 }
 
 impl Facts {
-    /// No facts about the keys below `keys`, which is at most `MAX_KEYS`: then the bits take 34 MB. It fails only if
-    /// memory is refused.
+    /// No facts about the keys below `keys`, which is at most `MAX_KEYS`: then memory for 34 MB of bits is reserved, of
+    /// which each 512 bytes are used once one of their bits is set. It fails only if memory is refused.
     pub fn new(alloc: Global, keys: u16) -> Result<Facts, AllocError>
         requires { keys ≤ MAX_KEYS }
         ensures keys { IfOk result (λ f. f.keys ≡ keys) }
@@ -53,7 +54,7 @@ impl Facts {
         ensures dependency_count { IfOk result (λ f. dependency_count f ≡ 0) }
         ensures mark_count { IfOk result (λ f. mark_count f ≡ 0) }
     {
-        let bits = vec![in alloc; 0; word_total(keys)]?;
+        let bits = Pages::new(alloc, word_total(keys))?;
         Ok(Facts {
             keys,
             bits,
@@ -74,7 +75,7 @@ impl Facts {
     pub fn has(&self, fact: Fact) -> bool
         ensures { IsTrue result ↔ HasFact self.now fact }
     {
-        fact.is_below(self.keys) && bits::has(&self.bits, fact.number(self.keys))
+        fact.is_below(self.keys) && self.bits.has(fact.number(self.keys))
     }
 
     /// Whether the dependency is among the facts. False if a key isn't below the bound.
@@ -113,7 +114,7 @@ impl Facts {
             ↔ ((self.now.keys ≡ other.now.keys) × AreSame (HasFact self.now) (HasFact other.now)) }
         ensures equal { IsTrue result → self.now ≡ other.now }
     {
-        self.keys == other.keys && bits::same(&self.bits, &other.bits)
+        self.keys == other.keys && self.bits.same(&other.bits)
     }
 
     /// Adds a fact about keys below the bound, and returns whether it is new. If it isn't, nothing changes.
@@ -170,7 +171,7 @@ impl Facts {
         ensures adds { Adds (HasFact self.old) (HasFact self.new) (HasFact other.now) }
     {
         for i in 0..other.bits.len() {
-            self.unite_word(i, other.bits[i]);
+            self.unite_word(i, other.bits.word(i));
         }
     }
 
@@ -187,7 +188,7 @@ impl Facts {
         ensures value { result ≡ slice_get self.now.words n }
         ensures none { IsNone result ↔ (word_total self.now.keys ≤ n) }
     {
-        self.bits.get(n).copied()
+        (n < self.bits.len()).then(|| self.bits.word(n))
     }
 
     /// Adds the facts that bits of word `n` stand for. There has to be such a word, and none of the bits may be past
@@ -199,7 +200,7 @@ impl Facts {
         ensures adds { Adds (HasFact self.old) (HasFact self.new)
             (PairsHave self.old.keys ((n, bits) ∷ [])) }
     {
-        if bits::is_within(bits, self.bits[n]) {
+        if bits::is_within(bits, self.bits.word(n)) {
             return;
         }
         for k in 0..64 {
@@ -224,7 +225,7 @@ impl Facts {
         }
         let row = usize::from(from) * usize::from(self.keys) * 4;
         let end = row + usize::from(self.keys) * 4;
-        let bit = bits::first_between(&self.bits, row + n, end)?;
+        let bit = self.bits.first_between(row + n, end)?;
         Some(Dependency::at(from, bit - row))
     }
 
@@ -237,7 +238,7 @@ impl Facts {
         }
         let row = usize::from(self.keys) * 4;
         let start = usize::from(from) * row;
-        match bits::first_between(&self.bits, start, start + row) {
+        match self.bits.first_between(start, start + row) {
             Some(_) => true,
             None => false,
         }
@@ -251,7 +252,7 @@ impl Facts {
             return false;
         }
         let start = (usize::from(from) * usize::from(self.keys) + usize::from(to)) * 4;
-        match bits::first_between(&self.bits, start, start + 4) {
+        match self.bits.first_between(start, start + 4) {
             Some(_) => true,
             None => false,
         }
@@ -266,7 +267,7 @@ impl Facts {
             × ((k : ℕ) → n ≤ k → k < found → IsFalse (has_bit self.now.words k))) }
     {
         let keys = usize::from(self.keys);
-        bits::first_between(&self.bits, n, keys * keys * 4)
+        self.bits.first_between(n, keys * keys * 4)
     }
 
     // The number of the first fact whose number is `n` or more.
@@ -277,7 +278,7 @@ impl Facts {
             × IsTrue (has_bit self.now.words found)
             × ((k : ℕ) → n ≤ k → k < found → IsFalse (has_bit self.now.words k))) }
     {
-        bits::first_between(&self.bits, n, fact_total(self.keys))
+        self.bits.first_between(n, fact_total(self.keys))
     }
 
     // Sets a bit, and returns whether it is new.
@@ -287,10 +288,10 @@ impl Facts {
         ensures fresh { result ≡ not (has_bit self.old.words n) }
         ensures known { IsFalse result → self.new ≡ self.old }
     {
-        if bits::has(&self.bits, n) {
+        if self.bits.has(n) {
             return false;
         }
-        bits::insert(&mut self.bits, n);
+        self.bits.insert(n);
         let keys = usize::from(self.keys);
         if n < keys * keys * 4 {
             self.dependencies += 1;

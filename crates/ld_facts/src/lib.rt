@@ -9,6 +9,7 @@ mod dependency;
 mod fact;
 mod facts;
 mod laws;
+mod pages;
 pub mod places;
 mod renamed;
 

@@ -7,9 +7,9 @@ returns-in-Some c = (
   (λ _.
       let (least, most, on, first) = c.in-Some.ensures.some in
       subst (λ (facts : FactParts). HasTo facts c.args.from c.args.to) c.self.view_is
-      (to-some (record { keys = c.self.inside.keys; words = c.self.inside.bits.items }) c.args.from (omega (arith, c.if-from-self.false))
+      (to-some (record { keys = c.self.inside.keys; words = c.self.inside.bits }) c.args.from (omega (arith, c.if-from-self.false))
       c.args.to (omega (arith, c.if-to-self.false)) _ _ _
-      (λ i. (c.from.ensures i * c.from-2.ensures i + c.from-3.ensures i) * 4) refl least most (rw c.deref.ensures.value at on))),
+      (λ i. (c.from.ensures i * c.from-2.ensures i + c.from-3.ensures i) * 4) refl least most on)),
   (λ _. refl),
 )
 
@@ -18,9 +18,9 @@ returns-in-None c = (
   (λ off. absurd cc),
   (λ has.
       absurd
-      (to-none (record { keys = c.self.inside.keys; words = c.self.inside.bits.items }) c.args.from (omega (arith, c.if-from-self.false))
+      (to-none (record { keys = c.self.inside.keys; words = c.self.inside.bits }) c.args.from (omega (arith, c.if-from-self.false))
       c.args.to (omega (arith, c.if-to-self.false)) _ _
       (λ i. (c.from.ensures i * c.from-2.ensures i + c.from-3.ensures i) * 4) refl
-      (rw c.deref.ensures.value at c.in-None.ensures.none refl)
+      (c.in-None.ensures.none refl)
       (subst (λ (facts : FactParts). HasTo facts c.args.from c.args.to) (sym c.self.view_is) has))),
 )

@@ -7,9 +7,9 @@ returns-in-Some c = (
   (λ _.
       let (least, most, on, first) = c.in-Some.ensures.some in
       subst (λ (facts : FactParts). HasFrom facts c.args.from) c.self.view_is
-      (from-some (record { keys = c.self.inside.keys; words = c.self.inside.bits.items }) c.args.from (omega (arith, c.if-from-self.false)) _ _ _
+      (from-some (record { keys = c.self.inside.keys; words = c.self.inside.bits }) c.args.from (omega (arith, c.if-from-self.false)) _ _ _
       (λ i. c.from.ensures i * (c.from-row.ensures i * 4)) (ap (λ keys. c.from.result * (c.from-row.result * 4) + keys * 4) c.from-row.ensures)
-      least most (rw c.deref.ensures.value at on))),
+      least most on)),
   (λ _. refl),
 )
 
@@ -18,8 +18,8 @@ returns-in-None c = (
   (λ off. absurd cc),
   (λ has.
       absurd
-      (from-none (record { keys = c.self.inside.keys; words = c.self.inside.bits.items }) c.args.from (omega (arith, c.if-from-self.false)) _ _
+      (from-none (record { keys = c.self.inside.keys; words = c.self.inside.bits }) c.args.from (omega (arith, c.if-from-self.false)) _ _
       (λ i. c.from.ensures i * (c.from-row.ensures i * 4)) (ap (λ keys. c.from.result * (c.from-row.result * 4) + keys * 4) c.from-row.ensures)
-      (rw c.deref.ensures.value at c.in-None.ensures.none refl)
+      (c.in-None.ensures.none refl)
       (subst (λ (facts : FactParts). HasFrom facts c.args.from) (sym c.self.view_is) has))),
 )

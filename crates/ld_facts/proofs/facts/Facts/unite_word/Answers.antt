@@ -1,24 +1,18 @@
-use Rattle.ld_facts.proofs.Names.{◌*◌, ◌+◌, ◌/◌, ◌<◌, ◌∙◌, ◌≡◌, UnitesWord, ap, arith, bit_at, bit_total, eqb-true, get_or, get_or_default, length, subst, sym}
+use Rattle.ld_facts.proofs.Names.{◌*◌, ◌+◌, ◌<◌, ◌∙◌, ◌≡◌, UnitesWord, ap, bit_at, bit_total, eqb-true, get_or, subst, sym}
 use Rattle.ld_facts.proofs.Uniting.{UnitesWord-known, UnitesBits-start, UnitesBits-on, UnitesBits-off, UnitesWord-bits, Adds-word}
 use Rattle.ld_facts.proofs.facts.Facts.unite_word.Goals as goal
-use Rattle.ld_facts.proofs.facts.Facts.unite_word.Goals.{After-index, After-loop-k, then-is_set, else-is_set}
+use Rattle.ld_facts.proofs.facts.Facts.unite_word.Goals.{After-loop-k, Then-is_within, then-is_set, else-is_set}
 
-within : (c : After-index) → c.args.n < length c.self.inside.bits.items
-within c = let l = subst (λ v. c.args.n < (bit_total v.keys + 63) / 64) (sym c.self.view_is) c.requires.below in let w = c.self.invariant.are.words in omega arith
-
-word_is : (c : After-index) → c.index.result.now ≡ get_or c.args.self.now.words c.args.n 0
-word_is c =
-    c.index.ensures ∙ get_or_default c.self.inside.bits.items c.args.n c.index.result.now 0 (within c) ∙ ap (λ v. get_or v.words c.args.n 0) c.self.view_is
+known : (c : Then-is_within) → UnitesWord c.args.self.now c.args.self.now c.args.n c.args.bits
+known c =
+    UnitesWord-known c.args.self.now c.args.n c.args.bits
+    (λ k l h. subst (λ x. bit_at x k ≡ 1) (c.word.ensures ∙ ap (λ v. get_or v.words c.args.n 0) c.self.view_is) (c.is_within.ensures c.if-is_within.true k l h))
 
 pub returns-then-is_within-clause-unites : goal.returns-then-is_within-clause-unites
-returns-then-is_within-clause-unites c =
-    UnitesWord-known c.args.self.now c.args.n c.args.bits
-    (λ k l h. subst (λ x. bit_at x k ≡ 1) (word_is (goal.at.returns-then-is_within-clause-unites c).After-index) (c.is_within.ensures c.if-is_within.true k l h))
+returns-then-is_within-clause-unites c = known c
 
 pub returns-then-is_within-clause-adds : goal.returns-then-is_within-clause-adds
-returns-then-is_within-clause-adds c = Adds-word c.args.self.now c.args.self.now c.args.n c.args.bits (
-    UnitesWord-known c.args.self.now c.args.n c.args.bits
-    (λ k l h. subst (λ x. bit_at x k ≡ 1) (word_is (goal.at.returns-then-is_within-clause-adds c).After-index) (c.is_within.ensures c.if-is_within.true k l h)))
+returns-then-is_within-clause-adds c = Adds-word c.args.self.now c.args.self.now c.args.n c.args.bits (known c)
 
 pub loop-k-init : goal.loop-k-init
 loop-k-init c = UnitesBits-start c.args.self.now c.args.n c.args.bits

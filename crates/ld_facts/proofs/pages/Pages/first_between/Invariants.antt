@@ -1,10 +1,10 @@
 use Rattle.ld_facts.proofs.Names.{◌-◌, ◌<◌, ◌≤◌, IsFalse, has_bit, ℕ}
-use Rattle.ld_facts.proofs.bits.first_between.Given as goal
+use Rattle.ld_facts.proofs.pages.Pages.first_between.Given as goal
 
 abbrev pub invariant-loop-at : goal.invariant-loop-at
 invariant-loop-at l = record {
   onwards : l.start ≤ l.at;
-  none : (k : ℕ) → l.start ≤ k → k < l.at → IsFalse (has_bit l.words k);
+  none : (k : ℕ) → l.start ≤ k → k < l.at → IsFalse (has_bit l.self k);
 }
 
 abbrev pub decreases-loop-at : goal.decreases-loop-at

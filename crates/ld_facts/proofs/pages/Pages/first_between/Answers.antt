@@ -1,7 +1,7 @@
-use Rattle.ld_facts.proofs.Names.{◌%◌, ◌+◌, ◌-◌, ◌/◌, ◌^◌, arith, cases_lt, get_or, inl, inr, refl, trailing_zeros, w64}
+use Rattle.ld_facts.proofs.Names.{◌%◌, ◌+◌, ◌-◌, ◌/◌, ◌^◌, arith, cases_lt, ap, inl, inr, sym, ◌∙◌, trailing_zeros, w64}
 use Rattle.ld_facts.proofs.BitLemmas.{none_left, IsFirstFrom, first_left}
-use Rattle.ld_facts.proofs.bits.first_between.Goals as goal
-use Rattle.ld_facts.proofs.bits.first_between.Goals.{Then-rest-ne0}
+use Rattle.ld_facts.proofs.pages.Pages.first_between.Goals as goal
+use Rattle.ld_facts.proofs.pages.Pages.first_between.Goals.{Then-rest-ne0}
 
 pub loop-at-preserved : goal.loop-at-preserved
 loop-at-preserved c = record {
@@ -9,15 +9,15 @@ loop-at-preserved c = record {
   none = λ k la lb. elim (cases_lt k c.loop-at.at) [
     | inl before ↦ c.loop-at.invariant.none k la before
     | inr here ↦ elim (cases_lt k (c.loop-at.at + (64 - c.loop-at.at % 64))) [
-      | inl near ↦ none_left c.args.words.now c.loop-at.at k c.if-rest-ne0.false here near
+      | inl near ↦ none_left c.args.self.now c.loop-at.at k (ap (λ x. x / 2 ^ (c.loop-at.at % 64)) (sym c.word.ensures) ∙ c.if-rest-ne0.false) here near
       | inr far ↦ c.next_filled-at.ensures.none k (omega (arith, far)) lb
     ]
   ];
 }
 
-first : (c : Then-rest-ne0) → IsFirstFrom c.args.words.now c.loop-at.at
-    (c.loop-at.at + trailing_zeros w64 (get_or c.args.words.now (c.loop-at.at / 64) 0 / 2 ^ (c.loop-at.at % 64)))
-first c = first_left c.args.words.now c.loop-at.at (get_or c.args.words.now (c.loop-at.at / 64) 0 / 2 ^ (c.loop-at.at % 64)) (omega (arith, c.type_inv.words (c.loop-at.at / 64))) refl c.if-rest-ne0.true
+first : (c : Then-rest-ne0) → IsFirstFrom c.args.self.now c.loop-at.at (c.loop-at.at + trailing_zeros w64 (c.word.result / 2 ^ (c.loop-at.at % 64)))
+first c = first_left c.args.self.now c.loop-at.at (c.word.result / 2 ^ (c.loop-at.at % 64)) (let e = c.word.ensures in let l = c.word.type_inv in omega arith)
+    (ap (λ x. x / 2 ^ (c.loop-at.at % 64)) c.word.ensures) c.if-rest-ne0.true
 
 pub returns-then-bit-end-clause-some : goal.returns-then-bit-end-clause-some
 returns-then-bit-end-clause-some c =
