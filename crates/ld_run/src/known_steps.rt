@@ -298,10 +298,12 @@ impl KnownSteps {
     }
 }
 
-// The slot of the step from the state of this number by the event of this code.
+// The slot of the step from the state of this number by the event of this code. The number is all that a walk waits for, so
+// little is reckoned with it.
+#[inline(always)]
 fn slot_of(from: u16, code: u16) -> usize {
-    let both = u32::from(from) * 65_536 + u32::from(code);
-    (both.wrapping_mul(0x9E37_79B1) >> 18) as usize % STEP_SLOTS
+    let spread = u32::from(code).wrapping_mul(0x9E37_79B1) >> 18;
+    (spread as usize).wrapping_add(usize::from(from) * 9) % STEP_SLOTS
 }
 
 // Each event has a code of its own.

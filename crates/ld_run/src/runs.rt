@@ -49,7 +49,7 @@ struct Crew<'a, R, G> {
 /// work; if there are fewer traces than workers, no thread is made for those that would find nothing to do.
 ///
 /// With more than 256 keys there is no board, no book and no call of the gate: each worker walks its share of the traces
-/// and adds their facts to some of its own, which take 34 MB for 8,192 keys, and these are united.
+/// and adds their facts to some of its own, for which 34 MB are reserved with 8,192 keys, and these are united.
 ///
 /// The caller makes sure that all keys of the traces are below `keys`, and that `keys` is at most 8,192.
 ///
