@@ -1,20 +1,6 @@
 -- Facts by other names, and without those of several locks.
-use Rattle.ld_explain.proofs.Names.{Err, IfOk, IfSome, None, Ok, Option, Result, Some, [], ◌++◌, ◌+◌, ◌<◌, ◌∙◌, ◌∷◌, ◌≡◌, ◌≤◌, All, Bool, Contains, Dependency, Fact, FactBelow, FactParts, HasFact, Image, IsFalse, List, Marked, RenamedFactsAreTheImage, TracesHave, ap, arith, cases_lt, fact_by, false, if◌then◌else◌, inl, inr, length, length-append, length-map, map, refl, slice_index, subst, sym, true, true≢false, ℕ}
-use Rattle.std.proofs.lemmas.List.{get_or_append_left, get_or_push}
-use Rattle.std.proofs.lemmas.List.Elements.{Contains-get_or}
-use Rattle.std.specs.Borrow.{Bor}
-use Rattle.std.specs.Prelude.{IsErrAnd, IsNone, IsSomeAnd, option_map}
-use Rattle.ld_facts.specs.Facts.{AreSame}
-use Rattle.ld_facts.specs.Renaming.{ImageBelow, TracesHaveBy}
-use Rattle.ld_facts.specs.Renumbered.{fact_by}
-use Rattle.ld_trace.specs.Classes.{is_rest, name_by}
-use Rattle.ld_trace.specs.Names.{Name, is_known, with_name}
+use Rattle.ld_explain.proofs.Names.{[], ◌++◌, ◌+◌, ◌<◌, ◌∙◌, ◌∷◌, ◌≡◌, ◌≤◌, All, AreSame, AreSureNumbers, Bool, Bor, Contains, Contains-get_or, Dependency, Err, Event, Fact, FactBelow, FactParts, HasFact, IfOk, IfSome, Image, ImageBelow, IsErrAnd, IsFalse, IsNone, IsSomeAnd, IsSure, Level, List, Marked, Name, None, Ok, Option, RenamedFactsAreTheImage, Result, Some, TracesHave, TracesHaveBy, ap, arith, cases_lt, fact_by, false, get_or_append_left, get_or_push, if◌then◌else◌, inl, inr, is_known, is_rest, length, length-append, length-map, map, name_at, name_by, names_at, no_key, option_map, refl, slice_index, subst, sym, true, true≢false, with_name, ℕ}
 use Rattle.ld_trace.specs.TakingIn.{with_all}
-use Rattle.ld_trace.specs.Writing.{name_at}
-use Rattle.ld_trace.specs.declared.event.Event.{Event}
-use Rattle.ld_trace.specs.declared.level.Level.{Level}
-use Rattle.ld_explain.specs.Settling.{IsSure, names_at}
-use Rattle.ld_explain.specs.Inside.Sure.{AreSureNumbers, no_key}
 
 -- ---- numbers of single locks
 -- one key more

@@ -1,13 +1,7 @@
 //! The findings of settled facts.
 
-ghost use Rattle.std.specs.Prelude.{◌≤◌, All, IfOk, length};
-ghost use Rattle.ld_trace.specs.declared.raw_trace.TheConstants.{MAX_TRACES};
-ghost use Rattle.ld_task.specs.WellFormed.{IsWellFormed};
-ghost use Rattle.ld_facts.specs.FactBits.{HasFact};
-ghost use Rattle.ld_facts.specs.Facts.{AreSame};
-ghost use Rattle.ld_explain.specs.Findings.{AreFindings};
-ghost use Rattle.ld_explain.specs.Naming.{view_of};
-ghost use Rattle.ld_explain.specs.Origins.{ViewHas};
+ghost use Rattle.ld_explain.specs.Names.{◌≤◌, All, AreSame, HasFact, IfOk, IsWellFormed, MAX_TRACES, length};
+ghost use Rattle.ld_explain.specs.Clauses.{AreFindings, ViewHas, view_of};
 
 use crate::choices::Choices;
 use crate::evidence::Evidence;
