@@ -1,10 +1,7 @@
 -- Which keys the dependencies of findings lead from and to.
-use Rattle.ld_text.proofs.Names.{◌+◌, ◌<◌, ◌↔◌, ◌∙◌, ◌≡◌, ◌≢◌, ◌≤◌, ◌⊎◌, Any, Any-push, AreJoined, Arrow, Bool, IsFoundArrow, IsTrue, Leads, List, arith, arrow, false, get_or-replicate, get_or-set_other, get_or-set_same, get_or_default, inl, inr, kinds, length, refl, replicate, slice_index, slice_index_or, slice_set, subst, sym, take, take_all, take_more, true, ℕ}
+use Rattle.ld_text.proofs.Names.{◌+◌, ◌<◌, ◌↔◌, ◌∙◌, ◌≡◌, ◌≢◌, ◌≤◌, ◌⊎◌, Any, Any-push, AreJoined, Arrow, Bool, DependenciesOf, Fact, IsFoundArrow, IsTrue, Leads, List, OnCircle-member, StrongWalk-members, arith, arrow, false, get_or-replicate, get_or-set_other, get_or-set_same, get_or_default, inl, inr, kinds, length, refl, replicate, slice_index, slice_index_or, slice_set, subst, sym, take, take_all, take_more, true, ℕ}
 use mathlib.Core.Logic.{dite}
 use native.Mathlib.Decide.{ℕ_discrete}
-use Rattle.ld_facts.specs.Facts.{DependenciesOf}
-use Rattle.ld_graph.specs.Laws.Facts.{StrongWalk-members, OnCircle-member}
-use Rattle.ld_facts.specs.declared.fact.Fact.{Fact}
 use Rattle.ld_text.proofs.PictureGrowing.{none-yet}
 
 -- what is part of a finding is a dependency

@@ -1,12 +1,8 @@
 //! The text of a trace's chains.
 
-ghost use Rattle.std.specs.Prelude.{◌≡◌, ◌+◌, ◌≤◌, ◌++◌, [], Err, OnOk, OnErr, codes, length};
-ghost use Rattle.std.specs.Io.KnownBytes.{Appends};
-ghost use Rattle.ld_text.specs.ChainLines.{chain_line, chains_text, flags_text, head_text, taken_text};
-ghost use Rattle.ld_text.specs.Output.{AppendsBeginning};
-ghost use Rattle.ld_trace.specs.Writing.{name_at};
-ghost use Rattle.ld_text.specs.Words.{key_text};
-ghost use Rattle.ld_text.specs.declared.chains_text.TheConstants.{LINE_BYTES};
+ghost use Rattle.ld_text.specs.Names.{[], ◌++◌, ◌+◌, ◌≡◌, ◌≤◌, Appends, Err, OnErr, OnOk, codes, length, name_at};
+ghost use Rattle.ld_text.specs.Clauses.{AppendsBeginning, LINE_BYTES, chain_line, chains_text, flags_text, key_text, taken_text};
+ghost use Rattle.ld_text.specs.ChainLines.{head_text};
 
 use crate::output::{Page, put, write_out};
 use crate::words::{digits_of, flag_word, frame_word, name_of};
@@ -77,7 +73,6 @@ fn add_head(line: &mut Line, names: &KeyTable, chain: &Chain)
     add_flags(line, chain.flags());
 }
 
-// The line of a chain.
 fn add_line(line: &mut Line, names: &KeyTable, chain: &Chain)
     requires { line.old.bytes ≡ [] }
     ensures { line.new.bytes ≡ chain_line names.now.names chain.now }

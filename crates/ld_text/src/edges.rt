@@ -1,20 +1,16 @@
 //! The dependencies of a picture, and which keys those of findings lead from or to.
 
-ghost use Rattle.std.specs.Prelude.{◌≡◌, ◌↔◌, ◌⊎◌, ℕ, ◌<◌, Any, IfOk, IsTrue, OnOk, length, false, slice_index, slice_index_or};
-ghost use Rattle.ld_facts.specs.Arrows.{arrow};
-ghost use Rattle.ld_facts.specs.FactBits.{HasFact};
-ghost use Rattle.ld_text.specs.Groups.{GrowsBy, InTurn};
-ghost use Rattle.ld_text.specs.Inside.Joined.{AreJoinedKeys, Leads};
-ghost use Rattle.ld_text.specs.Picture.{IsFoundArrow, ShowsEdge};
-ghost use Rattle.ld_explain.specs.Found.{kinds};
+ghost use Rattle.ld_text.specs.Names.{◌<◌, ◌↔◌, ◌≡◌, ◌⊎◌, Any, HasFact, IfOk, IsTrue, OnOk, arrow, false, kinds, length, slice_index, slice_index_or, ℕ};
+ghost use Rattle.ld_text.specs.Clauses.{AreJoinedKeys, GrowsBy, InTurn, IsFoundArrow, Leads, ShowsEdge};
 
+use crate::Tried;
 use crate::picture::{PictureView, add_end};
 use crate::words::kind_word;
 use ld_explain::{KINDS, has_dependency};
 use ld_graph::Kind;
 use ld_parts::Settled;
 use ld_trace::KeyId;
-use std::alloc::{AllocError, Global};
+use std::alloc::Global;
 
 // Whether the dependency is part of a finding.
 fn is_found(settled: &Settled, from: KeyId, to: KeyId, kind: Kind) -> bool
@@ -25,14 +21,7 @@ fn is_found(settled: &Settled, from: KeyId, to: KeyId, kind: Kind) -> bool
 }
 
 impl PictureView<'_> {
-    // The line of a dependency, if there is one and it is shown. Returns whether it is part of a finding.
-    fn add_edge(
-        self,
-        text: &mut Vec<u8>,
-        from: KeyId,
-        to: KeyId,
-        kind: Kind,
-    ) -> Result<bool, AllocError>
+    fn add_edge(self, text: &mut Vec<u8>, from: KeyId, to: KeyId, kind: Kind) -> Tried<bool>
         ensures text { OnOk result (GrowsBy
             (ShowsEdge (HasFact self.entry.settled.now) self.entry.names.now.names self.entry.only (arrow from to kind))
             text.old.items text.new.items) }
@@ -50,7 +39,7 @@ impl PictureView<'_> {
     }
 
     // The lines of the dependencies from the one key to the other. Returns whether one of them is part of a finding.
-    fn add_edges_to(self, text: &mut Vec<u8>, from: KeyId, to: KeyId) -> Result<bool, AllocError>
+    fn add_edges_to(self, text: &mut Vec<u8>, from: KeyId, to: KeyId) -> Tried<bool>
         ensures text { OnOk result (GrowsBy
             (InTurn (λ kind. ShowsEdge (HasFact self.entry.settled.now) self.entry.names.now.names self.entry.only
             (arrow from to kind)) kinds)
@@ -71,12 +60,7 @@ impl PictureView<'_> {
 
     // The lines of the dependencies from the key. Marks the keys of the list to which one that is part of a finding leads,
     // and returns whether there is one. Most keys have no dependency, and are passed over at once.
-    fn add_edges_from(
-        self,
-        text: &mut Vec<u8>,
-        from: KeyId,
-        marks: &mut [bool],
-    ) -> Result<bool, AllocError>
+    fn add_edges_from(self, text: &mut Vec<u8>, from: KeyId, marks: &mut [bool]) -> Tried<bool>
         requires { length marks.old ≡ length self.keys.now }
         ensures text { OnOk result (GrowsBy
             (InTurn (λ to. InTurn (λ kind. ShowsEdge (HasFact self.entry.settled.now) self.entry.names.now.names
@@ -102,11 +86,7 @@ impl PictureView<'_> {
     }
 
     // The lines of the dependencies. Returns of each key whether one that is part of a finding leads from it or to it.
-    pub(crate) fn add_edges(
-        self,
-        alloc: Global,
-        text: &mut Vec<u8>,
-    ) -> Result<Vec<bool>, AllocError>
+    pub(crate) fn add_edges(self, alloc: Global, text: &mut Vec<u8>) -> Tried<Vec<bool>>
         ensures text { OnOk result (GrowsBy
             (InTurn (λ from. InTurn (λ to. InTurn (λ kind. ShowsEdge (HasFact self.entry.settled.now)
             self.entry.names.now.names self.entry.only (arrow from to kind)) kinds) self.entry.keys.now)

@@ -1,16 +1,9 @@
 //! The text of what was found, in one of two formats.
 
-ghost use Rattle.std.specs.Prelude.{◌≡◌, ◌≤◌, ℕ, List, All, IfOk, IfErr, OnOk, length, map};
-ghost use Rattle.std.specs.Io.KnownBytes.{Appends};
-ghost use Rattle.ld_trace.specs.declared.raw_trace.TheConstants.{MAX_TRACES};
-ghost use Rattle.ld_task.specs.WellFormed.{IsWellFormed};
-ghost use Rattle.ld_facts.specs.FactBits.{HasFact};
-ghost use Rattle.ld_facts.specs.Facts.{AreSame};
-ghost use Rattle.ld_facts.specs.TraceFacts.{TracesHave};
-ghost use Rattle.ld_text.specs.Explanation.{sources_of};
-ghost use Rattle.ld_text.specs.Findings.{SaysFindings};
-ghost use Rattle.ld_text.specs.WriteFaults.{StopsWriting};
+ghost use Rattle.ld_text.specs.Names.{◌≡◌, ◌≤◌, All, Appends, AreSame, HasFact, IfErr, IfOk, IsWellFormed, List, MAX_TRACES, OnOk, TracesHave, length, map, ℕ};
+ghost use Rattle.ld_text.specs.Clauses.{SaysFindings, StopsWriting, sources_of};
 
+use crate::Tried;
 use crate::key_texts::KeyTexts;
 use crate::order::sorted_keys;
 use crate::output::write_text;
@@ -19,7 +12,7 @@ use crate::write_fault::WriteFault;
 use ld_explain::{Naming, findings_of, own_names_change_nothing};
 use ld_parts::Settled;
 use ld_trace::{KeyTable, RawTrace};
-use std::alloc::{AllocError, Global};
+use std::alloc::Global;
 use std::io::Write;
 
 /// How findings are written.
@@ -31,7 +24,6 @@ pub enum Format {
     Json,
 }
 
-// The text.
 fn findings_text(
     alloc: Global,
     settled: &Settled,
@@ -39,7 +31,7 @@ fn findings_text(
     names: &KeyTable,
     files: &[&str],
     format: Format,
-) -> Result<Vec<u8>, AllocError>
+) -> Tried<Vec<u8>>
     requires few { length traces.now ≤ MAX_TRACES }
     requires well_formed { All IsWellFormed traces.now }
     requires facts { AreSame (HasFact settled.now) (TracesHave traces.now) }

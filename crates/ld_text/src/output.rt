@@ -1,9 +1,8 @@
 //! Writing whole texts to a writer.
 
-ghost use Rattle.std.specs.Prelude.{◌≡◌, ◌++◌, [], Err, OnOk, OnErr};
+ghost use Rattle.ld_text.specs.Names.{[], ◌++◌, ◌≡◌, Appends, Err, OnErr, OnOk};
+ghost use Rattle.ld_text.specs.Clauses.{AppendsBeginning, PutsBehind};
 ghost use Rattle.std.specs.List.{flat_map};
-ghost use Rattle.std.specs.Io.KnownBytes.{Appends};
-ghost use Rattle.ld_text.specs.Output.{AppendsBeginning, PutsBehind};
 
 use crate::write_fault::WriteFault;
 use arrayvec::ArrayString;

@@ -1,17 +1,9 @@
 //! The facts as a picture: a graph in the language DOT.
 
-ghost use Rattle.std.specs.Prelude.{◌≡◌, ◌++◌, ◌↔◌, List, ℕ, Any, IfErr, IfOk, IsTrue, OnOk, flat_map};
-ghost use Rattle.std.specs.Io.KnownBytes.{Appends};
-ghost use Rattle.ld_facts.specs.FactBits.{HasFact};
-ghost use Rattle.ld_graph.specs.Links.{IsDouble};
-ghost use Rattle.ld_text.specs.WriteFaults.{StopsWriting};
-ghost use Rattle.ld_text.specs.Groups.{GrowsBy, InTurn};
-ghost use Rattle.ld_text.specs.Inside.Joined.{AreJoinedKeys};
-ghost use Rattle.ld_text.specs.Picture.{AreJoined, IsFoundKey, IsNode, IsPicture, ShowsKey, arrow_text, double_links, end_text, escaped, inversion_links, link_line, quoted_key};
-ghost use Rattle.ld_text.specs.Report.{IsUsageCharacter, forms};
-ghost use Rattle.ld_explain.specs.Found.{states};
-ghost use Rattle.ld_trace.specs.Writing.{name_at};
+ghost use Rattle.ld_text.specs.Names.{◌++◌, ◌↔◌, ◌≡◌, Any, Appends, HasFact, IfErr, IfOk, IsDouble, IsTrue, List, OnOk, flat_map, name_at, states, ℕ};
+ghost use Rattle.ld_text.specs.Clauses.{AreJoined, AreJoinedKeys, GrowsBy, InTurn, IsFoundKey, IsNode, IsPicture, IsUsageCharacter, ShowsKey, StopsWriting, arrow_text, double_links, end_text, escaped, forms, inversion_links, link_line, quoted_key};
 
+use crate::Tried;
 use crate::order::sorted_keys;
 use crate::output::write_text;
 use crate::report::{FORMS, usage_character};
@@ -21,7 +13,7 @@ use ld_explain::Found;
 use ld_facts::STATES;
 use ld_parts::Settled;
 use ld_trace::{Irq, KeyId, KeyTable};
-use std::alloc::{AllocError, Global};
+use std::alloc::Global;
 use std::io::Write;
 
 // How the line of a double or an inversion ends, after its label.
@@ -40,22 +32,20 @@ pub(crate) struct PictureView<'a> {
     pub only: bool,
 }
 
-// Appends bytes.
-fn add_bytes(text: &mut Vec<u8>, more: &[u8]) -> Result<(), AllocError>
+fn add_bytes(text: &mut Vec<u8>, more: &[u8]) -> Tried<()>
     ensures { OnOk result (text.new.items ≡ text.old.items ++ more.now) }
 {
     text.extend_from_slice(more)
 }
 
-// Appends a text.
-fn add(text: &mut Vec<u8>, more: &str) -> Result<(), AllocError>
+fn add(text: &mut Vec<u8>, more: &str) -> Tried<()>
     ensures { OnOk result (text.new.items ≡ text.old.items ++ more.now) }
 {
     text.extend_from_slice(more.as_bytes())
 }
 
 // Appends a byte as it stands between double quotes.
-fn add_escaped(text: &mut Vec<u8>, byte: u8) -> Result<(), AllocError>
+fn add_escaped(text: &mut Vec<u8>, byte: u8) -> Tried<()>
     ensures { OnOk result (text.new.items ≡ text.old.items ++ escaped byte) }
 {
     match byte {
@@ -66,7 +56,7 @@ fn add_escaped(text: &mut Vec<u8>, byte: u8) -> Result<(), AllocError>
 }
 
 // Appends the bytes of a class's name as they stand between double quotes.
-fn add_name(text: &mut Vec<u8>, name: &[u8]) -> Result<(), AllocError>
+fn add_name(text: &mut Vec<u8>, name: &[u8]) -> Tried<()>
     ensures { OnOk result (text.new.items ≡ text.old.items ++ flat_map escaped name.now) }
 {
     for byte in name {
@@ -76,7 +66,7 @@ fn add_name(text: &mut Vec<u8>, name: &[u8]) -> Result<(), AllocError>
 }
 
 // Appends how the line of a key or a dependency ends, after its label.
-pub(crate) fn add_end(text: &mut Vec<u8>, red: bool) -> Result<(), AllocError>
+pub(crate) fn add_end(text: &mut Vec<u8>, red: bool) -> Tried<()>
     ensures { OnOk result (text.new.items ≡ text.old.items ++ end_text red) }
 {
     add(
@@ -111,7 +101,7 @@ impl PictureView<'_> {
     }
 
     // A key as it stands between double quotes.
-    fn add_key(self, text: &mut Vec<u8>, key: KeyId) -> Result<(), AllocError>
+    fn add_key(self, text: &mut Vec<u8>, key: KeyId) -> Tried<()>
         ensures { OnOk result (text.new.items
             ≡ text.old.items ++ quoted_key (name_at self.entry.names.now.names key)) }
     {
@@ -121,8 +111,7 @@ impl PictureView<'_> {
         add(text, digits_of(sub as usize).as_str())
     }
 
-    // The four usage characters of a key.
-    fn add_characters(self, text: &mut Vec<u8>, key: KeyId) -> Result<(), AllocError>
+    fn add_characters(self, text: &mut Vec<u8>, key: KeyId) -> Tried<()>
         ensures { OnOk result (GrowsBy
             (InTurn (λ form. IsUsageCharacter (HasFact self.entry.settled.now) key form.0 form.1) forms)
             text.old.items text.new.items) }
@@ -133,8 +122,7 @@ impl PictureView<'_> {
         Ok(())
     }
 
-    // The line of a key.
-    fn add_node(self, text: &mut Vec<u8>, key: KeyId, red: bool) -> Result<(), AllocError>
+    fn add_node(self, text: &mut Vec<u8>, key: KeyId, red: bool) -> Tried<()>
         ensures { OnOk result (GrowsBy
             (IsNode (HasFact self.entry.settled.now) self.entry.names.now.names key red)
             text.old.items text.new.items) }
@@ -150,12 +138,7 @@ impl PictureView<'_> {
     }
 
     // The line of a key, if it is shown. `is_joined`: whether a dependency that is part of a finding leads from it or to it.
-    fn add_shown_key(
-        self,
-        text: &mut Vec<u8>,
-        key: KeyId,
-        is_joined: bool,
-    ) -> Result<(), AllocError>
+    fn add_shown_key(self, text: &mut Vec<u8>, key: KeyId, is_joined: bool) -> Tried<()>
         requires { IsTrue is_joined ↔ Any (AreJoined (HasFact self.settled.now) key) self.keys.now }
         ensures { OnOk result (GrowsBy
             (ShowsKey (HasFact self.entry.settled.now) self.entry.names.now.names self.entry.keys.now self.entry.only key)
@@ -169,7 +152,7 @@ impl PictureView<'_> {
     }
 
     // The lines of the keys. `joined`: of each, whether a dependency that is part of a finding leads from it or to it.
-    fn add_keys(self, text: &mut Vec<u8>, joined: &[bool]) -> Result<(), AllocError>
+    fn add_keys(self, text: &mut Vec<u8>, joined: &[bool]) -> Tried<()>
         requires { AreJoinedKeys (HasFact self.settled.now) self.keys.now joined.now }
         ensures { OnOk result (GrowsBy
             (InTurn (ShowsKey (HasFact self.entry.settled.now) self.entry.names.now.names self.entry.keys.now
@@ -189,7 +172,7 @@ impl PictureView<'_> {
         from: KeyId,
         to: KeyId,
         label: &str,
-    ) -> Result<(), AllocError>
+    ) -> Tried<()>
         ensures { OnOk result (text.new.items
             ≡ text.old.items ++ arrow_text self.entry.names.now.names from to label.now) }
     {
@@ -203,13 +186,7 @@ impl PictureView<'_> {
     }
 
     // A dashed red arrow from the key that is used with a state enabled to the key that is used in it.
-    fn add_link(
-        self,
-        text: &mut Vec<u8>,
-        irq: Irq,
-        from: KeyId,
-        to: KeyId,
-    ) -> Result<(), AllocError>
+    fn add_link(self, text: &mut Vec<u8>, irq: Irq, from: KeyId, to: KeyId) -> Tried<()>
         ensures { OnOk result (text.new.items
             ≡ text.old.items ++ link_line self.entry.names.now.names irq from to) }
     {
@@ -217,8 +194,7 @@ impl PictureView<'_> {
         add(text, LINK_END)
     }
 
-    // The lines of doubles.
-    fn add_doubles(self, text: &mut Vec<u8>, doubles: &[(Irq, KeyId)]) -> Result<(), AllocError>
+    fn add_doubles(self, text: &mut Vec<u8>, doubles: &[(Irq, KeyId)]) -> Tried<()>
         ensures { OnOk result (text.new.items
             ≡ text.old.items ++ double_links self.entry.names.now.names doubles.now) }
     {
@@ -228,12 +204,7 @@ impl PictureView<'_> {
         Ok(())
     }
 
-    // The lines of inversions.
-    fn add_inversions(
-        self,
-        text: &mut Vec<u8>,
-        inversions: &[(Irq, (KeyId, KeyId))],
-    ) -> Result<(), AllocError>
+    fn add_inversions(self, text: &mut Vec<u8>, inversions: &[(Irq, (KeyId, KeyId))]) -> Tried<()>
         ensures { OnOk result (text.new.items
             ≡ text.old.items ++ inversion_links self.entry.names.now.names inversions.now) }
     {
@@ -245,13 +216,12 @@ impl PictureView<'_> {
     }
 }
 
-// The text of the picture of the settled facts.
 fn picture_text(
     alloc: Global,
     settled: &Settled,
     names: &KeyTable,
     findings: bool,
-) -> Result<Vec<u8>, AllocError>
+) -> Tried<Vec<u8>>
     ensures { IfOk result (λ text. IsPicture (HasFact settled.now) findings names.now.names text.items) }
 {
     let keys = sorted_keys(alloc, names)?;

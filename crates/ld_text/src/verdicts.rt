@@ -1,13 +1,9 @@
 //! The verdicts of traces, and the text of them in one of two formats.
 
-ghost use Rattle.std.specs.Prelude.{◌≡◌, ◌≤◌, All, IfErr, IfOk, List, OnOk, length, map, ℕ};
-ghost use Rattle.std.specs.Io.KnownBytes.{Appends};
-ghost use Rattle.ld_trace.specs.declared.raw_trace.TheConstants.{MAX_TRACES};
-ghost use Rattle.ld_task.specs.WellFormed.{IsWellFormed};
-ghost use Rattle.ld_explain.specs.Settling.{AreLevels};
-ghost use Rattle.ld_text.specs.Verdicts.{AreVerdictsOf, lock_sources, type_sources, verdicts_text};
-ghost use Rattle.ld_text.specs.WriteFaults.{StopsWriting};
+ghost use Rattle.ld_text.specs.Names.{◌≡◌, ◌≤◌, All, Appends, AreLevels, IfErr, IfOk, IsWellFormed, List, MAX_TRACES, OnOk, length, map, ℕ};
+ghost use Rattle.ld_text.specs.Clauses.{AreVerdictsOf, StopsWriting, lock_sources, type_sources, verdicts_text};
 
+use crate::Tried;
 use crate::findings::Format;
 use crate::key_texts::KeyTexts;
 use crate::order::sorted_keys;
@@ -44,7 +40,6 @@ pub fn verdicts_of_traces(
     levels.verdicts(alloc, traces, names, &keys, &locks)
 }
 
-// The text.
 fn verdicts_text(
     alloc: Global,
     verdicts: &[Verdict],
@@ -53,7 +48,7 @@ fn verdicts_text(
     names: &KeyTable,
     files: &[&str],
     format: Format,
-) -> Result<Vec<u8>, AllocError>
+) -> Tried<Vec<u8>>
     ensures { IfOk result (λ text. text.items ≡ verdicts_text format
         (type_sources traces.now types.now.names names.now.names (map (λ file. file.now) files.entry.now))
         (lock_sources traces.now names.now.names (map (λ file. file.now) files.entry.now)) verdicts.now) }

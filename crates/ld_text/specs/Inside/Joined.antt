@@ -1,9 +1,6 @@
 -- Keys that dependencies of findings lead from or to.
-use Rattle.std.specs.Prelude.{◌≡◌, ◌↔◌, ℕ, ◌<◌, Any, Bool, false, IsTrue, List, length, slice_index, slice_index_or}
-use Rattle.ld_facts.specs.Arrows.{arrow}
-use Rattle.ld_facts.specs.declared.fact.Fact.{Fact}
+use Rattle.ld_text.specs.Names.{◌<◌, ◌↔◌, ◌≡◌, Any, Bool, Fact, IsTrue, List, arrow, false, kinds, length, slice_index, slice_index_or, ℕ}
 use Rattle.ld_text.specs.Picture.{AreJoined, IsFoundArrow}
-use Rattle.ld_explain.specs.Found.{kinds}
 
 -- a dependency that is part of a finding leads from the one key to the other
 abbrev pub Leads : (Fact → Type 0) → (from to : ℕ) → Type 0

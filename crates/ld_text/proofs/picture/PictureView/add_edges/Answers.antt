@@ -1,5 +1,4 @@
-use Rattle.ld_text.proofs.Names.{◌+◌, ◌<◌, ◌↔◌, ◌∙◌, ◌≡◌, ◌⊎◌, Any, HasFact, IsTrue, Leads, ap, arith, false, get_or_default, length, length-replicate, length-set, slice_index, slice_index_or, slice_set, subst, sym, true, with_items_is, ℕ}
-use Rattle.std.specs.Vec.{with_items}
+use Rattle.ld_text.proofs.Names.{◌+◌, ◌<◌, ◌↔◌, ◌∙◌, ◌≡◌, ◌⊎◌, Any, HasFact, IsTrue, Leads, ap, arith, false, get_or_default, length, length-replicate, length-set, slice_index, slice_index_or, slice_set, subst, sym, true, with_items, with_items_is, ℕ}
 use Rattle.ld_text.proofs.GroupLemmas.{GrowsBy-more, GrowsBy-none}
 use Rattle.ld_text.proofs.JoinedLemmas.{Joined, joined-all, joined-kept, joined-none, joined-set}
 use Rattle.ld_text.proofs.picture.PictureView.add_edges.Goals as goal

@@ -1,6 +1,4 @@
-use Rattle.ld_text.proofs.Names.{◌<◌, ◌∙◌, Any, HasFact, InTurn, Leads, List, ShowsEdge, arith, arrow, inl, inr, kinds, length, length-set, refl, slice_index, slice_index_or, take_all, true, ℕ}
-use Rattle.ld_facts.specs.declared.fact.Fact.TheVariants.{Dependency}
-use Rattle.ld_task.specs.declared.kind.Kind.{Kind}
+use Rattle.ld_text.proofs.Names.{◌<◌, ◌∙◌, Any, Dependency, HasFact, InTurn, Kind, Leads, List, ShowsEdge, arith, arrow, inl, inr, kinds, length, length-set, refl, slice_index, slice_index_or, take_all, true, ℕ}
 use Rattle.ld_text.proofs.GroupLemmas.{GrowsBy-more, GrowsBy-none, GrowsBy-nothing, InTurn-nothing}
 use Rattle.ld_text.proofs.JoinedLemmas.{IsFoundArrow-dependency, at-place, done-kept, done-set, from-place, next-same, next-true, rest-set}
 use Rattle.ld_text.proofs.PictureGrowing.{none-yet, says-false}

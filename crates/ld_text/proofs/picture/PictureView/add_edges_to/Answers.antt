@@ -1,5 +1,4 @@
-use Rattle.ld_text.proofs.Names.{HasFact, IsFoundArrow, Leads, ShowsEdge, arith, arrow, inr, kinds, refl, take_all}
-use Rattle.ld_task.specs.declared.kind.Kind.{Kind}
+use Rattle.ld_text.proofs.Names.{HasFact, IsFoundArrow, Kind, Leads, ShowsEdge, arith, arrow, inr, kinds, refl, take_all}
 use Rattle.ld_text.proofs.GroupLemmas.{GrowsBy-more, GrowsBy-none, GrowsBy-nothing, InTurn-nothing}
 use Rattle.ld_text.proofs.JoinedLemmas.{IsFoundArrow-dependency, next-same, next-true}
 use Rattle.ld_text.proofs.PictureGrowing.{none-yet, says-false}
