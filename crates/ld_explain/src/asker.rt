@@ -3,9 +3,7 @@
 ghost use Rattle.ld_explain.specs.Names.{◌<◌, ◌↔◌, ◌≡◌, Arrow, Contains, HasFact, IfSome, IsFalse, IsNone, IsTrue, Kind, MAX_KEYS, arrow, slice_index, ℕ};
 ghost use Rattle.ld_explain.specs.Clauses.{IsCaseAt, IsLoneDouble, IsLoneInversion, IsLoneMember, IsSeenAt, level_of, members_of};
 
-use crate::finding::{Finding, Order};
-use crate::found::{Dependency, KINDS};
-use crate::naming::Naming;
+use crate::{Dependency, Finding, KINDS, Naming, Order};
 use ld_parts::Settled;
 use ld_task::Kind;
 use ld_trace::{Irq, KeyId};

@@ -4,9 +4,7 @@
 ghost use Rattle.ld_explain.specs.Names.{[], ◌<◌, ◌↔◌, ◌∷◌, ◌≡◌, ◌⊎◌, Adds, All, DependenciesOf, FactBelow, HasFact, Holds, IfOk, IsDouble, IsInversion, List, OnCircle, OnOk, Some, length, slice_get, ℕ};
 ghost use Rattle.ld_explain.specs.Clauses.{AddsChoice, AddsEach, AddsFor, AreAsked, AreChoices, AreFound, ChoosesCircle, ChoosesCircles, IsChoiceFrom, IsDoubleChoice, IsInversionChoice, IsMark, IsMember, IsPart, enabled_of, used_of};
 
-use crate::Tried;
-use crate::asked::Asked;
-use crate::found::{Dependency, Found};
+use crate::{Asked, Dependency, Found, Tried};
 use ld_facts::Fact;
 use ld_graph::{Mark, Walk};
 use ld_parts::Settled;

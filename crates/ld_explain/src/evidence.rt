@@ -5,11 +5,9 @@ ghost use Rattle.ld_task.specs.TraceChains as trace_chains;
 ghost use Rattle.ld_explain.specs.Names.{IsWellFormed, fact_slots};
 ghost use Rattle.ld_explain.specs.Clauses.{AreGuardsOf, AreOriginsOf, AreTakenIn, ComesNext, SeenBefore, SeenFrom, SeenTo, view_of};
 
-use crate::Tried;
-use crate::asked::Asked;
-use crate::guards::Guards;
 use crate::naming::{Naming, named_fact};
 use crate::origins::{Origin, Origins, position_of_slot};
+use crate::{Asked, Guards, Tried};
 use ld_facts::fact_slots;
 use ld_task::{Chain, PlacedState};
 use ld_trace::{Event, RawTrace};

@@ -3,17 +3,12 @@
 ghost use Rattle.ld_explain.specs.Names.{[], ◌++◌, ◌<◌, ◌↔◌, ◌∷◌, ◌≡◌, All, DependenciesOf, Fact, HasFact, Holds, IfOk, IsFalse, IsTrue, List, OnOk, Some, length, map, ℕ};
 ghost use Rattle.ld_explain.specs.Clauses.{AddsThose, Are, AreGates, AreOrders, AreThose, Explains, ExplainsSeen, IsAmong, IsCircle, IsFirst, IsGate, IsGuardOf, IsMark, IsOfBoth, IsOfLink, IsOnly, IsSeenAmong, Knows, SaysSeen, enabled_of, used_of, view_of};
 
-use crate::Tried;
-use crate::asked::Asked;
 use crate::choices::{Choice, Link};
-use crate::evidence::Evidence;
-use crate::finding::{Finding, GateNote, Order};
-use crate::found::Dependency;
-use crate::guard::Guard;
-use crate::naming::Naming;
-use crate::origins::Origin;
 use crate::questions::Seen;
-use crate::verdict::{Between, Verdict};
+use crate::{
+    Asked, Between, Dependency, Evidence, Finding, GateNote, Guard, Naming, Order, Origin, Tried,
+    Verdict,
+};
 use ld_facts::Fact;
 use ld_trace::{KeyId, RawTrace};
 use std::alloc::Global;

@@ -3,8 +3,7 @@
 ghost use Rattle.ld_explain.specs.Names.{◌==◌, ◌↔◌, ◌≡◌, IsTrue, arrow, list_all};
 ghost use Rattle.ld_explain.specs.Clauses.{is_nesting};
 
-use crate::found::Dependency;
-use crate::origins::Origin;
+use crate::{Dependency, Origin};
 use ld_task::Kind;
 use ld_trace::{Irq, KeyId};
 

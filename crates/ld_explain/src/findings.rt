@@ -4,11 +4,8 @@ ghost use Rattle.ld_explain.specs.Names.{◌≤◌, All, AreSame, HasFact, IfOk,
 ghost use Rattle.ld_explain.specs.Clauses.{AreFindings, ViewHas, view_of};
 
 use crate::choices::Choices;
-use crate::evidence::Evidence;
 use crate::explainer::Explainer;
-use crate::finding::Finding;
-use crate::found::Found;
-use crate::naming::Naming;
+use crate::{Evidence, Finding, Found, Naming};
 use ld_parts::Settled;
 use ld_trace::{KeyId, RawTrace};
 use std::alloc::{AllocError, Global};

@@ -5,9 +5,8 @@ ghost use Rattle.ld_task.specs.TraceChains as trace_chains;
 ghost use Rattle.ld_explain.specs.Names.{Fact, FactBelow, FactParts, HasFact, arrow, fact_slots};
 ghost use Rattle.ld_explain.specs.Clauses.{Among, AreGuards, AreGuardsOf, AsksOrder, HasGuard, IsAloneIn, IsGate, IsGuardWith, IsKept, PutsGuard, SeenFrom, View, ViewHas, key_by, named_fact, view_of};
 
-use crate::Tried;
 use crate::guard::{Guard, gates_before};
-use crate::naming::Naming;
+use crate::{Naming, Tried};
 use arrayvec::ArrayVec;
 use indexmap::IndexMap;
 use ld_facts::{Fact, lock_of_slot};

@@ -3,11 +3,9 @@
 ghost use Rattle.ld_explain.specs.Names.{◌≡◌, ◌≤◌, Adds, FactBelow, HasFact, Holds, IfOk, MAX_KEYS, OnOk};
 ghost use Rattle.ld_explain.specs.Clauses.{AddsSeen, HasBetween, IsPlan, SeenHas};
 
-use crate::Tried;
-use crate::asked::Asked;
 use crate::choices::ask;
-use crate::finding::Finding;
 use crate::questions::{Questions, Seen};
+use crate::{Asked, Finding, Tried};
 use std::alloc::Global;
 
 // What was seen of findings in turn, and all facts of it, which are asked about.

@@ -3,12 +3,9 @@
 ghost use Rattle.ld_explain.specs.Names.{◌≡◌, HasFact, IfOk, IfSome, IsDouble, IsInversion, IsNone, OnCircle, slice_index, true};
 ghost use Rattle.ld_explain.specs.Clauses.{IsChoiceFor, IsNestedChoice, IsSeenAs, IsSeenAt, IsUnseenAt, IsUnseenBy, Makes, levels_of, lock_level};
 
-use crate::Tried;
 use crate::asker::{Asker, Case};
 use crate::choices::{Choice, circle_choice, double_choice, inversion_choice};
-use crate::finding::Finding;
-use crate::levels::Levels;
-use crate::naming::Naming;
+use crate::{Finding, Levels, Naming, Tried};
 use ld_parts::Settled;
 use ld_trace::KeyId;
 use std::alloc::Global;

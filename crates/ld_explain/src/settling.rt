@@ -3,11 +3,7 @@
 ghost use Rattle.ld_explain.specs.Names.{◌<◌, ◌↔◌, ◌≡◌, ◌≤◌, All, AreSame, Contains, Err, Event, GRAPH_KEYS, HasFact, IfOk, IfSome, Image, IsClean, IsFalse, IsNone, IsTrue, IsWellFormed, List, MAX_KEYS, MAX_TRACES, Ok, TooTangled, TracesHave, if◌then◌else◌, is_rest, length, name_at, slice_index};
 ghost use Rattle.ld_explain.specs.Clauses.{AreLevels, AreSureNumbers, AreTypes, AreVerdictsAt, Borrows, IsSure, no_key};
 
-use crate::Tried;
-use crate::laws::own_names_change_nothing;
-use crate::levels::Levels;
-use crate::verdict::Verdict;
-use crate::verdicts::verdicts_of;
+use crate::{Levels, Tried, Verdict, own_names_change_nothing, verdicts_of};
 use ld_facts::Facts;
 use ld_parts::{PartedGraph, PartingFault, Settled};
 use ld_trace::{KeyId, KeyTable, Level, RawTrace, Renaming, is_rest};

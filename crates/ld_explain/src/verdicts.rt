@@ -3,16 +3,10 @@
 ghost use Rattle.ld_explain.specs.Names.{◌≡◌, ◌≤◌, All, AreSame, FactBelow, HasFact, Holds, IfOk, IfSome, IsWellFormed, MAX_KEYS, MAX_TRACES, length, map};
 ghost use Rattle.ld_explain.specs.Clauses.{Are, AreVerdicts, HasBetween, IsSeenAmong, Naming, SaysSeen, ViewHas, levels_of, plain, view_of};
 
-use crate::Tried;
-use crate::evidence::Evidence;
 use crate::explainer::Explainer;
-use crate::finding::Finding;
-use crate::findings::findings_of;
-use crate::levels::Levels;
-use crate::naming::Naming;
 use crate::plan::Plan;
 use crate::questions::Questions;
-use crate::verdict::Verdict;
+use crate::{Evidence, Finding, Levels, Naming, Tried, Verdict, findings_of};
 use ld_parts::Settled;
 use ld_trace::{KeyId, RawTrace};
 use std::alloc::{AllocError, Global};
