@@ -64,8 +64,7 @@ fn add_members(
 /// The line of a circle, turned to begin at the least of its keys in the report's order.
 pub(crate) fn add_line(text: &mut String, names: &KeyTable, circle: &Circle) -> Tried<()>
     requires { 0 < length circle.now }
-    ensures { OnOk result (TellsTurned names.now.names circle.now (string_bytes text.old)
-        (string_bytes text.new)) }
+    ensures { OnOk result (TellsTurned names.now.names circle.now (string_bytes text.old) (string_bytes text.new)) }
 {
     let least = least_start(names, circle);
     let (name, sub) = name_of(names, member(circle, least).0);

@@ -56,8 +56,7 @@ fn add_flags(line: &mut Line, flags: Flags)
 // What a line says of the chain itself.
 fn add_head(line: &mut Line, names: &KeyTable, chain: &Chain)
     requires { length line.old.bytes + 92 ≤ LINE_BYTES }
-    ensures text { line.new.bytes
-        ≡ line.old.bytes ++ head_text names.now.names chain.now.new_lock chain.now.flags }
+    ensures text { line.new.bytes ≡ line.old.bytes ++ head_text names.now.names chain.now.new_lock chain.now.flags }
     ensures short { length line.new.bytes ≤ length line.old.bytes + 92 }
 {
     match chain.taken() {
@@ -90,10 +89,7 @@ fn add_line(line: &mut Line, names: &KeyTable, chain: &Chain)
 }
 
 /// Writes a line for each chain of the trace, in order: an acquisition with its mode, frame and flags, or an opening with
-/// the flags just after it, and the locks held then in the frame, oldest first.
-///
-/// Refusals: O1 if the writer returns an error, O2 if it takes nothing. Exactly a beginning of the text was written
-/// then. Takes no memory.
+/// the flags just after it, and the locks held then in the frame, oldest first. Takes no memory.
 pub fn write_chains<W: Write>(w: &mut W, trace: &Trace, names: &KeyTable) -> Result<(), WriteFault>
     ensures ok { OnOk result (Appends (W.contents w.old) (W.contents w.new) (chains_text names.now.names trace.now)) }
     ensures not_memory { ¬ (result ≡ Err WriteFault.Memory) }

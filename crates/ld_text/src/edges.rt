@@ -40,8 +40,7 @@ impl PictureView<'_> {
     fn add_edges_to(self, text: &mut Vec<u8>, from: KeyId, to: KeyId) -> Tried<()>
         ensures { OnOk result (GrowsBy
             (InTurn (λ kind. ShowsEdge (HasFact self.entry.settled.now) self.entry.names.now.names self.entry.only
-            (arrow from to kind)) kinds)
-            text.old.items text.new.items) }
+            (arrow from to kind)) kinds) text.old.items text.new.items) }
     {
         if !has_dependency(self.settled, from, to) {
             return Ok(());
@@ -56,8 +55,7 @@ impl PictureView<'_> {
     fn add_edges_from(self, text: &mut Vec<u8>, from: KeyId) -> Tried<()>
         ensures { OnOk result (GrowsBy
             (InTurn (λ to. InTurn (λ kind. ShowsEdge (HasFact self.entry.settled.now) self.entry.names.now.names
-            self.entry.only (arrow from to kind)) kinds) self.entry.keys.now)
-            text.old.items text.new.items) }
+            self.entry.only (arrow from to kind)) kinds) self.entry.keys.now) text.old.items text.new.items) }
     {
         if !self.settled.facts().leads_on(from.get()) {
             return Ok(());
@@ -73,8 +71,7 @@ impl PictureView<'_> {
         ensures { OnOk result (GrowsBy
             (InTurn (λ from. InTurn (λ to. InTurn (λ kind. ShowsEdge (HasFact self.entry.settled.now)
             self.entry.names.now.names self.entry.only (arrow from to kind)) kinds) self.entry.keys.now)
-            self.entry.keys.now)
-            text.old.items text.new.items) }
+            self.entry.keys.now) text.old.items text.new.items) }
     {
         for from in self.keys {
             self.add_edges_from(text, *from)?;

@@ -3,9 +3,8 @@
 ghost use Rattle.ld_text.specs.Names.{[], ◌∷◌, ◌≡◌, OnOk, flat_map, map, name_at, string};
 ghost use Rattle.ld_text.specs.Clauses.{Adds, circle_words, gate_note, key_text, keys_member, lines_member, notes_member, only_notes, order_object, orders_member};
 
-use crate::Tried;
 use crate::wording::Wording;
-use crate::words::file_of;
+use crate::{Tried, file_of};
 use json::Writer;
 use ld_explain::{Dependency, GateNote, Order};
 

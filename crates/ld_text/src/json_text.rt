@@ -54,8 +54,7 @@ impl Wording<'_> {
     }
 
     pub(crate) fn add_objects(&self, text: &mut Vec<u8>, findings: &[Finding]) -> Tried<()>
-        ensures { OnOk result (text.new.items
-            ≡ text.old.items ++ flat_map (finding_line self.now) findings.now) }
+        ensures { OnOk result (text.new.items ≡ text.old.items ++ flat_map (finding_line self.now) findings.now) }
     {
         for finding in findings {
             self.add_object(text, finding)?;

@@ -3,9 +3,8 @@
 ghost use Rattle.ld_text.specs.Names.{◌++◌, ◌≡◌, OnOk, codes, flat_map, string_bytes};
 ghost use Rattle.ld_text.specs.Clauses.{dependency_text, file_at, gate_lines, gate_note, listed_text, note_line, only_notes};
 
-use crate::Tried;
 use crate::wording::Wording;
-use crate::words::file_of;
+use crate::{Tried, file_of};
 use ld_explain::{Dependency, GateNote};
 
 impl Wording<'_> {

@@ -3,12 +3,9 @@
 ghost use Rattle.ld_text.specs.Names.{◌++◌, ◌↔◌, ◌≡◌, Any, Appends, HasFact, IfErr, IfOk, IsDouble, IsTrue, List, OnOk, flat_map, name_at, states, ℕ};
 ghost use Rattle.ld_text.specs.Clauses.{GrowsBy, InTurn, IsFoundKey, IsNode, IsPicture, IsUsageCharacter, ShowsKey, StopsWriting, arrow_text, double_links, end_text, escaped, forms, inversion_links, link_line, quoted_key};
 
-use crate::Tried;
-use crate::order::sorted_keys;
-use crate::output::write_text;
 use crate::report::{FORMS, usage_character};
 use crate::words::{digits_of, name_of};
-use crate::write_fault::WriteFault;
+use crate::{Tried, WriteFault, sorted_keys, write_text};
 use ld_explain::Found;
 use ld_facts::STATES;
 use ld_parts::Settled;
@@ -95,8 +92,7 @@ impl PictureView<'_> {
 
     // A key as it stands between double quotes.
     fn add_key(self, text: &mut Vec<u8>, key: KeyId) -> Tried<()>
-        ensures { OnOk result (text.new.items
-            ≡ text.old.items ++ quoted_key (name_at self.entry.names.now.names key)) }
+        ensures { OnOk result (text.new.items ≡ text.old.items ++ quoted_key (name_at self.entry.names.now.names key)) }
     {
         let (name, sub) = name_of(self.names, key);
         add_name(text, name.as_bytes())?;
@@ -116,8 +112,7 @@ impl PictureView<'_> {
     }
 
     fn add_node(self, text: &mut Vec<u8>, key: KeyId, red: bool) -> Tried<()>
-        ensures { OnOk result (GrowsBy
-            (IsNode (HasFact self.entry.settled.now) self.entry.names.now.names key red)
+        ensures { OnOk result (GrowsBy (IsNode (HasFact self.entry.settled.now) self.entry.names.now.names key red)
             text.old.items text.new.items) }
     {
         add(text, "  \"")?;
@@ -147,8 +142,7 @@ impl PictureView<'_> {
     fn add_keys(self, text: &mut Vec<u8>) -> Tried<()>
         ensures { OnOk result (GrowsBy
             (InTurn (ShowsKey (HasFact self.entry.settled.now) self.entry.names.now.names self.entry.keys.now
-            self.entry.only) self.entry.keys.now)
-            text.old.items text.new.items) }
+            self.entry.only) self.entry.keys.now) text.old.items text.new.items) }
     {
         for key in self.keys {
             self.add_shown_key(text, *key)?;
@@ -178,16 +172,14 @@ impl PictureView<'_> {
 
     // A dashed red arrow from the key that is used with a state enabled to the key that is used in it.
     fn add_link(self, text: &mut Vec<u8>, irq: Irq, from: KeyId, to: KeyId) -> Tried<()>
-        ensures { OnOk result (text.new.items
-            ≡ text.old.items ++ link_line self.entry.names.now.names irq from to) }
+        ensures { OnOk result (text.new.items ≡ text.old.items ++ link_line self.entry.names.now.names irq from to) }
     {
         self.add_arrow(text, from, to, irq.word())?;
         add(text, LINK_END)
     }
 
     fn add_doubles(self, text: &mut Vec<u8>, doubles: &[(Irq, KeyId)]) -> Tried<()>
-        ensures { OnOk result (text.new.items
-            ≡ text.old.items ++ double_links self.entry.names.now.names doubles.now) }
+        ensures { OnOk result (text.new.items ≡ text.old.items ++ double_links self.entry.names.now.names doubles.now) }
     {
         for double in doubles {
             self.add_link(text, double.0, double.1, double.1)?;
@@ -236,9 +228,6 @@ fn picture_text(
 
 /// Writes the picture of settled facts, with the names of the keys that are in the table: all of them, or if
 /// `findings` is set, only what is part of a circle, a double or an inversion.
-///
-/// Refusals: O3 if memory for the text is refused, before its first byte; O1 if the writer returns an error and O2
-/// if it takes nothing, after exactly a beginning of the text. This project's own.
 pub fn write_picture<W: Write>(
     alloc: Global,
     w: &mut W,

@@ -4,11 +4,8 @@ ghost use Rattle.ld_text.specs.Names.{◌++◌, ◌≡◌, Appends, HasFact, IfE
 ghost use Rattle.ld_text.specs.Clauses.{AreTotals, GrowsBy, InSequence, InTurn, IsReport, IsUsageCharacter, IsUsageLine, ShowsBecause, StopsWriting, circle_line, clean_line, double_line, findings, forms, inversion_line, key_text, total_line, usage_character};
 
 use crate::key_texts::KeyTexts;
-use crate::order::sorted_keys;
-use crate::output::write_text;
 use crate::words::{kind_word, name_of};
-use crate::write_fault::WriteFault;
-use crate::{Tried, because};
+use crate::{Tried, WriteFault, because, sorted_keys, write_text};
 use ld_explain::{Dependency, Found};
 use ld_graph::Mark;
 use ld_parts::Settled;
@@ -71,8 +68,7 @@ impl ReportView<'_> {
 
     // The line of a shortest circle, if there is one. Clean facts aren't asked for it.
     fn add_because(self, text: &mut String) -> Tried<()>
-        ensures { OnOk result (GrowsBy
-            (ShowsBecause (HasFact self.entry.settled.now) self.entry.names.now.names)
+        ensures { OnOk result (GrowsBy (ShowsBecause (HasFact self.entry.settled.now) self.entry.names.now.names)
             (string_bytes text.old) (string_bytes text.new)) }
     {
         if self.settled.is_clean() {
@@ -141,8 +137,7 @@ impl ReportView<'_> {
     }
 
     fn add_usage_line(self, text: &mut String, key: KeyId) -> Tried<()>
-        ensures { OnOk result (GrowsBy
-            (IsUsageLine (HasFact self.entry.settled.now) self.entry.names.now.names key)
+        ensures { OnOk result (GrowsBy (IsUsageLine (HasFact self.entry.settled.now) self.entry.names.now.names key)
             (string_bytes text.old) (string_bytes text.new)) }
     {
         let (name, sub) = name_of(self.names, key);
@@ -178,10 +173,8 @@ impl ReportView<'_> {
 
     // The five lines that every report begins with.
     fn add_totals(self, text: &mut String, traces: usize, events: u128) -> Tried<()>
-        ensures { OnOk result (GrowsBy
-            (AreTotals (HasFact self.entry.settled.now) traces events
-            (length self.entry.names.now.names))
-            (string_bytes text.old) (string_bytes text.new)) }
+        ensures { OnOk result (GrowsBy (AreTotals (HasFact self.entry.settled.now) traces events
+            (length self.entry.names.now.names)) (string_bytes text.old) (string_bytes text.new)) }
     {
         add_total(text, "traces", traces as u128)?;
         add_total(text, "events", events)?;
@@ -199,8 +192,7 @@ fn report_text(
     traces: usize,
     events: u128,
 ) -> Tried<String>
-    ensures { IfOk result (λ text. IsReport (HasFact settled.now) traces events names.now.names
-        (string_bytes text)) }
+    ensures { IfOk result (λ text. IsReport (HasFact settled.now) traces events names.now.names (string_bytes text)) }
 {
     let keys = sorted_keys(alloc, names)?;
     let keys = keys.as_slice();
@@ -253,9 +245,6 @@ fn character_of(enabled: bool, used_in: bool) -> &'static str
 }
 
 /// Writes the report of settled facts that come from these traces, with the names of the keys that are in the table.
-///
-/// Refusals: O3 if memory for the text is refused, before its first byte; O1 if the writer returns an error and O2
-/// if it takes nothing, after exactly a beginning of the text. This project's own.
 pub fn write_report<W: Write>(
     alloc: Global,
     w: &mut W,
@@ -264,8 +253,7 @@ pub fn write_report<W: Write>(
     names: &KeyTable,
 ) -> Result<(), WriteFault>
     ensures ok { OnOk result ((text : List ℕ)
-        × IsReport (HasFact settled.now) (length traces.now) (sum_by length traces.now)
-        names.now.names text
+        × IsReport (HasFact settled.now) (length traces.now) (sum_by length traces.now) names.now.names text
         × Appends (W.contents w.old) (W.contents w.new) text) }
     ensures err { IfErr result (StopsWriting
         (IsReport (HasFact settled.now) (length traces.now) (sum_by length traces.now) names.now.names)

@@ -3,12 +3,11 @@
 ghost use Rattle.ld_text.specs.Names.{◌++◌, ◌≡◌, IfOk, OnOk, codes, drop, flat_map, print};
 ghost use Rattle.ld_text.specs.Clauses.{Adds, between_members, count_members, dependency_object, gate_object, in_order, list_member, note_members, noted_members, object, object_member, only_member, ranked, text_member, verdict_json, verdict_line, verdict_members};
 
-use crate::Tried;
 use crate::json_members::{add_number, add_text};
 use crate::json_text::{begin_line, without_first};
 use crate::verdicts::VerdictWording;
 use crate::wording::Wording;
-use crate::words::file_of;
+use crate::{Tried, file_of};
 use json::Writer;
 use ld_explain::{Between, Dependency, Finding, GateNote, Verdict, count_ranked};
 use std::alloc::Global;

@@ -3,13 +3,9 @@
 ghost use Rattle.ld_text.specs.Names.{◌≡◌, ◌≤◌, All, Appends, AreLevels, IfErr, IfOk, IsWellFormed, List, MAX_TRACES, OnOk, length, map, ℕ};
 ghost use Rattle.ld_text.specs.Clauses.{AreVerdictsOf, StopsWriting, lock_sources, type_sources, verdicts_text};
 
-use crate::Tried;
-use crate::findings::Format;
 use crate::key_texts::KeyTexts;
-use crate::order::sorted_keys;
-use crate::output::write_text;
 use crate::wording::{DEEPER, MARGIN, Wording};
-use crate::write_fault::WriteFault;
+use crate::{Format, Tried, WriteFault, sorted_keys, write_text};
 use ld_explain::{SettledLevels, Verdict};
 use ld_trace::{KeyTable, RawTrace};
 use std::alloc::{AllocError, Global};
@@ -83,9 +79,6 @@ fn verdicts_text(
 
 /// Writes these verdicts of traces in these files, whose locks' types have the one names and the locks the other. Names of files are
 /// as they were given.
-///
-/// Refusals: O3 if memory for the text is refused, before its first byte; O1 if the writer returns an error and O2 if it takes
-/// nothing, after exactly a beginning of the text. This project's own.
 pub fn write_verdicts<W: Write>(
     alloc: Global,
     w: &mut W,
