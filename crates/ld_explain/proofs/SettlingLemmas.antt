@@ -1,5 +1,5 @@
 -- Facts by other names, and without those of several locks.
-use Rattle.ld_explain.proofs.Names.{[], ◌++◌, ◌+◌, ◌<◌, ◌∙◌, ◌∷◌, ◌≡◌, ◌≤◌, All, AreSame, AreSureNumbers, Bool, Bor, Contains, Contains-get_or, Dependency, Err, Event, Fact, FactBelow, FactParts, HasFact, IfOk, IfSome, Image, ImageBelow, IsErrAnd, IsFalse, IsNone, IsSomeAnd, IsSure, Level, List, Marked, Name, None, Ok, Option, RenamedFactsAreTheImage, Result, Some, TracesHave, TracesHaveBy, ap, arith, cases_lt, fact_by, false, get_or_append_left, get_or_push, if◌then◌else◌, inl, inr, is_known, is_rest, length, length-append, length-map, map, name_at, name_by, names_at, no_key, option_map, refl, slice_index, subst, sym, true, true≢false, with_name, ℕ}
+use Rattle.ld_explain.proofs.Names.{[], ◌++◌, ◌+◌, ◌<◌, ◌∙◌, ◌∷◌, ◌≡◌, ◌≤◌, All, AreSame, AreSureNumbers, Bool, Bor, Contains, Contains-get_or, Dependency, Err, Event, Fact, FactBelow, FactParts, HasFact, IfOk, IfSome, Image, ImageBelow, IsErrAnd, IsFalse, IsNone, IsSomeAnd, IsSure, List, Marked, Name, None, Ok, Option, RenamedFactsAreTheImage, Result, Some, TracesHave, TracesHaveBy, ap, arith, cases_lt, fact_by, false, get_or_append_left, get_or_push, if◌then◌else◌, inl, inr, is_rest, length, length-append, name_at, no_key, option_map, refl, slice_index, subst, sym, true, true≢false, ℕ}
 
 -- ---- numbers of single locks
 -- one key more

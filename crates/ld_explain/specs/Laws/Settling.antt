@@ -1,5 +1,5 @@
 -- How many names there are at a level.
-use Rattle.std.proofs.Common.{[], ◌++◌, ◌+◌, ◌∷◌, ◌≤◌, Bool, List, arith, false, if◌then◌else◌, length, map, true, ℕ}
+use Rattle.std.proofs.Common.{[], ◌++◌, ◌+◌, ◌∷◌, ◌≤◌, Bool, List, arith, false, if◌then◌else◌, length, map, true}
 use Rattle.std.proofs.lemmas.List.{length-append, length-map}
 use Rattle.ld_trace.specs.Classes.{name_by}
 use Rattle.ld_trace.specs.Names.{Name, is_known, with_name}
