@@ -1,7 +1,6 @@
 -- How walks and links are chosen, and what is asked about for them.
-use Rattle.ld_explain.proofs.Names.{[], ◌++◌, ◌<◌, ◌↔◌, ◌∙◌, ◌∷◌, ◌≡◌, ◌⊎◌, Adds, AddsChoice, AddsEach, AddsFor, All, All-contains, All-contains_itself, All-nil, All-push, All-weaker, Any-push, AreAsked, AreReported, Arrow, ByBoth, ByLink, ByWalk, Choice, Choices, ChoosesCircle, ChoosesCircles, Contains, Contains-append_left, Contains-push, Contains-push_cases, DependenciesOf, Dependency, Enabled, Fact, FactParts, HasFact, HasMembers, Holds, Irq, IsAmong, IsChoiceFrom, IsCircleChoice, IsDoubleChoice, IsInversionChoice, IsLink, IsMark, IsMember, IsPart, IsShortestFrom, IsShortestInversion, List, Marked, StrongWalk-members, UsedIn, ap, append-nil, append_assoc, arith, arrow, inl, inr, is_r-kind_of_letters, is_s-kind_of_letters, length, link_by, refl, subst, sym, ℕ}
+use Rattle.ld_explain.proofs.Names.{[], ◌++◌, ◌<◌, ◌↔◌, ◌∙◌, ◌∷◌, ◌≡◌, ◌⊎◌, Adds, AddsChoice, AddsEach, AddsFor, All, All-contains, All-contains_itself, All-nil, All-push, All-weaker, Any-push, AreAsked, AreReported, Arrow, ByBoth, ByLink, ByWalk, Choice, Choices, ChoosesCircle, ChoosesCircles, Contains, Contains-append_left, Contains-push, Contains-push_cases, DependenciesOf, Dependency, Enabled, Fact, FactParts, HasFact, HasMembers, Holds, Irq, IsAmong, IsChoiceFrom, IsCircleChoice, IsDoubleChoice, IsInversionChoice, IsLink, IsMark, IsMember, IsPart, IsShortestFrom, IsShortestInversion, Link, List, Marked, StrongWalk-members, UsedIn, ap, append-nil, append_assoc, arith, arrow, inl, inr, is_r-kind_of_letters, is_s-kind_of_letters, length, link_by, refl, subst, sym, ℕ}
 use Rattle.ld_explain.specs.Findings.{Are}
-use Rattle.ld_explain.specs.declared.choices.Link.{Link}
 
 -- ---- adding
 pub Adds-then : (A B C P Q R : Fact → Type 0) → ((x : Fact) → (P x ⊎ Q x) ↔ R x) → Adds A B P → Adds B C Q → Adds A C R

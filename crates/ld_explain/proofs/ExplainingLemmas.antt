@@ -1,8 +1,7 @@
 -- Findings of what was chosen.
-use Rattle.ld_explain.proofs.Names.{[], ◌++◌, ◌<◌, ◌∙◌, ◌∷◌, ◌≡◌, ◌≤◌, All, All-contains, All-nil, All-push, AreChoices, AreFindings, AreFound, AreGates, AreOrders, AreThose, Arrow, ByBoth, ByLink, ByWalk, Choice, Choices, Circle, Contains, Contains-head, Contains-later, Contains-push_cases, Double, Enabled, Explains, Fact, FactParts, Finding, FoundParts, GuardsTwo, HasFact, Inversion, Irq, IsAloneIn, IsCircle, IsCircleChoice, IsDoubleChoice, IsFirst, IsGate, IsInversionChoice, IsShortestInversion, IsTheDouble, IsTheInversion, List, Order, UsedIn, View, ap, append-nil, arith, inl, inr, is_r-kind_of_letters, is_s-kind_of_letters, length, link_by, map, map-append, refl, slice_index_or, subst, suc, sym, zero, ℕ}
-use Rattle.ld_facts.specs.declared.fact.Fact.TheVariants as fact
+use Rattle.ld_explain.proofs.Names.{[], ◌++◌, ◌<◌, ◌∙◌, ◌∷◌, ◌≡◌, ◌≤◌, All, All-contains, All-nil, All-push, AreChoices, AreFindings, AreFound, AreGates, AreOrders, AreThose, Arrow, ByBoth, ByLink, ByWalk, Choice, Choices, Circle, Contains, Contains-head, Contains-later, Contains-push_cases, Double, Enabled, Explains, Fact, FactParts, Finding, FoundParts, GateNote, GuardsTwo, HasFact, Inversion, Irq, IsAloneIn, IsCircle, IsCircleChoice, IsDoubleChoice, IsFirst, IsGate, IsInversionChoice, IsShortestInversion, IsTheDouble, IsTheInversion, List, Order, UsedIn, View, ap, append-nil, arith, inl, inr, is_r-kind_of_letters, is_s-kind_of_letters, length, link_by, map, map-append, refl, slice_index_or, subst, suc, sym, zero, ℕ}
 use Rattle.ld_explain.specs.Findings.{Are}
-use Rattle.ld_explain.specs.declared.finding.GateNote.{GateNote}
+use Rattle.ld_facts.specs.declared.fact.Fact.TheVariants as fact
 use Rattle.ld_explain.proofs.FindingLemmas.{AreThose-append, AreThose-nothing}
 
 -- ---- origins

@@ -1,6 +1,5 @@
 -- The gates in a chain are the keys that guard an occurrence.
-use Rattle.ld_explain.proofs.Names.{[], ◌++◌, ◌<◌, ◌↔◌, ◌∙◌, ◌∷◌, ◌≡◌, ◌≤◌, Bool, ChainParts, Event, Guarded, GuardsAt, IsGateBefore, List, Lock, None, Option, Origin, Some, ap, arith, cases_Bool, cases_lt, chain, fact_slots, false, gate_in, held_positions, inl, inr, is_read, length, lock_at, option_and_then, positions_below-ascend, positions_below-pass, refl, same_Some, slice_get, slot_held, slot_origin, slot_position, subst, suc, sym, zero, ℕ}
-use Rattle.ld_task.specs.Held.{is_held}
+use Rattle.ld_explain.proofs.Names.{[], ◌++◌, ◌<◌, ◌↔◌, ◌∙◌, ◌∷◌, ◌≡◌, ◌≤◌, Bool, ChainParts, Event, Guarded, GuardsAt, IsGateBefore, List, Lock, None, Option, Origin, Some, ap, arith, cases_Bool, cases_lt, chain, fact_slots, false, gate_in, held_positions, inl, inr, is_held, is_read, length, lock_at, option_and_then, positions_below-ascend, positions_below-pass, refl, same_Some, slice_get, slot_held, slot_origin, slot_position, subst, suc, sym, zero, ℕ}
 use Rattle.ld_task.specs.Positions.{positions_below}
 use Rattle.ld_explain.proofs.Giving.{chain_held, held_there, position_there, slot_within}
 use Rattle.ld_explain.proofs.Keys.{never_past}

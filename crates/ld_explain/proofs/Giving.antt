@@ -1,12 +1,6 @@
 -- What the event at a place gives is what its chain gives.
-use Rattle.ld_explain.proofs.Names.{◌&&◌, ◌/◌, ◌<◌, ◌∙◌, ◌≡◌, ChainMarksNew, ChainParts, Contains, Dependency, Event, Fact, Frame, GivenBy, Gives, Irq, IsDependency, IsTrue, Kind, List, Lock, Mark, Marked, None, Option, Some, and_parts, ap, arith, cases_lt, chain, fact_slots, false, get_or_from_slice_get, held_by, held_positions, if◌then◌else◌, inl, inr, kind_between, le-ltb, length, length-map, lock_at, ltb, ltb-true, may_wait, option_and_then, option_map, positions_below-has, positions_below-pass, refl, same_Some, slice_get, slice_get-map, slice_get_within, slot_held, slots_by, subst, suc, sym, true, true≢false, ℕ}
-use Rattle.ld_trace.specs.declared.event.Event.TheVariants.{Acquire, Release, Enter, Leave, TurnOn, TurnOff}
-use Rattle.ld_trace.specs.declared.event.Mode.{Mode}
-use Rattle.ld_task.specs.Events.{event, is_acquire, is_turn_on, key_taken, makes_chain, mode_taken}
-use Rattle.ld_task.specs.Flags.{flags_at}
-use Rattle.ld_task.specs.Frames.{kind, one_frame}
+use Rattle.ld_explain.proofs.Names.{◌&&◌, ◌/◌, ◌<◌, ◌∙◌, ◌≡◌, Acquire, ChainMarksNew, ChainParts, Contains, Dependency, Enter, Event, Fact, Frame, GivenBy, Gives, Irq, IsDependency, IsMarkedOpening, IsMarkedTaking, IsTrue, Kind, Leave, List, Lock, Mark, Marked, Mode, None, Option, Release, Some, TurnOff, TurnOn, and_parts, ap, arith, cases_lt, chain, event, fact_slots, false, flags_at, get_or_from_slice_get, held_by, held_positions, if◌then◌else◌, inl, inr, is_acquire, is_turn_on, key_taken, kind, kind_between, le-ltb, length, length-map, lock_at, ltb, ltb-true, makes_chain, marks_opened, marks_taken, may_wait, mode_taken, one_frame, option_and_then, option_map, positions_below-has, positions_below-pass, refl, same_Some, slice_get, slice_get-map, slice_get_within, slot_held, slots_by, subst, suc, sym, true, true≢false, ℕ}
 use Rattle.ld_task.specs.Held.{is_held, is_kept}
-use Rattle.ld_task.specs.Marks.{IsMarkedOpening, IsMarkedTaking, marks_opened, marks_taken}
 use Rattle.ld_task.specs.TraceChains.{chain_of, held_locks_at}
 
 -- the new lock of an acquisition's chain

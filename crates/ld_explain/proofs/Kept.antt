@@ -1,6 +1,5 @@
 -- One guard more among those that are kept, or another in its place.
-use Rattle.ld_explain.proofs.Names.{◌∙◌, ◌≡◌, ◌⊎◌, Fact, FactBelow, FactsHaveDifferentBits, Guard, GuardParts, HasGuard, IfSome, IsGuardWith, IsKept, List, None, Option, PutsGuard, Some, ap, cases_Bool, cond, eq-eqb, eqb, eqb-true, fact_number, inl, inr, lookup, option_map, refl, same_Some, subst, sym, true≢false, ℕ}
-use Rattle.std.proofs.Common.{Bor}
+use Rattle.ld_explain.proofs.Names.{◌∙◌, ◌≡◌, ◌⊎◌, Bor, Fact, FactBelow, FactsHaveDifferentBits, Guard, GuardParts, HasGuard, IfSome, IsGuardWith, IsKept, List, None, Option, PutsGuard, Some, ap, cases_Bool, cond, eq-eqb, eqb, eqb-true, fact_number, inl, inr, lookup, option_map, refl, same_Some, subst, sym, true≢false, ℕ}
 
 -- what a look-up finds
 pub found_guard : (parts : GuardParts) (x : Fact) → FactBelow parts.keys x → (r : Option (Bor Guard)) →

@@ -1,8 +1,6 @@
 -- Circles of single locks are seen.
-use Rattle.ld_explain.proofs.Names.{[], ◌++◌, ◌∙◌, ◌∷◌, ◌≡◌, All-contains, Any-member, AreReported, AreThose, Arrow, Between, Circle, CirclesOfLocksAreSeen, Contains, Contains-append_left, Contains-append_right, Contains-cases, Contains-flat_map, Contains-head, Contains-later, Contains-map, Contains-unmap, Dependency, Double, En, Er, Fact, FactParts, Finding, HasFact, HasMember, Inversion, IsBetween, IsCircle, IsReported, IsSeenAt, IsSomeAnd, Kind, Levels, List, None, OnCircle, OnCircle-member, OnCircle-more, OnCircle-same, Option, OwnNamesChangeNothing, Renamed, RenamedFactsAreTheImage, Sn, Some, Sr, TracesHave, Verdict, View, ap, append_assoc, arith, arrow, arrow_by, arrows_among, inl, inr, is_some, kinds, levels_of, map, plain, refl, subst, sym, true, true≢false, view_of, ℕ}
-use Rattle.std.specs.Borrow.{Bor}
+use Rattle.ld_explain.proofs.Names.{[], ◌++◌, ◌∙◌, ◌∷◌, ◌≡◌, All-contains, Any-member, AreReported, AreThose, Arrow, Between, Bor, Circle, CirclesOfLocksAreSeen, Contains, Contains-append_left, Contains-append_right, Contains-cases, Contains-flat_map, Contains-head, Contains-later, Contains-map, Contains-unmap, Dependency, Double, En, Er, Fact, FactParts, Finding, HasFact, HasMember, Inversion, IsBetween, IsCircle, IsReported, IsSeenAt, IsSomeAnd, Kind, Levels, List, None, OnCircle, OnCircle-image, OnCircle-member, OnCircle-more, OnCircle-same, Option, OwnNamesChangeNothing, Renamed, RenamedFactsAreTheImage, Sn, Some, Sr, TracesHave, Verdict, View, ap, append_assoc, arith, arrow, arrow_by, arrows_among, inl, inr, is_some, kinds, levels_of, map, plain, refl, subst, sym, true, true≢false, view_of, ℕ}
 use Rattle.ld_explain.specs.Findings.{Are}
-use Rattle.ld_explain.specs.Laws.Verdicts.{OnCircle-image}
 use Rattle.ld_explain.specs.declared.verdict.Between.TheVariants as between
 
 -- ---- what is found

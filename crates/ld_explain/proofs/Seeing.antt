@@ -1,11 +1,8 @@
 -- What makes a finding at a level, and what is chosen for it.
-use Rattle.ld_explain.proofs.Names.{[], ◌++◌, ◌↔◌, ◌∙◌, ◌∷◌, ◌≡◌, ◌≤◌, AddsSeen, All, All-nil, All-push, All-weaker, Choice, Circle, Dependency, Double, Fact, FactBelow, FactParts, Finding, HasBetween, HasFact, HasMembers, Holds, IfSome, Inversion, IsCaseAt, IsChoiceFor, IsDouble, IsDoubleChoice, IsInversion, IsInversionChoice, IsNestedChoice, IsPart, IsPlan, IsSeenAmong, IsSeenAs, IsSeenAt, IsSomeAnd, Levels, List, Makes, Marked, None, Option, Own, Plan, Seen, SeenHas, Some, arith, inl, inr, level_by, level_of, levels_of, slice_index, subst, sym, true, ℕ}
-use Rattle.std.specs.Borrow.{Bor}
+use Rattle.ld_explain.proofs.Names.{[], ◌++◌, ◌↔◌, ◌∙◌, ◌∷◌, ◌≡◌, ◌≤◌, AddsSeen, All, All-nil, All-push, All-weaker, Asker, Bor, Case, Choice, Circle, Dependency, Double, Fact, FactBelow, FactParts, Finding, HasBetween, HasFact, HasMembers, Holds, IfSome, Inversion, IsCaseAt, IsChoiceFor, IsDouble, IsDoubleChoice, IsInversion, IsInversionChoice, IsNestedChoice, IsPart, IsPlan, IsSeenAmong, IsSeenAs, IsSeenAt, IsSomeAnd, Levels, List, Makes, Marked, None, Option, Own, Plan, Seen, SeenHas, Some, arith, inl, inr, level_by, level_of, levels_of, slice_index, subst, sym, true, ℕ}
 use Rattle.ld_explain.specs.Findings.{Are}
 use Rattle.ld_explain.specs.declared.questions.Seen.TheVariants as seen
 use Rattle.ld_explain.proofs.ChoosingLemmas.{Are-more, double-among, from-among, inversion-among}
-use Rattle.ld_explain.specs.declared.asker.Asker.{Asker}
-use Rattle.ld_explain.specs.declared.asker.Case.{Case}
 use Rattle.ld_explain.specs.declared.asker.Case.TheVariants as case
 
 -- what makes a finding at a level is seen there

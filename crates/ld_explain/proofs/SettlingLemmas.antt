@@ -1,20 +1,5 @@
 -- Facts by other names, and without those of several locks.
-use Rattle.ld_explain.proofs.Names.{Err, IfOk, IfSome, None, Ok, Option, Result, Some, [], ◌++◌, ◌+◌, ◌<◌, ◌∙◌, ◌∷◌, ◌≡◌, ◌≤◌, All, Bool, Contains, Dependency, Fact, FactBelow, FactParts, HasFact, Image, IsFalse, List, Marked, RenamedFactsAreTheImage, TracesHave, ap, arith, cases_lt, fact_by, false, if◌then◌else◌, inl, inr, length, length-append, length-map, map, refl, slice_index, subst, sym, true, true≢false, ℕ}
-use Rattle.std.proofs.lemmas.List.{get_or_append_left, get_or_push}
-use Rattle.std.proofs.lemmas.List.Elements.{Contains-get_or}
-use Rattle.std.specs.Borrow.{Bor}
-use Rattle.std.specs.Prelude.{IsErrAnd, IsNone, IsSomeAnd, option_map}
-use Rattle.ld_facts.specs.Facts.{AreSame}
-use Rattle.ld_facts.specs.Renaming.{ImageBelow, TracesHaveBy}
-use Rattle.ld_facts.specs.Renumbered.{fact_by}
-use Rattle.ld_trace.specs.Classes.{is_rest, name_by}
-use Rattle.ld_trace.specs.Names.{Name, is_known, with_name}
-use Rattle.ld_trace.specs.TakingIn.{with_all}
-use Rattle.ld_trace.specs.Writing.{name_at}
-use Rattle.ld_trace.specs.declared.event.Event.{Event}
-use Rattle.ld_trace.specs.declared.level.Level.{Level}
-use Rattle.ld_explain.specs.Settling.{IsSure, names_at}
-use Rattle.ld_explain.specs.Inside.Sure.{AreSureNumbers, no_key}
+use Rattle.ld_explain.proofs.Names.{[], ◌++◌, ◌+◌, ◌<◌, ◌∙◌, ◌∷◌, ◌≡◌, ◌≤◌, All, AreSame, AreSureNumbers, Bool, Bor, Contains, Contains-get_or, Dependency, Err, Event, Fact, FactBelow, FactParts, HasFact, IfOk, IfSome, Image, ImageBelow, IsErrAnd, IsFalse, IsNone, IsSomeAnd, IsSure, List, Marked, Name, None, Ok, Option, RenamedFactsAreTheImage, Result, Some, TracesHave, TracesHaveBy, ap, arith, cases_lt, fact_by, false, get_or_append_left, get_or_push, if◌then◌else◌, inl, inr, is_rest, length, length-append, name_at, no_key, option_map, refl, slice_index, subst, sym, true, true≢false, ℕ}
 
 -- ---- numbers of single locks
 -- one key more
@@ -149,19 +134,6 @@ sure-of_traces traces names facts of_traces Sure same x = (
   (λ h. let (has, sure) = (same x).0 h in ((of_traces x).0 has, sure)),
   (λ (has, sure). (same x).1 ((of_traces x).1 has, sure)),
 )
-
--- ---- how many names there are at a level
-with_all-few : (names more : List Name) → length (with_all names more) ≤ length names + length more
-unfolding with_all
-with_all-few names [] = omega arith
-with_all-few names (name ∷ more) = omega (arith, with_all-few (with_name names name) more, one (is_known names name))
-  where
-    one : (known : Bool) → length (if known then names else names ++ name ∷ []) ≤ length names + 1
-    one true = omega arith
-    one false = omega (arith, length-append names (name ∷ []))
-
-pub names_at-few : (level : Level) (names : List Name) → length (names_at level names) ≤ length names
-names_at-few level names = omega (arith, with_all-few [] (map (name_by level) names), length-map names (name_by level))
 
 -- ---- levels
 -- what is settled is what was tried, where it is

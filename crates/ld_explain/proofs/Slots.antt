@@ -1,7 +1,5 @@
 -- The slots of a chain, from the last one on.
-use Rattle.ld_explain.proofs.Names.{◌+◌, ◌<◌, ◌↔◌, ◌∙◌, ◌≡◌, ◌≤◌, ◌⊎◌, AsNew, ChainParts, Err, Event, Fact, Gives, IfSome, LaterSlotsAreOfNewerLocks, List, NoLater, None, Occurs, Ok, OnOk, Option, Origin, Result, SeenFrom, SeenTo, SlotsHaveWhatIsGiven, Some, View, ap, arith, cases_eq, chain, chain_fact, fact_by, fact_slots, held_positions, inl, inr, named_fact, none-some, option_and_then, option_map, positions_below-ascend, refl, same_Some, slice_get, slot_held, slot_origin, slot_position, subst, sym, ℕ}
-use Rattle.std.specs.declared.alloc.AllocError.{AllocError}
-use Rattle.ld_task.specs.Held.{is_held}
+use Rattle.ld_explain.proofs.Names.{◌+◌, ◌<◌, ◌↔◌, ◌∙◌, ◌≡◌, ◌≤◌, ◌⊎◌, AllocError, AsNew, ChainParts, Err, Event, Fact, Gives, IfSome, LaterSlotsAreOfNewerLocks, List, NoLater, None, Occurs, Ok, OnOk, Option, Origin, Result, SeenFrom, SeenTo, SlotsHaveWhatIsGiven, Some, View, ap, arith, cases_eq, chain, chain_fact, fact_by, fact_slots, held_positions, inl, inr, is_held, named_fact, none-some, option_and_then, option_map, positions_below-ascend, refl, same_Some, slice_get, slot_held, slot_origin, slot_position, subst, sym, ℕ}
 use Rattle.ld_explain.proofs.Giving.{giving, nothing_given}
 
 -- the fact that is given another name

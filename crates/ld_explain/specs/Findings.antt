@@ -1,13 +1,7 @@
 -- Findings as values: what was found, where it comes from, and what speaks against it [this project's own].
-use Rattle.std.specs.Prelude.{◌≡◌, ◌⊎◌, ◌↔◌, ℕ, ◌≤◌, List, [], ◌∷◌, ◌++◌, Option, Some, All, Any, Contains, length, map}
-use Rattle.ld_trace.specs.declared.event.Irq.{Irq}
-use Rattle.ld_task.specs.Kinds.{is_r, is_s}
-use Rattle.ld_task.specs.declared.mark.Mark.TheVariants.{UsedIn, Enabled}
-use Rattle.ld_facts.specs.Arrows.{Arrow}
-use Rattle.ld_facts.specs.declared.fact.Fact.{Fact}
+use Rattle.ld_explain.specs.Names.{[], ◌++◌, ◌↔◌, ◌∷◌, ◌≡◌, ◌≤◌, ◌⊎◌, All, Any, Arrow, Contains, Enabled, Fact, Irq, List, Option, Some, UsedIn, is_r, is_s, length, map, ℕ}
 use Rattle.ld_facts.specs.declared.fact.Fact.TheVariants as fact
-use Rattle.ld_graph.specs.Links.{IsDoubleBy, IsShortestInversion}
-use Rattle.ld_graph.specs.Walks.{IsShortestFrom}
+use Rattle.ld_explain.specs.Names.{IsDoubleBy, IsShortestFrom, IsShortestInversion}
 use Rattle.ld_explain.specs.Found.{AreFound, AreThose, FoundParts}
 use Rattle.ld_explain.specs.Notes.{IsAloneIn, IsGate}
 use Rattle.ld_explain.specs.Origins.{IsFirst, View}

@@ -1,13 +1,5 @@
 -- What was found: the findings of facts as lists, in the report's order [this project's own].
-use Rattle.std.specs.Prelude.{◌≡◌, ◌⊎◌, ℕ, List, [], ◌∷◌, flat_map, map}
-use Rattle.ld_trace.specs.declared.event.Irq.{Irq}
-use Rattle.ld_facts.specs.Arrows.{Arrow, arrow}
-use Rattle.ld_graph.specs.Links.{IsDouble, IsInversion}
-use Rattle.ld_graph.specs.Walks.{OnCircle}
-use Rattle.ld_facts.specs.declared.fact.Fact.{Fact}
-use Rattle.ld_trace.specs.declared.event.Irq.TheVariants.{Hard, Soft}
-use Rattle.ld_task.specs.declared.kind.Kind.{Kind}
-use Rattle.ld_task.specs.declared.kind.Kind.TheVariants.{Er, En, Sr, Sn}
+use Rattle.ld_explain.specs.Names.{[], ◌∷◌, ◌≡◌, ◌⊎◌, Arrow, En, Er, Fact, Hard, Irq, IsDouble, IsInversion, Kind, List, OnCircle, Sn, Soft, Sr, arrow, flat_map, map, ℕ}
 
 -- the four kinds, in the report's order
 abbrev pub kinds : List Kind

@@ -1,8 +1,10 @@
+pub mod Clauses
 pub mod Findings
 pub mod Found
 pub mod Inside
-pub mod Naming
 pub mod Laws
+pub mod Names
+pub mod Naming
 pub mod Notes
 pub mod Origins
 pub mod Settling

@@ -1,6 +1,5 @@
 -- Which keys facts are about [this project's own].
-use Rattle.std.specs.Prelude.{ℕ, List, slice_index}
-use Rattle.ld_trace.specs.declared.event.Event.{Event}
+use Rattle.ld_explain.specs.Names.{Event, List, slice_index, ℕ}
 use Rattle.ld_explain.specs.Origins.{View}
 use Rattle.ld_explain.specs.declared.naming.Naming.{Naming}
 use Rattle.ld_explain.specs.declared.naming.Naming.TheVariants.{Own, Renamed}

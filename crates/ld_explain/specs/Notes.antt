@@ -1,19 +1,6 @@
 -- What speaks against a finding: locks that are always held round its dependencies, and a trace that alone has them
 -- [this project's own; the two conditions are those of Havelund's GoodLock].
-use Rattle.std.specs.Prelude.{◌≡◌, ℕ, ◌<◌, ◌↔◌, false, IsTrue, List, [], ◌∷◌, Contains, Some, nat_eq, slice_get}
-use Rattle.std.specs.Map.{lookup}
-use Rattle.ld_trace.specs.declared.event.Event.{Event}
-use Rattle.ld_trace.specs.Modes.{is_read}
-use Rattle.ld_task.specs.Dependencies.{IsDependency}
-use Rattle.ld_task.specs.Events.{event, mode_taken}
-use Rattle.ld_task.specs.Held.{is_held, key_at}
-use Rattle.ld_facts.specs.Arrows.{Arrow}
-use Rattle.ld_facts.specs.FactBits.{FactBelow, FactParts, HasFact}
-use Rattle.ld_facts.specs.Facts.{DependenciesOf}
-use Rattle.ld_facts.specs.Numbers.{fact_number}
-use Rattle.ld_facts.specs.declared.fact.Fact.{Fact}
-use Rattle.ld_facts.specs.declared.fact.Fact.TheVariants.{Dependency}
-use Rattle.ld_facts.specs.Renumbered.{arrow_by}
+use Rattle.ld_explain.specs.Names.{[], ◌<◌, ◌↔◌, ◌∷◌, ◌≡◌, Arrow, Contains, DependenciesOf, Dependency, Event, Fact, FactBelow, FactParts, HasFact, IsDependency, IsTrue, List, Some, arrow_by, event, fact_number, false, is_held, is_read, key_at, lookup, mode_taken, nat_eq, slice_get, ℕ}
 use Rattle.ld_explain.specs.Origins.{View, ViewHas}
 use Rattle.ld_explain.specs.declared.guard.Guard.{Guard}
 

@@ -1,17 +1,5 @@
 -- Where the facts of many traces come from: their first occurrences [this project's own].
-use Rattle.std.specs.Prelude.{◌≡◌, ℕ, ◌<◌, ◌≤◌, ◌⊎◌, ◌↔◌, List, Option, Some, None, IsNone, IfSome, nat_eq, slice_get}
-use Rattle.std.specs.Map.{lookup}
-use Rattle.ld_trace.specs.declared.event.Event.{Event}
-use Rattle.ld_task.specs.Dependencies.{IsDependency}
-use Rattle.ld_task.specs.Marks.{IsMarkedTaking, IsMarkedOpening}
-use Rattle.ld_facts.specs.FactBits.{FactBelow, FactParts, HasFact}
-use Rattle.ld_facts.specs.Numbers.{fact_number}
-use Rattle.ld_facts.specs.declared.fact.Fact.{Fact}
-use Rattle.ld_facts.specs.declared.fact.Fact.TheVariants.{Dependency, Marked}
-use Rattle.ld_facts.specs.Facts.{AreSame}
-use Rattle.ld_facts.specs.Renaming.{TracesHaveBy}
-use Rattle.ld_facts.specs.TraceFacts.{TracesHave}
-use Rattle.ld_facts.specs.Renumbered.{fact_by}
+use Rattle.ld_explain.specs.Names.{◌<◌, ◌↔◌, ◌≡◌, ◌≤◌, ◌⊎◌, AreSame, Dependency, Event, Fact, FactBelow, FactParts, HasFact, IfSome, IsDependency, IsMarkedOpening, IsMarkedTaking, IsNone, List, Marked, None, Option, Some, TracesHave, TracesHaveBy, fact_by, fact_number, lookup, nat_eq, slice_get, ℕ}
 use Rattle.ld_explain.specs.declared.origins.Origin.{Origin}
 
 -- ---- occurrences

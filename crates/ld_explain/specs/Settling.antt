@@ -1,20 +1,5 @@
 -- What is settled about traces at each level of what their locks are called [this project's own].
-use Rattle.std.specs.Prelude.{◌≡◌, ◌⊎◌, ℕ, ◌<◌, List, [], Option, IfSome, IsFalse, IsNone, length, map, option_map, slice_index}
-use Rattle.ld_trace.specs.Classes.{is_rest, name_by, numbers_at}
-use Rattle.ld_trace.specs.Names.{Name}
-use Rattle.ld_trace.specs.TakingIn.{with_all}
-use Rattle.ld_trace.specs.Writing.{name_at}
-use Rattle.ld_trace.specs.declared.event.Event.{Event}
-use Rattle.ld_trace.specs.declared.key_id.TheConstants.{GRAPH_KEYS}
-use Rattle.ld_trace.specs.declared.level.Level.{Level}
-use Rattle.ld_trace.specs.declared.level.Level.TheVariants.{Classes, Types}
-use Rattle.ld_facts.specs.FactBits.{FactParts, HasFact}
-use Rattle.ld_facts.specs.Facts.{AreSame}
-use Rattle.ld_facts.specs.Renaming.{TracesHaveBy}
-use Rattle.ld_facts.specs.TraceFacts.{TracesHave}
-use Rattle.ld_facts.specs.declared.fact.Fact.{Fact}
-use Rattle.ld_facts.specs.declared.fact.Fact.TheVariants.{Dependency, Marked}
-use Rattle.ld_graph.specs.Links.{IsClean}
+use Rattle.ld_explain.specs.Names.{[], ◌<◌, ◌≡◌, ◌⊎◌, AreSame, Classes, Dependency, Event, Fact, FactParts, GRAPH_KEYS, HasFact, IfSome, IsClean, IsFalse, IsNone, Level, List, Marked, Name, Option, TracesHave, TracesHaveBy, Types, is_rest, length, map, name_at, name_by, numbers_at, option_map, slice_index, with_all, ℕ}
 use Rattle.ld_explain.specs.Naming.{view_of}
 use Rattle.ld_explain.specs.Origins.{plain}
 use Rattle.ld_explain.specs.Verdicts.{AreVerdicts, levels_of}

@@ -1,19 +1,9 @@
 -- Between what the findings between types were seen: single locks, classes, or types alone [this project's own].
-use Rattle.std.specs.Prelude.{◌≡◌, ◌⊎◌, ◌==◌, ◌||◌, ℕ, Bool, false, List, All, Contains, IsFalse, IsSomeAnd, IsTrue, Option, count_by, if◌then◌else◌, is_some, map, not, slice_index}
-use Rattle.std.specs.List.{list_all, list_any}
-use Rattle.std.specs.Borrow.{Bor}
-use Rattle.ld_facts.specs.Arrows.{Arrow}
-use Rattle.ld_facts.specs.FactBits.{FactParts, HasFact}
-use Rattle.ld_facts.specs.Facts.{AreSame, DependenciesOf, Holds}
-use Rattle.ld_facts.specs.Renumbered.{arrow_by}
-use Rattle.ld_facts.specs.declared.fact.Fact.{Fact}
-use Rattle.ld_graph.specs.Links.{IsDouble, IsInversion}
-use Rattle.ld_graph.specs.Walks.{IsShortestFrom, OnCircle}
+use Rattle.ld_explain.specs.Names.{◌==◌, ◌||◌, ◌≡◌, ◌⊎◌, All, AreSame, Arrow, Bool, Bor, Contains, DependenciesOf, Event, Fact, FactParts, HasFact, Holds, IsDouble, IsFalse, IsInversion, IsShortestFrom, IsSomeAnd, IsTrue, List, OnCircle, Option, arrow_by, count_by, false, if◌then◌else◌, is_some, list_all, list_any, map, not, slice_index, ℕ}
 use Rattle.ld_explain.specs.Findings.{AreFindings, IsCircle, IsTheDouble, IsTheInversion, members_of}
 use Rattle.ld_explain.specs.Origins.{View, ViewHas, plain}
 use Rattle.ld_explain.specs.Naming.{view_of}
 use Rattle.ld_explain.specs.declared.naming.Naming.TheVariants.{Renamed}
-use Rattle.ld_trace.specs.declared.event.Event.{Event}
 use Rattle.ld_explain.specs.declared.finding.Finding.{Finding}
 use Rattle.ld_explain.specs.declared.finding.Finding.TheVariants.{Circle, Double, Inversion}
 use Rattle.ld_explain.specs.declared.levels.Levels.{Levels}

@@ -1,13 +1,7 @@
 //! The facts that are asked about.
 
-ghost use Rattle.std.specs.Prelude.{◌≡◌, ℕ, ◌≤◌, ◌↔◌, IfOk, IsFalse, IsTrue, Some};
-ghost use Rattle.ld_facts.specs.FactBits.{FactBelow, HasFact};
-ghost use Rattle.ld_facts.specs.Facts.{Adds};
-ghost use Rattle.ld_facts.specs.declared.fact.Fact.{Fact};
-ghost use Rattle.ld_trace.specs.declared.key_id.TheConstants.{MAX_KEYS};
-ghost use Rattle.ld_explain.specs.Inside.Firsts.{named_fact};
-ghost use Rattle.ld_explain.specs.Inside.Taking.{last_key};
-ghost use Rattle.ld_explain.specs.Naming.{key_by};
+ghost use Rattle.ld_explain.specs.Names.{◌↔◌, ◌≡◌, ◌≤◌, Adds, Fact, FactBelow, HasFact, IfOk, IsFalse, IsTrue, MAX_KEYS, Some, ℕ};
+ghost use Rattle.ld_explain.specs.Clauses.{key_by, last_key, named_fact};
 
 use crate::naming::Naming;
 use ld_facts::{Fact, Facts};
@@ -25,7 +19,7 @@ pub struct Asked {
 }
 
 impl Model for Asked {
-    ghost use Rattle.ld_facts.specs.FactBits.{FactParts};
+    ghost use Rattle.ld_explain.specs.Names.{FactParts};
     ghost use Rattle.ld_explain.specs.Inside.Taking.{AreEnds};
 
     ghost Value = { FactParts };

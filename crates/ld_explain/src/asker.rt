@@ -1,27 +1,12 @@
 //! What of the locks makes such a finding as one between types, at one level.
 
-ghost use Rattle.std.specs.Prelude.{◌≡◌, ◌⊎◌, ◌↔◌, ◌∷◌, ℕ, Contains, IfOk, IfSome, IsNone, IsTrue, OnOk, slice_index};
-ghost use Rattle.ld_facts.specs.Arrows.{Arrow, arrow};
-ghost use Rattle.ld_facts.specs.FactBits.{FactBelow, HasFact};
-ghost use Rattle.ld_trace.specs.declared.key_id.TheConstants.{MAX_KEYS};
-ghost use Rattle.ld_facts.specs.Facts.{DependenciesOf};
-ghost use Rattle.ld_facts.specs.Renumbered.{arrow_by};
-ghost use Rattle.ld_graph.specs.Links.{IsDouble, IsInversion};
-ghost use Rattle.ld_graph.specs.Walks.{OnCircle};
-ghost use Rattle.ld_explain.specs.Findings.{members_of};
-ghost use Rattle.ld_explain.specs.Inside.Seeing.{AreCircles, GrowsBy, IsCaseAt, IsLoneDouble, IsLoneInversion, level_of};
-ghost use Rattle.ld_explain.specs.Naming.{key_by};
-ghost use Rattle.ld_explain.specs.Verdicts.{IsSeenAt};
-ghost use Rattle.ld_facts.specs.declared.fact.Fact.{Fact};
+ghost use Rattle.ld_explain.specs.Names.{◌<◌, ◌↔◌, ◌≡◌, Arrow, Contains, HasFact, IfSome, IsFalse, IsNone, IsTrue, Kind, MAX_KEYS, arrow, slice_index, ℕ};
+ghost use Rattle.ld_explain.specs.Clauses.{IsCaseAt, IsLoneDouble, IsLoneInversion, IsLoneMember, IsSeenAt, level_of, members_of};
 
-use crate::finding::{Finding, Order};
-use crate::found::Dependency;
-use crate::naming::Naming;
-use ld_facts::Fact;
+use crate::{Dependency, Finding, KINDS, Naming, Order};
 use ld_parts::Settled;
 use ld_task::Kind;
 use ld_trace::{Irq, KeyId};
-use std::alloc::{AllocError, Global};
 
 // What makes a finding at a level: a dependency between locks, a lock, or two.
 #[derive(Drop)]
@@ -45,46 +30,6 @@ pub(crate) struct Asker<'a> {
 }
 
 impl Asker<'_> {
-    // The locks' dependencies that are on circles at the level.
-    pub(crate) fn circles(self, alloc: Global) -> Result<Vec<Dependency>, AllocError>
-        ensures { IfOk result (λ circles. AreCircles self.entry.locks.now self.entry.settled.now (key_by self.entry.naming) circles.items) }
-    {
-        let mut circles = Vec::new(alloc);
-        let facts = self.locks.facts();
-        let mut n = 0;
-        while let Some(number) = facts.next_dependency(n) {
-            self.add_circle(&mut circles, Fact::of_number(facts.keys(), number))?;
-            n = number + 1;
-        }
-        Ok(circles)
-    }
-
-    // The fact, if it is a dependency that is on a circle at the level.
-    fn add_circle(self, circles: &mut Vec<Dependency>, fact: Fact) -> Result<(), AllocError>
-        requires { FactBelow MAX_KEYS fact }
-        ensures { OnOk result (GrowsBy (OnCircle (HasFact self.entry.settled.now)) (key_by self.entry.naming) fact
-            circles.old.items circles.new.items) }
-    {
-        let Fact::Dependency { from, to, kind } = fact else {
-            return Ok(());
-        };
-        let (Some(lower), Some(upper)) = (KeyId::of_many(from), KeyId::of_many(to)) else {
-            unreachable!();
-        };
-        if self
-            .settled
-            .on_circle(self.naming.of(from), self.naming.of(to), kind)
-        {
-            circles.push(Dependency {
-                from: lower,
-                to: upper,
-                kind,
-            })?;
-        }
-        Ok(())
-    }
-
-    // The type of a lock.
     fn type_of(self, lock: u16) -> u16
         ensures { result ≡ slice_index self.entry.type_of.now lock }
     {
@@ -92,8 +37,7 @@ impl Asker<'_> {
     }
 
     // What makes such a finding at the level.
-    pub(crate) fn case(self, circles: &[Dependency], finding: &Finding) -> Option<Case>
-        requires { AreCircles self.locks.now self.settled.now (key_by self.naming) circles.now }
+    pub(crate) fn case(self, finding: &Finding) -> Option<Case>
         ensures none { IsNone result
             → ¬ IsSeenAt self.entry.keys.now (HasFact self.entry.locks.now) (slice_index self.entry.type_of.now)
             (level_of self.entry) finding.now }
@@ -101,7 +45,7 @@ impl Asker<'_> {
     {
         match finding {
             Finding::Circle { walk, .. } => {
-                let member = self.member(circles, walk.as_slice())?;
+                let member = self.member(walk.as_slice())?;
                 Some(Case::Circle(member))
             }
             Finding::Double { irq, key, .. } => {
@@ -115,21 +59,72 @@ impl Asker<'_> {
         }
     }
 
-    // The first of these dependencies between locks that is by its types a member of the walk.
-    fn member(self, circles: &[Dependency], walk: &[Order]) -> Option<Dependency>
-        ensures none { IsNone result → (e : Arrow) → Contains circles.now e
-            → ¬ Contains (members_of walk.now) (arrow_by (slice_index self.entry.type_of.now) e) }
-        ensures some { IfSome result (λ e. Contains circles.now e
-            × Contains (members_of walk.now) (arrow_by (slice_index self.entry.type_of.now) e)) }
+    // The first of the locks' dependencies, by their numbers, that is on a circle at the level and by its types a member of the walk.
+    fn member(self, walk: &[Order]) -> Option<Dependency>
+        ensures none { IsNone result → (from to : ℕ) (kind : Kind) → ¬ IsLoneMember self.entry walk.now from to kind }
+        ensures some { IfSome result (λ e. IsLoneMember self.entry walk.now e.start e.end e.kind) }
     {
-        for e in circles {
-            let from = self.type_of(e.from.get());
-            let to = self.type_of(e.to.get());
-            if has_member(walk, from, to, e.kind) {
-                return Some(e.copy());
+        if self.settled.is_clean() {
+            return None;
+        }
+        let keys = self.locks.facts().keys();
+        for from in 0..keys {
+            if let Some(found) = self.member_from(walk, from) {
+                return Some(found);
             }
         }
         None
+    }
+
+    // The first that leads from this lock.
+    fn member_from(self, walk: &[Order], from: u16) -> Option<Dependency>
+        requires { from < MAX_KEYS }
+        ensures none { IsNone result → (to : ℕ) (kind : Kind) → ¬ IsLoneMember self.entry walk.now from to kind }
+        ensures some { IfSome result (λ e. IsLoneMember self.entry walk.now e.start e.end e.kind) }
+    {
+        if !leads_from(walk, self.type_of(from)) {
+            return None;
+        }
+        let keys = self.locks.facts().keys();
+        for to in 0..keys {
+            if let Some(found) = self.member_between(walk, from, to) {
+                return Some(found);
+            }
+        }
+        None
+    }
+
+    // The first from the one lock to the other.
+    fn member_between(self, walk: &[Order], from: u16, to: u16) -> Option<Dependency>
+        requires lower { from < MAX_KEYS }
+        requires upper { to < MAX_KEYS }
+        ensures none { IsNone result → (kind : Kind) → ¬ IsLoneMember self.entry walk.now from to kind }
+        ensures some { IfSome result (λ e. IsLoneMember self.entry walk.now e.start e.end e.kind) }
+    {
+        let (Some(lower), Some(upper)) = (KeyId::of_many(from), KeyId::of_many(to)) else {
+            unreachable!();
+        };
+        for kind in KINDS {
+            if self.is_member(walk, from, to, kind) {
+                return Some(Dependency {
+                    from: lower,
+                    to: upper,
+                    kind,
+                });
+            }
+        }
+        None
+    }
+
+    // Whether the dependency between locks is on a circle at the level, and by its types a member of the walk.
+    fn is_member(self, walk: &[Order], from: u16, to: u16, kind: Kind) -> bool
+        ensures { IsTrue result ↔ IsLoneMember self.entry walk.now from to kind }
+    {
+        has_member(walk, self.type_of(from), self.type_of(to), kind)
+            && self.locks.has_dep(from, to, kind)
+            && self
+                .settled
+                .on_circle(self.naming.of(from), self.naming.of(to), kind)
     }
 
     // The first lock of the type that is a double at the level.
@@ -198,12 +193,23 @@ impl Asker<'_> {
     }
 }
 
-// Whether the dependency is a member of the walk.
 fn has_member(walk: &[Order], from: u16, to: u16, kind: Kind) -> bool
     ensures { IsTrue result ↔ Contains (members_of walk.now) (arrow from to kind) }
 {
     for order in walk {
         if order.is(from, to, kind) {
+            return true;
+        }
+    }
+    false
+}
+
+// Whether a member of the walk leads from the key. If false none does.
+fn leads_from(walk: &[Order], from: u16) -> bool
+    ensures { IsFalse result → (e : Arrow) → Contains (members_of walk.now) e → ¬ (e.start ≡ from) }
+{
+    for order in walk {
+        if order.leads_from(from) {
             return true;
         }
     }

@@ -1,21 +1,15 @@
 //! What findings are reported with. It is chosen before anything is explained, so that the traces are asked only about
 //! what is reported.
 
-ghost use Rattle.std.specs.Prelude.{◌≡◌, ◌⊎◌, ◌↔◌, ◌<◌, ◌∷◌, [], ℕ, List, All, IfOk, OnOk, Some, length, slice_get};
-ghost use Rattle.ld_facts.specs.FactBits.{FactBelow, HasFact};
-ghost use Rattle.ld_facts.specs.Facts.{Adds, DependenciesOf, Holds};
-ghost use Rattle.ld_graph.specs.Links.{IsDouble, IsInversion};
-ghost use Rattle.ld_graph.specs.Walks.{OnCircle};
-ghost use Rattle.ld_explain.specs.Found.{AreFound};
-ghost use Rattle.ld_explain.specs.Inside.Choosing.{AddsChoice, AddsEach, AddsFor, AreAsked, AreChoices, ChoosesCircle, ChoosesCircles, IsChoiceFrom, IsDoubleChoice, IsInversionChoice, IsMark, IsMember, IsPart, enabled_of, used_of};
+ghost use Rattle.ld_explain.specs.Names.{[], ◌<◌, ◌↔◌, ◌∷◌, ◌≡◌, ◌⊎◌, Adds, All, DependenciesOf, FactBelow, HasFact, Holds, IfOk, IsDouble, IsInversion, List, OnCircle, OnOk, Some, length, slice_get, ℕ};
+ghost use Rattle.ld_explain.specs.Clauses.{AddsChoice, AddsEach, AddsFor, AreAsked, AreChoices, AreFound, ChoosesCircle, ChoosesCircles, IsChoiceFrom, IsDoubleChoice, IsInversionChoice, IsMark, IsMember, IsPart, enabled_of, used_of};
 
-use crate::asked::Asked;
-use crate::found::{Dependency, Found};
+use crate::{Asked, Dependency, Found, Tried};
 use ld_facts::Fact;
 use ld_graph::{Mark, Walk};
 use ld_parts::Settled;
 use ld_trace::{Irq, KeyId};
-use std::alloc::{AllocError, Global};
+use std::alloc::Global;
 
 // A link of a state: that the one key is used in it and the other with it enabled, and the forms of these marks.
 #[derive(Drop)]
@@ -73,8 +67,7 @@ pub(crate) struct Choices {
 }
 
 impl Choices {
-    // Chooses for all findings.
-    pub(crate) fn of(alloc: Global, settled: &Settled, found: &Found) -> Result<Choices, AllocError>
+    pub(crate) fn of(alloc: Global, settled: &Settled, found: &Found) -> Tried<Choices>
         requires { (keys : List ℕ) × AreFound (HasFact settled.now) keys found.now }
         ensures { IfOk result (AreChoices settled.now found.now) }
     {
@@ -89,7 +82,7 @@ impl Choices {
     }
 
     // Adds a choice, and asks about its facts.
-    fn add(&mut self, choice: Choice) -> Result<(), AllocError>
+    fn add(&mut self, choice: Choice) -> Tried<()>
         requires { Holds (FactBelow self.old.asked.keys) (IsPart choice) }
         ensures { OnOk result (AddsChoice self.old self.new choice) }
     {
@@ -99,12 +92,7 @@ impl Choices {
     }
 
     // A shortest circle through a dependency that is on one, unless that is a member of a circle that was chosen.
-    fn add_circle(
-        &mut self,
-        alloc: Global,
-        settled: &Settled,
-        d: &Dependency,
-    ) -> Result<(), AllocError>
+    fn add_circle(&mut self, alloc: Global, settled: &Settled, d: &Dependency) -> Tried<()>
         requires bound { self.old.asked.keys ≡ settled.now.keys }
         requires on { OnCircle (HasFact settled.now) d.now }
         ensures { OnOk result (ChoosesCircle settled.now d.now self.old self.new) }
@@ -115,13 +103,7 @@ impl Choices {
         self.add(circle_choice(alloc, settled, d)?)
     }
 
-    // The circles.
-    fn add_circles(
-        &mut self,
-        alloc: Global,
-        settled: &Settled,
-        circles: &[Dependency],
-    ) -> Result<(), AllocError>
+    fn add_circles(&mut self, alloc: Global, settled: &Settled, circles: &[Dependency]) -> Tried<()>
         requires none { ChoosesCircles settled.now [] self.old }
         requires on { All (OnCircle (HasFact settled.now)) circles.now }
         ensures { OnOk result (ChoosesCircles settled.now circles.now self.new) }
@@ -133,7 +115,7 @@ impl Choices {
     }
 
     // The link of a double.
-    fn add_double(&mut self, settled: &Settled, irq: Irq, key: KeyId) -> Result<(), AllocError>
+    fn add_double(&mut self, settled: &Settled, irq: Irq, key: KeyId) -> Tried<()>
         requires bound { self.old.asked.keys ≡ settled.now.keys }
         requires is { IsDouble (HasFact settled.now) irq key }
         ensures { OnOk result (AddsFor (IsDoubleChoice (HasFact settled.now)) (irq, key) self.old self.new) }
@@ -141,8 +123,7 @@ impl Choices {
         self.add(double_choice(settled, irq, key))
     }
 
-    // The doubles.
-    fn add_doubles(&mut self, settled: &Settled, doubles: &[(Irq, KeyId)]) -> Result<(), AllocError>
+    fn add_doubles(&mut self, settled: &Settled, doubles: &[(Irq, KeyId)]) -> Tried<()>
         requires asked { AreAsked settled.now self.old }
         requires are { All (λ x. IsDouble (HasFact settled.now) x.0 x.1) doubles.now }
         ensures { OnOk result (AddsEach settled.now (IsDoubleChoice (HasFact settled.now)) doubles.now self.old self.new) }
@@ -161,7 +142,7 @@ impl Choices {
         irq: Irq,
         a: KeyId,
         b: KeyId,
-    ) -> Result<(), AllocError>
+    ) -> Tried<()>
         requires bound { self.old.asked.keys ≡ settled.now.keys }
         requires is { IsInversion (HasFact settled.now) irq a b }
         ensures { OnOk result (AddsFor (IsInversionChoice (HasFact settled.now)) (irq, (a, b)) self.old self.new) }
@@ -169,13 +150,12 @@ impl Choices {
         self.add(inversion_choice(alloc, settled, irq, a, b)?)
     }
 
-    // The inversions.
     fn add_inversions(
         &mut self,
         alloc: Global,
         settled: &Settled,
         inversions: &[(Irq, (KeyId, KeyId))],
-    ) -> Result<(), AllocError>
+    ) -> Tried<()>
         requires asked { AreAsked settled.now self.old }
         requires are { All (λ x. IsInversion (HasFact settled.now) x.0 x.1.0 x.1.1) inversions.now }
         ensures { OnOk result (AddsEach settled.now (IsInversionChoice (HasFact settled.now)) inversions.now self.old self.new) }
@@ -189,11 +169,7 @@ impl Choices {
 }
 
 // A shortest circle of those that begin with a dependency that is on one.
-pub(crate) fn circle_choice(
-    alloc: Global,
-    settled: &Settled,
-    d: &Dependency,
-) -> Result<Choice, AllocError>
+pub(crate) fn circle_choice(alloc: Global, settled: &Settled, d: &Dependency) -> Tried<Choice>
     requires { OnCircle (HasFact settled.now) d.now }
     ensures { IfOk result (IsChoiceFrom (HasFact settled.now) d.now) }
 {
@@ -203,7 +179,6 @@ pub(crate) fn circle_choice(
     Ok(Choice::ByWalk(members(alloc, &walk)?))
 }
 
-// The link of a double.
 pub(crate) fn double_choice(settled: &Settled, irq: Irq, key: KeyId) -> Choice
     requires { IsDouble (HasFact settled.now) irq key }
     ensures { IsDoubleChoice (HasFact settled.now) (irq, key) result }
@@ -220,14 +195,13 @@ pub(crate) fn double_choice(settled: &Settled, irq: Irq, key: KeyId) -> Choice
     })
 }
 
-// A shortest walk of an inversion, and the link that closes it.
 pub(crate) fn inversion_choice(
     alloc: Global,
     settled: &Settled,
     irq: Irq,
     a: KeyId,
     b: KeyId,
-) -> Result<Choice, AllocError>
+) -> Tried<Choice>
     requires { IsInversion (HasFact settled.now) irq a b }
     ensures { IfOk result (IsInversionChoice (HasFact settled.now) (irq, (a, b))) }
 {
@@ -245,7 +219,6 @@ pub(crate) fn inversion_choice(
     Ok(Choice::ByBoth(walk, link))
 }
 
-// Asks about the members of a walk.
 fn ask_walk(asked: &mut Asked, walk: &[Dependency])
     requires { Holds (FactBelow asked.old.keys) (IsMember walk.now) }
     ensures keys { asked.new.keys ≡ asked.old.keys }
@@ -256,7 +229,6 @@ fn ask_walk(asked: &mut Asked, walk: &[Dependency])
     }
 }
 
-// Asks about the marks of a link.
 fn ask_link(asked: &mut Asked, link: &Link)
     requires { Holds (FactBelow asked.old.keys) (IsMark link.now) }
     ensures keys { asked.new.keys ≡ asked.old.keys }
@@ -266,7 +238,6 @@ fn ask_link(asked: &mut Asked, link: &Link)
     asked.add(link.enabled());
 }
 
-// Asks about the facts of a choice.
 pub(crate) fn ask(asked: &mut Asked, choice: &Choice)
     requires { Holds (FactBelow asked.old.keys) (IsPart choice.now) }
     ensures keys { asked.new.keys ≡ asked.old.keys }
@@ -283,7 +254,7 @@ pub(crate) fn ask(asked: &mut Asked, choice: &Choice)
 }
 
 // The members of a walk, in as many words as there are.
-fn members(alloc: Global, walk: &Walk) -> Result<Vec<Dependency>, AllocError>
+fn members(alloc: Global, walk: &Walk) -> Tried<Vec<Dependency>>
     ensures { IfOk result (λ members. members.items ≡ walk.now) }
 {
     let mut members = Vec::new(alloc);

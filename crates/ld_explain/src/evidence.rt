@@ -1,22 +1,13 @@
 //! One pass over all traces, for all facts that are asked about.
 
-ghost use Rattle.std.specs.Prelude.{◌≡◌, ◌+◌, ◌<◌, ◌≤◌, List, All, IfOk, OnOk, Some, length, slice_get};
-ghost use Rattle.ld_trace.specs.declared.event.Event.{Event};
-ghost use Rattle.ld_trace.specs.declared.raw_trace.TheConstants.{MAX_TRACES};
-ghost use Rattle.ld_task.specs.Placed.{IsPlacedAfter};
+ghost use Rattle.ld_explain.specs.Names.{◌+◌, ◌<◌, ◌≡◌, ◌≤◌, All, Event, IfOk, IsPlacedAfter, List, MAX_TRACES, OnOk, Some, length, slice_get};
 ghost use Rattle.ld_task.specs.TraceChains as trace_chains;
-ghost use Rattle.ld_task.specs.WellFormed.{IsWellFormed};
-ghost use Rattle.ld_facts.specs.ChainFacts.{fact_slots};
-ghost use Rattle.ld_explain.specs.Notes.{AreGuardsOf};
-ghost use Rattle.ld_explain.specs.Naming.{view_of};
-ghost use Rattle.ld_explain.specs.Origins.{AreOriginsOf};
-ghost use Rattle.ld_explain.specs.Inside.Firsts.{ComesNext, SeenBefore, SeenFrom, SeenTo};
-ghost use Rattle.ld_explain.specs.Inside.Taking.{AreTakenIn};
+ghost use Rattle.ld_explain.specs.Names.{IsWellFormed, fact_slots};
+ghost use Rattle.ld_explain.specs.Clauses.{AreGuardsOf, AreOriginsOf, AreTakenIn, ComesNext, SeenBefore, SeenFrom, SeenTo, view_of};
 
-use crate::asked::Asked;
-use crate::guards::Guards;
 use crate::naming::{Naming, named_fact};
 use crate::origins::{Origin, Origins, position_of_slot};
+use crate::{Asked, Guards, Tried};
 use ld_facts::fact_slots;
 use ld_task::{Chain, PlacedState};
 use ld_trace::{Event, RawTrace};
@@ -64,7 +55,7 @@ impl Evidence {
         asked: &Asked,
         number: u32,
         trace: &RawTrace,
-    ) -> Result<(), AllocError>
+    ) -> Tried<()>
         requires origins { self.old.origins.keys ≡ asked.now.keys }
         requires guards { self.old.guards.keys ≡ asked.now.keys }
         requires well_formed { IsWellFormed trace.now }
@@ -93,7 +84,7 @@ impl Evidence {
         place: u32,
         state: &mut PlacedState,
         event: Event,
-    ) -> Result<(), AllocError>
+    ) -> Tried<()>
         requires origins { self.old.origins.keys ≡ asked.now.keys }
         requires guards { self.old.guards.keys ≡ asked.now.keys }
         requires next { (t : List Event) × ComesNext t place state.old event }
@@ -122,7 +113,7 @@ impl Evidence {
         place: u32,
         state: &PlacedState,
         chain: &Chain,
-    ) -> Result<(), AllocError>
+    ) -> Tried<()>
         requires origins { self.old.origins.keys ≡ asked.now.keys }
         requires guards { self.old.guards.keys ≡ asked.now.keys }
         ensures origins { OnOk result (self.new.origins.keys ≡ self.old.origins.keys) }
@@ -161,7 +152,7 @@ impl Evidence {
         state: &PlacedState,
         chain: &Chain,
         n: usize,
-    ) -> Result<(), AllocError>
+    ) -> Tried<()>
         requires origins { self.old.origins.keys ≡ asked.now.keys }
         requires guards { self.old.guards.keys ≡ asked.now.keys }
         requires within { n < fact_slots chain.now }

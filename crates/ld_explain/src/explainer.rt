@@ -1,32 +1,17 @@
 //! Where what was chosen comes from, and what speaks against it.
 
-ghost use Rattle.std.specs.Prelude.{◌≡◌, ◌↔◌, ◌<◌, ◌++◌, ◌∷◌, [], ℕ, List, All, IfOk, IsFalse, IsTrue, OnOk, Some, length, map};
-ghost use Rattle.ld_facts.specs.Facts.{DependenciesOf, Holds};
-ghost use Rattle.ld_facts.specs.FactBits.{HasFact};
-ghost use Rattle.ld_explain.specs.Findings.{Are, AreGates, AreOrders, IsCircle, IsOnly};
-ghost use Rattle.ld_explain.specs.Found.{AreThose};
-ghost use Rattle.ld_explain.specs.Inside.Choosing.{IsAmong, IsMark, enabled_of, used_of};
-ghost use Rattle.ld_explain.specs.Inside.Explaining.{Explains, IsGuardOf, IsOfBoth, IsOfLink, Knows};
-ghost use Rattle.ld_explain.specs.Inside.Seeing.{ExplainsSeen, IsSeenAmong, SaysSeen};
-ghost use Rattle.ld_explain.specs.Inside.Finding.{AddsThose};
-ghost use Rattle.ld_explain.specs.Naming.{view_of};
-ghost use Rattle.ld_explain.specs.Notes.{IsGate};
-ghost use Rattle.ld_explain.specs.Origins.{IsFirst};
-ghost use Rattle.ld_facts.specs.declared.fact.Fact.{Fact};
+ghost use Rattle.ld_explain.specs.Names.{[], ◌++◌, ◌<◌, ◌↔◌, ◌∷◌, ◌≡◌, All, DependenciesOf, Fact, HasFact, Holds, IfOk, IsFalse, IsTrue, List, OnOk, Some, length, map, ℕ};
+ghost use Rattle.ld_explain.specs.Clauses.{AddsThose, Are, AreGates, AreOrders, AreThose, Explains, ExplainsSeen, IsAmong, IsCircle, IsFirst, IsGate, IsGuardOf, IsMark, IsOfBoth, IsOfLink, IsOnly, IsSeenAmong, Knows, SaysSeen, enabled_of, used_of, view_of};
 
-use crate::asked::Asked;
 use crate::choices::{Choice, Link};
-use crate::evidence::Evidence;
-use crate::finding::{Finding, GateNote, Order};
-use crate::found::Dependency;
-use crate::guard::Guard;
-use crate::naming::Naming;
-use crate::origins::Origin;
 use crate::questions::Seen;
-use crate::verdict::{Between, Verdict};
+use crate::{
+    Asked, Between, Dependency, Evidence, Finding, GateNote, Guard, Naming, Order, Origin, Tried,
+    Verdict,
+};
 use ld_facts::Fact;
 use ld_trace::{KeyId, RawTrace};
-use std::alloc::{AllocError, Global};
+use std::alloc::Global;
 
 // Of how many members of a walk a key is a gate if it has a note, at least.
 const MIN_GUARDED: usize = 2;
@@ -51,7 +36,6 @@ pub(crate) struct Explainer<'a> {
 }
 
 impl Explainer<'_> {
-    // Where a fact first occurs.
     fn origin(&self, fact: Fact) -> Origin
         requires knows { Knows self.now }
         requires asked { HasFact self.now.asked.now fact }
@@ -63,7 +47,6 @@ impl Explainer<'_> {
         origin
     }
 
-    // A dependency, and where it first occurs.
     fn order(&self, d: &Dependency) -> Order
         requires knows { Knows self.now }
         requires asked { DependenciesOf (HasFact self.now.asked.now) d.now }
@@ -76,8 +59,7 @@ impl Explainer<'_> {
         }
     }
 
-    // The members of a walk.
-    fn orders(&self, walk: &[Dependency]) -> Result<Vec<Order>, AllocError>
+    fn orders(&self, walk: &[Dependency]) -> Tried<Vec<Order>>
         requires knows { Knows self.now }
         requires asked { All (DependenciesOf (HasFact self.now.asked.now)) walk.now }
         ensures { IfOk result (λ orders. AreOrders (view_of self.now.naming self.now.traces.now) walk.now orders.items) }
@@ -89,7 +71,6 @@ impl Explainer<'_> {
         Ok(orders)
     }
 
-    // What speaks against a dependency.
     fn guard(&self, d: &Dependency) -> &Guard
         requires knows { Knows self.now }
         requires asked { DependenciesOf (HasFact self.now.asked.now) d.now }
@@ -102,12 +83,7 @@ impl Explainer<'_> {
     }
 
     // The dependency, if the key is a gate of it.
-    fn add_guarded(
-        &self,
-        guarded: &mut Vec<Dependency>,
-        d: &Dependency,
-        gate: KeyId,
-    ) -> Result<(), AllocError>
+    fn add_guarded(&self, guarded: &mut Vec<Dependency>, d: &Dependency, gate: KeyId) -> Tried<()>
         requires knows { Knows self.now }
         requires asked { DependenciesOf (HasFact self.now.asked.now) d.now }
         ensures { OnOk result (AddsThose (λ d. IsGate (view_of self.now.naming self.now.traces.now) d gate) (d.now ∷ []) guarded.old.items guarded.new.items) }
@@ -119,7 +95,7 @@ impl Explainer<'_> {
     }
 
     // Those members of a walk that the key is a gate of.
-    fn guarded(&self, walk: &[Dependency], gate: KeyId) -> Result<Vec<Dependency>, AllocError>
+    fn guarded(&self, walk: &[Dependency], gate: KeyId) -> Tried<Vec<Dependency>>
         requires knows { Knows self.now }
         requires asked { All (DependenciesOf (HasFact self.now.asked.now)) walk.now }
         ensures { IfOk result (λ guarded. AreThose (λ d. IsGate (view_of self.now.naming self.now.traces.now) d gate) walk.now guarded.items) }
@@ -132,12 +108,7 @@ impl Explainer<'_> {
     }
 
     // The key, if it is a gate of enough members of a walk.
-    fn add_gate(
-        &self,
-        gates: &mut Vec<GateNote>,
-        walk: &[Dependency],
-        key: KeyId,
-    ) -> Result<(), AllocError>
+    fn add_gate(&self, gates: &mut Vec<GateNote>, walk: &[Dependency], key: KeyId) -> Tried<()>
         requires knows { Knows self.now }
         requires asked { All (DependenciesOf (HasFact self.now.asked.now)) walk.now }
         ensures { OnOk result ((keys : List ℕ) → AreGates (view_of self.now.naming self.now.traces.now) keys walk.now gates.old.items
@@ -165,8 +136,7 @@ impl Explainer<'_> {
         false
     }
 
-    // The gates of a walk.
-    fn gates(&self, walk: &[Dependency]) -> Result<Vec<GateNote>, AllocError>
+    fn gates(&self, walk: &[Dependency]) -> Tried<Vec<GateNote>>
         requires knows { Knows self.now }
         requires asked { All (DependenciesOf (HasFact self.now.asked.now)) walk.now }
         ensures { IfOk result (λ gates. AreGates (view_of self.now.naming self.now.traces.now) self.now.keys.now walk.now gates.items) }
@@ -197,8 +167,7 @@ impl Explainer<'_> {
         only
     }
 
-    // A circle.
-    fn circle(&self, walk: &[Dependency]) -> Result<Finding, AllocError>
+    fn circle(&self, walk: &[Dependency]) -> Tried<Finding>
         requires knows { Knows self.now }
         requires some { 0 < length walk.now }
         requires are { All (DependenciesOf (HasFact self.now.asked.now)) walk.now }
@@ -220,7 +189,6 @@ impl Explainer<'_> {
         (self.origin(link.used()), self.origin(link.enabled()))
     }
 
-    // A double.
     fn double(&self, link: &Link) -> Finding
         requires knows { Knows self.now }
         requires asked { Holds (HasFact self.now.asked.now) (IsMark link.now) }
@@ -235,8 +203,7 @@ impl Explainer<'_> {
         }
     }
 
-    // An inversion.
-    fn inversion(&self, walk: &[Dependency], link: &Link) -> Result<Finding, AllocError>
+    fn inversion(&self, walk: &[Dependency], link: &Link) -> Tried<Finding>
         requires knows { Knows self.now }
         requires are { All (DependenciesOf (HasFact self.now.asked.now)) walk.now }
         requires marks { Holds (HasFact self.now.asked.now) (IsMark link.now) }
@@ -256,8 +223,7 @@ impl Explainer<'_> {
         })
     }
 
-    // The finding of a choice.
-    fn finding(&self, choice: &Choice) -> Result<Finding, AllocError>
+    fn finding(&self, choice: &Choice) -> Tried<Finding>
         requires knows { Knows self.now }
         requires among { IsAmong self.now.asked.now choice.now }
         ensures { IfOk result (Explains (view_of self.now.naming self.now.traces.now) self.now.keys.now choice.now) }
@@ -269,8 +235,7 @@ impl Explainer<'_> {
         }
     }
 
-    // The findings of choices.
-    pub(crate) fn findings(&self, choices: &[Choice]) -> Result<Vec<Finding>, AllocError>
+    pub(crate) fn findings(&self, choices: &[Choice]) -> Tried<Vec<Finding>>
         requires knows { Knows self.now }
         requires among { All (IsAmong self.now.asked.now) choices.now }
         ensures { IfOk result (λ findings. Are (Explains (view_of self.now.naming self.now.traces.now) self.now.keys.now) choices.now findings.items) }
@@ -283,7 +248,7 @@ impl Explainer<'_> {
     }
 
     // Between what a finding was seen.
-    fn between(&self, seen: &Seen) -> Result<Between, AllocError>
+    fn between(&self, seen: &Seen) -> Tried<Between>
         requires knows { Knows self.now }
         requires among { IsSeenAmong self.now.asked.now seen.now }
         ensures { IfOk result (ExplainsSeen (view_of self.now.naming self.now.traces.now) self.now.keys.now seen.now) }
@@ -298,11 +263,7 @@ impl Explainer<'_> {
     }
 
     // The findings, each with what it was seen between, which stands at its place of the other list.
-    pub(crate) fn verdicts(
-        &self,
-        findings: Vec<Finding>,
-        seen: &[Seen],
-    ) -> Result<Vec<Verdict>, AllocError>
+    pub(crate) fn verdicts(&self, findings: Vec<Finding>, seen: &[Seen]) -> Tried<Vec<Verdict>>
         requires knows { Knows self.now }
         requires among { All (IsSeenAmong self.now.asked.now) seen.now }
         requires each { length findings.items ≡ length seen.now }

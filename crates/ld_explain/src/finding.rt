@@ -1,12 +1,9 @@
 //! What was found, as values: everything that any text says of a finding.
 
-ghost use Rattle.std.specs.Prelude.{◌≡◌, ◌==◌, ◌↔◌, IsTrue};
-ghost use Rattle.std.specs.List.{list_all};
-ghost use Rattle.ld_facts.specs.Arrows.{arrow};
-ghost use Rattle.ld_explain.specs.Verdicts.{is_nesting};
+ghost use Rattle.ld_explain.specs.Names.{◌==◌, ◌↔◌, ◌≡◌, IsTrue, arrow, list_all};
+ghost use Rattle.ld_explain.specs.Clauses.{is_nesting};
 
-use crate::found::Dependency;
-use crate::origins::Origin;
+use crate::{Dependency, Origin};
 use ld_task::Kind;
 use ld_trace::{Irq, KeyId};
 
@@ -20,13 +17,19 @@ pub struct Order {
 }
 
 impl Order {
-    // Whether it is this dependency.
     pub(crate) fn is(&self, from: u16, to: u16, kind: Kind) -> bool
         ensures { IsTrue result ↔ (self.now.dependency ≡ arrow from to kind) }
     {
         self.dependency.from.get() == from
             && self.dependency.to.get() == to
             && self.dependency.kind == kind
+    }
+
+    // Whether it leads from this key.
+    pub(crate) fn leads_from(&self, from: u16) -> bool
+        ensures { IsTrue result ↔ (self.now.dependency.start ≡ from) }
+    {
+        self.dependency.from.get() == from
     }
 
     // Whether it leads from a key to itself.

@@ -1,20 +1,11 @@
 //! The findings of settled facts.
 
-ghost use Rattle.std.specs.Prelude.{◌≤◌, All, IfOk, length};
-ghost use Rattle.ld_trace.specs.declared.raw_trace.TheConstants.{MAX_TRACES};
-ghost use Rattle.ld_task.specs.WellFormed.{IsWellFormed};
-ghost use Rattle.ld_facts.specs.FactBits.{HasFact};
-ghost use Rattle.ld_facts.specs.Facts.{AreSame};
-ghost use Rattle.ld_explain.specs.Findings.{AreFindings};
-ghost use Rattle.ld_explain.specs.Naming.{view_of};
-ghost use Rattle.ld_explain.specs.Origins.{ViewHas};
+ghost use Rattle.ld_explain.specs.Names.{◌≤◌, All, AreSame, HasFact, IfOk, IsWellFormed, MAX_TRACES, length};
+ghost use Rattle.ld_explain.specs.Clauses.{AreFindings, ViewHas, view_of};
 
 use crate::choices::Choices;
-use crate::evidence::Evidence;
 use crate::explainer::Explainer;
-use crate::finding::Finding;
-use crate::found::Found;
-use crate::naming::Naming;
+use crate::{Evidence, Finding, Found, Naming};
 use ld_parts::Settled;
 use ld_trace::{KeyId, RawTrace};
 use std::alloc::{AllocError, Global};

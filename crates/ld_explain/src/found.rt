@@ -1,16 +1,9 @@
 //! What was found: the findings of settled facts as lists, in the report's order. Each text but the picture is made of these.
 
-ghost use Rattle.std.specs.Prelude.{◌≡◌, [], ◌∷◌, ℕ, IfOk, IsFalse, OnOk, flat_map, map};
-ghost use Rattle.ld_facts.specs.Arrows.{arrow};
-ghost use Rattle.ld_facts.specs.FactBits.{HasFact};
-ghost use Rattle.ld_graph.specs.Links.{IsDouble, IsInversion};
-ghost use Rattle.ld_graph.specs.Walks.{OnCircle};
-ghost use Rattle.ld_facts.specs.declared.fact.Fact.{Fact};
-ghost use Rattle.ld_task.specs.declared.kind.Kind.{Kind};
-ghost use Rattle.ld_explain.specs.Found.{AreFound, arrows_among, doubles_among, inversions_among};
-ghost use Rattle.ld_explain.specs.Inside.Finding.{AddsThose};
-ghost use Rattle.ld_explain.specs.Found.{kinds};
+ghost use Rattle.ld_explain.specs.Names.{[], ◌∷◌, ◌≡◌, Fact, HasFact, IfOk, IsDouble, IsFalse, IsInversion, Kind, OnCircle, OnOk, arrow, flat_map, map, ℕ};
+ghost use Rattle.ld_explain.specs.Clauses.{AddsThose, AreFound, arrows_among, doubles_among, inversions_among, kinds};
 
+use crate::Tried;
 use ld_facts::{Fact, STATES};
 use ld_graph::{Kind, Mark};
 use ld_parts::Settled;
@@ -30,7 +23,7 @@ pub struct Dependency {
 }
 
 impl Model for Dependency {
-    ghost use Rattle.ld_facts.specs.Arrows.{Arrow, arrow};
+    ghost use Rattle.ld_explain.specs.Names.{Arrow, arrow};
 
     ghost Value = { Arrow };
 
@@ -38,7 +31,6 @@ impl Model for Dependency {
 }
 
 impl Dependency {
-    // The fact that it is.
     pub(crate) fn fact(&self) -> Fact
         ensures { result ≡ Fact.Dependency self.now.start self.now.end self.now.kind }
     {
@@ -88,7 +80,6 @@ impl Found {
         Finder { settled, keys }.found(alloc)
     }
 
-    // No findings.
     fn none(alloc: Global) -> Found
         ensures { result ≡ record { circles = []; doubles = []; inversions = [] } }
     {
@@ -152,8 +143,7 @@ struct Finder<'a> {
 }
 
 impl Finder<'_> {
-    // All findings.
-    fn found(self, alloc: Global) -> Result<Found, AllocError>
+    fn found(self, alloc: Global) -> Tried<Found>
         ensures { IfOk result (AreFound (HasFact self.entry.settled.now) self.entry.keys.now) }
     {
         let mut circles = Vec::new(alloc);
@@ -176,7 +166,7 @@ impl Finder<'_> {
         from: KeyId,
         to: KeyId,
         kind: Kind,
-    ) -> Result<(), AllocError>
+    ) -> Tried<()>
         ensures { OnOk result (AddsThose (OnCircle (HasFact self.entry.settled.now)) (arrow from to kind ∷ [])
             circles.old.items circles.new.items) }
     {
@@ -187,12 +177,7 @@ impl Finder<'_> {
     }
 
     // Those of the dependencies from the one key to the other.
-    fn add_circles_to(
-        self,
-        circles: &mut Vec<Dependency>,
-        from: KeyId,
-        to: KeyId,
-    ) -> Result<(), AllocError>
+    fn add_circles_to(self, circles: &mut Vec<Dependency>, from: KeyId, to: KeyId) -> Tried<()>
         ensures { OnOk result (AddsThose (OnCircle (HasFact self.entry.settled.now)) (map (arrow from to) kinds)
             circles.old.items circles.new.items) }
     {
@@ -206,7 +191,7 @@ impl Finder<'_> {
     }
 
     // Those of the dependencies from the key.
-    fn add_circles_from(self, circles: &mut Vec<Dependency>, from: KeyId) -> Result<(), AllocError>
+    fn add_circles_from(self, circles: &mut Vec<Dependency>, from: KeyId) -> Tried<()>
         ensures { OnOk result (AddsThose (OnCircle (HasFact self.entry.settled.now))
             (flat_map (λ to. map (arrow from to) kinds) self.entry.keys.now) circles.old.items circles.new.items) }
     {
@@ -216,8 +201,7 @@ impl Finder<'_> {
         Ok(())
     }
 
-    // The dependencies on circles.
-    fn add_circles(self, circles: &mut Vec<Dependency>) -> Result<(), AllocError>
+    fn add_circles(self, circles: &mut Vec<Dependency>) -> Tried<()>
         ensures { OnOk result (AddsThose (OnCircle (HasFact self.entry.settled.now)) (arrows_among self.entry.keys.now)
             circles.old.items circles.new.items) }
     {
@@ -228,12 +212,7 @@ impl Finder<'_> {
     }
 
     // The key, if it is a double of the state.
-    fn add_double(
-        self,
-        doubles: &mut Vec<(Irq, KeyId)>,
-        irq: Irq,
-        key: KeyId,
-    ) -> Result<(), AllocError>
+    fn add_double(self, doubles: &mut Vec<(Irq, KeyId)>, irq: Irq, key: KeyId) -> Tried<()>
         ensures { OnOk result (AddsThose (λ x. IsDouble (HasFact self.entry.settled.now) x.0 x.1) ((irq, key) ∷ [])
             doubles.old.items doubles.new.items) }
     {
@@ -243,8 +222,7 @@ impl Finder<'_> {
         Ok(())
     }
 
-    // The doubles of one state.
-    fn add_doubles_of(self, doubles: &mut Vec<(Irq, KeyId)>, irq: Irq) -> Result<(), AllocError>
+    fn add_doubles_of(self, doubles: &mut Vec<(Irq, KeyId)>, irq: Irq) -> Tried<()>
         ensures { OnOk result (AddsThose (λ x. IsDouble (HasFact self.entry.settled.now) x.0 x.1)
             (map (λ key. (irq, key)) self.entry.keys.now) doubles.old.items doubles.new.items) }
     {
@@ -254,8 +232,7 @@ impl Finder<'_> {
         Ok(())
     }
 
-    // The doubles.
-    fn add_doubles(self, doubles: &mut Vec<(Irq, KeyId)>) -> Result<(), AllocError>
+    fn add_doubles(self, doubles: &mut Vec<(Irq, KeyId)>) -> Tried<()>
         ensures { OnOk result (AddsThose (λ x. IsDouble (HasFact self.entry.settled.now) x.0 x.1)
             (doubles_among self.entry.keys.now) doubles.old.items doubles.new.items) }
     {
@@ -272,7 +249,7 @@ impl Finder<'_> {
         irq: Irq,
         a: KeyId,
         b: KeyId,
-    ) -> Result<(), AllocError>
+    ) -> Tried<()>
         ensures { OnOk result (AddsThose (λ x. IsInversion (HasFact self.entry.settled.now) x.0 x.1.0 x.1.1)
             ((irq, (a, b)) ∷ []) inversions.old.items inversions.new.items) }
     {
@@ -288,7 +265,7 @@ impl Finder<'_> {
         inversions: &mut Vec<(Irq, (KeyId, KeyId))>,
         irq: Irq,
         a: KeyId,
-    ) -> Result<(), AllocError>
+    ) -> Tried<()>
         ensures { OnOk result (AddsThose (λ x. IsInversion (HasFact self.entry.settled.now) x.0 x.1.0 x.1.1)
             (map (λ b. (irq, (a, b))) self.entry.keys.now) inversions.old.items inversions.new.items) }
     {
@@ -301,12 +278,7 @@ impl Finder<'_> {
         Ok(())
     }
 
-    // The inversions of one state.
-    fn add_inversions_of(
-        self,
-        inversions: &mut Vec<(Irq, (KeyId, KeyId))>,
-        irq: Irq,
-    ) -> Result<(), AllocError>
+    fn add_inversions_of(self, inversions: &mut Vec<(Irq, (KeyId, KeyId))>, irq: Irq) -> Tried<()>
         ensures { OnOk result (AddsThose (λ x. IsInversion (HasFact self.entry.settled.now) x.0 x.1.0 x.1.1)
             (flat_map (λ a. map (λ b. (irq, (a, b))) self.entry.keys.now) self.entry.keys.now)
             inversions.old.items inversions.new.items) }
@@ -317,8 +289,7 @@ impl Finder<'_> {
         Ok(())
     }
 
-    // The inversions.
-    fn add_inversions(self, inversions: &mut Vec<(Irq, (KeyId, KeyId))>) -> Result<(), AllocError>
+    fn add_inversions(self, inversions: &mut Vec<(Irq, (KeyId, KeyId))>) -> Tried<()>
         ensures { OnOk result (AddsThose (λ x. IsInversion (HasFact self.entry.settled.now) x.0 x.1.0 x.1.1)
             (inversions_among self.entry.keys.now) inversions.old.items inversions.new.items) }
     {

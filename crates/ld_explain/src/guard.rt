@@ -1,8 +1,7 @@
 //! What speaks against one fact.
 
-ghost use Rattle.std.specs.Prelude.{◌≡◌, ◌≢◌, ◌↔◌, ℕ, [], Contains, IsFalse, IsTrue, Some, filter, slice_get};
-ghost use Rattle.ld_explain.specs.Inside.Guarding.{IsFirstGuard, IsGateBefore, Narrows, gate_in, is_among};
-ghost use Rattle.ld_explain.specs.Naming.{key_by};
+ghost use Rattle.ld_explain.specs.Names.{[], ◌↔◌, ◌≡◌, ◌≢◌, Contains, IsFalse, IsTrue, Some, filter, slice_get, ℕ};
+ghost use Rattle.ld_explain.specs.Clauses.{IsFirstGuard, IsGateBefore, Narrows, gate_in, is_among, key_by};
 
 use crate::naming::Naming;
 use arrayvec::ArrayVec;

@@ -1,21 +1,12 @@
 //! What speaks against findings.
 
-ghost use Rattle.std.specs.Prelude.{◌≡◌, ◌+◌, ◌∷◌, [], ◌<◌, ◌≤◌, ◌↔◌, ℕ, List, IfSome, IsFalse, IsNone, IsTrue, OnOk, Some, slice_get};
-ghost use Rattle.ld_trace.specs.declared.event.Event.{Event};
-ghost use Rattle.ld_trace.specs.declared.key_id.TheConstants.{MAX_KEYS};
+ghost use Rattle.ld_explain.specs.Names.{[], ◌+◌, ◌<◌, ◌↔◌, ◌∷◌, ◌≡◌, ◌≤◌, Event, IfSome, IsFalse, IsNone, IsTrue, List, MAX_KEYS, OnOk, Some, slice_get, ℕ};
 ghost use Rattle.ld_task.specs.TraceChains as trace_chains;
-ghost use Rattle.ld_facts.specs.Arrows.{arrow};
-ghost use Rattle.ld_facts.specs.ChainFacts.{fact_slots};
-ghost use Rattle.ld_facts.specs.FactBits.{FactBelow, FactParts, HasFact};
-ghost use Rattle.ld_facts.specs.declared.fact.Fact.{Fact};
-ghost use Rattle.ld_explain.specs.Notes.{AreGuardsOf, HasGuard, IsAloneIn, IsGate};
-ghost use Rattle.ld_explain.specs.Inside.Firsts.{SeenFrom, named_fact};
-ghost use Rattle.ld_explain.specs.Naming.{key_by, view_of};
-ghost use Rattle.ld_explain.specs.Origins.{View, ViewHas};
-ghost use Rattle.ld_explain.specs.Inside.Guarding.{Among, AreGuards, AsksOrder, IsGuardWith, IsKept, PutsGuard};
+ghost use Rattle.ld_explain.specs.Names.{Fact, FactBelow, FactParts, HasFact, arrow, fact_slots};
+ghost use Rattle.ld_explain.specs.Clauses.{Among, AreGuards, AreGuardsOf, AsksOrder, HasGuard, IsAloneIn, IsGate, IsGuardWith, IsKept, PutsGuard, SeenFrom, View, ViewHas, key_by, named_fact, view_of};
 
 use crate::guard::{Guard, gates_before};
-use crate::naming::Naming;
+use crate::{Naming, Tried};
 use arrayvec::ArrayVec;
 use indexmap::IndexMap;
 use ld_facts::{Fact, lock_of_slot};
@@ -33,8 +24,7 @@ pub struct Guards {
 }
 
 impl Model for Guards {
-    ghost use Rattle.std.specs.Prelude.{◌≤◌};
-    ghost use Rattle.ld_trace.specs.declared.key_id.TheConstants.{MAX_KEYS};
+    ghost use Rattle.ld_explain.specs.Names.{◌≤◌, MAX_KEYS};
     ghost use Rattle.ld_explain.specs.Notes.{GuardParts};
 
     ghost Value = { GuardParts };
@@ -56,7 +46,6 @@ impl Guards {
         }
     }
 
-    // The fact's guard.
     pub(crate) fn guard_of(&self, fact: Fact) -> Option<&Guard>
         ensures some { IfSome result (λ g. HasGuard self.now fact g.now) }
         ensures none { IsNone result → ¬ IsKept self.now fact }
@@ -76,7 +65,7 @@ impl Guards {
         naming: Naming<'_>,
         n: usize,
         fact: Fact,
-    ) -> Result<(), AllocError>
+    ) -> Tried<()>
         requires below { FactBelow self.old.keys fact }
         requires slot { named_fact (key_by naming) chain.now n ≡ Some fact }
         requires within { n < fact_slots chain.now }
@@ -96,12 +85,7 @@ impl Guards {
     }
 
     // Takes in one occurrence of a fact, in this trace and with these gates.
-    fn put(
-        &mut self,
-        fact: Fact,
-        trace: u32,
-        gates: ArrayVec<u16, MAX_HELD>,
-    ) -> Result<(), AllocError>
+    fn put(&mut self, fact: Fact, trace: u32, gates: ArrayVec<u16, MAX_HELD>) -> Tried<()>
         requires { FactBelow self.old.keys fact }
         ensures { OnOk result (PutsGuard self.old self.new fact trace gates.items) }
     {

@@ -1,7 +1,6 @@
 //! Laws of the definitions, each carried by a function that does nothing.
 
-ghost use Rattle.ld_explain.specs.Origins.{OwnNamesChangeNothing};
-ghost use Rattle.ld_explain.specs.Verdicts.{CirclesOfLocksAreSeen};
+ghost use Rattle.ld_explain.specs.Clauses.{CirclesOfLocksAreSeen, OwnNamesChangeNothing};
 
 /// The facts of traces by their own keys are their facts.
 pub fn own_names_change_nothing()

@@ -34,5 +34,9 @@ pub use levels::Levels;
 pub use naming::Naming;
 pub use origins::{Origin, Origins};
 pub use settling::{SettledLevels, SettledTypes};
+use std::alloc::AllocError;
 pub use verdict::{Between, Verdict, count_ranked, has_finding};
 pub use verdicts::verdicts_of;
+
+// What is made, unless memory is refused.
+pub(crate) type Tried<T> = Result<T, AllocError>;

@@ -1,9 +1,7 @@
 //! Which keys facts are about.
 
-ghost use Rattle.std.specs.Prelude.{◌≡◌};
-ghost use Rattle.ld_facts.specs.Renumbered.{fact_by};
-ghost use Rattle.ld_explain.specs.Inside.Firsts.{named_fact};
-ghost use Rattle.ld_explain.specs.Naming.{key_by};
+ghost use Rattle.ld_explain.specs.Names.{◌≡◌, fact_by};
+ghost use Rattle.ld_explain.specs.Clauses.{key_by, named_fact};
 
 use ld_facts::{Fact, fact_in_slot};
 use ld_task::Chain;

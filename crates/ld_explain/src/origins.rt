@@ -1,16 +1,11 @@
 //! The first occurrence of each fact.
 
-ghost use Rattle.std.specs.Prelude.{◌≡◌, ◌+◌, ◌<◌, ◌≤◌, [], ℕ, List, IfSome, IsNone, OnOk, Some};
-ghost use Rattle.ld_trace.specs.declared.event.Event.{Event};
-ghost use Rattle.ld_trace.specs.declared.key_id.TheConstants.{MAX_KEYS};
-ghost use Rattle.ld_task.specs.Placed.{IsPlacedAfter};
+ghost use Rattle.ld_explain.specs.Names.{[], ◌+◌, ◌<◌, ◌≡◌, ◌≤◌, Event, IfSome, IsNone, IsPlacedAfter, List, MAX_KEYS, OnOk, Some, ℕ};
 ghost use Rattle.ld_task.specs.TraceChains as trace_chains;
-ghost use Rattle.ld_facts.specs.ChainFacts.{fact_slots};
-ghost use Rattle.ld_facts.specs.FactBits.{FactBelow, FactParts, HasFact};
-ghost use Rattle.ld_facts.specs.declared.fact.Fact.{Fact};
-ghost use Rattle.ld_explain.specs.Origins.{AreOriginsOf, HasOrigin, IsOriginOf, View};
-ghost use Rattle.ld_explain.specs.Inside.Firsts.{IsKnown, PutsOrigin, slot_position};
+ghost use Rattle.ld_explain.specs.Names.{Fact, FactBelow, FactParts, HasFact, fact_slots};
+ghost use Rattle.ld_explain.specs.Clauses.{AreOriginsOf, HasOrigin, IsKnown, IsOriginOf, PutsOrigin, View, slot_position};
 
+use crate::Tried;
 use indexmap::IndexMap;
 use ld_facts::{Fact, lock_of_slot};
 use ld_task::{Chain, PlacedState};
@@ -39,8 +34,7 @@ pub struct Origins {
 }
 
 impl Model for Origins {
-    ghost use Rattle.std.specs.Prelude.{◌≤◌};
-    ghost use Rattle.ld_trace.specs.declared.key_id.TheConstants.{MAX_KEYS};
+    ghost use Rattle.ld_explain.specs.Names.{◌≤◌, MAX_KEYS};
     ghost use Rattle.ld_explain.specs.Origins.{OriginParts};
 
     ghost Value = { OriginParts };
@@ -72,7 +66,6 @@ impl Origins {
         self.origin_of(fact)
     }
 
-    // The fact's origin.
     fn origin_of(&self, fact: Fact) -> Option<Origin>
         ensures some { IfSome result (HasOrigin self.now fact) }
         ensures none { IsNone result → ¬ IsKnown self.now fact }
@@ -85,7 +78,7 @@ impl Origins {
     }
 
     // Gives the fact this origin, unless it has one.
-    pub(crate) fn put(&mut self, fact: Fact, origin: Origin) -> Result<(), AllocError>
+    pub(crate) fn put(&mut self, fact: Fact, origin: Origin) -> Tried<()>
         requires { FactBelow self.old.keys fact }
         ensures { OnOk result (PutsOrigin self.old self.new fact origin) }
     {

@@ -1,16 +1,12 @@
 //! What was seen of findings, and what is asked about for it, before the traces are read.
 
-ghost use Rattle.std.specs.Prelude.{◌≡◌, ◌≤◌, IfOk, OnOk};
-ghost use Rattle.ld_facts.specs.FactBits.{FactBelow, HasFact};
-ghost use Rattle.ld_facts.specs.Facts.{Adds, Holds};
-ghost use Rattle.ld_trace.specs.declared.key_id.TheConstants.{MAX_KEYS};
-ghost use Rattle.ld_explain.specs.Inside.Seeing.{AddsSeen, Asks, HasBetween, IsPlan, SeenHas};
+ghost use Rattle.ld_explain.specs.Names.{◌≡◌, ◌≤◌, Adds, FactBelow, HasFact, Holds, IfOk, MAX_KEYS, OnOk};
+ghost use Rattle.ld_explain.specs.Clauses.{AddsSeen, HasBetween, IsPlan, SeenHas};
 
-use crate::asked::Asked;
 use crate::choices::ask;
-use crate::finding::Finding;
 use crate::questions::{Questions, Seen};
-use std::alloc::{AllocError, Global};
+use crate::{Asked, Finding, Tried};
+use std::alloc::Global;
 
 // What was seen of findings in turn, and all facts of it, which are asked about.
 #[derive(Drop)]
@@ -26,8 +22,7 @@ impl Plan {
         questions: &Questions<'_>,
         keys: u16,
         findings: &[Finding],
-    ) -> Result<Plan, AllocError>
-        requires asks { Asks questions.now }
+    ) -> Tried<Plan>
         requires few { keys ≤ MAX_KEYS }
         requires below { Holds (FactBelow keys) (HasBetween questions.now.levels) }
         ensures { IfOk result (IsPlan questions.now.levels keys questions.now.keys.now findings.now) }
@@ -43,7 +38,7 @@ impl Plan {
     }
 
     // Adds what was seen of one more, and asks about its facts.
-    fn add(&mut self, seen: Seen) -> Result<(), AllocError>
+    fn add(&mut self, seen: Seen) -> Tried<()>
         requires { Holds (FactBelow self.old.asked.keys) (SeenHas seen) }
         ensures { OnOk result (AddsSeen self.old self.new seen) }
     {

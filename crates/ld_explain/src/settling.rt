@@ -1,25 +1,9 @@
 //! What is settled about traces at each level of what their locks are called.
 
-ghost use Rattle.std.specs.Prelude.{◌≡◌, ◌<◌, ◌≤◌, ◌↔◌, Contains, Err, List, Ok, All, IfOk, IfSome, IsFalse, IsNone, IsTrue, if◌then◌else◌, length, slice_index};
-ghost use Rattle.ld_trace.specs.Classes.{is_rest};
-ghost use Rattle.ld_trace.specs.Writing.{name_at};
-ghost use Rattle.ld_trace.specs.declared.event.Event.{Event};
-ghost use Rattle.ld_trace.specs.declared.key_id.TheConstants.{GRAPH_KEYS, MAX_KEYS};
-ghost use Rattle.ld_trace.specs.declared.raw_trace.TheConstants.{MAX_TRACES};
-ghost use Rattle.ld_task.specs.WellFormed.{IsWellFormed};
-ghost use Rattle.ld_facts.specs.FactBits.{HasFact};
-ghost use Rattle.ld_facts.specs.Facts.{AreSame};
-ghost use Rattle.ld_facts.specs.Renaming.{Image};
-ghost use Rattle.ld_facts.specs.TraceFacts.{TracesHave};
-ghost use Rattle.ld_graph.specs.Links.{IsClean};
-ghost use Rattle.ld_explain.specs.Settling.{AreLevels, AreTypes, AreVerdictsAt, Borrows, IsSure};
-ghost use Rattle.ld_explain.specs.Inside.Sure.{AreSureNumbers, no_key};
-ghost use Rattle.ld_parts.specs.declared.parting_fault.PartingFault.TheVariants.{TooTangled};
+ghost use Rattle.ld_explain.specs.Names.{◌<◌, ◌↔◌, ◌≡◌, ◌≤◌, All, AreSame, Contains, Err, Event, GRAPH_KEYS, HasFact, IfOk, IfSome, Image, IsClean, IsFalse, IsNone, IsTrue, IsWellFormed, List, MAX_KEYS, MAX_TRACES, Ok, TooTangled, TracesHave, if◌then◌else◌, is_rest, length, name_at, slice_index};
+ghost use Rattle.ld_explain.specs.Clauses.{AreLevels, AreSureNumbers, AreTypes, AreVerdictsAt, Borrows, IsSure, no_key};
 
-use crate::laws::own_names_change_nothing;
-use crate::levels::Levels;
-use crate::verdict::Verdict;
-use crate::verdicts::verdicts_of;
+use crate::{Levels, Tried, Verdict, own_names_change_nothing, verdicts_of};
 use ld_facts::Facts;
 use ld_parts::{PartedGraph, PartingFault, Settled};
 use ld_trace::{KeyId, KeyTable, Level, RawTrace, Renaming, is_rest};
@@ -63,21 +47,18 @@ impl SettledTypes {
         self.settled.is_clean()
     }
 
-    // What is settled.
     fn settled(&self) -> &Settled
         ensures { result.now ≡ self.now.types }
     {
         &self.settled
     }
 
-    // The number of each lock's type.
     fn type_of(&self) -> &[u16]
         ensures { result.now ≡ self.now.type_of }
     {
         &self.by_type.keys
     }
 
-    // The names of the types.
     fn type_names(&self) -> &KeyTable
         ensures { result.now.names ≡ self.now.type_names }
     {
@@ -100,7 +81,7 @@ pub struct SettledLevels {
 }
 
 impl Model for SettledLevels {
-    ghost use Rattle.std.specs.Prelude.{Some, if◌then◌else◌};
+    ghost use Rattle.ld_explain.specs.Names.{Some, if◌then◌else◌};
     ghost use Rattle.ld_explain.specs.Settling.{LevelParts};
 
     ghost Value = { LevelParts };
@@ -219,7 +200,6 @@ impl SettledLevels {
     }
 }
 
-// The facts with graphs of their own.
 fn settled(alloc: Global, facts: Facts) -> Result<Settled, PartingFault>
     ensures value { IfOk result (λ settled. settled ≡ facts) }
     ensures tangled { result ≡ Err TooTangled → GRAPH_KEYS < facts.keys }
@@ -239,7 +219,7 @@ fn settled_by(alloc: Global, facts: &Facts, by: &Renaming) -> Result<Settled, Pa
 }
 
 // What is settled, or None where too many keys lead to one another.
-fn unless_tangled(tried: Result<Settled, PartingFault>) -> Result<Option<Settled>, AllocError>
+fn unless_tangled(tried: Result<Settled, PartingFault>) -> Tried<Option<Settled>>
     ensures some { IfOk result (λ s. IfSome s (λ facts. tried ≡ Ok facts)) }
     ensures none { IfOk result (λ s. IsNone s → tried ≡ Err TooTangled) }
 {
@@ -250,7 +230,6 @@ fn unless_tangled(tried: Result<Settled, PartingFault>) -> Result<Option<Settled
     }
 }
 
-// Whether the lists differ.
 fn differ(a: &[u16], b: &[u16]) -> bool
     ensures { IsFalse result ↔ (a.now ≡ b.now) }
 {
@@ -263,7 +242,7 @@ fn classes_unless_types(
     facts: &Facts,
     by_class: &Renaming,
     has_places: bool,
-) -> Result<Option<Settled>, AllocError>
+) -> Tried<Option<Settled>>
     requires all { facts.now.keys ≡ length by_class.now.keys.items }
     requires below { All (λ key. key < length by_class.now.names.names) by_class.now.keys.items }
     ensures exact { IfOk result (λ s. IfSome s (λ settled.
@@ -283,7 +262,7 @@ fn sure_unless_all(
     names: &KeyTable,
     singles: &[u16],
     has_several: bool,
-) -> Result<Option<Settled>, AllocError>
+) -> Tried<Option<Settled>>
     requires { AreSureNumbers names.now.names facts.now.keys singles.now }
     ensures exact { IfOk result (λ s. IfSome s (λ sure. AreSame (HasFact sure) (λ x. HasFact facts.now x × IsSure names.now.names x))) }
     ensures open { IfOk result (λ s. IsNone s → IsTrue has_several → GRAPH_KEYS < facts.now.keys) }
@@ -303,12 +282,7 @@ fn has_several(singles: &[u16]) -> bool
 }
 
 // The facts without those about names that stand for several locks, which have no key of their own in the list.
-fn sure_facts(
-    alloc: Global,
-    facts: &Facts,
-    names: &KeyTable,
-    singles: &[u16],
-) -> Result<Facts, AllocError>
+fn sure_facts(alloc: Global, facts: &Facts, names: &KeyTable, singles: &[u16]) -> Tried<Facts>
     requires { AreSureNumbers names.now.names facts.now.keys singles.now }
     ensures keys { IfOk result (λ sure. sure.keys ≡ facts.now.keys) }
     ensures exact { IfOk result (λ sure. AreSame (HasFact sure) (λ x. HasFact facts.now x × IsSure names.now.names x)) }
@@ -320,7 +294,7 @@ fn sure_facts(
 const SEVERAL: u16 = u16::MAX;
 
 // Each key of the table, but `SEVERAL` for one that stands for several locks.
-fn single_keys(alloc: Global, names: &KeyTable) -> Result<Vec<u16>, AllocError>
+fn single_keys(alloc: Global, names: &KeyTable) -> Tried<Vec<u16>>
     ensures { IfOk result (λ keys. AreSureNumbers names.now.names (length names.now.names) keys.items) }
 {
     let mut keys = Vec::new(alloc);

@@ -1,27 +1,12 @@
 //! Findings between types, and between what they were seen.
 
-ghost use Rattle.std.specs.Prelude.{◌≡◌, ◌≤◌, All, IfOk, IfSome, length, map};
-ghost use Rattle.ld_trace.specs.declared.key_id.TheConstants.{MAX_KEYS};
-ghost use Rattle.ld_trace.specs.declared.raw_trace.TheConstants.{MAX_TRACES};
-ghost use Rattle.ld_task.specs.WellFormed.{IsWellFormed};
-ghost use Rattle.ld_facts.specs.FactBits.{FactBelow, HasFact};
-ghost use Rattle.ld_facts.specs.Facts.{AreSame, Holds};
-ghost use Rattle.ld_explain.specs.Inside.Seeing.{HasBetween, IsSeenAmong, SaysSeen};
-ghost use Rattle.ld_explain.specs.Findings.{Are};
-ghost use Rattle.ld_explain.specs.Naming.{view_of};
-ghost use Rattle.ld_explain.specs.Origins.{ViewHas, plain};
-ghost use Rattle.ld_explain.specs.Verdicts.{AreVerdicts, levels_of};
-ghost use Rattle.ld_explain.specs.declared.naming.Naming.{Naming};
+ghost use Rattle.ld_explain.specs.Names.{◌≡◌, ◌≤◌, All, AreSame, FactBelow, HasFact, Holds, IfOk, IfSome, IsWellFormed, MAX_KEYS, MAX_TRACES, length, map};
+ghost use Rattle.ld_explain.specs.Clauses.{Are, AreVerdicts, HasBetween, IsSeenAmong, Naming, SaysSeen, ViewHas, levels_of, plain, view_of};
 
-use crate::evidence::Evidence;
 use crate::explainer::Explainer;
-use crate::finding::Finding;
-use crate::findings::findings_of;
-use crate::levels::Levels;
-use crate::naming::Naming;
 use crate::plan::Plan;
 use crate::questions::Questions;
-use crate::verdict::Verdict;
+use crate::{Evidence, Finding, Levels, Naming, Tried, Verdict, findings_of};
 use ld_parts::Settled;
 use ld_trace::{KeyId, RawTrace};
 use std::alloc::{AllocError, Global};
@@ -51,7 +36,11 @@ pub fn verdicts_of<'a>(
     if findings.is_empty() {
         return Ok(Vec::new(alloc));
     }
-    let questions = Questions::of(alloc, levels, lock_keys)?;
+    let questions = Questions {
+        alloc,
+        levels: *levels,
+        keys: lock_keys,
+    };
     let keys = keys_between(levels);
     let plan = Plan::of(alloc, &questions, keys, findings.as_slice())?;
     explained(alloc, traces, Naming::Own, lock_keys, &plan, findings)
@@ -65,7 +54,7 @@ fn explained(
     keys: &[KeyId],
     plan: &Plan,
     findings: Vec<Finding>,
-) -> Result<Vec<Verdict>, AllocError>
+) -> Tried<Vec<Verdict>>
     requires few { length traces.now ≤ MAX_TRACES }
     requires well_formed { All IsWellFormed traces.now }
     requires has { Holds (ViewHas (view_of naming traces.now)) (HasFact plan.now.asked) }

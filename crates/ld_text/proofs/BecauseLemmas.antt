@@ -1,8 +1,5 @@
 -- The line of a circle that is turned.
-use Rattle.ld_text.proofs.Names.{◌++◌, ◌+◌, ◌-◌, ◌<◌, ◌∙◌, ◌∷◌, ◌≡◌, ◌≤◌, Arrow, Contains, IsFirstBest, IsStrictWeakOrder, List, Name, Some, TellsTurned, ap, append_assoc, arith, codes, drop, false, flat_map, flat_map-append, flat_map-next, get_or, get_or-drop, get_or_from_slice_get, inl, inr, key_text, length, length-drop, member_text, name_at, ranks_by, slice_get, starts_before, subst, suc, sym, take, take-append-drop, take_all, ℕ}
-use Rattle.std.specs.Ordering.{is_lt}
-use Rattle.std.proofs.Math.Seq.{drop-cons}
-use Rattle.std.proofs.lemmas.List.Elements.{Contains-append_cases, Contains-append_left, Contains-append_right}
+use Rattle.ld_text.proofs.Names.{◌++◌, ◌+◌, ◌-◌, ◌<◌, ◌∙◌, ◌∷◌, ◌≡◌, ◌≤◌, Arrow, Contains, Contains-append_cases, Contains-append_left, Contains-append_right, IsFirstBest, IsStrictWeakOrder, List, Name, Some, TellsTurned, ap, append_assoc, arith, codes, drop, drop-cons, false, flat_map, flat_map-append, flat_map-next, get_or, get_or-drop, get_or_from_slice_get, inl, inr, is_lt, key_text, length, length-drop, member_text, name_at, ranks_by, slice_get, starts_before, subst, suc, sym, take, take-append-drop, take_all, ℕ}
 use Rattle.ld_text.proofs.OrderLemmas.{name_cmp_total}
 
 pub starts_before_ranks : (names : List Name) → IsStrictWeakOrder (starts_before names)

@@ -1,15 +1,8 @@
 -- The lines of chains: lock by lock, and event by event.
-use Rattle.ld_text.proofs.Names.{[], ◌++◌, ◌+◌, ◌-◌, ◌<◌, ◌∙◌, ◌∷◌, ◌≡◌, ◌≤◌, AppendsBeginning, ChainParts, GoesOn, IsStateAfter, List, Name, None, Ok, Option, PutsBehind, Some, add-zero, ap, append-nil, append_assoc, arith, cases_lt, codes, flat_map, flat_map-append, flat_map-next, inl, inr, key_and_mode, length, lines_before, lock_text, option_map, refl, slice_get, slice_index_or, subst, suc, sym, take, take_all, take_more, taken_text, zero, ℕ}
-use Rattle.std.specs.Option.{option_to_list}
-use Rattle.ld_trace.specs.declared.event.Event.{Event}
-use Rattle.ld_trace.specs.declared.event.Event.TheVariants.{Leave}
-use Rattle.ld_trace.specs.declared.event.Mode.{Mode}
-use Rattle.ld_task.specs.declared.lock.Lock.{Lock}
-use Rattle.ld_task.specs.EndState.{EndState}
-use Rattle.ld_task.specs.Laws.{OneMoreEventAddsItsChain}
+use Rattle.ld_text.proofs.Names.{[], ◌++◌, ◌+◌, ◌-◌, ◌<◌, ◌∙◌, ◌∷◌, ◌≡◌, ◌≤◌, AppendsBeginning, ChainParts, EndState, Event, GoesOn, IsStateAfter, Leave, List, Lock, Mode, Name, None, Ok, OneMoreEventAddsItsChain, Option, PutsBehind, Some, add-zero, ap, append-nil, append_assoc, arith, cases_lt, chain, chain_line, codes, flat_map, flat_map-append, flat_map-next, inl, inr, key_and_mode, length, lines_before, lock_text, option_map, option_to_list, refl, slice_get, slice_index_or, subst, suc, sym, take, take_all, take_more, taken_text, zero, ℕ}
 use Rattle.ld_task.specs.Positions.{positions_below}
-use Rattle.ld_task.specs.TraceChains.{chain, chains}
-use Rattle.ld_text.specs.ChainLines.{chain_line, chains_text}
+use Rattle.ld_task.specs.TraceChains.{chains}
+use Rattle.ld_text.specs.ChainLines.{chains_text}
 use Rattle.ld_text.proofs.OutputLemmas.{AppendsBeginning-append, AppendsBeginning-more, PutsBehind-append}
 
 -- the text of a held lock that was looked up

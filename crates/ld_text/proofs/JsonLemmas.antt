@@ -1,6 +1,5 @@
 -- What is written of JSON, token by token.
-use Rattle.ld_text.proofs.Names.{[], ◌++◌, ◌+◌, ◌<◌, ◌∙◌, ◌∷◌, ◌≡◌, Adds, Err, List, Ok, OnOk, Result, Token, ap, append-nil, append_assoc, flat_map, length, map, map-append, refl, slice_index_or, subst, sym, take, take_more, ℕ}
-use Rattle.json.specs.Written.{Writes, Written}
+use Rattle.ld_text.proofs.Names.{[], ◌++◌, ◌+◌, ◌<◌, ◌∙◌, ◌∷◌, ◌≡◌, Adds, Err, List, Ok, OnOk, Result, Token, Writes, Written, ap, append-nil, append_assoc, flat_map, length, map, map-append, refl, slice_index_or, subst, sym, take, take_more, ℕ}
 use Rattle.ld_text.proofs.GroupLemmas.{flat_map-grows}
 
 -- nothing was written

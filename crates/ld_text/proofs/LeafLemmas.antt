@@ -1,6 +1,5 @@
 -- The lines of tasks that wait.
-use Rattle.ld_text.proofs.Names.{[], ◌++◌, ◌+◌, ◌<◌, ◌∙◌, ◌∷◌, ◌≡◌, List, Name, Some, ap, append-nil, append_assoc, arith, length, length-take-le, slice_get, suc, sym, take, take-next, waits_line, waits_text, ℕ}
-use Rattle.ld_explain.specs.declared.finding.Order.{Order}
+use Rattle.ld_text.proofs.Names.{[], ◌++◌, ◌+◌, ◌<◌, ◌∙◌, ◌∷◌, ◌≡◌, List, Name, Order, Some, ap, append-nil, append_assoc, arith, length, length-take-le, slice_get, suc, sym, take, take-next, waits_line, waits_text, ℕ}
 
 waits_of_next : (names : List Name) (task : ℕ) (walk : List Order) (order : Order) →
     waits_text names task (walk ++ order ∷ []) ≡ waits_text names task walk ++ waits_line names (task + length walk) order.dependency

@@ -1,6 +1,5 @@
 -- The keys of a table, numbered and in order.
-use Rattle.ld_text.proofs.Names.{[], ◌++◌, ◌+◌, ◌∷◌, ◌≡◌, IsTotalOrder, Name, arith, name_cmp, refl, subst, suc, sym, ℕ}
-use Rattle.std.proofs.lemmas.Cmp.{nat_cmp_total, nat_list_cmp_total, on_total, then_total}
+use Rattle.ld_text.proofs.Names.{[], ◌++◌, ◌+◌, ◌∷◌, ◌≡◌, IsTotalOrder, Name, arith, name_cmp, nat_cmp_total, nat_list_cmp_total, on_total, refl, subst, suc, sym, then_total, ℕ}
 use Rattle.ld_text.specs.Order.{numbers_below}
 
 pub numbers_below-more : (n : ℕ) → numbers_below (n + 1) ≡ numbers_below n ++ n ∷ []

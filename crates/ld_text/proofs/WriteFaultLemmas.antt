@@ -1,8 +1,5 @@
 -- What a refused write leaves.
-use Rattle.ld_text.proofs.Names.{◌≡◌, AppendsBeginning, Err, IfErr, List, Ok, OnErr, Option, Result, refl, ℕ}
-use Rattle.ld_text.specs.WriteFaults.{StopsWriting}
-use Rattle.ld_text.specs.declared.write_fault.WriteFault.{WriteFault}
-use Rattle.ld_text.specs.declared.write_fault.WriteFault.TheVariants.{Failed, Stuck, Memory}
+use Rattle.ld_text.proofs.Names.{◌≡◌, AppendsBeginning, Err, Failed, IfErr, List, Memory, Ok, OnErr, Option, Result, StopsWriting, Stuck, WriteFault, refl, ℕ}
 
 pub StopsWriting-begun : {T : Type 0} (IsText : List ℕ → Type 0) (old new : Option (List ℕ)) (text : List ℕ) (r : Result T WriteFault) → IsText text → ¬ (r ≡ Err Memory) → OnErr r (AppendsBeginning old new text) → IfErr r (StopsWriting IsText old new)
 StopsWriting-begun IsText old new text (Ok x) is_text never begun = tt

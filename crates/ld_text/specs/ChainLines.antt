@@ -1,17 +1,6 @@
 -- The text of a trace's chains [this project's own].
-use Rattle.std.specs.Prelude.{ℕ, List, ◌++◌, length, take, codes, decimal, Option, Some, None}
+use Rattle.ld_text.specs.Names.{◌++◌, ChainParts, Event, Flags, Frame, Hard, List, Lock, Mode, Name, None, Option, Soft, Some, chains, codes, decimal, is_on, length, mode_word, name_at, take, ℕ}
 use Rattle.std.specs.List.{flat_map}
-use Rattle.ld_trace.specs.Names.{Name}
-use Rattle.ld_trace.specs.declared.event.Event.{Event}
-use Rattle.ld_trace.specs.declared.event.Mode.{Mode}
-use Rattle.ld_trace.specs.declared.event.Irq.TheVariants.{Hard, Soft}
-use Rattle.ld_task.specs.declared.frame.Flags.{Flags}
-use Rattle.ld_task.specs.declared.frame.Frame.{Frame}
-use Rattle.ld_task.specs.Flags.{is_on}
-use Rattle.ld_task.specs.declared.lock.Lock.{Lock}
-use Rattle.ld_task.specs.Chains.{ChainParts}
-use Rattle.ld_task.specs.TraceChains.{chains}
-use Rattle.ld_trace.specs.Writing.{mode_word, name_at}
 use Rattle.ld_text.specs.Words.{flag_text, frame_text, key_text}
 
 -- a key and how it is taken

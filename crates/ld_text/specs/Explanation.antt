@@ -1,17 +1,5 @@
 -- The text of `explain`: what was found, and the records that it comes from [this project's own].
-use Rattle.std.specs.Prelude.{ℕ, suc, ◌+◌, List, [], ◌∷◌, ◌++◌, Option, Some, None, length, flat_map, codes, decimal, slice_get, unwrap_or}
-use Rattle.ld_trace.specs.Names.{Name}
-use Rattle.ld_trace.specs.Writing.{irq_word, name_at}
-use Rattle.ld_trace.specs.declared.event.Event.{Event}
-use Rattle.ld_trace.specs.declared.event.Event.TheVariants.{Acquire, TurnOn}
-use Rattle.ld_trace.specs.declared.event.Irq.{Irq}
-use Rattle.ld_task.specs.Events.{event}
-use Rattle.ld_facts.specs.Arrows.{Arrow}
-use Rattle.ld_explain.specs.declared.finding.Finding.{Finding}
-use Rattle.ld_explain.specs.declared.finding.Finding.TheVariants.{Circle, Double, Inversion}
-use Rattle.ld_explain.specs.declared.finding.GateNote.{GateNote}
-use Rattle.ld_explain.specs.declared.finding.Order.{Order}
-use Rattle.ld_explain.specs.declared.origins.Origin.{Origin}
+use Rattle.ld_text.specs.Names.{[], ◌++◌, ◌+◌, ◌∷◌, Acquire, Arrow, Circle, Double, Event, Finding, GateNote, Inversion, Irq, List, Name, None, Option, Order, Origin, Some, TurnOn, codes, decimal, event, flat_map, irq_word, length, name_at, slice_get, suc, unwrap_or, ℕ}
 use Rattle.ld_text.specs.ChainLines.{taken_text}
 use Rattle.ld_text.specs.Report.{double_line, inversion_line, member_text, total_line}
 use Rattle.ld_text.specs.Words.{Text, file_at, key_text}

@@ -1,12 +1,5 @@
 -- The text of what was found, in one of two formats [this project's own].
-use Rattle.std.specs.Prelude.{◌≡◌, ℕ, List}
-use Rattle.ld_trace.specs.Names.{Name}
-use Rattle.ld_trace.specs.declared.event.Event.{Event}
-use Rattle.ld_facts.specs.TraceFacts.{TracesHave}
-use Rattle.ld_facts.specs.declared.fact.Fact.{Fact}
-use Rattle.ld_explain.specs.Findings.{AreFindings}
-use Rattle.ld_explain.specs.Origins.{plain}
-use Rattle.ld_explain.specs.declared.finding.Finding.{Finding}
+use Rattle.ld_text.specs.Names.{◌≡◌, AreFindings, Event, Fact, Finding, List, Name, TracesHave, plain, ℕ}
 use Rattle.ld_text.specs.Explanation.{Sources, explanation_text, sources_of}
 use Rattle.ld_text.specs.Json.{json_text}
 use Rattle.ld_text.specs.Order.{IsKeyOrder}

@@ -1,18 +1,5 @@
 -- The findings as JSON: what `explain` says, for programs to read [this project's own; JSON is RFC 8259].
-use Rattle.std.specs.Prelude.{ℕ, ◌+◌, List, [], ◌∷◌, ◌++◌, Option, Some, None, codes, decimal, drop, flat_map, map}
-use Rattle.json.specs.Token.{Token, begin_object, end_object, begin_array, end_array, key, string, number}
-use Rattle.json.specs.Print.{print}
-use Rattle.ld_trace.specs.Names.{Name}
-use Rattle.ld_trace.specs.Writing.{irq_word, mode_word, name_at}
-use Rattle.ld_trace.specs.declared.event.Event.{Event}
-use Rattle.ld_trace.specs.declared.event.Event.TheVariants.{Acquire, TurnOn}
-use Rattle.ld_trace.specs.declared.event.Irq.{Irq}
-use Rattle.ld_facts.specs.Arrows.{Arrow}
-use Rattle.ld_explain.specs.declared.finding.Finding.{Finding}
-use Rattle.ld_explain.specs.declared.finding.Finding.TheVariants.{Circle, Double, Inversion}
-use Rattle.ld_explain.specs.declared.finding.GateNote.{GateNote}
-use Rattle.ld_explain.specs.declared.finding.Order.{Order}
-use Rattle.ld_explain.specs.declared.origins.Origin.{Origin}
+use Rattle.ld_text.specs.Names.{[], ◌++◌, ◌+◌, ◌∷◌, Acquire, Arrow, Circle, Double, Event, Finding, GateNote, Inversion, Irq, List, Name, None, Option, Order, Origin, Some, Token, TurnOn, begin_array, begin_object, codes, decimal, drop, end_array, end_object, flat_map, irq_word, key, map, mode_word, name_at, number, print, string, ℕ}
 use Rattle.ld_text.specs.Explanation.{Sources, dependency_text, event_of, gate_note, only_notes}
 use Rattle.ld_text.specs.Words.{file_at, key_text, kind_text}
 

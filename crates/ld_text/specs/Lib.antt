@@ -1,10 +1,12 @@
 pub mod ChainLines
+pub mod Clauses
 pub mod Explanation
 pub mod Findings
 pub mod Groups
 pub mod Inside
 pub mod Json
 pub mod Laws
+pub mod Names
 pub mod Order
 pub mod Output
 pub mod Picture

@@ -1,10 +1,5 @@
 -- The order of keys in a report. This project's own.
-use Rattle.std.specs.Prelude.{ℕ, zero, suc, List, [], ◌∷◌, ◌++◌, length, IsPermutation, IsSorted}
-use Rattle.std.specs.Ordering.{nat_cmp, ordering_then}
-use Rattle.std.specs.declared.cmp.Ordering.{Ordering}
-use Rattle.std.specs.Cmp.Lexicographic.{slice_cmp}
-use Rattle.ld_trace.specs.Names.{Name}
-use Rattle.ld_trace.specs.Writing.{name_at}
+use Rattle.ld_text.specs.Names.{[], ◌++◌, ◌∷◌, IsPermutation, IsSorted, List, Name, Ordering, length, name_at, nat_cmp, ordering_then, slice_cmp, suc, zero, ℕ}
 
 -- names are compared by their bytes, and then by their subclass
 abbrev pub name_cmp : Name → Name → Ordering

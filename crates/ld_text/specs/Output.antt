@@ -1,6 +1,5 @@
 -- What a writer holds after a text was handed to it. This project's own.
-use Rattle.std.specs.Prelude.{◌≡◌, ℕ, List, ◌++◌, Option, Some, IfSome}
-use Rattle.std.specs.Io.KnownBytes.{Appends}
+use Rattle.ld_text.specs.Names.{◌++◌, ◌≡◌, Appends, IfSome, List, Option, Some, ℕ}
 
 -- known bytes grew by a beginning of the text
 abbrev pub AppendsBeginning : Option (List ℕ) → Option (List ℕ) → List ℕ → Type 0

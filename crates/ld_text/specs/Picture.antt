@@ -1,19 +1,8 @@
 -- The facts as a picture: a graph in the language DOT [this project's own; the usage characters are those of "State"].
-use Rattle.std.specs.Prelude.{◌≡◌, ◌==◌, ◌⊎◌, ℕ, Bool, true, false, List, [], ◌∷◌, ◌++◌, Any, codes, decimal, flat_map, if◌then◌else◌}
-use Rattle.ld_trace.specs.Names.{Name}
-use Rattle.ld_trace.specs.declared.event.Event.{Event}
-use Rattle.ld_trace.specs.declared.event.Irq.{Irq}
-use Rattle.ld_facts.specs.Arrows.{Arrow, arrow}
-use Rattle.ld_facts.specs.Facts.{DependenciesOf}
-use Rattle.ld_graph.specs.Links.{InInversion, IsDouble}
-use Rattle.ld_graph.specs.Walks.{OnCircle}
-use Rattle.ld_facts.specs.declared.fact.Fact.{Fact}
-use Rattle.ld_facts.specs.TraceFacts.{TracesHave}
+use Rattle.ld_text.specs.Names.{[], ◌++◌, ◌==◌, ◌∷◌, ◌≡◌, ◌⊎◌, Any, AreFound, Arrow, Bool, DependenciesOf, Event, Fact, FoundParts, InInversion, Irq, IsDouble, List, Name, OnCircle, TracesHave, arrow, codes, decimal, false, flat_map, if◌then◌else◌, irq_word, kinds, name_at, states, true, ℕ}
 use Rattle.ld_text.specs.Groups.{InSequence, InTurn}
 use Rattle.ld_text.specs.Order.{IsKeyOrder}
 use Rattle.ld_text.specs.Report.{IsUsageCharacter, forms}
-use Rattle.ld_trace.specs.Writing.{irq_word, name_at}
-use Rattle.ld_explain.specs.Found.{AreFound, FoundParts, kinds, states}
 use Rattle.ld_text.specs.Words.{kind_text}
 
 -- Names. In a text between double quotes, a double quote and a backslash come after a backslash.

@@ -1,23 +1,7 @@
 -- The report of facts: its lines and their order [this project's own; the usage characters are those of "State"].
-use Rattle.std.specs.Prelude.{◌≡◌, ◌⊎◌, ◌↔◌, ℕ, Bool, true, false, IsTrue, List, [], ◌∷◌, ◌++◌, length, sum_by, flat_map, Contains, codes, decimal}
-use Rattle.std.specs.declared.cmp.Ordering.TheVariants.{Less}
-use Rattle.ld_trace.specs.Names.{Name}
-use Rattle.ld_trace.specs.declared.event.Event.{Event}
-use Rattle.ld_trace.specs.declared.event.Irq.{Irq}
-use Rattle.ld_task.specs.declared.mark.Mark.TheVariants.{UsedIn, Enabled}
-use Rattle.ld_facts.specs.Arrows.{Arrow}
-use Rattle.ld_facts.specs.Facts.{DependenciesOf}
-use Rattle.ld_facts.specs.declared.fact.Fact.{Fact}
-use Rattle.ld_facts.specs.declared.fact.Fact.TheVariants.{Marked}
-use Rattle.ld_graph.specs.Walks.{IsShortestCircle, OnCircle}
-use Rattle.ld_graph.specs.Links.{IsClean}
-use Rattle.ld_facts.specs.Counting.{IsNumberOf}
-use Rattle.ld_facts.specs.TraceFacts.{TracesHave}
-use Rattle.ld_trace.specs.Writing.{irq_word, name_at}
-use Rattle.ld_explain.specs.Found.{states}
+use Rattle.ld_text.specs.Names.{[], ◌++◌, ◌↔◌, ◌∷◌, ◌≡◌, ◌⊎◌, AreFound, Arrow, Bool, Contains, DependenciesOf, Enabled, Event, Fact, FoundParts, Irq, IsClean, IsNumberOf, IsShortestCircle, IsTrue, Less, List, Marked, Name, OnCircle, TracesHave, UsedIn, codes, decimal, false, flat_map, irq_word, length, name_at, states, sum_by, true, ℕ}
 use Rattle.ld_text.specs.Words.{key_text, kind_text}
 use Rattle.ld_text.specs.Order.{IsKeyOrder, name_cmp}
-use Rattle.ld_explain.specs.Found.{AreFound, FoundParts}
 use Rattle.ld_text.specs.Groups.{InSequence, InTurn}
 
 -- The totals.

@@ -1,19 +1,5 @@
 -- The texts of verdicts: findings between types, each with what it was seen between [this project's own].
-use Rattle.std.specs.Prelude.{◌-◌, ◌==◌, ℕ, Bool, List, [], ◌++◌, None, Option, Some, codes, drop, flat_map, if◌then◌else◌, length}
-use Rattle.json.specs.Token.{Token}
-use Rattle.json.specs.Print.{print}
-use Rattle.ld_trace.specs.Names.{Name}
-use Rattle.ld_trace.specs.Writing.{name_at}
-use Rattle.ld_trace.specs.declared.event.Event.{Event}
-use Rattle.ld_facts.specs.Arrows.{Arrow}
-use Rattle.ld_explain.specs.Settling.{AreLevels, AreVerdictsAt, LevelParts}
-use Rattle.ld_explain.specs.Verdicts.{count_ranked, is_nesting, rank}
-use Rattle.ld_explain.specs.declared.finding.Finding.{Finding}
-use Rattle.ld_explain.specs.declared.finding.Finding.TheVariants.{Circle, Double, Inversion}
-use Rattle.ld_explain.specs.declared.finding.GateNote.{GateNote}
-use Rattle.ld_explain.specs.declared.verdict.Between.{Between}
-use Rattle.ld_explain.specs.declared.verdict.Between.TheVariants.{Locks, Perhaps, Unknown, Classes, Types}
-use Rattle.ld_explain.specs.declared.verdict.Verdict.{Verdict}
+use Rattle.ld_text.specs.Names.{[], ◌++◌, ◌-◌, ◌==◌, AreLevels, AreVerdictsAt, Arrow, Between, Bool, Circle, Classes, Double, Event, Finding, GateNote, Inversion, LevelParts, List, Locks, Name, None, Option, Perhaps, Some, Token, Types, Unknown, Verdict, codes, count_ranked, drop, flat_map, if◌then◌else◌, is_nesting, length, name_at, print, rank, ℕ}
 use Rattle.ld_text.specs.Explanation.{Sources, deadlock_text, head_text, notes_text, origins_text, walk_text}
 use Rattle.ld_text.specs.Json.{dependency_members, finding_members, list_member, number_member, object, object_member, text_member}
 use Rattle.ld_text.specs.Order.{IsKeyOrder}

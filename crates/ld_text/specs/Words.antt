@@ -1,10 +1,5 @@
 -- The words of the program's texts [this project's own].
-use Rattle.std.specs.Prelude.{ℕ, Bool, true, false, List, ◌++◌, codes, decimal, slice_get, unwrap_or}
-use Rattle.ld_trace.specs.Names.{Name}
-use Rattle.ld_task.specs.declared.frame.Frame.{Frame}
-use Rattle.ld_task.specs.declared.frame.Frame.TheVariants.{Task, Softirq, Hardirq}
-use Rattle.ld_task.specs.declared.kind.Kind.{Kind}
-use Rattle.ld_task.specs.declared.kind.Kind.TheVariants.{Er, En, Sr, Sn}
+use Rattle.ld_text.specs.Names.{◌++◌, Bool, En, Er, Frame, Hardirq, Kind, List, Name, Sn, Softirq, Sr, Task, codes, decimal, false, slice_get, true, unwrap_or, ℕ}
 
 -- a text, as its bytes
 abbrev pub Text : Type 0

@@ -1,6 +1,5 @@
 -- The codes of refused writes, and what they leave [this project's own].
-use Rattle.std.specs.Prelude.{ℕ, List, Option, codes}
-use Rattle.std.specs.Io.KnownBytes.{Keeps}
+use Rattle.ld_text.specs.Names.{Keeps, List, Option, codes, ℕ}
 use Rattle.ld_text.specs.Output.{AppendsBeginning}
 use Rattle.ld_text.specs.declared.write_fault.WriteFault.{WriteFault}
 use Rattle.ld_text.specs.declared.write_fault.WriteFault.TheVariants.{Failed, Stuck, Memory}

@@ -1,16 +1,13 @@
 //! The line of a circle.
 
-ghost use Rattle.std.specs.Prelude.{◌≡◌, ◌<◌, ◌≤◌, ◌-◌, ◌++◌, OnOk, Some, drop, flat_map, length, slice_get, string_bytes, take};
-ghost use Rattle.std.specs.List.{IsFirstBest};
-ghost use Rattle.ld_facts.specs.Arrows.{arrow};
-ghost use Rattle.ld_text.specs.Inside.Turning.{TellsTurned, starts_before};
-ghost use Rattle.ld_text.specs.Report.{member_text};
+ghost use Rattle.ld_text.specs.Names.{◌++◌, ◌-◌, ◌<◌, ◌≡◌, ◌≤◌, IsFirstBest, OnOk, Some, arrow, drop, flat_map, length, slice_get, string_bytes, take};
+ghost use Rattle.ld_text.specs.Clauses.{TellsTurned, member_text, starts_before};
 
+use crate::Tried;
 use crate::order::compare;
 use crate::words::{kind_word, name_of};
 use ld_graph::{Circle, Kind};
 use ld_trace::{KeyId, KeyTable};
-use std::alloc::AllocError;
 
 // The member at this place: the key that it starts at, the key that it leads to, and its kind.
 fn member(circle: &Circle, i: usize) -> (KeyId, KeyId, Kind)
@@ -49,7 +46,7 @@ fn add_members(
     circle: &Circle,
     start: usize,
     end: usize,
-) -> Result<(), AllocError>
+) -> Tried<()>
     requires order { start ≤ end }
     requires within { end ≤ length circle.now }
     ensures { OnOk result (string_bytes text.new ≡ string_bytes text.old
@@ -65,14 +62,9 @@ fn add_members(
 }
 
 /// The line of a circle, turned to begin at the least of its keys in the report's order.
-pub(crate) fn add_line(
-    text: &mut String,
-    names: &KeyTable,
-    circle: &Circle,
-) -> Result<(), AllocError>
+pub(crate) fn add_line(text: &mut String, names: &KeyTable, circle: &Circle) -> Tried<()>
     requires { 0 < length circle.now }
-    ensures { OnOk result (TellsTurned names.now.names circle.now (string_bytes text.old)
-        (string_bytes text.new)) }
+    ensures { OnOk result (TellsTurned names.now.names circle.now (string_bytes text.old) (string_bytes text.new)) }
 {
     let least = least_start(names, circle);
     let (name, sub) = name_of(names, member(circle, least).0);

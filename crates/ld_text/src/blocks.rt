@@ -1,16 +1,15 @@
 //! The blocks of an explanation, one for each finding.
 
-ghost use Rattle.std.specs.Prelude.{◌≡◌, ◌++◌, IfOk, OnOk, codes, flat_map, string_bytes};
-ghost use Rattle.ld_text.specs.Explanation.{block_text, deadlock_text, explanation_text, head_text, notes_text, origins_text, walk_text};
+ghost use Rattle.ld_text.specs.Names.{◌++◌, ◌≡◌, IfOk, OnOk, codes, flat_map, string_bytes};
+ghost use Rattle.ld_text.specs.Clauses.{block_text, deadlock_text, explanation_text, head_text, notes_text, origins_text, walk_text};
 
+use crate::Tried;
 use crate::report::add_total;
 use crate::wording::Wording;
 use ld_explain::{Finding, Order};
-use std::alloc::AllocError;
 
 impl Wording<'_> {
-    // A walk.
-    pub(crate) fn add_walk(&self, text: &mut String, walk: &[Order]) -> Result<(), AllocError>
+    pub(crate) fn add_walk(&self, text: &mut String, walk: &[Order]) -> Tried<()>
         ensures { OnOk result (string_bytes text.new ≡ string_bytes text.old ++ walk_text self.now.names walk.now) }
     {
         let Some(first) = walk.first() else {
@@ -20,12 +19,7 @@ impl Wording<'_> {
         self.add_members(text, walk)
     }
 
-    // The first line of a circle.
-    pub(crate) fn add_circle_head(
-        &self,
-        text: &mut String,
-        walk: &[Order],
-    ) -> Result<(), AllocError>
+    pub(crate) fn add_circle_head(&self, text: &mut String, walk: &[Order]) -> Tried<()>
         ensures { OnOk result (string_bytes text.new ≡ string_bytes text.old
             ++ (codes "\ncircle " ++ (walk_text self.now.names walk.now ++ codes "\n"))) }
     {
@@ -34,8 +28,7 @@ impl Wording<'_> {
         text.push_str("\n")
     }
 
-    // The first line of a finding.
-    pub(crate) fn add_head(&self, text: &mut String, finding: &Finding) -> Result<(), AllocError>
+    pub(crate) fn add_head(&self, text: &mut String, finding: &Finding) -> Tried<()>
         ensures { OnOk result (string_bytes text.new ≡ string_bytes text.old ++ head_text self.now.names finding.now) }
     {
         match finding {
@@ -52,7 +45,7 @@ impl Wording<'_> {
     }
 
     // Where a finding comes from.
-    pub(crate) fn add_origins(&self, text: &mut String, finding: &Finding) -> Result<(), AllocError>
+    pub(crate) fn add_origins(&self, text: &mut String, finding: &Finding) -> Tried<()>
         ensures { OnOk result (string_bytes text.new ≡ string_bytes text.old ++ origins_text self.now finding.now) }
     {
         match finding {
@@ -77,11 +70,7 @@ impl Wording<'_> {
     }
 
     // How a finding ends in a deadlock.
-    pub(crate) fn add_deadlock(
-        &self,
-        text: &mut String,
-        finding: &Finding,
-    ) -> Result<(), AllocError>
+    pub(crate) fn add_deadlock(&self, text: &mut String, finding: &Finding) -> Tried<()>
         ensures { OnOk result (string_bytes text.new ≡ string_bytes text.old ++ deadlock_text self.now.names finding.now) }
     {
         match finding {
@@ -105,7 +94,7 @@ impl Wording<'_> {
     }
 
     // What speaks against a finding.
-    pub(crate) fn add_notes(&self, text: &mut String, finding: &Finding) -> Result<(), AllocError>
+    pub(crate) fn add_notes(&self, text: &mut String, finding: &Finding) -> Tried<()>
         ensures { OnOk result (string_bytes text.new ≡ string_bytes text.old ++ notes_text self.now finding.now) }
     {
         match finding {
@@ -118,8 +107,7 @@ impl Wording<'_> {
         }
     }
 
-    // A finding.
-    pub(crate) fn add_block(&self, text: &mut String, finding: &Finding) -> Result<(), AllocError>
+    pub(crate) fn add_block(&self, text: &mut String, finding: &Finding) -> Tried<()>
         ensures { OnOk result (string_bytes text.new ≡ string_bytes text.old ++ block_text self.now finding.now) }
     {
         self.add_head(text, finding)?;
@@ -128,12 +116,7 @@ impl Wording<'_> {
         self.add_notes(text, finding)
     }
 
-    // The blocks of all findings.
-    pub(crate) fn add_blocks(
-        &self,
-        text: &mut String,
-        findings: &[Finding],
-    ) -> Result<(), AllocError>
+    pub(crate) fn add_blocks(&self, text: &mut String, findings: &[Finding]) -> Tried<()>
         ensures { OnOk result (string_bytes text.new
             ≡ string_bytes text.old ++ flat_map (block_text self.now) findings.now) }
     {
@@ -144,7 +127,7 @@ impl Wording<'_> {
     }
 
     // The text of findings for people to read.
-    pub(crate) fn explanation(&self, findings: &[Finding]) -> Result<Vec<u8>, AllocError>
+    pub(crate) fn explanation(&self, findings: &[Finding]) -> Tried<Vec<u8>>
         ensures { IfOk result (λ text. text.items ≡ explanation_text self.now findings.now) }
     {
         let mut text = String::new(self.alloc);

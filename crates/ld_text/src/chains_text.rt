@@ -1,12 +1,8 @@
 //! The text of a trace's chains.
 
-ghost use Rattle.std.specs.Prelude.{◌≡◌, ◌+◌, ◌≤◌, ◌++◌, [], Err, OnOk, OnErr, codes, length};
-ghost use Rattle.std.specs.Io.KnownBytes.{Appends};
-ghost use Rattle.ld_text.specs.ChainLines.{chain_line, chains_text, flags_text, head_text, taken_text};
-ghost use Rattle.ld_text.specs.Output.{AppendsBeginning};
-ghost use Rattle.ld_trace.specs.Writing.{name_at};
-ghost use Rattle.ld_text.specs.Words.{key_text};
-ghost use Rattle.ld_text.specs.declared.chains_text.TheConstants.{LINE_BYTES};
+ghost use Rattle.ld_text.specs.Names.{[], ◌++◌, ◌+◌, ◌≡◌, ◌≤◌, Appends, Err, OnErr, OnOk, codes, length, name_at};
+ghost use Rattle.ld_text.specs.Clauses.{AppendsBeginning, LINE_BYTES, chain_line, chains_text, flags_text, key_text, taken_text};
+ghost use Rattle.ld_text.specs.ChainLines.{head_text};
 
 use crate::output::{Page, put, write_out};
 use crate::words::{digits_of, flag_word, frame_word, name_of};
@@ -60,8 +56,7 @@ fn add_flags(line: &mut Line, flags: Flags)
 // What a line says of the chain itself.
 fn add_head(line: &mut Line, names: &KeyTable, chain: &Chain)
     requires { length line.old.bytes + 92 ≤ LINE_BYTES }
-    ensures text { line.new.bytes
-        ≡ line.old.bytes ++ head_text names.now.names chain.now.new_lock chain.now.flags }
+    ensures text { line.new.bytes ≡ line.old.bytes ++ head_text names.now.names chain.now.new_lock chain.now.flags }
     ensures short { length line.new.bytes ≤ length line.old.bytes + 92 }
 {
     match chain.taken() {
@@ -77,7 +72,6 @@ fn add_head(line: &mut Line, names: &KeyTable, chain: &Chain)
     add_flags(line, chain.flags());
 }
 
-// The line of a chain.
 fn add_line(line: &mut Line, names: &KeyTable, chain: &Chain)
     requires { line.old.bytes ≡ [] }
     ensures { line.new.bytes ≡ chain_line names.now.names chain.now }
@@ -95,10 +89,7 @@ fn add_line(line: &mut Line, names: &KeyTable, chain: &Chain)
 }
 
 /// Writes a line for each chain of the trace, in order: an acquisition with its mode, frame and flags, or an opening with
-/// the flags just after it, and the locks held then in the frame, oldest first.
-///
-/// Refusals: O1 if the writer returns an error, O2 if it takes nothing. Exactly a beginning of the text was written
-/// then. Takes no memory.
+/// the flags just after it, and the locks held then in the frame, oldest first. Takes no memory.
 pub fn write_chains<W: Write>(w: &mut W, trace: &Trace, names: &KeyTable) -> Result<(), WriteFault>
     ensures ok { OnOk result (Appends (W.contents w.old) (W.contents w.new) (chains_text names.now.names trace.now)) }
     ensures not_memory { ¬ (result ≡ Err WriteFault.Memory) }

@@ -1,25 +1,15 @@
 //! The text of what was found, in one of two formats.
 
-ghost use Rattle.std.specs.Prelude.{◌≡◌, ◌≤◌, ℕ, List, All, IfOk, IfErr, OnOk, length, map};
-ghost use Rattle.std.specs.Io.KnownBytes.{Appends};
-ghost use Rattle.ld_trace.specs.declared.raw_trace.TheConstants.{MAX_TRACES};
-ghost use Rattle.ld_task.specs.WellFormed.{IsWellFormed};
-ghost use Rattle.ld_facts.specs.FactBits.{HasFact};
-ghost use Rattle.ld_facts.specs.Facts.{AreSame};
-ghost use Rattle.ld_facts.specs.TraceFacts.{TracesHave};
-ghost use Rattle.ld_text.specs.Explanation.{sources_of};
-ghost use Rattle.ld_text.specs.Findings.{SaysFindings};
-ghost use Rattle.ld_text.specs.WriteFaults.{StopsWriting};
+ghost use Rattle.ld_text.specs.Names.{◌≡◌, ◌≤◌, All, Appends, AreSame, HasFact, IfErr, IfOk, IsWellFormed, List, MAX_TRACES, OnOk, TracesHave, length, map, ℕ};
+ghost use Rattle.ld_text.specs.Clauses.{SaysFindings, StopsWriting, sources_of};
 
 use crate::key_texts::KeyTexts;
-use crate::order::sorted_keys;
-use crate::output::write_text;
 use crate::wording::{MARGIN, Wording};
-use crate::write_fault::WriteFault;
+use crate::{Tried, WriteFault, sorted_keys, write_text};
 use ld_explain::{Naming, findings_of, own_names_change_nothing};
 use ld_parts::Settled;
 use ld_trace::{KeyTable, RawTrace};
-use std::alloc::{AllocError, Global};
+use std::alloc::Global;
 use std::io::Write;
 
 /// How findings are written.
@@ -31,7 +21,6 @@ pub enum Format {
     Json,
 }
 
-// The text.
 fn findings_text(
     alloc: Global,
     settled: &Settled,
@@ -39,13 +28,12 @@ fn findings_text(
     names: &KeyTable,
     files: &[&str],
     format: Format,
-) -> Result<Vec<u8>, AllocError>
+) -> Tried<Vec<u8>>
     requires few { length traces.now ≤ MAX_TRACES }
     requires well_formed { All IsWellFormed traces.now }
     requires facts { AreSame (HasFact settled.now) (TracesHave traces.now) }
     ensures { IfOk result (λ text. SaysFindings format (HasFact settled.now)
-        (sources_of traces.now names.now.names (map (λ file. file.now) files.entry.now))
-        text.items) }
+        (sources_of traces.now names.now.names (map (λ file. file.now) files.entry.now)) text.items) }
 {
     let keys = sorted_keys(alloc, names)?;
     own_names_change_nothing();
@@ -69,9 +57,6 @@ fn findings_text(
 
 /// Writes what was found in the traces of these files, and for each dependency and mark that a finding is made of the
 /// record where it first occurs. Names of keys are those in the table, and those of files as they were given.
-///
-/// Refusals: O3 if memory for the text or for the origins is refused, before its first byte; O1 if the writer returns an
-/// error and O2 if it takes nothing, after exactly a beginning of the text. This project's own.
 pub fn write_findings<W: Write>(
     alloc: Global,
     w: &mut W,
@@ -84,12 +69,10 @@ pub fn write_findings<W: Write>(
     requires few { length traces.now ≤ MAX_TRACES }
     requires well_formed { All IsWellFormed traces.now }
     requires facts { AreSame (HasFact settled.now) (TracesHave traces.now) }
-    ensures ok { OnOk result ((text : List ℕ)
-        × SaysFindings format (HasFact settled.now)
+    ensures ok { OnOk result ((text : List ℕ) × SaysFindings format (HasFact settled.now)
         (sources_of traces.now names.now.names (map (λ file. file.now) files.entry.now)) text
         × Appends (W.contents w.old) (W.contents w.new) text) }
-    ensures err { IfErr result (StopsWriting
-        (SaysFindings format (HasFact settled.now)
+    ensures err { IfErr result (StopsWriting (SaysFindings format (HasFact settled.now)
         (sources_of traces.now names.now.names (map (λ file. file.now) files.entry.now)))
         (W.contents w.old) (W.contents w.new)) }
 {

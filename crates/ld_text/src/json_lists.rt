@@ -1,29 +1,23 @@
 //! The lists in the JSON of a finding: its keys, its lines, its dependencies, its notes.
 
-ghost use Rattle.std.specs.Prelude.{◌≡◌, ◌∷◌, [], OnOk, flat_map, map};
-ghost use Rattle.json.specs.Token.{string};
-ghost use Rattle.ld_trace.specs.Writing.{name_at};
-ghost use Rattle.ld_text.specs.Explanation.{gate_note, only_notes};
-ghost use Rattle.ld_text.specs.Json.{circle_words, keys_member, lines_member, notes_member, order_object, orders_member};
-ghost use Rattle.ld_text.specs.Inside.Tokens.{Adds};
-ghost use Rattle.ld_text.specs.Words.{key_text};
+ghost use Rattle.ld_text.specs.Names.{[], ◌∷◌, ◌≡◌, OnOk, flat_map, map, name_at, string};
+ghost use Rattle.ld_text.specs.Clauses.{Adds, circle_words, gate_note, key_text, keys_member, lines_member, notes_member, only_notes, order_object, orders_member};
 
 use crate::wording::Wording;
-use crate::words::file_of;
+use crate::{Tried, file_of};
 use json::Writer;
 use ld_explain::{Dependency, GateNote, Order};
-use std::alloc::AllocError;
 
 impl Wording<'_> {
     // The key that a dependency leads from.
-    pub(crate) fn write_key(&self, w: &mut Writer, d: &Dependency) -> Result<(), AllocError>
+    pub(crate) fn write_key(&self, w: &mut Writer, d: &Dependency) -> Tried<()>
         ensures { OnOk result (Adds w.old w.new (string (key_text (name_at self.now.names d.now.start)) ∷ [])) }
     {
         w.string(self.key(d.from))
     }
 
     // The keys that the members of a walk lead from.
-    pub(crate) fn write_each_key(&self, w: &mut Writer, walk: &[Order]) -> Result<(), AllocError>
+    pub(crate) fn write_each_key(&self, w: &mut Writer, walk: &[Order]) -> Tried<()>
         ensures { OnOk result (Adds w.old w.new
             (map (λ order. string (key_text (name_at self.now.names order.dependency.start))) walk.now)) }
     {
@@ -33,8 +27,7 @@ impl Wording<'_> {
         Ok(())
     }
 
-    // The member with these.
-    pub(crate) fn write_keys(&self, w: &mut Writer, walk: &[Order]) -> Result<(), AllocError>
+    pub(crate) fn write_keys(&self, w: &mut Writer, walk: &[Order]) -> Tried<()>
         ensures { OnOk result (Adds w.old w.new (keys_member self.now.names walk.now)) }
     {
         w.key("keys")?;
@@ -43,13 +36,7 @@ impl Wording<'_> {
         w.end_array()
     }
 
-    // The report's line of a member of a circle.
-    pub(crate) fn write_line(
-        &self,
-        w: &mut Writer,
-        line: &mut String,
-        d: &Dependency,
-    ) -> Result<(), AllocError>
+    pub(crate) fn write_line(&self, w: &mut Writer, line: &mut String, d: &Dependency) -> Tried<()>
         ensures { OnOk result (Adds w.old w.new (string (circle_words self.now.names d.now) ∷ [])) }
     {
         line.clear();
@@ -57,8 +44,7 @@ impl Wording<'_> {
         w.string(line.as_str())
     }
 
-    // The report's line of each member of a circle.
-    pub(crate) fn write_each_line(&self, w: &mut Writer, walk: &[Order]) -> Result<(), AllocError>
+    pub(crate) fn write_each_line(&self, w: &mut Writer, walk: &[Order]) -> Tried<()>
         ensures { OnOk result (Adds w.old w.new
             (map (λ order. string (circle_words self.now.names order.dependency)) walk.now)) }
     {
@@ -69,8 +55,7 @@ impl Wording<'_> {
         Ok(())
     }
 
-    // The member with these.
-    pub(crate) fn write_lines(&self, w: &mut Writer, walk: &[Order]) -> Result<(), AllocError>
+    pub(crate) fn write_lines(&self, w: &mut Writer, walk: &[Order]) -> Tried<()>
         ensures { OnOk result (Adds w.old w.new (lines_member self.now.names walk.now)) }
     {
         w.key("lines")?;
@@ -79,8 +64,7 @@ impl Wording<'_> {
         w.end_array()
     }
 
-    // Each dependency of a walk, and where it first occurs.
-    pub(crate) fn write_each_order(&self, w: &mut Writer, walk: &[Order]) -> Result<(), AllocError>
+    pub(crate) fn write_each_order(&self, w: &mut Writer, walk: &[Order]) -> Tried<()>
         ensures { OnOk result (Adds w.old w.new (flat_map (order_object self.now) walk.now)) }
     {
         for order in walk {
@@ -89,8 +73,7 @@ impl Wording<'_> {
         Ok(())
     }
 
-    // The member with these.
-    pub(crate) fn write_orders(&self, w: &mut Writer, walk: &[Order]) -> Result<(), AllocError>
+    pub(crate) fn write_orders(&self, w: &mut Writer, walk: &[Order]) -> Tried<()>
         ensures { OnOk result (Adds w.old w.new (orders_member self.now walk.now)) }
     {
         w.key("orders")?;
@@ -100,12 +83,7 @@ impl Wording<'_> {
     }
 
     // The note of a lock that is always held round dependencies.
-    pub(crate) fn write_gate(
-        &self,
-        w: &mut Writer,
-        note: &mut String,
-        gate: &GateNote,
-    ) -> Result<(), AllocError>
+    pub(crate) fn write_gate(&self, w: &mut Writer, note: &mut String, gate: &GateNote) -> Tried<()>
         ensures { OnOk result (Adds w.old w.new (string (gate_note self.now.names gate.now) ∷ [])) }
     {
         note.clear();
@@ -113,12 +91,7 @@ impl Wording<'_> {
         w.string(note.as_str())
     }
 
-    // Such notes.
-    pub(crate) fn write_each_gate(
-        &self,
-        w: &mut Writer,
-        gates: &[GateNote],
-    ) -> Result<(), AllocError>
+    pub(crate) fn write_each_gate(&self, w: &mut Writer, gates: &[GateNote]) -> Tried<()>
         ensures { OnOk result (Adds w.old w.new (map (λ gate. string (gate_note self.now.names gate)) gates.now)) }
     {
         let mut note = String::new(self.alloc);
@@ -129,7 +102,7 @@ impl Wording<'_> {
     }
 
     // The note that one trace has all occurrences, if one has.
-    pub(crate) fn write_only(&self, w: &mut Writer, only: Option<u32>) -> Result<(), AllocError>
+    pub(crate) fn write_only(&self, w: &mut Writer, only: Option<u32>) -> Tried<()>
         ensures { OnOk result (Adds w.old w.new (map string (only_notes self.now.files only))) }
     {
         let Some(trace) = only else {
@@ -141,13 +114,12 @@ impl Wording<'_> {
         w.string(note.as_str())
     }
 
-    // The member with the notes.
     pub(crate) fn write_notes(
         &self,
         w: &mut Writer,
         gates: &[GateNote],
         only: Option<u32>,
-    ) -> Result<(), AllocError>
+    ) -> Tried<()>
         ensures { OnOk result (Adds w.old w.new (notes_member self.now gates.now only)) }
     {
         w.key("notes")?;

@@ -1,23 +1,19 @@
 //! Members of JSON objects.
 
-ghost use Rattle.std.specs.Prelude.{◌∷◌, [], OnOk};
-ghost use Rattle.json.specs.Token.{string};
-ghost use Rattle.ld_text.specs.Json.{list_member, number_member, text_member};
-ghost use Rattle.ld_text.specs.Inside.Tokens.{Adds};
+ghost use Rattle.ld_text.specs.Names.{[], ◌∷◌, OnOk, string};
+ghost use Rattle.ld_text.specs.Clauses.{Adds, list_member, number_member, text_member};
 
+use crate::Tried;
 use json::Writer;
-use std::alloc::AllocError;
 
-// A member whose value is a text.
-pub(crate) fn add_text(w: &mut Writer, name: &str, value: &str) -> Result<(), AllocError>
+pub(crate) fn add_text(w: &mut Writer, name: &str, value: &str) -> Tried<()>
     ensures { OnOk result (Adds w.old w.new (text_member name.now value.now)) }
 {
     w.key(name)?;
     w.string(value)
 }
 
-// A member whose value is a number.
-pub(crate) fn add_number(w: &mut Writer, name: &str, value: u64) -> Result<(), AllocError>
+pub(crate) fn add_number(w: &mut Writer, name: &str, value: u64) -> Tried<()>
     ensures { OnOk result (Adds w.old w.new (number_member name.now value)) }
 {
     w.key(name)?;
@@ -25,7 +21,7 @@ pub(crate) fn add_number(w: &mut Writer, name: &str, value: u64) -> Result<(), A
 }
 
 // A member whose value is a list of one text.
-pub(crate) fn add_only(w: &mut Writer, name: &str, value: &str) -> Result<(), AllocError>
+pub(crate) fn add_only(w: &mut Writer, name: &str, value: &str) -> Tried<()>
     ensures { OnOk result (Adds w.old w.new (list_member name.now (string value.now ∷ []))) }
 {
     w.key(name)?;
@@ -35,12 +31,7 @@ pub(crate) fn add_only(w: &mut Writer, name: &str, value: &str) -> Result<(), Al
 }
 
 // A member whose value is a list of two texts.
-pub(crate) fn add_both(
-    w: &mut Writer,
-    name: &str,
-    first: &str,
-    second: &str,
-) -> Result<(), AllocError>
+pub(crate) fn add_both(w: &mut Writer, name: &str, first: &str, second: &str) -> Tried<()>
     ensures { OnOk result (Adds w.old w.new (list_member name.now (string first.now ∷ string second.now ∷ []))) }
 {
     w.key(name)?;

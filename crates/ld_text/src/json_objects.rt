@@ -1,27 +1,18 @@
 //! The findings as JSON objects.
 
-ghost use Rattle.std.specs.Prelude.{◌≡◌, ◌∷◌, [], OnOk, codes};
-ghost use Rattle.json.specs.Token.{string};
-ghost use Rattle.ld_text.specs.Explanation.{event_of};
-ghost use Rattle.ld_text.specs.Json.{dependency_members, double_words, event_members, finding_members, held_members, inversion_words, list_member, object, object_member, occurrence_members, order_object, taken_mode, use_members};
-ghost use Rattle.ld_text.specs.Inside.Tokens.{Adds};
+ghost use Rattle.ld_text.specs.Names.{[], ◌∷◌, ◌≡◌, OnOk, codes, string};
+ghost use Rattle.ld_text.specs.Clauses.{Adds, dependency_members, double_words, event_members, event_of, finding_members, held_members, inversion_words, list_member, object, object_member, occurrence_members, order_object, taken_mode, use_members};
 
+use crate::Tried;
 use crate::json_members::{add_both, add_number, add_only, add_text};
 use crate::wording::Wording;
 use crate::words::{file_of, kind_word};
 use json::Writer;
 use ld_explain::{Dependency, Finding, Order, Origin};
 use ld_trace::{Event, Irq, KeyId};
-use std::alloc::AllocError;
 
 impl Wording<'_> {
-    // What the event at this place of a trace does.
-    pub(crate) fn write_event(
-        &self,
-        w: &mut Writer,
-        trace: u32,
-        place: u32,
-    ) -> Result<(), AllocError>
+    pub(crate) fn write_event(&self, w: &mut Writer, trace: u32, place: u32) -> Tried<()>
         ensures { OnOk result (Adds w.old w.new (event_members (event_of self.now.traces trace place))) }
     {
         match self.event(trace, place) {
@@ -42,12 +33,7 @@ impl Wording<'_> {
     }
 
     // The lock that is held meanwhile.
-    pub(crate) fn write_held(
-        &self,
-        w: &mut Writer,
-        trace: u32,
-        held: Option<u32>,
-    ) -> Result<(), AllocError>
+    pub(crate) fn write_held(&self, w: &mut Writer, trace: u32, held: Option<u32>) -> Tried<()>
         ensures { OnOk result (Adds w.old w.new (held_members self.now trace held)) }
     {
         let Some(held) = held else {
@@ -57,8 +43,7 @@ impl Wording<'_> {
         add_number(w, "since", held as u64 + 2)
     }
 
-    // An occurrence.
-    pub(crate) fn write_occurrence(&self, w: &mut Writer, origin: Origin) -> Result<(), AllocError>
+    pub(crate) fn write_occurrence(&self, w: &mut Writer, origin: Origin) -> Tried<()>
         ensures { OnOk result (Adds w.old w.new (occurrence_members self.now origin)) }
     {
         let file = file_of(self.files, origin.trace as usize);
@@ -68,8 +53,7 @@ impl Wording<'_> {
         self.write_held(w, origin.trace, origin.held)
     }
 
-    // A dependency.
-    pub(crate) fn write_dependency(&self, w: &mut Writer, d: &Dependency) -> Result<(), AllocError>
+    pub(crate) fn write_dependency(&self, w: &mut Writer, d: &Dependency) -> Tried<()>
         ensures { OnOk result (Adds w.old w.new (dependency_members self.now.names d.now)) }
     {
         add_text(w, "from", self.key(d.from))?;
@@ -77,8 +61,7 @@ impl Wording<'_> {
         add_text(w, "to", self.key(d.to))
     }
 
-    // A dependency, and where it first occurs.
-    pub(crate) fn write_order(&self, w: &mut Writer, order: &Order) -> Result<(), AllocError>
+    pub(crate) fn write_order(&self, w: &mut Writer, order: &Order) -> Tried<()>
         ensures { OnOk result (Adds w.old w.new (order_object self.now order.now)) }
     {
         w.begin_object()?;
@@ -88,12 +71,7 @@ impl Wording<'_> {
     }
 
     // A member whose value is an occurrence.
-    pub(crate) fn write_use(
-        &self,
-        w: &mut Writer,
-        name: &str,
-        origin: Origin,
-    ) -> Result<(), AllocError>
+    pub(crate) fn write_use(&self, w: &mut Writer, name: &str, origin: Origin) -> Tried<()>
         ensures { OnOk result (Adds w.old w.new (object_member name.now (occurrence_members self.now origin))) }
     {
         w.key(name)?;
@@ -103,25 +81,14 @@ impl Wording<'_> {
     }
 
     // Where a key is used in a state, and where one is used with it enabled.
-    pub(crate) fn write_uses(
-        &self,
-        w: &mut Writer,
-        used: Origin,
-        enabled: Origin,
-    ) -> Result<(), AllocError>
+    pub(crate) fn write_uses(&self, w: &mut Writer, used: Origin, enabled: Origin) -> Tried<()>
         ensures { OnOk result (Adds w.old w.new (use_members self.now used enabled)) }
     {
         self.write_use(w, "used", used)?;
         self.write_use(w, "enabled", enabled)
     }
 
-    // The report's line of a double.
-    pub(crate) fn write_double_line(
-        &self,
-        w: &mut Writer,
-        irq: Irq,
-        key: KeyId,
-    ) -> Result<(), AllocError>
+    pub(crate) fn write_double_line(&self, w: &mut Writer, irq: Irq, key: KeyId) -> Tried<()>
         ensures { OnOk result (Adds w.old w.new (list_member (codes "lines")
             (string (double_words self.now.names irq key) ∷ []))) }
     {
@@ -131,14 +98,13 @@ impl Wording<'_> {
         add_only(w, "lines", line.as_str())
     }
 
-    // The report's line of an inversion.
     pub(crate) fn write_inversion_line(
         &self,
         w: &mut Writer,
         irq: Irq,
         a: KeyId,
         b: KeyId,
-    ) -> Result<(), AllocError>
+    ) -> Tried<()>
         ensures { OnOk result (Adds w.old w.new (list_member (codes "lines")
             (string (inversion_words self.now.names irq a b) ∷ []))) }
     {
@@ -149,7 +115,7 @@ impl Wording<'_> {
     }
 
     // What is said of a finding.
-    pub(crate) fn write_members(&self, w: &mut Writer, finding: &Finding) -> Result<(), AllocError>
+    pub(crate) fn write_members(&self, w: &mut Writer, finding: &Finding) -> Tried<()>
         ensures { OnOk result (Adds w.old w.new (finding_members self.now finding.now)) }
     {
         match finding {
@@ -192,8 +158,7 @@ impl Wording<'_> {
         }
     }
 
-    // A finding.
-    pub(crate) fn write_finding(&self, w: &mut Writer, finding: &Finding) -> Result<(), AllocError>
+    pub(crate) fn write_finding(&self, w: &mut Writer, finding: &Finding) -> Tried<()>
         ensures { OnOk result (Adds w.old w.new (object (finding_members self.now finding.now))) }
     {
         w.begin_object()?;

@@ -1,12 +1,13 @@
 //! The findings as JSON, for programs to read: what the explanation says, an object for each finding.
 
-ghost use Rattle.std.specs.Prelude.{◌≡◌, ◌++◌, [], IfOk, OnOk, codes, drop, flat_map};
-ghost use Rattle.ld_text.specs.Json.{finding_line, json_text};
+ghost use Rattle.ld_text.specs.Names.{[], ◌++◌, ◌≡◌, IfOk, OnOk, codes, drop, flat_map};
+ghost use Rattle.ld_text.specs.Clauses.{finding_line, json_text};
 
+use crate::Tried;
 use crate::wording::Wording;
 use json::Writer;
 use ld_explain::Finding;
-use std::alloc::{AllocError, Global};
+use std::alloc::Global;
 use std::mem::replace;
 
 // What stands before the findings, between each two, and after them.
@@ -16,7 +17,6 @@ const BETWEEN: &str = ",\n";
 
 const TAIL: &str = "\n]}\n";
 
-// These bytes without the first.
 pub(crate) fn without_first(bytes: &[u8]) -> &[u8]
     ensures { result.now ≡ drop 1 bytes.now }
 {
@@ -24,7 +24,7 @@ pub(crate) fn without_first(bytes: &[u8]) -> &[u8]
 }
 
 // The text with these lines, each of which begins with a comma.
-fn text_with(alloc: Global, lines: &[u8]) -> Result<Vec<u8>, AllocError>
+fn text_with(alloc: Global, lines: &[u8]) -> Tried<Vec<u8>>
     ensures { IfOk result (λ text. text.items
         ≡ codes "{\"lockdep\":1,\"findings\":[" ++ (drop 1 lines.now ++ codes "\n]}\n")) }
 {
@@ -36,7 +36,7 @@ fn text_with(alloc: Global, lines: &[u8]) -> Result<Vec<u8>, AllocError>
 }
 
 // A writer after the text, on a line of its own, which takes the text.
-pub(crate) fn begin_line(alloc: Global, text: &mut Vec<u8>) -> Result<Writer, AllocError>
+pub(crate) fn begin_line(alloc: Global, text: &mut Vec<u8>) -> Tried<Writer>
     ensures { IfOk result (λ w. (w.before ≡ text.old.items ++ codes ",\n") × (w.tokens ≡ [])) }
 {
     text.extend_from_slice(BETWEEN.as_bytes())?;
@@ -44,8 +44,7 @@ pub(crate) fn begin_line(alloc: Global, text: &mut Vec<u8>) -> Result<Writer, Al
 }
 
 impl Wording<'_> {
-    // The line of a finding.
-    pub(crate) fn add_object(&self, text: &mut Vec<u8>, finding: &Finding) -> Result<(), AllocError>
+    pub(crate) fn add_object(&self, text: &mut Vec<u8>, finding: &Finding) -> Tried<()>
         ensures { OnOk result (text.new.items ≡ text.old.items ++ finding_line self.now finding.now) }
     {
         let mut w = begin_line(self.alloc, text)?;
@@ -54,14 +53,8 @@ impl Wording<'_> {
         Ok(())
     }
 
-    // The lines of all findings.
-    pub(crate) fn add_objects(
-        &self,
-        text: &mut Vec<u8>,
-        findings: &[Finding],
-    ) -> Result<(), AllocError>
-        ensures { OnOk result (text.new.items
-            ≡ text.old.items ++ flat_map (finding_line self.now) findings.now) }
+    pub(crate) fn add_objects(&self, text: &mut Vec<u8>, findings: &[Finding]) -> Tried<()>
+        ensures { OnOk result (text.new.items ≡ text.old.items ++ flat_map (finding_line self.now) findings.now) }
     {
         for finding in findings {
             self.add_object(text, finding)?;
@@ -70,7 +63,7 @@ impl Wording<'_> {
     }
 
     // The text of findings for programs to read.
-    pub(crate) fn json(&self, findings: &[Finding]) -> Result<Vec<u8>, AllocError>
+    pub(crate) fn json(&self, findings: &[Finding]) -> Tried<Vec<u8>>
         ensures { IfOk result (λ text. text.items ≡ json_text self.now findings.now) }
     {
         let mut lines = Vec::new(self.alloc);

@@ -1,12 +1,12 @@
 //! The keys as lines name them.
 
-ghost use Rattle.std.specs.Prelude.{◌≡◌, ◌++◌, [], IfOk, OnOk, map, slice_get, string_bytes, unwrap_or};
-ghost use Rattle.ld_trace.specs.Writing.{name_at};
-ghost use Rattle.ld_text.specs.Words.{key_text};
+ghost use Rattle.ld_text.specs.Names.{[], ◌++◌, ◌≡◌, IfOk, OnOk, map, name_at, slice_get, string_bytes, unwrap_or};
+ghost use Rattle.ld_text.specs.Clauses.{key_text};
 
+use crate::Tried;
 use crate::words::name_of;
 use ld_trace::{KeyId, KeyTable};
-use std::alloc::{AllocError, Global};
+use std::alloc::Global;
 use std::marker::Model;
 
 /// Each key of a table as lines name it, in order of their numbers. They are made once, since a report may have hundreds of
@@ -17,7 +17,7 @@ pub(crate) struct KeyTexts {
 }
 
 impl Model for KeyTexts {
-    ghost use Rattle.std.specs.Prelude.{List, ℕ, map, string_bytes};
+    ghost use Rattle.ld_text.specs.Names.{List, map, string_bytes, ℕ};
 
     ghost Value = { List (List ℕ) };
 
@@ -26,7 +26,7 @@ impl Model for KeyTexts {
 
 impl KeyTexts {
     /// Those of the keys of the table.
-    pub(crate) fn of(alloc: Global, names: &KeyTable) -> Result<KeyTexts, AllocError>
+    pub(crate) fn of(alloc: Global, names: &KeyTable) -> Tried<KeyTexts>
         ensures { IfOk result (λ texts. texts ≡ map key_text names.now.names) }
     {
         let mut texts = Vec::with_capacity(alloc, names.len())?;
@@ -49,7 +49,7 @@ impl KeyTexts {
     }
 
     /// Appends a key. One that isn't in the table has an empty name.
-    pub(crate) fn add(&self, text: &mut String, key: KeyId) -> Result<(), AllocError>
+    pub(crate) fn add(&self, text: &mut String, key: KeyId) -> Tried<()>
         ensures { OnOk result (string_bytes text.new ≡ string_bytes text.old
             ++ unwrap_or (slice_get self.now key) (key_text ([], 0))) }
     {
@@ -57,8 +57,7 @@ impl KeyTexts {
     }
 }
 
-// One key.
-fn text_of(alloc: Global, names: &KeyTable, key: KeyId) -> Result<String, AllocError>
+fn text_of(alloc: Global, names: &KeyTable, key: KeyId) -> Tried<String>
     ensures { IfOk result (λ text. string_bytes text ≡ key_text (name_at names.now.names key)) }
 {
     let (name, sub) = name_of(names, key);

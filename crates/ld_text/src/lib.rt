@@ -31,6 +31,10 @@ pub use order::sorted_keys;
 pub use output::{write_text, write_texts};
 pub use picture::write_picture;
 pub use report::write_report;
+use std::alloc::AllocError;
 pub use verdicts::{verdicts_of_traces, write_verdicts};
 pub use words::{STDIN, digits_of, file_of};
 pub use write_fault::WriteFault;
+
+// What is made, unless memory is refused.
+pub(crate) type Tried<T> = Result<T, AllocError>;

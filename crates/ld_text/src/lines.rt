@@ -1,30 +1,24 @@
 //! The lines of an explanation: where facts come from, and who waits for whom.
 
-ghost use Rattle.std.specs.Prelude.{◌≡◌, ◌++◌, ◌≤◌, OnOk, codes, flat_map, string_bytes};
-ghost use Rattle.ld_text.specs.Explanation.{comes_line, dependency_text, does_text, event_of, holds_line, lock_of, occurrence_text, order_line, use_lines, waits_line, waits_text, while_text};
-ghost use Rattle.ld_text.specs.Report.{member_text};
+ghost use Rattle.ld_text.specs.Names.{◌++◌, ◌≡◌, ◌≤◌, OnOk, codes, flat_map, string_bytes};
+ghost use Rattle.ld_text.specs.Clauses.{comes_line, dependency_text, does_text, event_of, holds_line, lock_of, member_text, occurrence_text, order_line, use_lines, waits_line, waits_text, while_text};
 
+use crate::Tried;
 use crate::wording::Wording;
 use crate::words::{file_of, kind_word};
 use ld_explain::{Dependency, Order, Origin};
 use ld_trace::{Event, Irq, KeyId};
-use std::alloc::AllocError;
 
 impl Wording<'_> {
     // What lines about a finding begin with.
-    pub(crate) fn add_margin(&self, text: &mut String) -> Result<(), AllocError>
+    pub(crate) fn add_margin(&self, text: &mut String) -> Tried<()>
         ensures { OnOk result (string_bytes text.new ≡ string_bytes text.old ++ self.now.margin) }
     {
         text.push_str(self.margin)
     }
 
     // What the event at this place of a trace does.
-    pub(crate) fn add_event(
-        &self,
-        text: &mut String,
-        trace: u32,
-        place: u32,
-    ) -> Result<(), AllocError>
+    pub(crate) fn add_event(&self, text: &mut String, trace: u32, place: u32) -> Tried<()>
         ensures { OnOk result (string_bytes text.new ≡ string_bytes text.old
             ++ does_text self.now.locks (event_of self.now.traces trace place)) }
     {
@@ -45,12 +39,7 @@ impl Wording<'_> {
     }
 
     // The lock that the event at this place of a trace took.
-    pub(crate) fn add_lock(
-        &self,
-        text: &mut String,
-        trace: u32,
-        place: u32,
-    ) -> Result<(), AllocError>
+    pub(crate) fn add_lock(&self, text: &mut String, trace: u32, place: u32) -> Tried<()>
         ensures { OnOk result (string_bytes text.new ≡ string_bytes text.old
             ++ lock_of self.now.locks (event_of self.now.traces trace place)) }
     {
@@ -67,12 +56,7 @@ impl Wording<'_> {
     }
 
     // The lock that is held meanwhile.
-    pub(crate) fn add_while(
-        &self,
-        text: &mut String,
-        trace: u32,
-        held: Option<u32>,
-    ) -> Result<(), AllocError>
+    pub(crate) fn add_while(&self, text: &mut String, trace: u32, held: Option<u32>) -> Tried<()>
         ensures { OnOk result (string_bytes text.new ≡ string_bytes text.old ++ while_text self.now trace held) }
     {
         let Some(held) = held else {
@@ -84,8 +68,7 @@ impl Wording<'_> {
         write!(text, " held since record {record}")
     }
 
-    // An occurrence.
-    pub(crate) fn add_occurrence(&self, text: &mut String, origin: Origin) -> Result<(), AllocError>
+    pub(crate) fn add_occurrence(&self, text: &mut String, origin: Origin) -> Tried<()>
         ensures { OnOk result (string_bytes text.new ≡ string_bytes text.old ++ occurrence_text self.now origin) }
     {
         let file = file_of(self.files, origin.trace as usize);
@@ -96,7 +79,7 @@ impl Wording<'_> {
     }
 
     // The rest of a line that begins with the words for a fact: where it first occurs.
-    pub(crate) fn add_origin(&self, text: &mut String, origin: Origin) -> Result<(), AllocError>
+    pub(crate) fn add_origin(&self, text: &mut String, origin: Origin) -> Tried<()>
         ensures { OnOk result (string_bytes text.new ≡ string_bytes text.old
             ++ (codes ": " ++ (occurrence_text self.now origin ++ codes "\n"))) }
     {
@@ -111,7 +94,7 @@ impl Wording<'_> {
         text: &mut String,
         before: &str,
         d: &Dependency,
-    ) -> Result<(), AllocError>
+    ) -> Tried<()>
         ensures { OnOk result (string_bytes text.new
             ≡ string_bytes text.old ++ (before.now ++ dependency_text self.now.names d.now)) }
     {
@@ -119,8 +102,7 @@ impl Wording<'_> {
         write!(text, "{before}{from} {kind} {to}")
     }
 
-    // Where a dependency comes from.
-    pub(crate) fn add_order(&self, text: &mut String, order: &Order) -> Result<(), AllocError>
+    pub(crate) fn add_order(&self, text: &mut String, order: &Order) -> Tried<()>
         ensures { OnOk result (string_bytes text.new ≡ string_bytes text.old ++ order_line self.now order.now) }
     {
         self.add_margin(text)?;
@@ -128,8 +110,7 @@ impl Wording<'_> {
         self.add_origin(text, order.origin)
     }
 
-    // Where each dependency of a walk comes from.
-    pub(crate) fn add_orders(&self, text: &mut String, walk: &[Order]) -> Result<(), AllocError>
+    pub(crate) fn add_orders(&self, text: &mut String, walk: &[Order]) -> Tried<()>
         ensures { OnOk result (string_bytes text.new
             ≡ string_bytes text.old ++ flat_map (order_line self.now) walk.now) }
     {
@@ -146,7 +127,7 @@ impl Wording<'_> {
         irq: Irq,
         used: Origin,
         enabled: Origin,
-    ) -> Result<(), AllocError>
+    ) -> Tried<()>
         ensures { OnOk result (string_bytes text.new ≡ string_bytes text.old ++ use_lines self.now irq used enabled) }
     {
         let state = irq.word();
@@ -159,12 +140,7 @@ impl Wording<'_> {
     }
 
     // A task that holds the lock that a dependency leads from, and waits for the other.
-    pub(crate) fn add_task(
-        &self,
-        text: &mut String,
-        task: usize,
-        d: &Dependency,
-    ) -> Result<(), AllocError>
+    pub(crate) fn add_task(&self, text: &mut String, task: usize, d: &Dependency) -> Tried<()>
         ensures { OnOk result (string_bytes text.new ≡ string_bytes text.old ++ waits_line self.now.names task d.now) }
     {
         let (from, to) = (self.key(d.from), self.key(d.to));
@@ -172,12 +148,7 @@ impl Wording<'_> {
     }
 
     // A member of a walk as such a task.
-    pub(crate) fn add_wait(
-        &self,
-        text: &mut String,
-        task: usize,
-        order: &Order,
-    ) -> Result<(), AllocError>
+    pub(crate) fn add_wait(&self, text: &mut String, task: usize, order: &Order) -> Tried<()>
         ensures { OnOk result (string_bytes text.new
             ≡ string_bytes text.old ++ waits_line self.now.names task order.now.dependency) }
     {
@@ -185,12 +156,7 @@ impl Wording<'_> {
     }
 
     // Each member of a walk as a task that waits; the tasks are numbered from this one on.
-    pub(crate) fn add_waits(
-        &self,
-        text: &mut String,
-        first: usize,
-        walk: &[Order],
-    ) -> Result<(), AllocError>
+    pub(crate) fn add_waits(&self, text: &mut String, first: usize, walk: &[Order]) -> Tried<()>
         requires { first ≤ 2 }
         ensures { OnOk result (string_bytes text.new
             ≡ string_bytes text.old ++ waits_text self.now.names first walk.now) }
@@ -202,15 +168,14 @@ impl Wording<'_> {
     }
 
     // A member of a walk, by its kind and the key that it leads to.
-    pub(crate) fn add_member(&self, text: &mut String, d: &Dependency) -> Result<(), AllocError>
+    pub(crate) fn add_member(&self, text: &mut String, d: &Dependency) -> Tried<()>
         ensures { OnOk result (string_bytes text.new ≡ string_bytes text.old ++ member_text self.now.names d.now) }
     {
         let (kind, to) = (kind_word(d.kind), self.key(d.to));
         write!(text, " {kind} {to}")
     }
 
-    // The members of a walk.
-    pub(crate) fn add_members(&self, text: &mut String, walk: &[Order]) -> Result<(), AllocError>
+    pub(crate) fn add_members(&self, text: &mut String, walk: &[Order]) -> Tried<()>
         ensures { OnOk result (string_bytes text.new ≡ string_bytes text.old
             ++ flat_map (λ order. member_text self.now.names order.dependency) walk.now) }
     {
@@ -221,7 +186,7 @@ impl Wording<'_> {
     }
 
     // Task 1 holds a lock.
-    pub(crate) fn add_holder(&self, text: &mut String, key: KeyId) -> Result<(), AllocError>
+    pub(crate) fn add_holder(&self, text: &mut String, key: KeyId) -> Tried<()>
         ensures { OnOk result (string_bytes text.new ≡ string_bytes text.old ++ holds_line self.now.names key) }
     {
         let key = self.key(key);
@@ -229,12 +194,7 @@ impl Wording<'_> {
     }
 
     // An interrupt comes in and waits for a lock.
-    pub(crate) fn add_interrupt(
-        &self,
-        text: &mut String,
-        irq: Irq,
-        key: KeyId,
-    ) -> Result<(), AllocError>
+    pub(crate) fn add_interrupt(&self, text: &mut String, irq: Irq, key: KeyId) -> Tried<()>
         ensures { OnOk result (string_bytes text.new ≡ string_bytes text.old ++ comes_line self.now.names irq key) }
     {
         let (state, key) = (irq.word(), self.key(key));

@@ -1,17 +1,15 @@
 //! What speaks against a finding, in words.
 
-ghost use Rattle.std.specs.Prelude.{◌≡◌, ◌++◌, OnOk, codes, flat_map, string_bytes};
-ghost use Rattle.ld_text.specs.Words.{file_at};
-ghost use Rattle.ld_text.specs.Explanation.{dependency_text, gate_lines, gate_note, listed_text, note_line, only_notes};
+ghost use Rattle.ld_text.specs.Names.{◌++◌, ◌≡◌, OnOk, codes, flat_map, string_bytes};
+ghost use Rattle.ld_text.specs.Clauses.{dependency_text, file_at, gate_lines, gate_note, listed_text, note_line, only_notes};
 
 use crate::wording::Wording;
-use crate::words::file_of;
+use crate::{Tried, file_of};
 use ld_explain::{Dependency, GateNote};
-use std::alloc::AllocError;
 
 impl Wording<'_> {
     // Dependencies, each after a comma.
-    pub(crate) fn add_further(&self, text: &mut String, ds: &[Dependency]) -> Result<(), AllocError>
+    pub(crate) fn add_further(&self, text: &mut String, ds: &[Dependency]) -> Tried<()>
         ensures { OnOk result (string_bytes text.new ≡ string_bytes text.old
             ++ flat_map (λ d. codes ", " ++ dependency_text self.now.names d) ds.now) }
     {
@@ -22,7 +20,7 @@ impl Wording<'_> {
     }
 
     // Dependencies, the first after a colon and each further one after a comma.
-    pub(crate) fn add_listed(&self, text: &mut String, ds: &[Dependency]) -> Result<(), AllocError>
+    pub(crate) fn add_listed(&self, text: &mut String, ds: &[Dependency]) -> Tried<()>
         ensures { OnOk result (string_bytes text.new ≡ string_bytes text.old ++ listed_text self.now.names ds.now) }
     {
         match ds.split_first() {
@@ -35,7 +33,7 @@ impl Wording<'_> {
     }
 
     // The note of a lock that is always held round dependencies.
-    pub(crate) fn add_gate_note(&self, text: &mut String, gate: &GateNote) -> Result<(), AllocError>
+    pub(crate) fn add_gate_note(&self, text: &mut String, gate: &GateNote) -> Tried<()>
         ensures { OnOk result (string_bytes text.new ≡ string_bytes text.old ++ gate_note self.now.names gate.now) }
     {
         text.push_str("always inside ")?;
@@ -43,8 +41,7 @@ impl Wording<'_> {
         self.add_listed(text, &gate.guarded)
     }
 
-    // The line of such a note.
-    pub(crate) fn add_gate_line(&self, text: &mut String, gate: &GateNote) -> Result<(), AllocError>
+    pub(crate) fn add_gate_line(&self, text: &mut String, gate: &GateNote) -> Tried<()>
         ensures { OnOk result (string_bytes text.new
             ≡ string_bytes text.old ++ note_line self.now.margin (gate_note self.now.names gate.now)) }
     {
@@ -54,12 +51,7 @@ impl Wording<'_> {
         text.push_str("\n")
     }
 
-    // The lines of such notes.
-    pub(crate) fn add_gate_lines(
-        &self,
-        text: &mut String,
-        gates: &[GateNote],
-    ) -> Result<(), AllocError>
+    pub(crate) fn add_gate_lines(&self, text: &mut String, gates: &[GateNote]) -> Tried<()>
         ensures { OnOk result (string_bytes text.new ≡ string_bytes text.old ++ gate_lines self.now gates.now) }
     {
         for gate in gates {
@@ -69,7 +61,7 @@ impl Wording<'_> {
     }
 
     // The line of the note that this trace has all occurrences.
-    pub(crate) fn add_only_note(&self, text: &mut String, trace: u32) -> Result<(), AllocError>
+    pub(crate) fn add_only_note(&self, text: &mut String, trace: u32) -> Tried<()>
         ensures { OnOk result (string_bytes text.new ≡ string_bytes text.old
             ++ note_line self.now.margin (codes "only in " ++ file_at self.now.files trace)) }
     {
@@ -79,11 +71,7 @@ impl Wording<'_> {
     }
 
     // That line, if one trace has all occurrences.
-    pub(crate) fn add_only_line(
-        &self,
-        text: &mut String,
-        only: Option<u32>,
-    ) -> Result<(), AllocError>
+    pub(crate) fn add_only_line(&self, text: &mut String, only: Option<u32>) -> Tried<()>
         ensures { OnOk result (string_bytes text.new
             ≡ string_bytes text.old ++ flat_map (note_line self.now.margin) (only_notes self.now.files only)) }
     {

@@ -1,9 +1,9 @@
 //! The order of keys in a report.
 
-ghost use Rattle.std.specs.Prelude.{◌≡◌, IfOk, length};
-ghost use Rattle.ld_text.specs.Order.{IsKeyOrder, name_cmp, numbers_below};
-ghost use Rattle.ld_trace.specs.Writing.{name_at};
+ghost use Rattle.ld_text.specs.Names.{◌≡◌, IfOk, length, name_at};
+ghost use Rattle.ld_text.specs.Clauses.{IsKeyOrder, name_cmp, numbers_below};
 
+use crate::Tried;
 use crate::words::name_of;
 use ld_trace::{KeyId, KeyTable};
 use std::alloc::{AllocError, Global};
@@ -17,7 +17,7 @@ pub(crate) fn compare(keys: &KeyTable, a: KeyId, b: KeyId) -> Ordering
 }
 
 // All keys of the table, in order of their numbers.
-fn numbered_keys(alloc: Global, keys: &KeyTable) -> Result<Vec<KeyId>, AllocError>
+fn numbered_keys(alloc: Global, keys: &KeyTable) -> Tried<Vec<KeyId>>
     ensures { IfOk result (λ all. all.items ≡ numbers_below (length keys.now.names)) }
 {
     let mut all = Vec::with_capacity(alloc, keys.len())?;

@@ -1,9 +1,8 @@
 //! Writing whole texts to a writer.
 
-ghost use Rattle.std.specs.Prelude.{◌≡◌, ◌++◌, [], Err, OnOk, OnErr};
+ghost use Rattle.ld_text.specs.Names.{[], ◌++◌, ◌≡◌, Appends, Err, OnErr, OnOk};
+ghost use Rattle.ld_text.specs.Clauses.{AppendsBeginning, PutsBehind};
 ghost use Rattle.std.specs.List.{flat_map};
-ghost use Rattle.std.specs.Io.KnownBytes.{Appends};
-ghost use Rattle.ld_text.specs.Output.{AppendsBeginning, PutsBehind};
 
 use crate::write_fault::WriteFault;
 use arrayvec::ArrayString;
@@ -49,8 +48,7 @@ pub(crate) fn write_out<W: Write>(w: &mut W, page: &mut Page) -> Result<(), Writ
 
 /// Puts a text onto the page. If there is no room for it, the page is written out, and the text after it.
 pub(crate) fn put<W: Write>(w: &mut W, page: &mut Page, text: &str) -> Result<(), WriteFault>
-    ensures ok { OnOk result (PutsBehind (W.contents w.old) (W.contents w.new) page.old.bytes page.new.bytes
-        text.now) }
+    ensures ok { OnOk result (PutsBehind (W.contents w.old) (W.contents w.new) page.old.bytes page.new.bytes text.now) }
     ensures not_memory { ¬ (result ≡ Err WriteFault.Memory) }
     ensures err { OnErr result (AppendsBeginning (W.contents w.old) (W.contents w.new) (page.old.bytes ++ text.now)) }
 {
@@ -64,8 +62,7 @@ pub(crate) fn put<W: Write>(w: &mut W, page: &mut Page, text: &str) -> Result<()
 /// Writes several texts, one after the other: together, as far as a page holds them. O1 if the writer returns an error and O2 if it
 /// takes nothing, after exactly a beginning of them.
 pub fn write_texts<W: Write>(w: &mut W, texts: &[&str]) -> Result<(), WriteFault>
-    ensures ok { OnOk result (Appends (W.contents w.old) (W.contents w.new)
-        (flat_map (λ text. text.now) texts.now)) }
+    ensures ok { OnOk result (Appends (W.contents w.old) (W.contents w.new) (flat_map (λ text. text.now) texts.now)) }
     ensures not_memory { ¬ (result ≡ Err WriteFault.Memory) }
     ensures err { OnErr result (AppendsBeginning (W.contents w.old) (W.contents w.new)
         (flat_map (λ text. text.now) texts.now)) }

@@ -1,27 +1,16 @@
 //! The facts as a picture: a graph in the language DOT.
 
-ghost use Rattle.std.specs.Prelude.{◌≡◌, ◌++◌, ◌↔◌, List, ℕ, Any, IfErr, IfOk, IsTrue, OnOk, flat_map};
-ghost use Rattle.std.specs.Io.KnownBytes.{Appends};
-ghost use Rattle.ld_facts.specs.FactBits.{HasFact};
-ghost use Rattle.ld_graph.specs.Links.{IsDouble};
-ghost use Rattle.ld_text.specs.WriteFaults.{StopsWriting};
-ghost use Rattle.ld_text.specs.Groups.{GrowsBy, InTurn};
-ghost use Rattle.ld_text.specs.Inside.Joined.{AreJoinedKeys};
-ghost use Rattle.ld_text.specs.Picture.{AreJoined, IsFoundKey, IsNode, IsPicture, ShowsKey, arrow_text, double_links, end_text, escaped, inversion_links, link_line, quoted_key};
-ghost use Rattle.ld_text.specs.Report.{IsUsageCharacter, forms};
-ghost use Rattle.ld_explain.specs.Found.{states};
-ghost use Rattle.ld_trace.specs.Writing.{name_at};
+ghost use Rattle.ld_text.specs.Names.{◌++◌, ◌↔◌, ◌≡◌, Any, Appends, HasFact, IfErr, IfOk, IsDouble, IsTrue, List, OnOk, flat_map, name_at, states, ℕ};
+ghost use Rattle.ld_text.specs.Clauses.{GrowsBy, InTurn, IsFoundKey, IsNode, IsPicture, IsUsageCharacter, ShowsKey, StopsWriting, arrow_text, double_links, end_text, escaped, forms, inversion_links, link_line, quoted_key};
 
-use crate::order::sorted_keys;
-use crate::output::write_text;
 use crate::report::{FORMS, usage_character};
 use crate::words::{digits_of, name_of};
-use crate::write_fault::WriteFault;
+use crate::{Tried, WriteFault, sorted_keys, write_text};
 use ld_explain::Found;
 use ld_facts::STATES;
 use ld_parts::Settled;
 use ld_trace::{Irq, KeyId, KeyTable};
-use std::alloc::{AllocError, Global};
+use std::alloc::Global;
 use std::io::Write;
 
 // How the line of a double or an inversion ends, after its label.
@@ -40,22 +29,14 @@ pub(crate) struct PictureView<'a> {
     pub only: bool,
 }
 
-// Appends bytes.
-fn add_bytes(text: &mut Vec<u8>, more: &[u8]) -> Result<(), AllocError>
-    ensures { OnOk result (text.new.items ≡ text.old.items ++ more.now) }
-{
-    text.extend_from_slice(more)
-}
-
-// Appends a text.
-fn add(text: &mut Vec<u8>, more: &str) -> Result<(), AllocError>
+fn add(text: &mut Vec<u8>, more: &str) -> Tried<()>
     ensures { OnOk result (text.new.items ≡ text.old.items ++ more.now) }
 {
     text.extend_from_slice(more.as_bytes())
 }
 
 // Appends a byte as it stands between double quotes.
-fn add_escaped(text: &mut Vec<u8>, byte: u8) -> Result<(), AllocError>
+fn add_escaped(text: &mut Vec<u8>, byte: u8) -> Tried<()>
     ensures { OnOk result (text.new.items ≡ text.old.items ++ escaped byte) }
 {
     match byte {
@@ -66,7 +47,7 @@ fn add_escaped(text: &mut Vec<u8>, byte: u8) -> Result<(), AllocError>
 }
 
 // Appends the bytes of a class's name as they stand between double quotes.
-fn add_name(text: &mut Vec<u8>, name: &[u8]) -> Result<(), AllocError>
+fn add_name(text: &mut Vec<u8>, name: &[u8]) -> Tried<()>
     ensures { OnOk result (text.new.items ≡ text.old.items ++ flat_map escaped name.now) }
 {
     for byte in name {
@@ -76,7 +57,7 @@ fn add_name(text: &mut Vec<u8>, name: &[u8]) -> Result<(), AllocError>
 }
 
 // Appends how the line of a key or a dependency ends, after its label.
-pub(crate) fn add_end(text: &mut Vec<u8>, red: bool) -> Result<(), AllocError>
+pub(crate) fn add_end(text: &mut Vec<u8>, red: bool) -> Tried<()>
     ensures { OnOk result (text.new.items ≡ text.old.items ++ end_text red) }
 {
     add(
@@ -102,18 +83,16 @@ impl PictureView<'_> {
         false
     }
 
-    // Whether the key is part of a finding. `is_joined`: whether a dependency that is part of one leads from it or to it.
-    fn is_found_key(self, key: KeyId, is_joined: bool) -> bool
-        requires { IsTrue is_joined ↔ Any (AreJoined (HasFact self.settled.now) key) self.keys.now }
+    // Whether the key is part of a finding.
+    fn is_found_key(self, key: KeyId) -> bool
         ensures { IsTrue result ↔ IsFoundKey (HasFact self.entry.settled.now) self.entry.keys.now key }
     {
-        self.is_double(key) || is_joined
+        self.is_double(key) || self.is_joined(key)
     }
 
     // A key as it stands between double quotes.
-    fn add_key(self, text: &mut Vec<u8>, key: KeyId) -> Result<(), AllocError>
-        ensures { OnOk result (text.new.items
-            ≡ text.old.items ++ quoted_key (name_at self.entry.names.now.names key)) }
+    fn add_key(self, text: &mut Vec<u8>, key: KeyId) -> Tried<()>
+        ensures { OnOk result (text.new.items ≡ text.old.items ++ quoted_key (name_at self.entry.names.now.names key)) }
     {
         let (name, sub) = name_of(self.names, key);
         add_name(text, name.as_bytes())?;
@@ -121,8 +100,7 @@ impl PictureView<'_> {
         add(text, digits_of(sub as usize).as_str())
     }
 
-    // The four usage characters of a key.
-    fn add_characters(self, text: &mut Vec<u8>, key: KeyId) -> Result<(), AllocError>
+    fn add_characters(self, text: &mut Vec<u8>, key: KeyId) -> Tried<()>
         ensures { OnOk result (GrowsBy
             (InTurn (λ form. IsUsageCharacter (HasFact self.entry.settled.now) key form.0 form.1) forms)
             text.old.items text.new.items) }
@@ -133,10 +111,8 @@ impl PictureView<'_> {
         Ok(())
     }
 
-    // The line of a key.
-    fn add_node(self, text: &mut Vec<u8>, key: KeyId, red: bool) -> Result<(), AllocError>
-        ensures { OnOk result (GrowsBy
-            (IsNode (HasFact self.entry.settled.now) self.entry.names.now.names key red)
+    fn add_node(self, text: &mut Vec<u8>, key: KeyId, red: bool) -> Tried<()>
+        ensures { OnOk result (GrowsBy (IsNode (HasFact self.entry.settled.now) self.entry.names.now.names key red)
             text.old.items text.new.items) }
     {
         add(text, "  \"")?;
@@ -149,35 +125,27 @@ impl PictureView<'_> {
         add_end(text, red)
     }
 
-    // The line of a key, if it is shown. `is_joined`: whether a dependency that is part of a finding leads from it or to it.
-    fn add_shown_key(
-        self,
-        text: &mut Vec<u8>,
-        key: KeyId,
-        is_joined: bool,
-    ) -> Result<(), AllocError>
-        requires { IsTrue is_joined ↔ Any (AreJoined (HasFact self.settled.now) key) self.keys.now }
+    // The line of a key, if it is shown.
+    fn add_shown_key(self, text: &mut Vec<u8>, key: KeyId) -> Tried<()>
         ensures { OnOk result (GrowsBy
             (ShowsKey (HasFact self.entry.settled.now) self.entry.names.now.names self.entry.keys.now self.entry.only key)
             text.old.items text.new.items) }
     {
-        let red = self.is_found_key(key, is_joined);
+        let red = self.is_found_key(key);
         if red || !self.only {
             self.add_node(text, key, red)?;
         }
         Ok(())
     }
 
-    // The lines of the keys. `joined`: of each, whether a dependency that is part of a finding leads from it or to it.
-    fn add_keys(self, text: &mut Vec<u8>, joined: &[bool]) -> Result<(), AllocError>
-        requires { AreJoinedKeys (HasFact self.settled.now) self.keys.now joined.now }
+    // The lines of the keys.
+    fn add_keys(self, text: &mut Vec<u8>) -> Tried<()>
         ensures { OnOk result (GrowsBy
             (InTurn (ShowsKey (HasFact self.entry.settled.now) self.entry.names.now.names self.entry.keys.now
-            self.entry.only) self.entry.keys.now)
-            text.old.items text.new.items) }
+            self.entry.only) self.entry.keys.now) text.old.items text.new.items) }
     {
-        for n in 0..self.keys.len() {
-            self.add_shown_key(text, self.keys[n], joined[n])?;
+        for key in self.keys {
+            self.add_shown_key(text, *key)?;
         }
         Ok(())
     }
@@ -189,7 +157,7 @@ impl PictureView<'_> {
         from: KeyId,
         to: KeyId,
         label: &str,
-    ) -> Result<(), AllocError>
+    ) -> Tried<()>
         ensures { OnOk result (text.new.items
             ≡ text.old.items ++ arrow_text self.entry.names.now.names from to label.now) }
     {
@@ -203,24 +171,15 @@ impl PictureView<'_> {
     }
 
     // A dashed red arrow from the key that is used with a state enabled to the key that is used in it.
-    fn add_link(
-        self,
-        text: &mut Vec<u8>,
-        irq: Irq,
-        from: KeyId,
-        to: KeyId,
-    ) -> Result<(), AllocError>
-        ensures { OnOk result (text.new.items
-            ≡ text.old.items ++ link_line self.entry.names.now.names irq from to) }
+    fn add_link(self, text: &mut Vec<u8>, irq: Irq, from: KeyId, to: KeyId) -> Tried<()>
+        ensures { OnOk result (text.new.items ≡ text.old.items ++ link_line self.entry.names.now.names irq from to) }
     {
         self.add_arrow(text, from, to, irq.word())?;
         add(text, LINK_END)
     }
 
-    // The lines of doubles.
-    fn add_doubles(self, text: &mut Vec<u8>, doubles: &[(Irq, KeyId)]) -> Result<(), AllocError>
-        ensures { OnOk result (text.new.items
-            ≡ text.old.items ++ double_links self.entry.names.now.names doubles.now) }
+    fn add_doubles(self, text: &mut Vec<u8>, doubles: &[(Irq, KeyId)]) -> Tried<()>
+        ensures { OnOk result (text.new.items ≡ text.old.items ++ double_links self.entry.names.now.names doubles.now) }
     {
         for double in doubles {
             self.add_link(text, double.0, double.1, double.1)?;
@@ -228,12 +187,7 @@ impl PictureView<'_> {
         Ok(())
     }
 
-    // The lines of inversions.
-    fn add_inversions(
-        self,
-        text: &mut Vec<u8>,
-        inversions: &[(Irq, (KeyId, KeyId))],
-    ) -> Result<(), AllocError>
+    fn add_inversions(self, text: &mut Vec<u8>, inversions: &[(Irq, (KeyId, KeyId))]) -> Tried<()>
         ensures { OnOk result (text.new.items
             ≡ text.old.items ++ inversion_links self.entry.names.now.names inversions.now) }
     {
@@ -245,13 +199,12 @@ impl PictureView<'_> {
     }
 }
 
-// The text of the picture of the settled facts.
 fn picture_text(
     alloc: Global,
     settled: &Settled,
     names: &KeyTable,
     findings: bool,
-) -> Result<Vec<u8>, AllocError>
+) -> Tried<Vec<u8>>
     ensures { IfOk result (λ text. IsPicture (HasFact settled.now) findings names.now.names text.items) }
 {
     let keys = sorted_keys(alloc, names)?;
@@ -263,12 +216,10 @@ fn picture_text(
         only: findings,
     };
     let found = Found::of(alloc, settled, keys)?;
-    let mut edges = Vec::new(alloc);
-    let joined = view.add_edges(alloc, &mut edges)?;
     let mut text = Vec::new(alloc);
     add(&mut text, "digraph lockdep {\n  node [shape=box];\n")?;
-    view.add_keys(&mut text, joined.as_slice())?;
-    add_bytes(&mut text, edges.as_slice())?;
+    view.add_keys(&mut text)?;
+    view.add_edges(&mut text)?;
     view.add_doubles(&mut text, found.doubles())?;
     view.add_inversions(&mut text, found.inversions())?;
     add(&mut text, "}\n")?;
@@ -277,9 +228,6 @@ fn picture_text(
 
 /// Writes the picture of settled facts, with the names of the keys that are in the table: all of them, or if
 /// `findings` is set, only what is part of a circle, a double or an inversion.
-///
-/// Refusals: O3 if memory for the text is refused, before its first byte; O1 if the writer returns an error and O2
-/// if it takes nothing, after exactly a beginning of the text. This project's own.
 pub fn write_picture<W: Write>(
     alloc: Global,
     w: &mut W,

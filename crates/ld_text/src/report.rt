@@ -1,25 +1,16 @@
 //! The text of a report.
 
-ghost use Rattle.std.specs.Prelude.{◌≡◌, ◌++◌, List, ℕ, OnOk, IfOk, IfErr, flat_map, length, map, string_bytes, sum_by};
-ghost use Rattle.std.specs.Io.KnownBytes.{Appends};
-ghost use Rattle.ld_facts.specs.FactBits.{HasFact};
-ghost use Rattle.ld_text.specs.WriteFaults.{StopsWriting};
-ghost use Rattle.ld_text.specs.Groups.{GrowsBy, InSequence, InTurn};
-ghost use Rattle.ld_text.specs.Report.{AreTotals, IsReport, IsUsageCharacter, IsUsageLine, ShowsBecause, circle_line, clean_line, double_line, findings, forms, inversion_line, total_line, usage_character};
-ghost use Rattle.ld_trace.specs.Writing.{name_at};
-ghost use Rattle.ld_text.specs.Words.{key_text};
+ghost use Rattle.ld_text.specs.Names.{◌++◌, ◌≡◌, Appends, HasFact, IfErr, IfOk, List, OnOk, flat_map, length, map, name_at, string_bytes, sum_by, ℕ};
+ghost use Rattle.ld_text.specs.Clauses.{AreTotals, GrowsBy, InSequence, InTurn, IsReport, IsUsageCharacter, IsUsageLine, ShowsBecause, StopsWriting, circle_line, clean_line, double_line, findings, forms, inversion_line, key_text, total_line, usage_character};
 
-use crate::because;
 use crate::key_texts::KeyTexts;
-use crate::order::sorted_keys;
-use crate::output::write_text;
 use crate::words::{kind_word, name_of};
-use crate::write_fault::WriteFault;
+use crate::{Tried, WriteFault, because, sorted_keys, write_text};
 use ld_explain::{Dependency, Found};
 use ld_graph::Mark;
 use ld_parts::Settled;
 use ld_trace::{Irq, KeyId, KeyTable, RawTrace, event_count};
-use std::alloc::{AllocError, Global};
+use std::alloc::Global;
 use std::io::Write;
 
 // The four columns of a usage line: each state, not read and read.
@@ -45,16 +36,14 @@ struct ReportView<'a> {
 }
 
 impl ReportView<'_> {
-    // A key.
-    fn add_key(self, text: &mut String, key: KeyId) -> Result<(), AllocError>
+    fn add_key(self, text: &mut String, key: KeyId) -> Tried<()>
         ensures { OnOk result (string_bytes text.new
             ≡ string_bytes text.old ++ key_text (name_at self.entry.names.now.names key)) }
     {
         self.texts.add(text, key)
     }
 
-    // The line of a dependency on a circle.
-    fn add_circle(self, text: &mut String, d: &Dependency) -> Result<(), AllocError>
+    fn add_circle(self, text: &mut String, d: &Dependency) -> Tried<()>
         ensures { OnOk result (string_bytes text.new
             ≡ string_bytes text.old ++ circle_line self.entry.names.now.names d.now) }
     {
@@ -67,8 +56,7 @@ impl ReportView<'_> {
         text.push_str("\n")
     }
 
-    // The circle lines.
-    fn add_circles(self, text: &mut String, circles: &[Dependency]) -> Result<(), AllocError>
+    fn add_circles(self, text: &mut String, circles: &[Dependency]) -> Tried<()>
         ensures { OnOk result (string_bytes text.new
             ≡ string_bytes text.old ++ flat_map (circle_line self.entry.names.now.names) circles.now) }
     {
@@ -79,9 +67,8 @@ impl ReportView<'_> {
     }
 
     // The line of a shortest circle, if there is one. Clean facts aren't asked for it.
-    fn add_because(self, text: &mut String) -> Result<(), AllocError>
-        ensures { OnOk result (GrowsBy
-            (ShowsBecause (HasFact self.entry.settled.now) self.entry.names.now.names)
+    fn add_because(self, text: &mut String) -> Tried<()>
+        ensures { OnOk result (GrowsBy (ShowsBecause (HasFact self.entry.settled.now) self.entry.names.now.names)
             (string_bytes text.old) (string_bytes text.new)) }
     {
         if self.settled.is_clean() {
@@ -94,8 +81,7 @@ impl ReportView<'_> {
         }
     }
 
-    // The line of a double.
-    fn add_double(self, text: &mut String, irq: Irq, key: KeyId) -> Result<(), AllocError>
+    fn add_double(self, text: &mut String, irq: Irq, key: KeyId) -> Tried<()>
         ensures { OnOk result (string_bytes text.new
             ≡ string_bytes text.old ++ double_line self.entry.names.now.names irq key) }
     {
@@ -104,8 +90,7 @@ impl ReportView<'_> {
         writeln!(text, "double {state} {name}/{sub}")
     }
 
-    // The double lines.
-    fn add_doubles(self, text: &mut String, doubles: &[(Irq, KeyId)]) -> Result<(), AllocError>
+    fn add_doubles(self, text: &mut String, doubles: &[(Irq, KeyId)]) -> Tried<()>
         ensures { OnOk result (string_bytes text.new ≡ string_bytes text.old
             ++ flat_map (λ x. double_line self.entry.names.now.names x.0 x.1) doubles.now) }
     {
@@ -115,14 +100,7 @@ impl ReportView<'_> {
         Ok(())
     }
 
-    // The line of an inversion.
-    fn add_inversion(
-        self,
-        text: &mut String,
-        irq: Irq,
-        a: KeyId,
-        b: KeyId,
-    ) -> Result<(), AllocError>
+    fn add_inversion(self, text: &mut String, irq: Irq, a: KeyId, b: KeyId) -> Tried<()>
         ensures { OnOk result (string_bytes text.new
             ≡ string_bytes text.old ++ inversion_line self.entry.names.now.names irq a b) }
     {
@@ -135,12 +113,7 @@ impl ReportView<'_> {
         text.push_str("\n")
     }
 
-    // The inversion lines.
-    fn add_inversions(
-        self,
-        text: &mut String,
-        inversions: &[(Irq, (KeyId, KeyId))],
-    ) -> Result<(), AllocError>
+    fn add_inversions(self, text: &mut String, inversions: &[(Irq, (KeyId, KeyId))]) -> Tried<()>
         ensures { OnOk result (string_bytes text.new ≡ string_bytes text.old
             ++ flat_map (λ x. inversion_line self.entry.names.now.names x.0 x.1.0 x.1.1) inversions.now) }
     {
@@ -152,7 +125,7 @@ impl ReportView<'_> {
     }
 
     // The four characters of a key's usage line.
-    fn add_characters(self, text: &mut String, key: KeyId) -> Result<(), AllocError>
+    fn add_characters(self, text: &mut String, key: KeyId) -> Tried<()>
         ensures { OnOk result (GrowsBy
             (InTurn (λ form. IsUsageCharacter (HasFact self.entry.settled.now) key form.0 form.1) forms)
             (string_bytes text.old) (string_bytes text.new)) }
@@ -163,10 +136,8 @@ impl ReportView<'_> {
         Ok(())
     }
 
-    // The usage line of a key.
-    fn add_usage_line(self, text: &mut String, key: KeyId) -> Result<(), AllocError>
-        ensures { OnOk result (GrowsBy
-            (IsUsageLine (HasFact self.entry.settled.now) self.entry.names.now.names key)
+    fn add_usage_line(self, text: &mut String, key: KeyId) -> Tried<()>
+        ensures { OnOk result (GrowsBy (IsUsageLine (HasFact self.entry.settled.now) self.entry.names.now.names key)
             (string_bytes text.old) (string_bytes text.new)) }
     {
         let (name, sub) = name_of(self.names, key);
@@ -176,8 +147,7 @@ impl ReportView<'_> {
         Ok(())
     }
 
-    // The usage lines.
-    fn add_usage(self, text: &mut String) -> Result<(), AllocError>
+    fn add_usage(self, text: &mut String) -> Tried<()>
         ensures { OnOk result (GrowsBy
             (InTurn (IsUsageLine (HasFact self.entry.settled.now) self.entry.names.now.names) self.entry.keys.now)
             (string_bytes text.old) (string_bytes text.new)) }
@@ -189,7 +159,7 @@ impl ReportView<'_> {
     }
 
     // The findings, after the usage lines.
-    fn add_findings(self, text: &mut String, found: &Found) -> Result<(), AllocError>
+    fn add_findings(self, text: &mut String, found: &Found) -> Tried<()>
         ensures { OnOk result (GrowsBy
             (InSequence (findings (HasFact self.entry.settled.now) self.entry.names.now.names found.now))
             (string_bytes text.old) (string_bytes text.new)) }
@@ -202,11 +172,9 @@ impl ReportView<'_> {
     }
 
     // The five lines that every report begins with.
-    fn add_totals(self, text: &mut String, traces: usize, events: u128) -> Result<(), AllocError>
-        ensures { OnOk result (GrowsBy
-            (AreTotals (HasFact self.entry.settled.now) traces events
-            (length self.entry.names.now.names))
-            (string_bytes text.old) (string_bytes text.new)) }
+    fn add_totals(self, text: &mut String, traces: usize, events: u128) -> Tried<()>
+        ensures { OnOk result (GrowsBy (AreTotals (HasFact self.entry.settled.now) traces events
+            (length self.entry.names.now.names)) (string_bytes text.old) (string_bytes text.new)) }
     {
         add_total(text, "traces", traces as u128)?;
         add_total(text, "events", events)?;
@@ -223,9 +191,8 @@ fn report_text(
     names: &KeyTable,
     traces: usize,
     events: u128,
-) -> Result<String, AllocError>
-    ensures { IfOk result (λ text. IsReport (HasFact settled.now) traces events names.now.names
-        (string_bytes text)) }
+) -> Tried<String>
+    ensures { IfOk result (λ text. IsReport (HasFact settled.now) traces events names.now.names (string_bytes text)) }
 {
     let keys = sorted_keys(alloc, names)?;
     let keys = keys.as_slice();
@@ -244,15 +211,13 @@ fn report_text(
     Ok(text)
 }
 
-// The line of a word and its number.
-pub(crate) fn add_total(text: &mut String, word: &str, number: u128) -> Result<(), AllocError>
+pub(crate) fn add_total(text: &mut String, word: &str, number: u128) -> Tried<()>
     ensures { OnOk result (string_bytes text.new ≡ string_bytes text.old ++ total_line word.now number) }
 {
     writeln!(text, "{word} {number}")
 }
 
-// `clean yes` or `clean no`.
-fn add_clean(text: &mut String, clean: bool) -> Result<(), AllocError>
+fn add_clean(text: &mut String, clean: bool) -> Tried<()>
     ensures { OnOk result (string_bytes text.new ≡ string_bytes text.old ++ clean_line clean) }
 {
     text.push_str(if clean { "clean yes\n" } else { "clean no\n" })
@@ -280,9 +245,6 @@ fn character_of(enabled: bool, used_in: bool) -> &'static str
 }
 
 /// Writes the report of settled facts that come from these traces, with the names of the keys that are in the table.
-///
-/// Refusals: O3 if memory for the text is refused, before its first byte; O1 if the writer returns an error and O2
-/// if it takes nothing, after exactly a beginning of the text. This project's own.
 pub fn write_report<W: Write>(
     alloc: Global,
     w: &mut W,
@@ -291,8 +253,7 @@ pub fn write_report<W: Write>(
     names: &KeyTable,
 ) -> Result<(), WriteFault>
     ensures ok { OnOk result ((text : List ℕ)
-        × IsReport (HasFact settled.now) (length traces.now) (sum_by length traces.now)
-        names.now.names text
+        × IsReport (HasFact settled.now) (length traces.now) (sum_by length traces.now) names.now.names text
         × Appends (W.contents w.old) (W.contents w.new) text) }
     ensures err { IfErr result (StopsWriting
         (IsReport (HasFact settled.now) (length traces.now) (sum_by length traces.now) names.now.names)

@@ -1,19 +1,16 @@
 //! Verdicts as JSON, version 2, for programs to read.
 
-ghost use Rattle.std.specs.Prelude.{◌≡◌, ◌++◌, IfOk, OnOk, codes, drop, flat_map};
-ghost use Rattle.json.specs.Print.{print};
-ghost use Rattle.ld_text.specs.Json.{list_member, object, object_member, text_member};
-ghost use Rattle.ld_text.specs.Inside.Tokens.{Adds};
-ghost use Rattle.ld_text.specs.Verdicts.{between_members, count_members, dependency_object, gate_object, in_order, note_members, noted_members, only_member, ranked, verdict_json, verdict_line, verdict_members};
+ghost use Rattle.ld_text.specs.Names.{◌++◌, ◌≡◌, IfOk, OnOk, codes, drop, flat_map, print};
+ghost use Rattle.ld_text.specs.Clauses.{Adds, between_members, count_members, dependency_object, gate_object, in_order, list_member, note_members, noted_members, object, object_member, only_member, ranked, text_member, verdict_json, verdict_line, verdict_members};
 
 use crate::json_members::{add_number, add_text};
 use crate::json_text::{begin_line, without_first};
 use crate::verdicts::VerdictWording;
 use crate::wording::Wording;
-use crate::words::file_of;
+use crate::{Tried, file_of};
 use json::Writer;
 use ld_explain::{Between, Dependency, Finding, GateNote, Verdict, count_ranked};
-use std::alloc::{AllocError, Global};
+use std::alloc::Global;
 
 // What stands before the counts, and between them and the findings, and after these.
 const HEAD: &str = "{\"lockdep\":2,\"counts\":";
@@ -24,7 +21,7 @@ const TAIL: &str = "\n]}\n";
 
 impl Wording<'_> {
     // A dependency without its occurrence.
-    pub(crate) fn write_guarded(&self, w: &mut Writer, d: &Dependency) -> Result<(), AllocError>
+    pub(crate) fn write_guarded(&self, w: &mut Writer, d: &Dependency) -> Tried<()>
         ensures { OnOk result (Adds w.old w.new (dependency_object self.now.names d.now)) }
     {
         w.begin_object()?;
@@ -32,12 +29,7 @@ impl Wording<'_> {
         w.end_object()
     }
 
-    // Such dependencies.
-    pub(crate) fn write_each_guarded(
-        &self,
-        w: &mut Writer,
-        ds: &[Dependency],
-    ) -> Result<(), AllocError>
+    pub(crate) fn write_each_guarded(&self, w: &mut Writer, ds: &[Dependency]) -> Tried<()>
         ensures { OnOk result (Adds w.old w.new (flat_map (dependency_object self.now.names) ds.now)) }
     {
         for d in ds {
@@ -46,12 +38,7 @@ impl Wording<'_> {
         Ok(())
     }
 
-    // A member with such dependencies.
-    pub(crate) fn write_guarded_list(
-        &self,
-        w: &mut Writer,
-        ds: &[Dependency],
-    ) -> Result<(), AllocError>
+    pub(crate) fn write_guarded_list(&self, w: &mut Writer, ds: &[Dependency]) -> Tried<()>
         ensures { OnOk result (Adds w.old w.new (list_member (codes "orders")
             (flat_map (dependency_object self.now.names) ds.now))) }
     {
@@ -61,12 +48,7 @@ impl Wording<'_> {
         w.end_array()
     }
 
-    // A gate.
-    pub(crate) fn write_gate_object(
-        &self,
-        w: &mut Writer,
-        gate: &GateNote,
-    ) -> Result<(), AllocError>
+    pub(crate) fn write_gate_object(&self, w: &mut Writer, gate: &GateNote) -> Tried<()>
         ensures { OnOk result (Adds w.old w.new (gate_object self.now.names gate.now)) }
     {
         w.begin_object()?;
@@ -75,12 +57,7 @@ impl Wording<'_> {
         w.end_object()
     }
 
-    // Gates.
-    pub(crate) fn write_gate_objects(
-        &self,
-        w: &mut Writer,
-        gates: &[GateNote],
-    ) -> Result<(), AllocError>
+    pub(crate) fn write_gate_objects(&self, w: &mut Writer, gates: &[GateNote]) -> Tried<()>
         ensures { OnOk result (Adds w.old w.new (flat_map (gate_object self.now.names) gates.now)) }
     {
         for gate in gates {
@@ -89,8 +66,7 @@ impl Wording<'_> {
         Ok(())
     }
 
-    // The member with gates.
-    pub(crate) fn write_gates(&self, w: &mut Writer, gates: &[GateNote]) -> Result<(), AllocError>
+    pub(crate) fn write_gates(&self, w: &mut Writer, gates: &[GateNote]) -> Tried<()>
         ensures { OnOk result (Adds w.old w.new (list_member (codes "gates")
             (flat_map (gate_object self.now.names) gates.now))) }
     {
@@ -101,11 +77,7 @@ impl Wording<'_> {
     }
 
     // The file that alone has all occurrences, if one has.
-    pub(crate) fn write_only_member(
-        &self,
-        w: &mut Writer,
-        only: Option<u32>,
-    ) -> Result<(), AllocError>
+    pub(crate) fn write_only_member(&self, w: &mut Writer, only: Option<u32>) -> Tried<()>
         ensures { OnOk result (Adds w.old w.new (only_member self.now.files only)) }
     {
         match only {
@@ -115,11 +87,7 @@ impl Wording<'_> {
     }
 
     // The notes of a finding as objects.
-    pub(crate) fn write_note_members(
-        &self,
-        w: &mut Writer,
-        finding: &Finding,
-    ) -> Result<(), AllocError>
+    pub(crate) fn write_note_members(&self, w: &mut Writer, finding: &Finding) -> Tried<()>
         ensures { OnOk result (Adds w.old w.new (note_members self.now finding.now)) }
     {
         match finding {
@@ -133,7 +101,7 @@ impl Wording<'_> {
     }
 
     // What is said of a finding, with its notes as objects.
-    pub(crate) fn write_noted(&self, w: &mut Writer, finding: &Finding) -> Result<(), AllocError>
+    pub(crate) fn write_noted(&self, w: &mut Writer, finding: &Finding) -> Tried<()>
         ensures { OnOk result (Adds w.old w.new (noted_members self.now finding.now)) }
     {
         self.write_members(w, finding)?;
@@ -141,7 +109,7 @@ impl Wording<'_> {
     }
 
     // The member with a finding between single locks.
-    pub(crate) fn write_nested(&self, w: &mut Writer, nested: &Finding) -> Result<(), AllocError>
+    pub(crate) fn write_nested(&self, w: &mut Writer, nested: &Finding) -> Tried<()>
         ensures { OnOk result (Adds w.old w.new (object_member (codes "finding") (noted_members self.now nested.now))) }
     {
         w.key("finding")?;
@@ -151,12 +119,7 @@ impl Wording<'_> {
     }
 
     // A finding between single locks that was seen so.
-    pub(crate) fn write_seen(
-        &self,
-        w: &mut Writer,
-        kind: &str,
-        nested: &Finding,
-    ) -> Result<(), AllocError>
+    pub(crate) fn write_seen(&self, w: &mut Writer, kind: &str, nested: &Finding) -> Tried<()>
         ensures { OnOk result (Adds w.old w.new (text_member (codes "kind") kind.now
             ++ object_member (codes "finding") (noted_members self.now nested.now))) }
     {
@@ -170,7 +133,7 @@ impl Wording<'_> {
         w: &mut Writer,
         nesting: bool,
         between: &Between,
-    ) -> Result<(), AllocError>
+    ) -> Tried<()>
         ensures { OnOk result (Adds w.old w.new (between_members self.now nesting between.now)) }
     {
         match between {
@@ -184,7 +147,7 @@ impl Wording<'_> {
 }
 
 // How many verdicts there are of each rank.
-fn write_each_count(w: &mut Writer, verdicts: &[Verdict]) -> Result<(), AllocError>
+fn write_each_count(w: &mut Writer, verdicts: &[Verdict]) -> Tried<()>
     ensures { OnOk result (Adds w.old w.new (count_members verdicts.now)) }
 {
     add_number(w, "locks", count_ranked(verdicts, 0) as u64)?;
@@ -195,8 +158,7 @@ fn write_each_count(w: &mut Writer, verdicts: &[Verdict]) -> Result<(), AllocErr
     add_number(w, "nested", count_ranked(verdicts, 5) as u64)
 }
 
-// The object with these numbers.
-fn write_counts(w: &mut Writer, verdicts: &[Verdict]) -> Result<(), AllocError>
+fn write_counts(w: &mut Writer, verdicts: &[Verdict]) -> Tried<()>
     ensures { OnOk result (Adds w.old w.new (object (count_members verdicts.now))) }
 {
     w.begin_object()?;
@@ -205,7 +167,7 @@ fn write_counts(w: &mut Writer, verdicts: &[Verdict]) -> Result<(), AllocError>
 }
 
 // The text up to the verdicts.
-fn counts_text(alloc: Global, verdicts: &[Verdict]) -> Result<Vec<u8>, AllocError>
+fn counts_text(alloc: Global, verdicts: &[Verdict]) -> Tried<Vec<u8>>
     ensures { IfOk result (λ text. text.items
         ≡ codes "{\"lockdep\":2,\"counts\":" ++ (print (object (count_members verdicts.now)) ++ codes ",\"findings\":[")) }
 {
@@ -219,8 +181,7 @@ fn counts_text(alloc: Global, verdicts: &[Verdict]) -> Result<Vec<u8>, AllocErro
 }
 
 impl VerdictWording<'_> {
-    // What is said of a verdict.
-    pub(crate) fn write_verdict(&self, w: &mut Writer, v: &Verdict) -> Result<(), AllocError>
+    pub(crate) fn write_verdict(&self, w: &mut Writer, v: &Verdict) -> Tried<()>
         ensures { OnOk result (Adds w.old w.new (verdict_members self.now.types.now self.now.locks.now v.now)) }
     {
         self.types.write_noted(w, &v.finding)?;
@@ -231,8 +192,7 @@ impl VerdictWording<'_> {
         w.end_object()
     }
 
-    // A verdict.
-    pub(crate) fn write_verdict_object(&self, w: &mut Writer, v: &Verdict) -> Result<(), AllocError>
+    pub(crate) fn write_verdict_object(&self, w: &mut Writer, v: &Verdict) -> Tried<()>
         ensures { OnOk result (Adds w.old w.new (object (verdict_members self.now.types.now self.now.locks.now v.now))) }
     {
         w.begin_object()?;
@@ -240,8 +200,7 @@ impl VerdictWording<'_> {
         w.end_object()
     }
 
-    // The line of a verdict.
-    pub(crate) fn add_object(&self, text: &mut Vec<u8>, v: &Verdict) -> Result<(), AllocError>
+    pub(crate) fn add_object(&self, text: &mut Vec<u8>, v: &Verdict) -> Tried<()>
         ensures { OnOk result (text.new.items ≡ text.old.items ++ verdict_line self.now.types.now self.now.locks.now v.now) }
     {
         let types = self.types;
@@ -251,13 +210,7 @@ impl VerdictWording<'_> {
         Ok(())
     }
 
-    // The line of a verdict, if it has this rank.
-    pub(crate) fn add_ranked_object(
-        &self,
-        text: &mut Vec<u8>,
-        rank: u8,
-        v: &Verdict,
-    ) -> Result<(), AllocError>
+    pub(crate) fn add_ranked_object(&self, text: &mut Vec<u8>, rank: u8, v: &Verdict) -> Tried<()>
         ensures { OnOk result (text.new.items ≡ text.old.items
             ++ ranked (verdict_line self.now.types.now self.now.locks.now) rank v.now) }
     {
@@ -268,13 +221,12 @@ impl VerdictWording<'_> {
         }
     }
 
-    // The lines of the verdicts of this rank.
     pub(crate) fn add_rank_objects(
         &self,
         text: &mut Vec<u8>,
         rank: u8,
         verdicts: &[Verdict],
-    ) -> Result<(), AllocError>
+    ) -> Tried<()>
         ensures { OnOk result (text.new.items ≡ text.old.items
             ++ flat_map (ranked (verdict_line self.now.types.now self.now.locks.now) rank) verdicts.now) }
     {
@@ -284,12 +236,7 @@ impl VerdictWording<'_> {
         Ok(())
     }
 
-    // The lines of all verdicts, by rank.
-    pub(crate) fn add_objects(
-        &self,
-        text: &mut Vec<u8>,
-        verdicts: &[Verdict],
-    ) -> Result<(), AllocError>
+    pub(crate) fn add_objects(&self, text: &mut Vec<u8>, verdicts: &[Verdict]) -> Tried<()>
         ensures { OnOk result (text.new.items ≡ text.old.items
             ++ in_order (verdict_line self.now.types.now self.now.locks.now) verdicts.now) }
     {
@@ -302,7 +249,7 @@ impl VerdictWording<'_> {
     }
 
     // The text of verdicts for programs to read.
-    pub(crate) fn json(&self, verdicts: &[Verdict]) -> Result<Vec<u8>, AllocError>
+    pub(crate) fn json(&self, verdicts: &[Verdict]) -> Tried<Vec<u8>>
         ensures { IfOk result (λ text. text.items ≡ verdict_json self.now.types.now self.now.locks.now verdicts.now) }
     {
         let types = self.types;

@@ -1,18 +1,17 @@
 //! The lines of verdicts: findings between types, each with what it was seen between.
 
-ghost use Rattle.std.specs.Prelude.{◌≡◌, ◌++◌, IfOk, OnOk, codes, flat_map, string_bytes};
-ghost use Rattle.ld_text.specs.Verdicts.{between_text, in_order, nested_text, ranked, seen_text, verdict_block, verdict_lines};
-ghost use Rattle.ld_explain.specs.Verdicts.{is_nesting};
+ghost use Rattle.ld_text.specs.Names.{◌++◌, ◌≡◌, IfOk, OnOk, codes, flat_map, is_nesting, string_bytes};
+ghost use Rattle.ld_text.specs.Clauses.{between_text, in_order, nested_text, ranked, seen_text, verdict_block, verdict_lines};
 
+use crate::Tried;
 use crate::report::add_total;
 use crate::verdicts::VerdictWording;
 use crate::wording::Wording;
 use ld_explain::{Between, Finding, Verdict, count_ranked};
-use std::alloc::AllocError;
 
 impl Wording<'_> {
     // What was seen: a walk, or a key.
-    pub(crate) fn add_seen(&self, text: &mut String, nested: &Finding) -> Result<(), AllocError>
+    pub(crate) fn add_seen(&self, text: &mut String, nested: &Finding) -> Tried<()>
         ensures { OnOk result (string_bytes text.new ≡ string_bytes text.old ++ seen_text self.now.names nested.now) }
     {
         match nested {
@@ -23,7 +22,7 @@ impl Wording<'_> {
     }
 
     // Where a finding between single locks comes from, and what speaks against it.
-    pub(crate) fn add_nested(&self, text: &mut String, nested: &Finding) -> Result<(), AllocError>
+    pub(crate) fn add_nested(&self, text: &mut String, nested: &Finding) -> Tried<()>
         ensures { OnOk result (string_bytes text.new ≡ string_bytes text.old ++ nested_text self.now nested.now) }
     {
         self.add_origins(text, nested)?;
@@ -37,7 +36,7 @@ impl Wording<'_> {
         before: &str,
         nested: &Finding,
         after: &str,
-    ) -> Result<(), AllocError>
+    ) -> Tried<()>
         ensures { OnOk result (string_bytes text.new ≡ string_bytes text.old
             ++ (before.now ++ (seen_text self.now.names nested.now ++ (after.now ++ nested_text self.now nested.now)))) }
     {
@@ -53,7 +52,7 @@ impl Wording<'_> {
         text: &mut String,
         nesting: bool,
         between: &Between,
-    ) -> Result<(), AllocError>
+    ) -> Tried<()>
         ensures { OnOk result (string_bytes text.new ≡ string_bytes text.old ++ between_text self.now nesting between.now) }
     {
         match between {
@@ -82,8 +81,7 @@ impl Wording<'_> {
 }
 
 impl VerdictWording<'_> {
-    // A verdict.
-    pub(crate) fn add_verdict(&self, text: &mut String, v: &Verdict) -> Result<(), AllocError>
+    pub(crate) fn add_verdict(&self, text: &mut String, v: &Verdict) -> Tried<()>
         ensures { OnOk result (string_bytes text.new ≡ string_bytes text.old
             ++ verdict_block self.now.types.now self.now.locks.now v.now) }
     {
@@ -95,13 +93,7 @@ impl VerdictWording<'_> {
         self.types.add_notes(text, &v.finding)
     }
 
-    // A verdict, if it has this rank.
-    pub(crate) fn add_ranked(
-        &self,
-        text: &mut String,
-        rank: u8,
-        v: &Verdict,
-    ) -> Result<(), AllocError>
+    pub(crate) fn add_ranked(&self, text: &mut String, rank: u8, v: &Verdict) -> Tried<()>
         ensures { OnOk result (string_bytes text.new ≡ string_bytes text.old
             ++ ranked (verdict_block self.now.types.now self.now.locks.now) rank v.now) }
     {
@@ -112,13 +104,7 @@ impl VerdictWording<'_> {
         }
     }
 
-    // The verdicts of this rank.
-    pub(crate) fn add_rank(
-        &self,
-        text: &mut String,
-        rank: u8,
-        verdicts: &[Verdict],
-    ) -> Result<(), AllocError>
+    pub(crate) fn add_rank(&self, text: &mut String, rank: u8, verdicts: &[Verdict]) -> Tried<()>
         ensures { OnOk result (string_bytes text.new ≡ string_bytes text.old
             ++ flat_map (ranked (verdict_block self.now.types.now self.now.locks.now) rank) verdicts.now) }
     {
@@ -129,11 +115,7 @@ impl VerdictWording<'_> {
     }
 
     // All verdicts, by rank.
-    pub(crate) fn add_ranks(
-        &self,
-        text: &mut String,
-        verdicts: &[Verdict],
-    ) -> Result<(), AllocError>
+    pub(crate) fn add_ranks(&self, text: &mut String, verdicts: &[Verdict]) -> Tried<()>
         ensures { OnOk result (string_bytes text.new ≡ string_bytes text.old
             ++ in_order (verdict_block self.now.types.now self.now.locks.now) verdicts.now) }
     {
@@ -146,7 +128,7 @@ impl VerdictWording<'_> {
     }
 
     // The text of verdicts for people to read.
-    pub(crate) fn lines(&self, verdicts: &[Verdict]) -> Result<Vec<u8>, AllocError>
+    pub(crate) fn lines(&self, verdicts: &[Verdict]) -> Tried<Vec<u8>>
         ensures { IfOk result (λ text. text.items ≡ verdict_lines self.now.types.now self.now.locks.now verdicts.now) }
     {
         let types = self.types;

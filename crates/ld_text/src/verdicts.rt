@@ -1,19 +1,11 @@
 //! The verdicts of traces, and the text of them in one of two formats.
 
-ghost use Rattle.std.specs.Prelude.{◌≡◌, ◌≤◌, All, IfErr, IfOk, List, OnOk, length, map, ℕ};
-ghost use Rattle.std.specs.Io.KnownBytes.{Appends};
-ghost use Rattle.ld_trace.specs.declared.raw_trace.TheConstants.{MAX_TRACES};
-ghost use Rattle.ld_task.specs.WellFormed.{IsWellFormed};
-ghost use Rattle.ld_explain.specs.Settling.{AreLevels};
-ghost use Rattle.ld_text.specs.Verdicts.{AreVerdictsOf, lock_sources, type_sources, verdicts_text};
-ghost use Rattle.ld_text.specs.WriteFaults.{StopsWriting};
+ghost use Rattle.ld_text.specs.Names.{◌≡◌, ◌≤◌, All, Appends, AreLevels, IfErr, IfOk, IsWellFormed, List, MAX_TRACES, OnOk, length, map, ℕ};
+ghost use Rattle.ld_text.specs.Clauses.{AreVerdictsOf, StopsWriting, lock_sources, type_sources, verdicts_text};
 
-use crate::findings::Format;
 use crate::key_texts::KeyTexts;
-use crate::order::sorted_keys;
-use crate::output::write_text;
 use crate::wording::{DEEPER, MARGIN, Wording};
-use crate::write_fault::WriteFault;
+use crate::{Format, Tried, WriteFault, sorted_keys, write_text};
 use ld_explain::{SettledLevels, Verdict};
 use ld_trace::{KeyTable, RawTrace};
 use std::alloc::{AllocError, Global};
@@ -44,7 +36,6 @@ pub fn verdicts_of_traces(
     levels.verdicts(alloc, traces, names, &keys, &locks)
 }
 
-// The text.
 fn verdicts_text(
     alloc: Global,
     verdicts: &[Verdict],
@@ -53,7 +44,7 @@ fn verdicts_text(
     names: &KeyTable,
     files: &[&str],
     format: Format,
-) -> Result<Vec<u8>, AllocError>
+) -> Tried<Vec<u8>>
     ensures { IfOk result (λ text. text.items ≡ verdicts_text format
         (type_sources traces.now types.now.names names.now.names (map (λ file. file.now) files.entry.now))
         (lock_sources traces.now names.now.names (map (λ file. file.now) files.entry.now)) verdicts.now) }
@@ -88,9 +79,6 @@ fn verdicts_text(
 
 /// Writes these verdicts of traces in these files, whose locks' types have the one names and the locks the other. Names of files are
 /// as they were given.
-///
-/// Refusals: O3 if memory for the text is refused, before its first byte; O1 if the writer returns an error and O2 if it takes
-/// nothing, after exactly a beginning of the text. This project's own.
 pub fn write_verdicts<W: Write>(
     alloc: Global,
     w: &mut W,

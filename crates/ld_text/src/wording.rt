@@ -1,9 +1,7 @@
 //! What findings are put into words by.
 
-ghost use Rattle.std.specs.Prelude.{◌≡◌};
-ghost use Rattle.ld_trace.specs.Writing.{name_at};
-ghost use Rattle.ld_text.specs.Explanation.{event_of};
-ghost use Rattle.ld_text.specs.Words.{key_text};
+ghost use Rattle.ld_text.specs.Names.{◌≡◌, name_at};
+ghost use Rattle.ld_text.specs.Clauses.{event_of, key_text};
 
 use crate::key_texts::KeyTexts;
 use ld_trace::{Event, KeyId, KeyTable, RawTrace};
@@ -33,7 +31,7 @@ pub(crate) struct Wording<'a> {
 }
 
 impl<'a> Model for Wording<'a> {
-    ghost use Rattle.std.specs.Prelude.{◌≡◌, map};
+    ghost use Rattle.ld_text.specs.Names.{◌≡◌, map};
     ghost use Rattle.ld_text.specs.Explanation.{Sources};
     ghost use Rattle.ld_text.specs.Words.{key_text};
 

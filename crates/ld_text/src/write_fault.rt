@@ -1,7 +1,7 @@
 //! Why a text wasn't written.
 
-ghost use Rattle.std.specs.Prelude.{◌≡◌};
-ghost use Rattle.ld_text.specs.WriteFaults.{write_code_of};
+ghost use Rattle.ld_text.specs.Names.{◌≡◌};
+ghost use Rattle.ld_text.specs.Clauses.{write_code_of};
 
 use thiserror::Error;
 

@@ -1,11 +1,5 @@
 -- Condensed traces of equal facts, and that their texts read back.
-use Rattle.lockdep.proofs.Names.{[], ◌≡◌, ◌≤◌, AreNumbered, Err, Event, IfOk, IsCondensedText, IsOkAnd, KeysBelow, List, MAX_EVENTS, Name, Ok, ReadsBackAnew, Result, Table, arith, length, subst, ℕ}
-use Rattle.ld_trace.specs.Laws.{NewTablesHaveRoom, TextsReadBack}
-use Rattle.ld_trace.specs.Writing.{trace_text}
-use Rattle.ld_run.specs.Condensing.{IsCondensed}
-use Rattle.ld_run.specs.declared.condense_fault.CondenseFault.{CondenseFault}
-use Rattle.ld_facts.specs.Facts.{AreSame}
-use Rattle.ld_facts.specs.declared.fact.Fact.{Fact}
+use Rattle.lockdep.proofs.Names.{[], ◌≡◌, ◌≤◌, AreNumbered, AreSame, CondenseFault, Err, Event, Fact, IfOk, IsCondensed, IsCondensedText, IsOkAnd, KeysBelow, List, MAX_EVENTS, Name, NewTablesHaveRoom, Ok, ReadsBackAnew, Result, Table, TextsReadBack, arith, length, subst, trace_text, ℕ}
 
 -- a trace that has the one has the other
 pub IsCondensedText-same : (P Q : Fact → Type 0) → AreSame P Q → (names : List Name) (text : List ℕ) → IsCondensedText P names text → IsCondensedText Q names text

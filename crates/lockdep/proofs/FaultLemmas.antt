@@ -1,12 +1,6 @@
 -- What a refused output leaves.
-use Rattle.lockdep.proofs.Names.{◌<◌, ◌↔◌, ◌≡◌, ◌≤◌, All, Appends, Bool, Err, Event, IfErr, IsCrew, IsErrAnd, IsErrOf, IsTextOf, IsWellFormed, List, MAX_TRACES, MatchResult, Name, Ok, OnOk, Option, OutputView, Result, StopsSettled, StopsText, arith, length, refl, subst, sym, ℕ}
-use Rattle.std.specs.Bool.{⊤}
+use Rattle.lockdep.proofs.Names.{◌<◌, ◌↔◌, ◌≡◌, ◌≤◌, All, Appends, Bool, Condensing, Err, Event, IfErr, IsCrew, IsErrAnd, IsErrOf, IsTextOf, IsWellFormed, List, MAX_TRACES, MatchResult, Name, Ok, OnOk, Option, Out, OutputView, ReportFault, Result, Run, Step, StopsSettled, StopsText, StopsWriting, StopsWriting-same, WriteFault, arith, length, refl, subst, sym, ℕ, ⊤}
 use Rattle.ld_run.specs.declared.fault.RunFault.TheVariants as run
-use Rattle.lockdep.specs.declared.fault.ReportFault.{ReportFault}
-use Rattle.lockdep.specs.declared.fault.ReportFault.TheVariants.{Step, Run, Condensing, Out}
-use Rattle.ld_text.specs.declared.write_fault.WriteFault.{WriteFault}
-use Rattle.ld_text.specs.WriteFaults.{StopsWriting}
-use Rattle.ld_text.specs.Laws.WriteFaults.{StopsWriting-same}
 
 pub StopsSettled-same : (output : OutputView) (A B : List ℕ → Type 0) → ((text : List ℕ) → A text → B text) → (old new : Option (List ℕ)) (fault : ReportFault) → StopsSettled output A old new fault → StopsSettled output B old new fault
 StopsSettled-same output A B same old new (Step trace at fault) stops = absurd stops

@@ -1,10 +1,6 @@
 -- Which traces a refusal names, and what its line leaves.
-use Rattle.lockdep.proofs.Names.{[], ◌<◌, ◌==◌, ◌∷◌, ◌≡◌, Appends, Bor, Contains, Err, IfErr, IsErr, IsErrAnd, IsReadingRefusal, List, Name, None, Ok, Option, Result, Some, StopsReading, ap, arith, codes, inl, inr, length, map, refl, slice_get, slice_index_or, subst, suc, sym, true, zero, ℕ}
-use Rattle.std.proofs.lemmas.List.{append-nil}
-use Rattle.ld_text.specs.Output.{AppendsBeginning}
-use Rattle.ld_text.specs.Words.{Text}
-use Rattle.lockdep.specs.declared.refusal.Refusal.{Refusal}
-use Rattle.lockdep.specs.declared.refusal.Refusal.TheVariants.{BadCommandLine, CannotOpen, Output, Memory, Reading, Step, Run, Condensing}
+use Rattle.lockdep.proofs.Names.{[], ◌<◌, ◌==◌, ◌∷◌, ◌≡◌, Appends, AppendsBeginning, BadCommandLine, Bor, CannotOpen, Contains, Err, IfErr, IsErr, IsErrAnd, IsReadingRefusal, List, Memory, Name, None, Ok, Option, Output, Reading, Refusal, Result, Some, StopsReading, Text, ap, append-nil, arith, codes, inl, inr, length, map, refl, slice_get, slice_index_or, subst, suc, sym, true, zero, ℕ}
+use Rattle.lockdep.specs.declared.refusal.Refusal.TheVariants.{Step, Run, Condensing}
 
 -- a file of the list is among their names
 pub named_at : (files : List (Bor Text)) (i : ℕ) (d : Bor Text) → i < length files → Contains (map (λ file. file.now) files) (slice_index_or files i d).now

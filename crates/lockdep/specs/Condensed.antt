@@ -1,12 +1,5 @@
 -- The text of the condensed trace [this project's own].
-use Rattle.std.specs.Prelude.{◌≡◌, ◌≤◌, ℕ, List, [], length}
-use Rattle.ld_trace.specs.Laws.{ReadsBack}
-use Rattle.ld_trace.specs.Names.{Name}
-use Rattle.ld_trace.specs.Writing.{trace_text}
-use Rattle.ld_trace.specs.declared.event.Event.{Event}
-use Rattle.ld_facts.specs.declared.fact.Fact.{Fact}
-use Rattle.ld_run.specs.Condensing.{IsCondensed}
-use Rattle.ld_facts.specs.TraceFacts.{TracesHave}
+use Rattle.lockdep.specs.Names.{[], ◌≡◌, ◌≤◌, Event, Fact, IsCondensed, List, Name, ReadsBack, TracesHave, length, trace_text, ℕ}
 
 -- the text of these events reads back: a new table with room for as many names takes it, and it stands for events that say the same
 abbrev pub ReadsBackAnew : List Name → List Event → Type 0

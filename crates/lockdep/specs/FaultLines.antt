@@ -1,11 +1,7 @@
 -- The one line that says why the program refused. This project's own.
-use Rattle.std.specs.Prelude.{ℕ, List, ◌++◌, Option, Result, Ok, Err, codes, decimal}
-use Rattle.std.specs.Io.KnownBytes.{Appends}
+use Rattle.lockdep.specs.Names.{◌++◌, Appends, AppendsBeginning, Err, List, Ok, Option, Result, WriteFault, codes, condense_code_of, decimal, run_code_of, ℕ}
 use Rattle.ld_trace.specs.TraceFaults.{code_of as trace_code_of}
 use Rattle.ld_task.specs.Faults.{code_of as step_code_of}
-use Rattle.ld_run.specs.Faults.{condense_code_of, run_code_of}
-use Rattle.ld_text.specs.Output.{AppendsBeginning}
-use Rattle.ld_text.specs.declared.write_fault.WriteFault.{WriteFault}
 use Rattle.lockdep.specs.declared.refusal.Refusal.{Refusal}
 use Rattle.lockdep.specs.declared.refusal.Refusal.TheVariants.{BadCommandLine, CannotOpen, Output, Memory, Reading, Step, Run, Condensing}
 

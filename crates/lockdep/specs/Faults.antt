@@ -1,18 +1,8 @@
 -- What a refused output leaves [this project's own].
-use Rattle.std.specs.Prelude.{◌≡◌, ◌+◌, ◌≤◌, ⊤, ℕ, List, Option, All, length}
-use Rattle.std.specs.Io.KnownBytes.{Keeps}
-use Rattle.ld_trace.specs.Names.{Name}
-use Rattle.ld_trace.specs.declared.event.Event.{Event}
-use Rattle.ld_task.specs.WellFormed.{IsWellFormed}
-use Rattle.ld_text.specs.WriteFaults.{StopsWriting}
+use Rattle.lockdep.specs.Names.{◌+◌, ◌≡◌, ◌≤◌, All, Event, IsCrew, IsWellFormed, Keeps, List, MAX_TRACES, Memory, Name, Option, Refused, RunFault, StopsRun, StopsWriting, length, ℕ, ⊤}
 use Rattle.lockdep.specs.Texts.{OutputView, report, condensed, IsTextOf}
-use Rattle.ld_text.specs.declared.write_fault.WriteFault.TheVariants.{Memory}
-use Rattle.ld_run.specs.Runs.{IsCrew, StopsRun}
-use Rattle.ld_trace.specs.declared.raw_trace.TheConstants.{MAX_TRACES}
-use Rattle.ld_run.specs.declared.fault.RunFault.{RunFault}
 use Rattle.lockdep.specs.declared.fault.ReportFault.{ReportFault}
 use Rattle.lockdep.specs.declared.fault.ReportFault.TheVariants.{Step, Run, Condensing, Out}
-use Rattle.ld_run.specs.declared.fault.RunFault.TheVariants.{Refused}
 
 -- the output of settled facts was refused in this way: in condensing, if it is the condensed trace, and then nothing
 -- was written; or in writing a text that is as said

@@ -1,7 +1,9 @@
+pub mod Clauses
 pub mod Condensed
 pub mod FaultLines
 pub mod Faults
 pub mod Inside
+pub mod Names
 pub mod Program
 pub mod Sessions
 pub mod Texts

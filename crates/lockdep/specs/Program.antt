@@ -1,32 +1,13 @@
 -- What the program does for a command line [this project's own].
-use Rattle.std.specs.Prelude.{◌≡◌, ◌↔◌, ◌⊎◌, ◌||◌, ⊤, ◌+◌, ◌<◌, ◌≤◌, ℕ, Bool, false, if◌then◌else◌, List, [], ◌∷◌, Option, None, Some, All, Contains, IfSome, IsTrue, codes, length, map, option_map, unwrap_or}
-use Rattle.std.specs.Io.KnownBytes.{Appends, Keeps}
-use Rattle.ld_trace.specs.Events.{KeysBelow}
-use Rattle.ld_trace.specs.Names.{Name}
-use Rattle.ld_trace.specs.declared.event.Event.{Event}
-use Rattle.ld_trace.specs.declared.key_id.TheConstants.{GRAPH_KEYS, MAX_KEYS}
-use Rattle.ld_trace.specs.Reading.{ReadsTo, StopsAt}
-use Rattle.ld_task.specs.WellFormed.{IsFirstFault, IsWellFormed}
-use Rattle.ld_graph.specs.Links.{IsClean}
-use Rattle.ld_run.specs.Runs.{IsCrew}
-use Rattle.ld_trace.specs.declared.raw_trace.TheConstants.{MAX_TRACES}
-use Rattle.ld_text.specs.Words.{Text}
-use Rattle.ld_text.specs.ChainLines.{chains_text}
-use Rattle.ld_words.specs.CommandLine.{AreRefused, AskForText, IsLineOf}
+use Rattle.lockdep.specs.Names.{[], ◌+◌, ◌<◌, ◌||◌, ◌↔◌, ◌∷◌, ◌≡◌, ◌≤◌, ◌⊎◌, All, Appends, AppendsBeginning, AreRefused, AskForText, Bool, Chains, Check, Condense, Contains, Event, Explain, Format, GRAPH_KEYS, Graph, IfSome, IsClean, IsCrew, IsFirstFault, IsLineOf, IsTrue, IsWellFormed, Keeps, KeysBelow, Line, List, MAX_KEYS, MAX_TRACES, Name, None, Option, ReadsTo, Some, StopsAt, Text, TracesHave, chains_text, codes, false, file_at, if◌then◌else◌, length, map, option_map, unwrap_or, ℕ, ⊤}
 use Rattle.lockdep.specs.Faults.{StopsText}
-use Rattle.ld_text.specs.Output.{AppendsBeginning}
 use Rattle.lockdep.specs.FaultLines.{fault_line}
 use Rattle.lockdep.specs.Texts.{OutputView, report, explanation, json, picture, condensed, IsTextOf}
-use Rattle.ld_text.specs.Words.{file_at}
-use Rattle.ld_text.specs.declared.findings.Format.{Format}
 use Rattle.ld_text.specs.declared.findings.Format.TheVariants as format
 use Rattle.lockdep.specs.Verdicts.{StopsVerdicts, WritesVerdicts}
-use Rattle.ld_facts.specs.TraceFacts.{TracesHave}
-use Rattle.ld_words.specs.declared.words.Line.{Line}
-use Rattle.ld_words.specs.declared.words.Line.TheVariants.{Check, Chains, Condense, Explain, Graph}
 use Rattle.lockdep.specs.declared.fault.ReportFault.{ReportFault}
 use Rattle.lockdep.specs.declared.fault.ReportFault.TheVariants as failed
-use Rattle.ld_text.specs.declared.write_fault.WriteFault.{WriteFault}
+use Rattle.lockdep.specs.Names.{WriteFault}
 use Rattle.ld_text.specs.declared.write_fault.WriteFault.TheVariants as write
 use Rattle.lockdep.specs.declared.refusal.Refusal.{Refusal}
 use Rattle.lockdep.specs.declared.refusal.Refusal.TheVariants.{BadCommandLine, CannotOpen, Output, Memory, Reading, Step, Run, Condensing}

@@ -1,12 +1,6 @@
 -- What is written about all traces together [this project's own].
-use Rattle.std.specs.Prelude.{ℕ, Bool, List, map}
-use Rattle.ld_text.specs.Words.{Text}
-use Rattle.ld_trace.specs.Names.{Name}
-use Rattle.ld_trace.specs.declared.event.Event.{Event}
+use Rattle.lockdep.specs.Names.{Bool, Event, IsPictureOf, IsReportOf, List, Name, SaysFindingsOf, Text, map, ℕ}
 use Rattle.lockdep.specs.Condensed.{IsCondensedOf}
-use Rattle.ld_text.specs.Findings.{SaysFindingsOf}
-use Rattle.ld_text.specs.Picture.{IsPictureOf}
-use Rattle.ld_text.specs.Report.{IsReportOf}
 use Rattle.ld_text.specs.declared.findings.Format.TheVariants as format
 use Rattle.lockdep.specs.declared.output.Output.{Output}
 use Rattle.lockdep.specs.declared.output.Output.TheVariants.{Report, Explanation, Json, Picture, Condensed}

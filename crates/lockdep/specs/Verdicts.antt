@@ -1,19 +1,5 @@
 -- What `explain --locks` writes: the findings between types, each with what it was seen between [this project's own].
-use Rattle.std.specs.Prelude.{◌≡◌, ℕ, ◌≤◌, Bool, List, Option, All, length}
-use Rattle.std.specs.Io.KnownBytes.{Appends}
-use Rattle.ld_trace.specs.Names.{Name}
-use Rattle.ld_trace.specs.declared.event.Event.{Event}
-use Rattle.ld_trace.specs.declared.level.Level.TheVariants.{Types}
-use Rattle.ld_trace.specs.declared.raw_trace.TheConstants.{MAX_TRACES}
-use Rattle.ld_task.specs.WellFormed.{IsWellFormed}
-use Rattle.ld_run.specs.Runs.{IsCrew}
-use Rattle.ld_explain.specs.Settling.{names_at}
-use Rattle.ld_explain.specs.Verdicts.{has_finding}
-use Rattle.ld_explain.specs.declared.verdict.Verdict.{Verdict}
-use Rattle.ld_text.specs.Verdicts.{AreVerdictsOf, lock_sources, type_sources, verdicts_text}
-use Rattle.ld_text.specs.Words.{Text}
-use Rattle.ld_text.specs.WriteFaults.{StopsWriting}
-use Rattle.ld_text.specs.declared.findings.Format.{Format}
+use Rattle.lockdep.specs.Names.{◌≡◌, ◌≤◌, All, Appends, AreVerdictsOf, Bool, Event, Format, IsCrew, IsWellFormed, List, MAX_TRACES, Name, Option, StopsWriting, Text, Types, Verdict, has_finding, length, lock_sources, names_at, type_sources, verdicts_text, ℕ}
 use Rattle.lockdep.specs.Faults.{StopsReport}
 use Rattle.lockdep.specs.declared.fault.ReportFault.{ReportFault}
 use Rattle.lockdep.specs.declared.fault.ReportFault.TheVariants.{Condensing, Out, Run, Step}

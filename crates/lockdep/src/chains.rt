@@ -1,13 +1,7 @@
 //! The chains of one trace, as `lockdep chains` writes them.
 
-ghost use Rattle.std.specs.Prelude.{◌≡◌, ◌≤◌, List, IfOk, IfErr, length, option_map};
-ghost use Rattle.std.specs.Io.KnownBytes.{Appends};
-ghost use Rattle.ld_trace.specs.declared.event.Event.{Event};
-ghost use Rattle.ld_task.specs.WellFormed.{IsFirstFault, IsWellFormed};
-ghost use Rattle.ld_trace.specs.declared.raw_trace.TheConstants.{MAX_EVENTS};
-ghost use Rattle.lockdep.specs.Inside.Sources.{remaining_in};
-ghost use Rattle.ld_text.specs.ChainLines.{chains_text};
-ghost use Rattle.lockdep.specs.Program.{IsStepRefusal, RefusesChains, RefusesOpened, RefusesTrace, WritesChains, known_of};
+ghost use Rattle.lockdep.specs.Names.{◌≡◌, ◌≤◌, Appends, Event, IfErr, IfOk, IsFirstFault, IsWellFormed, List, MAX_EVENTS, chains_text, length, option_map};
+ghost use Rattle.lockdep.specs.Clauses.{IsStepRefusal, RefusesChains, RefusesOpened, RefusesTrace, WritesChains, known_of, remaining_in};
 
 use crate::program::DONE;
 use crate::refusal::Refusal;
@@ -63,7 +57,6 @@ fn answer_chains_of<'a, I: Read + Drop, F: Read + Drop, O: Write>(
     }
 }
 
-// Writes the chains of a trace that was read.
 fn answer_trace<'a, O: Write>(
     file: &'a str,
     read: RawTrace,

@@ -1,14 +1,7 @@
 //! The condensed trace of settled facts, and its text.
 
-ghost use Rattle.std.specs.Prelude.{◌≡◌, List, ℕ, IfErr, IfOk, IsOkAnd, OnOk, length};
-ghost use Rattle.ld_trace.specs.Events.{KeysBelow};
-ghost use Rattle.ld_trace.specs.Writing.{trace_text};
-ghost use Rattle.std.specs.Io.KnownBytes.{Appends};
-ghost use Rattle.ld_facts.specs.FactBits.{HasFact};
-ghost use Rattle.lockdep.specs.Condensed.{IsCondensedText, ReadsBackAnew};
-ghost use Rattle.lockdep.specs.Faults.{IsBeforeWriting, StopsSettled};
-ghost use Rattle.lockdep.specs.Inside.CondensedFaults.{no_text_of};
-ghost use Rattle.lockdep.specs.Texts.{condensed};
+ghost use Rattle.lockdep.specs.Names.{◌≡◌, Appends, HasFact, IfErr, IfOk, IsOkAnd, KeysBelow, List, OnOk, length, trace_text, ℕ};
+ghost use Rattle.lockdep.specs.Clauses.{IsBeforeWriting, IsCondensedText, ReadsBackAnew, StopsSettled, condensed, no_text_of};
 
 use crate::fault::ReportFault;
 use ld_run::{CondenseFault, Settled, condense};
@@ -53,7 +46,6 @@ fn condensed_text(alloc: Global, settled: &Settled, keys: &KeyTable) -> Result<V
     text_of(alloc, condense(alloc, settled, order.as_slice()), keys)
 }
 
-// The text of the trace that condensing made.
 fn text_of(
     alloc: Global,
     made: Result<RawTrace, CondenseFault>,

@@ -1,11 +1,8 @@
 //! `lockdep`: checks recorded traces of tasks for lock orders that can deadlock.
 #![tactic(auto)]
 
-ghost use Rattle.std.specs.Prelude.{◌≡◌, ◌≤◌, ◌<◌, ◌⊎◌, ℕ, List, IfErr, IfOk, map, string_bytes};
-ghost use Rattle.ld_text.specs.Output.{AppendsBeginning};
-ghost use Rattle.lockdep.specs.FaultLines.{fault_line};
-ghost use Rattle.lockdep.specs.Program.{DoesWords};
-ghost use Rattle.lockdep.specs.declared.refusal.Refusal.{Refusal};
+ghost use Rattle.lockdep.specs.Names.{◌<◌, ◌≡◌, ◌≤◌, ◌⊎◌, AppendsBeginning, IfErr, IfOk, List, map, string_bytes, ℕ};
+ghost use Rattle.lockdep.specs.Clauses.{DoesWords, Refusal, fault_line};
 
 use std::alloc::{AllocError, Global};
 use std::process::ExitCode;

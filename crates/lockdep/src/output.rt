@@ -1,13 +1,7 @@
 //! What is written about all the traces of a session.
 
-ghost use Rattle.std.specs.Prelude.{◌≡◌, ◌≤◌, ℕ, List, All, IfErr, OnOk, length};
-ghost use Rattle.std.specs.Io.KnownBytes.{Appends};
-ghost use Rattle.ld_task.specs.WellFormed.{IsWellFormed};
-ghost use Rattle.ld_facts.specs.FactBits.{HasFact};
-ghost use Rattle.ld_facts.specs.Facts.{AreSame};
-ghost use Rattle.ld_facts.specs.TraceFacts.{TracesHave};
-ghost use Rattle.lockdep.specs.Faults.{StopsSettled};
-ghost use Rattle.lockdep.specs.Texts.{IsTextOf, view_of};
+ghost use Rattle.lockdep.specs.Names.{◌≡◌, ◌≤◌, All, Appends, AreSame, HasFact, IfErr, IsWellFormed, List, OnOk, TracesHave, length, ℕ};
+ghost use Rattle.lockdep.specs.Clauses.{IsTextOf, StopsSettled, view_of};
 
 use crate::condensed::write_condensed;
 use crate::fault::ReportFault;

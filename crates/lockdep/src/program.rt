@@ -1,17 +1,7 @@
 //! The program: a command line, the traces that it names, and what is written for them.
 
-ghost use Rattle.std.specs.Prelude.{◌≡◌, ◌<◌, ◌≤◌, [], ℕ, Bool, List, Ok, Err, All, IfOk, IfErr, OnOk, if◌then◌else◌, length, map};
-ghost use Rattle.std.specs.Io.KnownBytes.{Appends};
-ghost use Rattle.ld_trace.specs.declared.key_id.TheConstants.{MAX_KEYS};
-ghost use Rattle.lockdep.specs.Inside.Requests.{output_asked, verdicts_asked};
-ghost use Rattle.lockdep.specs.Verdicts.{WritesVerdicts};
-ghost use Rattle.ld_task.specs.WellFormed.{IsWellFormed};
-ghost use Rattle.ld_run.specs.Runs.{IsCrew};
-ghost use Rattle.ld_trace.specs.declared.raw_trace.TheConstants.{MAX_TRACES};
-ghost use Rattle.ld_words.specs.CommandLine.{IsLineFault};
-ghost use Rattle.lockdep.specs.Program.{AreTracesOf, DoesLine, DoesVerdicts, DoesWords, IsReportRefusal, IsRunOf, RefusesHelp, RefusesLine, RefusesNoLine, RefusesOutput, RefusesTraces, RefusesVerdicts, RefusesVerdictsOf, RefusesWords, StopsReading, WritesHelp, WritesOutput, WritesText, room_of, status_of, write_refusal_of};
-ghost use Rattle.lockdep.specs.Texts.{view_of};
-ghost use Rattle.lockdep.specs.declared.refusal.Refusal.{Refusal};
+ghost use Rattle.lockdep.specs.Names.{[], ◌<◌, ◌≡◌, ◌≤◌, All, Appends, Bool, Err, IfErr, IfOk, IsCrew, IsLineFault, IsWellFormed, List, MAX_KEYS, MAX_TRACES, Ok, OnOk, if◌then◌else◌, length, map, ℕ};
+ghost use Rattle.lockdep.specs.Clauses.{AreTracesOf, DoesLine, DoesVerdicts, DoesWords, IsReportRefusal, IsRunOf, Refusal, RefusesHelp, RefusesLine, RefusesNoLine, RefusesOutput, RefusesTraces, RefusesVerdicts, RefusesVerdictsOf, RefusesWords, StopsReading, WritesHelp, WritesOutput, WritesText, WritesVerdicts, output_asked, room_of, status_of, verdicts_asked, view_of, write_refusal_of};
 
 use crate::chains::answer_chains;
 use crate::fault::ReportFault;
@@ -117,14 +107,12 @@ fn answer_or_refuse<R: Files + Threads + Wait + Sync, A: Adds, I: Read + Drop, O
     ensures quiet { IfOk result (λ status. status < 2 → err.new ≡ err.old) }
     ensures refused { IfOk result (λ status. status ≡ 2 → (refusal : Refusal)
         × RefusesWords (map (λ word. word.now) words.entry.now) (I.remaining input)
-        (O.contents out.old) (O.contents out.new) refusal
-        × T.tells err.old refusal (Ok status) err.new) }
+        (O.contents out.old) (O.contents out.new) refusal × T.tells err.old refusal (Ok status) err.new) }
 
     // Nothing but telling the refusal ends like this.
     ensures untold { IfErr result (λ fault. (refusal : Refusal)
         × RefusesWords (map (λ word. word.now) words.entry.now) (I.remaining input)
-        (O.contents out.old) (O.contents out.new) refusal
-        × T.tells err.old refusal (Err fault) err.new) }
+        (O.contents out.old) (O.contents out.new) refusal × T.tells err.old refusal (Err fault) err.new) }
 {
     match answer(rt, adds, alloc, words, input, out) {
         Ok(status) => Ok(status),
@@ -192,7 +180,6 @@ fn answer_fault<'a, O: Write>(
     }
 }
 
-// Writes the help or the version that was asked for.
 fn answer_help<'a, O: Write>(
     alloc: Global,
     help: &clap::Error,
@@ -291,21 +278,12 @@ fn write_session_verdicts<'a, R: Threads + Sync, O: Write>(
         (O.contents out.old) (O.contents out.new)) }
 {
     let workers = session.useful_workers(request.workers);
-    match session.write_verdicts(
-        rt,
-        alloc,
-        workers,
-        request.format,
-        request.confirmed_only,
-        request.files,
-        out,
-    ) {
+    match session.write_verdicts(rt, alloc, workers, request, out) {
         Ok(found) => Ok(if found { NOT_CLEAN } else { DONE }),
         Err(fault) => Err(report_refusal(request.files, fault)),
     }
 }
 
-// How many keys there is room for.
 fn room_of(many: bool) -> u16
     ensures value { result ≡ room_of many }
     ensures few { result ≤ MAX_KEYS }
@@ -368,7 +346,6 @@ fn add_traces<'a, R: Files + Threads + Sync, A: Adds, I: Read + Drop>(
     adds.add_files(rt, session, workers, files)
 }
 
-// The refusal of an output that wasn't written whole.
 fn write_refusal<'a>(fault: WriteFault) -> Refusal<'a>
     ensures { result ≡ write_refusal_of fault }
 {

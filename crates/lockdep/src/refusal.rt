@@ -1,11 +1,7 @@
 //! Why the program refused, and the one line that says so.
 
-ghost use Rattle.std.specs.Prelude.{◌≡◌, ℕ, IfOk, OnOk, OnErr, Result};
-ghost use Rattle.std.specs.Io.KnownBytes.{Appends};
-ghost use Rattle.lockdep.specs.FaultLines.{fault_line, record_line};
-ghost use Rattle.ld_text.specs.Output.{AppendsBeginning};
-ghost use Rattle.ld_text.specs.declared.write_fault.WriteFault.{WriteFault};
-ghost use Rattle.lockdep.specs.declared.refusal.Refusal.{Refusal};
+ghost use Rattle.lockdep.specs.Names.{◌≡◌, Appends, AppendsBeginning, IfOk, OnErr, OnOk, Result, WriteFault, ℕ};
+ghost use Rattle.lockdep.specs.Clauses.{Refusal, fault_line, record_line};
 
 use ld_run::{CondenseFault, RunFault};
 use ld_task::StepFault;
@@ -67,7 +63,6 @@ impl<E: Write> Tells for E {
     }
 }
 
-// Writes the line of a refused record.
 fn tell_record<W: Write>(w: &mut W, file: &str, at: usize, code: &str) -> Result<(), WriteFault>
     ensures ok { OnOk result (Appends (W.contents w.old) (W.contents w.new) (record_line file.now at code.now)) }
     ensures err { OnErr result (AppendsBeginning (W.contents w.old) (W.contents w.new)
@@ -88,7 +83,6 @@ fn tell_record<W: Write>(w: &mut W, file: &str, at: usize, code: &str) -> Result
     )
 }
 
-// Writes the line of a refusal.
 fn write_line<W: Write>(w: &mut W, refusal: Refusal<'_>) -> Result<(), WriteFault>
     ensures ok { OnOk result (Appends (W.contents w.old) (W.contents w.new) (fault_line refusal.entry)) }
     ensures err { OnErr result (AppendsBeginning (W.contents w.old) (W.contents w.new) (fault_line refusal.entry)) }

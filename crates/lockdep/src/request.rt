@@ -1,9 +1,7 @@
 //! What a command line asks for.
 
-ghost use Rattle.std.specs.Prelude.{◌≡◌, map};
-ghost use Rattle.lockdep.specs.Inside.Requests.{asked_of};
-ghost use Rattle.lockdep.specs.Program.{asked_by, explanation_as, explanation_asked, format_as, output_of, verdicts_of};
-ghost use Rattle.lockdep.specs.Texts.{view_of};
+ghost use Rattle.lockdep.specs.Names.{◌≡◌, map};
+ghost use Rattle.lockdep.specs.Clauses.{asked_by, asked_of, explanation_as, explanation_asked, format_as, output_of, verdicts_of, view_of};
 
 use crate::output::Output;
 use ld_text::Format;
@@ -79,7 +77,6 @@ pub(crate) fn request_of<'l, 'a>(line: &'l Line<'a>) -> Request<'l, 'a>
     }
 }
 
-// The request for an output of the traces in these files.
 fn output_request<'l, 'a>(
     output: Output<'l>,
     many: bool,
@@ -141,14 +138,12 @@ fn verdict_request<'l, 'a>(
     })
 }
 
-// The format of verdicts.
 fn format_as(as_json: bool) -> Format
     ensures { result ≡ format_as as_json }
 {
     if as_json { Format::Json } else { Format::Lines }
 }
 
-// The explanation, as JSON if that is asked for.
 fn explanation_as<'l>(json: bool, files: &'l [&'l str]) -> Output<'l>
     ensures { view_of result ≡ explanation_as json (map (λ file. file.now) files.entry.now) }
 {

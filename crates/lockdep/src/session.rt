@@ -1,27 +1,15 @@
 //! A session: traces, in their order, and what is written of all of them together.
 
-ghost use Rattle.std.specs.Prelude.{◌≡◌, ◌+◌, ◌<◌, ◌≤◌, ◌∷◌, ◌++◌, [], ℕ, List, All, length, IfOk, IfErr, IfSome, IsErrOf, IsOkAnd, IsTrue, OnOk, map, ◌↔◌};
-ghost use Rattle.std.specs.Io.KnownBytes.{Appends};
-ghost use Rattle.ld_trace.specs.declared.event.Event.{Event};
-ghost use Rattle.ld_trace.specs.Events.{KeysBelow};
-ghost use Rattle.ld_trace.specs.Reading.{ReadsTo, StopsAt};
-ghost use Rattle.ld_read.specs.Reading.{AreRead, StopsAfter};
-ghost use Rattle.ld_task.specs.WellFormed.{IsWellFormed};
-ghost use Rattle.ld_graph.specs.Links.{IsClean};
-ghost use Rattle.ld_run.specs.Runs.{IsCrew};
-ghost use Rattle.ld_facts.specs.TraceFacts.{TracesHave};
-ghost use Rattle.ld_text.specs.Report.{IsReportOf};
-ghost use Rattle.lockdep.specs.Faults.{StopsReport, StopsText};
-ghost use Rattle.lockdep.specs.Texts.{IsTextOf, view_of};
-ghost use Rattle.lockdep.specs.Verdicts.{StopsVerdicts, WritesVerdicts};
+ghost use Rattle.lockdep.specs.Names.{[], ◌++◌, ◌+◌, ◌<◌, ◌↔◌, ◌∷◌, ◌≡◌, ◌≤◌, All, Appends, AreRead, Event, IfErr, IfOk, IfSome, IsClean, IsCrew, IsErrOf, IsOkAnd, IsReportOf, IsTrue, IsWellFormed, KeysBelow, List, OnOk, ReadsTo, StopsAfter, StopsAt, TracesHave, length, map, ℕ};
+ghost use Rattle.lockdep.specs.Clauses.{IsTextOf, StopsReport, StopsText, StopsVerdicts, WritesVerdicts, view_of};
 
 use crate::fault::ReportFault;
 use crate::output::{Output, write_output};
+use crate::request::VerdictRequest;
 use crate::settled::settled_of;
 use crate::verdicts::write_verdicts_of;
 use ld_read::{Sources, Unread, read_all, read_into};
 use ld_run::{Gate, MAX_TRACES, MAX_WORKERS, RunFault};
-use ld_text::Format;
 use ld_trace::{GRAPH_KEYS, KeyFault, KeyTable, MAX_KEYS, RawTrace, TraceFault, event_count};
 use std::alloc::Global;
 use std::io::{Read, Write};
@@ -41,8 +29,7 @@ pub struct Session {
 }
 
 impl Model for Session {
-    ghost use Rattle.std.specs.Prelude.{All, length};
-    ghost use Rattle.ld_trace.specs.Events.{KeysBelow};
+    ghost use Rattle.lockdep.specs.Names.{All, KeysBelow, length};
     ghost use Rattle.lockdep.specs.Sessions.{SessionParts};
 
     ghost Value = { SessionParts };
@@ -167,8 +154,8 @@ impl Session {
 
     /// Checks all traces by `workers` workers, writes the findings between types of their locks, each with what it was
     /// seen between, and returns whether one of them counts: all but notes do, or if `confirmed_only` is set, what was
-    /// seen between single locks and what isn't known. `files` are the names of the traces. The session is consumed in
-    /// every case.
+    /// seen between single locks and what isn't known. The request's files are the names of the traces, and its workers
+    /// aren't asked for. The session is consumed in every case.
     ///
     /// Refusals are those of `write` for an explanation, but that M1 means that more than 256 types lead to one another.
     pub fn write_verdicts<R: Threads + Sync, W: Write>(
@@ -176,29 +163,17 @@ impl Session {
         rt: &R,
         alloc: Global,
         workers: u16,
-        format: Format,
-        confirmed_only: bool,
-        files: &[&str],
+        request: VerdictRequest<'_, '_>,
         w: &mut W,
     ) -> Result<bool, ReportFault>
-        ensures ok { IfOk result (WritesVerdicts format confirmed_only (map (λ file. file.now) files.entry.now)
-            self.names self.traces (W.contents w.old) (W.contents w.new)) }
+        ensures ok { IfOk result (WritesVerdicts request.entry.format request.entry.confirmed_only
+            (map (λ file. file.now) request.entry.files.now) self.names self.traces (W.contents w.old) (W.contents w.new)) }
         ensures crew { OnOk result (IsCrew workers × (length self.traces ≤ MAX_TRACES) × All IsWellFormed self.traces) }
-        ensures refused { IfErr result (StopsVerdicts format (map (λ file. file.now) files.entry.now) self.names self.traces workers
-            (W.contents w.old) (W.contents w.new)) }
+        ensures refused { IfErr result (StopsVerdicts request.entry.format (map (λ file. file.now) request.entry.files.now)
+            self.names self.traces workers (W.contents w.old) (W.contents w.new)) }
     {
         let traces = self.traces.as_slice();
-        write_verdicts_of(
-            rt,
-            alloc,
-            workers,
-            traces,
-            &self.keys,
-            format,
-            confirmed_only,
-            files,
-            w,
-        )
+        write_verdicts_of(rt, alloc, workers, traces, &self.keys, request, w)
     }
 
     /// Checks all traces by `workers` workers, writes the report of all of them together, and returns whether their facts are

@@ -1,14 +1,7 @@
 //! What is settled about the traces of a session.
 
-ghost use Rattle.std.specs.Prelude.{◌≡◌, ◌+◌, ◌<◌, ℕ, List, Option, All, length, slice_get, IfOk, IfErr, IsSomeAnd};
-ghost use Rattle.ld_trace.specs.Names.{Name};
-ghost use Rattle.ld_trace.specs.Events.{KeysBelow};
-ghost use Rattle.ld_run.specs.Runs.{CompletesRun, StopsRun};
-ghost use Rattle.lockdep.specs.Faults.{StopsText};
-ghost use Rattle.lockdep.specs.Texts.{OutputView};
-ghost use Rattle.lockdep.specs.Verdicts.{StopsVerdicts};
-ghost use Rattle.ld_text.specs.Words.{Text};
-ghost use Rattle.ld_text.specs.declared.findings.Format.{Format};
+ghost use Rattle.lockdep.specs.Names.{◌+◌, ◌<◌, ◌≡◌, All, CompletesRun, Format, IfErr, IfOk, IsSomeAnd, KeysBelow, List, Name, Option, StopsRun, Text, length, slice_get, ℕ};
+ghost use Rattle.lockdep.specs.Clauses.{OutputView, StopsText, StopsVerdicts};
 
 use crate::fault::ReportFault;
 use ld_run::{Gate, RunFault, Settled, run};

@@ -1,12 +1,8 @@
 //! How the traces of the files come into a session: in turn, or read ahead by several threads.
 
 ghost use denote.Param.Send.{IsSync};
-ghost use Rattle.std.specs.Prelude.{◌≡◌, ◌+◌, ◌<◌, ◌≤◌, ◌∷◌, ◌++◌, [], ℕ, List, Option, None, All, IfErr, IfSome, OnOk, OnErr, length, map, option_map, slice_get};
-ghost use Rattle.ld_trace.specs.Events.{KeysBelow};
-ghost use Rattle.ld_trace.specs.Reading.{ReadsTo};
-ghost use Rattle.ld_trace.specs.declared.event.Event.{Event};
-ghost use Rattle.lockdep.specs.Inside.Sources.{NamesFileAt, remaining_in};
-ghost use Rattle.lockdep.specs.Program.{IsReadingRefusal, StopsReading};
+ghost use Rattle.lockdep.specs.Names.{[], ◌++◌, ◌+◌, ◌<◌, ◌∷◌, ◌≡◌, ◌≤◌, All, Event, IfErr, IfSome, KeysBelow, List, None, OnErr, OnOk, Option, ReadsTo, length, map, option_map, slice_get, ℕ};
+ghost use Rattle.lockdep.specs.Clauses.{IsReadingRefusal, NamesFileAt, StopsReading, remaining_in};
 
 use crate::refusal::Refusal;
 use crate::session::Session;
@@ -131,7 +127,6 @@ fn name_at<'a>(files: &[&'a str], place: usize) -> Option<&'a str>
     files.get(place).copied()
 }
 
-// Whether the name is that of a regular file.
 fn is_regular<R: Files>(rt: &R, file: &str) -> bool {
     match fs::metadata(rt, file) {
         Ok(found) => found.is_file(),
@@ -182,7 +177,6 @@ fn unread_refusal<'a>(files: &[&'a str], unread: Unread) -> Refusal<'a>
     }
 }
 
-// Opens and reads each file in turn.
 fn add_in_turn<'a, R: Files>(
     rt: &R,
     session: &mut Session,
@@ -203,7 +197,6 @@ fn add_in_turn<'a, R: Files>(
     Ok(())
 }
 
-// Opens a file and reads its trace.
 fn add_file<'a, R: Files>(rt: &R, session: &mut Session, file: &'a str) -> Result<(), Refusal<'a>>
     ensures ok { OnOk result (length session.new.traces ≡ length session.old.traces + 1) }
     ensures below { OnOk result (All (KeysBelow (length session.new.names)) session.new.traces) }

@@ -1,22 +1,15 @@
 //! The verdicts of a session's traces: the findings between types of locks, each with what it was seen between.
 
-ghost use Rattle.std.specs.Prelude.{◌≡◌, ◌<◌, ◌≤◌, Err, List, Option, All, IfErr, IfOk, OnOk, length, map, ℕ};
-ghost use Rattle.ld_trace.specs.Events.{KeysBelow};
-ghost use Rattle.ld_task.specs.WellFormed.{IsWellFormed};
-ghost use Rattle.ld_run.specs.Runs.{IsCrew};
-ghost use Rattle.ld_explain.specs.Settling.{AreLevels, AreTypes};
-ghost use Rattle.ld_text.specs.Words.{Text};
-ghost use Rattle.ld_text.specs.declared.findings.Format.{Format};
-ghost use Rattle.ld_text.specs.WriteFaults.{StopsWriting};
-ghost use Rattle.lockdep.specs.Verdicts.{SaysVerdicts, StopsVerdicts, WritesVerdicts};
-ghost use Rattle.lockdep.specs.Inside.Tangled.{fault_of_parting};
+ghost use Rattle.lockdep.specs.Names.{◌<◌, ◌≡◌, ◌≤◌, All, AreLevels, AreTypes, Err, Format, IfErr, IfOk, IsCrew, IsWellFormed, KeysBelow, List, OnOk, Option, StopsWriting, Text, length, map, ℕ};
+ghost use Rattle.lockdep.specs.Clauses.{SaysVerdicts, StopsVerdicts, WritesVerdicts, fault_of_parting};
 
 use crate::fault::ReportFault;
+use crate::request::VerdictRequest;
 use crate::settled::run_fault;
 use ld_explain::{SettledLevels, SettledTypes, has_finding};
 use ld_parts::PartingFault;
 use ld_run::{MAX_TRACES, RunFault, facts_at, facts_of};
-use ld_text::{Format, WriteFault, verdicts_of_traces, write_verdicts};
+use ld_text::{WriteFault, verdicts_of_traces, write_verdicts};
 use ld_trace::{KeyTable, Level, RawTrace};
 use std::alloc::Global;
 use std::io::Write;
@@ -96,29 +89,18 @@ pub(crate) fn write_verdicts_of<R: Threads + Sync, W: Write>(
     workers: u16,
     traces: &[RawTrace],
     keys: &KeyTable,
-    format: Format,
-    confirmed_only: bool,
-    files: &[&str],
+    request: VerdictRequest<'_, '_>,
     w: &mut W,
 ) -> Result<bool, ReportFault>
     requires { All (KeysBelow (length keys.now.names)) traces.now }
-    ensures ok { IfOk result (WritesVerdicts format confirmed_only (map (λ file. file.now) files.entry.now) keys.now.names
-        traces.now (W.contents w.old) (W.contents w.new)) }
+    ensures ok { IfOk result (WritesVerdicts request.entry.format request.entry.confirmed_only
+        (map (λ file. file.now) request.entry.files.now) keys.now.names traces.now (W.contents w.old) (W.contents w.new)) }
     ensures crew { OnOk result (IsCrew workers × (length traces.now ≤ MAX_TRACES) × All IsWellFormed traces.now) }
-    ensures refused { IfErr result (StopsVerdicts format (map (λ file. file.now) files.entry.now) keys.now.names
-        traces.now workers (W.contents w.old) (W.contents w.new)) }
+    ensures refused { IfErr result (StopsVerdicts request.entry.format (map (λ file. file.now) request.entry.files.now)
+        keys.now.names traces.now workers (W.contents w.old) (W.contents w.new)) }
 {
     let levels = levels_of(rt, alloc, workers, traces, keys)?;
-    match write_levels(
-        alloc,
-        &levels,
-        traces,
-        keys,
-        format,
-        confirmed_only,
-        files,
-        w,
-    ) {
+    match write_levels(alloc, &levels, traces, keys, request, w) {
         Ok(found) => Ok(found),
         Err(fault) => Err(ReportFault::Out(fault)),
     }
@@ -130,24 +112,30 @@ fn write_levels<W: Write>(
     levels: &SettledLevels,
     traces: &[RawTrace],
     keys: &KeyTable,
-    format: Format,
-    confirmed_only: bool,
-    files: &[&str],
+    request: VerdictRequest<'_, '_>,
     w: &mut W,
 ) -> Result<bool, WriteFault>
     requires few { length traces.now ≤ MAX_TRACES }
     requires well_formed { All IsWellFormed traces.now }
     requires levels { AreLevels traces.now keys.now.names levels.now }
-    ensures ok { IfOk result (WritesVerdicts format confirmed_only (map (λ file. file.now) files.entry.now) keys.now.names
-        traces.now (W.contents w.old) (W.contents w.new)) }
-    ensures err { IfErr result (StopsWriting
-        (SaysVerdicts format traces.now keys.now.names (map (λ file. file.now) files.entry.now))
-        (W.contents w.old) (W.contents w.new)) }
+    ensures ok { IfOk result (WritesVerdicts request.entry.format request.entry.confirmed_only
+        (map (λ file. file.now) request.entry.files.now) keys.now.names traces.now (W.contents w.old) (W.contents w.new)) }
+    ensures err { IfErr result (StopsWriting (SaysVerdicts request.entry.format traces.now keys.now.names
+        (map (λ file. file.now) request.entry.files.now)) (W.contents w.old) (W.contents w.new)) }
 {
     let Ok(verdicts) = verdicts_of_traces(alloc, levels, traces, keys) else {
         return Err(WriteFault::Memory);
     };
     let types = levels.type_names();
-    write_verdicts(alloc, w, &verdicts, traces, types, keys, files, format)?;
-    Ok(has_finding(&verdicts, confirmed_only))
+    write_verdicts(
+        alloc,
+        w,
+        &verdicts,
+        traces,
+        types,
+        keys,
+        request.files,
+        request.format,
+    )?;
+    Ok(has_finding(&verdicts, request.confirmed_only))
 }

@@ -1,14 +1,5 @@
 -- How it is chosen what findings are reported with, and what is asked about for them.
-use Rattle.std.specs.Prelude.{◌≡◌, ◌⊎◌, ◌↔◌, ℕ, ◌<◌, [], ◌∷◌, ◌++◌, All, Contains, List, length}
-use Rattle.ld_trace.specs.declared.event.Irq.{Irq}
-use Rattle.ld_task.specs.declared.mark.Mark.TheVariants.{UsedIn, Enabled}
-use Rattle.ld_facts.specs.Arrows.{Arrow, arrow}
-use Rattle.ld_facts.specs.FactBits.{FactParts, HasFact}
-use Rattle.ld_facts.specs.Facts.{Adds, DependenciesOf, Holds}
-use Rattle.ld_facts.specs.declared.fact.Fact.{Fact}
-use Rattle.ld_facts.specs.declared.fact.Fact.TheVariants.{Dependency, Marked}
-use Rattle.ld_graph.specs.Links.{IsDoubleBy, IsShortestInversion, link_by}
-use Rattle.ld_graph.specs.Walks.{IsShortestFrom}
+use Rattle.ld_explain.specs.Names.{[], ◌++◌, ◌<◌, ◌↔◌, ◌∷◌, ◌≡◌, ◌⊎◌, Adds, All, Arrow, Contains, DependenciesOf, Dependency, Enabled, Fact, FactParts, HasFact, Holds, Irq, IsDoubleBy, IsShortestFrom, IsShortestInversion, List, Marked, UsedIn, arrow, length, link_by, ℕ}
 use Rattle.ld_explain.specs.Findings.{Are, AreReported, IsReported}
 use Rattle.ld_explain.specs.Found.{FoundParts}
 use Rattle.ld_explain.specs.declared.choices.Choice.{Choice}

@@ -1,8 +1,5 @@
 -- How what was chosen is explained.
-use Rattle.std.specs.Prelude.{◌≡◌, ◌↔◌, ℕ, Contains, List, Some, [], ◌∷◌}
-use Rattle.ld_facts.specs.Arrows.{Arrow}
-use Rattle.ld_facts.specs.FactBits.{HasFact}
-use Rattle.ld_facts.specs.Facts.{Holds}
+use Rattle.ld_explain.specs.Names.{[], ◌↔◌, ◌∷◌, ◌≡◌, Arrow, Contains, HasFact, Holds, List, Some, ℕ}
 use Rattle.ld_explain.specs.Findings.{AreGates, AreOrders, IsCircle}
 use Rattle.ld_explain.specs.Inside.Choosing.{enabled_of, used_of}
 use Rattle.ld_explain.specs.Naming.{view_of}

@@ -1,12 +1,5 @@
 -- The first occurrences among those that were seen so far. Only private clauses cite these words.
-use Rattle.std.specs.Prelude.{◌≡◌, ℕ, ◌<◌, ◌≤◌, ◌⊎◌, List, Option, Some, option_and_then, option_map, slice_get}
-use Rattle.ld_trace.specs.declared.event.Event.{Event}
-use Rattle.ld_task.specs.Chains.{ChainParts}
-use Rattle.ld_task.specs.Placed.{IsPlacedAfter, PlacedParts, held_positions}
-use Rattle.ld_task.specs.WellFormed.{IsWellFormed}
-use Rattle.ld_facts.specs.ChainFacts.{chain_fact, fact_slots, slot_held}
-use Rattle.ld_facts.specs.declared.fact.Fact.{Fact}
-use Rattle.ld_facts.specs.Renumbered.{fact_by}
+use Rattle.ld_explain.specs.Names.{◌<◌, ◌≡◌, ◌≤◌, ◌⊎◌, ChainParts, Event, Fact, IsPlacedAfter, IsWellFormed, List, Option, PlacedParts, Some, chain_fact, fact_by, fact_slots, held_positions, option_and_then, option_map, slice_get, slot_held, ℕ}
 use Rattle.ld_explain.specs.Origins.{HasOrigin, NoLater, Occurs, OriginParts, View}
 use Rattle.ld_explain.specs.declared.origins.Origin.{Origin}
 

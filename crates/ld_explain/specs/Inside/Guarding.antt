@@ -1,13 +1,5 @@
 -- What guards the occurrences that were seen so far. Only private clauses cite these words.
-use Rattle.std.specs.Prelude.{◌≡◌, ℕ, ◌<◌, ◌⊎◌, ◌↔◌, Bool, List, Contains, Option, Some, None, nat_eq, slice_get, if◌then◌else◌}
-use Rattle.std.specs.List.{list_any}
-use Rattle.ld_trace.specs.declared.event.Event.{Event}
-use Rattle.ld_trace.specs.Modes.{is_read}
-use Rattle.ld_task.specs.Chains.{ChainParts}
-use Rattle.ld_task.specs.declared.lock.Lock.{Lock}
-use Rattle.ld_facts.specs.FactBits.{FactParts, HasFact}
-use Rattle.ld_facts.specs.declared.fact.Fact.{Fact}
-use Rattle.ld_facts.specs.declared.fact.Fact.TheVariants.{Dependency, Marked}
+use Rattle.ld_explain.specs.Names.{◌<◌, ◌↔◌, ◌≡◌, ◌⊎◌, Bool, ChainParts, Contains, Dependency, Event, Fact, FactParts, HasFact, List, Lock, Marked, None, Option, Some, if◌then◌else◌, is_read, list_any, nat_eq, slice_get, ℕ}
 use Rattle.ld_explain.specs.Notes.{GuardParts, Guarded, HasGuard}
 use Rattle.ld_explain.specs.Origins.{View}
 use Rattle.ld_explain.specs.declared.guard.Guard.{Guard}

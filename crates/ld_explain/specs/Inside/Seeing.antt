@@ -1,14 +1,5 @@
 -- How it is asked at a level what makes a finding there. Only private clauses cite these words.
-use Rattle.std.specs.Prelude.{◌≡◌, ◌⊎◌, ◌↔◌, ℕ, true, List, [], ◌∷◌, ◌++◌, All, Contains, IfSome, slice_index}
-use Rattle.ld_trace.specs.declared.event.Irq.{Irq}
-use Rattle.ld_facts.specs.Arrows.{Arrow}
-use Rattle.ld_facts.specs.FactBits.{FactParts, HasFact}
-use Rattle.ld_facts.specs.Facts.{Adds, DependenciesOf, Holds}
-use Rattle.ld_facts.specs.Renumbered.{arrow_by}
-use Rattle.ld_facts.specs.declared.fact.Fact.{Fact}
-use Rattle.ld_facts.specs.declared.fact.Fact.TheVariants.{Dependency}
-use Rattle.ld_graph.specs.Links.{IsDouble, IsInversion}
-use Rattle.ld_graph.specs.Walks.{OnCircle}
+use Rattle.ld_explain.specs.Names.{[], ◌++◌, ◌∷◌, ◌≡◌, ◌⊎◌, Adds, All, Arrow, Contains, Dependency, Fact, FactParts, HasFact, Holds, Irq, IsDouble, IsInversion, Kind, List, OnCircle, arrow, arrow_by, slice_index, true, ℕ}
 use Rattle.ld_explain.specs.Findings.{Are, members_of}
 use Rattle.ld_explain.specs.Inside.Choosing.{IsAmong, IsChoiceFrom, IsDoubleChoice, IsInversionChoice, IsPart}
 use Rattle.ld_explain.specs.Inside.Explaining.{Explains}
@@ -21,6 +12,7 @@ use Rattle.ld_explain.specs.declared.asker.Case.TheVariants as case
 use Rattle.ld_explain.specs.declared.choices.Choice.{Choice}
 use Rattle.ld_explain.specs.declared.finding.Finding.{Finding}
 use Rattle.ld_explain.specs.declared.finding.Finding.TheVariants.{Circle, Double, Inversion}
+use Rattle.ld_explain.specs.declared.finding.Order.{Order}
 use Rattle.ld_explain.specs.declared.levels.Levels.{Levels}
 use Rattle.ld_explain.specs.declared.plan.Plan.{Plan}
 use Rattle.ld_explain.specs.declared.questions.Questions.{Questions}
@@ -29,17 +21,6 @@ use Rattle.ld_explain.specs.declared.questions.Seen.TheVariants as seen
 use Rattle.ld_explain.specs.declared.verdict.Between.{Between}
 use Rattle.ld_explain.specs.declared.verdict.Between.TheVariants as between
 use Rattle.ld_explain.specs.declared.verdict.Verdict.{Verdict}
-
--- ---- dependencies on circles
--- these are the dependencies between locks that are on circles of these facts, where locks are called so
-abbrev pub AreCircles : (locks settled : FactParts) → (name : ℕ → ℕ) → List Arrow → Type 0
-AreCircles locks settled name circles = (e : Arrow) → Contains circles e
-    ↔ (DependenciesOf (HasFact locks) e × OnCircle (HasFact settled) (arrow_by name e))
-
--- the list grew by the fact's dependency, if it is one that is on a circle
-abbrev pub GrowsBy : (On : Arrow → Type 0) → (name : ℕ → ℕ) → Fact → (old new : List Arrow) → Type 0
-GrowsBy On name fact old new = (e : Arrow) → Contains new e ↔
-    (Contains old e ⊎ ((Dependency e.start e.end e.kind ≡ fact) × On (arrow_by name e)))
 
 -- ---- what makes a finding
 -- the level that is asked
@@ -57,11 +38,15 @@ IsLoneInversion asker irq a b k l =
     IsInversion (HasFact asker.settled.now) irq (key_by asker.naming k) (key_by asker.naming l)
     × (slice_index asker.type_of.now k ≡ a) × (slice_index asker.type_of.now l ≡ b)
 
+-- the dependency is one between locks that is on a circle at the level and by its types a member of the walk
+abbrev pub IsLoneMember : Asker → List Order → (from to : ℕ) → Kind → Type 0
+IsLoneMember asker walk from to kind = HasFact asker.locks.now (Dependency from to kind)
+    × OnCircle (HasFact asker.settled.now) (arrow (key_by asker.naming from) (key_by asker.naming to) kind)
+    × Contains (members_of walk) (arrow (slice_index asker.type_of.now from) (slice_index asker.type_of.now to) kind)
+
 -- this makes the finding at the level
 abbrev pub IsCaseAt : Asker → Finding → Case → Type 0
-IsCaseAt asker (Circle orders gates only) (case.Circle e) =
-    DependenciesOf (HasFact asker.locks.now) e × OnCircle (HasFact asker.settled.now) (arrow_by (key_by asker.naming) e)
-    × Contains (members_of orders.items) (arrow_by (slice_index asker.type_of.now) e)
+IsCaseAt asker (Circle orders gates only) (case.Circle e) = IsLoneMember asker orders.items e.start e.end e.kind
 IsCaseAt asker (Double irq key used enabled) (case.Double state k) =
     (state ≡ irq) × Contains asker.keys.now k × IsLoneDouble asker irq key k
 IsCaseAt asker (Inversion irq a b orders used enabled gates) (case.Inversion state locks) =
@@ -109,13 +94,6 @@ IsSeenAs levels locks finding seen.Classes =
 IsSeenAs levels locks finding seen.Types =
     IsUnseenAt locks levels.sure.Has levels.type levels.sure finding × IsUnseenAt locks levels.locks.Has levels.type levels.locks finding
     × IsUnseenAt locks levels.locks.Has levels.type levels.classes finding
-
--- the questions know the dependencies between locks that are on circles at each level
-pub record Asks (q : Questions) : Type 0 where
-  pub sure : IfSome q.levels.sure (λ sure. AreCircles sure.now sure.now (λ k. k) q.sure.items)
-  pub locks : IfSome q.levels.locks (λ locks. AreCircles locks.now locks.now (λ k. k) q.locks.items)
-  pub classes : IfSome q.levels.locks (λ locks. IfSome q.levels.classes (λ classes.
-      AreCircles locks.now classes.now (slice_index q.levels.class_of.now) q.classes.items))
 
 -- ---- what is asked about for it
 -- what was seen has the fact

@@ -1,8 +1,5 @@
 -- Keys without those that stand for several locks. No public clause speaks of these.
-use Rattle.std.specs.Prelude.{◌≡◌, ℕ, ◌<◌, List, if◌then◌else◌, length, slice_index}
-use Rattle.ld_trace.specs.Classes.{is_rest}
-use Rattle.ld_trace.specs.Names.{Name}
-use Rattle.ld_trace.specs.Writing.{name_at}
+use Rattle.ld_explain.specs.Names.{◌<◌, ◌≡◌, List, Name, if◌then◌else◌, is_rest, length, name_at, slice_index, ℕ}
 
 -- a number that no key has
 abbrev pub no_key : ℕ

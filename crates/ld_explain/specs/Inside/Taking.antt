@@ -1,8 +1,5 @@
 -- What is taken in of the facts that are asked about. Only private clauses cite these words.
-use Rattle.std.specs.Prelude.{◌≡◌, ℕ, Bool, true, List, Some, length, slice_get}
-use Rattle.ld_facts.specs.FactBits.{FactParts, HasFact}
-use Rattle.ld_facts.specs.declared.fact.Fact.{Fact}
-use Rattle.ld_facts.specs.declared.fact.Fact.TheVariants.{Dependency, Marked}
+use Rattle.ld_explain.specs.Names.{◌≡◌, Bool, Dependency, Fact, FactParts, HasFact, List, Marked, Some, length, slice_get, true, ℕ}
 use Rattle.ld_explain.specs.Notes.{GuardParts}
 use Rattle.ld_explain.specs.Origins.{OriginParts, View}
 use Rattle.ld_explain.specs.Inside.Firsts.{AreFirsts}

@@ -1,11 +1,5 @@
 -- The findings of equal facts.
-use Rattle.std.specs.Prelude.{ℕ, List, [], ◌∷◌, ◌++◌}
-use Rattle.std.proofs.Common.{inl, inr}
-use Rattle.ld_trace.specs.declared.event.Irq.{Irq}
-use Rattle.ld_facts.specs.Arrows.{Arrow}
-use Rattle.ld_facts.specs.Facts.{AreSame}
-use Rattle.ld_facts.specs.declared.fact.Fact.{Fact}
-use Rattle.ld_graph.specs.Laws.Facts.{IsDoubleBy-same, IsShortestFrom-same, IsShortestInversion-same}
+use Rattle.ld_explain.specs.Names.{[], ◌++◌, ◌∷◌, AreSame, Arrow, Fact, Irq, IsDoubleBy-same, IsShortestFrom-same, IsShortestInversion-same, List, inl, inr, ℕ}
 use Rattle.ld_explain.specs.Origins.{View}
 use Rattle.ld_explain.specs.Findings.{Are, AreFindings, AreReported, IsTheDouble, IsTheInversion, members_of}
 use Rattle.ld_explain.specs.Laws.Found.{AreFound-same}

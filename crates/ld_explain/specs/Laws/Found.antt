@@ -1,9 +1,5 @@
 -- The findings of equal facts.
-use Rattle.std.specs.Prelude.{◌↔◌, ℕ, List, [], ◌∷◌}
-use Rattle.std.proofs.Common.{inl, inr}
-use Rattle.ld_facts.specs.Facts.{AreSame}
-use Rattle.ld_facts.specs.declared.fact.Fact.{Fact}
-use Rattle.ld_graph.specs.Laws.Facts.{IsDouble-same, IsInversion-same, OnCircle-same}
+use Rattle.ld_explain.specs.Names.{[], ◌↔◌, ◌∷◌, AreSame, Fact, IsDouble-same, IsInversion-same, List, OnCircle-same, inl, inr, ℕ}
 use Rattle.ld_explain.specs.Found.{AreFound, AreThose, FoundParts, arrows_among, doubles_among, inversions_among}
 
 -- those that the same is said of

@@ -1,11 +1,5 @@
 -- One thing more of a list.
-use Rattle.std.specs.Prelude.{◌≡◌, ℕ, ◌+◌, ◌<◌, List, [], ◌∷◌, ◌++◌, Contains, Some, flat_map, length, map, slice_get}
-use Rattle.std.proofs.Common.{slice_index_or, take, sym, ap, ◌∙◌, subst, inl, inr, arith}
-use Rattle.std.proofs.lemmas.List.{append-nil, take_more}
-use Rattle.std.proofs.lemmas.List.Elements.{Contains-append_left, Contains-append_right}
-use Rattle.std.proofs.lemmas.List.Concat.{flat_map-append}
-use Rattle.std.proofs.lemmas.Option.{get_or_from_slice_get}
-use Rattle.ld_facts.specs.Laws.Lists.{Contains-cases, Contains-head, Contains-later}
+use Rattle.ld_explain.specs.Names.{[], ◌++◌, ◌+◌, ◌<◌, ◌∙◌, ◌∷◌, ◌≡◌, Contains, Contains-append_left, Contains-append_right, Contains-cases, Contains-head, Contains-later, List, Some, ap, append-nil, arith, flat_map, flat_map-append, get_or_from_slice_get, inl, inr, length, map, slice_get, slice_index_or, subst, sym, take, take_more, ℕ}
 
 pub take-next : {X : Type 0} (xs : List X) (i : ℕ) (d : X) → slice_get xs i ≡ Some d → i < length xs → take (i + 1) xs ≡ take i xs ++ d ∷ []
 take-next xs i d is within = take_more xs i d within ∙ ap (λ x. take i xs ++ x ∷ []) (get_or_from_slice_get xs i d d is)

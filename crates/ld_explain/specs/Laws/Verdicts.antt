@@ -1,13 +1,5 @@
 -- What holds of circles where keys have other names.
-use Rattle.std.specs.Prelude.{◌≡◌, ℕ, List, [], ◌∷◌, map}
-use Rattle.std.proofs.Common.{refl, sym, ap, subst}
-use Rattle.ld_facts.specs.Arrows.{Arrow, MayFollow}
-use Rattle.ld_facts.specs.Facts.{DependenciesOf}
-use Rattle.ld_facts.specs.Renaming.{Image}
-use Rattle.ld_facts.specs.Renumbered.{arrow_by}
-use Rattle.ld_facts.specs.declared.fact.Fact.{Fact}
-use Rattle.ld_facts.specs.declared.fact.Fact.TheVariants.{Dependency}
-use Rattle.ld_graph.specs.Walks.{OnCircle, StrongWalk, last}
+use Rattle.ld_explain.specs.Names.{[], ◌∷◌, ◌≡◌, Arrow, DependenciesOf, Dependency, Fact, Image, List, MayFollow, OnCircle, StrongWalk, ap, arrow_by, last, map, refl, subst, sym, ℕ}
 use Rattle.ld_explain.specs.Laws.Lists.{Contains-map}
 
 module _ (Has : Fact → Type 0) (rename : ℕ → ℕ) where

@@ -1,7 +1,5 @@
 -- How what a writer of JSON has written grows.
-use Rattle.std.specs.Prelude.{◌≡◌, List, ◌++◌}
-use Rattle.json.specs.Token.{Token}
-use Rattle.json.specs.Written.{Written}
+use Rattle.ld_text.specs.Names.{◌++◌, ◌≡◌, List, Token, Written}
 
 -- these tokens were written, and nothing else changed
 pub record Adds (old new : Written) (tokens : List Token) : Type 0 where

@@ -1,12 +1,7 @@
 -- The line of a circle that is turned to begin at the least of its keys.
-use Rattle.std.specs.Prelude.{◌≡◌, ℕ, Bool, List, ◌∷◌, ◌++◌, Contains}
-use Rattle.std.specs.Ordering.{is_lt}
-use Rattle.std.specs.declared.cmp.Ordering.TheVariants.{Less}
-use Rattle.ld_trace.specs.Names.{Name}
-use Rattle.ld_facts.specs.Arrows.{Arrow}
+use Rattle.ld_text.specs.Names.{◌++◌, ◌∷◌, ◌≡◌, Arrow, Bool, Contains, Less, List, Name, is_lt, name_at, ℕ}
 use Rattle.ld_text.specs.Order.{name_cmp}
 use Rattle.ld_text.specs.Report.{because_line}
-use Rattle.ld_trace.specs.Writing.{name_at}
 
 -- the first starts at a key that stands before the second's
 abbrev pub starts_before : List Name → Arrow → Arrow → Bool

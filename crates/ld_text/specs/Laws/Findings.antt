@@ -1,9 +1,6 @@
 -- What is said of the findings of equal facts.
 use Rattle.std.proofs.Common.{ℕ, List}
-use Rattle.ld_facts.specs.Facts.{AreSame}
-use Rattle.ld_facts.specs.declared.fact.Fact.{Fact}
-use Rattle.ld_explain.specs.Origins.{plain}
-use Rattle.ld_explain.specs.Laws.Findings.{AreFindings-same}
+use Rattle.ld_text.specs.Names.{AreFindings-same, AreSame, Fact, plain}
 use Rattle.ld_text.specs.Explanation.{Sources}
 use Rattle.ld_text.specs.Findings.{SaysFindings}
 use Rattle.ld_text.specs.declared.findings.Format.{Format}

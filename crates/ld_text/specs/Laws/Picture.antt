@@ -1,15 +1,8 @@
 -- Pictures of equal facts.
-use Rattle.std.proofs.Common.{◌≡◌, ◌↔◌, ◌⊎◌, ℕ, Bool, true, false, List, Any, inl, inr}
-use Rattle.ld_trace.specs.Names.{Name}
-use Rattle.ld_facts.specs.Arrows.{Arrow, arrow}
-use Rattle.ld_facts.specs.Facts.{AreSame}
-use Rattle.ld_graph.specs.Laws.Facts.{InInversion-same, IsDouble-same, OnCircle-same}
-use Rattle.ld_facts.specs.declared.fact.Fact.{Fact}
-use Rattle.ld_facts.specs.declared.fact.Fact.TheVariants.{Dependency}
+use Rattle.ld_text.specs.Names.{AreFound-same, AreSame, Arrow, Dependency, Fact, InInversion-same, IsDouble-same, Name, OnCircle-same, arrow, inl, inr, kinds, states}
+use Rattle.std.proofs.Common.{◌≡◌, ◌↔◌, ◌⊎◌, ℕ, Bool, true, false, List, Any}
 use Rattle.ld_text.specs.Picture.{AreJoined, IsFoundArrow, IsFoundKey, IsNode, IsPicture, ShowsColoured, ShowsEdge, ShowsKey, edge_line}
 use Rattle.ld_text.specs.Report.{forms}
-use Rattle.ld_explain.specs.Found.{kinds, states}
-use Rattle.ld_explain.specs.Laws.Found.{AreFound-same}
 use Rattle.ld_text.specs.Laws.Report.{InTurn-same, character-same, then-same}
 
 Any-more : {X : Type 0} (P Q : X → Type 0) → ((x : X) → P x → Q x) → (xs : List X) → Any P xs → Any Q xs

@@ -1,17 +1,8 @@
 -- Reports of equal facts.
-use Rattle.std.proofs.Common.{ℕ, Bool, List, [], ◌∷◌, IsTrue, ◌↔◌, inl, inr, length}
-use Rattle.ld_trace.specs.Names.{Name}
-use Rattle.ld_trace.specs.declared.event.Irq.{Irq}
-use Rattle.ld_task.specs.declared.mark.Mark.TheVariants.{UsedIn, Enabled}
-use Rattle.ld_facts.specs.Facts.{AreSame, DependenciesOf}
-use Rattle.ld_graph.specs.Laws.Facts.{IsClean-same, IsShortestCircle-same, OnCircle-same}
-use Rattle.ld_facts.specs.Laws.Counting.{IsNumberOf-same}
-use Rattle.ld_graph.specs.Links.{IsClean}
-use Rattle.ld_facts.specs.declared.fact.Fact.{Fact}
-use Rattle.ld_facts.specs.declared.fact.Fact.TheVariants.{Dependency, Marked}
+use Rattle.ld_text.specs.Names.{AreFound-same, AreSame, DependenciesOf, Dependency, Enabled, Fact, Irq, IsClean, IsClean-same, IsNumberOf-same, IsShortestCircle-same, Marked, Name, OnCircle-same, UsedIn, inl, inr}
+use Rattle.std.proofs.Common.{ℕ, Bool, List, [], ◌∷◌, IsTrue, ◌↔◌, length}
 use Rattle.ld_text.specs.Groups.{InSequence, InTurn}
 use Rattle.ld_text.specs.Report.{AreTotals, IsReport, IsUsageCharacter, IsUsageLine, ShowsBecause, forms}
-use Rattle.ld_explain.specs.Laws.Found.{AreFound-same}
 
 -- groups whose parts mean the same
 pub InTurn-same : {X : Type 0} (R S : X → List ℕ → Type 0) → ((x : X) (text : List ℕ) → R x text → S x text) → (xs : List X) (text : List ℕ) → InTurn R xs text → InTurn S xs text

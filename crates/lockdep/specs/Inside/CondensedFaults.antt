@@ -1,7 +1,5 @@
 -- Why there is no text of a condensed trace. No public clause speaks of this.
-use Rattle.std.specs.Prelude.{Result, Ok, Err}
-use Rattle.ld_run.specs.declared.condense_fault.CondenseFault.{CondenseFault}
-use Rattle.ld_text.specs.declared.write_fault.WriteFault.TheVariants.{Memory}
+use Rattle.lockdep.specs.Names.{CondenseFault, Err, Memory, Ok, Result}
 use Rattle.lockdep.specs.declared.fault.ReportFault.{ReportFault}
 use Rattle.lockdep.specs.declared.fault.ReportFault.TheVariants.{Condensing, Out}
 

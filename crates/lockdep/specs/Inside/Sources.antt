@@ -1,6 +1,5 @@
 -- What is left to read of the program's input or of a file, and which file is named. No public clause speaks of these.
-use Rattle.std.specs.Prelude.{◌≡◌, ℕ, List, Option, Some, slice_get}
-use Rattle.ld_text.specs.Words.{Text}
+use Rattle.lockdep.specs.Names.{◌≡◌, List, Option, Some, Text, slice_get, ℕ}
 use Rattle.lockdep.specs.declared.refusal.Refusal.{Refusal}
 use Rattle.lockdep.specs.declared.refusal.Refusal.TheVariants.{CannotOpen, Reading}
 use Rattle.lockdep.specs.declared.source.Source.{Source}

@@ -1,8 +1,8 @@
 -- The fault of a run whose types can't be settled. No public clause speaks of this.
-use Rattle.ld_parts.specs.declared.parting_fault.PartingFault.{PartingFault}
+use Rattle.lockdep.specs.Names.{PartingFault}
 use Rattle.ld_parts.specs.declared.parting_fault.PartingFault.TheVariants as parting
-use Rattle.ld_run.specs.declared.fault.RunFault.{RunFault}
-use Rattle.ld_run.specs.declared.fault.RunFault.TheVariants.{Memory, TooTangled}
+use Rattle.lockdep.specs.Names.{RunFault, TooTangled}
+use Rattle.ld_run.specs.declared.fault.RunFault.TheVariants.{Memory}
 
 abbrev pub fault_of_parting : PartingFault → RunFault
 fault_of_parting parting.TooTangled = TooTangled

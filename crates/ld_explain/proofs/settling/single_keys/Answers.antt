@@ -1,7 +1,4 @@
-use Rattle.ld_explain.proofs.Names.{◌+◌, ◌<◌, ◌∙◌, ap, arith, if◌then◌else◌, subst, sym}
-use Rattle.ld_trace.specs.Classes.{is_rest}
-use Rattle.ld_trace.specs.Writing.{name_at}
-use Rattle.ld_explain.specs.Inside.Sure.{AreSureNumbers, no_key}
+use Rattle.ld_explain.proofs.Names.{◌+◌, ◌<◌, ◌∙◌, AreSureNumbers, ap, arith, if◌then◌else◌, is_rest, name_at, no_key, subst, sym}
 use Rattle.ld_explain.proofs.SettlingLemmas.{AreSureNumbers-next}
 use Rattle.ld_explain.proofs.settling.single_keys.Goals.{in-Some+in_ok-push, in_default}
 use Rattle.ld_explain.proofs.settling.single_keys.Goals as goal

@@ -1,4 +1,4 @@
-use Rattle.ld_explain.specs.Inside.Sure.{AreSureNumbers}
+use Rattle.ld_explain.proofs.Names.{AreSureNumbers}
 use Rattle.ld_explain.proofs.settling.single_keys.Given as goal
 
 -- the keys so far

@@ -1,6 +1,4 @@
-use Rattle.ld_explain.proofs.Names.{◌≡◌, ◌≤◌, take}
-use Rattle.std.specs.Prelude.{count_by, ◌==◌}
-use Rattle.ld_explain.specs.Verdicts.{rank}
+use Rattle.ld_explain.proofs.Names.{◌==◌, ◌≡◌, ◌≤◌, count_by, rank, take}
 use Rattle.ld_explain.proofs.verdict.count_ranked.Given as goal
 
 -- the verdicts so far were counted

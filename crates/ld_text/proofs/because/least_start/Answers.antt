@@ -1,5 +1,4 @@
-use Rattle.ld_text.proofs.Names.{◌+◌, ◌<◌, ◌∙◌, ◌≡◌, Arrow, IsFirstBest, IsFirstBest-keeps, IsFirstBest-none, IsFirstBest-takes, ap, arith, arrow, get_or_from_slice_get, length, starts_before, subst, sym}
-use Rattle.std.specs.Ordering.{is_lt}
+use Rattle.ld_text.proofs.Names.{◌+◌, ◌<◌, ◌∙◌, ◌≡◌, Arrow, IsFirstBest, IsFirstBest-keeps, IsFirstBest-none, IsFirstBest-takes, ap, arith, arrow, get_or_from_slice_get, is_lt, length, starts_before, subst, sym}
 use Rattle.ld_text.proofs.BecauseLemmas.{starts_before_ranks}
 use Rattle.ld_text.proofs.because.least_start.Goals as goal
 use Rattle.ld_text.proofs.because.least_start.Goals.{then-is_lt, else-is_lt}

@@ -1,6 +1,4 @@
-use Rattle.ld_text.proofs.Names.{[], ◌++◌, ◌<◌, ◌∙◌, Appends, Appends-trans, AppendsBeginning, ChainParts, GoesOn, List, None, Ok, Option, PutsBehind, Result, Some, ap, append-nil, arith, length, on_err_weaker, on_ok_weaker, subst, sym, ℕ}
-use Rattle.ld_task.specs.declared.fault.StepFault.{StepFault}
-use Rattle.ld_text.specs.ChainLines.{chain_line}
+use Rattle.ld_text.proofs.Names.{[], ◌++◌, ◌<◌, ◌∙◌, Appends, Appends-trans, AppendsBeginning, ChainParts, GoesOn, List, None, Ok, Option, PutsBehind, Result, Some, StepFault, ap, append-nil, arith, chain_line, length, on_err_weaker, on_ok_weaker, subst, sym, ℕ}
 use Rattle.ld_text.proofs.OutputLemmas.{AppendsBeginning-page, OnErr-anyway, PutsBehind-nothing}
 use Rattle.ld_text.proofs.ChainLemmas.{PutsLines-next, PutsLines-stopped, event-none, lines_before-all, lines_before-none}
 use Rattle.ld_text.proofs.chains_text.write_chains.Goals.{in-Some-chain+in_ok-put, in_default-chain}

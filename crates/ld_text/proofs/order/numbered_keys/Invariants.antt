@@ -1,5 +1,4 @@
-use Rattle.ld_text.proofs.Names.{◌≡◌}
-use Rattle.ld_text.specs.Order.{numbers_below}
+use Rattle.ld_text.proofs.Names.{◌≡◌, numbers_below}
 use Rattle.ld_text.proofs.order.numbered_keys.Given as goal
 
 -- the numbers so far

@@ -1,6 +1,5 @@
-use Rattle.ld_text.proofs.Names.{IsPermutation, List, name_at, name_cmp, ranks_by, rules, subst, ℕ}
+use Rattle.ld_text.proofs.Names.{IsPermutation, List, always_returns_same, name_at, name_cmp, ranks_by, rules, subst, ℕ}
 use Rattle.std.proofs.Common.{is_lt}
-use Rattle.std.proofs.lemmas.Fn.{always_returns_same}
 use Rattle.ld_text.proofs.OrderLemmas.{name_cmp_total}
 use Rattle.ld_text.proofs.order.sorted_keys.Goals as goal
 

@@ -1,5 +1,4 @@
-use Rattle.ld_text.proofs.Names.{Appends, List, PutsBehind, on_err_weaker, on_ok_weaker, subst, sym, ℕ}
-use Rattle.arrayvec.specs.ArrayString.{ArrayString}
+use Rattle.ld_text.proofs.Names.{Appends, ArrayString, List, PutsBehind, on_err_weaker, on_ok_weaker, subst, sym, ℕ}
 use Rattle.ld_text.proofs.OutputLemmas.{PutsBehind-written, AppendsBeginning-after}
 use Rattle.ld_text.proofs.output.put.Given.{Over}
 use Rattle.ld_text.proofs.output.put.Goals as goal

@@ -1,14 +1,8 @@
-use Rattle.lockdep.proofs.Names.{Appends, HasFact, IfErr, IfErr-weaker, IfOk-weaker, IsCondensedOf, IsCondensedText, IsReport-same, IsTextOf, List, OnOk, StopsSettled, TracesHave, ap, condensed, explanation, json, length, map, picture, report, subst, sum_by, sym, view_of, ℕ}
-use Rattle.ld_text.specs.Explanation.{Sources, sources_of}
-use Rattle.ld_text.specs.Findings.{SaysFindings}
-use Rattle.ld_text.specs.Picture.{IsPicture}
-use Rattle.ld_text.specs.Report.{IsReport}
+use Rattle.lockdep.proofs.Names.{Appends, HasFact, IfErr, IfErr-weaker, IfOk-weaker, IsCondensedOf, IsCondensedText, IsPicture, IsPicture-same, IsReport, IsReport-same, IsTextOf, List, OnOk, SaysFindings, SaysFindings-same, Sources, StopsSettled, TracesHave, ap, condensed, explanation, json, length, map, picture, report, sources_of, subst, sum_by, sym, view_of, ℕ}
 use Rattle.ld_text.specs.declared.findings.Format.TheVariants as format
 use Rattle.lockdep.specs.declared.output.Output.{Output}
 use Rattle.lockdep.proofs.CondensedLemmas.{IsCondensedText-same}
-use Rattle.ld_text.specs.Laws.Findings.{SaysFindings-same}
 use Rattle.lockdep.proofs.FaultLemmas.{StopsSettled-same, written-err, written-ok}
-use Rattle.ld_text.specs.Laws.Picture.{IsPicture-same}
 use Rattle.lockdep.proofs.output.write_output.Goals as goal
 
 pub returns-in-Report-clause-ok : goal.returns-in-Report-clause-ok

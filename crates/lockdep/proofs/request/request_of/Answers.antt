@@ -1,6 +1,4 @@
-use Rattle.lockdep.proofs.Names.{◌≡◌, asked_by, subst, sym}
-use Rattle.lockdep.specs.Inside.Requests.{asked_of}
-use Rattle.ld_words.specs.declared.words.Line.{Line}
+use Rattle.lockdep.proofs.Names.{◌≡◌, Line, asked_by, asked_of, subst, sym}
 use Rattle.lockdep.proofs.request.request_of.Goals as goal
 
 pub returns-in-Check : goal.returns-in-Check

@@ -1,8 +1,6 @@
-use Rattle.std.specs.Prelude.{Err}
-use Rattle.std.proofs.Common.{ap, arith, length}
-use Rattle.std.proofs.KnownBytes.{Keeps-refl}
-use Rattle.ld_trace.specs.declared.level.Level.TheVariants.{Types}
-use Rattle.lockdep.proofs.TypeLemmas.{level-few, stops-parting}
+use Rattle.lockdep.proofs.Names.{Err, Keeps-refl, Types, ap, arith, length}
+use Rattle.ld_explain.specs.Laws.Settling.{names_at-few}
+use Rattle.lockdep.proofs.TypeLemmas.{stops-parting}
 use Rattle.lockdep.proofs.verdicts.types_of.Goals as goal
 
 pub returns-in-Err-clause-refused : goal.returns-in-Err-clause-refused
@@ -14,6 +12,6 @@ returns-in-Err-of-clause-refused g c = λ known format files.
     let run = c.in-Ok.ensures.ok in (
       rw c.fault_of_parting.ensures
           (stops-parting c.args.traces.now c.args.keys.now.names c.args.workers c.in-Err-of.fault run.crew run.few run.well_formed
-          (λ is. omega (arith, c.in-Err-of.ensures.tangled (ap Err is), c.in-Ok.ensures.keys, ap length c.in-Ok.ensures.names, level-few Types c.args.keys.now.names))),
+          (λ is. omega (arith, c.in-Err-of.ensures.tangled (ap Err is), c.in-Ok.ensures.keys, ap length c.in-Ok.ensures.names, names_at-few Types c.args.keys.now.names))),
       Keeps-refl known,
     )

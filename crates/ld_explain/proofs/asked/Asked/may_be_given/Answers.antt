@@ -1,5 +1,4 @@
-use Rattle.ld_explain.proofs.Names.{◌∙◌, ◌≡◌, ChainHas, ChainParts, Dependency, Fact, Frame, Lock, Marked, None, Some, ap, chain_fact, fact_by, inl, inr, key_by, key_mode_and_frame, last_key, refl, same_Some, sym, ℕ}
-use Rattle.ld_facts.specs.Laws.Chains.{chain_fact-sound}
+use Rattle.ld_explain.proofs.Names.{◌∙◌, ◌≡◌, ChainHas, ChainParts, Dependency, Fact, Frame, Lock, Marked, None, Some, ap, chain_fact, chain_fact-sound, fact_by, inl, inr, key_by, key_mode_and_frame, last_key, refl, same_Some, sym, ℕ}
 use Rattle.ld_explain.proofs.Slots.{named_there}
 use Rattle.ld_explain.proofs.asked.Asked.may_be_given.Goals as goal
 

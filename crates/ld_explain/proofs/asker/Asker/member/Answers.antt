@@ -1,15 +1,19 @@
-use Rattle.ld_explain.proofs.Names.{◌∙◌, Contains, arith, arrow_by, members_of, slice_index, subst, sym, true≢false}
-use Rattle.ld_explain.proofs.Asking.{all-each, all-more}
+use Rattle.ld_explain.proofs.Names.{◌∙◌, IsLoneMember, ap, arith, cases_lt, inl, inr, refl, subst}
 use Rattle.ld_explain.proofs.asker.Asker.member.Goals as goal
 
-pub loop-e-preserved : goal.loop-e-preserved
-loop-e-preserved c =
-    let type = slice_index c.args.self.type_of.now in
-    all-more (λ e. ¬ Contains (members_of c.args.walk.now) (arrow_by type e)) c.args.circles.now c.loop-e.e-index c.e-item.result c.e-item.is
-    c.loop-e-test.true c.loop-e.invariant (λ has. true≢false (sym (c.has_member.ensures.1
-    (rw (c.type_of-from.ensures, c.type_of-to.ensures, c.get.ensures.value, c.get-in-loop-e.ensures.value)
-    (subst (λ d. Contains (members_of c.args.walk.now) (arrow_by type d)) (sym c.e.view_is) has))) ∙ c.if-has_member.false))
+pub returns-then-is_clean-clause-none : goal.returns-then-is_clean-clause-none
+returns-then-is_clean-clause-none c none from to kind (has, on, member) = (c.is_clean.ensures.0 c.if-is_clean.true).circles _ on
+
+pub loop-from-init : goal.loop-from-init
+loop-from-init c from to kind before = absurd (omega (arith, before))
+
+pub loop-from-preserved : goal.loop-from-preserved
+loop-from-preserved c from to kind before is = elim (cases_lt from c.loop-from.from) [
+  | inl already ↦ c.loop-from.invariant from to kind already is
+  | inr later ↦ c.in_default.ensures.none refl to kind
+      (subst (λ k. IsLoneMember c.args.self c.args.walk.now k to kind) (omega (arith, before, later)) is)
+]
 
 pub returns-clause-none : goal.returns-clause-none
-returns-clause-none c none = all-each (λ e. ¬ Contains (members_of c.args.walk.now) (arrow_by (slice_index c.args.self.type_of.now) e)) c.args.circles.now
-    c.loop-e.e-index (omega (arith, c.loop-e-test.false)) c.loop-e.invariant
+returns-clause-none c none from to kind (has, on, member) = c.loop-from.invariant from to kind
+    (omega (arith, has.0.0, c.loop-from-test.false, c.keys-keys.ensures.value ∙ ap (λ f. f.keys) c.facts.ensures)) (has, on, member)

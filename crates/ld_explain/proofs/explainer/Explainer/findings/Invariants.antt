@@ -1,5 +1,4 @@
-use Rattle.ld_explain.proofs.Names.{Explains, take, view_of}
-use Rattle.ld_explain.specs.Findings.{Are}
+use Rattle.ld_explain.proofs.Names.{Are, Explains, take, view_of}
 use Rattle.ld_explain.proofs.explainer.Explainer.findings.Given as goal
 
 -- the findings of the choices so far

@@ -1,5 +1,4 @@
-use Rattle.ld_explain.proofs.Names.{◌++◌, ◌≡◌, SaysSeen, Verdict, into_iter_items, length, map, take, view_of}
-use Rattle.ld_explain.specs.Findings.{Are}
+use Rattle.ld_explain.proofs.Names.{◌++◌, ◌≡◌, Are, SaysSeen, Verdict, into_iter_items, length, map, take, view_of}
 use Rattle.ld_explain.proofs.explainer.Explainer.verdicts.Given as goal
 
 -- the verdicts are those of the findings so far

@@ -1,13 +1,9 @@
-use Rattle.ld_explain.proofs.Names.{AreCircles, HasFact, IfSome, IsNestedChoice, IsNone, IsTrue, is_some, refl, slice_index, subst, sym}
+use Rattle.ld_explain.proofs.Names.{HasFact, IfSome, IsNestedChoice, IsNone, IsTrue, is_some, refl, slice_index, subst, sym}
 use Rattle.ld_explain.proofs.Seeing.{nested-by, seen-by}
 use Rattle.ld_explain.proofs.questions.Questions.seen.Goals as goal
 
-pub choice-requires : goal.choice-requires
-choice-requires c = rw c.as_slice.ensures.value
-    (subst (λ o. IfSome o (λ facts. AreCircles facts.now facts.now (λ k. k) c.args.self.now.sure.items)) c.in-Some.is c.requires.sure)
-
-pub seen_unsurely-requires-clause-unseen : goal.seen_unsurely-requires-clause-unseen
-seen_unsurely-requires-clause-unseen c =
+pub seen_unsurely-requires : goal.seen_unsurely-requires
+seen_unsurely-requires c =
     let q = c.args.self.now in (
       subst (λ o. IsTrue (is_some o)) (sym c.in-Some.is) refl,
       (λ seen. c.in_ok-choice.ensures.none (subst (λ o. IsNone o) (sym c.in-None.is) refl) ((seen-by q.keys.now (slice_index q.levels.type_of.now) (λ k. k)

@@ -1,15 +1,6 @@
-use Rattle.ld_explain.proofs.Names.{AreCircles, IfSome, IsTrue, Renamed, is_some, refl, slice_index, subst, sym}
+use Rattle.ld_explain.proofs.Names.{IsTrue, Renamed, is_some, refl, slice_index, subst, sym}
 use Rattle.ld_explain.proofs.Seeing.{case-seen, seen-by}
 use Rattle.ld_explain.proofs.questions.Questions.seen_above.Goals as goal
-
-pub case-requires : goal.case-requires
-case-requires c =
-    let q = c.args.self.now in
-    let name = slice_index q.levels.class_of.now in
-    rw c.as_slice.ensures.value
-    (subst (λ o. IfSome o (λ classes. AreCircles c.in-Some.locks.now classes.now name q.classes.items)) c.in-Some-classes.is
-    (subst (λ o. IfSome o (λ locks. IfSome q.levels.classes (λ classes. AreCircles locks.now classes.now name q.classes.items))) c.in-Some.is
-    c.requires.asks.classes))
 
 pub returns-in-Some-case : goal.returns-in-Some-case
 returns-in-Some-case c =

@@ -1,10 +1,6 @@
-use Rattle.ld_explain.proofs.Names.{AreCircles, HasFact, IfSome, IsNestedChoice, IsNone, IsTrue, is_some, refl, slice_index, subst, sym}
+use Rattle.ld_explain.proofs.Names.{HasFact, IfSome, IsNestedChoice, IsNone, IsTrue, is_some, refl, slice_index, subst, sym}
 use Rattle.ld_explain.proofs.Seeing.{nested-by, seen-by}
 use Rattle.ld_explain.proofs.questions.Questions.seen_unsurely.Goals as goal
-
-pub choice-requires : goal.choice-requires
-choice-requires c = rw c.as_slice.ensures.value
-    (subst (λ o. IfSome o (λ facts. AreCircles facts.now facts.now (λ k. k) c.args.self.now.locks.items)) c.in-Some.is c.requires.asks.locks)
 
 pub seen_above-requires-clause-locks : goal.seen_above-requires-clause-locks
 seen_above-requires-clause-locks c =
@@ -18,7 +14,7 @@ pub returns-in-Some-2 : goal.returns-in-Some-2
 returns-in-Some-2 c =
     let q = c.args.self.now in
     let type = slice_index q.levels.type_of.now in (
-      c.requires.unseen,
+      c.requires,
       nested-by q.keys.now type c.args.finding.now c.in-Some-2.choice q.levels.locks c.in-Some.locks c.in-Some.is
           (subst (λ o. IfSome o (IsNestedChoice (HasFact c.in-Some.locks.now) q.keys.now type c.args.finding.now)) c.in-Some-2.is c.in_ok-choice.ensures.some),
     )

@@ -1,11 +1,6 @@
-use Rattle.ld_explain.proofs.Names.{Contains, Some, ◌<◌, ◌∙◌, HasFact, IfOk-weaker, IsNone, TracesHave, ap, arith, inl, inr, length, slice_index, subst, sym}
-use Rattle.ld_facts.specs.Facts.{AreSame}
-use Rattle.ld_facts.specs.Renaming.{TracesHaveBy}
-use Rattle.ld_trace.specs.declared.key_id.TheConstants.{GRAPH_KEYS}
-use Rattle.ld_explain.specs.Inside.Sure.{AreSureNumbers, no_key}
-use Rattle.ld_trace.specs.Classes.{numbers_at}
-use Rattle.ld_trace.specs.declared.level.Level.TheVariants.{Classes}
-use Rattle.ld_explain.proofs.SettlingLemmas.{IfSome-weaker, chosen, facts-by, names_at-few, not-chosen, open-facts, sure-of_all, sure-of_traces}
+use Rattle.ld_explain.proofs.Names.{◌<◌, ◌∙◌, AreSame, AreSureNumbers, Classes, Contains, GRAPH_KEYS, HasFact, IfOk-weaker, IsNone, Some, TracesHave, TracesHaveBy, ap, arith, inl, inr, length, no_key, numbers_at, slice_index, subst, sym}
+use Rattle.ld_explain.proofs.SettlingLemmas.{IfSome-weaker, chosen, facts-by, not-chosen, open-facts, sure-of_all, sure-of_traces}
+use Rattle.ld_explain.specs.Laws.Settling.{names_at-few}
 use Rattle.ld_explain.proofs.settling.SettledLevels.of.Goals as goal
 
 pub returns : goal.returns

@@ -1,6 +1,4 @@
-use Rattle.ld_explain.proofs.Names.{◌∙◌, ap, inl}
-use Rattle.ld_trace.specs.Classes.{numbers_at}
-use Rattle.ld_trace.specs.declared.level.Level.TheVariants.{Classes}
+use Rattle.ld_explain.proofs.Names.{◌∙◌, Classes, ap, inl, numbers_at}
 use Rattle.ld_explain.proofs.settling.SettledLevels.of_clean_types.Goals as goal
 
 pub returns : goal.returns

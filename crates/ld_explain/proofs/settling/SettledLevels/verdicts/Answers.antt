@@ -1,5 +1,4 @@
-use Rattle.ld_explain.proofs.Names.{TracesHave}
-use Rattle.ld_explain.specs.Settling.{IsSure}
+use Rattle.ld_explain.proofs.Names.{IsSure, TracesHave}
 use Rattle.ld_explain.proofs.SettlingLemmas.{borrowed-has}
 use Rattle.ld_explain.proofs.settling.SettledLevels.verdicts.Goals as goal
 

@@ -1,5 +1,4 @@
-use Rattle.ld_text.proofs.Names.{[], HasFact, append-nil, because_line, inl, inr, on_ok_weaker, refl, subst, sym}
-use Rattle.ld_graph.specs.Walks.{IsShortestCircle}
+use Rattle.ld_text.proofs.Names.{[], HasFact, IsShortestCircle, append-nil, because_line, inl, inr, on_ok_weaker, refl, subst, sym}
 use Rattle.ld_text.proofs.report.ReportView.add_because.Goals as goal
 
 pub returns-in-Some : goal.returns-in-Some

@@ -1,5 +1,4 @@
-use Rattle.ld_text.proofs.Names.{◌++◌, ◌≡◌, flat_map, string_bytes, take}
-use Rattle.ld_text.specs.Verdicts.{ranked, verdict_block}
+use Rattle.ld_text.proofs.Names.{◌++◌, ◌≡◌, flat_map, ranked, string_bytes, take, verdict_block}
 use Rattle.ld_text.proofs.verdicts.VerdictWording.add_rank.Given as goal
 
 -- the verdicts so far

@@ -1,5 +1,4 @@
-use Rattle.ld_text.proofs.Names.{◌++◌, ◌≡◌, flat_map, take}
-use Rattle.ld_text.specs.Verdicts.{ranked, verdict_line}
+use Rattle.ld_text.proofs.Names.{◌++◌, ◌≡◌, flat_map, ranked, take, verdict_line}
 use Rattle.ld_text.proofs.verdicts.VerdictWording.add_rank_objects.Given as goal
 
 -- the lines so far

@@ -1,7 +1,5 @@
-use Rattle.ld_text.proofs.Names.{◌++◌, ◌∙◌, ◌≡◌, List, ap, append_assoc, codes, drop, ℕ}
-use Rattle.json.specs.Print.{print}
-use Rattle.ld_text.specs.Json.{object}
-use Rattle.ld_text.specs.Verdicts.{count_members, in_order, verdict_json, verdict_line}
+use Rattle.ld_text.proofs.Names.{◌++◌, ◌∙◌, ◌≡◌, List, ap, append_assoc, codes, count_members, drop, in_order, object, print, verdict_line, ℕ}
+use Rattle.ld_text.specs.Verdicts.{verdict_json}
 use Rattle.ld_text.proofs.verdicts.VerdictWording.json.Goals as goal
 
 -- five texts, one after the other

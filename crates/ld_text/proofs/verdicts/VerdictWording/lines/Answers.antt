@@ -1,5 +1,5 @@
-use Rattle.ld_text.proofs.Names.{◌++◌, ◌-◌, ◌∙◌, ap, codes, length, total_line}
-use Rattle.ld_text.specs.Verdicts.{in_order, verdict_block, verdict_lines}
+use Rattle.ld_text.proofs.Names.{◌++◌, ◌-◌, ◌∙◌, ap, codes, in_order, length, total_line, verdict_block}
+use Rattle.ld_text.specs.Verdicts.{verdict_lines}
 use Rattle.ld_text.proofs.verdicts.VerdictWording.lines.Goals as goal
 
 pub returns : goal.returns

@@ -1,5 +1,4 @@
-use Rattle.ld_text.proofs.Names.{Adds, flat_map, take}
-use Rattle.ld_text.specs.Verdicts.{dependency_object}
+use Rattle.ld_text.proofs.Names.{Adds, dependency_object, flat_map, take}
 use Rattle.ld_text.proofs.wording.Wording.write_each_guarded.Given as goal
 
 -- the dependencies so far

@@ -1,5 +1,4 @@
-use Rattle.ld_text.proofs.Names.{Adds, flat_map, take}
-use Rattle.ld_text.specs.Verdicts.{gate_object}
+use Rattle.ld_text.proofs.Names.{Adds, flat_map, gate_object, take}
 use Rattle.ld_text.proofs.wording.Wording.write_gate_objects.Given as goal
 
 -- the gates so far

@@ -1,6 +1,4 @@
-use Rattle.lockdep.proofs.Names.{◌↔◌, All, Appends, HasFact, IfErr, IfOk-from_err, IsTextOf, IsTrue, IsWellFormed, List, StopsText, TracesHave, clean_is-same, subst, view_of, ℕ}
-use Rattle.ld_graph.specs.Links.{IsClean}
-use Rattle.lockdep.specs.Sessions.{SessionParts}
+use Rattle.lockdep.proofs.Names.{◌↔◌, All, Appends, HasFact, IfErr, IfOk-from_err, IsClean, IsTextOf, IsTrue, IsWellFormed, List, SessionParts, StopsText, TracesHave, clean_is-same, subst, view_of, ℕ}
 use Rattle.lockdep.proofs.FaultLemmas.{StopsText-settled, bad_workers_is, too_many_is}
 use Rattle.lockdep.proofs.ProgramLemmas.{IfErr-passed}
 use Rattle.lockdep.proofs.session.Session.write.Goals as goal
