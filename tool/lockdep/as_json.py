@@ -4,6 +4,7 @@ from __future__ import annotations
 
 import json
 
+from .apart import threads_apart
 from .blocked import Blocked
 from .breaches import Breach
 from .findings import Event, Finding
@@ -72,6 +73,9 @@ def finding_json(finding: Finding, found: Found) -> dict:
     said["verdict"] = (found.remarks(finding) or [""])[-1]
     said["remarks"] = found.remarks(finding)
     said["locks"] = locks_of(finding, found)
+    apart = threads_apart(finding, found.recorded)
+    if apart:
+        said["threads_apart"] = list(apart)
     return said
 
 

@@ -5,6 +5,7 @@ import os
 import re
 from typing import Iterable
 
+from .apart import apart_words
 from .files import contents
 from .findings import Finding, Gate, Kind
 from .words import bytes_of, class_of_lock, name_in, plain_key, stands_for_several, text_of, type_of_class
@@ -213,6 +214,10 @@ def notes_of(finding: Finding, recorded: Recorded) -> list[str]:
 
 
 def remarks_of(finding: Finding, recorded: Recorded) -> list[str]:
-    """What else is said about a finding: the notes, which may speak against it, and what it was seen between."""
-    seen = verdict_of(finding, recorded)
-    return ["what may speak against it: " + note for note in notes_of(finding, recorded)] + ([seen] if seen else [])
+    """What else is said about a finding: the notes, which may speak against it, and what was seen of it."""
+    return ["what may speak against it: " + note for note in notes_of(finding, recorded)] + said_of(finding, recorded)
+
+
+def said_of(finding: Finding, recorded: Recorded) -> list[str]:
+    """What was seen of a finding: which of its threads never ran at the same time, and then the verdict."""
+    return [words for words in (apart_words(finding, recorded), verdict_of(finding, recorded)) if words]

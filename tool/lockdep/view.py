@@ -24,6 +24,7 @@ ORDER = ("json", "sarif", "junit", "page")  # in which forms are made
 
 # What `confirm` says about a finding, and a note, to which it may have added what was seen between single locks.
 SEEN_LINE = re.compile("  ((perhaps seen|seen|not known) .+)")
+APART_LINE = re.compile(r"  (\S+ and \S+ never ran at the same time .+)")
 NOTE_LINE = re.compile("  note: (.+)")
 
 
@@ -101,7 +102,8 @@ def confirmed_remarks(finding: Finding, block: list[str]) -> list[str]:
     said = [match.group(1) for match in map(NOTE_LINE.fullmatch, block) if match]
     is_same = len(said) == len(finding.notes) and all(map(str.startswith, said, finding.notes))
     seen = [match.group(1) for match in map(SEEN_LINE.fullmatch, block) if match]
-    return ["what may speak against it: " + note for note in (said if is_same and seen else finding.notes)] + seen[-1:]
+    apart = [match.group(1) for match in map(APART_LINE.fullmatch, block) if match]
+    return ["what may speak against it: " + note for note in (said if is_same and seen else finding.notes)] + apart[-1:] + seen[-1:]
 
 
 def take_confirmed(found: Found, blocks: list[list[str]]) -> None:
