@@ -1,26 +1,25 @@
 """The runs by which `lockdep provoke` tries one finding after the other, and what is said of them."""
 from __future__ import annotations
 
-import json
 import os
 import sys
 from dataclasses import replace
 
 from .findings import Finding
-from .folder import OF_PROVOKE, PROVOKED, Folder
+from .folder import OF_PROVOKE, Folder
+from .happened import Happened, Stood, entry_of, read_provoked, write_provoked
 from .options import Words
 from .provoke_plan import PlannedOrder, is_cycle_of, orders_at, plan_of, statics_in
 from .provoke_run import Outcome, Run, Standing, adopt_orphans
 from .provoke_table import Table
 from .saying import write_error
-from .symbols import Address, Frame, Symbols, without_wrappers
-from .words import class_of_lock, name_in, plain_key, visible
+from .symbols import Address
+from .words import class_of_lock, name_in, plain_key
 
 HAPPENED, NOT_HAPPENED, NOTHING_TRIED = 1, 0, 2
 DEFAULT_RUNS = "10"
 LIBRARY = "provoke.so"
 OF_THE_SYSTEM = ("libc.so", "libpthread.so", "ld-linux")  # modules whose functions begin each thread
-DEEPEST = 6  # callers of a thread that are shown
 
 
 def say(text: str) -> None:
@@ -58,9 +57,9 @@ class Tries:
                 self.findings[number], self.plans[number] = finding, plan
             else:
                 say("finding %d isn't tried: the recording has no places of its orders" % number)
-        self.happened = earlier(os.path.join(self.recording, PROVOKED))
+        self.happened = read_provoked(self.recording)
         os.makedirs(self.room, exist_ok=True)
-        self.write_happened()
+        write_provoked(self.recording, self.happened)
         folder = Folder(self.recording)
         folder.lock()
         folder.list_made()
@@ -114,35 +113,20 @@ class Tries:
             return found == 0
         say("run %d: %s: the program stands still" % (
             count, "finding %d happened" % found if found else "a cycle that is none of these findings happened"))
-        lines = thread_lines(standing, self.plans[found] if found else [])
-        sys.stdout.write("".join(line + "\n" for line in ([self.findings[found].head] if found else []) + lines))
+        happened = Happened(count, [stood(thread, self.plans[found] if found else []) for thread in standing])
+        sys.stdout.write("".join(line + "\n" for line in ([self.findings[found].head] if found else []) + happened.lines()))
         sys.stdout.flush()
         if self.is_kept:
             say("process %d is left standing: `gdb -p %d` looks at it, and `kill %d` ends it" % ((outcome.process,) * 3))
-        self.keep(found, count, standing)
+        self.keep(found, happened)
         return found in (0, number) or self.is_kept
 
-    def keep(self, found: int, count: int, standing: list[Standing]) -> None:
+    def keep(self, found: int, happened: Happened) -> None:
         """Writes down what happened, in the place of what an earlier call had of the same finding."""
-        lines = self.findings[found].lines if found else []
+        said = entry_of(found, self.findings.get(found), happened)
         self.numbers.add(found)
-        self.happened = [said for said in self.happened if not lines or said.get("lines") != lines]
-        self.happened.append({"finding": found, "lines": lines, "run": count, "threads": [
-            {"name": thread.name, "holds": words_of_places(thread.holds), "waits": words_of_places(thread.waits)} for thread in standing]})
-        self.write_happened()
-
-    def write_happened(self) -> None:
-        with open(os.path.join(self.recording, PROVOKED), "w", encoding="utf-8", errors="surrogateescape") as file:
-            json.dump({"lockdep": 1, "provoked": self.happened}, file, indent=1)
-
-
-def earlier(path: str) -> list[dict]:
-    """What earlier calls made happen in the same recording; nothing if that can't be read."""
-    try:
-        with open(path, encoding="utf-8", errors="surrogateescape") as file:
-            return [said for said in json.load(file)["provoked"] if isinstance(said, dict)]
-    except (OSError, ValueError, KeyError, TypeError):
-        return []
+        self.happened = [other for other in self.happened if not said["lines"] or other.get("lines") != said["lines"]] + [said]
+        write_provoked(self.recording, self.happened)
 
 
 def why_not(table: Table, orders: int) -> str:
@@ -160,20 +144,9 @@ def why_not(table: Table, orders: int) -> str:
 # ---- What a person reads.
 
 
-def thread_lines(standing: list[Standing], plan: list[PlannedOrder]) -> list[str]:
-    """Each thread with what it holds and waits for, and where."""
-    symbols = Symbols()
-    for thread in standing:
-        for module, offset in shown_places(thread.waits) + shown_places(thread.holds):
-            symbols.want(Address(module, offset))
-    symbols.ask()
-    lines = []
-    for thread in standing:
-        name = ' "%s"' % visible(thread.name) if thread.name else ""
-        lines.append("  thread %d%s %s" % (thread.number, name, locks_of(thread, plan)))
-        lines += ["      waits  " + words for words in frames_of(symbols, thread.waits)]
-        lines += ["      took   " + words for words in frames_of(symbols, thread.holds)]
-    return lines
+def stood(thread: Standing, plan: list[PlannedOrder]) -> Stood:
+    """A thread that stands still, as it is told."""
+    return Stood(thread.number, thread.name, locks_of(thread, plan), shown_places(thread.waits), shown_places(thread.holds))
 
 
 def locks_of(thread: Standing, plan: list[PlannedOrder]) -> str:
@@ -193,18 +166,6 @@ def classes_of(planned: PlannedOrder) -> tuple[str, str]:
     return start, end
 
 
-def shown_places(places: list[tuple[str, int]]) -> list[tuple[str, int]]:
+def shown_places(places: list[tuple[str, int]]) -> tuple[Address, ...]:
     """Without those of this tool and of the C library."""
-    return [place for place in places if not os.path.basename(place[0]).startswith((LIBRARY,) + OF_THE_SYSTEM)]
-
-
-def frames_of(symbols: Symbols, places: list[tuple[str, int]]) -> list[str]:
-    """The callers in words, innermost first."""
-    frames: list[Frame] = []
-    for module, offset in shown_places(places):
-        frames += symbols.frames(Address(module, offset))
-    return [frame.words for frame in without_wrappers(frames)][:DEEPEST]
-
-
-def words_of_places(places: list[tuple[str, int]]) -> list[str]:
-    return ["%s+0x%x" % place for place in shown_places(places)]
+    return tuple(Address(*place) for place in places if not os.path.basename(place[0]).startswith((LIBRARY,) + OF_THE_SYSTEM))

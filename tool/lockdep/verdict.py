@@ -147,10 +147,10 @@ def is_kept_apart(inner: Finding) -> bool:
 def by_importance(findings: list[Finding]) -> list[Finding]:
     """What to look at first comes first: what happened, and of what was seen between single locks that which nothing kept apart, and of
     cycles the shortest."""
-    def rank(finding: Finding) -> tuple[bool, int, bool, bool, int]:
+    def rank(finding: Finding) -> tuple[int, bool, bool, int]:
         inner = finding.between.finding if finding.between else None
         is_other = inner is None or inner.type != "circle"
-        return (not finding.happened, list(Kind).index(finding.kind) if finding.kind else 0, bool(inner) and is_kept_apart(inner), is_other,
+        return (list(Kind).index(finding.kind or Kind.UNKNOWN), bool(inner) and is_kept_apart(inner), is_other,
                 0 if is_other else len(inner.orders))
     return sorted(findings, key=rank)
 
@@ -164,7 +164,7 @@ def unknown_words(reason: str) -> str:
 
 def verdict_of(finding: Finding, recorded: Recorded) -> str:
     """What was seen of a finding, first of all that it happened; empty if nothing was asked."""
-    words = [HAPPENED % finding.happened] if finding.happened else []
+    words = [HAPPENED % finding.happened.run] if finding.happened else []
     seen = words_seen(finding, recorded)
     return "; ".join(words + ([seen] if seen else []))
 
