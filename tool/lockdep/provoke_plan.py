@@ -11,7 +11,6 @@ from .files import contents
 from .findings import Finding, Order
 from .places import Places, classes_in
 from .provoke_run import Standing
-from .provoke_table import MOST_ORDERS
 from .symbols import Address
 from .verdict import type_of_key
 from .words import name_in, text_of
@@ -53,7 +52,7 @@ def plan_of(finding: Finding, traces: list[str], statics: dict[str, tuple[str, i
     record of an order, of which a finding names one."""
     inner = finding.between.finding if finding.between else None
     plan = [PlannedOrder(order, inner is None, statics.get(name_in(order.start)), statics.get(name_in(order.end)))
-            for order in (inner or finding).orders[:MOST_ORDERS]]
+            for order in (inner or finding).orders]
     for trace in traces:
         take_places(plan, contents(trace) or b"", Places(trace))
     return plan

@@ -11,7 +11,7 @@ from .happened import Happened, Stood, entry_of, read_provoked, write_provoked
 from .options import Words
 from .provoke_plan import PlannedOrder, is_cycle_of, orders_at, plan_of, statics_in
 from .provoke_run import Outcome, Run, Standing, adopt_orphans
-from .provoke_table import Table
+from .provoke_table import MOST_ORDERS, Counts, Table
 from .saying import write_error
 from .symbols import Address
 from .words import class_of_lock, name_in, plain_key
@@ -55,6 +55,8 @@ class Tries:
             plan = plan_of(finding, traces, statics)
             if all(planned.holds and planned.wants for planned in plan):
                 self.findings[number], self.plans[number] = finding, plan
+                if len(plan) > MOST_ORDERS:
+                    say("finding %d has %d orders: threads are held back at the first %d of them" % (number, len(plan), MOST_ORDERS))
             else:
                 say("finding %d isn't tried: the recording has no places of its orders" % number)
         self.happened = read_provoked(self.recording)
@@ -71,7 +73,7 @@ class Tries:
         """Tries one finding, and says what came of it."""
         path = os.path.join(self.room, "plan-%d" % number)
         with open(path, "w", encoding="utf-8", errors="surrogateescape") as file:
-            for place, planned in enumerate(self.plans[number], 1):
+            for place, planned in enumerate(self.plans[number][:MOST_ORDERS], 1):
                 file.write("\n".join(planned.lines(place)) + "\n")
         for count in range(1, self.runs + 1):
             table = Table(os.path.join(self.room, "table-%d-%d" % (number, count)))
@@ -81,7 +83,7 @@ class Tries:
                 return
             if outcome.is_too_long:
                 say("run %d for finding %d took longer than %d seconds, and was ended" % (count, number, self.limit))
-        say("finding %d: not in %d runs: %s" % (number, self.runs, why_not(table, len(self.plans[number]))))
+        say("finding %d: not in %d runs: %s" % (number, self.runs, why_not(table, self.plans[number])))
 
     def run(self, number: int, count: int, plan: str, table: Table) -> Outcome:
         output = os.open(os.path.join(self.room, "output-%d-%d" % (number, count)), os.O_WRONLY | os.O_CREAT | os.O_TRUNC, 0o666)
@@ -129,16 +131,24 @@ class Tries:
         write_provoked(self.recording, self.happened)
 
 
-def why_not(table: Table, orders: int) -> str:
+def counts_of(table: Table, plan: list[PlannedOrder]) -> dict[int, Counts]:
+    """The counts of the orders by their numbers. Several orders of the same places have those of the first of them."""
+    firsts: dict[tuple[str, ...], int] = {}
+    for order, planned in enumerate(plan[:MOST_ORDERS], 1):
+        firsts.setdefault(tuple(planned.lines(0)), order)
+    return {order: table.counts(order - 1) for order in firsts.values()}
+
+
+def why_not(table: Table, plan: list[PlannedOrder]) -> str:
     """Why nothing happened in the last run, by its counts."""
-    counts = [table.counts(order) for order in range(orders)]
-    missed = [order for order, count in enumerate(counts, 1) if not count.reached]
+    counts = counts_of(table, plan)
+    missed = [order for order, count in counts.items() if not count.reached]
     if missed:
         return "no thread came to the second lock of order %d by a wait without an end" % missed[0]
-    alone = [order for order, count in enumerate(counts, 1) if not count.under]
+    alone = [order for order, count in counts.items() if not count.under]
     if alone:
         return "no thread came to the second lock of order %d with the first one held" % alone[0]
-    return "its orders were never under way at once (they were reached %s times)" % " and ".join(str(count.under) for count in counts)
+    return "its orders were never under way at once (they were reached %s times)" % " and ".join(str(count.under) for count in counts.values())
 
 
 # ---- What a person reads.
