@@ -16,6 +16,7 @@ from .verdict import type_of_key
 from .words import name_in, text_of
 
 MOST_PLACES = 64  # of an order, each
+ELF = b"\x7fELF"
 
 Chain = Tuple[Address, ...]  # callers, the innermost first
 
@@ -56,6 +57,30 @@ def plan_of(finding: Finding, traces: list[str], statics: dict[str, tuple[str, i
     for trace in traces:
         take_places(plan, contents(trace) or b"", Places(trace))
     return plan
+
+
+def is_elf(program: str) -> bool:
+    try:
+        with open(program, "rb") as file:
+            return file.read(len(ELF)) == ELF
+    except OSError:
+        return False
+
+
+def foreign_words(folder: str, program: str, traces: list[str], plans: list[list[PlannedOrder]]) -> list[str]:
+    """Why the recording in a folder may not be of this program as it is now. Of a script nothing is known."""
+    said = []
+    recorded = {real_path(module) for trace in traces[:1] for module in Places(trace).modules}
+    if is_elf(program) and real_path(program) not in recorded:
+        said.append("%s isn't among the programs and libraries of the recording in %s; threads are held back in those alone" % (program, folder))
+    made = os.stat(os.path.join(folder, "SUMMARY")).st_mtime
+    planned = {chain[0].module for plan in plans for order in plan for chain in order.holds | order.wants}
+    for module in sorted(planned):
+        if not os.path.exists(module):
+            said.append("%s, which was recorded, isn't there any more" % module)
+        elif os.stat(module).st_mtime > made:
+            said.append("%s has changed since it was recorded, so its places may be others now" % module)
+    return said
 
 
 def take_places(plan: list[PlannedOrder], raw: bytes, places: Places) -> None:

@@ -9,7 +9,8 @@ from .findings import Finding
 from .folder import OF_PROVOKE, Folder
 from .happened import Happened, Stood, entry_of, read_provoked, write_provoked
 from .options import Words
-from .provoke_plan import PlannedOrder, is_cycle_of, orders_at, plan_of, statics_in
+from .processes import find_command
+from .provoke_plan import PlannedOrder, foreign_words, is_cycle_of, orders_at, plan_of, statics_in
 from .provoke_run import Outcome, Run, Standing, adopt_orphans
 from .provoke_table import MOST_ORDERS, Counts, Table
 from .saying import write_error
@@ -59,6 +60,8 @@ class Tries:
                     say("finding %d has %d orders: threads are held back at the first %d of them" % (number, len(plan), MOST_ORDERS))
             else:
                 say("finding %d isn't tried: the recording has no places of its orders" % number)
+        for words in foreign_words(self.recording, find_command(self.command[0])[0] or "", traces, list(self.plans.values())):
+            say(words)
         self.happened = read_provoked(self.recording)
         os.makedirs(self.room, exist_ok=True)
         write_provoked(self.recording, self.happened)
