@@ -10,7 +10,7 @@ _lockdep_options() {
         condense) echo --workers --help ;;
         chains) echo --help ;;
         record) echo -o --recorder --frames --no-wait --version-1 --finish --summary --accept-left-out --help ;;
-        confirm) echo --strict --help ;;
+        confirm) echo --strict --html --sarif --junit --json --help ;;
         where) echo --help ;;
         diff) echo --help ;;
         view) echo -o --sarif --junit --json --known --confirmed --left-out --waiting --help ;;

@@ -11,12 +11,12 @@ from .files import contents
 from .findings import Finding, Order
 from .places import Places, classes_in
 from .provoke_run import Standing
-from .provoke_table import MOST_ORDERS
 from .symbols import Address
 from .verdict import type_of_key
 from .words import name_in, text_of
 
 MOST_PLACES = 64  # of an order, each
+ELF = b"\x7fELF"
 
 Chain = Tuple[Address, ...]  # callers, the innermost first
 
@@ -53,10 +53,34 @@ def plan_of(finding: Finding, traces: list[str], statics: dict[str, tuple[str, i
     record of an order, of which a finding names one."""
     inner = finding.between.finding if finding.between else None
     plan = [PlannedOrder(order, inner is None, statics.get(name_in(order.start)), statics.get(name_in(order.end)))
-            for order in (inner or finding).orders[:MOST_ORDERS]]
+            for order in (inner or finding).orders]
     for trace in traces:
         take_places(plan, contents(trace) or b"", Places(trace))
     return plan
+
+
+def is_elf(program: str) -> bool:
+    try:
+        with open(program, "rb") as file:
+            return file.read(len(ELF)) == ELF
+    except OSError:
+        return False
+
+
+def foreign_words(folder: str, program: str, traces: list[str], plans: list[list[PlannedOrder]]) -> list[str]:
+    """Why the recording in a folder may not be of this program as it is now. Of a script nothing is known."""
+    said = []
+    recorded = {real_path(module) for trace in traces[:1] for module in Places(trace).modules}
+    if is_elf(program) and real_path(program) not in recorded:
+        said.append("%s isn't among the programs and libraries of the recording in %s; threads are held back in those alone" % (program, folder))
+    made = os.stat(os.path.join(folder, "SUMMARY")).st_mtime
+    planned = {chain[0].module for plan in plans for order in plan for chain in order.holds | order.wants}
+    for module in sorted(planned):
+        if not os.path.exists(module):
+            said.append("%s, which was recorded, isn't there any more" % module)
+        elif os.stat(module).st_mtime > made:
+            said.append("%s has changed since it was recorded, so its places may be others now" % module)
+    return said
 
 
 def take_places(plan: list[PlannedOrder], raw: bytes, places: Places) -> None:

@@ -347,7 +347,8 @@ uint32_t held_object(uintptr_t lock); /* as which this thread holds it; 0 if it 
 /* ---- joins.c */
 
 uint32_t traces_so_far(void);
-void note_start(pthread_t thread, uintptr_t run, uint32_t before, struct call call);
+uint32_t begin_start(void);
+void note_start(pthread_t thread, uintptr_t run, uint32_t before, uint32_t life, struct call call);
 void note_trace(struct raw_thread *part, uint32_t number);
 bool is_first_thread(void);
 
