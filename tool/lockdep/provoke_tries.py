@@ -9,16 +9,16 @@ from dataclasses import replace
 from .findings import Finding
 from .folder import OF_PROVOKE, PROVOKED, Folder
 from .options import Words
-from .provoke_plan import PlannedOrder, is_cycle_of, orders_at, plan_of, statics_in
+from .provoke_holders import LIBRARY, Holder
+from .provoke_plan import PlannedOrder, is_cycle_of, known_places, orders_at, plan_of
 from .provoke_run import Outcome, Run, Standing, adopt_orphans
-from .provoke_table import Table
+from .provoke_table import Place, Table
 from .saying import write_error
 from .symbols import Address, Frame, Symbols, without_wrappers
 from .words import class_of_lock, name_in, plain_key, visible
 
 HAPPENED, NOT_HAPPENED, NOTHING_TRIED = 1, 0, 2
 DEFAULT_RUNS = "10"
-LIBRARY = "provoke.so"
 OF_THE_SYSTEM = ("libc.so", "libpthread.so", "ld-linux")  # modules whose functions begin each thread
 DEEPEST = 6  # callers of a thread that are shown
 
@@ -30,8 +30,8 @@ def say(text: str) -> None:
 class Tries:
     """The runs of one command for its findings."""
 
-    def __init__(self, recording: str, line: Words, library: str, limit: float) -> None:
-        self.recording, self.library, self.limit, self.command = recording, library, limit, line.rest
+    def __init__(self, recording: str, line: Words, holder: Holder, limit: float) -> None:
+        self.recording, self.holder, self.limit, self.command = recording, holder, limit, line.rest
         self.runs, self.pause, self.given = int(line.last("--runs", DEFAULT_RUNS)), line.last("--pause"), line.last("--stdin")
         self.beside, self.is_kept = line.last("--while"), line.has("--keep")
         self.room = os.path.join(os.path.realpath(recording), OF_PROVOKE)
@@ -51,9 +51,9 @@ class Tries:
 
     def begin(self, findings: list[tuple[int, Finding]], traces: list[str]) -> None:
         """Makes the plans, and room for what the runs leave."""
-        statics = statics_in(self.recording)
+        known = known_places(self.recording)
         for number, finding in findings:
-            plan = plan_of(finding, traces, statics)
+            plan = plan_of(finding, traces, known)
             if all(planned.holds and planned.wants for planned in plan):
                 self.findings[number], self.plans[number] = finding, plan
             else:
@@ -77,7 +77,7 @@ class Tries:
         for count in range(1, self.runs + 1):
             table = Table(os.path.join(self.room, "table-%d-%d" % (number, count)))
             outcome = self.run(number, count, path, table)
-            os.unlink(table.path)
+            table.remove()
             if outcome.standing and self.take(number, count, outcome):
                 return
             if outcome.is_too_long:
@@ -86,7 +86,7 @@ class Tries:
 
     def run(self, number: int, count: int, plan: str, table: Table) -> Outcome:
         output = os.open(os.path.join(self.room, "output-%d-%d" % (number, count)), os.O_WRONLY | os.O_CREAT | os.O_TRUNC, 0o666)
-        run = Run(self.command, self.library, plan, table, self.pause, self.given, output, self.beside)
+        run = Run(self.command, self.holder, plan, table, self.pause, self.given, output, self.beside)
         os.close(output)
         outcome = Outcome()
         try:
@@ -148,6 +148,9 @@ def earlier(path: str) -> list[dict]:
 def why_not(table: Table, orders: int) -> str:
     """Why nothing happened in the last run, by its counts."""
     counts = [table.counts(order) for order in range(orders)]
+    aside = [order for order, count in enumerate(counts, 1) if count.aside]
+    if aside:
+        return "the second lock of order %d is one of asyncio, whose tasks aren't held back" % aside[0]
     missed = [order for order, count in enumerate(counts, 1) if not count.reached]
     if missed:
         return "no thread came to the second lock of order %d by a wait without an end" % missed[0]
@@ -193,12 +196,12 @@ def classes_of(planned: PlannedOrder) -> tuple[str, str]:
     return start, end
 
 
-def shown_places(places: list[tuple[str, int]]) -> list[tuple[str, int]]:
+def shown_places(places: list[Place]) -> list[Place]:
     """Without those of this tool and of the C library."""
     return [place for place in places if not os.path.basename(place[0]).startswith((LIBRARY,) + OF_THE_SYSTEM)]
 
 
-def frames_of(symbols: Symbols, places: list[tuple[str, int]]) -> list[str]:
+def frames_of(symbols: Symbols, places: list[Place]) -> list[str]:
     """The callers in words, innermost first."""
     frames: list[Frame] = []
     for module, offset in shown_places(places):
@@ -206,5 +209,5 @@ def frames_of(symbols: Symbols, places: list[tuple[str, int]]) -> list[str]:
     return [frame.words for frame in without_wrappers(frames)][:DEEPEST]
 
 
-def words_of_places(places: list[tuple[str, int]]) -> list[str]:
-    return ["%s+0x%x" % place for place in shown_places(places)]
+def words_of_places(places: list[Place]) -> list[str]:
+    return [module if offset is None else "%s+0x%x" % (module, offset) for module, offset in shown_places(places)]
