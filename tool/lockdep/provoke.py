@@ -106,8 +106,7 @@ def chosen_recorder(line: Words) -> Recorder:
 
 def holder_of(recorder: Recorder, home: str) -> Holder:
     if recorder.holder is None:
-        raise Refusal("`provoke` holds back threads at locks of pthreads and of Python's `threading`, and this is a command for the recorder of "
-                      + recorder.language)
+        raise Refusal("`provoke` holds back threads of pthreads, Python and Java, and this is a command for the recorder of " + recorder.language)
     return HOLDERS[recorder.holder](home)
 
 

@@ -85,11 +85,16 @@ class Rust(Recorder):
 
 
 class Java(Recorder):
-    name, language, script, holder = "java", "Java", "java/record", None
+    name, language, script, holder = "java", "Java", "java/record", "java"
     sees, when = "for monitors and locks of Java", "it is java"
 
     def recognises(self, command: str) -> bool:
         return command.rpartition("/")[2] == "java"
+
+    def command(self, words: list[str]) -> list[str]:
+        """A class, and options of java, are run by java."""
+        is_command = words[0][:1] != "-" and find_command(words[0])[0] is not None
+        return words if is_command else ["java"] + words
 
 
 class Embed(Recorder):

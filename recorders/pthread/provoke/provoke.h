@@ -2,8 +2,9 @@
    back where it asks for the second lock of an order that was found, with the first one held, until threads stand at the other orders of a
    cycle; then it lets them go, and each waits for what the next one holds.
 
-   What threads hold and wait for is in a file that `lockdep provoke` makes and reads: it says when the program stands still. The recorder of
-   Python, lockdep_record/provoke.py, writes the same file: its locks and callers are places in a second one, with a line for each. */
+   What threads hold and wait for is in a file that `lockdep provoke` makes and reads: it says when the program stands still. The recorders
+   of Python (lockdep_record/provoke.py) and Java (Provoke.java) write the same file: their locks and callers are places in a second one,
+   with a line for each. */
 #ifndef PROVOKE_H
 #define PROVOKE_H
 
