@@ -21,14 +21,15 @@ PR_SET_CHILD_SUBREAPER = 36
 
 @dataclass(frozen=True)
 class Standing:
-    """A thread of a program that stands still: its number and name, the lock that it waits for and the one that the thread before it waits
-    for, each with its place if that is in a module, or its class if the run knows that, the places of its callers where it waits for the one and took the other, and a bit for
-    each order of the run's plan of which the latter is known as the first lock."""
+    """A thread of a program that stands still: its number and name; what tells the lock that it waits for, and the one that the thread before
+    it waits for, apart from others of their classes; the places of both, if they are in a module, or their classes if the run knows these; the
+    places of its callers where it waits for the one and took the other; and a bit for each order of the run's plan of which the latter is
+    known as the first lock."""
 
     number: int
     name: str
-    awaited: int
-    held: int
+    awaited: str
+    held: str
     awaited_place: Place | None
     held_place: Place | None
     waits: list[Place]
@@ -154,9 +155,9 @@ def described(cycle: list[Thread], numbers_of: Modules) -> list[Standing]:
     found = []
     for at, thread in enumerate(cycle):
         held = thread.hold_before(cycle[at - 1])
-        awaited_at, awaited_place = numbers_of.lock(thread.awaited)
-        held_at, held_place = numbers_of.lock(held.lock)
-        found.append(Standing(numbers[thread.thread], numbers_of.name(thread), awaited_at, held_at, awaited_place, held_place,
+        awaited, awaited_place = numbers_of.lock(thread.awaited)
+        own, own_place = numbers_of.lock(held.lock)
+        found.append(Standing(numbers[thread.thread], numbers_of.name(thread), awaited, own, awaited_place, own_place,
                               placed(numbers_of, thread.callers), placed(numbers_of, held.callers), held.orders))
     return found
 

@@ -18,6 +18,7 @@ MOST_ORDERS, MOST_THREADS, MOST_HELD, MOST_CALLERS = 64, 1024, 48, 16
 SIZE_OF_THREAD = THREAD.size + MOST_HELD * HELD.size
 FIRST_THREAD = HEAD.size + MOST_ORDERS * COUNTS.size
 SIZE = FIRST_THREAD + MOST_THREADS * SIZE_OF_THREAD
+BITS_OF_CLASS = 28  # of a lock that isn't known by its address
 STANDS, WAITS = 1, 2
 WRITES = 0
 
@@ -200,16 +201,17 @@ class Modules:
         path = next((path for start, end, path in self.parts if start <= address < end), None)
         return (path, address - self.bases[path]) if path else None
 
-    def lock(self, number: int) -> tuple[int, Place | None]:
-        """The address of a lock, and its place."""
-        return number, self.place(number)
+    def lock(self, number: int) -> tuple[str, Place | None]:
+        """What tells a lock apart from others of its class, and its place."""
+        return "at %#x" % number, self.place(number)
 
     def name(self, thread: Thread) -> str:
         return name_of(thread)
 
 
 class Texts(Modules):
-    """The lines that a program's language has of its callers, locks and names, which are where they begin. A lock has its class as its place."""
+    """The lines that a program's language has of its callers and names, which are where they begin. A lock is a number of its own before the
+    line with its class, which it has as its place."""
 
     def __init__(self, process: int, table: Table) -> None:
         with open(table.path + TEXTS, "rb") as file:
@@ -222,9 +224,8 @@ class Texts(Modules):
         line = self.line(address)
         return (line, None) if line else None
 
-    def lock(self, number: int) -> tuple[int, Place | None]:
-        address, _, name = self.line(number).partition(" ")
-        return int(address or "0", 16), ((name, None) if name else None)
+    def lock(self, number: int) -> tuple[str, Place | None]:
+        return "number %d" % (number >> BITS_OF_CLASS), self.place(number & (1 << BITS_OF_CLASS) - 1)
 
     def name(self, thread: Thread) -> str:
         return self.line(thread.name) or name_of(thread)

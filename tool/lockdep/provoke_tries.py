@@ -180,14 +180,14 @@ def thread_lines(standing: list[Standing], plan: list[PlannedOrder]) -> list[str
 
 
 def locks_of(thread: Standing, plan: list[PlannedOrder]) -> str:
-    """What a thread holds and waits for, by classes. Locks of one class are told apart by their addresses, since a number that the recording
+    """What a thread holds and waits for, by classes. Locks of one class are told apart as the run has them, since a number that the recording
     gave to one says nothing of another run."""
     numbers = orders_at(thread, plan)
     start, end = classes_of(plan[min(numbers) - 1]) if numbers else ("a lock", "a lock" if thread.awaited == thread.held else "another")
     if thread.awaited == thread.held:
         return "holds %s and waits for it" % start
     if numbers and start == end:
-        start, end = "%s at %#x" % (start, thread.held), "%s at %#x" % (end, thread.awaited)
+        start, end = "%s %s" % (start, thread.held), "%s %s" % (end, thread.awaited)
     return "holds %s and waits for %s" % (start, end)
 
 

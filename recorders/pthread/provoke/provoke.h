@@ -3,8 +3,8 @@
    cycle; then it lets them go, and each waits for what the next one holds.
 
    What threads hold and wait for is in a file that `lockdep provoke` makes and reads: it says when the program stands still. The recorders
-   of Python (lockdep_record/provoke.py) and Java (Provoke.java) write the same file: their locks and callers are places in a second one,
-   with a line for each. */
+   of Python (lockdep_record/provoke.py) and Java (Provoke.java) write the same file: their callers are places in a second one, with a line
+   for each, and a lock is a number with the place of its class. */
 #ifndef PROVOKE_H
 #define PROVOKE_H
 

@@ -5,8 +5,8 @@ waits for the second lock of an order that was found, with the first one held, i
 a cycle, or for a pause; then it goes on.
 
 What threads hold while they stand or wait is in a file that `lockdep provoke` makes and reads: recorders/pthread/provoke/provoke.h describes
-it. A caller, a lock, and a thread's name is there as the place of its line in a second file, whose name has `.texts` at the end. Both files
-are opened for each access, so that the program has no open file that it doesn't know about."""
+it. A caller, a thread's name, and the class of a lock behind a number of that, is there as the place of its line in a second file, whose
+name has `.texts` at the end. Both files are opened for each access, so that the program has no open file that it doesn't know about."""
 import _signal
 import atexit
 import fcntl
@@ -18,6 +18,7 @@ import struct
 import sys
 import threading
 from _thread import allocate_lock, get_ident, get_native_id
+from itertools import count as counting_from
 from time import monotonic, sleep
 
 from . import locks, recording
@@ -136,7 +137,7 @@ def number_of(text):
         def add(file):
             write_bytes(file, line)
             return os.lseek(file, 0, os.SEEK_CUR) - len(line)
-        number = numbers[text] = accessed(table + ".texts", os.O_WRONLY | os.O_APPEND, add) or 0
+        number = numbers.setdefault(text, accessed(table + ".texts", os.O_WRONLY | os.O_APPEND, add) or 0)  # (another thread may have been first)
     return number
 
 
@@ -151,6 +152,7 @@ class Place:
         self.text, self.holds, self.wants = text, 0, 0
 
 
+lock_numbers, BITS_OF_CLASS = counting_from(1), 28
 NO_OFFSET = "-"  # of a place in words
 PLAIN_NAME = re.compile("[!#-+./-?A-~-]{1,53}")  # of a class, which is neither changed nor cut in a trace
 planned = {}  # by their texts
@@ -206,17 +208,18 @@ def innermost(frame):
 # ---- Locks and threads.
 
 class Lock:
-    """What is known about a lock: its class, the orders whose first lock it was, wherever it was taken, and who holds it."""
+    """What is known about a lock: its class, the orders whose first lock it was, wherever it was taken, who holds it, and its number in the
+    file."""
 
-    __slots__ = ("made", "orders", "entry")
+    __slots__ = ("made", "orders", "entry", "number")
 
     def __init__(self, made):
-        self.made, self.orders, self.entry = made, 0, None
+        self.made, self.orders, self.entry, self.number = made, 0, None, next(lock_numbers)
 
-    def number(self):
-        """Where the second file has it: its address, and the name of its class if a recording has that just so."""
+    def numbered(self):
+        """A number of its own, before the place of its class's name if a recording has that just so."""
         name = self.made.name
-        return number_of("%x %s" % (id(self), name if PLAIN_NAME.fullmatch(name) else ""))
+        return self.number << BITS_OF_CLASS | (number_of(name) if PLAIN_NAME.fullmatch(name) else 0)
 
     def __reduce__(self):
         """In a copy of what has it this is None."""
@@ -232,7 +235,7 @@ class Held:
         self.lock, self.thread, self.stack = lock, thread, stack
 
     def packed(self):
-        return HELD.pack(self.lock.number(), 0, len(self.stack), self.lock.orders, *numbers_of(self.stack, CALLERS_OF_HELD))
+        return HELD.pack(self.lock.numbered(), 0, len(self.stack), self.lock.orders, *numbers_of(self.stack, CALLERS_OF_HELD))
 
 
 def numbers_of(stack, most):
@@ -260,7 +263,7 @@ class Thread:
             threads.add(self)
 
     def packed(self):
-        held, awaited = self.held[:MOST_HELD], self.awaited.number()
+        held, awaited = self.held[:MOST_HELD], self.awaited.numbered()
         return THREAD.pack(self.process, self.number, self.changes, self.state, self.order, 0, awaited, len(self.stack), len(held),
                            *numbers_of(self.stack, MOST_CALLERS), self.goes, self.name) + b"".join([each.packed() for each in held])
 

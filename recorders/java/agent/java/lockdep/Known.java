@@ -69,9 +69,9 @@ final class Known extends WeakReference<Object> {
     volatile Task task;
     volatile boolean isWaitedFor;
     boolean isTold;
-    /** For Provoke: the orders whose first lock it was, and where the second file has it. */
+    /** For Provoke: the orders whose first lock it was, and its number in the file. */
     volatile long orders;
-    long text;
+    volatile long number;
 
     private Known(Object object, boolean isMonitor, boolean isReader, Known target, Made made) {
         super(object, gone);

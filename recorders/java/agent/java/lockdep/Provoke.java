@@ -22,8 +22,8 @@ import java.util.regex.Pattern;
  * Holds the threads of a program back where a deadlock that was found as possible can happen, for `lockdep provoke`:
  * before a thread waits for the second lock of an order that was found, with the first one held, it stands until
  * threads stand at the other orders of a cycle, or for a pause. What threads hold while they stand or wait is in a file
- * that recorders/pthread/provoke/provoke.h describes, in which callers, locks and names are places in a second file,
- * with a line for each. Nothing else is written in such a run.
+ * that recorders/pthread/provoke/provoke.h describes, in which callers, names, and the class of a lock behind a number
+ * of that, are places in a second file, with a line for each. Nothing else is written in such a run.
  */
 public final class Provoke {
     /** The sizes of provoke.h. */
@@ -55,6 +55,7 @@ public final class Provoke {
 
     /** The name of a class that is neither changed nor cut in a trace. */
     private static final Pattern PLAIN_NAME = Pattern.compile("[!#-+./-?A-~-]{1,53}");
+    private static final int BITS_OF_CLASS = 28;
     private static final VarHandle WORD = MethodHandles.byteBufferViewVarHandle(int[].class, ByteOrder.nativeOrder());
 
     private static Provoke it;
@@ -259,17 +260,17 @@ public final class Provoke {
         for (int at = 0; at < held.stack.length; at++) table.putLong(place + 24 + 8 * at, held.stack[at]);
     }
 
-    /** Where the second file has a lock: its own number, and the name of its class if a recording has that just so. */
+    /** A lock's own number, before the place of its class's name if a recording has that just so. */
     private long numberOf(Known lock) {
-        if (lock.text == 0) {
-            String name = lock.name();
-            lock.text = number(Long.toHexString(nextLock()) + " " + (PLAIN_NAME.matcher(name).matches() ? name : ""));
-        }
-        return lock.text;
+        return lock.number == 0 ? newNumber(lock) : lock.number;
     }
 
-    private synchronized long nextLock() {
-        return ++locks;
+    private synchronized long newNumber(Known lock) {
+        String name = lock.name();
+        if (lock.number == 0) {
+            lock.number = ++locks << BITS_OF_CLASS | (PLAIN_NAME.matcher(name).matches() ? number(name) : 0);
+        }
+        return lock.number;
     }
 
     /** The callers of this thread, the innermost first; if the place is in no order, or was looked at often, only that. */
