@@ -4,205 +4,38 @@ In such a run nothing is recorded: the locks of `locks` call the functions of th
 waits for the second lock of an order that was found, with the first one held, it stands still until threads stand at the other orders of
 a cycle, or for a pause; then it goes on.
 
-What threads hold while they stand or wait is in a file that `lockdep provoke` makes and reads: recorders/pthread/provoke/provoke.h describes
-it. A caller, a thread's name, and the class of a lock behind a number of that, is there as the place of its line in a second file, whose
-name has `.texts` at the end. Both files are opened for each access, so that the program has no open file that it doesn't know about."""
+What threads hold while they stand or wait is in a file, `provoke_file`, by which `lockdep provoke` knows that the program stands still."""
 import _signal
 import atexit
-import fcntl
 import functools
 import operator
 import os
 import re
-import struct
 import sys
 import threading
 from _thread import allocate_lock, get_ident, get_native_id
 from itertools import count as counting_from
 from time import monotonic, sleep
 
-from . import locks, recording
-from .recording import PASSED, TIMED, WRITE, getframe, open_file, close_file, write_bytes
+from . import locks, provoke_file, recording
+from .provoke_file import (ASIDE, CALLERS_OF_HELD, HELD, MOST_CALLERS, MOST_HELD, MOST_PAUSES, NOBODY, REACHED, THREAD, count, free_place,
+                           number_of, pauses_before, put_thread)
+from .provoke_plan import innermost, place_of, read_plan, stack_of
+from .recording import TIMED, WRITE, getframe
 
-# The sizes of provoke.h.
-MOST_ORDERS, MOST_THREADS, MOST_HELD, MOST_CALLERS, CALLERS_OF_HELD = 64, 1024, 48, 16, 8
-HEAD, COUNTS = struct.Struct("=8sII"), struct.Struct("=%dI" % (4 * MOST_ORDERS))
-THREAD, HELD = struct.Struct("=iiIIIIQII16QII"), struct.Struct("=QIIQ8Q")
-FIELDS, NOBODY = THREAD.unpack(bytes(THREAD.size)), b"\0\0\0\0"
-SIZE_OF_THREAD = THREAD.size + MOST_HELD * HELD.size
-FIRST_THREAD = HEAD.size + COUNTS.size
-MOST_COUNTED = MOST_CHANGES = 0xffffffff
+MOST_CHANGES = 0xffffffff
 RUNS, STANDS, WAITS = 0, 1, 2
-REACHED, UNDER, PAUSES, ASIDE = 0, 1, 2, 3  # what is counted of an order
 
-# The same limits as in provoke/threads.c: milliseconds of a pause, of all of a process, and the pauses of an order.
-DEFAULT_PAUSE, MOST_PAUSED, MOST_PAUSES, PAUSES_OF_ONE_LENGTH = 300, 10000, 40, 10
+# The same limits as in provoke/threads.c: milliseconds of a pause, and of all of a process; and the pauses of one length at an order.
+DEFAULT_PAUSE, MOST_PAUSED, PAUSES_OF_ONE_LENGTH = 300, 10000, 10
 LOOK = 0.001  # seconds from one look to the next, of a thread that stands
 
-pread, pwrite = os.pread, os.pwrite  # (a package may put its own into `os`)
-table = ""  # the path of the file
 first_pause = DEFAULT_PAUSE
-paused, pauses = 0, {}  # milliseconds of all pauses here; and how often threads stood at an order, wherever that was
+paused = 0  # milliseconds of all pauses
 threads = set()  # those of this process that took a lock
 here = threading.local()
-
-
-# ---- The files.
-
-def accessed(path, flags, access):
-    """What an access to a file results in; None if there is an error, which never reaches the program."""
-    try:
-        file = open_file(path, flags | os.O_CLOEXEC)
-        try:
-            return access(file)
-        finally:
-            close_file(file)
-    except OSError:
-        return None
-
-
-# What was counted and isn't in the file yet: numbers by an order and what it is. In the file it is at once as long as that is little, and
-# when the process ends, so that what is said of a run is the truth.
-fresh, counted = {}, 0
-counting = allocate_lock()
-FEW, BATCH = 1000, 64
-
-
-def count(orders, under, what=REACHED):
-    """The second lock of orders is asked for, with the first ones of some of them held."""
-    global counted
-    with counting:
-        for each in [(order, what) for order in orders] + [(order, UNDER) for order in under]:
-            fresh[each] = fresh.get(each, 0) + 1
-        counted += 1
-        if counted < FEW or counted % BATCH == 0:
-            write_counts()
-
-
-def write_counts():
-    """Adds what was counted to the file, to which other processes add too. The result is what that has then."""
-    def add(file):
-        fcntl.flock(file, fcntl.LOCK_EX)
-        counts = list(COUNTS.unpack(pread(file, COUNTS.size, HEAD.size)))
-        for (order, what), number in fresh.items():
-            counts[4 * order + what] = min(counts[4 * order + what] + number, MOST_COUNTED)
-        pwrite(file, COUNTS.pack(*counts), HEAD.size)
-        fcntl.flock(file, fcntl.LOCK_UN)  # (a process that was forked meanwhile has the file open too)
-        fresh.clear()
-        return counts
-    return accessed(table, os.O_RDWR, add)
-
-
-def pauses_before(order):
-    """A thread is about to stand at an order: how often threads did before, or the most if it can't be known."""
-    if pauses.get(order, 0) < MOST_PAUSES:
-        with counting:
-            fresh[order, PAUSES] = 1
-            counts = write_counts()
-            pauses[order] = counts[4 * order + PAUSES] if counts else MOST_PAUSES + 1
-        return pauses[order] - 1
-    return MOST_PAUSES
-
-
-def end_process():
-    """Writes what was counted last."""
-    def write_last():
-        with counting:
-            write_counts()
-    busily(running(), write_last)
-
-
-def free_place(process, thread):
-    """Where the file has room for a thread; None if it has none."""
-    def take(file):
-        fcntl.flock(file, fcntl.LOCK_EX)
-        found = next((at for at in range(FIRST_THREAD, FIRST_THREAD + MOST_THREADS * SIZE_OF_THREAD, SIZE_OF_THREAD)
-                      if pread(file, len(NOBODY), at) == NOBODY), None)
-        if found is not None:
-            pwrite(file, THREAD.pack(process, thread, *[0] * (len(FIELDS) - 2)), found)
-        fcntl.flock(file, fcntl.LOCK_UN)
-        return found
-    return accessed(table, os.O_RDWR, take)
-
-
-numbers = {}
-
-
-def number_of(text):
-    """Where the second file has a text, which is added to it if it isn't there: 0 if that fails."""
-    number = numbers.get(text)
-    if number is None:
-        line = text.encode("utf-8", "replace") + b"\n"
-
-        def add(file):
-            write_bytes(file, line)
-            return os.lseek(file, 0, os.SEEK_CUR) - len(line)
-        number = numbers.setdefault(text, accessed(table + ".texts", os.O_WRONLY | os.O_APPEND, add) or 0)  # (another thread may have been first)
-    return number
-
-
-# ---- The plan.
-
-class Place:
-    """A place of the program: its text, and a bit for each order whose first lock is taken there, or whose second one is asked for."""
-
-    __slots__ = ("text", "holds", "wants")
-
-    def __init__(self, text):
-        self.text, self.holds, self.wants = text, 0, 0
-
-
 lock_numbers, BITS_OF_CLASS = counting_from(1), 28
-NO_OFFSET = "-"  # of a place in words
 PLAIN_NAME = re.compile("[!#-+./-?A-~-]{1,53}")  # of a class, which is neither changed nor cut in a trace
-planned = {}  # by their texts
-places = {}  # by what `recording` knows a place by
-
-
-def read_plan(path):
-    """Reads the lines `order NUMBER`, `hold - PLACE` and `want - PLACE` of a plan."""
-    orders = 0
-    with open(path, encoding="utf-8", errors="surrogateescape") as file:
-        for line in file.read().split("\n"):
-            word, offset, text = (line.split(" ", 2) + ["", ""])[:3]
-            if word == "order":
-                orders += 1
-            elif offset == NO_OFFSET and 0 < orders <= MOST_ORDERS:
-                place = planned.setdefault(text, Place(text))
-                place.holds |= (word == "hold") << orders - 1
-                place.wants |= (word == "want") << orders - 1
-    return orders > 0
-
-
-def place_of(caller):
-    """The place of a caller, which is given as its code and instruction."""
-    code, at = caller
-    key = code.co_filename, code.co_firstlineno, code.co_name, at
-    place = places.get(key)
-    if place is None:
-        text = recording.place_text((caller,)).encode("utf-8", "replace").decode("utf-8")
-        place = places[key] = planned.get(text) or Place(text)
-    return place
-
-
-def stack_of(frame, most):
-    """The callers of a call, the innermost first, without those that only do what their caller asks for."""
-    kinds, found = recording.kinds, []
-    while frame is not None and len(found) < most:
-        name = frame.f_code.co_filename
-        if (kinds[name] if name in kinds else recording.kind_of(name)) != PASSED:
-            found.append((frame.f_code, frame.f_lasti))
-        frame = frame.f_back
-    return found
-
-
-NOWHERE = Place("")
-
-
-def innermost(frame):
-    """The place of a call, by which threads are held back."""
-    caller = stack_of(frame, 1)
-    return place_of(caller[0]) if caller else NOWHERE
 
 
 # ---- Locks and threads.
@@ -285,14 +118,13 @@ class Thread:
         changes = None
         while changes != self.changes:
             changes = self.changes = self.changes + 1 & MOST_CHANGES
-            raw = self.packed()
-            accessed(table, os.O_WRONLY, lambda file: pwrite(file, raw, self.place))
+            put_thread(self.place, self.packed())
 
     def leave(self):
         """It has ended. (In a process that was forked, so do those that weren't.)"""
         threads.discard(self)
         if self.process == os.getpid() and self.place is not None:
-            accessed(table, os.O_WRONLY, lambda file: pwrite(file, NOBODY, self.place))
+            put_thread(self.place, NOBODY)
 
 
 class Guard:
@@ -324,9 +156,9 @@ def running():
 
 def begin_in_child():
     """In a forked process the one thread holds what it held, and has room of its own in the file."""
-    global paused, counting
-    paused, counting, recording.class_lock = 0, allocate_lock(), allocate_lock()
-    fresh.clear()
+    global paused
+    paused, recording.class_lock = 0, allocate_lock()
+    provoke_file.begin_in_child()
     threads.clear()
     thread = getattr(here, "thread", None)
     if thread is not None:
@@ -477,6 +309,11 @@ def code_of(handler):
     return getattr(handler, "__code__", None) or getattr(getattr(type(handler), "__call__", None), "__code__", None)
 
 
+def end_process():
+    """Writes what was counted last."""
+    busily(running(), provoke_file.write_last)
+
+
 # ---- The beginning.
 
 def record_of(made):
@@ -534,8 +371,8 @@ def count_asyncio_of(real):
 
 def begin(plan, path):
     """Holds threads of this process back from here on."""
-    global table, first_pause
-    table, first_pause = path, int(os.environ.get("LOCKDEP_PROVOKE_PAUSE") or DEFAULT_PAUSE)
+    global first_pause
+    provoke_file.table, first_pause = path, int(os.environ.get("LOCKDEP_PROVOKE_PAUSE") or DEFAULT_PAUSE)
     if not read_plan(plan):
         return
     vars(locks).update(REPLACING, PATIENCE=0)
