@@ -43,6 +43,7 @@ complete -c lockdep -n '__lockdep_in run' -l error-exitcode -x -d 'The status if
 complete -c lockdep -n '__lockdep_in run' -l confirmed-only -d 'Only for what was seen between single locks'
 complete -c lockdep -n '__lockdep_in provoke' -s o -x -a '(__fish_complete_directories)' -d 'Where the recording is kept'
 complete -c lockdep -n '__lockdep_in provoke' -l from -x -a '(__fish_complete_directories)' -d 'Take this recording, and make none'
+complete -c lockdep -n '__lockdep_in provoke' -l recorder -x -a 'pthread python java rust embed' -d 'What records the command'
 complete -c lockdep -n '__lockdep_in provoke' -l runs -x -d 'How often a finding is tried'
 complete -c lockdep -n '__lockdep_in provoke' -l pause -x -d 'How long a thread is held back'
 complete -c lockdep -n '__lockdep_in provoke' -l finding -x -d 'Try this finding'

@@ -102,12 +102,13 @@ def entry_of(number: int, finding: Finding | None, happened: Happened) -> dict:
 
 
 def text_of_place(place: Address) -> str:
-    return "%s%s%x" % (place.module, OFFSET, place.offset or 0)
+    return place.module if place.offset is None else "%s%s%x" % (place.module, OFFSET, place.offset)
 
 
 def place_of(text: str) -> Address:
+    """A place is a module and an offset, or words of the program's language."""
     module, _, offset = text.rpartition(OFFSET)
-    return Address(module, int(offset, 16))
+    return Address(module, int(offset, 16)) if module else Address(text, None)
 
 
 def happened_of(said: dict) -> Happened:

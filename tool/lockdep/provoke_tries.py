@@ -10,16 +10,16 @@ from .folder import OF_PROVOKE, Folder
 from .happened import Happened, Stood, entry_of, read_provoked, write_provoked
 from .options import Words
 from .processes import find_command
-from .provoke_plan import PlannedOrder, foreign_words, is_cycle_of, orders_at, plan_of, statics_in
+from .provoke_holders import LIBRARY, Holder, Preloaded
+from .provoke_plan import PlannedOrder, foreign_words, is_cycle_of, known_places, orders_at, plan_of
 from .provoke_run import Outcome, Run, Standing, adopt_orphans
-from .provoke_table import MOST_ORDERS, Counts, Table
+from .provoke_table import MOST_ORDERS, Counts, Place, Table
 from .saying import write_error
 from .symbols import Address
 from .words import class_of_lock, name_in, plain_key
 
 HAPPENED, NOT_HAPPENED, NOTHING_TRIED = 1, 0, 2
 DEFAULT_RUNS = "10"
-LIBRARY = "provoke.so"
 OF_THE_SYSTEM = ("libc.so", "libpthread.so", "ld-linux")  # modules whose functions begin each thread
 
 
@@ -30,8 +30,8 @@ def say(text: str) -> None:
 class Tries:
     """The runs of one command for its findings."""
 
-    def __init__(self, recording: str, line: Words, library: str, limit: float) -> None:
-        self.recording, self.library, self.limit, self.command = recording, library, limit, line.rest
+    def __init__(self, recording: str, line: Words, holder: Holder, limit: float) -> None:
+        self.recording, self.holder, self.limit, self.command = recording, holder, limit, line.rest
         self.runs, self.pause, self.given = int(line.last("--runs", DEFAULT_RUNS)), line.last("--pause"), line.last("--stdin")
         self.beside, self.is_kept = line.last("--while"), line.has("--keep")
         self.room = os.path.join(os.path.realpath(recording), OF_PROVOKE)
@@ -51,17 +51,18 @@ class Tries:
 
     def begin(self, findings: list[tuple[int, Finding]], traces: list[str]) -> None:
         """Makes the plans, and room for what the runs leave."""
-        statics = statics_in(self.recording)
+        known = known_places(self.recording)
         for number, finding in findings:
-            plan = plan_of(finding, traces, statics)
+            plan = plan_of(finding, traces, known)
             if all(planned.holds and planned.wants for planned in plan):
                 self.findings[number], self.plans[number] = finding, plan
                 if len(plan) > MOST_ORDERS:
                     say("finding %d has %d orders: threads are held back at the first %d of them" % (number, len(plan), MOST_ORDERS))
             else:
                 say("finding %d isn't tried: the recording has no places of its orders" % number)
-        for words in foreign_words(self.recording, find_command(self.command[0])[0] or "", traces, list(self.plans.values())):
-            say(words)
+        if isinstance(self.holder, Preloaded):
+            for words in foreign_words(self.recording, find_command(self.command[0])[0] or "", traces, list(self.plans.values())):
+                say(words)
         self.happened = read_provoked(self.recording)
         os.makedirs(self.room, exist_ok=True)
         write_provoked(self.recording, self.happened)
@@ -81,7 +82,7 @@ class Tries:
         for count in range(1, self.runs + 1):
             table = Table(os.path.join(self.room, "table-%d-%d" % (number, count)))
             outcome = self.run(number, count, path, table)
-            os.unlink(table.path)
+            table.remove()
             if outcome.standing and self.take(number, count, outcome):
                 return
             if outcome.is_too_long:
@@ -90,7 +91,7 @@ class Tries:
 
     def run(self, number: int, count: int, plan: str, table: Table) -> Outcome:
         output = os.open(os.path.join(self.room, "output-%d-%d" % (number, count)), os.O_WRONLY | os.O_CREAT | os.O_TRUNC, 0o666)
-        run = Run(self.command, self.library, plan, table, self.pause, self.given, output, self.beside)
+        run = Run(self.command, self.holder, plan, table, self.pause, self.given, output, self.beside)
         os.close(output)
         outcome = Outcome()
         try:
@@ -145,6 +146,9 @@ def counts_of(table: Table, plan: list[PlannedOrder]) -> dict[int, Counts]:
 def why_not(table: Table, plan: list[PlannedOrder]) -> str:
     """Why nothing happened in the last run, by its counts."""
     counts = counts_of(table, plan)
+    aside = [order for order, count in counts.items() if count.aside]
+    if aside:
+        return "the second lock of order %d is one of asyncio, whose tasks aren't held back" % aside[0]
     missed = [order for order, count in counts.items() if not count.reached]
     if missed:
         return "no thread came to the second lock of order %d by a wait without an end" % missed[0]
@@ -163,14 +167,14 @@ def stood(thread: Standing, plan: list[PlannedOrder]) -> Stood:
 
 
 def locks_of(thread: Standing, plan: list[PlannedOrder]) -> str:
-    """What a thread holds and waits for, by classes. Locks of one class are told apart by their addresses, since a number that the recording
+    """What a thread holds and waits for, by classes. Locks of one class are told apart as the run has them, since a number that the recording
     gave to one says nothing of another run."""
     numbers = orders_at(thread, plan)
     start, end = classes_of(plan[min(numbers) - 1]) if numbers else ("a lock", "a lock" if thread.awaited == thread.held else "another")
     if thread.awaited == thread.held:
         return "holds %s and waits for it" % start
     if numbers and start == end:
-        start, end = "%s at %#x" % (start, thread.held), "%s at %#x" % (end, thread.awaited)
+        start, end = "%s %s" % (start, thread.held), "%s %s" % (end, thread.awaited)
     return "holds %s and waits for %s" % (start, end)
 
 
@@ -179,6 +183,6 @@ def classes_of(planned: PlannedOrder) -> tuple[str, str]:
     return start, end
 
 
-def shown_places(places: list[tuple[str, int]]) -> tuple[Address, ...]:
+def shown_places(places: list[Place]) -> tuple[Address, ...]:
     """Without those of this tool and of the C library."""
     return tuple(Address(*place) for place in places if not os.path.basename(place[0]).startswith((LIBRARY,) + OF_THE_SYSTEM))
