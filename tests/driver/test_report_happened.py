@@ -58,7 +58,7 @@ class WhatHappened(OfARecording):
         with open(self.path("provoked.json")) as file:
             right = json.load(file)
         one = right["provoked"][0]
-        for wrong in (dict(one, run="x"), dict(one, threads=[{}]), dict(one, threads=[dict(one["threads"][0], waits=["server"])]), dict(one, lines=3),
+        for wrong in (dict(one, run="x"), dict(one, threads=[{}]), dict(one, threads=[dict(one["threads"][0], waits=["server+0x"])]), dict(one, lines=3),
                       {"lines": one["lines"]}):
             self.write("provoked.json", json.dumps(dict(right, provoked=[wrong])))
             self.assertIsNone(self.taken("a/0", "b/0").happened, wrong)

@@ -13,7 +13,7 @@ from .options import Words
 from .processes import find_command, start, status_of
 from .provoke_holders import HOLDERS, Holder
 from .provoke_load import Load, send
-from .provoke_run import LOOK
+from .provoke_run import LOOK, parent_of
 from .provoke_tries import NOT_HAPPENED, NOTHING_TRIED, Tries, say
 from .recorders import RECORDERS, Recorder, recorder_for
 from .recording import summary_quietly
@@ -141,15 +141,32 @@ def made_at(folder: str) -> int:
 
 
 def end_of_recording(recorder: int, folder: str, beside: str, holder: Holder) -> int:
-    """Waits until the recorder has ended, and returns its status."""
+    """Waits until the recorder has ended, and returns its status. A program that doesn't end by SIGTERM may be one that stands still: it is
+    killed, which leaves its recording."""
     load, raw = Load(beside, 2), os.path.join(folder, "raw")
     ended, status = 0, 0
+    recorded: list[int] = []
     while beside and not ended:
         load.step(any(holder.takes_locks(os.path.join(raw, name)) for name in listed(raw)), recorder)
+        if load.told and not recorded:
+            recorded = descendants(recorder)
+        if load.is_overdue():
+            for process in set(recorded) & set(descendants(recorder)):
+                send(process, signal.SIGKILL)
         time.sleep(LOOK)
         ended, status = os.waitpid(recorder, os.WNOHANG)
     load.end()
     return status if ended else status_of(recorder)
+
+
+def descendants(process: int) -> list[int]:
+    """What a process has started, and what that has, as long as these are there."""
+    parents = {int(name): parent_of(int(name)) for name in os.listdir("/proc") if name.isdigit()}
+    found, new = [], [process]
+    while new:
+        new = [child for child, parent in parents.items() if parent in new]
+        found += new
+    return found
 
 
 def listed(folder: str) -> list[str]:
