@@ -10,8 +10,8 @@
 #include <stdint.h>
 #include <string.h>
 
-/* "lockrec8", little endian. */
-#define RAW_MAGIC UINT64_C(0x386365726b636f6c)
+/* "lockrec9", little endian. */
+#define RAW_MAGIC UINT64_C(0x396365726b636f6c)
 
 /* The file's size, if no limit forbids it, and the size under which a recording may well be too small. */
 #define RAW_BYTES (UINT64_C(4) << 30)
@@ -74,7 +74,7 @@ static inline uint64_t raw_word_offset(uint64_t word) { return word & UINT64_C(0
 /* The kinds of parts that are numbered. Each kind has its region of the file, in this order: what a program goes on to use comes first,
    where the pages are made at the start. */
 enum raw_kind { RAW_PROCESSES, RAW_PLACES, RAW_MODULES, RAW_CLASSES, RAW_OBJECTS, RAW_TAKES, RAW_FILES, RAW_PROGRAMS, RAW_THREADS, RAW_LOOKS,
-                RAW_TEXTS, RAW_BREACHES, RAW_KINDS };
+                RAW_TEXTS, RAW_BREACHES, RAW_LIVES, RAW_KINDS };
 
 struct raw_process {
     uint32_t id; /* the system's number of it; written last */
@@ -202,6 +202,17 @@ struct raw_breach {
     uint64_t count;
 };
 
+/* A thread was started or joined, in the order of all of these: a start has its number before the thread runs, a join when the thread has ended.
+   A thread is known by its pthread_t, which another one may have later. */
+enum life_kind { LIFE_NONE, LIFE_START, LIFE_JOIN };
+
+struct raw_life {
+    uint32_t kind; /* written last; none of a start that failed */
+    uint32_t process;
+    uint64_t by, thread;
+    uint64_t known; /* how many of these there were when the call of a start had returned, or when a join was called */
+};
+
 /* What was left out of a thread's records, and how often. */
 struct raw_left_out {
     uint64_t releases;  /* a release of a lock that this thread wasn't seen to take */
@@ -227,6 +238,7 @@ struct raw_thread {
     struct raw_left_out left_out;
     uint64_t self; /* its pthread_t */
     uint32_t joined; /* the object as which it is joined, or 0 */
+    uint32_t known;  /* how many starts and joins there were when the trace began */
     char name[RAW_CALLED];
     uint64_t chunks[RAW_CHUNKS]; /* where they begin in the file; 0 if there is none yet */
 };
@@ -259,7 +271,8 @@ static inline uint32_t raw_size(enum raw_kind kind) {
     static const uint32_t sizes[RAW_KINDS] = {sizeof(struct raw_process), sizeof(struct raw_place),  sizeof(struct raw_module),
                                               sizeof(struct raw_class),   sizeof(struct raw_object), sizeof(struct raw_take),
                                               sizeof(struct raw_file),    sizeof(struct raw_program), sizeof(struct raw_thread),
-                                              sizeof(struct raw_look),    sizeof(struct raw_text),  sizeof(struct raw_breach)};
+                                              sizeof(struct raw_look),    sizeof(struct raw_text),  sizeof(struct raw_breach),
+                                              sizeof(struct raw_life)};
     return sizes[kind];
 }
 

@@ -1,5 +1,8 @@
-"""Findings for the unit tests, as the checker's JSON has them."""
+"""Findings for the unit tests, as the checker's JSON has them, and a recording's folder."""
 import json
+import os
+import tempfile
+import unittest
 
 from lockdep.findings import findings_of
 
@@ -26,3 +29,22 @@ def finding(said):
 
 def findings(said):
     return findings_of(json.dumps({"lockdep": 2, "counts": {}, "findings": said}).encode())
+
+
+class OfARecording(unittest.TestCase):
+    """Has a folder with two traces."""
+
+    def setUp(self):
+        self.room = tempfile.TemporaryDirectory()
+        self.addCleanup(self.room.cleanup)
+        self.folder = self.room.name
+        os.mkdir(self.path("objects"))
+        for name in ("classes", "task-0001.csv", "task-0002.csv", "objects/task-0001.csv", "objects/task-0002.csv"):
+            self.write(name, "one\n")
+
+    def path(self, name):
+        return os.path.join(self.folder, name)
+
+    def write(self, name, text):
+        with open(self.path(name), "w") as file:
+            file.write(text)

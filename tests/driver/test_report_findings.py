@@ -68,7 +68,7 @@ class Reading(unittest.TestCase):
 
     def test_what_confirmed_only_counts(self):
         counted = [kind.value for kind in Kind if finding(circle("a/0", between=between(kind.value))).is_confirmed]
-        self.assertEqual(counted, ["locks", "unknown"])
+        self.assertEqual(counted, ["happened", "locks", "unknown"])
 
 
 class Verdicts(unittest.TestCase):

@@ -3,14 +3,14 @@
 _lockdep_options() {
     case $1 in
         run) echo -o --recorder --frames --known --write-known --strict-known --html --sarif --junit --json --accept-left-out --quiet --error-exitcode --confirmed-only --help ;;
-        provoke) echo -o --from --runs --pause --finding --keep --while --stdin --help ;;
+        provoke) echo -o --from --recorder --runs --pause --finding --keep --while --stdin --help ;;
         check) echo --workers --many --help ;;
         explain) echo --workers --many --json --locks --confirmed-only --help ;;
         graph) echo --workers --many --findings --help ;;
         condense) echo --workers --help ;;
         chains) echo --help ;;
         record) echo -o --recorder --frames --no-wait --version-1 --finish --summary --accept-left-out --help ;;
-        confirm) echo --strict --help ;;
+        confirm) echo --strict --html --sarif --junit --json --help ;;
         where) echo --help ;;
         diff) echo --help ;;
         view) echo -o --sarif --junit --json --known --confirmed --left-out --waiting --help ;;

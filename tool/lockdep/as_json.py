@@ -4,10 +4,13 @@ from __future__ import annotations
 
 import json
 
+from .apart import threads_apart
 from .blocked import Blocked
 from .breaches import Breach
 from .findings import Event, Finding
 from .forms import COUNT, Found
+from .happened import Happened
+from .symbols import Frame
 from .threads import name_of
 from .words import text_of, visible
 
@@ -34,11 +37,12 @@ def json_of_checker(found: Found) -> str:
 
 def frames_of(event: Event, found: Found) -> list[dict]:
     """The callers of a record, innermost first."""
-    frames = []
-    for frame in found.sources.frames(event):
-        said = {"function": frame.function, "file": frame.path, "line": frame.line, "address": "" if frame.path else frame.address}
-        frames.append({name: value for name, value in said.items() if value})
-    return frames
+    return [said_frame(frame) for frame in found.sources.frames(event)]
+
+
+def said_frame(frame: Frame) -> dict:
+    said = {"function": frame.function, "file": frame.path, "line": frame.line, "address": "" if frame.path else frame.address}
+    return {name: value for name, value in said.items() if value}
 
 
 def with_places(said: object, found: Found) -> object:
@@ -72,7 +76,19 @@ def finding_json(finding: Finding, found: Found) -> dict:
     said["verdict"] = (found.remarks(finding) or [""])[-1]
     said["remarks"] = found.remarks(finding)
     said["locks"] = locks_of(finding, found)
+    apart = threads_apart(finding, found.recorded)
+    if apart:
+        said["threads_apart"] = list(apart)
+    if finding.happened:
+        said["happened"] = happened_json(finding.happened)
     return said
+
+
+def happened_json(happened: Happened) -> dict:
+    """The run in which a finding happened, and its threads where they stood still."""
+    threads = [{"number": thread.number, "name": thread.name, "locks": thread.locks, "waits": [said_frame(frame) for frame in happened.frames(thread.waits)],
+                "took": [said_frame(frame) for frame in happened.frames(thread.holds)]} for thread in happened.threads]
+    return {"run": happened.run, "threads": threads}
 
 
 def blocked_json(thread: Blocked, found: Found) -> dict:

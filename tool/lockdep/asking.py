@@ -56,7 +56,9 @@ class Asked:
             from .weak import weaken
             with room_for(self.folder) as room:
                 weaken(findings, self.folder, self.traces, room)
-        take_happened(findings, self.folder)
+        if os.path.exists(os.path.join(self.folder, PROVOKED)):
+            from .happened import take_happened
+            take_happened(findings, self.folder)
         return by_importance(findings)
 
 
@@ -71,20 +73,6 @@ def ask_about(folder: str) -> Asked:
         reason, said = REFUSED_OBJECTS, answer.said
     traces = traces_in(folder)
     return Asked(folder, ask(BY_CLASSES + traces, with_errors=True), traces, reason, said)
-
-
-def take_happened(findings: list, folder: str) -> None:
-    """Takes note of what `lockdep provoke` made happen. A file that it didn't write says nothing."""
-    raw = text_in(os.path.join(folder, PROVOKED))
-    if not raw:
-        return
-    import json
-    try:
-        runs = {tuple(said["lines"]): int(said["run"]) for said in json.loads(raw)["provoked"]}
-    except (ValueError, KeyError, TypeError):
-        return
-    for finding in findings:
-        finding.happened = runs.get(tuple(finding.lines), 0)
 
 
 def text_in(path: str) -> str:

@@ -9,8 +9,9 @@ from .asking import OBJECTS, Asked, ask_about, text_in, traces_in
 from .blocked import sources_wanted
 from .breaches import Breach, breaches_in
 from .checker import HOME
-from .files import is_file, need_output, print_file
+from .files import STANDARD_OUTPUT, is_file, need_output, print_file
 from .findings import Finding
+from .folder import PAGE, is_made
 from .sources import sources_of
 from .terminal import Writer, text_stream
 from .text import Text
@@ -19,6 +20,7 @@ from .words import Refusal, visible
 
 DEFAULT_FOLDERS = ("lockdep-traces", "traces")
 LISTED = "RECORDED"
+FORMS = {"--html": "html", "--sarif": "sarif", "--junit": "junit", "--json": "json"}
 RECORD = os.path.join(HOME, "recorders", "pthread", "record")
 
 
@@ -27,8 +29,14 @@ class Wanted:
 
     def __init__(self, words: list[str]) -> None:
         self.folder, self.is_strict, self.is_help, are_options = "", False, False, True
-        for word in words:
-            if are_options and word == "--strict":
+        self.forms: dict[str, str] = {}  # the file of each form
+        words = list(words)
+        while words:
+            word = words.pop(0)
+            option, equals, value = word.partition("=")
+            if are_options and option in FORMS:
+                self.take_form(option, value if equals or not words else words.pop(0))
+            elif are_options and word == "--strict":
                 self.is_strict = True
             elif are_options and word in ("-h", "--help"):
                 self.is_help = True
@@ -42,6 +50,16 @@ class Wanted:
                 raise Refusal("a folder has a name")
             else:
                 self.folder = word
+
+
+    def take_form(self, option: str, name: str) -> None:
+        if not name or name == "--":
+            raise Refusal("%s takes a file" % option)
+        if name in self.forms.values():
+            raise Refusal("two options name the same file, %s" % visible(name))
+        if name != STANDARD_OUTPUT and os.path.isdir(name):
+            raise Refusal("%s can't be written: it is a folder" % visible(name))
+        self.forms[FORMS[option]] = name
 
 
 def chosen_folder(folder: str) -> str:
@@ -62,6 +80,14 @@ def check_folder(folder: str) -> None:
         is_trace = line.endswith(".csv") and line.startswith(("task-", OBJECTS + "/task-"))
         if is_trace and not os.path.exists(os.path.join(folder, line)):
             raise Refusal("%s is incomplete: %s, which RECORDED lists, is missing" % (name, visible(line)))
+
+
+def check_forms(folder: str, forms: dict[str, str]) -> None:
+    """Refuses a form that would take the place of a file of the recording other than the page that `run` writes."""
+    for name in forms.values():
+        inside = os.path.relpath(os.path.realpath(name), os.path.realpath(folder))
+        if name != STANDARD_OUTPUT and inside != PAGE and (is_made(inside) or inside == LISTED):
+            raise Refusal("%s is a file of the recording, which would be lost" % visible(name))
 
 
 def say_summary(folder: str) -> None:
@@ -105,6 +131,17 @@ def write_findings(folder: str, asked: Asked, findings: list[Finding], breaches:
     stream.flush()
 
 
+def are_written(folder: str, asked: Asked, forms: dict[str, str]) -> bool:
+    """Writes the forms that `run` writes of a recording. Whether all could be."""
+    from .report import Recording, Report, Wishes
+    from .summary import read
+    made = Report(Recording(folder, text_in(os.path.join(folder, "SUMMARY")), ", ".join(read(folder, HOME).left_out())), Wishes(**forms), asked)
+    made.sort()
+    made.look_deeper()
+    made.write_forms(made.wishes.forms)
+    return not made.is_unwritten
+
+
 def main(words: list[str]) -> int:
     wanted = Wanted(words)
     try:
@@ -114,6 +151,7 @@ def main(words: list[str]) -> int:
             return 0
         folder = chosen_folder(wanted.folder)
         check_folder(folder)
+        check_forms(folder, wanted.forms)
         say_summary(folder)
         need_output()
         asked = ask_about(folder)
@@ -121,7 +159,10 @@ def main(words: list[str]) -> int:
         if asked.is_refused:
             return 2
         findings, breaches = asked.findings(), breaches_in(folder)
-        write_findings(folder, asked, findings, breaches)
+        if STANDARD_OUTPUT not in wanted.forms.values():
+            write_findings(folder, asked, findings, breaches)
+        if wanted.forms and not are_written(folder, asked, wanted.forms):
+            return 2
     except BrokenPipeError:
         # A reader that has enough, as `head`, needs no message.
         os.dup2(os.open(os.devnull, os.O_WRONLY), 1)

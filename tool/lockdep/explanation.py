@@ -123,11 +123,12 @@ def inner_lines(finding: Finding, sources: Sources) -> list[Line]:
     return [line.indented(2) for line in lines]
 
 
-def block_of(finding: Finding, notes: list[str], seen: str, sources: Sources) -> list[Line]:
-    """A finding: where it comes from, how it ends, what is noted of it, and what it was seen between."""
+def block_of(finding: Finding, notes: list[str], seen: list[str], sources: Sources) -> list[Line]:
+    """A finding: where it comes from, how it ends, what is noted of it, what was seen of it, and where its threads stood still."""
     lines = [head_line(finding)] + occurrence_lines(finding, sources) + task_lines(finding)
     lines += [Line("  note: " + note) for note in notes]
-    lines += [Line("  " + seen)] if seen else []
+    lines += [Line("  " + words) for words in seen]
+    lines += [Line("  " + words) for words in finding.happened.lines()] if finding.happened else []
     return lines + inner_lines(finding, sources)
 
 

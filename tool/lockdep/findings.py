@@ -7,13 +7,18 @@ from enum import Enum
 
 from .words import Refusal, text_of, visible
 
+TYPE_CHECKING = False
+if TYPE_CHECKING:
+    from .happened import Happened
+
 VERSIONS = (1, 2)
 STATES = ("hardirq", "softirq")
 
 
 class Kind(Enum):
-    """What a finding was seen between, in the order in which findings come."""
+    """What is known of a finding: that it happened, or what it was seen between, in the order in which findings come."""
 
+    HAPPENED = "happened"  # by `lockdep provoke`, and no kind of the checker's
     LOCKS = "locks"
     PERHAPS = "perhaps"
     UNKNOWN = "unknown"
@@ -103,7 +108,7 @@ class Finding:
     between: Between | None = None
     json: dict = field(default_factory=dict)
     number: int = 0
-    happened: int = 0  # the run of `lockdep provoke` in which it happened; 0 if it didn't
+    happened: Happened | None = None  # in a run of `lockdep provoke`
 
     @property
     def head(self) -> str:
@@ -115,6 +120,8 @@ class Finding:
 
     @property
     def kind(self) -> Kind | None:
+        if self.happened:
+            return Kind.HAPPENED
         return self.between.kind if self.between else None
 
     @property
@@ -125,7 +132,7 @@ class Finding:
     @property
     def is_confirmed(self) -> bool:
         """Whether the checker's `--confirmed-only` counts it."""
-        return self.kind in (None, Kind.LOCKS, Kind.UNKNOWN)
+        return self.kind in (None, Kind.HAPPENED, Kind.LOCKS, Kind.UNKNOWN)
 
     def edges(self) -> set[tuple[str, str, str]]:
         """The edges of the picture that belong to the finding: from, to, and label."""

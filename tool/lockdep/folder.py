@@ -12,6 +12,7 @@ from .saying import Refusal, typed
 
 TASKS = "tasks"  # the file with the names of threads
 OBJECTS = "objects"  # the folder with the traces of single locks
+LIVES = "lives"  # the file that says which thread started and joined which
 WEAK = "weak"  # the file that says which acquisitions wait for a time only, or take a new lock
 FIRST_LINE = "a recording by lockdep made these:"
 LOCK = 9  # the open file whose lock says that a recording is under way; `run` closes it in the command
@@ -24,7 +25,7 @@ ELSEWHERE = "choose another folder by -o"
 
 def is_made(name: str) -> bool:
     """Whether a file of this name may be one that a recording made."""
-    if name in MADE or name in (TASKS, WEAK):
+    if name in MADE or name in (TASKS, LIVES, WEAK):
         return True
     trace = name[len("objects/"):] if name.startswith("objects/") else name
     trace = trace[:-len(".places")] if trace.endswith(".places") else trace

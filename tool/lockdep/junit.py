@@ -33,6 +33,7 @@ def failed_case(kind: str, name: str, message: str, lines: list[str]) -> str:
 def finding_case(finding: Finding, found: Found) -> str:
     """A failed case: the sentence, and each step with its place."""
     lines = [sentence(finding)] + [step_line(step, found) for step in steps_of(finding)] + found.remarks(finding)
+    lines += finding.happened.lines() if finding.happened else []
     return failed_case(finding.type, finding.head, sentence(finding), lines)
 
 

@@ -118,6 +118,8 @@ PROVOKE = Command("provoke", "make a finding happen", "Makes cycles that were fo
                   ("[OPTIONS] -- COMMAND...",), "command", [
     Option("-o", FOLDER, "where the recording is kept", "Where the recording is kept [default: lockdep-traces]"),
     Option("--from", FOLDER, "take this recording, and make none", "Take the findings of this recording of the command, and make none"),
+    Option("--recorder", RECORDER, "what records the command", "Record by the recorder of pthread, python or java, whose programs can be held back "
+           "[default: as `run` has it]"),
     Option("--runs", RUNS, "how often a finding is tried", "How many runs a finding is tried in at most, from 1 to 999 [default: 10]"),
     Option("--pause", PAUSE, "how long a thread is held back", "For how many milliseconds a thread is held back at first, from 1 to 999 [default: 300]"),
     Option("--finding", FINDING, "try this finding", "Try the finding of this number alone. The option may be given several times"),

@@ -123,13 +123,19 @@ def inner_html(finding: Finding, sources: Sources) -> str:
     return '<h3>Between single locks</h3>\n<pre tabindex="0"><code>%s</code></pre>\n' % lines if lines else ""
 
 
+def stood_html(finding: Finding) -> str:
+    """Where the threads stood still, if the finding happened."""
+    lines = "".join(escaped(line) + "\n" for line in finding.happened.lines()) if finding.happened else ""
+    return '<h3>Where its threads stood still</h3>\n<pre tabindex="0"><code>%s</code></pre>\n' % lines if lines else ""
+
+
 def finding_html(finding: Finding, found: Found, group: str = "") -> str:
     number, sources, steps = finding.number, found.sources, steps_of(finding)
     said = '<article id="finding-%d" aria-labelledby="head-%d">\n' % (number, number)
     said += '<h2 id="head-%d">%d. <code>%s</code></h2>\n' % (number, number, escaped(finding.head))
     said += "<p>%s</p>\n" % sentence(finding, key_html(sources))
     said += "".join('<p class="note">%s</p>\n' % escaped(as_sentence(remark)) for remark in found.remarks(finding)) + group
-    said += task_table(finding, steps, sources) + "<h3>The records</h3>\n" if steps else ""
+    said += stood_html(finding) + (task_table(finding, steps, sources) + "<h3>The records</h3>\n" if steps else "")
     for place, event in enumerate(events_of(steps), 1):
         said += record_html("record-%d-%d" % (number, place), event, sources)
     said += inner_html(finding, sources) + lock_lines(finding, steps, sources)

@@ -3,44 +3,39 @@ from __future__ import annotations
 
 import os
 import signal
+import sys
 import time
 
 from .asking import ask_about
-from .building import is_preloadable, recorder_folder
 from .findings import Finding, Kind
-from .folder import fault
+from .folder import checked, fault
 from .options import Words
 from .processes import find_command, start, status_of
+from .provoke_holders import HOLDERS, Holder
 from .provoke_load import Load, send
-from .provoke_run import LOOK
-from .provoke_tries import LIBRARY, NOT_HAPPENED, NOTHING_TRIED, Tries, say
-from .recorders import PTHREAD, recorder_for
+from .provoke_run import LOOK, parent_of
+from .provoke_tries import NOT_HAPPENED, NOTHING_TRIED, Tries, say
+from .recorders import RECORDERS, Recorder, recorder_for
 from .recording import summary_quietly
+from .summary import recorder_of
 from .saying import Refusal
 from .steps import THREAD
 
 LONGER = 10  # how many times as long as the recorded run another one may take
 LEAST_LIMIT = 30.0  # seconds
 ENDING = (signal.SIGINT, signal.SIGTERM, signal.SIGHUP)  # signals that end this command
-ARENA = ".arena"  # of a file that a recorded process has from its first lock on
 UNTRIED = {Kind.TYPES: "no class of locks takes part both ways", Kind.TIMED: "its cycle needs a wait that gives up",
            Kind.EITHER: "its cycle needs a wait that gives up, or a lock that was new"}
 
 
 def provoke(home: str, line: Words) -> int:
     """Records the command, or takes a recording of it, and tries each cycle that was found."""
-    look_at_command(line)
-    library = os.path.join(recorder_folder(home), LIBRARY)
-    if not is_preloadable(library):
-        raise Refusal("%s can't be preloaded, since its path has a space, colon or dollar, which LD_PRELOAD takes for something else" % library)
+    recorder = look_at_command(line)
+    holder = holder_of(recorder, home)
     folder, seconds = line.last("--from"), 0.0
-    if folder and line.has("-o"):
-        raise Refusal("--from and -o both name a recording")
-    if folder and not os.path.exists(os.path.join(folder, "SUMMARY")):
-        raise Refusal("%s has no recording" % folder)
     if not folder:
         folder = line.last("-o", "lockdep-traces")
-        seconds = recorded(home, folder, line.rest, line.last("--while"))
+        seconds = recorded(home, folder, recorder, holder, line)
     asked = ask_about(folder)
     if asked.is_refused:
         raise Refusal("the recording in %s can't be judged; `lockdep confirm %s` says why" % (folder, folder))
@@ -53,7 +48,7 @@ def provoke(home: str, line: Words) -> int:
         return NOTHING_TRIED
     heed_signals()
     try:
-        return Tries(folder, line, library, max(LEAST_LIMIT, LONGER * seconds)).all(findings, asked.traces)
+        return Tries(folder, line, holder, max(LEAST_LIMIT, LONGER * seconds)).all(findings, asked.traces)
     except OSError as error:
         raise Refusal(fault(error, folder))
     except Ended as ended:  # (the run has been ended by now)
@@ -81,32 +76,60 @@ def heed_signals() -> None:
             signal.signal(number, end_by)
 
 
-def look_at_command(line: Words) -> None:
+def look_at_command(line: Words) -> Recorder:
+    """The recorder of the command, which may become the words by which that one runs it."""
     if not line.rest:
         raise Refusal("which command? lockdep provoke -- COMMAND")
+    recorder = chosen_recorder(line)
+    line.rest = recorder.command(line.rest) if line.has("--recorder") else line.rest
     program, status = find_command(line.rest[0])
     if program is None:
         raise Refusal("%s: %s" % (line.rest[0], "there is no such command" if status == 127 else "it can't be run"), status)
-    recorder = recorder_for(line.rest[0])
-    if recorder is not PTHREAD:
-        raise Refusal("`provoke` holds back threads at locks of pthreads, and this is a command for the recorder of " + recorder.language)
     given = line.last("--stdin")
     if given and not os.access(given, os.R_OK):
         raise Refusal("%s can't be read" % given)
+    return recorder
 
 
-def recorded(home: str, folder: str, command: list[str], beside: str) -> float:
+def chosen_recorder(line: Words) -> Recorder:
+    """The recorder that made the recording, or that was named, or that the command is for."""
+    folder, named = line.last("--from"), line.last("--recorder")
+    if folder and line.has("-o"):
+        raise Refusal("--from and -o both name a recording")
+    if folder and not os.path.exists(os.path.join(folder, "SUMMARY")):
+        raise Refusal("%s has no recording" % folder)
+    made = recorder_of(folder) if folder else ""
+    if made and named not in ("", made):
+        raise Refusal("the recording in %s was made by the recorder `%s`, and --recorder names another one" % (folder, made))
+    return RECORDERS.get(made or named) or recorder_for(line.rest[0])
+
+
+def holder_of(recorder: Recorder, home: str) -> Holder:
+    if recorder.holder is None:
+        raise Refusal("`provoke` holds back threads of pthreads, Python and Java, and this is a command for the recorder of " + recorder.language)
+    return HOLDERS[recorder.holder](home)
+
+
+def recorded(home: str, folder: str, recorder: Recorder, holder: Holder, line: Words) -> float:
     """Records the command, with another one beside it if that is wished, and returns how many seconds it took. A signal ends the recorded
     run: the terminal's Ctrl-C comes to it too, and others are passed on."""
     began, before = time.monotonic(), made_at(folder)
-    recorder = start([os.path.join(home, "recorders", "pthread", "record"), "-o", folder, "--", *command])
+    recording = start(recording_words(home, folder, recorder, line))
     for number in ENDING:
         if signal.getsignal(number) is not signal.SIG_IGN:
-            signal.signal(number, lambda number, frame: send(recorder, number) if number != signal.SIGINT else None)
-    status = end_of_recording(recorder, folder, beside)
+            signal.signal(number, lambda number, frame: send(recording, number) if number != signal.SIGINT else None)
+    status = end_of_recording(recording, folder, line.last("--while"), holder)
     if made_at(folder) in (0, before):
         raise Refusal("nothing was recorded: the recorder ended with status %d" % status)
     return time.monotonic() - began
+
+
+def recording_words(home: str, folder: str, recorder: Recorder, line: Words) -> list[str]:
+    """What records the command."""
+    is_named, recorders = line.has("--recorder"), os.path.join(home, "recorders")
+    if recorder.script:
+        return [sys.executable, os.path.join(recorders, recorder.script), "-o", checked(folder), "--either" if is_named else "--command", *line.rest]
+    return [os.path.join(recorders, "pthread", "record"), *(["--recorder", recorder.name] if is_named else []), "-o", folder, "--", *line.rest]
 
 
 def made_at(folder: str) -> int:
@@ -117,16 +140,33 @@ def made_at(folder: str) -> int:
         return 0
 
 
-def end_of_recording(recorder: int, folder: str, beside: str) -> int:
-    """Waits until the recorder has ended, and returns its status."""
+def end_of_recording(recorder: int, folder: str, beside: str, holder: Holder) -> int:
+    """Waits until the recorder has ended, and returns its status. A program that doesn't end by SIGTERM may be one that stands still: it is
+    killed, which leaves its recording."""
     load, raw = Load(beside, 2), os.path.join(folder, "raw")
     ended, status = 0, 0
+    recorded: list[int] = []
     while beside and not ended:
-        load.step(any(name.endswith(ARENA) for name in listed(raw)), recorder)
+        load.step(any(holder.takes_locks(os.path.join(raw, name)) for name in listed(raw)), recorder)
+        if load.told and not recorded:
+            recorded = descendants(recorder)
+        if load.is_overdue():
+            for process in set(recorded) & set(descendants(recorder)):
+                send(process, signal.SIGKILL)
         time.sleep(LOOK)
         ended, status = os.waitpid(recorder, os.WNOHANG)
     load.end()
     return status if ended else status_of(recorder)
+
+
+def descendants(process: int) -> list[int]:
+    """What a process has started, and what that has, as long as these are there."""
+    parents = {int(name): parent_of(int(name)) for name in os.listdir("/proc") if name.isdigit()}
+    found, new = [], [process]
+    while new:
+        new = [child for child, parent in parents.items() if parent in new]
+        found += new
+    return found
 
 
 def listed(folder: str) -> list[str]:

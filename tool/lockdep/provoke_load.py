@@ -4,6 +4,9 @@ from __future__ import annotations
 import os
 import signal
 import subprocess
+import time
+
+PATIENCE = 30.0  # seconds that a program has to end by SIGTERM
 
 
 class Load:
@@ -12,7 +15,7 @@ class Load:
     def __init__(self, command: str, output: int) -> None:
         self.command, self.output = command, output
         self.child: subprocess.Popen | None = None
-        self.is_told = False
+        self.told = 0.0  # when the program was told to end
 
     def step(self, takes_locks: bool, program: int) -> None:
         """Begins the command once the program takes locks, and tells the program to end once the command has ended."""
@@ -22,9 +25,13 @@ class Load:
             if takes_locks:
                 self.child = subprocess.Popen(["sh", "-c", self.command], stdin=subprocess.DEVNULL, stdout=self.output, stderr=self.output,
                                               start_new_session=True)
-        elif not self.is_told and self.child.poll() is not None:
-            self.is_told = True
+        elif not self.told and self.child.poll() is not None:
+            self.told = time.monotonic()
             send(program, signal.SIGTERM)
+
+    def is_overdue(self) -> bool:
+        """Whether the program was told to end some time ago."""
+        return bool(self.told) and time.monotonic() - self.told > PATIENCE
 
     def end(self) -> None:
         """Ends the command, and what it has started."""

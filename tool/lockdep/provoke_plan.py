@@ -4,19 +4,22 @@ from __future__ import annotations
 import csv
 import functools
 import os
+import re
 from dataclasses import dataclass, field
 from typing import Tuple
 
 from .files import contents
 from .findings import Finding, Order
-from .places import Places, classes_in
+from .places import NO_PLACE, Places, classes_in
 from .provoke_run import Standing
-from .provoke_table import MOST_ORDERS
+from .provoke_table import Place
 from .symbols import Address
 from .verdict import type_of_key
-from .words import name_in, text_of
+from .words import class_of_lock, name_in, text_of
 
 MOST_PLACES = 64  # of an order, each
+ELF = b"\x7fELF"
+NUMBERED = re.compile("~[0-9]+$")  # ends the name of a class that has namesakes: a run doesn't know which one it is
 
 Chain = Tuple[Address, ...]  # callers, the innermost first
 
@@ -27,8 +30,8 @@ class PlannedOrder:
 
     order: Order
     is_of_types: bool  # the order's keys are types, and no single locks
-    start: tuple[str, int] | None  # where the first lock is, if it is static
-    end: tuple[str, int] | None  # the same of the second one
+    start: Place | None  # where the first lock is, if it is static, or its class, if a run knows that
+    end: Place | None  # the same of the second one
     holds: set[Chain] = field(default_factory=set)
     wants: set[Chain] = field(default_factory=set)
 
@@ -38,25 +41,61 @@ class PlannedOrder:
 
     def lines(self, number: int) -> list[str]:
         places = {("hold", chain[0]) for chain in self.holds} | {("want", chain[0]) for chain in self.wants}
-        return ["order %d" % number] + ["%s %x %s" % (word, place.offset or 0, place.module) for word, place in sorted(
-            places, key=lambda pair: (pair[0], pair[1].module, pair[1].offset or 0))]
+        return ["order %d" % number] + ["%s %s %s" % (word, NO_PLACE if place.offset is None else "%x" % place.offset, place.module)
+                                        for word, place in sorted(places, key=lambda pair: (pair[0], pair[1].module, pair[1].offset or 0))]
 
 
-def statics_in(folder: str) -> dict[str, tuple[str, int]]:
-    """Where the static locks of a recording are, by their classes."""
-    return {made.name: (real_path(made.place.module), made.place.offset) for made in classes_in(folder) or []
-            if made.kind == "static" and made.place.offset is not None}
+def known_places(folder: str) -> dict[str, Place]:
+    """What a run knows of the locks of a recording, by their classes: where static locks are, and classes whose places are in words."""
+    classes = classes_in(folder) or []
+    numbered = {NUMBERED.sub("", made.name) for made in classes if NUMBERED.search(made.name)}
+    known: dict[str, Place] = {made.name: (real_path(made.place.module), made.place.offset) for made in classes
+                               if made.kind == "static" and made.place.offset is not None}
+    known.update({made.name: (made.name, None) for made in classes
+                  if made.place.offset is None and NUMBERED.sub("", made.name) not in numbered})
+    return known
 
 
-def plan_of(finding: Finding, traces: list[str], statics: dict[str, tuple[str, int]]) -> list[PlannedOrder]:
+def plan_of(finding: Finding, traces: list[str], known: dict[str, Place]) -> list[PlannedOrder]:
     """The plan of a finding, by the orders of the single locks that make it, or if there are none by those of its types: the places of every
     record of an order, of which a finding names one."""
     inner = finding.between.finding if finding.between else None
-    plan = [PlannedOrder(order, inner is None, statics.get(name_in(order.start)), statics.get(name_in(order.end)))
-            for order in (inner or finding).orders[:MOST_ORDERS]]
+    plan = [PlannedOrder(order, inner is None, known_of(order.start, known), known_of(order.end, known))
+            for order in (inner or finding).orders]
     for trace in traces:
         take_places(plan, contents(trace) or b"", Places(trace))
     return plan
+
+
+def is_elf(program: str) -> bool:
+    try:
+        with open(program, "rb") as file:
+            return file.read(len(ELF)) == ELF
+    except OSError:
+        return False
+
+
+def foreign_words(folder: str, program: str, traces: list[str], plans: list[list[PlannedOrder]]) -> list[str]:
+    """Why the recording in a folder may not be of this program as it is now. Of a script nothing is known."""
+    said = []
+    recorded = {real_path(module) for trace in traces[:1] for module in Places(trace).modules}
+    if is_elf(program) and real_path(program) not in recorded:
+        said.append("%s isn't among the programs and libraries of the recording in %s; threads are held back in those alone" % (program, folder))
+    made = os.stat(os.path.join(folder, "SUMMARY")).st_mtime
+    planned = {chain[0].module for plan in plans for order in plan for chain in order.holds | order.wants}
+    for module in sorted(planned):
+        if not os.path.exists(module):
+            said.append("%s, which was recorded, isn't there any more" % module)
+        elif os.stat(module).st_mtime > made:
+            said.append("%s has changed since it was recorded, so its places may be others now" % module)
+    return said
+
+
+def known_of(key: str, known: dict[str, Place]) -> Place | None:
+    """What is known of a lock: where it is itself, or else of which class it is."""
+    name = name_in(key)
+    of_class = known.get(class_of_lock(name))
+    return known.get(name) or (of_class if of_class and of_class[1] is None else None)
 
 
 def take_places(plan: list[PlannedOrder], raw: bytes, places: Places) -> None:
@@ -94,21 +133,26 @@ def add_place(found: set[Chain], places: Places, record: int) -> None:
     """Adds the callers of a record. Threads are held back by the innermost one, since the same code may be reached in another way; what has
     happened is told by all of them."""
     callers = places.callers(record) if len(found) < MOST_PLACES else []
-    if callers and callers[0].offset is not None:
+    if callers:
         found.add(tuple(callers))
 
 
 # ---- Which finding a cycle of threads is.
 
 
-def is_at(stack: list[tuple[str, int]], chains: set[Chain]) -> bool:
+def is_at(stack: list[Place], chains: set[Chain]) -> bool:
     """Whether a thread's stack has the callers of one of these places, in their order. A recording leaves out callers between them."""
     return any(has_callers(stack, chain) for chain in chains)
 
 
-def has_callers(stack: list[tuple[str, int]], chain: Chain) -> bool:
+def has_callers(stack: list[Place], chain: Chain) -> bool:
     rest = iter(stack)
-    return all(any((real_path(caller.module), caller.offset) == place for place in rest) for caller in chain)
+    return all(any(as_in_run(caller) == place for place in rest) for caller in chain)
+
+
+def as_in_run(caller: Address) -> Place:
+    """A place of the recording as a run has it."""
+    return (caller.module if caller.offset is None else real_path(caller.module)), caller.offset
 
 
 @functools.lru_cache(maxsize=None)
@@ -124,9 +168,9 @@ def orders_at(thread: Standing, plan: list[PlannedOrder]) -> set[int]:
             and can_be(thread.held_place, planned.start) and can_be(thread.awaited_place, planned.end)}
 
 
-def can_be(place: tuple[str, int] | None, static: tuple[str, int] | None) -> bool:
-    """Whether a lock at this place can be that one, which is at its own place if it is static."""
-    return place is None or static is None or place == static
+def can_be(place: Place | None, known: Place | None) -> bool:
+    """Whether a lock of this place, or class, can be the one of which that is known."""
+    return place is None or known is None or place == known
 
 
 def is_cycle_of(threads: list[Standing], plan: list[PlannedOrder]) -> bool:

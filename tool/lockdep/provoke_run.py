@@ -7,9 +7,9 @@ import subprocess
 import time
 from dataclasses import dataclass
 
+from .provoke_holders import Holder
 from .provoke_load import Load, send
-from .provoke_table import Modules, Table, Thread, cycle_in, name_of, sleeps, state_of
-from .recording import ASAN
+from .provoke_table import Modules, Place, Table, Thread, cycle_in, sleeps, state_of
 
 LOOK = 0.02  # seconds from one look to the next
 SURE = 0.2  # seconds for which threads that were let go have to stand
@@ -21,18 +21,19 @@ PR_SET_CHILD_SUBREAPER = 36
 
 @dataclass(frozen=True)
 class Standing:
-    """A thread of a program that stands still: its number and name, the lock that it waits for and the one that the thread before it waits
-    for, each with its place if that is in a module, the places of its callers where it waits for the one and took the other, and a bit for
-    each order of the run's plan of which the latter is known as the first lock."""
+    """A thread of a program that stands still: its number and name; what tells the lock that it waits for, and the one that the thread before
+    it waits for, apart from others of their classes; the places of both, if they are in a module, or their classes if the run knows these; the
+    places of its callers where it waits for the one and took the other; and a bit for each order of the run's plan of which the latter is
+    known as the first lock."""
 
     number: int
     name: str
-    awaited: int
-    held: int
-    awaited_place: tuple[str, int] | None
-    held_place: tuple[str, int] | None
-    waits: list[tuple[str, int]]
-    holds: list[tuple[str, int]]
+    awaited: str
+    held: str
+    awaited_place: Place | None
+    held_place: Place | None
+    waits: list[Place]
+    holds: list[Place]
     orders: int
 
 
@@ -67,19 +68,15 @@ class Watch:
 
 
 class Run:
-    """A run of the command under the library."""
+    """A run of the command with its threads held back."""
 
-    def __init__(self, command: list[str], library: str, plan: str, table: Table, pause: str, given: str, output: int, load: str) -> None:
-        others = os.environ.get("LD_PRELOAD", "")
-        environment = dict(os.environ, LD_PRELOAD=library + (":" + others if others else ""), LOCKDEP_PROVOKE_PLAN=plan,
-                           LOCKDEP_PROVOKE_TABLE=table.path)
+    def __init__(self, command: list[str], holder: Holder, plan: str, table: Table, pause: str, given: str, output: int, load: str) -> None:
+        environment = dict(holder.environment(command), LOCKDEP_PROVOKE_PLAN=plan, LOCKDEP_PROVOKE_TABLE=table.path)
         if pause:
             environment["LOCKDEP_PROVOKE_PAUSE"] = pause
-        if ASAN not in environment.get("ASAN_OPTIONS", ""):
-            environment["ASAN_OPTIONS"] = ":".join(filter(None, [environment.get("ASAN_OPTIONS"), ASAN + "=0"]))
-        self.table, self.load = table, Load(load, output)
+        self.table, self.load, self.holder = table, Load(load, output), holder
         with open(given or os.devnull, "rb") as stdin:
-            self.child = subprocess.Popen(command, stdin=stdin, stdout=output, stderr=output, env=environment, start_new_session=True)
+            self.child = subprocess.Popen(holder.command(command), stdin=stdin, stdout=output, stderr=output, env=environment, start_new_session=True)
 
     def outcome(self, limit: float) -> Outcome:
         """Waits until the command and what it has left in the background have ended, or stand still, for so many seconds at most."""
@@ -87,7 +84,7 @@ class Run:
         while time.monotonic() < end:
             standing = watch.standstill()
             if standing:
-                return Outcome(process=standing[0].process, standing=described(standing))
+                return Outcome(process=standing[0].process, standing=described(standing, self.holder.numbers(standing[0].process, self.table)))
             if self.child.poll() is not None and not self.is_something_left():
                 return Outcome(status=self.child.returncode)
             self.load.step(bool(self.table.threads()), self.child.pid)
@@ -149,20 +146,21 @@ def reap(process: int) -> None:
         pass
 
 
-def described(cycle: list[Thread]) -> list[Standing]:
+def described(cycle: list[Thread], numbers_of: Modules) -> list[Standing]:
     """The threads of a cycle, each with its places, from the one at the first order on. The one before in the cycle waits for what a thread
     holds."""
-    modules = Modules(cycle[0].process)
     first = min(range(len(cycle)), key=lambda at: cycle[at].order or len(cycle) + 1)
     cycle = cycle[first:] + cycle[:first]
     numbers = {number: place for place, number in enumerate(sorted(thread.thread for thread in cycle), 1)}
     found = []
     for at, thread in enumerate(cycle):
         held = thread.hold_before(cycle[at - 1])
-        found.append(Standing(numbers[thread.thread], name_of(thread), thread.awaited, held.lock, modules.place(thread.awaited),
-                              modules.place(held.lock), placed(modules, thread.callers), placed(modules, held.callers), held.orders))
+        awaited, awaited_place = numbers_of.lock(thread.awaited)
+        own, own_place = numbers_of.lock(held.lock)
+        found.append(Standing(numbers[thread.thread], numbers_of.name(thread), awaited, own, awaited_place, own_place,
+                              placed(numbers_of, thread.callers), placed(numbers_of, held.callers), held.orders))
     return found
 
 
-def placed(modules: Modules, callers: tuple[int, ...]) -> list[tuple[str, int]]:
-    return [place for place in map(modules.place, callers) if place]
+def placed(numbers_of: Modules, callers: tuple[int, ...]) -> list[Place]:
+    return [place for place in map(numbers_of.place, callers) if place]

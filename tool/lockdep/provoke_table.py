@@ -1,29 +1,37 @@
-"""What the threads of a provoked run hold and wait for: the file that recorders/pthread/provoke/provoke.h describes, and the cycles in it."""
+"""What the threads of a provoked run hold and wait for: the file that recorders/pthread/provoke/provoke.h describes, and the cycles in it; and
+what the numbers of its callers and locks mean."""
 from __future__ import annotations
 
 import mmap
 import os
 import struct
 from dataclasses import dataclass
+from typing import Optional, Tuple
+
+from .words import text_of
 
 HEAD, COUNTS = struct.Struct("=8sII"), struct.Struct("=4I")
 THREAD, HELD = struct.Struct("=iiIIIIQII16QII"), struct.Struct("=QIIQ8Q")
 MAGIC = b"provoke1"
+TEXTS = ".texts"  # behind the name of the file: another one, with a line for each place and name that the program's language has in words
 MOST_ORDERS, MOST_THREADS, MOST_HELD, MOST_CALLERS = 64, 1024, 48, 16
 SIZE_OF_THREAD = THREAD.size + MOST_HELD * HELD.size
 FIRST_THREAD = HEAD.size + MOST_ORDERS * COUNTS.size
 SIZE = FIRST_THREAD + MOST_THREADS * SIZE_OF_THREAD
+BITS_OF_CLASS = 28  # of a lock that isn't known by its address
 STANDS, WAITS = 1, 2
 WRITES = 0
 
 
 @dataclass(frozen=True)
 class Counts:
-    """Of an order: how often its second lock was asked for, how often so with the first one held, and how often a thread stood there."""
+    """Of an order: how often its second lock was asked for, how often so with the first one held, how often a thread stood there, and how often a
+    task asked for it that isn't held back."""
 
     reached: int
     under: int
     pauses: int
+    aside: int
 
 
 @dataclass(frozen=True)
@@ -38,7 +46,8 @@ class Held:
 
 @dataclass(frozen=True)
 class Thread:
-    """A thread as the file has it. `order` is the planned one that it stood at, from 1 on, or 0; `changes` is another number after each change."""
+    """A thread as the file has it. `order` is the planned one that it stood at, from 1 on, or 0; `changes` is another number after each change;
+    `name` is where the program's language has its name, or 0."""
 
     process: int
     thread: int
@@ -48,6 +57,7 @@ class Thread:
     mode: int
     awaited: int
     callers: tuple[int, ...]
+    name: int
     held: tuple[Held, ...]
 
     def is_in_the_way(self, other: Thread) -> bool:
@@ -69,11 +79,17 @@ class Table:
             file.write(HEAD.pack(MAGIC, MOST_ORDERS, MOST_THREADS))
             file.flush()
             os.posix_fallocate(file.fileno(), 0, SIZE)  # a full disk is met here, and not where it is read or written
+        with open(path + TEXTS, "wb") as file:
+            file.write(MAGIC + b"\n")
         with open(path, "rb") as file:
             self.raw = mmap.mmap(file.fileno(), SIZE, access=mmap.ACCESS_READ)
 
+    def remove(self) -> None:
+        os.unlink(self.path)
+        os.unlink(self.path + TEXTS)
+
     def counts(self, order: int) -> Counts:
-        return Counts(*COUNTS.unpack_from(self.raw, HEAD.size + order * COUNTS.size)[:3])
+        return Counts(*COUNTS.unpack_from(self.raw, HEAD.size + order * COUNTS.size))
 
     def threads(self) -> list[Thread]:
         """All threads that there are."""
@@ -84,13 +100,12 @@ class Table:
         process, thread, changes, state, order, mode, awaited, depth, held_count, *rest = THREAD.unpack_from(self.raw, start)
         places = [start + THREAD.size + n * HELD.size for n in range(min(held_count, MOST_HELD))]
         held = tuple(self.held_at(place) for place in places)
-        return Thread(process, thread, changes, state, order, mode, awaited, tuple(rest[:min(depth, MOST_CALLERS)]),
+        return Thread(process, thread, changes, state, order, mode, awaited, tuple(rest[:min(depth, MOST_CALLERS)]), rest[-1],
                       tuple(each for each in held if each.lock))
 
     def held_at(self, start: int) -> Held:
         lock, mode, depth, orders, *callers = HELD.unpack_from(self.raw, start)
         return Held(lock, mode, orders, tuple(callers[:depth]))
-
 
 
 def cycle_in(threads: list[Thread]) -> list[Thread]:
@@ -140,7 +155,9 @@ def name_of(thread: Thread) -> str:
         return ""
 
 
-# ---- Modules.
+# ---- What the numbers mean.
+
+Place = Tuple[str, Optional[int]]  # a module and an offset in it, or a place in words
 
 EXECUTABLE_AT_ITS_ADDRESS = 2  # the type of an ELF file that isn't moved when it is loaded
 
@@ -156,9 +173,9 @@ def is_moved(path: str) -> bool:
 
 
 class Modules:
-    """Where the modules of a process are."""
+    """Where the modules of a process are. Callers and locks are addresses in them."""
 
-    def __init__(self, process: int) -> None:
+    def __init__(self, process: int, table: Table) -> None:
         self.parts: list[tuple[int, int, str]] = []
         self.bases: dict[str, int] = {}
         try:
@@ -179,7 +196,36 @@ class Modules:
         if words[5] not in self.bases:
             self.bases[words[5]] = start - int(words[2], 16) if is_moved(words[5]) else 0
 
-    def place(self, address: int) -> tuple[str, int] | None:
+    def place(self, address: int) -> Place | None:
         """The module and the offset of an address."""
         path = next((path for start, end, path in self.parts if start <= address < end), None)
         return (path, address - self.bases[path]) if path else None
+
+    def lock(self, number: int) -> tuple[str, Place | None]:
+        """What tells a lock apart from others of its class, and its place."""
+        return "at %#x" % number, self.place(number)
+
+    def name(self, thread: Thread) -> str:
+        return name_of(thread)
+
+
+class Texts(Modules):
+    """The lines that a program's language has of its callers and names, which are where they begin. A lock is a number of its own before the
+    line with its class, which it has as its place."""
+
+    def __init__(self, process: int, table: Table) -> None:
+        with open(table.path + TEXTS, "rb") as file:
+            self.raw = file.read()
+
+    def line(self, number: int) -> str:
+        return text_of(self.raw[number:].partition(b"\n")[0]) if number else ""
+
+    def place(self, address: int) -> Place | None:
+        line = self.line(address)
+        return (line, None) if line else None
+
+    def lock(self, number: int) -> tuple[str, Place | None]:
+        return "number %d" % (number >> BITS_OF_CLASS), self.place(number & (1 << BITS_OF_CLASS) - 1)
+
+    def name(self, thread: Thread) -> str:
+        return self.line(thread.name) or name_of(thread)

@@ -1,26 +1,26 @@
 """The runs by which `lockdep provoke` tries one finding after the other, and what is said of them."""
 from __future__ import annotations
 
-import json
 import os
 import sys
 from dataclasses import replace
 
 from .findings import Finding
-from .folder import OF_PROVOKE, PROVOKED, Folder
+from .folder import OF_PROVOKE, Folder
+from .happened import Happened, Stood, entry_of, read_provoked, write_provoked
 from .options import Words
-from .provoke_plan import PlannedOrder, is_cycle_of, orders_at, plan_of, statics_in
+from .processes import find_command
+from .provoke_holders import LIBRARY, Holder, Preloaded
+from .provoke_plan import PlannedOrder, foreign_words, is_cycle_of, known_places, orders_at, plan_of
 from .provoke_run import Outcome, Run, Standing, adopt_orphans
-from .provoke_table import Table
+from .provoke_table import MOST_ORDERS, Counts, Place, Table
 from .saying import write_error
-from .symbols import Address, Frame, Symbols, without_wrappers
-from .words import class_of_lock, name_in, plain_key, visible
+from .symbols import Address
+from .words import class_of_lock, name_in, plain_key
 
 HAPPENED, NOT_HAPPENED, NOTHING_TRIED = 1, 0, 2
 DEFAULT_RUNS = "10"
-LIBRARY = "provoke.so"
 OF_THE_SYSTEM = ("libc.so", "libpthread.so", "ld-linux")  # modules whose functions begin each thread
-DEEPEST = 6  # callers of a thread that are shown
 
 
 def say(text: str) -> None:
@@ -30,8 +30,8 @@ def say(text: str) -> None:
 class Tries:
     """The runs of one command for its findings."""
 
-    def __init__(self, recording: str, line: Words, library: str, limit: float) -> None:
-        self.recording, self.library, self.limit, self.command = recording, library, limit, line.rest
+    def __init__(self, recording: str, line: Words, holder: Holder, limit: float) -> None:
+        self.recording, self.holder, self.limit, self.command = recording, holder, limit, line.rest
         self.runs, self.pause, self.given = int(line.last("--runs", DEFAULT_RUNS)), line.last("--pause"), line.last("--stdin")
         self.beside, self.is_kept = line.last("--while"), line.has("--keep")
         self.room = os.path.join(os.path.realpath(recording), OF_PROVOKE)
@@ -51,16 +51,21 @@ class Tries:
 
     def begin(self, findings: list[tuple[int, Finding]], traces: list[str]) -> None:
         """Makes the plans, and room for what the runs leave."""
-        statics = statics_in(self.recording)
+        known = known_places(self.recording)
         for number, finding in findings:
-            plan = plan_of(finding, traces, statics)
+            plan = plan_of(finding, traces, known)
             if all(planned.holds and planned.wants for planned in plan):
                 self.findings[number], self.plans[number] = finding, plan
+                if len(plan) > MOST_ORDERS:
+                    say("finding %d has %d orders: threads are held back at the first %d of them" % (number, len(plan), MOST_ORDERS))
             else:
                 say("finding %d isn't tried: the recording has no places of its orders" % number)
-        self.happened = earlier(os.path.join(self.recording, PROVOKED))
+        if isinstance(self.holder, Preloaded):
+            for words in foreign_words(self.recording, find_command(self.command[0])[0] or "", traces, list(self.plans.values())):
+                say(words)
+        self.happened = read_provoked(self.recording)
         os.makedirs(self.room, exist_ok=True)
-        self.write_happened()
+        write_provoked(self.recording, self.happened)
         folder = Folder(self.recording)
         folder.lock()
         folder.list_made()
@@ -72,21 +77,21 @@ class Tries:
         """Tries one finding, and says what came of it."""
         path = os.path.join(self.room, "plan-%d" % number)
         with open(path, "w", encoding="utf-8", errors="surrogateescape") as file:
-            for place, planned in enumerate(self.plans[number], 1):
+            for place, planned in enumerate(self.plans[number][:MOST_ORDERS], 1):
                 file.write("\n".join(planned.lines(place)) + "\n")
         for count in range(1, self.runs + 1):
             table = Table(os.path.join(self.room, "table-%d-%d" % (number, count)))
             outcome = self.run(number, count, path, table)
-            os.unlink(table.path)
+            table.remove()
             if outcome.standing and self.take(number, count, outcome):
                 return
             if outcome.is_too_long:
                 say("run %d for finding %d took longer than %d seconds, and was ended" % (count, number, self.limit))
-        say("finding %d: not in %d runs: %s" % (number, self.runs, why_not(table, len(self.plans[number]))))
+        say("finding %d: not in %d runs: %s" % (number, self.runs, why_not(table, self.plans[number])))
 
     def run(self, number: int, count: int, plan: str, table: Table) -> Outcome:
         output = os.open(os.path.join(self.room, "output-%d-%d" % (number, count)), os.O_WRONLY | os.O_CREAT | os.O_TRUNC, 0o666)
-        run = Run(self.command, self.library, plan, table, self.pause, self.given, output, self.beside)
+        run = Run(self.command, self.holder, plan, table, self.pause, self.given, output, self.beside)
         os.close(output)
         outcome = Outcome()
         try:
@@ -114,77 +119,62 @@ class Tries:
             return found == 0
         say("run %d: %s: the program stands still" % (
             count, "finding %d happened" % found if found else "a cycle that is none of these findings happened"))
-        lines = thread_lines(standing, self.plans[found] if found else [])
-        sys.stdout.write("".join(line + "\n" for line in ([self.findings[found].head] if found else []) + lines))
+        happened = Happened(count, [stood(thread, self.plans[found] if found else []) for thread in standing])
+        sys.stdout.write("".join(line + "\n" for line in ([self.findings[found].head] if found else []) + happened.lines()))
         sys.stdout.flush()
         if self.is_kept:
             say("process %d is left standing: `gdb -p %d` looks at it, and `kill %d` ends it" % ((outcome.process,) * 3))
-        self.keep(found, count, standing)
+        self.keep(found, happened)
         return found in (0, number) or self.is_kept
 
-    def keep(self, found: int, count: int, standing: list[Standing]) -> None:
+    def keep(self, found: int, happened: Happened) -> None:
         """Writes down what happened, in the place of what an earlier call had of the same finding."""
-        lines = self.findings[found].lines if found else []
+        said = entry_of(found, self.findings.get(found), happened)
         self.numbers.add(found)
-        self.happened = [said for said in self.happened if not lines or said.get("lines") != lines]
-        self.happened.append({"finding": found, "lines": lines, "run": count, "threads": [
-            {"name": thread.name, "holds": words_of_places(thread.holds), "waits": words_of_places(thread.waits)} for thread in standing]})
-        self.write_happened()
-
-    def write_happened(self) -> None:
-        with open(os.path.join(self.recording, PROVOKED), "w", encoding="utf-8", errors="surrogateescape") as file:
-            json.dump({"lockdep": 1, "provoked": self.happened}, file, indent=1)
+        self.happened = [other for other in self.happened if not said["lines"] or other.get("lines") != said["lines"]] + [said]
+        write_provoked(self.recording, self.happened)
 
 
-def earlier(path: str) -> list[dict]:
-    """What earlier calls made happen in the same recording; nothing if that can't be read."""
-    try:
-        with open(path, encoding="utf-8", errors="surrogateescape") as file:
-            return [said for said in json.load(file)["provoked"] if isinstance(said, dict)]
-    except (OSError, ValueError, KeyError, TypeError):
-        return []
+def counts_of(table: Table, plan: list[PlannedOrder]) -> dict[int, Counts]:
+    """The counts of the orders by their numbers. Several orders of the same places have those of the first of them."""
+    firsts: dict[tuple[str, ...], int] = {}
+    for order, planned in enumerate(plan[:MOST_ORDERS], 1):
+        firsts.setdefault(tuple(planned.lines(0)), order)
+    return {order: table.counts(order - 1) for order in firsts.values()}
 
 
-def why_not(table: Table, orders: int) -> str:
+def why_not(table: Table, plan: list[PlannedOrder]) -> str:
     """Why nothing happened in the last run, by its counts."""
-    counts = [table.counts(order) for order in range(orders)]
-    missed = [order for order, count in enumerate(counts, 1) if not count.reached]
+    counts = counts_of(table, plan)
+    aside = [order for order, count in counts.items() if count.aside]
+    if aside:
+        return "the second lock of order %d is one of asyncio, whose tasks aren't held back" % aside[0]
+    missed = [order for order, count in counts.items() if not count.reached]
     if missed:
         return "no thread came to the second lock of order %d by a wait without an end" % missed[0]
-    alone = [order for order, count in enumerate(counts, 1) if not count.under]
+    alone = [order for order, count in counts.items() if not count.under]
     if alone:
         return "no thread came to the second lock of order %d with the first one held" % alone[0]
-    return "its orders were never under way at once (they were reached %s times)" % " and ".join(str(count.under) for count in counts)
+    return "its orders were never under way at once (they were reached %s times)" % " and ".join(str(count.under) for count in counts.values())
 
 
 # ---- What a person reads.
 
 
-def thread_lines(standing: list[Standing], plan: list[PlannedOrder]) -> list[str]:
-    """Each thread with what it holds and waits for, and where."""
-    symbols = Symbols()
-    for thread in standing:
-        for module, offset in shown_places(thread.waits) + shown_places(thread.holds):
-            symbols.want(Address(module, offset))
-    symbols.ask()
-    lines = []
-    for thread in standing:
-        name = ' "%s"' % visible(thread.name) if thread.name else ""
-        lines.append("  thread %d%s %s" % (thread.number, name, locks_of(thread, plan)))
-        lines += ["      waits  " + words for words in frames_of(symbols, thread.waits)]
-        lines += ["      took   " + words for words in frames_of(symbols, thread.holds)]
-    return lines
+def stood(thread: Standing, plan: list[PlannedOrder]) -> Stood:
+    """A thread that stands still, as it is told."""
+    return Stood(thread.number, thread.name, locks_of(thread, plan), shown_places(thread.waits), shown_places(thread.holds))
 
 
 def locks_of(thread: Standing, plan: list[PlannedOrder]) -> str:
-    """What a thread holds and waits for, by classes. Locks of one class are told apart by their addresses, since a number that the recording
+    """What a thread holds and waits for, by classes. Locks of one class are told apart as the run has them, since a number that the recording
     gave to one says nothing of another run."""
     numbers = orders_at(thread, plan)
     start, end = classes_of(plan[min(numbers) - 1]) if numbers else ("a lock", "a lock" if thread.awaited == thread.held else "another")
     if thread.awaited == thread.held:
         return "holds %s and waits for it" % start
     if numbers and start == end:
-        start, end = "%s at %#x" % (start, thread.held), "%s at %#x" % (end, thread.awaited)
+        start, end = "%s %s" % (start, thread.held), "%s %s" % (end, thread.awaited)
     return "holds %s and waits for %s" % (start, end)
 
 
@@ -193,18 +183,6 @@ def classes_of(planned: PlannedOrder) -> tuple[str, str]:
     return start, end
 
 
-def shown_places(places: list[tuple[str, int]]) -> list[tuple[str, int]]:
+def shown_places(places: list[Place]) -> tuple[Address, ...]:
     """Without those of this tool and of the C library."""
-    return [place for place in places if not os.path.basename(place[0]).startswith((LIBRARY,) + OF_THE_SYSTEM)]
-
-
-def frames_of(symbols: Symbols, places: list[tuple[str, int]]) -> list[str]:
-    """The callers in words, innermost first."""
-    frames: list[Frame] = []
-    for module, offset in shown_places(places):
-        frames += symbols.frames(Address(module, offset))
-    return [frame.words for frame in without_wrappers(frames)][:DEEPEST]
-
-
-def words_of_places(places: list[tuple[str, int]]) -> list[str]:
-    return ["%s+0x%x" % place for place in shown_places(places)]
+    return tuple(Address(*place) for place in places if not os.path.basename(place[0]).startswith((LIBRARY,) + OF_THE_SYSTEM))

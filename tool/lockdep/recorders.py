@@ -2,6 +2,7 @@
 from __future__ import annotations
 
 import os
+import sys
 
 from . import loading
 from .processes import find_command, output_of
@@ -27,6 +28,7 @@ class Recorder:
     finisher: str | None = None  # what makes the traces, below recorders/, if neither this package nor `finish` of the recorder of pthreads does
     writes_traces = False  # whether the program writes the traces themselves, into the recording
     script: str | None = None  # what records by itself, below recorders/, if that isn't done by the driver
+    holder: str | None = "preloaded"  # what holds threads back for `lockdep provoke`, by its name in provoke_holders.py, if anything does
 
     def recognises(self, command: str) -> bool:
         """Whether a command is one for this recorder."""
@@ -36,13 +38,17 @@ class Recorder:
         """What the command needs to be recorded."""
         return {"PRELOAD": preload, "LOCKDEP_RECORD": raw}
 
+    def command(self, words: list[str]) -> list[str]:
+        """A command as it is run by the recorder that was named."""
+        return words
+
     def finish(self, path: str, raw: str) -> Summary | None:
         """Makes the traces in a folder, if this package does that. The result is what was counted."""
         return None
 
 
 class Python(Recorder):
-    name, language, script = "python", "Python", "python/lockdep_record"
+    name, language, script, holder = "python", "Python", "python/lockdep_record", "python"
     sees, when = "for the locks of threading and asyncio", "the command is python3 or a script that names it"
 
     def recognises(self, command: str) -> bool:
@@ -53,9 +59,14 @@ class Python(Recorder):
         first = beginning(command).partition(b"\n")[0]
         return first[:2] == b"#!" and b"python" in first
 
+    def command(self, words: list[str]) -> list[str]:
+        """A script that can't be run by itself, and options of Python, are run by Python."""
+        is_python = words[0].endswith((".py", ".pyz")) or words[0][:1] == "-" or find_command(words[0])[0] is None
+        return [sys.executable] + words if is_python else words
+
 
 class Rust(Recorder):
-    name, language, is_in_process = "rust", "Rust", True
+    name, language, is_in_process, holder = "rust", "Rust", True, None
     sees = "for those of the crate lockdep_record"
     when = "it is a program built with that crate and --cfg lockdep, or cargo with that flag in RUSTFLAGS or its settings"
 
@@ -74,15 +85,20 @@ class Rust(Recorder):
 
 
 class Java(Recorder):
-    name, language, script = "java", "Java", "java/record"
+    name, language, script, holder = "java", "Java", "java/record", "java"
     sees, when = "for monitors and locks of Java", "it is java"
 
     def recognises(self, command: str) -> bool:
         return command.rpartition("/")[2] == "java"
 
+    def command(self, words: list[str]) -> list[str]:
+        """A class, and options of java, are run by java."""
+        is_command = words[0][:1] != "-" and find_command(words[0])[0] is not None
+        return words if is_command else ["java"] + words
+
 
 class Embed(Recorder):
-    name, language, is_in_process, writes_traces = "embed", "lockdep_record.h", True, True
+    name, language, is_in_process, writes_traces, holder = "embed", "lockdep_record.h", True, True, None
     sees = "for a program with lockdep_record.h that writes to the folder LOCKDEP_TRACES"
     when = "it is a program with that header and that name"
 

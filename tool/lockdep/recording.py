@@ -75,14 +75,18 @@ def begin(home: str, wishes: Wishes, command: list[str], then: str) -> None:
                                     os.environ.get("LOCKDEP_ALSO", "")).text())
     keep_wrappers(folder.raw)
     preload = "" if recorder.is_in_process or is_of_musl(program) else os.path.join(preloadable(home, out, folder), "preload.so")
-    environment = dict(os.environ, **recorder.environment(wishes.folder, folder.raw, preload))
-    if ASAN not in environment.get("ASAN_OPTIONS", ""):
-        environment["ASAN_OPTIONS"] = ":".join(filter(None, [environment.get("ASAN_OPTIONS"), ASAN + "=0"]))
+    environment = with_asan_after(dict(os.environ, **recorder.environment(wishes.folder, folder.raw, preload)))
     folder.keep_lock()
     # (a process that is left in the background by a program that records itself has its say up to then)
     no_wait = ["--no-wait"] if recorder.is_in_process or not wishes.is_waiting else []
     run = os.path.join(out, "run")
     become([run, "go"] + no_wait + [then, wishes.folder] + command, environment)
+
+
+def with_asan_after(environment: dict[str, str]) -> dict[str, str]:
+    """An environment in which programs with gcc's address sanitizer start after a library that is preloaded."""
+    options = environment.get("ASAN_OPTIONS", "")
+    return environment if ASAN in options else dict(environment, ASAN_OPTIONS=":".join(filter(None, [options, ASAN + "=0"])))
 
 
 def look_at_wishes() -> None:

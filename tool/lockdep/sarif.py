@@ -12,9 +12,11 @@ from .breaches import Breach
 from .checker import version
 from .findings import Event, Finding
 from .forms import HANG, Found
+from .happened import Happened, Stood
 from .junit import step_words
 from .sources import Sources
 from .steps import Step, sentence, steps_of, task_count
+from .symbols import Frame
 from .words import as_sentence, bytes_of, text_of, visible
 
 SCHEMA = "https://docs.oasis-open.org/sarif/sarif/v2.1.0/errata01/os/schemas/sarif-schema-2.1.0.json"
@@ -116,7 +118,25 @@ def finding_result(finding: Finding, found: Found) -> dict:
     if finding in found.known:
         result["suppressions"] = [{"kind": "external", "status": "accepted"}]
     add_steps(result, steps_of(finding), found.sources)
+    if finding.happened:
+        result["stacks"] = [stack for thread in finding.happened.threads for stack in stacks_of(thread, finding.happened)]
     return result
+
+
+def stacks_of(thread: Stood, happened: Happened) -> list[dict]:
+    """Where a thread that stood still waits, and where it took what it holds."""
+    return [{"message": {"text": sarif_text("%s: %s" % (thread.words, what))}, "frames": [
+        {"location": frame_location(frame)} for frame in happened.frames(places)]}
+        for what, places in (("where it waits", thread.waits), ("where it took what it holds", thread.holds))]
+
+
+def frame_location(frame: Frame) -> dict:
+    found: dict = {"message": {"text": sarif_text(frame.words)}}
+    if frame.path:
+        found["physicalLocation"] = {"artifactLocation": artifact(frame.path), "region": {"startLine": frame.line}}
+    if frame.function:
+        found["logicalLocations"] = [{"name": visible(frame.function), "kind": "function"}]
+    return found
 
 
 def blocked_result(thread: Blocked | Breach, found: Found) -> dict:

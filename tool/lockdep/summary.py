@@ -199,6 +199,16 @@ def read(folder: str, home: str | None = None) -> Summary | None:
     return None
 
 
+def recorder_of(folder: str) -> str:
+    """The name of the recorder that made a recording; empty if that isn't known."""
+    import json
+    try:
+        with open(os.path.join(folder, "summary.json"), encoding="utf-8", errors="surrogateescape") as file:
+            return str(json.load(file)["recorder"])
+    except (OSError, ValueError, KeyError, TypeError):
+        return ""
+
+
 def write(folder: str, summary: Summary, recorder: str) -> None:
     """Writes the summary as text and as JSON."""
     put(os.path.join(folder, "SUMMARY"), text_of(summary))

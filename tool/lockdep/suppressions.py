@@ -33,6 +33,7 @@ CYCLE = "circle"  # as reports have it
 
 # The comment under a line of a report that says what its findings were seen between when the list was written: the strongest of it.
 EXCUSED = {
+    Kind.HAPPENED: "made to happen by `lockdep provoke`",
     Kind.LOCKS: "seen between locks",
     Kind.PERHAPS: "perhaps seen between locks",
     Kind.UNKNOWN: "not known whether seen between locks",

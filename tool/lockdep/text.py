@@ -8,7 +8,7 @@ from .groups import Group
 from .sources import Sources
 from .symbols import place_words
 from .terminal import Writer
-from .verdict import Recorded, notes_of, verdict_of
+from .verdict import Recorded, notes_of, said_of, verdict_of
 from .words import counted, name_in
 
 MOST_GROUPS = 20  # on a terminal
@@ -24,8 +24,7 @@ class Text:
     def finding(self, finding: Finding) -> None:
         self.writer.line("")
         self.annotator.begin_block()
-        seen = verdict_of(finding, self.recorded)
-        for line in block_of(finding, notes_of(finding, self.recorded), seen, self.sources):
+        for line in block_of(finding, notes_of(finding, self.recorded), said_of(finding, self.recorded), self.sources):
             self.writer.line(self.sources.demangler.text(line.text), self.annotator.under(line.items))
 
     def breach(self, breach: Breach) -> None:

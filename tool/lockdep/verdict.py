@@ -5,6 +5,7 @@ import os
 import re
 from typing import Iterable
 
+from .apart import apart_words
 from .files import contents
 from .findings import Finding, Gate, Kind
 from .words import bytes_of, class_of_lock, name_in, plain_key, stands_for_several, text_of, type_of_class
@@ -146,10 +147,10 @@ def is_kept_apart(inner: Finding) -> bool:
 def by_importance(findings: list[Finding]) -> list[Finding]:
     """What to look at first comes first: what happened, and of what was seen between single locks that which nothing kept apart, and of
     cycles the shortest."""
-    def rank(finding: Finding) -> tuple[bool, int, bool, bool, int]:
+    def rank(finding: Finding) -> tuple[int, bool, bool, int]:
         inner = finding.between.finding if finding.between else None
         is_other = inner is None or inner.type != "circle"
-        return (not finding.happened, list(Kind).index(finding.kind) if finding.kind else 0, bool(inner) and is_kept_apart(inner), is_other,
+        return (list(Kind).index(finding.kind or Kind.UNKNOWN), bool(inner) and is_kept_apart(inner), is_other,
                 0 if is_other else len(inner.orders))
     return sorted(findings, key=rank)
 
@@ -163,7 +164,7 @@ def unknown_words(reason: str) -> str:
 
 def verdict_of(finding: Finding, recorded: Recorded) -> str:
     """What was seen of a finding, first of all that it happened; empty if nothing was asked."""
-    words = [HAPPENED % finding.happened] if finding.happened else []
+    words = [HAPPENED % finding.happened.run] if finding.happened else []
     seen = words_seen(finding, recorded)
     return "; ".join(words + ([seen] if seen else []))
 
@@ -213,6 +214,10 @@ def notes_of(finding: Finding, recorded: Recorded) -> list[str]:
 
 
 def remarks_of(finding: Finding, recorded: Recorded) -> list[str]:
-    """What else is said about a finding: the notes, which may speak against it, and what it was seen between."""
-    seen = verdict_of(finding, recorded)
-    return ["what may speak against it: " + note for note in notes_of(finding, recorded)] + ([seen] if seen else [])
+    """What else is said about a finding: the notes, which may speak against it, and what was seen of it."""
+    return ["what may speak against it: " + note for note in notes_of(finding, recorded)] + said_of(finding, recorded)
+
+
+def said_of(finding: Finding, recorded: Recorded) -> list[str]:
+    """What was seen of a finding: which of its threads never ran at the same time, and then the verdict."""
+    return [words for words in (apart_words(finding, recorded), verdict_of(finding, recorded)) if words]

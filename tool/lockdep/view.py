@@ -6,14 +6,16 @@ import re
 import signal
 import sys
 
+from .apart import folder_of
 from .checker import HOME, answer_of
 from .files import STANDARD_OUTPUT, is_file, print_file, same_file, text_named, write_form
 from .findings import Finding, findings_of
 from .forms import Found, text_of_form
+from .happened import take_happened
 from .known import sort
 from .sources import sources_of
 from .suppressions import WHAT, entries_of
-from .verdict import Recorded
+from .verdict import Recorded, by_importance
 from .words import Refusal, counted, visible
 
 # The options that take a value, with the name of the value.
@@ -23,7 +25,8 @@ FORMS = {"page": "-o", "sarif": "--sarif", "junit": "--junit", "json": "--json"}
 ORDER = ("json", "sarif", "junit", "page")  # in which forms are made
 
 # What `confirm` says about a finding, and a note, to which it may have added what was seen between single locks.
-SEEN_LINE = re.compile("  ((perhaps seen|seen|not known) .+)")
+SEEN_LINE = re.compile("  ((happened|perhaps seen|seen|not known) .+)")
+APART_LINE = re.compile(r"  (\S+ and \S+ never ran at the same time .+)")
 NOTE_LINE = re.compile("  note: (.+)")
 
 
@@ -101,7 +104,8 @@ def confirmed_remarks(finding: Finding, block: list[str]) -> list[str]:
     said = [match.group(1) for match in map(NOTE_LINE.fullmatch, block) if match]
     is_same = len(said) == len(finding.notes) and all(map(str.startswith, said, finding.notes))
     seen = [match.group(1) for match in map(SEEN_LINE.fullmatch, block) if match]
-    return ["what may speak against it: " + note for note in (said if is_same and seen else finding.notes)] + seen[-1:]
+    apart = [match.group(1) for match in map(APART_LINE.fullmatch, block) if match]
+    return ["what may speak against it: " + note for note in (said if is_same and seen else finding.notes)] + apart[-1:] + seen[-1:]
 
 
 def take_confirmed(found: Found, blocks: list[list[str]]) -> None:
@@ -133,6 +137,7 @@ def found_in(given: dict[str, str], files: list[str]) -> Found:
     if bool(findings) != bool(answer.status):
         raise Refusal("`explain --json` ended with status %d and wrote %s" % (answer.status, counted(len(findings), "finding")))
     blocks = confirmed_blocks(given["confirmed"]) if "confirmed" in given else []
+    findings = with_happened(findings, files)
     sources = sources_of(findings)
     result = sort(findings, [], entries, sources)
     waiting = [line.strip() for line in given.get("waiting", "").split("\n") if line.strip()]
@@ -140,6 +145,14 @@ def found_in(given: dict[str, str], files: list[str]) -> Found:
     if "confirmed" in given:
         take_confirmed(found, blocks)
     return found
+
+
+def with_happened(findings: list[Finding], files: list[str]) -> list[Finding]:
+    """The findings, those first that `lockdep provoke` made happen, if all traces are of one recording in which it did."""
+    folders = set(map(folder_of, files))
+    if len(folders) == 1:
+        take_happened(findings, folders.pop())
+    return by_importance(findings)
 
 
 def texts_of(given: dict[str, str], found: Found) -> dict[str, str]:

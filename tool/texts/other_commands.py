@@ -26,7 +26,9 @@ ALL = (
     command("chains", "list the acquisitions of a trace", "file", []),
     RECORD,
     command("confirm", "explain what was found in a recording, and what was seen between single locks", "folder", [
-        Option("--strict", None, "status 1 only for what was seen between locks", "")]),
+        Option("--strict", None, "status 1 only for what happened or was seen between locks", ""), Option("--html", FILE, "where the page goes", ""),
+        Option("--sarif", FILE, "write the findings as SARIF", ""), Option("--junit", FILE, "write the findings as JUnit", ""),
+        Option("--json", FILE, "write the findings as JSON", "")]),
     command("where", "put source lines under the records of a text", "folder", []),
     command("diff", "say which findings are new in a recording", "files", []),
     command("view", "write what was found as a page to look at, as SARIF, or as JUnit", "files", [

@@ -3,6 +3,7 @@
 do that in a loop. The status is 1 if a request got no answer for 10 seconds."""
 import base64
 import json
+import socket
 import ssl
 import sys
 import threading
@@ -11,6 +12,8 @@ import urllib.error
 import urllib.request
 
 PATIENCE = 10.0  # seconds for an answer
+LISTENS = ("127.0.0.1", 5665)
+START = 30.0  # seconds until it has to listen
 CLIENTS = 6
 HEAD = {"Authorization": "Basic " + base64.b64encode(b"root:icinga").decode(), "Accept": "application/json"}
 UNVERIFIED = ssl._create_unverified_context()  # the certificate is one that was made for this
@@ -27,6 +30,18 @@ def is_answered(method: str, path: str, body=None) -> bool:
     except OSError:
         return False
     return True
+
+
+def listens() -> bool:
+    """Whether the server takes connections, which it has some time to begin with."""
+    begin = time.monotonic()
+    while time.monotonic() - begin < START:
+        try:
+            socket.create_connection(LISTENS, 1).close()
+            return True
+        except OSError:
+            time.sleep(0.2)
+    return False
 
 
 def create_and_delete(name: str) -> bool:
@@ -60,7 +75,7 @@ class Load:
 
 def main() -> int:
     seconds = float(sys.argv[1])
-    if not create_and_delete("second"):
+    if not listens() or not create_and_delete("second"):
         print("the server doesn't answer")
         return 1
     if not seconds:

@@ -7,6 +7,7 @@
    FOLDER/objects              the same traces with the names of single locks
    FOLDER/classes              for each class's name, where that is
    FOLDER/classes.places       by which callers it is made, if it is known by them
+   FOLDER/lives                which thread started and joined which, if any was joined
    FOLDER/weak                 which acquisitions are by waits that give up, or of new locks, if any are
    FOLDER/breaches             what a program did against what it says of its locks, if it did
    FOLDER/breaches.places      where, in two places for each of these
@@ -247,6 +248,7 @@ int main(int argc, char **argv) {
     find_joins();
     name_objects();
     write_traces(argv[1], version);
+    write_lives(argv[1]);
     find_breaches();
     write_breaches(argv[1]);
     write_classes(argv[1]);

@@ -79,6 +79,7 @@ struct arena {
     int *keys;         /* of its classes: one more than the key's number, 0 if it has none yet */
     int **object_keys; /* of each of its processes, and there of each object: one more than the key's number, 0 if it has none yet */
     uint8_t *threads;    /* of its objects that are threads, as joins.c says; NULL if none is joined */
+    uint32_t *traces;    /* of its threads: the numbers that these have as files; 0 of one without */
     uint32_t *processes; /* from its numbers to those of all; 0 if it locked nothing */
 };
 
@@ -180,6 +181,10 @@ uint32_t own_object(const struct arena *a, const struct raw_thread *t);
 const struct place *start_of(struct arena *a, uint32_t object, struct place *room);
 bool is_going_on(const struct arena *a, uint32_t object);
 
+/* ---- lives.c */
+
+void write_lives(const char *folder);
+
 /* ---- objects.c */
 
 void name_objects(void);
@@ -208,6 +213,7 @@ struct content { /* of a trace: two traces of the same say the same */
 void expect_traces(uint64_t count);
 void add_content(struct content *content, uint64_t what);
 bool is_told_enough(const struct content *content, uint32_t trace); /* this trace isn't needed any more; else it has that number */
+bool stands_for_others(uint32_t trace);
 void tell_stand_ins(FILE *file); /* lines of SUMMARY: which traces stand for how many others */
 
 /* ---- traces.c */

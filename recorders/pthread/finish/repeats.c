@@ -68,6 +68,13 @@ bool is_told_enough(const struct content *content, uint32_t trace) {
     return is_enough;
 }
 
+bool stands_for_others(uint32_t trace) {
+    for (size_t i = 0; i < stand_in_count; i++)
+        if (stand_ins[i].trace == trace)
+            return true;
+    return false;
+}
+
 void tell_stand_ins(FILE *file) {
     for (size_t i = 0; i < stand_in_count; i++)
         fprintf(file, "    task-%04u stands for %u of them\n", stand_ins[i].trace, stand_ins[i].others);

@@ -392,7 +392,8 @@ static void write_task(const char *folder, const struct trace *t) {
     putc('\n', tasks);
 }
 
-static void write_trace(const char *folder, struct trace *t) {
+/* Returns the number of the trace's file, or 0 if it has none. */
+static uint32_t write_trace(const char *folder, struct trace *t) {
     struct names n;
     snprintf(n.trace, sizeof n.trace, "task-%04lu", (unsigned long)sums.threads + 1);
     snprintf(n.text, sizeof n.text, "%s/%s.csv", folder, n.trace);
@@ -407,11 +408,12 @@ static void write_trace(const char *folder, struct trace *t) {
     write_weak(folder, t, t->events && !is_told);
     sums.alike += is_told;
     if (t->events == 0 || is_told)
-        return;
+        return 0;
     sums.threads++;
     sums.events += t->events;
     tell_last(t, n.trace);
     write_task(folder, t);
+    return (uint32_t)sums.threads;
 }
 
 static void add_left_out(const struct raw_left_out *from) {
@@ -438,7 +440,8 @@ void write_traces(const char *folder, int version) {
     for (size_t i = 0; i < arena_count; i++)
         threads += count_of(&arenas[i], RAW_THREADS);
     expect_traces(threads);
-    for (size_t i = 0; i < arena_count; i++)
+    for (size_t i = 0; i < arena_count; i++) {
+        arenas[i].traces = checked(calloc(count_of(&arenas[i], RAW_THREADS) + 1, sizeof *arenas[i].traces));
         for (uint32_t n = 1; n <= count_of(&arenas[i], RAW_THREADS); n++) {
             const struct raw_thread *raw = part_of(&arenas[i], RAW_THREADS, n);
             if (!raw->is_ready)
@@ -449,8 +452,9 @@ void write_traces(const char *folder, int version) {
             t.arena = &arenas[i];
             t.raw = raw;
             t.version = version;
-            write_trace(folder, &t);
+            arenas[i].traces[n] = write_trace(folder, &t);
         }
+    }
     end_file(&tasks_file);
     end_file(&weak_file);
 }

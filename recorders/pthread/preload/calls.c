@@ -279,10 +279,11 @@ EXPORT int pthread_create(pthread_t *thread, const pthread_attr_t *how, void *(*
     note_handing_on();
     if (is_recording())
         note_frames(HERE);
+    uint32_t life = begin_start();
     int error = REAL(pthread_create)(thread, how, run, with);
     if (!error) {
         forget_name(*thread);
-        note_start(*thread, (uintptr_t)run, before, HERE);
+        note_start(*thread, (uintptr_t)run, before, life, HERE);
     }
     return error;
 }

@@ -104,9 +104,13 @@ static void remember(struct memo *memo, const struct stack *stack, struct call c
     STORE(&memo->sum, sum);
 }
 
-uint32_t place_of_call(struct call call, uint32_t most) {
+static inline struct memo *memo_of(struct call call) {
     uint64_t which = (call.caller ^ call.caller >> 10 ^ call.frame >> 3) & (__atomic_load_n(&memos_in_use, __ATOMIC_RELAXED) - 1);
-    struct memo *memo = NTH(memos, which);
+    return NTH(memos, which);
+}
+
+uint32_t place_of_call(struct call call, uint32_t most) {
+    struct memo *memo = memo_of(call);
     if (LIKELY(is_same_stack(memo, call, most)))
         return memo->place;
     struct stack stack;
@@ -117,19 +121,87 @@ uint32_t place_of_call(struct call call, uint32_t most) {
     return place;
 }
 
-/* By a place and the size of an element: the place of arrays. */
-static struct names arrays;
+/* ---- The place of a piece of memory. A call whose stacks vary, as in a program that interprets another one, is looked for among those
+   that were met with the same innermost callers. If these were met in many stacks they alone tell the call: to follow and keep ever new
+   stacks takes several times what malloc does. */
 
-uint32_t place_of_array(struct call call, uint32_t most, uint64_t element) {
-    uint32_t plain = place_of_call(call, most);
-    uint32_t *slot = plain ? added_slot(&arrays, mixed(mixed(plain) ^ element)) : NULL;
+#define PIECE_FRAMES 12
+#define INNERMOST 4 /* the callers that a name has, and an operator of C++ */
+#define MOST_STACKS 256
+#define INNER_MEMOS 4096
+#define FIRST_INNER_MEMOS 4
+
+TABLE(struct memo, inner_memos, FIRST_INNER_MEMOS, INNER_MEMOS);
+static struct names stacks_of_calls; /* how many stacks were met, by the innermost callers */
+
+/* The place of a stack, which is counted if it is new. */
+static uint32_t counted_place(const struct stack *stack, uint32_t *met) {
+    uint32_t *slot = added_slot(&places, stack_key(stack));
+    if (!slot)
+        return 0;
+    uint32_t place = LOAD(slot);
+    if (LIKELY(place))
+        return place;
+    if (met)
+        ADD(met, 1);
+    return settled(slot, define_place(stack));
+}
+
+/* The same of a stack of which the innermost callers are known. */
+static __attribute__((noinline)) uint32_t place_of_varied(struct call call, struct stack *stack, struct memo *memo, struct memo *inner) {
+    uint32_t *met = added_slot(&stacks_of_calls, stack_key(stack));
+    if (!met || LOAD(met) < MOST_STACKS)
+        take_stack(stack, call, PIECE_FRAMES);
+    uint32_t place = counted_place(stack, met);
+    if (place && stack->is_bounded && stack->count > 1) {
+        remember(memo, stack, call, place);
+        remember(inner, stack, call, place);
+    }
+    return place;
+}
+
+uint32_t place_of_piece(struct call call) {
+    struct memo *memo = memo_of(call);
+    if (LIKELY(is_same_stack(memo, call, PIECE_FRAMES)))
+        return memo->place;
+    struct stack stack;
+    take_stack(&stack, call, INNERMOST);
+    bool are_many = __atomic_load_n(&memos_in_use, __ATOMIC_RELAXED) > FIRST_MEMOS;
+    uint64_t which = (stack_key(&stack) ^ call.frame >> 4) & ((are_many ? INNER_MEMOS : FIRST_INNER_MEMOS) - 1);
+    struct memo *inner = NTH(inner_memos, which);
+    return is_same_stack(inner, call, PIECE_FRAMES) ? inner->place : place_of_varied(call, &stack, memo, inner);
+}
+
+/* By a place and the size of an element: the place of arrays. The last ones are found again in a word each: the key, and the place in its
+   lowest bits. */
+#define ARRAY_MEMOS 256
+#define ARRAY_PLACE ((UINT64_C(1) << 21) - 1) /* more than there are places */
+
+static struct names arrays;
+static uint64_t array_memos[ARRAY_MEMOS] LARGE;
+
+static __attribute__((noinline)) uint32_t place_of_new_array(struct call call, uint64_t key, uint64_t element) {
+    uint32_t *slot = added_slot(&arrays, key);
     uint32_t place = slot ? LOAD(slot) : 0;
     if (LIKELY(place || !slot))
         return place;
     struct stack stack;
-    take_stack(&stack, call, most);
+    take_stack(&stack, call, PIECE_FRAMES);
     stack.element = element;
     return settled(slot, place_of(&stack));
+}
+
+uint32_t place_of_array(struct call call, uint64_t element) {
+    uint32_t plain = place_of_piece(call);
+    if (!plain)
+        return 0;
+    uint64_t key = mixed(mixed(plain) ^ element), *memo = &array_memos[(key >> 32) % ARRAY_MEMOS];
+    uint64_t known = __atomic_load_n(memo, __ATOMIC_RELAXED);
+    if (LIKELY((known ^ key) <= ARRAY_PLACE && known & ARRAY_PLACE))
+        return (uint32_t)(known & ARRAY_PLACE);
+    uint32_t place = place_of_new_array(call, key, element);
+    __atomic_store_n(memo, (key & ~ARRAY_PLACE) | place, __ATOMIC_RELAXED);
+    return place;
 }
 
 static uint32_t place_here(struct call call) {

@@ -10,7 +10,6 @@
 #include <string.h>
 
 #define LEAST_LOCK 4 /* the bytes of a spin lock */
-#define PIECE_FRAMES 12
 
 /* ---- The table. */
 
@@ -170,7 +169,7 @@ static void take_parts_out(uintptr_t start, uint64_t size) {
 static inline void put_noted(void *piece, size_t size, uint64_t element, struct call call) {
     if (RARELY(size >> MOST_BITS))
         return;
-    uint64_t place = RARELY(element) ? place_of_array(call, PIECE_FRAMES, element) : place_of_call(call, PIECE_FRAMES);
+    uint64_t place = RARELY(element) ? place_of_array(call, element) : place_of_piece(call);
     put_piece((uintptr_t)piece, (uint64_t)size << SIZE_SHIFT | place);
     note_own_piece((uintptr_t)piece);
     if (RARELY(size >= LONG_PIECE))

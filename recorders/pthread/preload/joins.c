@@ -6,9 +6,38 @@
 #include <pthread.h>
 #include <threads.h>
 
-#define REALS(X) X(pthread_join) X(pthread_timedjoin_np) X(pthread_clockjoin_np) X(thrd_create) X(thrd_join)
+#define REALS(X) X(pthread_join) X(pthread_tryjoin_np) X(pthread_timedjoin_np) X(pthread_clockjoin_np) X(thrd_create) X(thrd_join)
 REALS(KNOWN_REAL)
 FIND_AT_START(REALS)
+
+FOUND_WHEN_LOADED(this_thread, pthread_self);
+
+/* ---- Which thread was started or joined by which, one after the other. */
+
+/* (a child that was forked without our knowledge has no number yet) */
+static bool is_noting(void) { return is_recording() && *era && own_process; }
+
+static uint32_t lives_so_far(void) { return is_noting() ? LOAD(&arena->regions[RAW_LIVES].used) : 0; }
+
+static void note_life(uint32_t number, enum life_kind kind, pthread_t thread, uint32_t known) {
+    struct raw_life *life = part_of(RAW_LIVES, number);
+    life->process = own_process;
+    life->by = (uint64_t)this_thread();
+    life->thread = (uint64_t)thread;
+    life->known = known;
+    STORE(&life->kind, kind);
+}
+
+/* The number of a start that comes now; 0 if it isn't noted. */
+uint32_t begin_start(void) { return is_noting() ? take_part(RAW_LIVES) : 0; }
+
+static void note_join(pthread_t thread, uint32_t known, int error) {
+    uint32_t number = error || !is_noting() ? 0 : take_part(RAW_LIVES);
+    if (number)
+        note_life(number, LIFE_JOIN, thread, known);
+}
+
+/* ---- Threads as locks. */
 
 /* What is known of a thread by its number, which another one has later: its class, how many traces there were before it started, its own
    trace, and the object as which it is joined. */
@@ -30,7 +59,9 @@ static void note(pthread_t thread, enum about what, uint32_t value) {
 
 uint32_t traces_so_far(void) { return is_recording() ? LOAD(&arena->regions[RAW_THREADS].used) : 0; }
 
-void note_start(pthread_t thread, uintptr_t run, uint32_t before, struct call call) {
+void note_start(pthread_t thread, uintptr_t run, uint32_t before, uint32_t life, struct call call) {
+    if (life)
+        note_life(life, LIFE_START, thread, lives_so_far());
     if (!is_recording() || !begin_inside(call))
         return;
     int saved = errno;
@@ -43,6 +74,7 @@ void note_start(pthread_t thread, uintptr_t run, uint32_t before, struct call ca
 
 /* The thread's trace begins. It may be joined already: one of it and the joiner sees what the other has noted. */
 void note_trace(struct raw_thread *part, uint32_t number) {
+    part->known = lives_so_far();
     note(part->self, TRACE, number);
     part->joined = known(part->self, OBJECT);
 }
@@ -69,8 +101,6 @@ static uint32_t object_of(pthread_t thread) {
         STORE(&part->joined, object);
     return object;
 }
-
-FOUND_WHEN_LOADED(this_thread, pthread_self);
 
 static pthread_t first_thread;
 
@@ -113,8 +143,10 @@ static void end_join(pthread_t thread, uint8_t weak, bool is_wish, bool has_ende
 
 #define JOINING(name, weak, parameters, arguments)                                                                     \
     EXPORT int name parameters {                                                                                       \
+        uint32_t known = lives_so_far();                                                                               \
         bool is_wish = begin_join(thread, weak, HERE);                                                                 \
         int answer = REAL(name) arguments;                                                                             \
+        note_join(thread, known, answer);                                                                              \
         end_join(thread, weak, is_wish, answer == 0, HERE);                                                            \
         return answer;                                                                                                 \
     }
@@ -127,16 +159,25 @@ JOINING(pthread_timedjoin_np, until ? RAW_TIMED : 0, (pthread_t thread, void **v
 JOINING(pthread_clockjoin_np, until ? RAW_TIMED : 0, (pthread_t thread, void **value, clockid_t clock, deadline until), (thread, value, clock, until))
 JOINING(thrd_join, 0, (thrd_t thread, int *value), (thread, value))
 
+/* (it doesn't wait, and so it is no lock) */
+EXPORT int pthread_tryjoin_np(pthread_t thread, void **value) {
+    uint32_t known = lives_so_far();
+    int answer = REAL(pthread_tryjoin_np)(thread, value);
+    note_join(thread, known, answer);
+    return answer;
+}
+
 /* (glibc starts and joins the threads of C11 without calling the functions of pthreads) */
 EXPORT int thrd_create(thrd_t *thread, thrd_start_t run, void *with) {
     uint32_t before = traces_so_far();
     note_handing_on();
     if (is_recording())
         note_frames(HERE);
+    uint32_t life = begin_start();
     int answer = REAL(thrd_create)(thread, run, with);
     if (answer == thrd_success) {
         forget_name(*thread);
-        note_start(*thread, (uintptr_t)run, before, HERE);
+        note_start(*thread, (uintptr_t)run, before, life, HERE);
     }
     return answer;
 }

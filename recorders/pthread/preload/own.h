@@ -261,7 +261,8 @@ void forget_name(pthread_t thread);
 uint32_t place_of(const struct stack *stack);
 uint32_t place_of_caller(uintptr_t caller);
 uint32_t place_of_call(struct call call, uint32_t most);
-uint32_t place_of_array(struct call call, uint32_t most, uint64_t element);
+uint32_t place_of_piece(struct call call);
+uint32_t place_of_array(struct call call, uint64_t element);
 uint32_t object_of_lock(uintptr_t lock, struct call call); /* makes one of a new lock; 0: no room */
 uint32_t apart(uintptr_t lock, uint32_t object); /* an object of its own for a nested lock, or the same */
 uint32_t apart_early(uintptr_t lock, uint32_t object);
@@ -346,7 +347,8 @@ uint32_t held_object(uintptr_t lock); /* as which this thread holds it; 0 if it 
 /* ---- joins.c */
 
 uint32_t traces_so_far(void);
-void note_start(pthread_t thread, uintptr_t run, uint32_t before, struct call call);
+uint32_t begin_start(void);
+void note_start(pthread_t thread, uintptr_t run, uint32_t before, uint32_t life, struct call call);
 void note_trace(struct raw_thread *part, uint32_t number);
 bool is_first_thread(void);
 

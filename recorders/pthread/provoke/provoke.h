@@ -2,7 +2,9 @@
    back where it asks for the second lock of an order that was found, with the first one held, until threads stand at the other orders of a
    cycle; then it lets them go, and each waits for what the next one holds.
 
-   What threads hold and wait for is in a file that `lockdep provoke` makes and reads: it says when the program stands still. */
+   What threads hold and wait for is in a file that `lockdep provoke` makes and reads: it says when the program stands still. The recorders
+   of Python (lockdep_record/provoke.py) and Java (Provoke.java) write the same file: their callers are places in a second one, with a line
+   for each, and a lock is a number with the place of its class. */
 #ifndef PROVOKE_H
 #define PROVOKE_H
 
@@ -43,13 +45,14 @@ struct thread {
     uint32_t held_count;
     uint64_t callers[MOST_CALLERS];
     uint32_t goes; /* whether it was let go, into a cycle */
-    uint32_t unused;
+    uint32_t name; /* where the program's language has its name; 0: the system has it */
     struct held held[MOST_HELD];
 };
 
-/* How often the second lock of an order was asked for, how often so with the first one held, and how often a thread stood there. */
+/* How often the second lock of an order was asked for, how often so with the first one held, how often a thread stood there, and how often a
+   task asked for it that isn't held back, as one of Python's asyncio. */
 struct counts {
-    uint32_t reached, under, pauses, unused;
+    uint32_t reached, under, pauses, aside;
 };
 
 /* The file. */

@@ -254,39 +254,38 @@ static void stand(long length) {
     __atomic_fetch_add(&paused, length, __ATOMIC_RELAXED);
 }
 
-/* The order, of those that are wanted here, whose first lock this thread holds; or none, MOST_ORDERS. (A lock that isn't known as the first
-   one of an order may be it all the same: so a thread also stands if it holds another, but as one that is at no order.) */
-static unsigned order_under_way(uintptr_t lock, uint64_t wants) {
-    for (uint32_t i = 0; i < mine->held_count; i++) {
-        uint64_t both = mine->held[i].lock != lock && mine->held[i].lock ? mine->held[i].orders & wants : 0;
-        if (both)
-            return (unsigned)__builtin_ctzll(both);
-    }
-    return MOST_ORDERS;
+/* The orders, of those that are wanted here, whose first lock this thread holds. (A lock that isn't known as the first one of an order may
+   be it all the same: so a thread also stands if it holds another, but as one that is at no order.) */
+static uint64_t orders_under_way(uintptr_t lock, uint64_t wants) {
+    uint64_t under = 0;
+    for (uint32_t i = 0; i < mine->held_count; i++)
+        under |= mine->held[i].lock != lock && mine->held[i].lock ? mine->held[i].orders & wants : 0;
+    return under;
 }
 
-static void count_reached(uint64_t wants) {
-    for (; wants; wants &= wants - 1)
-        ADD(&table->counts[__builtin_ctzll(wants)].reached);
+static void count_reached(uint64_t wants, uint64_t under) {
+    for (; wants; wants &= wants - 1) {
+        struct counts *counts = &table->counts[__builtin_ctzll(wants)];
+        ADD(&counts->reached);
+        if (under & wants & -wants)
+            ADD(&counts->under);
+    }
 }
 
 /* Called where the second lock of some orders is asked for. If another lock is held, the thread stands here until it is in a cycle, or for
    a pause. */
 void consider(uintptr_t lock, enum mode mode, uint64_t wants, const struct stack *stack) {
-    count_reached(wants);
-    if (stack->is_in_handler || !is_known_thread())
+    uint64_t under = is_known_thread() ? orders_under_way(lock, wants) : 0;
+    count_reached(wants, under);
+    if (stack->is_in_handler || holds_nothing())
         return;
-    if (mine->held_count == 0)
-        return;
-    unsigned order = order_under_way(lock, wants);
-    struct counts *counts = &table->counts[order < MOST_ORDERS ? order : (unsigned)__builtin_ctzll(wants)];
-    if (order < MOST_ORDERS)
-        ADD(&counts->under);
+    unsigned order = (unsigned)__builtin_ctzll(under ? under : wants);
+    struct counts *counts = &table->counts[order];
     long length = pause_length(LOAD(&counts->pauses));
     if (LOAD(&counts->pauses) >= MOST_PAUSES || LOAD(&paused) >= MOST_PAUSED)
         return;
     ADD(&counts->pauses);
-    mine->order = order < MOST_ORDERS ? order + 1 : 0;
+    mine->order = under ? order + 1 : 0;
     mine->goes = 0;
     bool seen[MOST_THREADS] = {false};
     real_lock(&standing);

@@ -662,16 +662,21 @@ def replace_hooks():
     sys.excepthook, threading.excepthook = excepthook, thread_excepthook
 
 
-def begin(folder, is_fork_server):
-    """Records this process from here on. Of the server that forks processes for `multiprocessing` only these are recorded."""
-    from . import green, threads
+def begin_locks():
+    """Replaces the locks that this process makes from here on."""
     recording.is_typed = getattr(sys, "argv", [])[:1] == ["-c"]
-    recording.begin_process(folder, is_fork_server)
     replace_hooks()
     for own, real in ((lock, RealLock), (RLock, RealRLock)):
         own.__module__ = "_thread"
         drop_unknown(own, real)
     replace_locks()
+
+
+def begin(folder, is_fork_server):
+    """Records this process from here on. Of the server that forks processes for `multiprocessing` only these are recorded."""
+    from . import green, threads
+    recording.begin_process(folder, is_fork_server)
+    begin_locks()
     threads.replace_threads()
     replace_exit()
     sys.meta_path.insert(0, Finder)

@@ -1,4 +1,5 @@
-"""Begins the recording in a Python process, before its script is loaded. The folder of this file is on PYTHONPATH."""
+"""Begins the recording in a Python process, or the holding back of its threads, before its script is loaded. The folder of this file is on
+PYTHONPATH."""
 import os
 import sys
 
@@ -20,18 +21,25 @@ def begin(package):
     code = code_of_command()
     if code.startswith(TRACKER):
         return
+    plan = os.environ.get("LOCKDEP_PROVOKE_PLAN")
     sys.path.insert(0, package)
     try:
-        from lockdep_record import locks
+        if plan:
+            from lockdep_record import provoke
+        else:
+            from lockdep_record import locks
     finally:
         sys.path.remove(package)
-    locks.begin(os.environ["LOCKDEP_PYTHON"], code.startswith(FORK_SERVER))
+    if plan:
+        provoke.begin(plan, os.environ["LOCKDEP_PROVOKE_TABLE"])
+    else:
+        locks.begin(os.environ["LOCKDEP_PYTHON"], code.startswith(FORK_SERVER))
 
 
 # This folder leaves the path in any case, as if it had never been there: the recording may be over, and a process that began in it not.
 folder = os.path.dirname(os.path.abspath(__file__))
 sys.path[:] = [path for path in sys.path if path != folder]
-if os.path.isdir(os.environ.get("LOCKDEP_PYTHON", "")):
+if "LOCKDEP_PROVOKE_PLAN" in os.environ or os.path.isdir(os.environ.get("LOCKDEP_PYTHON", "")):
     try:
         begin(os.path.dirname(os.path.dirname(folder)))
     except Exception:  # the program runs all the same, and the recorder says that nothing was recorded

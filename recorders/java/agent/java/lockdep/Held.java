@@ -12,6 +12,8 @@ final class Held {
     /** How often its holder has taken it, and how often as a reader while holding it as a writer. */
     int levels;
     int reads;
+    /** Its callers, for Provoke. */
+    long[] stack = {};
     /** Another thread released it. */
     volatile boolean isDropped;
 

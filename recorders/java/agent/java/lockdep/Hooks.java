@@ -17,12 +17,21 @@ public final class Hooks {
 
     // ---- Monitors.
 
-    /** A monitor is about to be entered, or was entered by a synchronized method. */
+    /** A monitor is about to be entered. */
     public static void enter(Object object, int site) {
+        enter(object, site, true);
+    }
+
+    /** A monitor was entered by a synchronized method. */
+    public static void entered(Object object, int site) {
+        enter(object, site, false);
+    }
+
+    private static void enter(Object object, int site, boolean isAsked) {
         Task task = object == null ? null : Task.begin();
         if (task == null) return;
         try {
-            task.enter(object, site);
+            task.enter(object, site, isAsked);
         } catch (Throwable error) {
             task.abandon();
             return;

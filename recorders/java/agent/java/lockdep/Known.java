@@ -69,6 +69,9 @@ final class Known extends WeakReference<Object> {
     volatile Task task;
     volatile boolean isWaitedFor;
     boolean isTold;
+    /** For Provoke: the orders whose first lock it was, and its number in the file. */
+    volatile long orders;
+    volatile long number;
 
     private Known(Object object, boolean isMonitor, boolean isReader, Known target, Made made) {
         super(object, gone);
@@ -98,6 +101,12 @@ final class Known extends WeakReference<Object> {
 
     private boolean isOf(Object object, boolean asMonitor) {
         return isMonitor == asMonitor && get() == object;
+    }
+
+    /** The name of its class. */
+    String name() {
+        Made known = made;
+        return known == null ? "" : known.name;
     }
 
     private static Known add(Known known) {

@@ -45,7 +45,7 @@ public final class Recording {
 
     private Recording(File path) throws IOException {
         this.path = path;
-        this.file = new FileOutputStream(path, true);
+        this.file = path == null ? null : new FileOutputStream(path, true);
     }
 
     /** From here on this process is recorded, into a folder of the recordings of all processes. */
@@ -56,6 +56,15 @@ public final class Recording {
         while (!path.createNewFile()) path = new File(folder, pid + "-" + ++number);
         Recording recording = new Recording(path);
         recording.put("process " + pid + " " + System.currentTimeMillis() + "000000\n");
+        begin(recording, sourceFolders);
+    }
+
+    /** From here on it is known what threads hold, and nothing is written. */
+    public static void beginUnwritten(String[] sourceFolders) throws IOException {
+        begin(new Recording(null), sourceFolders);
+    }
+
+    private static void begin(Recording recording, String[] sourceFolders) {
         sources = sourceFolders;
         it = recording;
         isOver = false;
@@ -166,7 +175,7 @@ public final class Recording {
 
     /** Adds to the file. Errors never reach the program. */
     private void put(String text) {
-        if (hasEnded || text.isEmpty()) return;
+        if (hasEnded || text.isEmpty() || file == null) return;
         try {
             file.write(text.getBytes(StandardCharsets.UTF_8));
         } catch (IOException error) {
@@ -282,6 +291,7 @@ public final class Recording {
 
     /** The thread of a task has ended. What several have already done in exactly this way isn't written again. */
     private void end(Task task) {
+        Provoke.end(task.stand);
         if (task.isOver) return;
         task.end();
         count(task);

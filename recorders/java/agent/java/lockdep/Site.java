@@ -23,6 +23,9 @@ public final class Site {
     private final String caller;
     private Made made;
     private int told;
+    private Provoke.Fits fits;
+    /** Where the second file of Provoke has it, alone. */
+    long[] only;
 
     private Site(Source source, String method, int line, int ordinal, String caller) {
         this.source = source;
@@ -74,7 +77,25 @@ public final class Site {
 
     /** The place as text. */
     String place() {
-        return source.place(line, visible(source.shortName() + "." + method)) + caller;
+        return innermost() + caller;
+    }
+
+    /** The same without the program's own line that led there. */
+    String innermost() {
+        return source.place(line, visible(source.shortName() + "." + method));
+    }
+
+    /** The orders of this place, by which threads are held back. */
+    Provoke.Fits fits() {
+        Provoke.Fits known = fits;
+        if (known == null) known = fits = Provoke.fitsAt(innermost());
+        return known;
+    }
+
+    /** The callers of the running thread, the innermost first, without those of the recorder. */
+    static String[] stack(int most) {
+        return walker.walk(frames -> frames.filter(frame -> !frame.getClassName().startsWith("java.lockdep."))
+                .limit(most).map(frame -> place(frame)).toArray(String[]::new));
     }
 
     /** The number of this place in the file, to which the place is added if it isn't there. */

@@ -53,6 +53,8 @@ final class Task {
     private Held wish;
     /** What its thread is to who joins it; null if it wasn't seen to start. */
     final Known life;
+    /** What it stands at or waits for, for Provoke; null if threads aren't held back. */
+    final Stand stand;
     /** What it took without a record, one entry for each level. */
     private ArrayList<Object> leftOut;
     private Known failed;
@@ -64,6 +66,7 @@ final class Task {
         thread = new WeakReference<>(Thread.currentThread());
         life = Known.ofThread(Thread.currentThread(), probe);
         if (life != null) life.task = this;
+        stand = Provoke.begin(this);
     }
 
     // ---- The running task.
@@ -74,6 +77,7 @@ final class Task {
         if (task == null) task = add();
         if (task.isBusy || Recording.isOver) return null;
         task.isBusy = true;
+        if (task.stand != null && task.stand.isAsking) Provoke.run(task.stand);
         return task;
     }
 
@@ -117,15 +121,19 @@ final class Task {
 
     // ---- Monitors.
 
-    void enter(Object object, int site) {
+    void enter(Object object, int site, boolean isAsked) {
         for (int at = depth - 1; at >= 0; at--) {
             if (held[at].object == object) {
                 held[at].levels++;
                 return;
             }
         }
-        if (leftOut != null && isLeftOut(object)) leftOut.add(object);
-        else take(monitor(object), object, Modes.WRITE, site);
+        if (leftOut != null && isLeftOut(object)) {
+            leftOut.add(object);
+            return;
+        }
+        if (isAsked && stand != null) Provoke.ask(stand, monitor(object), Modes.WRITE, held, depth, site);
+        take(monitor(object), object, Modes.WRITE, site);
     }
 
     void exit(Object object) {
@@ -200,6 +208,9 @@ final class Task {
     Held want(Known lock, Modes.Manner manner, int site) {
         settle();
         if (again(lock) != null) return null;
+        if (manner == Modes.Manner.WAITS && stand != null) {
+            Provoke.ask(stand, lock.target, Modes.of(lock.isReader, manner), held, depth, site);
+        }
         Held entry = push(lock.target, null, Modes.of(lock.isReader, manner), site);
         if (entry == null) return null;
         wish = entry;
@@ -403,6 +414,7 @@ final class Task {
         entry.levels = 1;
         way = way.to(entry.code);
         append(entry.code, way.isTaken || site == 0 || !Site.of(site).isOfJdk() ? site : Site.withCaller(site));
+        if (stand != null && site != 0) Provoke.took(entry, site);
         depth++;
         return entry;
     }

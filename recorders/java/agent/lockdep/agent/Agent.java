@@ -4,6 +4,7 @@ import java.io.File;
 import java.io.IOException;
 import java.lang.instrument.Instrumentation;
 import java.lang.instrument.UnmodifiableClassException;
+import java.lockdep.Provoke;
 import java.lockdep.Recording;
 import java.util.Map;
 import java.util.Set;
@@ -12,7 +13,8 @@ import java.util.Set;
  * Begins the recording before the program's first class is loaded: `-javaagent:lockdep-agent.jar`, or
  * `-javaagent:lockdep-agent.jar=FOLDER` if no `record` runs the program. The rest is in the environment: LOCKDEP_JAVA
  * has the folder of the processes' files, LOCKDEP_JAVA_JDK the name prefixes of the JDK's classes that are also
- * recorded, LOCKDEP_JAVA_SOURCES the folders of sources.
+ * recorded, LOCKDEP_JAVA_SOURCES the folders of sources. With LOCKDEP_PROVOKE_PLAN nothing is recorded, but threads are
+ * held back, for which LOCKDEP_PROVOKE_TABLE has a file.
  */
 public final class Agent {
     /** Runs after the program's own hooks, which may take locks. */
@@ -23,13 +25,20 @@ public final class Agent {
 
     public static void begin(String folder, Instrumentation machine) throws IOException {
         String raw = System.getenv("LOCKDEP_JAVA");
+        String plan = System.getenv("LOCKDEP_PROVOKE_PLAN");
         File processes = folder == null || folder.isEmpty() ? raw == null ? null : new File(raw) : folderOf(folder);
-        if (processes == null || !processes.isDirectory() || Recording.hasBegun()) return;
+        boolean isRecorded = plan == null && processes != null && processes.isDirectory();
+        if (!isRecorded && plan == null || Recording.hasBegun()) return;
         Rewriter rewriter = new Rewriter(words("LOCKDEP_JAVA_JDK", ","));
         rewriter.warmUp();
         open(machine);
-        Recording.begin(processes, words("LOCKDEP_JAVA_SOURCES", File.pathSeparator));
-        Recording.atEnd(LAST_HOOK);
+        if (isRecorded) {
+            Recording.begin(processes, words("LOCKDEP_JAVA_SOURCES", File.pathSeparator));
+            Recording.atEnd(LAST_HOOK);
+        } else {
+            Provoke.begin(System.getenv("LOCKDEP_PROVOKE_TABLE"), plan, System.getenv("LOCKDEP_PROVOKE_PAUSE"));
+            Recording.beginUnwritten(words("LOCKDEP_JAVA_SOURCES", File.pathSeparator));
+        }
         machine.addTransformer(rewriter, true);
         rewriteLoaded(rewriter, machine);
     }

@@ -2,18 +2,22 @@ package lockdep.agent;
 
 import java.io.IOException;
 import java.io.InputStream;
+import java.io.Serializable;
 import java.util.Set;
 
 import org.objectweb.asm.ClassReader;
 
-/** Whether a class of the program is a lock, or a thread: its file names its superclasses, and no class is loaded for that. */
+/**
+ * Whether a class of the program is a lock, a thread or serialised: its file names its superclasses, and none of the
+ * program's classes is loaded for that.
+ */
 final class Hierarchy {
     static final String LOCKS = "java/util/concurrent/locks/";
     static final Set<String> LOCK = Set.of(LOCKS + "Lock", LOCKS + "ReentrantLock",
             LOCKS + "ReentrantReadWriteLock$ReadLock",
             LOCKS + "ReentrantReadWriteLock$WriteLock");
     private static final Set<String> THREAD = Set.of("java/lang/Thread");
-    private static final int MOST_ABOVE = 16;
+    static final int MOST_ABOVE = 16;
 
     /** Whether a class is a Lock, or one below it. */
     boolean isLock(String name, ClassLoader loader) {
@@ -34,6 +38,30 @@ final class Hierarchy {
             if (isBelow(above, loader, wanted, most - 1)) return true;
         }
         return false;
+    }
+
+    /** Whether a class may be one whose objects are serialised: what is above it says so, or isn't known. */
+    boolean maySerialize(String name, ClassLoader loader, int most) {
+        if (name == null) return false;
+        if (name.startsWith("java/")) return isSerializableOfJdk(name);
+        ClassReader reader = most == 0 ? null : read(name, loader);
+        return reader == null || maySerialize(reader.getSuperName(), reader.getInterfaces(), loader, most - 1);
+    }
+
+    boolean maySerialize(String superName, String[] interfaces, ClassLoader loader, int most) {
+        if (maySerialize(superName, loader, most)) return true;
+        for (String above : interfaces) {
+            if (maySerialize(above, loader, most)) return true;
+        }
+        return false;
+    }
+
+    private static boolean isSerializableOfJdk(String name) {
+        try {
+            return Serializable.class.isAssignableFrom(Class.forName(name.replace('/', '.'), false, null));
+        } catch (ClassNotFoundException | LinkageError unknown) {
+            return true;
+        }
     }
 
     private static ClassReader read(String name, ClassLoader loader) {

@@ -1,6 +1,7 @@
 package lockdep.agent;
 
 import java.lockdep.OnLine;
+import java.lockdep.Provoke;
 import java.lockdep.Site;
 import java.lockdep.Source;
 import java.util.ArrayDeque;
@@ -15,6 +16,7 @@ import org.objectweb.asm.Type;
 import org.objectweb.asm.tree.AbstractInsnNode;
 import org.objectweb.asm.tree.ClassNode;
 import org.objectweb.asm.tree.FieldInsnNode;
+import org.objectweb.asm.tree.FieldNode;
 import org.objectweb.asm.tree.FrameNode;
 import org.objectweb.asm.tree.InsnList;
 import org.objectweb.asm.tree.InsnNode;
@@ -247,24 +249,54 @@ final class MethodRewriter {
         }
     }
 
+    /**
+     * Whether a method enters its monitor by instructions, so that threads can be held back before: the virtual machine
+     * does it before all of them. That the method isn't synchronized then would change the number by which Java knows the
+     * version of a class that is serialised, unless the class says it itself.
+     */
+    private boolean isByItself() {
+        if (!Provoke.isOn() || source.isOfJdk) return false;
+        for (FieldNode field : type.fields) {
+            if (field.name.equals("serialVersionUID")) return true;
+        }
+        return !locking.hierarchy.maySerialize(type.superName, type.interfaces.toArray(new String[0]), locking.loader,
+                Hierarchy.MOST_ABOVE);
+    }
+
     /** The method enters the monitor before its first line, and exits it before each return and on an error. */
     private void wrap() {
+        boolean isByItself = isByItself();
+        if (isByItself) method.access &= ~Opcodes.ACC_SYNCHRONIZED;
         line = firstLine();
         for (AbstractInsnNode each = code.getFirst(); each != null; each = each.getNext()) {
             boolean isReturn = each.getOpcode() >= Opcodes.IRETURN && each.getOpcode() <= Opcodes.RETURN;
-            if (isReturn) before(each, list(owner(), exit()));
+            if (isReturn) before(each, exits(isByItself));
         }
         LabelNode start = new LabelNode();
         LabelNode end = new LabelNode();
-        code.insert(list(owner(), site(), enter(), start));
+        InsnList entry = list(owner(), site(), isByItself ? enter() : hook("entered", "(Ljava/lang/Object;I)V"));
+        if (isByItself) {
+            LabelNode first = new LabelNode();
+            entry.insert(list(first, new LineNumberNode(line, first)));
+            entry.add(list(owner(), new InsnNode(Opcodes.MONITORENTER)));
+        }
+        entry.add(start);
+        code.insert(entry);
         code.add(end);
         if ((type.version & 0xffff) >= Opcodes.V1_6) {
             Object[] locals = (method.access & Opcodes.ACC_STATIC) != 0 ? new Object[0] : new Object[] {type.name};
             code.add(new FrameNode(Opcodes.F_FULL, locals.length, locals, 1, new Object[] {"java/lang/Throwable"}));
         }
-        code.add(list(owner(), exit(), new InsnNode(Opcodes.ATHROW)));
+        code.add(exits(isByItself));
+        code.add(new InsnNode(Opcodes.ATHROW));
         method.tryCatchBlocks.add(new TryCatchBlockNode(start, end, end, null));
         isChanged = true;
+    }
+
+    private InsnList exits(boolean isByItself) {
+        InsnList exits = list(owner(), exit());
+        if (isByItself) exits.add(list(owner(), new InsnNode(Opcodes.MONITOREXIT)));
+        return exits;
     }
 
     private AbstractInsnNode owner() {

@@ -1,0 +1,310 @@
+package java.lockdep;
+
+import java.io.File;
+import java.io.IOException;
+import java.io.RandomAccessFile;
+import java.lang.invoke.MethodHandles;
+import java.lang.invoke.VarHandle;
+import java.nio.ByteBuffer;
+import java.nio.ByteOrder;
+import java.nio.MappedByteBuffer;
+import java.nio.channels.FileChannel;
+import java.nio.charset.StandardCharsets;
+import java.nio.file.Files;
+import java.nio.file.Paths;
+import java.util.HashMap;
+import java.util.HashSet;
+import java.util.Set;
+import java.util.concurrent.ConcurrentHashMap;
+import java.util.regex.Pattern;
+
+/**
+ * Holds the threads of a program back where a deadlock that was found as possible can happen, for `lockdep provoke`:
+ * before a thread waits for the second lock of an order that was found, with the first one held, it stands until
+ * threads stand at the other orders of a cycle, or for a pause. What threads hold while they stand or wait is in a file
+ * that recorders/pthread/provoke/provoke.h describes, in which callers, names, and the class of a lock behind a number
+ * of that, are places in a second file, with a line for each. Nothing else is written in such a run.
+ */
+public final class Provoke {
+    /** The sizes of provoke.h. */
+    private static final int MOST_ORDERS = 64;
+    private static final int MOST_THREADS = 1024;
+    private static final int MOST_CALLERS = 16;
+    private static final int CALLERS_OF_HELD = 8;
+    private static final int COUNTS = 16;
+    private static final int FIRST_THREAD = COUNTS + MOST_ORDERS * 16;
+    private static final int OF_THREAD = 176;
+    private static final int OF_HELD = 88;
+    private static final int SIZE_OF_THREAD = OF_THREAD + Task.MOST_HELD * OF_HELD;
+
+    static final int RUNS = 0;
+    static final int STANDS = 1;
+    static final int WAITS = 2;
+    /** What is counted of an order. */
+    private static final int REACHED = 0;
+    private static final int UNDER = 1;
+    private static final int PAUSES = 2;
+
+    /** The limits of provoke/threads.c: milliseconds of a pause, and of all of a process; the pauses of an order. */
+    private static final int DEFAULT_PAUSE = 300;
+    private static final int MOST_PAUSED = 10000;
+    private static final int MOST_PAUSES = 40;
+    private static final int PAUSES_OF_ONE_LENGTH = 10;
+    /** How often all callers are looked at, at one place. */
+    private static final int MOST_WALKS = 2000;
+
+    /** The name of a class that is neither changed nor cut in a trace. */
+    private static final Pattern PLAIN_NAME = Pattern.compile("[!#-+./-?A-~-]{1,53}");
+    private static final int BITS_OF_CLASS = 28;
+    private static final VarHandle WORD = MethodHandles.byteBufferViewVarHandle(int[].class, ByteOrder.nativeOrder());
+
+    private static Provoke it;
+
+    /** The orders of a place: a bit for each whose first lock is taken there, or whose second one is asked for. */
+    static final class Fits {
+        static final Fits NONE = new Fits();
+        long holds;
+        long wants;
+        /** How often all callers were looked at there, which takes long. */
+        int walks;
+    }
+
+    private final MappedByteBuffer table;
+    private final File texts;
+    private final HashMap<String, Fits> plan = new HashMap<>();
+    private final HashMap<String, Long> numbers = new HashMap<>();
+    private final int pid = (int) ProcessHandle.current().pid();
+    private final int pause;
+    private long paused;
+    private long locks;
+    /** Those of all tasks. */
+    private final Set<Stand> all = ConcurrentHashMap.newKeySet();
+
+    private Provoke(String path, String plan, String pause) throws IOException {
+        try (RandomAccessFile file = new RandomAccessFile(path, "rw")) {
+            table = file.getChannel().map(FileChannel.MapMode.READ_WRITE, 0, file.length());
+        }
+        table.order(ByteOrder.nativeOrder());
+        texts = new File(path + ".texts");
+        this.pause = pause == null ? DEFAULT_PAUSE : Integer.parseInt(pause);
+        int order = -1;
+        for (String line : new String(Files.readAllBytes(Paths.get(plan)), StandardCharsets.UTF_8).split("\n")) {
+            String[] words = line.split(" ", 3);
+            if (words[0].equals("order")) order++;
+            else if (words.length == 3 && words[1].equals("-") && order >= 0 && order < MOST_ORDERS) {
+                Fits fits = this.plan.computeIfAbsent(words[2], text -> new Fits());
+                if (words[0].equals("hold")) fits.holds |= 1L << order;
+                else fits.wants |= 1L << order;
+            }
+        }
+    }
+
+    /** From here on threads of this process are held back. */
+    public static void begin(String table, String plan, String pause) throws IOException {
+        it = new Provoke(table, plan, pause);
+    }
+
+    public static boolean isOn() {
+        return it != null;
+    }
+
+    // ---- What tasks call.
+
+    /** The orders of a place. */
+    static Fits fitsAt(String place) {
+        return it == null ? Fits.NONE : it.plan.getOrDefault(place, Fits.NONE);
+    }
+
+    /** A thread has a task from here on. A virtual one isn't held back. */
+    static Stand begin(Task task) {
+        if (it == null) return null;
+        boolean isVirtual = Thread.currentThread().getClass().getName().startsWith("java.lang.VirtualThread");
+        Stand stand = new Stand(isVirtual ? 0 : it.freePlace(), it.number(task.threadName()));
+        if (stand.place != 0) it.all.add(stand);
+        return stand;
+    }
+
+    /** A task asks for a lock without a limit of time, and doesn't hold it. */
+    static void ask(Stand stand, Known lock, int mode, Held[] held, int depth, int site) {
+        if (stand.place == 0) return;
+        Fits fits = Site.of(site).fits();
+        stand.asks(lock, Modes.isOfReader(mode), held, depth, it.callers(site, fits, fits.wants, MOST_CALLERS));
+        if (fits.wants != 0) it.consider(stand, fits.wants);
+        if (depth > 0) it.change(stand, WAITS);
+    }
+
+    /** A task goes on. */
+    static void run(Stand stand) {
+        it.change(stand, RUNS);
+        stand.order = 0;
+    }
+
+    /** A task has taken a lock, or will have at its next operation: what is known of where. */
+    static void took(Held entry, int site) {
+        Fits fits = Site.of(site).fits();
+        if (fits.holds != 0) entry.lock.orders |= fits.holds;
+        entry.stack = it.callers(site, fits, fits.holds, CALLERS_OF_HELD);
+    }
+
+    /** A thread has ended. */
+    static void end(Stand stand) {
+        if (stand == null || stand.place == 0) return;
+        it.all.remove(stand);
+        WORD.setVolatile((ByteBuffer) it.table, stand.place, 0);
+    }
+
+    // ---- Standing.
+
+    private void consider(Stand stand, long wants) {
+        long under = 0;
+        for (int at = 0; at < stand.depth; at++) under |= stand.held[at].lock.orders & wants;
+        count(wants, REACHED);
+        count(under, UNDER);
+        if (stand.depth == 0) return;
+        int order = Long.numberOfTrailingZeros(under == 0 ? wants : under);
+        stand.order = under == 0 ? 0 : order + 1;
+        int before = (int) WORD.getVolatile((ByteBuffer) table, COUNTS + 16 * order + 4 * PAUSES);
+        if (before >= MOST_PAUSES || paused() >= MOST_PAUSED) return;
+        count(1L << order, PAUSES);
+        stand.goes = false;
+        change(stand, STANDS);
+        if (!leadsBack(stand, stand, new HashSet<>())) stand(stand, pause >> before / PAUSES_OF_ONE_LENGTH);
+    }
+
+    private void count(long orders, int what) {
+        for (long left = orders; left != 0; left &= left - 1) {
+            WORD.getAndAdd((ByteBuffer) table, COUNTS + 16 * Long.numberOfTrailingZeros(left) + 4 * what, 1);
+        }
+    }
+
+    private synchronized long paused() {
+        return paused;
+    }
+
+    /** Holds this thread back until it is let go, or for so many milliseconds, or until it is interrupted. */
+    private void stand(Stand stand, int length) {
+        long end = System.nanoTime() + length * 1000000L;
+        try {
+            while (System.nanoTime() < end && !stand.goes) Thread.sleep(1);
+        } catch (InterruptedException interrupted) {
+            Thread.currentThread().interrupt();
+        }
+        synchronized (this) {
+            paused += length;
+        }
+    }
+
+    /** Whether who asks for a lock waits, over others that stand or wait, for this one. Those that stand are let go. */
+    private boolean leadsBack(Stand from, Stand own, Set<Stand> seen) {
+        if (from != own && own.isInTheWay(from)) return true;
+        for (Stand other : all) {
+            if (other == own || !other.isAsking || !other.isInTheWay(from) || !seen.add(other)) continue;
+            if (leadsBack(other, own, seen)) {
+                other.goes = true;
+                return true;
+            }
+        }
+        return false;
+    }
+
+    // ---- The files.
+
+    /** Where the table has room for this thread; 0 if it has none. */
+    private int freePlace() {
+        for (int at = 0; at < MOST_THREADS; at++) {
+            int place = FIRST_THREAD + at * SIZE_OF_THREAD;
+            if (WORD.compareAndSet((ByteBuffer) table, place, 0, pid)) {
+                table.putInt(place + 4, threadNumber());
+                table.putInt(place + 12, RUNS);
+                return place;
+            }
+        }
+        return 0;
+    }
+
+    /** What the system calls this thread. */
+    private static int threadNumber() {
+        try {
+            String name = Files.readSymbolicLink(Paths.get("/proc/thread-self")).getFileName().toString();
+            return Integer.parseInt(name);
+        } catch (IOException | RuntimeException unknown) {
+            return 0;
+        }
+    }
+
+    /** A task stands, waits or runs from here on. */
+    private void change(Stand stand, int state) {
+        if (state != RUNS) write(stand);
+        table.putInt(stand.place + 12, state);
+        table.putInt(stand.place + 16, stand.order);
+        table.putInt(stand.place + 8, ++stand.changes);
+        stand.isAsking = state != RUNS;
+    }
+
+    private void write(Stand stand) {
+        int place = stand.place;
+        table.putInt(place + 20, stand.isReader ? 1 : 0);
+        table.putLong(place + 24, numberOf(stand.awaited));
+        table.putInt(place + 32, stand.stack.length);
+        table.putInt(place + 36, stand.depth);
+        for (int at = 0; at < stand.stack.length; at++) table.putLong(place + 40 + 8 * at, stand.stack[at]);
+        table.putInt(place + 172, (int) stand.name);
+        for (int at = 0; at < stand.depth; at++) write(stand.held[at], place + OF_THREAD + at * OF_HELD);
+    }
+
+    private void write(Held held, int place) {
+        table.putLong(place, numberOf(held.lock));
+        table.putInt(place + 8, held.isReader() ? 1 : 0);
+        table.putInt(place + 12, held.stack.length);
+        table.putLong(place + 16, held.lock.orders);
+        for (int at = 0; at < held.stack.length; at++) table.putLong(place + 24 + 8 * at, held.stack[at]);
+    }
+
+    /** A lock's own number, before the place of its class's name if a recording has that just so. */
+    private long numberOf(Known lock) {
+        return lock.number == 0 ? newNumber(lock) : lock.number;
+    }
+
+    private synchronized long newNumber(Known lock) {
+        String name = lock.name();
+        if (lock.number == 0) {
+            lock.number = ++locks << BITS_OF_CLASS | (PLAIN_NAME.matcher(name).matches() ? number(name) : 0);
+        }
+        return lock.number;
+    }
+
+    /** The callers of this thread, the innermost first; if the place is in no order, or was looked at often, only that. */
+    private long[] callers(int site, Fits fits, long orders, int most) {
+        Site at = Site.of(site);
+        if (orders != 0 && fits.walks++ < MOST_WALKS) return stack(most);
+        if (at.only == null) at.only = new long[] {number(at.innermost())};
+        return at.only;
+    }
+
+    private long[] stack(int most) {
+        String[] places = Site.stack(most);
+        long[] found = new long[places.length];
+        for (int at = 0; at < found.length; at++) found[at] = number(places[at]);
+        return found;
+    }
+
+    /** Where the second file has a text, which is added to it if it isn't there: 0 if that fails. */
+    private synchronized long number(String text) {
+        Long known = numbers.get(text);
+        if (known != null) return known;
+        boolean wasInterrupted = Thread.interrupted(); // (which would close the file)
+        long number = 0;
+        try (RandomAccessFile file = new RandomAccessFile(texts, "rw")) {
+            file.getChannel().lock();
+            number = file.length();
+            file.seek(number);
+            file.write((text + "\n").getBytes(StandardCharsets.UTF_8));
+        } catch (IOException error) {
+            number = 0;
+        } finally {
+            if (wasInterrupted) Thread.currentThread().interrupt();
+        }
+        numbers.put(text, number);
+        return number;
+    }
+}

@@ -1,0 +1,48 @@
+"""The command beside a run of `lockdep provoke`, and what becomes of a recorded program that doesn't end."""
+from __future__ import annotations
+
+import os
+import signal
+import subprocess
+import sys
+import tempfile
+import unittest
+from unittest import mock
+
+from lockdep import provoke, provoke_load
+from lockdep.provoke_holders import Preloaded
+
+DEAF = "import os, signal, sys, time; signal.signal(signal.SIGTERM, signal.SIG_IGN); open(os.path.join(sys.argv[1], '%d-0.arena' % os.getpid()), 'w'); time.sleep(99)"
+
+
+class AProgramThatDoesntEnd(unittest.TestCase):
+    def recorder(self, folder: str) -> int:
+        """A process that has started one that ignores SIGTERM, and ends with it."""
+        raw = os.path.join(folder, "raw")
+        os.mkdir(raw)
+        waits = "import signal, subprocess, sys; signal.signal(signal.SIGTERM, signal.SIG_IGN); sys.exit(-subprocess.call([sys.executable, '-c', sys.argv[1], sys.argv[2]]))"
+        return subprocess.Popen([sys.executable, "-c", waits, DEAF, raw]).pid
+
+    def test_it_is_killed_when_its_time_is_up(self) -> None:
+        with tempfile.TemporaryDirectory() as folder, mock.patch.object(provoke_load, "PATIENCE", 0.1):
+            holder = mock.Mock(spec=Preloaded)
+            holder.takes_locks = lambda path: path.endswith(".arena")
+            status = provoke.end_of_recording(self.recorder(folder), folder, "true", holder)
+            self.assertEqual(os.waitstatus_to_exitcode(status), signal.SIGKILL)
+
+    def test_descendants_are_children_and_what_they_started(self) -> None:
+        child = subprocess.Popen([sys.executable, "-c", "import subprocess, sys; subprocess.Popen(['sleep', '99']); print(flush=True); sys.stdin.read()"],
+                                 stdin=subprocess.PIPE, stdout=subprocess.PIPE)
+        self.addCleanup(child.stdout.close)
+        self.addCleanup(child.communicate)
+        child.stdout.readline()
+        found = provoke.descendants(os.getpid())
+        self.assertIn(child.pid, found)
+        below = provoke.descendants(child.pid)
+        self.assertEqual(len(below), 1)
+        self.assertLessEqual(set(below), set(found))
+        os.kill(below[0], signal.SIGKILL)
+
+
+if __name__ == "__main__":
+    unittest.main()

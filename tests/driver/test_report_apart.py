@@ -1,0 +1,109 @@
+"""Which threads never ran at the same time, by the file of starts and joins."""
+import json
+import os
+import unittest
+from unittest import mock
+
+from cases import OfARecording, between, circle, finding, order
+from lockdep import apart
+from lockdep.apart import apart_words, threads_apart
+from lockdep.as_json import json_of_run
+from lockdep.findings import Kind
+from lockdep.forms import Found
+from lockdep.sources import Sources
+from lockdep.verdict import Recorded, remarks_of, verdict_of
+
+
+class ThreadsApart(OfARecording):
+    """Lines of `lives` in short: M is the thread that the program began with, X another one without a trace, and 1 that of the first trace."""
+
+    PAIR = ("task-0001", "task-0002")
+    IN_TURN = "M starts 1, M joins 1, M starts 2"
+
+    def setUp(self):
+        super().setUp()
+        for number in (1, 2, 3):
+            self.write("objects/task-%04d.csv" % number, "x" * number)
+        self.recorded = Recorded([self.trace(number) for number in (1, 2, 3)])
+
+    def trace(self, number):
+        return self.path("objects/task-%04d.csv" % number)
+
+    def circle_by(self, tasks, **more):
+        keys = ["k%d/0" % place for place in range(len(tasks))]
+        orders = [order(key, "EN", keys[(place + 1) % len(keys)], self.trace(tasks[place])) for place, key in enumerate(keys)]
+        return circle(*keys, orders=orders, **more)
+
+    def found(self, lives, tasks=(1, 2), inner=()):
+        names = {"M": "other-9", "X": "other-7"}
+        lines = [[names.get(word, word if len(word) > 1 else "task-000" + word) for word in line.split()] for line in lives.split(", ")]
+        self.write("lives", "".join(" ".join(line) + "\n" for line in lines))
+        apart.lives_in.cache_clear()
+        apart.in_turn.cache_clear()
+        return finding(self.circle_by(tasks, between=between("locks", self.circle_by(inner)) if inner else between("classes")))
+
+    def apart(self, *words, **more):
+        return threads_apart(self.found(*words, **more), self.recorded)
+
+    def test_what_follows_from_starts_and_joins(self):
+        for lives, pair in (
+                (self.IN_TURN, self.PAIR),
+                ("M starts 1, M starts 2, M joins 1, M joins 2", None),
+                ("M starts 1, M starts 2", None),
+                ("M starts 1, M starts X, X joins 1, M joins X, M starts 2", self.PAIR),
+                ("M starts 1, M starts X, X joins 1, M starts 2, M joins X", None),
+                ("M starts 1, M joins 1, M starts X, X starts 2", self.PAIR),
+                ("M starts 1, M starts X, M joins 1, X starts 2", None),
+                ("M starts X, X starts 1, X joins 1, M joins X, M starts 2", self.PAIR),
+                ("M starts X, X starts 1, M joins X, M starts 2", None),
+                ("M starts 1, 1 starts 2, M joins 1", None),
+                ("M starts 2, M joins 2, M starts 1", self.PAIR[::-1]),
+                ("1 starts 2", None)):
+            self.assertEqual(self.apart(lives), pair, lives)
+
+    def test_a_line_that_isnt_right_says_nothing(self):
+        self.assertIsNone(self.apart("M starts 1, M ends 1, M joins, M joins 1 2, starts 2"))
+        os.unlink(self.path("lives"))
+        apart.lives_in.cache_clear()
+        apart.in_turn.cache_clear()
+        self.assertIsNone(threads_apart(finding(self.circle_by((1, 2))), self.recorded))
+
+    def test_the_order_of_the_finding_doesnt_matter(self):
+        self.assertEqual(self.apart(self.IN_TURN, (2, 1)), self.PAIR)
+
+    def test_two_of_three_threads_are_enough(self):
+        self.assertEqual(self.apart(self.IN_TURN, (3, 1, 2)), self.PAIR)
+        self.assertIsNone(self.apart("M starts 1, M starts 2, M joins 1, M starts X", (3, 1, 2)))
+
+    def test_one_thread_isnt_apart_from_itself(self):
+        self.assertIsNone(self.apart(self.IN_TURN, (1, 1)))
+
+    def test_all_traces_that_say_the_same_have_to_be_apart(self):
+        self.write("objects/task-0003.csv", "x")
+        self.assertIsNone(self.apart(self.IN_TURN + ", M starts 3"))
+        self.assertIsNone(self.apart(self.IN_TURN))
+        self.assertEqual(self.apart("M starts 3, M joins 3, " + self.IN_TURN), self.PAIR)
+
+    def test_threads_between_classes_and_between_single_locks_have_to_be_apart(self):
+        self.assertIsNone(self.apart(self.IN_TURN + ", M starts 3", (1, 2), (2, 3)))
+        self.assertIsNone(self.apart(self.IN_TURN + ", M starts 3", (2, 3), (1, 2)))
+        self.assertEqual(self.apart(self.IN_TURN + ", M starts 3", (1, 2), (1, 3)), ("task-0001", "task-0003"))
+
+    def test_an_endless_recording_says_nothing(self):
+        with mock.patch.object(apart, "MOST_STEPS", 2):
+            self.assertIsNone(self.apart(self.IN_TURN))
+
+    def test_it_is_said_before_the_verdict_and_changes_nothing(self):
+        words = "task-0001 and task-0002 never ran at the same time in this recording: task-0002 was started after task-0001 was joined"
+        one = self.found(self.IN_TURN)
+        self.assertEqual(apart_words(one, self.recorded), words)
+        self.assertEqual(remarks_of(one, self.recorded), [words, verdict_of(one, self.recorded)])
+        self.assertIs(one.kind, Kind.CLASSES)
+        told = json.loads(json_of_run(Found([one], [], Sources(), self.recorded, [])))["findings"][0]
+        self.assertEqual((told["threads_apart"], told["verdict"], told["level"]), (list(self.PAIR), verdict_of(one, self.recorded), "warning"))
+        other = self.found("M starts 1, M starts 2, M joins 1")
+        self.assertEqual(remarks_of(other, self.recorded), [verdict_of(one, self.recorded)])
+
+
+if __name__ == "__main__":
+    unittest.main()
