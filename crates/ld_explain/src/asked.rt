@@ -30,7 +30,7 @@ impl Model for Asked {
 }
 
 impl Asked {
-    /// No facts about the keys below `keys`, which is at most `MAX_KEYS`: then they take 34 MB. It fails only if memory is
+    /// No facts about the keys below `keys`, which is at most `MAX_KEYS`: then 34 MB are reserved. It fails only if memory is
     /// refused.
     pub fn new(alloc: Global, keys: u16) -> Result<Asked, AllocError>
         requires { keys ≤ MAX_KEYS }
