@@ -1,6 +1,7 @@
 //! The facts that are asked about.
 
-ghost use Rattle.ld_explain.specs.Names.{◌↔◌, ◌≡◌, ◌≤◌, Adds, Fact, FactBelow, HasFact, IfOk, IsFalse, IsTrue, MAX_KEYS, Some, ℕ};
+ghost use Rattle.std.specs.Prelude.{◌↔◌, ◌≡◌, ◌≤◌, IfOk, IsFalse, IsTrue, Some, ℕ};
+ghost use Rattle.ld_explain.specs.Names.{Adds, Fact, FactBelow, HasFact, MAX_KEYS};
 ghost use Rattle.ld_explain.specs.Clauses.{key_by, last_key, named_fact};
 
 use crate::naming::Naming;

@@ -1,6 +1,7 @@
 //! What of the locks makes such a finding as one between types, at one level.
 
-ghost use Rattle.ld_explain.specs.Names.{◌<◌, ◌↔◌, ◌≡◌, Arrow, Contains, HasFact, IfSome, IsFalse, IsNone, IsTrue, Kind, MAX_KEYS, arrow, slice_index, ℕ};
+ghost use Rattle.std.specs.Prelude.{◌<◌, ◌↔◌, ◌≡◌, Contains, IfSome, IsFalse, IsNone, IsTrue, slice_index, ℕ};
+ghost use Rattle.ld_explain.specs.Names.{Arrow, HasFact, Kind, MAX_KEYS, arrow};
 ghost use Rattle.ld_explain.specs.Clauses.{IsCaseAt, IsLoneDouble, IsLoneInversion, IsLoneMember, IsSeenAt, level_of, members_of};
 
 use crate::{Dependency, Finding, KINDS, Naming, Order};

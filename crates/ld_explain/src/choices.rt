@@ -1,7 +1,8 @@
 //! What findings are reported with. It is chosen before anything is explained, so that the traces are asked only about
 //! what is reported.
 
-ghost use Rattle.ld_explain.specs.Names.{[], ◌<◌, ◌↔◌, ◌∷◌, ◌≡◌, ◌⊎◌, Adds, All, DependenciesOf, FactBelow, HasFact, Holds, IfOk, IsDouble, IsInversion, List, OnCircle, OnOk, Some, length, slice_get, ℕ};
+ghost use Rattle.std.specs.Prelude.{[], ◌<◌, ◌↔◌, ◌∷◌, ◌≡◌, ◌⊎◌, All, IfOk, List, OnOk, Some, length, slice_get, ℕ};
+ghost use Rattle.ld_explain.specs.Names.{Adds, DependenciesOf, FactBelow, HasFact, Holds, IsDouble, IsInversion, OnCircle};
 ghost use Rattle.ld_explain.specs.Clauses.{AddsChoice, AddsEach, AddsFor, AreAsked, AreChoices, AreFound, ChoosesCircle, ChoosesCircles, IsChoiceFrom, IsDoubleChoice, IsInversionChoice, IsMark, IsMember, IsPart, enabled_of, used_of};
 
 use crate::{Asked, Dependency, Found, Tried};

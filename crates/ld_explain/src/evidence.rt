@@ -1,6 +1,7 @@
 //! One pass over all traces, for all facts that are asked about.
 
-ghost use Rattle.ld_explain.specs.Names.{◌+◌, ◌<◌, ◌≡◌, ◌≤◌, All, Event, IfOk, IsPlacedAfter, List, MAX_TRACES, OnOk, Some, length, slice_get};
+ghost use Rattle.std.specs.Prelude.{◌+◌, ◌<◌, ◌≡◌, ◌≤◌, All, IfOk, List, OnOk, Some, length, slice_get};
+ghost use Rattle.ld_explain.specs.Names.{Event, IsPlacedAfter, MAX_TRACES};
 ghost use Rattle.ld_task.specs.TraceChains as trace_chains;
 ghost use Rattle.ld_explain.specs.Names.{IsWellFormed, fact_slots};
 ghost use Rattle.ld_explain.specs.Clauses.{AreGuardsOf, AreOriginsOf, AreTakenIn, ComesNext, SeenBefore, SeenFrom, SeenTo, view_of};

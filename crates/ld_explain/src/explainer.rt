@@ -1,6 +1,7 @@
 //! Where what was chosen comes from, and what speaks against it.
 
-ghost use Rattle.ld_explain.specs.Names.{[], ◌++◌, ◌<◌, ◌↔◌, ◌∷◌, ◌≡◌, All, DependenciesOf, Fact, HasFact, Holds, IfOk, IsFalse, IsTrue, List, OnOk, Some, length, map, ℕ};
+ghost use Rattle.std.specs.Prelude.{[], ◌++◌, ◌<◌, ◌↔◌, ◌∷◌, ◌≡◌, All, IfOk, IsFalse, IsTrue, List, OnOk, Some, length, map, ℕ};
+ghost use Rattle.ld_explain.specs.Names.{DependenciesOf, Fact, HasFact, Holds};
 ghost use Rattle.ld_explain.specs.Clauses.{AddsThose, Are, AreGates, AreOrders, AreThose, Explains, ExplainsSeen, IsAmong, IsCircle, IsFirst, IsGate, IsGuardOf, IsMark, IsOfBoth, IsOfLink, IsOnly, IsSeenAmong, Knows, SaysSeen, enabled_of, used_of, view_of};
 
 use crate::choices::{Choice, Link};

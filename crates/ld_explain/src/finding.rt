@@ -1,6 +1,7 @@
 //! What was found, as values: everything that any text says of a finding.
 
-ghost use Rattle.ld_explain.specs.Names.{◌==◌, ◌↔◌, ◌≡◌, IsTrue, arrow, list_all};
+ghost use Rattle.std.specs.Prelude.{◌==◌, ◌↔◌, ◌≡◌, IsTrue};
+ghost use Rattle.ld_explain.specs.Names.{arrow, list_all};
 ghost use Rattle.ld_explain.specs.Clauses.{is_nesting};
 
 use crate::{Dependency, Origin};

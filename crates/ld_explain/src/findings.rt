@@ -1,6 +1,7 @@
 //! The findings of settled facts.
 
-ghost use Rattle.ld_explain.specs.Names.{◌≤◌, All, AreSame, HasFact, IfOk, IsWellFormed, MAX_TRACES, length};
+ghost use Rattle.std.specs.Prelude.{◌≤◌, All, IfOk, length};
+ghost use Rattle.ld_explain.specs.Names.{AreSame, HasFact, IsWellFormed, MAX_TRACES};
 ghost use Rattle.ld_explain.specs.Clauses.{AreFindings, ViewHas, view_of};
 
 use crate::choices::Choices;

@@ -1,6 +1,7 @@
 //! What was found: the findings of settled facts as lists, in the report's order. Each text but the picture is made of these.
 
-ghost use Rattle.ld_explain.specs.Names.{[], ◌∷◌, ◌≡◌, Fact, HasFact, IfOk, IsDouble, IsFalse, IsInversion, Kind, OnCircle, OnOk, arrow, flat_map, map, ℕ};
+ghost use Rattle.std.specs.Prelude.{[], ◌∷◌, ◌≡◌, IfOk, IsFalse, OnOk, flat_map, map, ℕ};
+ghost use Rattle.ld_explain.specs.Names.{Fact, HasFact, IsDouble, IsInversion, Kind, OnCircle, arrow};
 ghost use Rattle.ld_explain.specs.Clauses.{AddsThose, AreFound, arrows_among, doubles_among, inversions_among, kinds};
 
 use crate::Tried;

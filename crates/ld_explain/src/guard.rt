@@ -1,6 +1,6 @@
 //! What speaks against one fact.
 
-ghost use Rattle.ld_explain.specs.Names.{[], ◌↔◌, ◌≡◌, ◌≢◌, Contains, IsFalse, IsTrue, Some, filter, slice_get, ℕ};
+ghost use Rattle.std.specs.Prelude.{[], ◌↔◌, ◌≡◌, ◌≢◌, Contains, IsFalse, IsTrue, Some, filter, slice_get, ℕ};
 ghost use Rattle.ld_explain.specs.Clauses.{IsFirstGuard, IsGateBefore, Narrows, gate_in, is_among, key_by};
 
 use crate::naming::Naming;

@@ -1,6 +1,7 @@
 //! What speaks against findings.
 
-ghost use Rattle.ld_explain.specs.Names.{[], ◌+◌, ◌<◌, ◌↔◌, ◌∷◌, ◌≡◌, ◌≤◌, Event, IfSome, IsFalse, IsNone, IsTrue, List, MAX_KEYS, OnOk, Some, slice_get, ℕ};
+ghost use Rattle.std.specs.Prelude.{[], ◌+◌, ◌<◌, ◌↔◌, ◌∷◌, ◌≡◌, ◌≤◌, IfSome, IsFalse, IsNone, IsTrue, List, OnOk, Some, slice_get, ℕ};
+ghost use Rattle.ld_explain.specs.Names.{Event, MAX_KEYS};
 ghost use Rattle.ld_task.specs.TraceChains as trace_chains;
 ghost use Rattle.ld_explain.specs.Names.{Fact, FactBelow, FactParts, HasFact, arrow, fact_slots};
 ghost use Rattle.ld_explain.specs.Clauses.{Among, AreGuards, AreGuardsOf, AsksOrder, HasGuard, IsAloneIn, IsGate, IsGuardWith, IsKept, PutsGuard, SeenFrom, View, ViewHas, key_by, named_fact, view_of};
@@ -24,7 +25,8 @@ pub struct Guards {
 }
 
 impl Model for Guards {
-    ghost use Rattle.ld_explain.specs.Names.{◌≤◌, MAX_KEYS};
+    ghost use Rattle.std.specs.Prelude.{◌≤◌};
+    ghost use Rattle.ld_explain.specs.Names.{MAX_KEYS};
     ghost use Rattle.ld_explain.specs.Notes.{GuardParts};
 
     ghost Value = { GuardParts };

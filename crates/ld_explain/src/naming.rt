@@ -1,6 +1,7 @@
 //! Which keys facts are about.
 
-ghost use Rattle.ld_explain.specs.Names.{◌≡◌, fact_by};
+ghost use Rattle.std.specs.Prelude.{◌≡◌};
+ghost use Rattle.ld_explain.specs.Names.{fact_by};
 ghost use Rattle.ld_explain.specs.Clauses.{key_by, named_fact};
 
 use ld_facts::{Fact, fact_in_slot};

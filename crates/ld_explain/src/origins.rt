@@ -1,6 +1,7 @@
 //! The first occurrence of each fact.
 
-ghost use Rattle.ld_explain.specs.Names.{[], ◌+◌, ◌<◌, ◌≡◌, ◌≤◌, Event, IfSome, IsNone, IsPlacedAfter, List, MAX_KEYS, OnOk, Some, ℕ};
+ghost use Rattle.std.specs.Prelude.{[], ◌+◌, ◌<◌, ◌≡◌, ◌≤◌, IfSome, IsNone, List, OnOk, Some, ℕ};
+ghost use Rattle.ld_explain.specs.Names.{Event, IsPlacedAfter, MAX_KEYS};
 ghost use Rattle.ld_task.specs.TraceChains as trace_chains;
 ghost use Rattle.ld_explain.specs.Names.{Fact, FactBelow, FactParts, HasFact, fact_slots};
 ghost use Rattle.ld_explain.specs.Clauses.{AreOriginsOf, HasOrigin, IsKnown, IsOriginOf, PutsOrigin, View, slot_position};
@@ -34,7 +35,8 @@ pub struct Origins {
 }
 
 impl Model for Origins {
-    ghost use Rattle.ld_explain.specs.Names.{◌≤◌, MAX_KEYS};
+    ghost use Rattle.std.specs.Prelude.{◌≤◌};
+    ghost use Rattle.ld_explain.specs.Names.{MAX_KEYS};
     ghost use Rattle.ld_explain.specs.Origins.{OriginParts};
 
     ghost Value = { OriginParts };

@@ -1,6 +1,7 @@
 //! What was seen of findings, and what is asked about for it, before the traces are read.
 
-ghost use Rattle.ld_explain.specs.Names.{◌≡◌, ◌≤◌, Adds, FactBelow, HasFact, Holds, IfOk, MAX_KEYS, OnOk};
+ghost use Rattle.std.specs.Prelude.{◌≡◌, ◌≤◌, IfOk, OnOk};
+ghost use Rattle.ld_explain.specs.Names.{Adds, FactBelow, HasFact, Holds, MAX_KEYS};
 ghost use Rattle.ld_explain.specs.Clauses.{AddsSeen, HasBetween, IsPlan, SeenHas};
 
 use crate::choices::ask;

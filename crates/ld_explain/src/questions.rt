@@ -1,6 +1,7 @@
 //! Between what findings were seen: the levels are asked in turn.
 
-ghost use Rattle.ld_explain.specs.Names.{◌≡◌, HasFact, IfOk, IfSome, IsDouble, IsInversion, IsNone, OnCircle, slice_index, true};
+ghost use Rattle.std.specs.Prelude.{◌≡◌, IfOk, IfSome, IsNone, slice_index, true};
+ghost use Rattle.ld_explain.specs.Names.{HasFact, IsDouble, IsInversion, OnCircle};
 ghost use Rattle.ld_explain.specs.Clauses.{IsChoiceFor, IsNestedChoice, IsSeenAs, IsSeenAt, IsUnseenAt, IsUnseenBy, Makes, levels_of, lock_level};
 
 use crate::asker::{Asker, Case};

@@ -1,6 +1,7 @@
 //! What is settled about traces at each level of what their locks are called.
 
-ghost use Rattle.ld_explain.specs.Names.{◌<◌, ◌↔◌, ◌≡◌, ◌≤◌, All, AreSame, Contains, Err, Event, GRAPH_KEYS, HasFact, IfOk, IfSome, Image, IsClean, IsFalse, IsNone, IsTrue, IsWellFormed, List, MAX_KEYS, MAX_TRACES, Ok, TooTangled, TracesHave, if◌then◌else◌, is_rest, length, name_at, slice_index};
+ghost use Rattle.std.specs.Prelude.{◌<◌, ◌↔◌, ◌≡◌, ◌≤◌, All, Contains, Err, IfOk, IfSome, IsFalse, IsNone, IsTrue, List, Ok, if◌then◌else◌, length, slice_index};
+ghost use Rattle.ld_explain.specs.Names.{AreSame, Event, GRAPH_KEYS, HasFact, Image, IsClean, IsWellFormed, MAX_KEYS, MAX_TRACES, TooTangled, TracesHave, is_rest, name_at};
 ghost use Rattle.ld_explain.specs.Clauses.{AreLevels, AreSureNumbers, AreTypes, AreVerdictsAt, Borrows, IsSure, no_key};
 
 use crate::{Levels, Tried, Verdict, own_names_change_nothing, verdicts_of};
@@ -81,7 +82,7 @@ pub struct SettledLevels {
 }
 
 impl Model for SettledLevels {
-    ghost use Rattle.ld_explain.specs.Names.{Some, if◌then◌else◌};
+    ghost use Rattle.std.specs.Prelude.{Some, if◌then◌else◌};
     ghost use Rattle.ld_explain.specs.Settling.{LevelParts};
 
     ghost Value = { LevelParts };

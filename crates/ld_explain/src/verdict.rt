@@ -1,6 +1,6 @@
 //! Findings between types, and between what they were seen.
 
-ghost use Rattle.ld_explain.specs.Names.{◌≡◌, ◌≤◌, length};
+ghost use Rattle.std.specs.Prelude.{◌≡◌, ◌≤◌, length};
 ghost use Rattle.ld_explain.specs.Clauses.{count_ranked, counts, has_finding, rank};
 
 use crate::finding::Finding;

@@ -1,6 +1,7 @@
 //! Findings between types, and between what they were seen.
 
-ghost use Rattle.ld_explain.specs.Names.{◌≡◌, ◌≤◌, All, AreSame, FactBelow, HasFact, Holds, IfOk, IfSome, IsWellFormed, MAX_KEYS, MAX_TRACES, length, map};
+ghost use Rattle.std.specs.Prelude.{◌≡◌, ◌≤◌, All, IfOk, IfSome, length, map};
+ghost use Rattle.ld_explain.specs.Names.{AreSame, FactBelow, HasFact, Holds, IsWellFormed, MAX_KEYS, MAX_TRACES};
 ghost use Rattle.ld_explain.specs.Clauses.{Are, AreVerdicts, HasBetween, IsSeenAmong, Naming, SaysSeen, ViewHas, levels_of, plain, view_of};
 
 use crate::explainer::Explainer;

@@ -3,7 +3,7 @@ pub use Rattle.ld_text.specs.ChainLines.{chain_line, chains_text, flags_text, ta
 pub use Rattle.ld_text.specs.Explanation.{block_text, comes_line, deadlock_text, dependency_text, does_text, event_of, explanation_text, gate_lines, gate_note, head_text, holds_line, listed_text, lock_of, note_line, notes_text, occurrence_text, only_notes, order_line, origins_text, sources_of, use_lines, waits_line, waits_text, walk_text, while_text}
 pub use Rattle.ld_text.specs.Findings.{SaysFindings}
 pub use Rattle.ld_text.specs.Groups.{GrowsBy, InSequence, InTurn}
-pub use Rattle.ld_text.specs.Inside.Joined.{Leads}
+pub use Rattle.ld_text.specs.Inside.Joined.{AreJoinedKeys, Leads}
 pub use Rattle.ld_text.specs.Inside.Tokens.{Adds}
 pub use Rattle.ld_text.specs.Inside.Turning.{TellsTurned, starts_before}
 pub use Rattle.ld_text.specs.Json.{circle_words, dependency_members, double_words, event_members, finding_line, finding_members, held_members, inversion_words, json_text, keys_member, lines_member, list_member, notes_member, number_member, object, object_member, occurrence_members, order_object, orders_member, taken_mode, text_member, use_members}

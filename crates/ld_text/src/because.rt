@@ -1,6 +1,7 @@
 //! The line of a circle.
 
-ghost use Rattle.ld_text.specs.Names.{◌++◌, ◌-◌, ◌<◌, ◌≡◌, ◌≤◌, IsFirstBest, OnOk, Some, arrow, drop, flat_map, length, slice_get, string_bytes, take};
+ghost use Rattle.std.specs.Prelude.{◌++◌, ◌-◌, ◌<◌, ◌≡◌, ◌≤◌, OnOk, Some, drop, flat_map, length, slice_get, string_bytes, take};
+ghost use Rattle.ld_text.specs.Names.{IsFirstBest, arrow};
 ghost use Rattle.ld_text.specs.Clauses.{TellsTurned, member_text, starts_before};
 
 use crate::Tried;

@@ -1,6 +1,6 @@
 //! The blocks of an explanation, one for each finding.
 
-ghost use Rattle.ld_text.specs.Names.{◌++◌, ◌≡◌, IfOk, OnOk, codes, flat_map, string_bytes};
+ghost use Rattle.std.specs.Prelude.{◌++◌, ◌≡◌, IfOk, OnOk, codes, flat_map, string_bytes};
 ghost use Rattle.ld_text.specs.Clauses.{block_text, deadlock_text, explanation_text, head_text, notes_text, origins_text, walk_text};
 
 use crate::Tried;

@@ -1,6 +1,7 @@
 //! The text of a trace's chains.
 
-ghost use Rattle.ld_text.specs.Names.{[], ◌++◌, ◌+◌, ◌≡◌, ◌≤◌, Appends, Err, OnErr, OnOk, codes, length, name_at};
+ghost use Rattle.std.specs.Prelude.{[], ◌++◌, ◌+◌, ◌≡◌, ◌≤◌, Err, OnErr, OnOk, codes, length};
+ghost use Rattle.ld_text.specs.Names.{Appends, name_at};
 ghost use Rattle.ld_text.specs.Clauses.{AppendsBeginning, LINE_BYTES, chain_line, chains_text, flags_text, key_text, taken_text};
 ghost use Rattle.ld_text.specs.ChainLines.{head_text};
 

@@ -1,6 +1,7 @@
 //! The text of what was found, in one of two formats.
 
-ghost use Rattle.ld_text.specs.Names.{◌≡◌, ◌≤◌, All, Appends, AreSame, HasFact, IfErr, IfOk, IsWellFormed, List, MAX_TRACES, OnOk, TracesHave, length, map, ℕ};
+ghost use Rattle.std.specs.Prelude.{◌≡◌, ◌≤◌, All, IfErr, IfOk, List, OnOk, length, map, ℕ};
+ghost use Rattle.ld_text.specs.Names.{Appends, AreSame, HasFact, IsWellFormed, MAX_TRACES, TracesHave};
 ghost use Rattle.ld_text.specs.Clauses.{SaysFindings, StopsWriting, sources_of};
 
 use crate::key_texts::KeyTexts;

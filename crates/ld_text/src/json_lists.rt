@@ -1,6 +1,7 @@
 //! The lists in the JSON of a finding: its keys, its lines, its dependencies, its notes.
 
-ghost use Rattle.ld_text.specs.Names.{[], ◌∷◌, ◌≡◌, OnOk, flat_map, map, name_at, string};
+ghost use Rattle.std.specs.Prelude.{[], ◌∷◌, ◌≡◌, OnOk, flat_map, map};
+ghost use Rattle.ld_text.specs.Names.{name_at, string};
 ghost use Rattle.ld_text.specs.Clauses.{Adds, circle_words, gate_note, key_text, keys_member, lines_member, notes_member, only_notes, order_object, orders_member};
 
 use crate::wording::Wording;

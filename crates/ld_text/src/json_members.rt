@@ -1,6 +1,7 @@
 //! Members of JSON objects.
 
-ghost use Rattle.ld_text.specs.Names.{[], ◌∷◌, OnOk, string};
+ghost use Rattle.std.specs.Prelude.{[], ◌∷◌, OnOk};
+ghost use Rattle.ld_text.specs.Names.{string};
 ghost use Rattle.ld_text.specs.Clauses.{Adds, list_member, number_member, text_member};
 
 use crate::Tried;

@@ -1,6 +1,7 @@
 //! The findings as JSON objects.
 
-ghost use Rattle.ld_text.specs.Names.{[], ◌∷◌, ◌≡◌, OnOk, codes, string};
+ghost use Rattle.std.specs.Prelude.{[], ◌∷◌, ◌≡◌, OnOk, codes};
+ghost use Rattle.ld_text.specs.Names.{string};
 ghost use Rattle.ld_text.specs.Clauses.{Adds, dependency_members, double_words, event_members, event_of, finding_members, held_members, inversion_words, list_member, object, object_member, occurrence_members, order_object, taken_mode, use_members};
 
 use crate::Tried;

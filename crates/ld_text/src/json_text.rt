@@ -1,6 +1,6 @@
 //! The findings as JSON, for programs to read: what the explanation says, an object for each finding.
 
-ghost use Rattle.ld_text.specs.Names.{[], ◌++◌, ◌≡◌, IfOk, OnOk, codes, drop, flat_map};
+ghost use Rattle.std.specs.Prelude.{[], ◌++◌, ◌≡◌, IfOk, OnOk, codes, drop, flat_map};
 ghost use Rattle.ld_text.specs.Clauses.{finding_line, json_text};
 
 use crate::Tried;

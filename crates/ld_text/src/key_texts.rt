@@ -1,6 +1,7 @@
 //! The keys as lines name them.
 
-ghost use Rattle.ld_text.specs.Names.{[], ◌++◌, ◌≡◌, IfOk, OnOk, map, name_at, slice_get, string_bytes, unwrap_or};
+ghost use Rattle.std.specs.Prelude.{[], ◌++◌, ◌≡◌, IfOk, OnOk, map, slice_get, string_bytes, unwrap_or};
+ghost use Rattle.ld_text.specs.Names.{name_at};
 ghost use Rattle.ld_text.specs.Clauses.{key_text};
 
 use crate::Tried;
@@ -17,7 +18,7 @@ pub(crate) struct KeyTexts {
 }
 
 impl Model for KeyTexts {
-    ghost use Rattle.ld_text.specs.Names.{List, map, string_bytes, ℕ};
+    ghost use Rattle.std.specs.Prelude.{List, map, string_bytes, ℕ};
 
     ghost Value = { List (List ℕ) };
 

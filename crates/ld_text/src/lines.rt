@@ -1,6 +1,6 @@
 //! The lines of an explanation: where facts come from, and who waits for whom.
 
-ghost use Rattle.ld_text.specs.Names.{◌++◌, ◌≡◌, ◌≤◌, OnOk, codes, flat_map, string_bytes};
+ghost use Rattle.std.specs.Prelude.{◌++◌, ◌≡◌, ◌≤◌, OnOk, codes, flat_map, string_bytes};
 ghost use Rattle.ld_text.specs.Clauses.{comes_line, dependency_text, does_text, event_of, holds_line, lock_of, member_text, occurrence_text, order_line, use_lines, waits_line, waits_text, while_text};
 
 use crate::Tried;

@@ -1,6 +1,6 @@
 //! What speaks against a finding, in words.
 
-ghost use Rattle.ld_text.specs.Names.{◌++◌, ◌≡◌, OnOk, codes, flat_map, string_bytes};
+ghost use Rattle.std.specs.Prelude.{◌++◌, ◌≡◌, OnOk, codes, flat_map, string_bytes};
 ghost use Rattle.ld_text.specs.Clauses.{dependency_text, file_at, gate_lines, gate_note, listed_text, note_line, only_notes};
 
 use crate::wording::Wording;

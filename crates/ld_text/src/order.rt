@@ -1,6 +1,7 @@
 //! The order of keys in a report.
 
-ghost use Rattle.ld_text.specs.Names.{◌≡◌, IfOk, length, name_at};
+ghost use Rattle.std.specs.Prelude.{◌≡◌, IfOk, length};
+ghost use Rattle.ld_text.specs.Names.{name_at};
 ghost use Rattle.ld_text.specs.Clauses.{IsKeyOrder, name_cmp, numbers_below};
 
 use crate::Tried;

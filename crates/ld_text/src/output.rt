@@ -1,6 +1,7 @@
 //! Writing whole texts to a writer.
 
-ghost use Rattle.ld_text.specs.Names.{[], ◌++◌, ◌≡◌, Appends, Err, OnErr, OnOk};
+ghost use Rattle.std.specs.Prelude.{[], ◌++◌, ◌≡◌, Err, OnErr, OnOk};
+ghost use Rattle.ld_text.specs.Names.{Appends};
 ghost use Rattle.ld_text.specs.Clauses.{AppendsBeginning, PutsBehind};
 ghost use Rattle.std.specs.List.{flat_map};
 

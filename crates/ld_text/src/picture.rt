@@ -1,7 +1,8 @@
 //! The facts as a picture: a graph in the language DOT.
 
-ghost use Rattle.ld_text.specs.Names.{◌++◌, ◌↔◌, ◌≡◌, Any, Appends, HasFact, IfErr, IfOk, IsDouble, IsTrue, List, OnOk, flat_map, name_at, states, ℕ};
-ghost use Rattle.ld_text.specs.Clauses.{GrowsBy, InTurn, IsFoundKey, IsNode, IsPicture, IsUsageCharacter, ShowsKey, StopsWriting, arrow_text, double_links, end_text, escaped, forms, inversion_links, link_line, quoted_key};
+ghost use Rattle.std.specs.Prelude.{◌++◌, ◌↔◌, ◌≡◌, Any, IfErr, IfOk, IsTrue, List, OnOk, flat_map, ℕ};
+ghost use Rattle.ld_text.specs.Names.{Appends, HasFact, IsDouble, name_at, states};
+ghost use Rattle.ld_text.specs.Clauses.{AreJoined, AreJoinedKeys, GrowsBy, InTurn, IsFoundKey, IsNode, IsPicture, IsUsageCharacter, ShowsKey, StopsWriting, arrow_text, double_links, end_text, escaped, forms, inversion_links, link_line, quoted_key};
 
 use crate::report::{FORMS, usage_character};
 use crate::words::{digits_of, name_of};
@@ -27,6 +28,12 @@ pub(crate) struct PictureView<'a> {
     pub keys: &'a [KeyId],
     // Whether only what is part of a finding is shown.
     pub only: bool,
+}
+
+fn add_bytes(text: &mut Vec<u8>, more: &[u8]) -> Tried<()>
+    ensures { OnOk result (text.new.items ≡ text.old.items ++ more.now) }
+{
+    text.extend_from_slice(more)
 }
 
 fn add(text: &mut Vec<u8>, more: &str) -> Tried<()>
@@ -83,11 +90,12 @@ impl PictureView<'_> {
         false
     }
 
-    // Whether the key is part of a finding.
-    fn is_found_key(self, key: KeyId) -> bool
+    // Whether the key is part of a finding. `is_joined`: whether a dependency that is part of one leads from it or to it.
+    fn is_found_key(self, key: KeyId, is_joined: bool) -> bool
+        requires { IsTrue is_joined ↔ Any (AreJoined (HasFact self.settled.now) key) self.keys.now }
         ensures { IsTrue result ↔ IsFoundKey (HasFact self.entry.settled.now) self.entry.keys.now key }
     {
-        self.is_double(key) || self.is_joined(key)
+        self.is_double(key) || is_joined
     }
 
     // A key as it stands between double quotes.
@@ -125,27 +133,29 @@ impl PictureView<'_> {
         add_end(text, red)
     }
 
-    // The line of a key, if it is shown.
-    fn add_shown_key(self, text: &mut Vec<u8>, key: KeyId) -> Tried<()>
+    // The line of a key, if it is shown. `is_joined`: whether a dependency that is part of a finding leads from it or to it.
+    fn add_shown_key(self, text: &mut Vec<u8>, key: KeyId, is_joined: bool) -> Tried<()>
+        requires { IsTrue is_joined ↔ Any (AreJoined (HasFact self.settled.now) key) self.keys.now }
         ensures { OnOk result (GrowsBy
             (ShowsKey (HasFact self.entry.settled.now) self.entry.names.now.names self.entry.keys.now self.entry.only key)
             text.old.items text.new.items) }
     {
-        let red = self.is_found_key(key);
+        let red = self.is_found_key(key, is_joined);
         if red || !self.only {
             self.add_node(text, key, red)?;
         }
         Ok(())
     }
 
-    // The lines of the keys.
-    fn add_keys(self, text: &mut Vec<u8>) -> Tried<()>
+    // The lines of the keys. `joined`: of each, whether a dependency that is part of a finding leads from it or to it.
+    fn add_keys(self, text: &mut Vec<u8>, joined: &[bool]) -> Tried<()>
+        requires { AreJoinedKeys (HasFact self.settled.now) self.keys.now joined.now }
         ensures { OnOk result (GrowsBy
             (InTurn (ShowsKey (HasFact self.entry.settled.now) self.entry.names.now.names self.entry.keys.now
             self.entry.only) self.entry.keys.now) text.old.items text.new.items) }
     {
-        for key in self.keys {
-            self.add_shown_key(text, *key)?;
+        for n in 0..self.keys.len() {
+            self.add_shown_key(text, self.keys[n], joined[n])?;
         }
         Ok(())
     }
@@ -216,10 +226,12 @@ fn picture_text(
         only: findings,
     };
     let found = Found::of(alloc, settled, keys)?;
+    let mut edges = Vec::new(alloc);
+    let joined = view.add_edges(alloc, &mut edges)?;
     let mut text = Vec::new(alloc);
     add(&mut text, "digraph lockdep {\n  node [shape=box];\n")?;
-    view.add_keys(&mut text)?;
-    view.add_edges(&mut text)?;
+    view.add_keys(&mut text, joined.as_slice())?;
+    add_bytes(&mut text, edges.as_slice())?;
     view.add_doubles(&mut text, found.doubles())?;
     view.add_inversions(&mut text, found.inversions())?;
     add(&mut text, "}\n")?;

@@ -1,6 +1,7 @@
 //! The text of a report.
 
-ghost use Rattle.ld_text.specs.Names.{◌++◌, ◌≡◌, Appends, HasFact, IfErr, IfOk, List, OnOk, flat_map, length, map, name_at, string_bytes, sum_by, ℕ};
+ghost use Rattle.std.specs.Prelude.{◌++◌, ◌≡◌, IfErr, IfOk, List, OnOk, flat_map, length, map, string_bytes, sum_by, ℕ};
+ghost use Rattle.ld_text.specs.Names.{Appends, HasFact, name_at};
 ghost use Rattle.ld_text.specs.Clauses.{AreTotals, GrowsBy, InSequence, InTurn, IsReport, IsUsageCharacter, IsUsageLine, ShowsBecause, StopsWriting, circle_line, clean_line, double_line, findings, forms, inversion_line, key_text, total_line, usage_character};
 
 use crate::key_texts::KeyTexts;

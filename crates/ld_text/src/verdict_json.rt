@@ -1,6 +1,7 @@
 //! Verdicts as JSON, version 2, for programs to read.
 
-ghost use Rattle.ld_text.specs.Names.{◌++◌, ◌≡◌, IfOk, OnOk, codes, drop, flat_map, print};
+ghost use Rattle.std.specs.Prelude.{◌++◌, ◌≡◌, IfOk, OnOk, codes, drop, flat_map};
+ghost use Rattle.ld_text.specs.Names.{print};
 ghost use Rattle.ld_text.specs.Clauses.{Adds, between_members, count_members, dependency_object, gate_object, in_order, list_member, note_members, noted_members, object, object_member, only_member, ranked, text_member, verdict_json, verdict_line, verdict_members};
 
 use crate::json_members::{add_number, add_text};

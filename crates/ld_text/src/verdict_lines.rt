@@ -1,6 +1,7 @@
 //! The lines of verdicts: findings between types, each with what it was seen between.
 
-ghost use Rattle.ld_text.specs.Names.{◌++◌, ◌≡◌, IfOk, OnOk, codes, flat_map, is_nesting, string_bytes};
+ghost use Rattle.std.specs.Prelude.{◌++◌, ◌≡◌, IfOk, OnOk, codes, flat_map, string_bytes};
+ghost use Rattle.ld_text.specs.Names.{is_nesting};
 ghost use Rattle.ld_text.specs.Clauses.{between_text, in_order, nested_text, ranked, seen_text, verdict_block, verdict_lines};
 
 use crate::Tried;

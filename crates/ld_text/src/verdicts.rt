@@ -1,6 +1,7 @@
 //! The verdicts of traces, and the text of them in one of two formats.
 
-ghost use Rattle.ld_text.specs.Names.{◌≡◌, ◌≤◌, All, Appends, AreLevels, IfErr, IfOk, IsWellFormed, List, MAX_TRACES, OnOk, length, map, ℕ};
+ghost use Rattle.std.specs.Prelude.{◌≡◌, ◌≤◌, All, IfErr, IfOk, List, OnOk, length, map, ℕ};
+ghost use Rattle.ld_text.specs.Names.{Appends, AreLevels, IsWellFormed, MAX_TRACES};
 ghost use Rattle.ld_text.specs.Clauses.{AreVerdictsOf, StopsWriting, lock_sources, type_sources, verdicts_text};
 
 use crate::key_texts::KeyTexts;

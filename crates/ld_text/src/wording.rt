@@ -1,6 +1,7 @@
 //! What findings are put into words by.
 
-ghost use Rattle.ld_text.specs.Names.{◌≡◌, name_at};
+ghost use Rattle.std.specs.Prelude.{◌≡◌};
+ghost use Rattle.ld_text.specs.Names.{name_at};
 ghost use Rattle.ld_text.specs.Clauses.{event_of, key_text};
 
 use crate::key_texts::KeyTexts;
@@ -31,7 +32,7 @@ pub(crate) struct Wording<'a> {
 }
 
 impl<'a> Model for Wording<'a> {
-    ghost use Rattle.ld_text.specs.Names.{◌≡◌, map};
+    ghost use Rattle.std.specs.Prelude.{◌≡◌, map};
     ghost use Rattle.ld_text.specs.Explanation.{Sources};
     ghost use Rattle.ld_text.specs.Words.{key_text};
 

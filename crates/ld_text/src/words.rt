@@ -1,6 +1,7 @@
 //! Words of the program's texts.
 
-ghost use Rattle.ld_text.specs.Names.{[], ◌++◌, ◌+◌, ◌<◌, ◌∷◌, ◌≡◌, ◌≤◌, decimal, length, map, name_at};
+ghost use Rattle.std.specs.Prelude.{[], ◌++◌, ◌+◌, ◌<◌, ◌∷◌, ◌≡◌, ◌≤◌, decimal, length, map};
+ghost use Rattle.ld_text.specs.Names.{name_at};
 ghost use Rattle.ld_text.specs.Clauses.{file_at, flag_text, frame_text, kind_text};
 
 use arrayvec::ArrayString;

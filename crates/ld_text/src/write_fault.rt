@@ -1,6 +1,6 @@
 //! Why a text wasn't written.
 
-ghost use Rattle.ld_text.specs.Names.{◌≡◌};
+ghost use Rattle.std.specs.Prelude.{◌≡◌};
 ghost use Rattle.ld_text.specs.Clauses.{write_code_of};
 
 use thiserror::Error;

@@ -1,6 +1,7 @@
 //! The chains of one trace, as `lockdep chains` writes them.
 
-ghost use Rattle.lockdep.specs.Names.{◌≡◌, ◌≤◌, Appends, Event, IfErr, IfOk, IsFirstFault, IsWellFormed, List, MAX_EVENTS, chains_text, length, option_map};
+ghost use Rattle.std.specs.Prelude.{◌≡◌, ◌≤◌, IfErr, IfOk, List, length, option_map};
+ghost use Rattle.lockdep.specs.Names.{Appends, Event, IsFirstFault, IsWellFormed, MAX_EVENTS, chains_text};
 ghost use Rattle.lockdep.specs.Clauses.{IsStepRefusal, RefusesChains, RefusesOpened, RefusesTrace, WritesChains, known_of, remaining_in};
 
 use crate::program::DONE;

@@ -1,6 +1,7 @@
 //! The condensed trace of settled facts, and its text.
 
-ghost use Rattle.lockdep.specs.Names.{◌≡◌, Appends, HasFact, IfErr, IfOk, IsOkAnd, KeysBelow, List, OnOk, length, trace_text, ℕ};
+ghost use Rattle.std.specs.Prelude.{◌≡◌, IfErr, IfOk, IsOkAnd, List, OnOk, length, ℕ};
+ghost use Rattle.lockdep.specs.Names.{Appends, HasFact, KeysBelow, trace_text};
 ghost use Rattle.lockdep.specs.Clauses.{IsBeforeWriting, IsCondensedText, ReadsBackAnew, StopsSettled, condensed, no_text_of};
 
 use crate::fault::ReportFault;

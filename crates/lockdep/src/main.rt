@@ -1,7 +1,8 @@
 //! `lockdep`: checks recorded traces of tasks for lock orders that can deadlock.
 #![tactic(auto)]
 
-ghost use Rattle.lockdep.specs.Names.{◌<◌, ◌≡◌, ◌≤◌, ◌⊎◌, AppendsBeginning, IfErr, IfOk, List, map, string_bytes, ℕ};
+ghost use Rattle.std.specs.Prelude.{◌<◌, ◌≡◌, ◌≤◌, ◌⊎◌, IfErr, IfOk, List, map, string_bytes, ℕ};
+ghost use Rattle.lockdep.specs.Names.{AppendsBeginning};
 ghost use Rattle.lockdep.specs.Clauses.{DoesWords, Refusal, fault_line};
 
 use std::alloc::{AllocError, Global};

@@ -1,6 +1,7 @@
 //! What is written about all the traces of a session.
 
-ghost use Rattle.lockdep.specs.Names.{◌≡◌, ◌≤◌, All, Appends, AreSame, HasFact, IfErr, IsWellFormed, List, OnOk, TracesHave, length, ℕ};
+ghost use Rattle.std.specs.Prelude.{◌≡◌, ◌≤◌, All, IfErr, List, OnOk, length, ℕ};
+ghost use Rattle.lockdep.specs.Names.{Appends, AreSame, HasFact, IsWellFormed, TracesHave};
 ghost use Rattle.lockdep.specs.Clauses.{IsTextOf, StopsSettled, view_of};
 
 use crate::condensed::write_condensed;

@@ -1,6 +1,7 @@
 //! The program: a command line, the traces that it names, and what is written for them.
 
-ghost use Rattle.lockdep.specs.Names.{[], ◌<◌, ◌≡◌, ◌≤◌, All, Appends, Bool, Err, IfErr, IfOk, IsCrew, IsLineFault, IsWellFormed, List, MAX_KEYS, MAX_TRACES, Ok, OnOk, if◌then◌else◌, length, map, ℕ};
+ghost use Rattle.std.specs.Prelude.{[], ◌<◌, ◌≡◌, ◌≤◌, All, Bool, Err, IfErr, IfOk, List, Ok, OnOk, if◌then◌else◌, length, map, ℕ};
+ghost use Rattle.lockdep.specs.Names.{Appends, IsCrew, IsLineFault, IsWellFormed, MAX_KEYS, MAX_TRACES};
 ghost use Rattle.lockdep.specs.Clauses.{AreTracesOf, DoesLine, DoesVerdicts, DoesWords, IsReportRefusal, IsRunOf, Refusal, RefusesHelp, RefusesLine, RefusesNoLine, RefusesOutput, RefusesTraces, RefusesVerdicts, RefusesVerdictsOf, RefusesWords, StopsReading, WritesHelp, WritesOutput, WritesText, WritesVerdicts, output_asked, room_of, status_of, verdicts_asked, view_of, write_refusal_of};
 
 use crate::chains::answer_chains;

@@ -1,6 +1,7 @@
 //! Why the program refused, and the one line that says so.
 
-ghost use Rattle.lockdep.specs.Names.{◌≡◌, Appends, AppendsBeginning, IfOk, OnErr, OnOk, Result, WriteFault, ℕ};
+ghost use Rattle.std.specs.Prelude.{◌≡◌, IfOk, OnErr, OnOk, Result, ℕ};
+ghost use Rattle.lockdep.specs.Names.{Appends, AppendsBeginning, WriteFault};
 ghost use Rattle.lockdep.specs.Clauses.{Refusal, fault_line, record_line};
 
 use ld_run::{CondenseFault, RunFault};

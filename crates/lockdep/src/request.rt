@@ -1,6 +1,6 @@
 //! What a command line asks for.
 
-ghost use Rattle.lockdep.specs.Names.{◌≡◌, map};
+ghost use Rattle.std.specs.Prelude.{◌≡◌, map};
 ghost use Rattle.lockdep.specs.Clauses.{asked_by, asked_of, explanation_as, explanation_asked, format_as, output_of, verdicts_of, view_of};
 
 use crate::output::Output;

@@ -1,6 +1,7 @@
 //! A session: traces, in their order, and what is written of all of them together.
 
-ghost use Rattle.lockdep.specs.Names.{[], ◌++◌, ◌+◌, ◌<◌, ◌↔◌, ◌∷◌, ◌≡◌, ◌≤◌, All, Appends, AreRead, Event, IfErr, IfOk, IfSome, IsClean, IsCrew, IsErrOf, IsOkAnd, IsReportOf, IsTrue, IsWellFormed, KeysBelow, List, OnOk, ReadsTo, StopsAfter, StopsAt, TracesHave, length, map, ℕ};
+ghost use Rattle.std.specs.Prelude.{[], ◌++◌, ◌+◌, ◌<◌, ◌↔◌, ◌∷◌, ◌≡◌, ◌≤◌, All, IfErr, IfOk, IfSome, IsErrOf, IsOkAnd, IsTrue, List, OnOk, length, map, ℕ};
+ghost use Rattle.lockdep.specs.Names.{Appends, AreRead, Event, IsClean, IsCrew, IsReportOf, IsWellFormed, KeysBelow, ReadsTo, StopsAfter, StopsAt, TracesHave};
 ghost use Rattle.lockdep.specs.Clauses.{IsTextOf, StopsReport, StopsText, StopsVerdicts, WritesVerdicts, view_of};
 
 use crate::fault::ReportFault;
@@ -29,7 +30,8 @@ pub struct Session {
 }
 
 impl Model for Session {
-    ghost use Rattle.lockdep.specs.Names.{All, KeysBelow, length};
+    ghost use Rattle.std.specs.Prelude.{All, length};
+    ghost use Rattle.lockdep.specs.Names.{KeysBelow};
     ghost use Rattle.lockdep.specs.Sessions.{SessionParts};
 
     ghost Value = { SessionParts };

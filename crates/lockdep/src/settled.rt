@@ -1,6 +1,7 @@
 //! What is settled about the traces of a session.
 
-ghost use Rattle.lockdep.specs.Names.{◌+◌, ◌<◌, ◌≡◌, All, CompletesRun, Format, IfErr, IfOk, IsSomeAnd, KeysBelow, List, Name, Option, StopsRun, Text, length, slice_get, ℕ};
+ghost use Rattle.std.specs.Prelude.{◌+◌, ◌<◌, ◌≡◌, All, IfErr, IfOk, IsSomeAnd, List, Option, length, slice_get, ℕ};
+ghost use Rattle.lockdep.specs.Names.{CompletesRun, Format, KeysBelow, Name, StopsRun, Text};
 ghost use Rattle.lockdep.specs.Clauses.{OutputView, StopsText, StopsVerdicts};
 
 use crate::fault::ReportFault;

@@ -1,7 +1,8 @@
 //! How the traces of the files come into a session: in turn, or read ahead by several threads.
 
 ghost use denote.Param.Send.{IsSync};
-ghost use Rattle.lockdep.specs.Names.{[], ◌++◌, ◌+◌, ◌<◌, ◌∷◌, ◌≡◌, ◌≤◌, All, Event, IfErr, IfSome, KeysBelow, List, None, OnErr, OnOk, Option, ReadsTo, length, map, option_map, slice_get, ℕ};
+ghost use Rattle.std.specs.Prelude.{[], ◌++◌, ◌+◌, ◌<◌, ◌∷◌, ◌≡◌, ◌≤◌, All, IfErr, IfSome, List, None, OnErr, OnOk, Option, length, map, option_map, slice_get, ℕ};
+ghost use Rattle.lockdep.specs.Names.{Event, KeysBelow, ReadsTo};
 ghost use Rattle.lockdep.specs.Clauses.{IsReadingRefusal, NamesFileAt, StopsReading, remaining_in};
 
 use crate::refusal::Refusal;

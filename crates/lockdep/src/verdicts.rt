@@ -1,6 +1,7 @@
 //! The verdicts of a session's traces: the findings between types of locks, each with what it was seen between.
 
-ghost use Rattle.lockdep.specs.Names.{◌<◌, ◌≡◌, ◌≤◌, All, AreLevels, AreTypes, Err, Format, IfErr, IfOk, IsCrew, IsWellFormed, KeysBelow, List, OnOk, Option, StopsWriting, Text, length, map, ℕ};
+ghost use Rattle.std.specs.Prelude.{◌<◌, ◌≡◌, ◌≤◌, All, Err, IfErr, IfOk, List, OnOk, Option, length, map, ℕ};
+ghost use Rattle.lockdep.specs.Names.{AreLevels, AreTypes, Format, IsCrew, IsWellFormed, KeysBelow, StopsWriting, Text};
 ghost use Rattle.lockdep.specs.Clauses.{SaysVerdicts, StopsVerdicts, WritesVerdicts, fault_of_parting};
 
 use crate::fault::ReportFault;
