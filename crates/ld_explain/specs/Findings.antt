@@ -1,5 +1,6 @@
 -- Findings as values: what was found, where it comes from, and what speaks against it [this project's own].
-use Rattle.ld_explain.specs.Names.{[], ◌++◌, ◌↔◌, ◌∷◌, ◌≡◌, ◌≤◌, ◌⊎◌, All, Any, Arrow, Contains, Enabled, Fact, Irq, List, Option, Some, UsedIn, is_r, is_s, length, map, ℕ}
+use Rattle.std.specs.Prelude.{[], ◌++◌, ◌↔◌, ◌∷◌, ◌≡◌, ◌≤◌, ◌⊎◌, All, Any, Contains, List, Option, Some, length, map, ℕ}
+use Rattle.ld_explain.specs.Names.{Arrow, Enabled, Fact, Irq, UsedIn, is_r, is_s}
 use Rattle.ld_facts.specs.declared.fact.Fact.TheVariants as fact
 use Rattle.ld_explain.specs.Names.{IsDoubleBy, IsShortestFrom, IsShortestInversion}
 use Rattle.ld_explain.specs.Found.{AreFound, AreThose, FoundParts}

@@ -1,5 +1,6 @@
 -- What was found: the findings of facts as lists, in the report's order [this project's own].
-use Rattle.ld_explain.specs.Names.{[], ◌∷◌, ◌≡◌, ◌⊎◌, Arrow, En, Er, Fact, Hard, Irq, IsDouble, IsInversion, Kind, List, OnCircle, Sn, Soft, Sr, arrow, flat_map, map, ℕ}
+use Rattle.std.specs.Prelude.{[], ◌∷◌, ◌≡◌, ◌⊎◌, List, flat_map, map, ℕ}
+use Rattle.ld_explain.specs.Names.{Arrow, En, Er, Fact, Hard, Irq, IsDouble, IsInversion, Kind, OnCircle, Sn, Soft, Sr, arrow}
 
 -- the four kinds, in the report's order
 abbrev pub kinds : List Kind

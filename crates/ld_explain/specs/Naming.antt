@@ -1,5 +1,6 @@
 -- Which keys facts are about [this project's own].
-use Rattle.ld_explain.specs.Names.{Event, List, slice_index, ℕ}
+use Rattle.std.specs.Prelude.{List, slice_index, ℕ}
+use Rattle.ld_explain.specs.Names.{Event}
 use Rattle.ld_explain.specs.Origins.{View}
 use Rattle.ld_explain.specs.declared.naming.Naming.{Naming}
 use Rattle.ld_explain.specs.declared.naming.Naming.TheVariants.{Own, Renamed}

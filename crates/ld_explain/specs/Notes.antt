@@ -1,6 +1,7 @@
 -- What speaks against a finding: locks that are always held round its dependencies, and a trace that alone has them
 -- [this project's own; the two conditions are those of Havelund's GoodLock].
-use Rattle.ld_explain.specs.Names.{[], ◌<◌, ◌↔◌, ◌∷◌, ◌≡◌, Arrow, Contains, DependenciesOf, Dependency, Event, Fact, FactBelow, FactParts, HasFact, IsDependency, IsTrue, List, Some, arrow_by, event, fact_number, false, is_held, is_read, key_at, lookup, mode_taken, nat_eq, slice_get, ℕ}
+use Rattle.std.specs.Prelude.{[], ◌<◌, ◌↔◌, ◌∷◌, ◌≡◌, Contains, IsTrue, List, Some, false, nat_eq, slice_get, ℕ}
+use Rattle.ld_explain.specs.Names.{Arrow, DependenciesOf, Dependency, Event, Fact, FactBelow, FactParts, HasFact, IsDependency, arrow_by, event, fact_number, is_held, is_read, key_at, lookup, mode_taken}
 use Rattle.ld_explain.specs.Origins.{View, ViewHas}
 use Rattle.ld_explain.specs.declared.guard.Guard.{Guard}
 

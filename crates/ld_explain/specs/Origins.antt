@@ -1,5 +1,6 @@
 -- Where the facts of many traces come from: their first occurrences [this project's own].
-use Rattle.ld_explain.specs.Names.{◌<◌, ◌↔◌, ◌≡◌, ◌≤◌, ◌⊎◌, AreSame, Dependency, Event, Fact, FactBelow, FactParts, HasFact, IfSome, IsDependency, IsMarkedOpening, IsMarkedTaking, IsNone, List, Marked, None, Option, Some, TracesHave, TracesHaveBy, fact_by, fact_number, lookup, nat_eq, slice_get, ℕ}
+use Rattle.std.specs.Prelude.{◌<◌, ◌↔◌, ◌≡◌, ◌≤◌, ◌⊎◌, IfSome, IsNone, List, None, Option, Some, nat_eq, slice_get, ℕ}
+use Rattle.ld_explain.specs.Names.{AreSame, Dependency, Event, Fact, FactBelow, FactParts, HasFact, IsDependency, IsMarkedOpening, IsMarkedTaking, Marked, TracesHave, TracesHaveBy, fact_by, fact_number, lookup}
 use Rattle.ld_explain.specs.declared.origins.Origin.{Origin}
 
 -- ---- occurrences

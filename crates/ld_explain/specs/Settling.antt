@@ -1,5 +1,6 @@
 -- What is settled about traces at each level of what their locks are called [this project's own].
-use Rattle.ld_explain.specs.Names.{[], ◌<◌, ◌≡◌, ◌⊎◌, AreSame, Classes, Dependency, Event, Fact, FactParts, GRAPH_KEYS, HasFact, IfSome, IsClean, IsFalse, IsNone, Level, List, Marked, Name, Option, TracesHave, TracesHaveBy, Types, is_rest, length, map, name_at, name_by, numbers_at, option_map, slice_index, with_all, ℕ}
+use Rattle.std.specs.Prelude.{[], ◌<◌, ◌≡◌, ◌⊎◌, IfSome, IsFalse, IsNone, List, Option, length, map, option_map, slice_index, ℕ}
+use Rattle.ld_explain.specs.Names.{AreSame, Classes, Dependency, Event, Fact, FactParts, GRAPH_KEYS, HasFact, IsClean, Level, Marked, Name, TracesHave, TracesHaveBy, Types, is_rest, name_at, name_by, numbers_at, with_all}
 use Rattle.ld_explain.specs.Naming.{view_of}
 use Rattle.ld_explain.specs.Origins.{plain}
 use Rattle.ld_explain.specs.Verdicts.{AreVerdicts, levels_of}

@@ -1,5 +1,6 @@
 -- Between what the findings between types were seen: single locks, classes, or types alone [this project's own].
-use Rattle.ld_explain.specs.Names.{◌==◌, ◌||◌, ◌≡◌, ◌⊎◌, All, AreSame, Arrow, Bool, Bor, Contains, DependenciesOf, Event, Fact, FactParts, HasFact, Holds, IsDouble, IsFalse, IsInversion, IsShortestFrom, IsSomeAnd, IsTrue, List, OnCircle, Option, arrow_by, count_by, false, if◌then◌else◌, is_some, list_all, list_any, map, not, slice_index, ℕ}
+use Rattle.std.specs.Prelude.{◌==◌, ◌||◌, ◌≡◌, ◌⊎◌, All, Bool, Contains, IsFalse, IsSomeAnd, IsTrue, List, Option, count_by, false, if◌then◌else◌, is_some, map, not, slice_index, ℕ}
+use Rattle.ld_explain.specs.Names.{AreSame, Arrow, Bor, DependenciesOf, Event, Fact, FactParts, HasFact, Holds, IsDouble, IsInversion, IsShortestFrom, OnCircle, arrow_by, list_all, list_any}
 use Rattle.ld_explain.specs.Findings.{AreFindings, IsCircle, IsTheDouble, IsTheInversion, members_of}
 use Rattle.ld_explain.specs.Origins.{View, ViewHas, plain}
 use Rattle.ld_explain.specs.Naming.{view_of}

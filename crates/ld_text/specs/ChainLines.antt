@@ -1,5 +1,6 @@
 -- The text of a trace's chains [this project's own].
-use Rattle.ld_text.specs.Names.{◌++◌, ChainParts, Event, Flags, Frame, Hard, List, Lock, Mode, Name, None, Option, Soft, Some, chains, codes, decimal, is_on, length, mode_word, name_at, take, ℕ}
+use Rattle.std.specs.Prelude.{◌++◌, List, None, Option, Some, codes, decimal, length, take, ℕ}
+use Rattle.ld_text.specs.Names.{ChainParts, Event, Flags, Frame, Hard, Lock, Mode, Name, Soft, chains, is_on, mode_word, name_at}
 use Rattle.std.specs.List.{flat_map}
 use Rattle.ld_text.specs.Words.{flag_text, frame_text, key_text}
 

@@ -1,5 +1,6 @@
 -- The text of `explain`: what was found, and the records that it comes from [this project's own].
-use Rattle.ld_text.specs.Names.{[], ◌++◌, ◌+◌, ◌∷◌, Acquire, Arrow, Circle, Double, Event, Finding, GateNote, Inversion, Irq, List, Name, None, Option, Order, Origin, Some, TurnOn, codes, decimal, event, flat_map, irq_word, length, name_at, slice_get, suc, unwrap_or, ℕ}
+use Rattle.std.specs.Prelude.{[], ◌++◌, ◌+◌, ◌∷◌, List, None, Option, Some, codes, decimal, flat_map, length, slice_get, suc, unwrap_or, ℕ}
+use Rattle.ld_text.specs.Names.{Acquire, Arrow, Circle, Double, Event, Finding, GateNote, Inversion, Irq, Name, Order, Origin, TurnOn, event, irq_word, name_at}
 use Rattle.ld_text.specs.ChainLines.{taken_text}
 use Rattle.ld_text.specs.Report.{double_line, inversion_line, member_text, total_line}
 use Rattle.ld_text.specs.Words.{Text, file_at, key_text}

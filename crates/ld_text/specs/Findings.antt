@@ -1,5 +1,6 @@
 -- The text of what was found, in one of two formats [this project's own].
-use Rattle.ld_text.specs.Names.{◌≡◌, AreFindings, Event, Fact, Finding, List, Name, TracesHave, plain, ℕ}
+use Rattle.std.specs.Prelude.{◌≡◌, List, ℕ}
+use Rattle.ld_text.specs.Names.{AreFindings, Event, Fact, Finding, Name, TracesHave, plain}
 use Rattle.ld_text.specs.Explanation.{Sources, explanation_text, sources_of}
 use Rattle.ld_text.specs.Json.{json_text}
 use Rattle.ld_text.specs.Order.{IsKeyOrder}

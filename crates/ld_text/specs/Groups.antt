@@ -1,5 +1,5 @@
 -- Groups: one text, or one list of other things, after the other [this project's own].
-use Rattle.ld_text.specs.Names.{[], ◌++◌, ◌∷◌, ◌≡◌, List, map}
+use Rattle.std.specs.Prelude.{[], ◌++◌, ◌∷◌, ◌≡◌, List, map}
 
 -- the text is one text after the other, each as said of it
 unfoldable pub InSequence : {A : Type 0} → List (List A → Type 0) → List A → Type 0

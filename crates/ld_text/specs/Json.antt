@@ -1,5 +1,6 @@
 -- The findings as JSON: what `explain` says, for programs to read [this project's own; JSON is RFC 8259].
-use Rattle.ld_text.specs.Names.{[], ◌++◌, ◌+◌, ◌∷◌, Acquire, Arrow, Circle, Double, Event, Finding, GateNote, Inversion, Irq, List, Name, None, Option, Order, Origin, Some, Token, TurnOn, begin_array, begin_object, codes, decimal, drop, end_array, end_object, flat_map, irq_word, key, map, mode_word, name_at, number, print, string, ℕ}
+use Rattle.std.specs.Prelude.{[], ◌++◌, ◌+◌, ◌∷◌, List, None, Option, Some, codes, decimal, drop, flat_map, map, ℕ}
+use Rattle.ld_text.specs.Names.{Acquire, Arrow, Circle, Double, Event, Finding, GateNote, Inversion, Irq, Name, Order, Origin, Token, TurnOn, begin_array, begin_object, end_array, end_object, irq_word, key, mode_word, name_at, number, print, string}
 use Rattle.ld_text.specs.Explanation.{Sources, dependency_text, event_of, gate_note, only_notes}
 use Rattle.ld_text.specs.Words.{file_at, key_text, kind_text}
 

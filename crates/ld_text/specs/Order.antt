@@ -1,5 +1,6 @@
 -- The order of keys in a report. This project's own.
-use Rattle.ld_text.specs.Names.{[], ◌++◌, ◌∷◌, IsPermutation, IsSorted, List, Name, Ordering, length, name_at, nat_cmp, ordering_then, slice_cmp, suc, zero, ℕ}
+use Rattle.std.specs.Prelude.{[], ◌++◌, ◌∷◌, IsPermutation, IsSorted, List, length, suc, zero, ℕ}
+use Rattle.ld_text.specs.Names.{Name, Ordering, name_at, nat_cmp, ordering_then, slice_cmp}
 
 -- names are compared by their bytes, and then by their subclass
 abbrev pub name_cmp : Name → Name → Ordering

@@ -1,5 +1,6 @@
 -- What a writer holds after a text was handed to it. This project's own.
-use Rattle.ld_text.specs.Names.{◌++◌, ◌≡◌, Appends, IfSome, List, Option, Some, ℕ}
+use Rattle.std.specs.Prelude.{◌++◌, ◌≡◌, IfSome, List, Option, Some, ℕ}
+use Rattle.ld_text.specs.Names.{Appends}
 
 -- known bytes grew by a beginning of the text
 abbrev pub AppendsBeginning : Option (List ℕ) → Option (List ℕ) → List ℕ → Type 0

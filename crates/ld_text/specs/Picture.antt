@@ -1,5 +1,6 @@
 -- The facts as a picture: a graph in the language DOT [this project's own; the usage characters are those of "State"].
-use Rattle.ld_text.specs.Names.{[], ◌++◌, ◌==◌, ◌∷◌, ◌≡◌, ◌⊎◌, Any, AreFound, Arrow, Bool, DependenciesOf, Event, Fact, FoundParts, InInversion, Irq, IsDouble, List, Name, OnCircle, TracesHave, arrow, codes, decimal, false, flat_map, if◌then◌else◌, irq_word, kinds, name_at, states, true, ℕ}
+use Rattle.std.specs.Prelude.{[], ◌++◌, ◌==◌, ◌∷◌, ◌≡◌, ◌⊎◌, Any, Bool, List, codes, decimal, false, flat_map, if◌then◌else◌, true, ℕ}
+use Rattle.ld_text.specs.Names.{AreFound, Arrow, DependenciesOf, Event, Fact, FoundParts, InInversion, Irq, IsDouble, Name, OnCircle, TracesHave, arrow, irq_word, kinds, name_at, states}
 use Rattle.ld_text.specs.Groups.{InSequence, InTurn}
 use Rattle.ld_text.specs.Order.{IsKeyOrder}
 use Rattle.ld_text.specs.Report.{IsUsageCharacter, forms}

@@ -1,5 +1,6 @@
 -- The report of facts: its lines and their order [this project's own; the usage characters are those of "State"].
-use Rattle.ld_text.specs.Names.{[], ◌++◌, ◌↔◌, ◌∷◌, ◌≡◌, ◌⊎◌, AreFound, Arrow, Bool, Contains, DependenciesOf, Enabled, Event, Fact, FoundParts, Irq, IsClean, IsNumberOf, IsShortestCircle, IsTrue, Less, List, Marked, Name, OnCircle, TracesHave, UsedIn, codes, decimal, false, flat_map, irq_word, length, name_at, states, sum_by, true, ℕ}
+use Rattle.std.specs.Prelude.{[], ◌++◌, ◌↔◌, ◌∷◌, ◌≡◌, ◌⊎◌, Bool, Contains, IsTrue, List, codes, decimal, false, flat_map, length, sum_by, true, ℕ}
+use Rattle.ld_text.specs.Names.{AreFound, Arrow, DependenciesOf, Enabled, Event, Fact, FoundParts, Irq, IsClean, IsNumberOf, IsShortestCircle, Less, Marked, Name, OnCircle, TracesHave, UsedIn, irq_word, name_at, states}
 use Rattle.ld_text.specs.Words.{key_text, kind_text}
 use Rattle.ld_text.specs.Order.{IsKeyOrder, name_cmp}
 use Rattle.ld_text.specs.Groups.{InSequence, InTurn}

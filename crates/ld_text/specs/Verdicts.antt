@@ -1,5 +1,6 @@
 -- The texts of verdicts: findings between types, each with what it was seen between [this project's own].
-use Rattle.ld_text.specs.Names.{[], ◌++◌, ◌-◌, ◌==◌, AreLevels, AreVerdictsAt, Arrow, Between, Bool, Circle, Classes, Double, Event, Finding, GateNote, Inversion, LevelParts, List, Locks, Name, None, Option, Perhaps, Some, Token, Types, Unknown, Verdict, codes, count_ranked, drop, flat_map, if◌then◌else◌, is_nesting, length, name_at, print, rank, ℕ}
+use Rattle.std.specs.Prelude.{[], ◌++◌, ◌-◌, ◌==◌, Bool, List, None, Option, Some, codes, drop, flat_map, if◌then◌else◌, length, ℕ}
+use Rattle.ld_text.specs.Names.{AreLevels, AreVerdictsAt, Arrow, Between, Circle, Classes, Double, Event, Finding, GateNote, Inversion, LevelParts, Locks, Name, Perhaps, Token, Types, Unknown, Verdict, count_ranked, is_nesting, name_at, print, rank}
 use Rattle.ld_text.specs.Explanation.{Sources, deadlock_text, head_text, notes_text, origins_text, walk_text}
 use Rattle.ld_text.specs.Json.{dependency_members, finding_members, list_member, number_member, object, object_member, text_member}
 use Rattle.ld_text.specs.Order.{IsKeyOrder}

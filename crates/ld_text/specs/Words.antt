@@ -1,5 +1,6 @@
 -- The words of the program's texts [this project's own].
-use Rattle.ld_text.specs.Names.{◌++◌, Bool, En, Er, Frame, Hardirq, Kind, List, Name, Sn, Softirq, Sr, Task, codes, decimal, false, slice_get, true, unwrap_or, ℕ}
+use Rattle.std.specs.Prelude.{◌++◌, Bool, List, codes, decimal, false, slice_get, true, unwrap_or, ℕ}
+use Rattle.ld_text.specs.Names.{En, Er, Frame, Hardirq, Kind, Name, Sn, Softirq, Sr, Task}
 
 -- a text, as its bytes
 abbrev pub Text : Type 0

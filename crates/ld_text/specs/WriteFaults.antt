@@ -1,5 +1,6 @@
 -- The codes of refused writes, and what they leave [this project's own].
-use Rattle.ld_text.specs.Names.{Keeps, List, Option, codes, ℕ}
+use Rattle.std.specs.Prelude.{List, Option, codes, ℕ}
+use Rattle.ld_text.specs.Names.{Keeps}
 use Rattle.ld_text.specs.Output.{AppendsBeginning}
 use Rattle.ld_text.specs.declared.write_fault.WriteFault.{WriteFault}
 use Rattle.ld_text.specs.declared.write_fault.WriteFault.TheVariants.{Failed, Stuck, Memory}

@@ -1,5 +1,6 @@
 -- The text of the condensed trace [this project's own].
-use Rattle.lockdep.specs.Names.{[], ◌≡◌, ◌≤◌, Event, Fact, IsCondensed, List, Name, ReadsBack, TracesHave, length, trace_text, ℕ}
+use Rattle.std.specs.Prelude.{[], ◌≡◌, ◌≤◌, List, length, ℕ}
+use Rattle.lockdep.specs.Names.{Event, Fact, IsCondensed, Name, ReadsBack, TracesHave, trace_text}
 
 -- the text of these events reads back: a new table with room for as many names takes it, and it stands for events that say the same
 abbrev pub ReadsBackAnew : List Name → List Event → Type 0

@@ -1,5 +1,6 @@
 -- The one line that says why the program refused. This project's own.
-use Rattle.lockdep.specs.Names.{◌++◌, Appends, AppendsBeginning, Err, List, Ok, Option, Result, WriteFault, codes, condense_code_of, decimal, run_code_of, ℕ}
+use Rattle.std.specs.Prelude.{◌++◌, Err, List, Ok, Option, Result, codes, decimal, ℕ}
+use Rattle.lockdep.specs.Names.{Appends, AppendsBeginning, WriteFault, condense_code_of, run_code_of}
 use Rattle.ld_trace.specs.TraceFaults.{code_of as trace_code_of}
 use Rattle.ld_task.specs.Faults.{code_of as step_code_of}
 use Rattle.lockdep.specs.declared.refusal.Refusal.{Refusal}

@@ -1,5 +1,6 @@
 -- What a refused output leaves [this project's own].
-use Rattle.lockdep.specs.Names.{◌+◌, ◌≡◌, ◌≤◌, All, Event, IsCrew, IsWellFormed, Keeps, List, MAX_TRACES, Memory, Name, Option, Refused, RunFault, StopsRun, StopsWriting, length, ℕ, ⊤}
+use Rattle.std.specs.Prelude.{◌+◌, ◌≡◌, ◌≤◌, All, List, Option, length, ℕ, ⊤}
+use Rattle.lockdep.specs.Names.{Event, IsCrew, IsWellFormed, Keeps, MAX_TRACES, Memory, Name, Refused, RunFault, StopsRun, StopsWriting}
 use Rattle.lockdep.specs.Texts.{OutputView, report, condensed, IsTextOf}
 use Rattle.lockdep.specs.declared.fault.ReportFault.{ReportFault}
 use Rattle.lockdep.specs.declared.fault.ReportFault.TheVariants.{Step, Run, Condensing, Out}

@@ -1,5 +1,6 @@
 -- What the program does for a command line [this project's own].
-use Rattle.lockdep.specs.Names.{[], ◌+◌, ◌<◌, ◌||◌, ◌↔◌, ◌∷◌, ◌≡◌, ◌≤◌, ◌⊎◌, All, Appends, AppendsBeginning, AreRefused, AskForText, Bool, Chains, Check, Condense, Contains, Event, Explain, Format, GRAPH_KEYS, Graph, IfSome, IsClean, IsCrew, IsFirstFault, IsLineOf, IsTrue, IsWellFormed, Keeps, KeysBelow, Line, List, MAX_KEYS, MAX_TRACES, Name, None, Option, ReadsTo, Some, StopsAt, Text, TracesHave, chains_text, codes, false, file_at, if◌then◌else◌, length, map, option_map, unwrap_or, ℕ, ⊤}
+use Rattle.std.specs.Prelude.{[], ◌+◌, ◌<◌, ◌||◌, ◌↔◌, ◌∷◌, ◌≡◌, ◌≤◌, ◌⊎◌, All, Bool, Contains, IfSome, IsTrue, List, None, Option, Some, codes, false, if◌then◌else◌, length, map, option_map, unwrap_or, ℕ, ⊤}
+use Rattle.lockdep.specs.Names.{Appends, AppendsBeginning, AreRefused, AskForText, Chains, Check, Condense, Event, Explain, Format, GRAPH_KEYS, Graph, IsClean, IsCrew, IsFirstFault, IsLineOf, IsWellFormed, Keeps, KeysBelow, Line, MAX_KEYS, MAX_TRACES, Name, ReadsTo, StopsAt, Text, TracesHave, chains_text, file_at}
 use Rattle.lockdep.specs.Faults.{StopsText}
 use Rattle.lockdep.specs.FaultLines.{fault_line}
 use Rattle.lockdep.specs.Texts.{OutputView, report, explanation, json, picture, condensed, IsTextOf}

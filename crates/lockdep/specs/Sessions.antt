@@ -1,5 +1,6 @@
 -- What a session holds. This project's own.
-use Rattle.lockdep.specs.Names.{Event, List, Name, ℕ}
+use Rattle.std.specs.Prelude.{List, ℕ}
+use Rattle.lockdep.specs.Names.{Event, Name}
 
 -- the room for names of keys, the names, and the traces that were read
 pub record SessionParts : Type 0 where

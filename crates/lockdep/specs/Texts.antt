@@ -1,5 +1,6 @@
 -- What is written about all traces together [this project's own].
-use Rattle.lockdep.specs.Names.{Bool, Event, IsPictureOf, IsReportOf, List, Name, SaysFindingsOf, Text, map, ℕ}
+use Rattle.std.specs.Prelude.{Bool, List, map, ℕ}
+use Rattle.lockdep.specs.Names.{Event, IsPictureOf, IsReportOf, Name, SaysFindingsOf, Text}
 use Rattle.lockdep.specs.Condensed.{IsCondensedOf}
 use Rattle.ld_text.specs.declared.findings.Format.TheVariants as format
 use Rattle.lockdep.specs.declared.output.Output.{Output}

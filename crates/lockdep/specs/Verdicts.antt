@@ -1,5 +1,6 @@
 -- What `explain --locks` writes: the findings between types, each with what it was seen between [this project's own].
-use Rattle.lockdep.specs.Names.{◌≡◌, ◌≤◌, All, Appends, AreVerdictsOf, Bool, Event, Format, IsCrew, IsWellFormed, List, MAX_TRACES, Name, Option, StopsWriting, Text, Types, Verdict, has_finding, length, lock_sources, names_at, type_sources, verdicts_text, ℕ}
+use Rattle.std.specs.Prelude.{◌≡◌, ◌≤◌, All, Bool, List, Option, length, ℕ}
+use Rattle.lockdep.specs.Names.{Appends, AreVerdictsOf, Event, Format, IsCrew, IsWellFormed, MAX_TRACES, Name, StopsWriting, Text, Types, Verdict, has_finding, lock_sources, names_at, type_sources, verdicts_text}
 use Rattle.lockdep.specs.Faults.{StopsReport}
 use Rattle.lockdep.specs.declared.fault.ReportFault.{ReportFault}
 use Rattle.lockdep.specs.declared.fault.ReportFault.TheVariants.{Condensing, Out, Run, Step}

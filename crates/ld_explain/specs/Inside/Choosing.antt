@@ -1,5 +1,6 @@
 -- How it is chosen what findings are reported with, and what is asked about for them.
-use Rattle.ld_explain.specs.Names.{[], ◌++◌, ◌<◌, ◌↔◌, ◌∷◌, ◌≡◌, ◌⊎◌, Adds, All, Arrow, Contains, DependenciesOf, Dependency, Enabled, Fact, FactParts, HasFact, Holds, Irq, IsDoubleBy, IsShortestFrom, IsShortestInversion, List, Marked, UsedIn, arrow, length, link_by, ℕ}
+use Rattle.std.specs.Prelude.{[], ◌++◌, ◌<◌, ◌↔◌, ◌∷◌, ◌≡◌, ◌⊎◌, All, Contains, List, length, ℕ}
+use Rattle.ld_explain.specs.Names.{Adds, Arrow, DependenciesOf, Dependency, Enabled, Fact, FactParts, HasFact, Holds, Irq, IsDoubleBy, IsShortestFrom, IsShortestInversion, Marked, UsedIn, arrow, link_by}
 use Rattle.ld_explain.specs.Findings.{Are, AreReported, IsReported}
 use Rattle.ld_explain.specs.Found.{FoundParts}
 use Rattle.ld_explain.specs.declared.choices.Choice.{Choice}

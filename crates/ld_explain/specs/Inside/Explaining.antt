@@ -1,5 +1,6 @@
 -- How what was chosen is explained.
-use Rattle.ld_explain.specs.Names.{[], ◌↔◌, ◌∷◌, ◌≡◌, Arrow, Contains, HasFact, Holds, List, Some, ℕ}
+use Rattle.std.specs.Prelude.{[], ◌↔◌, ◌∷◌, ◌≡◌, Contains, List, Some, ℕ}
+use Rattle.ld_explain.specs.Names.{Arrow, HasFact, Holds}
 use Rattle.ld_explain.specs.Findings.{AreGates, AreOrders, IsCircle}
 use Rattle.ld_explain.specs.Inside.Choosing.{enabled_of, used_of}
 use Rattle.ld_explain.specs.Naming.{view_of}

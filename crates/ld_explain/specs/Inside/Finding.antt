@@ -1,5 +1,5 @@
 -- How a list of findings grows.
-use Rattle.ld_explain.specs.Names.{◌++◌, ◌≡◌, List}
+use Rattle.std.specs.Prelude.{◌++◌, ◌≡◌, List}
 use Rattle.ld_explain.specs.Found.{AreThose}
 
 -- the list grew by those of others that P holds of, in their order

@@ -1,5 +1,6 @@
 -- The first occurrences among those that were seen so far. Only private clauses cite these words.
-use Rattle.ld_explain.specs.Names.{◌<◌, ◌≡◌, ◌≤◌, ◌⊎◌, ChainParts, Event, Fact, IsPlacedAfter, IsWellFormed, List, Option, PlacedParts, Some, chain_fact, fact_by, fact_slots, held_positions, option_and_then, option_map, slice_get, slot_held, ℕ}
+use Rattle.std.specs.Prelude.{◌<◌, ◌≡◌, ◌≤◌, ◌⊎◌, List, Option, Some, option_and_then, option_map, slice_get, ℕ}
+use Rattle.ld_explain.specs.Names.{ChainParts, Event, Fact, IsPlacedAfter, IsWellFormed, PlacedParts, chain_fact, fact_by, fact_slots, held_positions, slot_held}
 use Rattle.ld_explain.specs.Origins.{HasOrigin, NoLater, Occurs, OriginParts, View}
 use Rattle.ld_explain.specs.declared.origins.Origin.{Origin}
 

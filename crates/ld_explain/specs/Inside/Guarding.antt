@@ -1,5 +1,6 @@
 -- What guards the occurrences that were seen so far. Only private clauses cite these words.
-use Rattle.ld_explain.specs.Names.{◌<◌, ◌↔◌, ◌≡◌, ◌⊎◌, Bool, ChainParts, Contains, Dependency, Event, Fact, FactParts, HasFact, List, Lock, Marked, None, Option, Some, if◌then◌else◌, is_read, list_any, nat_eq, slice_get, ℕ}
+use Rattle.std.specs.Prelude.{◌<◌, ◌↔◌, ◌≡◌, ◌⊎◌, Bool, Contains, List, None, Option, Some, if◌then◌else◌, nat_eq, slice_get, ℕ}
+use Rattle.ld_explain.specs.Names.{ChainParts, Dependency, Event, Fact, FactParts, HasFact, Lock, Marked, is_read, list_any}
 use Rattle.ld_explain.specs.Notes.{GuardParts, Guarded, HasGuard}
 use Rattle.ld_explain.specs.Origins.{View}
 use Rattle.ld_explain.specs.declared.guard.Guard.{Guard}

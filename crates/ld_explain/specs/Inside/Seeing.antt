@@ -1,5 +1,6 @@
 -- How it is asked at a level what makes a finding there. Only private clauses cite these words.
-use Rattle.ld_explain.specs.Names.{[], ◌++◌, ◌∷◌, ◌≡◌, ◌⊎◌, Adds, All, Arrow, Contains, Dependency, Fact, FactParts, HasFact, Holds, Irq, IsDouble, IsInversion, Kind, List, OnCircle, arrow, arrow_by, slice_index, true, ℕ}
+use Rattle.std.specs.Prelude.{[], ◌++◌, ◌∷◌, ◌≡◌, ◌⊎◌, All, Contains, List, slice_index, true, ℕ}
+use Rattle.ld_explain.specs.Names.{Adds, Arrow, Dependency, Fact, FactParts, HasFact, Holds, Irq, IsDouble, IsInversion, Kind, OnCircle, arrow, arrow_by}
 use Rattle.ld_explain.specs.Findings.{Are, members_of}
 use Rattle.ld_explain.specs.Inside.Choosing.{IsAmong, IsChoiceFrom, IsDoubleChoice, IsInversionChoice, IsPart}
 use Rattle.ld_explain.specs.Inside.Explaining.{Explains}

@@ -1,5 +1,6 @@
 -- Keys without those that stand for several locks. No public clause speaks of these.
-use Rattle.ld_explain.specs.Names.{◌<◌, ◌≡◌, List, Name, if◌then◌else◌, is_rest, length, name_at, slice_index, ℕ}
+use Rattle.std.specs.Prelude.{◌<◌, ◌≡◌, List, if◌then◌else◌, length, slice_index, ℕ}
+use Rattle.ld_explain.specs.Names.{Name, is_rest, name_at}
 
 -- a number that no key has
 abbrev pub no_key : ℕ

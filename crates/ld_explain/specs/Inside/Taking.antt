@@ -1,5 +1,6 @@
 -- What is taken in of the facts that are asked about. Only private clauses cite these words.
-use Rattle.ld_explain.specs.Names.{◌≡◌, Bool, Dependency, Fact, FactParts, HasFact, List, Marked, Some, length, slice_get, true, ℕ}
+use Rattle.std.specs.Prelude.{◌≡◌, Bool, List, Some, length, slice_get, true, ℕ}
+use Rattle.ld_explain.specs.Names.{Dependency, Fact, FactParts, HasFact, Marked}
 use Rattle.ld_explain.specs.Notes.{GuardParts}
 use Rattle.ld_explain.specs.Origins.{OriginParts, View}
 use Rattle.ld_explain.specs.Inside.Firsts.{AreFirsts}

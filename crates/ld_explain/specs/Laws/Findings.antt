@@ -1,5 +1,6 @@
 -- The findings of equal facts.
-use Rattle.ld_explain.specs.Names.{[], ◌++◌, ◌∷◌, AreSame, Arrow, Fact, Irq, IsDoubleBy-same, IsShortestFrom-same, IsShortestInversion-same, List, inl, inr, ℕ}
+use Rattle.std.specs.Prelude.{[], ◌++◌, ◌∷◌, List, ℕ}
+use Rattle.ld_explain.specs.Names.{AreSame, Arrow, Fact, Irq, IsDoubleBy-same, IsShortestFrom-same, IsShortestInversion-same, inl, inr}
 use Rattle.ld_explain.specs.Origins.{View}
 use Rattle.ld_explain.specs.Findings.{Are, AreFindings, AreReported, IsTheDouble, IsTheInversion, members_of}
 use Rattle.ld_explain.specs.Laws.Found.{AreFound-same}

@@ -1,5 +1,6 @@
 -- The findings of equal facts.
-use Rattle.ld_explain.specs.Names.{[], ◌↔◌, ◌∷◌, AreSame, Fact, IsDouble-same, IsInversion-same, List, OnCircle-same, inl, inr, ℕ}
+use Rattle.std.specs.Prelude.{[], ◌↔◌, ◌∷◌, List, ℕ}
+use Rattle.ld_explain.specs.Names.{AreSame, Fact, IsDouble-same, IsInversion-same, OnCircle-same, inl, inr}
 use Rattle.ld_explain.specs.Found.{AreFound, AreThose, FoundParts, arrows_among, doubles_among, inversions_among}
 
 -- those that the same is said of

@@ -1,5 +1,6 @@
 -- One thing more of a list.
-use Rattle.ld_explain.specs.Names.{[], ◌++◌, ◌+◌, ◌<◌, ◌∙◌, ◌∷◌, ◌≡◌, Contains, Contains-append_left, Contains-append_right, Contains-cases, Contains-head, Contains-later, List, Some, ap, append-nil, arith, flat_map, flat_map-append, get_or_from_slice_get, inl, inr, length, map, slice_get, slice_index_or, subst, sym, take, take_more, ℕ}
+use Rattle.std.specs.Prelude.{[], ◌++◌, ◌+◌, ◌<◌, ◌∷◌, ◌≡◌, Contains, List, Some, flat_map, length, map, slice_get, ℕ}
+use Rattle.ld_explain.specs.Names.{◌∙◌, Contains-append_left, Contains-append_right, Contains-cases, Contains-head, Contains-later, ap, append-nil, arith, flat_map-append, get_or_from_slice_get, inl, inr, slice_index_or, subst, sym, take, take_more}
 
 pub take-next : {X : Type 0} (xs : List X) (i : ℕ) (d : X) → slice_get xs i ≡ Some d → i < length xs → take (i + 1) xs ≡ take i xs ++ d ∷ []
 take-next xs i d is within = take_more xs i d within ∙ ap (λ x. take i xs ++ x ∷ []) (get_or_from_slice_get xs i d d is)

@@ -1,5 +1,6 @@
 -- What holds of circles where keys have other names.
-use Rattle.ld_explain.specs.Names.{[], ◌∷◌, ◌≡◌, Arrow, DependenciesOf, Dependency, Fact, Image, List, MayFollow, OnCircle, StrongWalk, ap, arrow_by, last, map, refl, subst, sym, ℕ}
+use Rattle.std.specs.Prelude.{[], ◌∷◌, ◌≡◌, List, map, ℕ}
+use Rattle.ld_explain.specs.Names.{Arrow, DependenciesOf, Dependency, Fact, Image, MayFollow, OnCircle, StrongWalk, ap, arrow_by, last, refl, subst, sym}
 use Rattle.ld_explain.specs.Laws.Lists.{Contains-map}
 
 module _ (Has : Fact → Type 0) (rename : ℕ → ℕ) where

@@ -1,5 +1,6 @@
 -- Keys that dependencies of findings lead from or to.
-use Rattle.ld_text.specs.Names.{◌<◌, ◌↔◌, ◌≡◌, Any, Bool, Fact, IsTrue, List, arrow, false, kinds, length, slice_index, slice_index_or, ℕ}
+use Rattle.std.specs.Prelude.{◌<◌, ◌↔◌, ◌≡◌, Any, Bool, IsTrue, List, false, length, slice_index, slice_index_or, ℕ}
+use Rattle.ld_text.specs.Names.{Fact, arrow, kinds}
 use Rattle.ld_text.specs.Picture.{AreJoined, IsFoundArrow}
 
 -- a dependency that is part of a finding leads from the one key to the other

@@ -1,5 +1,6 @@
 -- The line of a circle that is turned to begin at the least of its keys.
-use Rattle.ld_text.specs.Names.{◌++◌, ◌∷◌, ◌≡◌, Arrow, Bool, Contains, Less, List, Name, is_lt, name_at, ℕ}
+use Rattle.std.specs.Prelude.{◌++◌, ◌∷◌, ◌≡◌, Bool, Contains, List, ℕ}
+use Rattle.ld_text.specs.Names.{Arrow, Less, Name, is_lt, name_at}
 use Rattle.ld_text.specs.Order.{name_cmp}
 use Rattle.ld_text.specs.Report.{because_line}
 

@@ -1,5 +1,6 @@
 -- Why there is no text of a condensed trace. No public clause speaks of this.
-use Rattle.lockdep.specs.Names.{CondenseFault, Err, Memory, Ok, Result}
+use Rattle.std.specs.Prelude.{Err, Ok, Result}
+use Rattle.lockdep.specs.Names.{CondenseFault, Memory}
 use Rattle.lockdep.specs.declared.fault.ReportFault.{ReportFault}
 use Rattle.lockdep.specs.declared.fault.ReportFault.TheVariants.{Condensing, Out}
 

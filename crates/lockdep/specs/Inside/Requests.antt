@@ -1,5 +1,5 @@
 -- What a request asks for, with the names of the files as texts. No public clause speaks of these.
-use Rattle.lockdep.specs.Names.{map, option_map}
+use Rattle.std.specs.Prelude.{map, option_map}
 use Rattle.lockdep.specs.Program.{Asked, OutputOf, VerdictsOf, chains_of, output_of, verdicts_of}
 use Rattle.lockdep.specs.Texts.{view_of}
 use Rattle.lockdep.specs.declared.request.OutputRequest.{OutputRequest}

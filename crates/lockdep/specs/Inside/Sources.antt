@@ -1,5 +1,6 @@
 -- What is left to read of the program's input or of a file, and which file is named. No public clause speaks of these.
-use Rattle.lockdep.specs.Names.{◌≡◌, List, Option, Some, Text, slice_get, ℕ}
+use Rattle.std.specs.Prelude.{◌≡◌, List, Option, Some, slice_get, ℕ}
+use Rattle.lockdep.specs.Names.{Text}
 use Rattle.lockdep.specs.declared.refusal.Refusal.{Refusal}
 use Rattle.lockdep.specs.declared.refusal.Refusal.TheVariants.{CannotOpen, Reading}
 use Rattle.lockdep.specs.declared.source.Source.{Source}
