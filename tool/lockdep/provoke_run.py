@@ -9,7 +9,7 @@ from dataclasses import dataclass
 
 from .provoke_holders import Holder
 from .provoke_load import Load, send
-from .provoke_table import Modules, Place, Table, Thread, cycle_in, sleeps, state_of
+from .provoke_table import READS_BEHIND, WRITES, Modules, Place, Table, Thread, cycle_in, sleeps, state_of
 
 LOOK = 0.02  # seconds from one look to the next
 SURE = 0.2  # seconds for which threads that were let go have to stand
@@ -23,8 +23,8 @@ PR_SET_CHILD_SUBREAPER = 36
 class Standing:
     """A thread of a program that stands still: its number and name; what tells the lock that it waits for, and the one that the thread before
     it waits for, apart from others of their classes; the places of both, if they are in a module, or their classes if the run knows these; the
-    places of its callers where it waits for the one and took the other; and a bit for each order of the run's plan of which the latter is
-    known as the first lock."""
+    places of its callers where it waits for the one and took the other; a bit for each order of the run's plan of which the latter is known as
+    the first lock; and whether it waits as a reader for another one, behind a writer."""
 
     number: int
     name: str
@@ -35,6 +35,7 @@ class Standing:
     waits: list[Place]
     holds: list[Place]
     orders: int
+    is_behind: bool
 
 
 @dataclass
@@ -158,7 +159,8 @@ def described(cycle: list[Thread], numbers_of: Modules) -> list[Standing]:
         awaited, awaited_place = numbers_of.lock(thread.awaited)
         own, own_place = numbers_of.lock(held.lock)
         found.append(Standing(numbers[thread.thread], numbers_of.name(thread), awaited, own, awaited_place, own_place,
-                              placed(numbers_of, thread.callers), placed(numbers_of, held.callers), held.orders))
+                              placed(numbers_of, thread.callers), placed(numbers_of, held.callers), held.orders,
+                              thread.mode == READS_BEHIND and cycle[(at + 1) % len(cycle)].hold_before(thread).mode != WRITES))
     return found
 
 

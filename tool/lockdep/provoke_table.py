@@ -20,7 +20,7 @@ FIRST_THREAD = HEAD.size + MOST_ORDERS * COUNTS.size
 SIZE = FIRST_THREAD + MOST_THREADS * SIZE_OF_THREAD
 BITS_OF_CLASS = 28  # of a lock that isn't known by its address
 STANDS, WAITS = 1, 2
-WRITES = 0
+WRITES, READS_BEHIND = 0, 2  # the latter also waits for readers, if a writer that waits for them is before it
 
 
 @dataclass(frozen=True)
@@ -60,10 +60,11 @@ class Thread:
     name: int
     held: tuple[Held, ...]
 
-    def is_in_the_way(self, other: Thread) -> bool:
-        """Whether it holds what the other one waits for."""
+    def is_in_the_way(self, other: Thread, behind: set[tuple[int, int]]) -> bool:
+        """Whether it holds what the other one waits for. Of each process those locks are known which writers wait for."""
         return self.process == other.process and any(
-            held.lock == other.awaited and WRITES in (held.mode, other.mode) for held in self.held)
+            held.lock == other.awaited and (WRITES in (held.mode, other.mode) or (
+                other.mode == READS_BEHIND and (other.process, other.awaited) in behind)) for held in self.held)
 
     def hold_before(self, other: Thread) -> Held:
         """The lock of this thread's that the other one waits for."""
@@ -111,22 +112,23 @@ class Table:
 def cycle_in(threads: list[Thread]) -> list[Thread]:
     """Threads that wait for one another: each for a lock that the next one holds. Empty if there are none."""
     waiting = [thread for thread in threads if thread.state == WAITS]
+    behind = {(thread.process, thread.awaited) for thread in waiting if thread.mode == WRITES}
     for first in waiting:
-        path = path_back(first, first, waiting, {first.thread})
+        path = path_back(first, first, waiting, behind, {first.thread})
         if path:
             return path
     return []
 
 
-def path_back(at: Thread, first: Thread, waiting: list[Thread], seen: set[int]) -> list[Thread]:
+def path_back(at: Thread, first: Thread, waiting: list[Thread], behind: set[tuple[int, int]], seen: set[int]) -> list[Thread]:
     """The threads from this one to the first one, which is in the way of the last."""
-    if first.is_in_the_way(at):
+    if first.is_in_the_way(at, behind):
         return [at]
     for other in waiting:
-        if other.thread in seen or not other.is_in_the_way(at):
+        if other.thread in seen or not other.is_in_the_way(at, behind):
             continue
         seen.add(other.thread)
-        rest = path_back(other, first, waiting, seen)
+        rest = path_back(other, first, waiting, behind, seen)
         if rest:
             return [at] + rest
     return []

@@ -171,11 +171,12 @@ def locks_of(thread: Standing, plan: list[PlannedOrder]) -> str:
     gave to one says nothing of another run."""
     numbers = orders_at(thread, plan)
     start, end = classes_of(plan[min(numbers) - 1]) if numbers else ("a lock", "a lock" if thread.awaited == thread.held else "another")
+    behind = ", behind a writer that waits" if thread.is_behind else ""
     if thread.awaited == thread.held:
-        return "holds %s and waits for it" % start
+        return "holds %s and waits for it%s" % (start, behind)
     if numbers and start == end:
         start, end = "%s %s" % (start, thread.held), "%s %s" % (end, thread.awaited)
-    return "holds %s and waits for %s" % (start, end)
+    return "holds %s and waits for %s%s" % (start, end, behind)
 
 
 def classes_of(planned: PlannedOrder) -> tuple[str, str]:

@@ -143,7 +143,12 @@ TRYING(pthread_mutex_trylock, MODE_WRITE, (pthread_mutex_t * lock), (lock))
 TRYING(pthread_mutex_timedlock, MODE_WRITE, (pthread_mutex_t * lock, deadline until), (lock, until))
 TRYING(pthread_mutex_clocklock, MODE_WRITE, (pthread_mutex_t * lock, clockid_t clock, deadline until), (lock, clock, until))
 GIVING(pthread_mutex_unlock, pthread_mutex_t)
-TAKING(pthread_rwlock_rdlock, pthread_rwlock_tryrdlock, MODE_READ, pthread_rwlock_t, EBUSY)
+
+static enum mode reading(const pthread_rwlock_t *lock) {
+    return lock->__data.__flags == PTHREAD_RWLOCK_PREFER_WRITER_NONRECURSIVE_NP ? MODE_READ_BEHIND : MODE_READ;
+}
+
+TAKING(pthread_rwlock_rdlock, pthread_rwlock_tryrdlock, reading(lock), pthread_rwlock_t, EBUSY)
 TRYING(pthread_rwlock_tryrdlock, MODE_READ, (pthread_rwlock_t * lock), (lock))
 TRYING(pthread_rwlock_timedrdlock, MODE_READ, (pthread_rwlock_t * lock, deadline until), (lock, until))
 TRYING(pthread_rwlock_clockrdlock, MODE_READ, (pthread_rwlock_t * lock, clockid_t clock, deadline until), (lock, clock, until))

@@ -17,7 +17,7 @@
 #define MOST_CALLERS 16
 #define CALLERS_OF_HELD 8
 
-enum mode { MODE_WRITE, MODE_READ };
+enum mode { MODE_WRITE, MODE_READ, MODE_READ_BEHIND /* by a reader that waits behind a writer that waits */ };
 
 /* What a thread does: anything but waiting for a lock; standing at the second lock of an order, where this library holds it back; or
    waiting for a lock that another thread has, without an end. */

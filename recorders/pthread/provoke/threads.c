@@ -205,17 +205,25 @@ void end_wait(void) {
 
 /* ---- Cycles. */
 
-/* Whether the thread holds the lock, so that one that wants it in this mode has to wait. */
+static bool is_asking(const struct thread *thread) { return thread->process == mine->process && thread->state != STATE_RUNS; }
+
+static bool is_asked_for_by_writer(uint64_t lock) {
+    for (int i = 0; i < MOST_THREADS; i++)
+        if (is_asking(&table->all[i]) && table->all[i].awaited == lock && table->all[i].mode == MODE_WRITE)
+            return true;
+    return false;
+}
+
+/* Whether the thread holds the lock, so that one that wants it in this mode has to wait: also a reader for another one, if a writer that
+   waits for that one is before it. */
 static bool is_in_the_way(const struct thread *thread, uint64_t lock, enum mode mode) {
     for (uint32_t i = 0; i < thread->held_count; i++) {
         const struct held *held = &thread->held[i];
-        if (held->lock == lock && (mode == MODE_WRITE || held->mode == MODE_WRITE))
+        if (held->lock == lock && (mode == MODE_WRITE || held->mode == MODE_WRITE || (mode == MODE_READ_BEHIND && is_asked_for_by_writer(lock))))
             return true;
     }
     return false;
 }
-
-static bool is_asking(const struct thread *thread) { return thread->process == mine->process && thread->state != STATE_RUNS; }
 
 /* Whether what this thread wants is, over others that stand or wait, in the way of what it holds itself. Those that stand are let go. */
 static bool leads_back(struct thread *from, bool *seen) {
@@ -256,10 +264,10 @@ static void stand(long length) {
 
 /* The orders, of those that are wanted here, whose first lock this thread holds. (A lock that isn't known as the first one of an order may
    be it all the same: so a thread also stands if it holds another, but as one that is at no order.) */
-static uint64_t orders_under_way(uintptr_t lock, uint64_t wants) {
+static uint64_t orders_under_way(uintptr_t lock, enum mode mode, uint64_t wants) {
     uint64_t under = 0;
     for (uint32_t i = 0; i < mine->held_count; i++)
-        under |= mine->held[i].lock != lock && mine->held[i].lock ? mine->held[i].orders & wants : 0;
+        under |= (mine->held[i].lock != lock || mode == MODE_READ_BEHIND) && mine->held[i].lock ? mine->held[i].orders & wants : 0;
     return under;
 }
 
@@ -275,7 +283,7 @@ static void count_reached(uint64_t wants, uint64_t under) {
 /* Called where the second lock of some orders is asked for. If another lock is held, the thread stands here until it is in a cycle, or for
    a pause. */
 void consider(uintptr_t lock, enum mode mode, uint64_t wants, const struct stack *stack) {
-    uint64_t under = is_known_thread() ? orders_under_way(lock, wants) : 0;
+    uint64_t under = is_known_thread() ? orders_under_way(lock, mode, wants) : 0;
     count_reached(wants, under);
     if (stack->is_in_handler || holds_nothing())
         return;
