@@ -85,7 +85,7 @@ class Run:
         while time.monotonic() < end:
             standing = watch.standstill()
             if standing:
-                return Outcome(process=standing[0].process, standing=described(standing, self.holder.numbers(standing[0].process, self.table)))
+                return Outcome(process=standing[0].process, standing=described(standing, self.holder.numbers(standing[0], self.table)))
             if self.child.poll() is not None and not self.is_something_left():
                 return Outcome(status=self.child.returncode)
             self.load.step(bool(self.table.threads()), self.child.pid)

@@ -177,11 +177,12 @@ def is_moved(path: str) -> bool:
 class Modules:
     """Where the modules of a process are. Callers and locks are addresses in them."""
 
-    def __init__(self, process: int, table: Table) -> None:
+    def __init__(self, thread: Thread, table: Table) -> None:
         self.parts: list[tuple[int, int, str]] = []
         self.bases: dict[str, int] = {}
         try:
-            with open("/proc/%d/maps" % process, encoding="utf-8", errors="surrogateescape") as file:
+            # (by a thread that is there: of a process whose first one has ended the system has none)
+            with open("/proc/%d/task/%d/maps" % (thread.process, thread.thread), encoding="utf-8", errors="surrogateescape") as file:
                 for line in file:
                     self.take(line.rstrip("\n").split(None, 5))
         except OSError:
@@ -215,7 +216,7 @@ class Texts(Modules):
     """The lines that a program's language has of its callers and names, which are where they begin. A lock is a number of its own before the
     line with its class, which it has as its place."""
 
-    def __init__(self, process: int, table: Table) -> None:
+    def __init__(self, thread: Thread, table: Table) -> None:
         with open(table.path + TEXTS, "rb") as file:
             self.raw = file.read()
 

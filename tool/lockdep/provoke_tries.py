@@ -2,6 +2,7 @@
 from __future__ import annotations
 
 import os
+import stat
 import sys
 from dataclasses import replace
 
@@ -27,6 +28,15 @@ def say(text: str) -> None:
     write_error("lockdep: " + text)
 
 
+def has_input() -> bool:
+    """Whether this command was given something to read, which the recorded run has read."""
+    try:
+        mode = os.fstat(0).st_mode
+    except OSError:
+        return False
+    return stat.S_ISFIFO(mode) or stat.S_ISREG(mode)
+
+
 class Tries:
     """The runs of one command for its findings."""
 
@@ -44,6 +54,8 @@ class Tries:
     def all(self, findings: list[tuple[int, Finding]], traces: list[str]) -> int:
         """Tries one finding after the other."""
         self.begin(findings, traces)
+        if not self.plans:
+            return NOTHING_TRIED
         for number in self.plans:
             if number not in self.numbers and not (self.is_standing and self.is_kept):
                 self.one(number)
@@ -63,6 +75,8 @@ class Tries:
         if isinstance(self.holder, Preloaded):
             for words in foreign_words(self.recording, find_command(self.command[0])[0] or "", traces, list(self.plans.values())):
                 say(words)
+        if not self.plans:
+            return
         self.happened = read_provoked(self.recording)
         os.makedirs(self.room, exist_ok=True)
         write_provoked(self.recording, self.happened)
@@ -70,6 +84,8 @@ class Tries:
         folder.lock()
         folder.list_made()
         adopt_orphans()
+        if not self.given and has_input():
+            say("standard input is empty in these runs; --stdin FILE gives them one")
         say("%d finding%s to provoke, each by %d runs at most; their output goes to %s" % (
             len(self.plans), "" if len(self.plans) == 1 else "s", self.runs, os.path.join(self.recording, OF_PROVOKE)))
 
@@ -79,15 +95,19 @@ class Tries:
         with open(path, "w", encoding="utf-8", errors="surrogateescape") as file:
             for place, planned in enumerate(self.plans[number][:MOST_ORDERS], 1):
                 file.write("\n".join(planned.lines(place)) + "\n")
+        statuses: set[int] = set()
         for count in range(1, self.runs + 1):
             table = Table(os.path.join(self.room, "table-%d-%d" % (number, count)))
             outcome = self.run(number, count, path, table)
+            statuses.add(outcome.status or 0)
             table.remove()
             if outcome.standing and self.take(number, count, outcome):
                 return
             if outcome.is_too_long:
                 say("run %d for finding %d took longer than %d seconds, and was ended" % (count, number, self.limit))
-        say("finding %d: not in %d runs: %s" % (number, self.runs, why_not(table, self.plans[number])))
+        failed = statuses.pop() if len(statuses) == 1 else 0
+        say("finding %d: not in %d runs: %s%s" % (
+            number, self.runs, why_not(table, self.plans[number]), "; each run ended with status %d" % failed if failed else ""))
 
     def run(self, number: int, count: int, plan: str, table: Table) -> Outcome:
         output = os.open(os.path.join(self.room, "output-%d-%d" % (number, count)), os.O_WRONLY | os.O_CREAT | os.O_TRUNC, 0o666)

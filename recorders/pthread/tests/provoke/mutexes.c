@@ -1,6 +1,9 @@
-/* Two threads that take two mutexes in both orders, in turn, by the time that it is. With an argument a child of a fork does so. */
+/* Two threads that take two mutexes in both orders, in turn, by the time that it is. With `child` a child of a fork does so, and
+   with `leave` the first thread ends before the two. */
 #include <pthread.h>
+#include <stdbool.h>
 #include <stdio.h>
+#include <string.h>
 #include <sys/wait.h>
 #include <unistd.h>
 
@@ -35,20 +38,22 @@ static void *audit(void *with) {
     return with;
 }
 
-static void run_both(void) {
+static void run_both(bool leaves) {
     pthread_t payer, auditor;
     pthread_create(&payer, NULL, pay, NULL);
     pthread_create(&auditor, NULL, audit, NULL);
+    if (leaves)
+        pthread_exit(NULL);
     pthread_join(payer, NULL);
     pthread_join(auditor, NULL);
 }
 
 int main(int count, char **words) {
-    (void)words;
-    if (count == 1) {
-        run_both();
+    bool leaves = count > 1 && strcmp(words[1], "leave") == 0;
+    if (count == 1 || leaves) {
+        run_both(leaves);
     } else if (fork() == 0) {
-        run_both();
+        run_both(false);
         _exit(0);
     } else {
         wait(NULL);
