@@ -42,11 +42,12 @@ enum mode { MODE_WRITE, MODE_READ, MODE_REC_READ, MODE_TRY_WRITE, MODE_TRY_READ,
 
 /* Added to the mode of an acquisition: the program says in which order locks of the class are nested, and this one comes after all of them
    that are held. And of one that comes under others: the wait for it gives up at a time; the thread itself made the lock, has held
-   others ever since, and no other thread has come to it. */
+   others ever since, and no other thread has come to it; it is a thread that had ended. */
 #define RAW_IN_ORDER 8
 #define RAW_TIMED 16
 #define RAW_NEW 32
-#define RAW_WEAK (RAW_TIMED | RAW_NEW)
+#define RAW_ENDED 64
+#define RAW_WEAK (RAW_TIMED | RAW_NEW | RAW_ENDED)
 
 /* One acquisition or release: the object in the low 24 bits and the mode above them, and where it happened. */
 struct raw_record {

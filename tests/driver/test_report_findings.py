@@ -167,22 +167,25 @@ class Verdicts(unittest.TestCase):
         self.assertEqual([one.keys[0] for one in by_importance(findings([under, perhaps, free]))], ["c/0", "a/0", "e/0"])
 
 
-    def test_timed_waits_and_new_locks_come_before_and_after_classes(self):
-        said = [circle(kind + "/0", "x/0", between=between(kind)) for kind in ("types", "new-lock", "classes", "timed-or-new-lock", "timed", "unknown", "perhaps", "locks")]
-        self.assertEqual([one.kind.value for one in by_importance(findings(said))],
-                         ["locks", "perhaps", "unknown", "timed", "timed-or-new-lock", "classes", "new-lock", "types"])
+    def test_weak_acquisitions_come_before_and_after_classes(self):
+        kinds = ["locks", "perhaps", "unknown", "ended-thread", "timed-ended-thread-or-new-lock", "timed", "timed-or-new-lock", "classes", "new-lock", "types"]
+        said = [circle(kind + "/0", "x/0", between=between(kind)) for kind in reversed(kinds)]
+        self.assertEqual([one.kind.value for one in by_importance(findings(said))], kinds)
 
     def test_the_shortest_cycle_of_single_locks_comes_first(self):
         long, short = circle("o#1/0", "s#1/0", "t#1/0"), circle("s#1/0", "t#1/0")
         said = [circle("a/0", "s/0", "t/0", between=between("locks", long)), circle("o/0", "s/0", "t/0", between=between("locks", short))]
         self.assertEqual([one.keys[0] for one in by_importance(findings(said))], ["o/0", "a/0"])
 
-    def test_timed_waits_and_new_locks_are_said(self):
+    def test_weak_acquisitions_are_said(self):
         inner = circle("a#1/0", "b#2/0")
         self.assertEqual(self.said("timed", inner), "seen only by timed waits: a#1, b#2, by 2 threads")
         self.assertEqual(self.said("new-lock", inner), "seen only while a lock was new: a#1, b#2, by 2 threads")
         self.assertEqual(self.said("timed-or-new-lock", inner),
                          "seen only by timed waits or while a lock was new: a#1, b#2, by 2 threads")
+        self.assertEqual(self.said("ended-thread", inner), "seen only where the joined thread had ended: a#1, b#2, by 2 threads")
+        self.assertEqual(self.said("timed-ended-thread-or-new-lock", inner),
+                         "seen only by timed waits, where the joined thread had ended, or while a lock was new: a#1, b#2, by 2 threads")
 
 
 class Weak(unittest.TestCase):
@@ -195,11 +198,13 @@ class Weak(unittest.TestCase):
         trace = b'lockdep,1\nacq,a,0,w\nacq,"b,1",0,rr\nrel,"b,1",0\n'
         self.assertEqual(with_tries(trace, [3]), b'lockdep,2\nacq,a,0,w\nacq,"b,1",0,trr\nrel,"b,1",0\n')
 
-    def test_acquisitions_of_both_kinds_are_tries_together(self):
-        timed, new = {"task-0001.csv": [3]}, {"task-0001.csv": [5], "task-0002.csv": [2]}
-        both = {"task-0001.csv": [3, 5], "task-0002.csv": [2]}
-        self.assertEqual(by_verdict({Kind.TIMED: timed, Kind.NEW: new}), {Kind.TIMED: timed, Kind.NEW: new, Kind.EITHER: both})
-        self.assertEqual(by_verdict({Kind.TIMED: timed, Kind.NEW: {}}), {Kind.TIMED: timed, Kind.NEW: {}, Kind.EITHER: {}})
+    def test_acquisitions_of_several_kinds_are_tries_together(self):
+        timed, new, ended = {"task-0001.csv": [3]}, {"task-0001.csv": [5], "task-0002.csv": [2]}, {"task-0002.csv": [7]}
+        both, late = {"task-0001.csv": [3, 5], "task-0002.csv": [2]}, {"task-0001.csv": [3], "task-0002.csv": [7]}
+        for weak, either, any in (((timed, new, {}), both, {}), ((timed, {}, {}), {}, {}), (({}, {}, ended), {}, {}), ((timed, {}, ended), {}, late),
+                                  ((timed, new, ended), both, {"task-0001.csv": [3, 5], "task-0002.csv": [2, 7]})):
+            of_kinds = dict(zip((Kind.TIMED, Kind.NEW, Kind.ENDED), weak))
+            self.assertEqual(by_verdict(of_kinds), {**of_kinds, Kind.EITHER: either, Kind.ANY: any})
 
     def test_a_finding_is_gone_if_no_order_of_it_is_left(self):
         self.assertEqual(self.gone([], circle("a/0", "b/0")), [["a/0", "b/0"]])

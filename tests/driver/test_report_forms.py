@@ -1,4 +1,5 @@
 """Forms of the findings: where they are written, and what they say."""
+import json
 import os
 import subprocess
 import sys
@@ -8,7 +9,8 @@ from unittest import mock
 
 from cases import between, circle, findings
 from lockdep import diff, files
-from lockdep.as_json import with_places
+from lockdep.as_json import json_of_run, with_places
+from lockdep.breaches import Breach
 from lockdep.diff import Side
 from lockdep.forms import Found
 from lockdep.junit import junit
@@ -75,6 +77,11 @@ class Json(unittest.TestCase):
             said = with_places({"orders": orders, "key": "a/0"}, Found([], [], Sources(), Recorded([]), []))
         self.assertEqual([order.get("thread") for order in said["orders"]], ["payer", None])
         self.assertNotIn("thread", said)
+
+    def test_known_breaches_come_last(self):
+        known, new = (Breach("hold", ("%s/0" % name,), "hold: %s wasn't held" % name, ()) for name in "ab")
+        said = json.loads(json_of_run(Found([], [], Sources(), Recorded([]), [], breaches=[new], known_breaches=[known])))
+        self.assertEqual([(breach["keys"], breach["known"]) for breach in said["breaches"]], [(["b/0"], False), (["a/0"], True)])
 
 
 class Junit(unittest.TestCase):

@@ -259,11 +259,13 @@ class OtherLocks(unittest.TestCase):
         self.assertIn("it was seen only between types, as one type nested in itself, and is now seen only between types, so that entry hides nothing",
                       self.list_then([circle("a/0", between=between("nested"))], {}, [circle("a/0", between=between("types"))])[1].stale[0])
 
-    def test_timed_waits_are_as_strong_as_they_are_with_new_locks(self):
-        inner = circle("a#1/0", "b#1/0")
+    def test_what_is_mixed_is_as_strong_as_its_strongest_part(self):
+        inner, any = circle("a#1/0", "b#1/0"), "timed-ended-thread-or-new-lock"
         for listed, now, is_new in (("timed", "timed-or-new-lock", False), ("timed-or-new-lock", "timed", False),
                                     ("timed-or-new-lock", "new-lock", False), ("new-lock", "timed-or-new-lock", True),
-                                    ("classes", "timed-or-new-lock", True), ("timed-or-new-lock", "classes", False)):
+                                    ("classes", "timed-or-new-lock", True), ("timed-or-new-lock", "classes", False),
+                                    ("ended-thread", any, False), (any, "ended-thread", False), (any, "timed", False), ("timed", any, True),
+                                    ("timed", "ended-thread", True), ("ended-thread", "locks", True)):
             said = [circle("a/0", "b/0", between=between(now, inner))]
             _, result = self.list_then([circle("a/0", "b/0", between=between(listed, inner))], {}, said)
             self.assertEqual(bool(result.new), is_new, (listed, now))

@@ -99,7 +99,7 @@ def blocked_json(thread: Blocked, found: Found) -> dict:
 
 
 def breach_json(breach: Breach, found: Found) -> dict:
-    said = {"type": breach.type, "keys": breach.keys, "sentence": breach.sentence}
+    said = {"type": breach.type, "keys": breach.keys, "sentence": breach.sentence, "known": breach in found.known_breaches}
     said["records"] = [{"what": words, "places": frames_of(event, found)} for words, event in breach.lines()]
     return said
 
@@ -116,7 +116,7 @@ def json_of_run(found: Found) -> str:
         counts[finding.kind.value] = counts.get(finding.kind.value, 0) + 1
     lines = [compact(finding_json(finding, found)) for finding in found.new + found.known]
     rest = {"blocked": [blocked_json(thread, found) for thread in found.blocked],
-            "breaches": [breach_json(breach, found) for breach in found.breaches], "waiting": found.waiting,
+            "breaches": [breach_json(breach, found) for breach in found.breaches + found.known_breaches], "waiting": found.waiting,
             "left_out": visible(found.left_out), "summary": summary_json(found)}
     head = compact({"lockdep": VERSION, "counts": counts})
     return '%s,"findings":[\n%s],%s\n' % (head[:-1], ",\n".join(lines) + "\n" if lines else "", compact(rest)[1:])

@@ -22,7 +22,9 @@ class Kind(Enum):
     LOCKS = "locks"
     PERHAPS = "perhaps"
     UNKNOWN = "unknown"
-    TIMED = "timed"  # between locks, and only by waits that give up: this and the next are no kinds of the checker's
+    ENDED = "ended-thread"  # between locks, and only where the joined thread had ended: this and the next three are no kinds of the checker's
+    ANY = "timed-ended-thread-or-new-lock"  # between locks, and only so, by waits that give up, or while a lock was new
+    TIMED = "timed"  # between locks, and only by waits that give up
     EITHER = "timed-or-new-lock"  # between locks, and only so or while a lock was new
     CLASSES = "classes"
     NEW = "new-lock"  # between locks, and only while a lock was new; nor is this one

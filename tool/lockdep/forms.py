@@ -44,7 +44,7 @@ class Found:
     raw: bytes = b""
     known_blocked: int = 0
     breaches: list[Breach] = field(default_factory=list)
-    known_breaches: int = 0
+    known_breaches: list[Breach] = field(default_factory=list)
 
     @classmethod
     def of_run(cls, report: Report) -> Found:
@@ -65,7 +65,7 @@ class Found:
     @property
     def has_known(self) -> bool:
         """Whether something was found that is known: a finding that is no note, a blocked thread, or a breach."""
-        return self.known_blocked + self.known_breaches > 0 or any(not finding.is_note for finding in self.known)
+        return self.known_blocked > 0 or bool(self.known_breaches) or any(not finding.is_note for finding in self.known)
 
     @property
     def groups(self) -> list[Group]:

@@ -29,7 +29,7 @@ class Sorted:
     blocked: list[Blocked] = field(default_factory=list)
     known_blocked: int = 0
     breaches: list[Breach] = field(default_factory=list)
-    known_breaches: int = 0
+    known_breaches: list[Breach] = field(default_factory=list)
     known_lines: int = 0
     gone: list[str] = field(default_factory=list)
     stale: list[str] = field(default_factory=list)
@@ -101,8 +101,7 @@ def sort(findings: list[Finding], blocked: list[Blocked], entries: list[Entry], 
     for breach in breaches:
         fitting = [entry for entry in fresh if fits_blocked(entry, breach, sources)]
         used.update(entry.number for entry in fitting)
-        result.breaches += [] if fitting else [breach]
-        result.known_breaches += bool(fitting)
+        (result.known_breaches if fitting else result.breaches).append(breach)
     for number, finding in enumerate(result.new, 1):
         finding.number = number
     result.known_lines = len(hidden)

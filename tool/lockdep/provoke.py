@@ -25,7 +25,8 @@ LONGER = 10  # how many times as long as the recorded run another one may take
 LEAST_LIMIT = 30.0  # seconds
 ENDING = (signal.SIGINT, signal.SIGTERM, signal.SIGHUP)  # signals that end this command
 UNTRIED = {Kind.TYPES: "no class of locks takes part both ways", Kind.TIMED: "its cycle needs a wait that gives up",
-           Kind.EITHER: "its cycle needs a wait that gives up, or a lock that was new"}
+           Kind.EITHER: "its cycle needs a wait that gives up, or a lock that was new",
+           Kind.ANY: "its cycle needs a wait that gives up, a thread that had ended, or a lock that was new"}
 
 
 def provoke(home: str, line: Words) -> int:

@@ -194,7 +194,7 @@ class Report:
         if result.known_blocked:
             say("%s left out, since %s lists them" % (counted(result.known_blocked, "blocked thread"), name))
         if result.known_breaches:
-            say("%s left out, since %s lists them" % (counted(result.known_breaches, "breach", "breaches"), name))
+            say("%s left out, since %s lists them" % (counted(len(result.known_breaches), "breach", "breaches"), name))
         for stale in result.stale:
             say("%s is stale in %s" % (name, stale))
         if result.moved:

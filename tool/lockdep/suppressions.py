@@ -37,6 +37,8 @@ EXCUSED = {
     Kind.LOCKS: "seen between locks",
     Kind.PERHAPS: "perhaps seen between locks",
     Kind.UNKNOWN: "not known whether seen between locks",
+    Kind.ENDED: "seen only where the joined thread had ended",
+    Kind.ANY: "seen only by timed waits, where the joined thread had ended, or while a lock was new",
     Kind.TIMED: "seen only by timed waits",
     Kind.EITHER: "seen only by timed waits or while a lock was new",
     Kind.CLASSES: "seen only between classes",
@@ -45,12 +47,13 @@ EXCUSED = {
     Kind.NESTED: "seen only between types, as one type nested in itself",
 }
 KINDS = list(EXCUSED)  # the strongest first
+STRONGEST = {Kind.ANY: Kind.ENDED, Kind.EITHER: Kind.TIMED}
 VERDICT = {"#   " + words: kind for kind, words in EXCUSED.items()}
 
 
 def strength(kind: Kind) -> int:
-    """The place of a verdict among all, from the strongest on. Timed waits are the stronger half of either kind."""
-    return KINDS.index(Kind.TIMED if kind is Kind.EITHER else kind)
+    """The place of a verdict among all, from the strongest on. A mixed one is as strong as the strongest of which it is mixed."""
+    return KINDS.index(STRONGEST.get(kind, kind))
 
 
 @dataclass

@@ -22,6 +22,8 @@ ONLY = {
 }
 BETWEEN_LOCKS = {
     Kind.LOCKS: "seen between locks",
+    Kind.ENDED: "seen only where the joined thread had ended",
+    Kind.ANY: "seen only by timed waits, where the joined thread had ended, or while a lock was new",
     Kind.TIMED: "seen only by timed waits",
     Kind.EITHER: "seen only by timed waits or while a lock was new",
     Kind.NEW: "seen only while a lock was new",

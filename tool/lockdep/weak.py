@@ -1,7 +1,7 @@
-"""Which findings are seen between single locks only by waits that give up, or only while a lock was new. A recorder marks
-such acquisitions. The traces are written again with them as tries, which wait for nobody, and the same command is asked
-about those: of either kind alone, and of both, since an order may have been seen once by a timed wait and once while a
-lock was new."""
+"""Which findings are seen between single locks only by waits that give up, only while a lock was new, or only where a
+joined thread had ended. A recorder marks such acquisitions. The traces are written again with them as tries, which wait
+for nobody, and the same command is asked about those: of each kind alone, and of several, since an order may have been
+seen once by a timed wait and once while a lock was new."""
 from __future__ import annotations
 
 import os
@@ -16,7 +16,9 @@ from .folder import WEAK
 from .words import bytes_of, text_of
 
 WITH_TRIES = b"lockdep,2"  # the header of a trace that may have tries
-LINE = re.compile(r"^(task-[0-9]+\.csv) ([1-9][0-9]*) (timed|new-lock)$", re.MULTILINE)
+WAYS = (Kind.TIMED, Kind.NEW, Kind.ENDED)  # in which an acquisition is weak
+MIXED = {Kind.EITHER: (Kind.TIMED, Kind.NEW), Kind.ANY: WAYS}
+LINE = re.compile(r"^(task-[0-9]+\.csv) ([1-9][0-9]*) (%s)$" % "|".join(way.value for way in WAYS), re.MULTILINE)
 ACQUISITION = re.compile(rb"^(acq,.*,)(w|rr?)$")
 
 Records = Dict[str, List[int]]  # of traces: the numbers of their acquisitions that are of one kind
@@ -24,20 +26,29 @@ Records = Dict[str, List[int]]  # of traces: the numbers of their acquisitions t
 
 def weak_in(folder: str) -> dict[Kind, Records]:
     """The acquisitions that a recording marks, by kind and trace."""
-    weak: dict[Kind, Records] = {Kind.TIMED: {}, Kind.NEW: {}}
+    weak: dict[Kind, Records] = {way: {} for way in WAYS}
     for trace, record, kind in LINE.findall(text_of(contents(os.path.join(folder, WEAK)) or b"")):
         weak[Kind(kind)].setdefault(trace, []).append(int(record))
     return weak
 
 
+def together(several: list[Records]) -> Records:
+    """The acquisitions of several kinds."""
+    all_of_them: Records = {}
+    for trace, numbers in [of_trace for records in several for of_trace in records.items()]:
+        all_of_them.setdefault(trace, []).extend(numbers)
+    return all_of_them
+
+
 def by_verdict(weak: dict[Kind, Records]) -> dict[Kind, Records]:
-    """The acquisitions that are to be tries for each verdict. With those of one kind alone both together say nothing
-    new."""
-    both: Records = {}
-    for records in weak.values() if all(weak.values()) else ():
-        for trace, numbers in records.items():
-            both.setdefault(trace, []).extend(numbers)
-    return {**weak, Kind.EITHER: both}
+    """The acquisitions that are to be tries for each verdict. One that is mixed says something new if it has more kinds than those
+    before it."""
+    asked, most = dict(weak), 1
+    for kind, ways in MIXED.items():
+        there = [weak[way] for way in ways if weak[way]]
+        asked[kind] = together(there) if len(there) > most else {}
+        most = max(most, len(there))
+    return asked
 
 
 def with_tries(trace: bytes, records: list[int]) -> bytes:

@@ -2,12 +2,15 @@ import java.util.concurrent.locks.ReentrantLock;
 
 /**
  * Threads that are joined, in ways that differ by what is held meanwhile: the lock that the thread takes (held, timed,
- * hangs), one that it doesn't take (other), none (none); by a thread that joins the one that takes it (passed); and
- * threads that take none (idle), of which there are many before one that does (many).
+ * hangs, and ended, whose thread has ended before), one that it doesn't take (other), none (none); by a thread that
+ * joins the one that takes it (passed); and threads that take none (idle), of which there are many before one that
+ * does (many).
  */
 public class Joins {
     private static final ReentrantLock state = new ReentrantLock();
     private static final Object log = new Object();
+    private static final Thread main = Thread.currentThread();
+    private static volatile boolean goesOn, isLast = true;
     private static String way;
 
     /** A thread with a class of its own. */
@@ -22,6 +25,7 @@ public class Joins {
         if (way.equals("hangs")) pause();
         state.lock();
         state.unlock();
+        while (goesOn && !(isLast && main.getState() == Thread.State.WAITING)) pause();
     }
 
     static void pause() {
@@ -55,13 +59,21 @@ public class Joins {
     }
 
     static void joinMany() throws InterruptedException {
+        isLast = false;
         Thread last = started(Joins::work);
         for (int count = 0; count < 39; count++) {
             Thread thread = new Thread(() -> { });
             thread.start();
             joinWithState(thread);
         }
+        isLast = true;
         joinWithState(last);
+    }
+
+    static void joinEnded() throws InterruptedException {
+        Thread thread = started(Joins::work);
+        while (thread.isAlive()) pause();
+        joinWithState(thread);
     }
 
     static void joinForATime() throws InterruptedException {
@@ -79,6 +91,8 @@ public class Joins {
 
     public static void main(String[] words) throws InterruptedException {
         way = words[0];
+        goesOn = way.equals("held") || way.equals("many") || way.equals("passed") || way.equals("own");
+        if (way.equals("ended")) joinEnded();
         if (way.equals("held") || way.equals("hangs")) joinWithState(started(Joins::work));
         if (way.equals("timed")) joinForATime();
         if (way.equals("other")) joinOther(started(Joins::work));

@@ -8,7 +8,7 @@
    FOLDER/classes              for each class's name, where that is
    FOLDER/classes.places       by which callers it is made, if it is known by them
    FOLDER/lives                which thread started and joined which, if any was joined
-   FOLDER/weak                 which acquisitions are by waits that give up, or of new locks, if any are
+   FOLDER/weak                 which acquisitions are by waits that give up, of new locks, or of threads that had ended, if any are
    FOLDER/breaches             what a program did against what it says of its locks, if it did
    FOLDER/breaches.places      where, in two places for each of these
    FOLDER/SUMMARY              what was recorded, and what was left out

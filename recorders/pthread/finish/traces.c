@@ -173,13 +173,13 @@ static void take_back(struct trace *t, const struct held *new) {
             write_event(t, &t->held[i], mode_words[t->held[i].mode % MODE_TRY_WRITE + MODE_TRY_WRITE], t->held[i].place);
 }
 
-/* ---- Weak acquisitions: under others, and by a wait that gives up, or of a lock that no other thread knew yet. They are in the trace as
-   any others; a file says which they are. */
+/* ---- Weak acquisitions: under others, and by a wait that gives up, of a lock that no other thread knew yet, or of a thread that had ended.
+   They are in the trace as any others; a file says which they are. */
 
 static const struct {
     uint32_t added;
     const char *word;
-} weak_kinds[] = {{RAW_TIMED, "timed"}, {RAW_NEW, "new-lock"}};
+} weak_kinds[] = {{RAW_TIMED, "timed"}, {RAW_NEW, "new-lock"}, {RAW_ENDED, "ended-thread"}};
 
 static void tell_weak(struct trace *t, uint32_t what) {
     for (size_t i = 0; i < sizeof weak_kinds / sizeof *weak_kinds; i++) {

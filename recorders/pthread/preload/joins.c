@@ -4,6 +4,7 @@
 
 #include <errno.h>
 #include <pthread.h>
+#include <sys/syscall.h>
 #include <threads.h>
 
 #define REALS(X) X(pthread_join) X(pthread_tryjoin_np) X(pthread_timedjoin_np) X(pthread_clockjoin_np) X(thrd_create) X(thrd_join)
@@ -113,6 +114,27 @@ bool is_first_thread(void) { return this_thread() == first_thread; }
    may not be noted yet, if who started it had to wait for a processor. */
 static bool matters(void) { return is_any_held() || !is_first_thread(); }
 
+/* ---- Whether the thread had ended. Who joins it may have known that it takes no lock any more, as after it says under a lock that it is done:
+   it is then about to end, and is waited for here so often. */
+#define LOOKS 10
+#define BETWEEN_LOOKS 100000 /* nanoseconds */
+
+static void pause_looking(void) {
+    int saved = errno;
+    const struct timespec time = {.tv_nsec = BETWEEN_LOOKS};
+    SYSTEM(nanosleep, &time, NULL);
+    errno = saved;
+}
+
+/* Nothing is known of a thread without a trace. One that takes or releases a lock meanwhile hadn't ended. */
+static bool had_ended(pthread_t thread) {
+    const struct raw_thread *part = part_of_life(thread);
+    uint64_t calls = part ? LOAD(&part->calls) : 0;
+    for (int i = 0; part && !LOAD(&part->ended) && LOAD(&part->calls) == calls && i < LOOKS; i++)
+        pause_looking();
+    return part && LOAD(&part->ended) && LOAD(&part->calls) == calls;
+}
+
 /* Whether it is recorded that the thread is waited for. Nothing is, if this one has no trace: then it holds nothing. */
 static bool begin_join(pthread_t thread, uint8_t weak, struct call call) {
     if (!is_recording() || !has_trace() || !matters() || !enter_recorder(call))
@@ -145,9 +167,10 @@ static void end_join(pthread_t thread, uint8_t weak, bool is_wish, bool has_ende
     EXPORT int name parameters {                                                                                       \
         uint32_t known = lives_so_far();                                                                               \
         bool is_wish = begin_join(thread, weak, HERE);                                                                 \
+        uint8_t ended = is_wish && had_ended(thread) ? RAW_ENDED : 0;                                                  \
         int answer = REAL(name) arguments;                                                                             \
         note_join(thread, known, answer);                                                                              \
-        end_join(thread, weak, is_wish, answer == 0, HERE);                                                            \
+        end_join(thread, (weak) | ended, is_wish, answer == 0, HERE);                                                  \
         return answer;                                                                                                 \
     }
 

@@ -124,7 +124,7 @@ static void at_thread_end(void *value) {
     forget_own_locks(t);
     self.is_ended = true;
     self.thread = NULL;
-    t->raw->ended = 1;
+    STORE(&t->raw->ended, 1);
     STORE(&t->is_taken, 0);
 }
 

@@ -1,6 +1,11 @@
 /* Threads that are joined, in ways that differ by what is held meanwhile:
-     held     the lock that the thread takes: a cycle
+     held     the lock that the thread takes, which goes on until it is waited for: a cycle
      made     the same, and the lock is initialised by a call
+     ended    as held, but the thread ends at once, and is joined only then
+     says     the thread says under the lock that it is done, and who joins it with the lock held waits for that
+     woken    as held, and the thread waits for a condition, which comes when it is waited for, and then ends at once
+     both     says, and held with other locks and threads
+     again    ended, and then held with another thread
      other    another lock, which the thread doesn't take: none
      none     no lock: none
      idle     the thread's lock, but the thread takes none
@@ -16,14 +21,25 @@
      asleep   as held, but the thread gives the lock back before, and doesn't end */
 #include "common.h"
 #include "asleep.h"
+#include <sched.h>
 
 static pthread_mutex_t state = PTHREAD_MUTEX_INITIALIZER, log_lock = PTHREAD_MUTEX_INITIALIZER, made, *taken = &state;
+static pthread_cond_t has_said = PTHREAD_COND_INITIALIZER;
 static const char *way;
 static pthread_t first;
+static int is_done;                            /* what `finisher` says */
+static int goes_on, has_released, is_last = 1; /* of `worker`, and whether nothing comes before its join */
 
 static int is(const char *name) { return strcmp(way, name) == 0; }
 
 static int is_joiner_first(void) { return is("hangs") || is("made_hangs"); }
+
+static void set(int *flag, int value) { __atomic_store_n(flag, value, __ATOMIC_SEQ_CST); }
+
+static void await(int *flag) {
+    while (!__atomic_load_n(flag, __ATOMIC_SEQ_CST))
+        usleep(1000);
+}
 
 static void *worker(void *unused) {
     struct timespec until = in_milliseconds(CLOCK_REALTIME, 1000);
@@ -34,8 +50,20 @@ static void *worker(void *unused) {
     else
         pthread_mutex_lock(taken);
     pthread_mutex_unlock(taken);
+    set(&has_released, 1);
     if (is("asleep"))
         pause();
+    await(&is_last);
+    if (goes_on)
+        await_asleep();
+    return unused;
+}
+
+static void *finisher(void *unused) {
+    pthread_mutex_lock(&log_lock);
+    is_done = 1;
+    pthread_cond_signal(&has_said);
+    pthread_mutex_unlock(&log_lock);
     return unused;
 }
 
@@ -49,15 +77,69 @@ static void *waits_for_first(void *unused) {
 static pthread_t started(void *(*run)(void *)) {
     pthread_t thread;
     pthread_create(&thread, NULL, run, NULL);
-    if (!is_joiner_first())
+    if (goes_on)
+        await(&has_released);
+    else if (!is_joiner_first())
         await_asleep();
     return thread;
+}
+
+static void *waits_for_condition(void *unused) {
+    pthread_mutex_lock(&state);
+    pthread_mutex_unlock(&state);
+    pthread_mutex_lock(&log_lock);
+    set(&has_released, 1);
+    while (!is_done)
+        pthread_cond_wait(&has_said, &log_lock);
+    pthread_mutex_unlock(&log_lock);
+    return unused;
+}
+
+/* Says that it is done as soon as the first thread joins, however it waits. */
+static void *waker(void *unused) {
+    unsigned long times = 0;
+    char first_thread[16];
+    snprintf(first_thread, sizeof first_thread, "%d", getpid());
+    while (!__atomic_load_n(&is_last, __ATOMIC_SEQ_CST) || !asleep_till_woken(getpid(), first_thread, &times))
+        sched_yield();
+    return finisher(unused);
+}
+
+static void join_woken(void) {
+    pthread_t waits, wakes;
+    set(&is_last, 0);
+    pthread_create(&waits, NULL, waits_for_condition, NULL);
+    await(&has_released);
+    pthread_mutex_lock(&log_lock); /* it waits by now */
+    pthread_mutex_unlock(&log_lock);
+    pthread_create(&wakes, NULL, waker, NULL);
+    pthread_mutex_lock(&state);
+    set(&is_last, 1);
+    pthread_join(waits, NULL);
+    pthread_mutex_unlock(&state);
+    pthread_join(wakes, NULL);
 }
 
 static void join_under(pthread_mutex_t *lock, pthread_t thread) {
     pthread_mutex_lock(lock);
     pthread_join(thread, NULL);
     pthread_mutex_unlock(lock);
+}
+
+static void join_finisher(void) {
+    pthread_t thread;
+    pthread_create(&thread, NULL, finisher, NULL);
+    pthread_mutex_lock(&log_lock);
+    while (!is_done)
+        pthread_cond_wait(&has_said, &log_lock);
+    pthread_join(thread, NULL);
+    pthread_mutex_unlock(&log_lock);
+}
+
+static void join_going_on(void) {
+    goes_on = 1;
+    set(&has_released, 0);
+    join_under(taken, started(worker));
 }
 
 static void join_for_a_while(pthread_t thread) {
@@ -68,12 +150,14 @@ static void join_for_a_while(pthread_t thread) {
 }
 
 static void join_many(void) {
+    set(&is_last, 0);
     pthread_t last = started(worker);
     for (int i = 0; i < 39; i++) {
         pthread_t thread;
         pthread_create(&thread, NULL, idle, NULL);
         join_under(&state, thread);
     }
+    set(&is_last, 1);
     join_under(&state, last);
 }
 
@@ -85,8 +169,15 @@ int main(int argc, char **argv) {
     }
     if (is_joiner_first() || is("asleep"))
         end_when_asleep();
-    if (is("held") || is("made") || is("briefly") || is("asleep") || is_joiner_first())
+    goes_on = is("passed") || is("no_time") || is("many");
+    if (is("ended") || is("again") || is("briefly") || is("asleep") || is_joiner_first())
         join_under(taken, started(worker));
+    if (is("woken"))
+        join_woken();
+    if (is("says") || is("both"))
+        join_finisher();
+    if (is("held") || is("made") || is("both") || is("again"))
+        join_going_on();
     if (is("other"))
         join_under(&log_lock, started(worker));
     if (is("none") || is("early")) {

@@ -3,6 +3,7 @@
 #include "common.h"
 #include <dlfcn.h>
 #include <setjmp.h>
+#include <sys/stat.h>
 
 #define STATIC 6
 #define PIECES 48
@@ -136,11 +137,22 @@ static void *unlocks(void *lock) {
     return NULL;
 }
 
+/* The thread has ended when it is joined, in each run: whether it has is recorded. */
+static void in_ended_thread(void *(*run)(void *), void *with) {
+    struct stat threads; /* which has a link for each of them */
+    pthread_t thread;
+    nlink_t before = stat("/proc/self/task", &threads) == 0 ? threads.st_nlink : 0;
+    pthread_create(&thread, NULL, run, with);
+    while (before && stat("/proc/self/task", &threads) == 0 && threads.st_nlink > before)
+        usleep(100);
+    pthread_join(thread, NULL);
+}
+
 static void hands_over(unsigned which) {
     pthread_mutex_lock(&locks[0]);
     if (which % 2)
         pthread_mutex_lock(&made);
-    in_thread(unlocks, &locks[0]);
+    in_ended_thread(unlocks, &locks[0]);
     works(6 * which + 1);
     if (which % 2)
         pthread_mutex_unlock(&made);

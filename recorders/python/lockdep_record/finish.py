@@ -10,8 +10,9 @@ from .folder import summary as summaries
 
 MOST_ALIKE = 2
 RELEASE = 2
-WORDS = ("w", "tw", None, "r", "tr", "r", "w")  # of the modes; None is a release
+WORDS = ("w", "tw", None, "r", "tr", "r", "w", "w")  # of the modes; None is a release
 TIMED = (5, 6)  # modes of waits that give up at a time
+WEAK = {**dict.fromkeys(TIMED, "timed"), 7: "ended-thread"}  # what `weak` says of modes; the last is of a thread that had ended when it was joined
 FILE = re.compile(r"[0-9]+-[0-9]+")  # the name of a process's file
 MOST_HELD = 48  # locks that a trace has at a time
 LIFE = "life"  # the key of a thread in its own trace
@@ -254,8 +255,8 @@ class Trace(finishing.Trace):
         is_written = self.names.use(key[0])
         self.lost += not is_written
         places = [text for text in process.places.get(place, "").split("\t") if text]
-        weak = "timed" if code & 7 in TIMED else ""
-        self.take(code >> 3, key[0].name, self.names.of_lock(key) if is_written else None, WORDS[code & 7], places, weak)
+        lock = self.names.of_lock(key) if is_written else None
+        self.take(code >> 3, key[0].name, lock, WORDS[code & 7], places, WEAK.get(code & 7, ""))
 
 
 def began(path):

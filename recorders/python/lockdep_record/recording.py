@@ -30,7 +30,7 @@ from collections import deque
 from itertools import count as counting
 from time import monotonic, time_ns
 
-WRITE, TRY, RELEASE, TIMED = 0, 1, 2, 6  # modes; `finish` has all of them
+WRITE, TRY, RELEASE, TIMED, ENDED = 0, 1, 2, 6, 7  # modes; `finish` has all of them
 STARTED = "started"  # the kind of the class of a thread
 MOST_HELD, MOST_EVENTS, MOST_APART, MOST_ALIKE = 48, 1000000 - 2 * 48, 32, 32
 MOST_EARLY = 8  # so many locks of a class have names of their own before they are nested: their thread may be joined, or may join one

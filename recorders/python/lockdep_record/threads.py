@@ -7,7 +7,7 @@ from types import FunctionType, MethodType
 
 from . import recording
 from .locks import PATIENCE, put_in_place
-from .recording import (STARTED, TIMED, WRITE, Lock as Record, Made, break_off, chain_of, class_in, gave, getframe,
+from .recording import (ENDED, STARTED, TIMED, WRITE, Lock as Record, Made, break_off, chain_of, class_in, gave, getframe,
                         grant, key_of, name_of, name_of_module, not_granted, took, visible, wish)
 
 PREFIX = "thread:"  # before what a thread is known by
@@ -157,11 +157,12 @@ def replace_threads():
         is_long = timeout is None or isinstance(timeout, (int, float)) and timeout > PATIENCE
         if life is None or not matters():
             return real_join(self, timeout)
+        mode = TIMED if timeout is not None else WRITE if self.is_alive() else ENDED
         real_join(self, PATIENCE if is_long else timeout)
         if self.is_alive():
             return join_long(self, life, real_join, -1 if timeout is None else timeout - PATIENCE) if is_long else None
         if life.task is not None:
-            pass_end(life, WRITE if timeout is None else TIMED)
+            pass_end(life, mode)
         return None
 
     put_in_place(real, start, join)

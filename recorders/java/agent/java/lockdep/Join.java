@@ -33,7 +33,7 @@ final class Join {
         try {
             Known life = task.depth() > 0 || task.life != null ? Known.ofThread(thread, task.probe) : null;
             if (life != null) {
-                join = new Join(task, life, isTimed ? Modes.Manner.WAITS_FOR_A_TIME : Modes.Manner.WAITS, site);
+                join = new Join(task, life, mannerOf(thread, isTimed), site);
             }
         } catch (Throwable error) {
             task.abandon();
@@ -41,6 +41,11 @@ final class Join {
         }
         task.leave();
         return join;
+    }
+
+    private static Modes.Manner mannerOf(Thread thread, boolean isTimed) {
+        if (isTimed) return Modes.Manner.WAITS_FOR_A_TIME;
+        return thread.isAlive() ? Modes.Manner.WAITS : Modes.Manner.FINDS_ENDED;
     }
 
     /** Waits for a thread; 0 milliseconds and nanoseconds are no limit. */
