@@ -141,6 +141,28 @@ def summary(folder, name):
     return int(found.group(1)) if found else 0
 
 
+def try_expected(record, traces_of, losses, left_out, statuses=None):
+    """Records each program of tests/ that has whole traces, NAME.expected, and compares them and what was left out; returns the runs."""
+    tests, runs = os.path.join(script, "tests"), {}
+    for expected in sorted(os.listdir(tests)):
+        name, kind = os.path.splitext(expected)
+        if kind != ".expected":
+            continue
+        done = runs[name] = record(name)
+        same(name + ": status", (statuses or {}).get(name, 0), done.status)
+        same(name + ": traces", contents(os.path.join(tests, expected)), traces_of(name))
+        check(name)
+        for loss in losses:
+            same("%s: %s" % (name, loss), left_out.get(name, {}).get(loss, 0), summary(name, loss))
+    return runs
+
+
+def single_locks(folder):
+    """How many names of locks a recording has, by single locks."""
+    return len(set(re.findall(r"acq,(\S+),0,w", "".join(
+        contents(os.path.join(folder, "objects", task)) for task in task_names(os.path.join(folder, "objects"))))))
+
+
 def explained(folder):
     """The output of `confirm` and `where`, which need a C compiler."""
     confirmed = subprocess.run([os.path.join(top, "recorders/pthread/confirm"), folder], stdout=subprocess.PIPE,

@@ -18,6 +18,12 @@ within() {
     fi
 }
 
+# Makes a folder for the script, $room, which goes when the script ends.
+make_room() {
+    room=$(mktemp -d) || exit 3
+    trap 'rm -rf "$room"' EXIT
+}
+
 # A test has passed: pass [NAME].
 pass() {
     passed=$((passed + 1))
@@ -73,6 +79,20 @@ await() {
 # Waits until a text is in a file: await_text TEXT FILE.
 await_text() {
     await_that grep -qsF -- "$1" "$2"
+}
+
+# The traces of an example: trace.txt, or all files of its folder except the texts: traces_of FOLDER.
+traces_of() {
+    if [ -f "$1/trace.txt" ]; then
+        echo "$1/trace.txt"
+    else
+        find "$1" -maxdepth 1 -name '*.txt' ! -name report.txt ! -name explain.txt ! -name locks.txt ! -name fault.txt ! -name chains.txt ! -name condensed.txt | sort
+    fi
+}
+
+# A number in the SUMMARY of a recording below $room, if it is there: summary RECORDING CODE.
+summary() {
+    sed -n "s/^$2 \([0-9]*\)\$/\1/p" "$room/$1/SUMMARY"
 }
 
 # The end of a script.

@@ -8,6 +8,8 @@ from cases import between, circle, finding, findings, order
 from lockdep.explanation import thread_of
 from lockdep.findings import Event, Kind, findings_of
 from lockdep.groups import groups_of
+from lockdep.known import Sorted
+from lockdep.report import Recording, Report, Wishes
 from lockdep.sources import Sources
 from lockdep.steps import task_words
 from lockdep.terminal import Writer
@@ -69,6 +71,12 @@ class Reading(unittest.TestCase):
     def test_what_confirmed_only_counts(self):
         counted = [kind.value for kind in Kind if finding(circle("a/0", between=between(kind.value))).is_confirmed]
         self.assertEqual(counted, ["happened", "locks", "unknown"])
+
+    def test_one_confirmed_finding_makes_the_status(self):
+        for kinds, status in (("perhaps", "locks"), 9), (("locks", "perhaps"), 9), (("perhaps", "classes"), 0):
+            report = Report(Recording("", ""), Wishes(error_exitcode=9, confirmed_only=True), None)
+            report.sorted = Sorted(findings([circle(kind + "/0", between=between(kind)) for kind in kinds]))
+            self.assertEqual(report.status, status, kinds)
 
 
 class Verdicts(unittest.TestCase):
