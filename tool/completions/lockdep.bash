@@ -3,7 +3,7 @@
 _lockdep_options() {
     case $1 in
         run) echo -o --recorder --frames --known --write-known --strict-known --html --sarif --junit --json --accept-left-out --quiet --error-exitcode --confirmed-only --help ;;
-        provoke) echo -o --from --recorder --runs --pause --finding --keep --while --stdin --help ;;
+        provoke) echo -o --from --recorder --runs --pause --finding --keep --core --while --stdin --help ;;
         check) echo --workers --many --help ;;
         explain) echo --workers --many --json --locks --confirmed-only --help ;;
         graph) echo --workers --many --findings --help ;;

@@ -48,6 +48,7 @@ complete -c lockdep -n '__lockdep_in provoke' -l runs -x -d 'How often a finding
 complete -c lockdep -n '__lockdep_in provoke' -l pause -x -d 'How long a thread is held back'
 complete -c lockdep -n '__lockdep_in provoke' -l finding -x -d 'Try this finding'
 complete -c lockdep -n '__lockdep_in provoke' -l keep -d 'Leave the program standing'
+complete -c lockdep -n '__lockdep_in provoke' -l core -d 'Leave a core dump'
 complete -c lockdep -n '__lockdep_in provoke' -l while -x -d 'Run this beside each run'
 complete -c lockdep -n '__lockdep_in provoke' -l stdin -r -d 'What the runs read'
 complete -c lockdep -n '__lockdep_in check' -l workers -x -d 'How many workers check the traces, from 1 to 64'

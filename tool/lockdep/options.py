@@ -124,6 +124,7 @@ PROVOKE = Command("provoke", "make a finding happen", "Makes cycles that were fo
     Option("--pause", PAUSE, "how long a thread is held back", "For how many milliseconds a thread is held back at first, from 1 to 999 [default: 300]"),
     Option("--finding", FINDING, "try this finding", "Try the finding of this number alone. The option may be given several times"),
     Option("--keep", None, "leave the program standing", "Leave the program standing when it stands still, with its process number, for a debugger"),
+    Option("--core", None, "leave a core dump", "Leave a core dump of a program that stands still, where the system puts them"),
     Option("--while", SHELL, "run this beside each run", "Run this by the shell beside each run, from the program's first lock on, as clients of a server. When it has "
            "ended, the program gets SIGTERM"),
     Option("--stdin", FILE, "what the runs read", "What the runs after the recorded one read from standard input [default: nothing]"),

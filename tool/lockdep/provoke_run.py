@@ -2,6 +2,7 @@
 from __future__ import annotations
 
 import os
+import resource
 import signal
 import subprocess
 import time
@@ -71,13 +72,16 @@ class Watch:
 class Run:
     """A run of the command with its threads held back."""
 
-    def __init__(self, command: list[str], holder: Holder, plan: str, table: Table, pause: str, given: str, output: int, load: str) -> None:
+    def __init__(self, command: list[str], holder: Holder, plan: str, table: Table, pause: str, given: str, output: int, load: str,
+                 dumps: bool) -> None:
         environment = dict(holder.environment(command), LOCKDEP_PROVOKE_PLAN=plan, LOCKDEP_PROVOKE_TABLE=table.path)
         if pause:
             environment["LOCKDEP_PROVOKE_PAUSE"] = pause
         self.table, self.load, self.holder = table, Load(load, output), holder
+        most = resource.getrlimit(resource.RLIMIT_CORE)[1]
         with open(given or os.devnull, "rb") as stdin:
-            self.child = subprocess.Popen(holder.command(command), stdin=stdin, stdout=output, stderr=output, env=environment, start_new_session=True)
+            self.child = subprocess.Popen(holder.command(command), stdin=stdin, stdout=output, stderr=output, env=environment, start_new_session=True,
+                                          preexec_fn=lambda: resource.setrlimit(resource.RLIMIT_CORE, (most if dumps else 0, most)))
 
     def outcome(self, limit: float) -> Outcome:
         """Waits until the command and what it has left in the background have ended, or stand still, for so many seconds at most."""

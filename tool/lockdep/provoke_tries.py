@@ -43,7 +43,7 @@ class Tries:
     def __init__(self, recording: str, line: Words, holder: Holder, limit: float) -> None:
         self.recording, self.holder, self.limit, self.command = recording, holder, limit, line.rest
         self.runs, self.pause, self.given = int(line.last("--runs", DEFAULT_RUNS)), line.last("--pause"), line.last("--stdin")
-        self.beside, self.is_kept = line.last("--while"), line.has("--keep")
+        self.beside, self.is_kept, self.dumps = line.last("--while"), line.has("--keep"), line.has("--core")
         self.room = os.path.join(os.path.realpath(recording), OF_PROVOKE)
         self.findings: dict[int, Finding] = {}
         self.plans: dict[int, list[PlannedOrder]] = {}
@@ -111,7 +111,7 @@ class Tries:
 
     def run(self, number: int, count: int, plan: str, table: Table) -> Outcome:
         output = os.open(os.path.join(self.room, "output-%d-%d" % (number, count)), os.O_WRONLY | os.O_CREAT | os.O_TRUNC, 0o666)
-        run = Run(self.command, self.holder, plan, table, self.pause, self.given, output, self.beside)
+        run = Run(self.command, self.holder, plan, table, self.pause, self.given, output, self.beside, self.dumps)
         os.close(output)
         outcome = Outcome()
         try:
