@@ -19,6 +19,7 @@ from .words import class_of_lock, name_in, text_of
 
 MOST_PLACES = 64  # of an order, each
 ELF = b"\x7fELF"
+SOURCE = re.compile("(/.*):[0-9]+ ")  # of a place in words
 NUMBERED = re.compile("~[0-9]+$")  # ends the name of a class that has namesakes: a run doesn't know which one it is
 
 Chain = Tuple[Address, ...]  # callers, the innermost first
@@ -75,15 +76,21 @@ def is_elf(program: str) -> bool:
         return False
 
 
+def file_of(place: Address) -> str:
+    """The file of a place: its module, or the source that its words begin with; empty if they name none."""
+    words = SOURCE.match(place.module)
+    return place.module if place.offset is not None else words.group(1) if words else ""
+
+
 def foreign_words(folder: str, program: str, traces: list[str], plans: list[list[PlannedOrder]]) -> list[str]:
-    """Why the recording in a folder may not be of this program as it is now. Of a script nothing is known."""
+    """Why the recording in a folder may not be of this program as it is now. Of a script it is only known whether it has changed."""
     said = []
     recorded = {real_path(module) for trace in traces[:1] for module in Places(trace).modules}
-    if is_elf(program) and real_path(program) not in recorded:
+    if recorded and is_elf(program) and real_path(program) not in recorded:
         said.append("%s isn't among the programs and libraries of the recording in %s; threads are held back in those alone" % (program, folder))
     made = os.stat(os.path.join(folder, "SUMMARY")).st_mtime
-    planned = {chain[0].module for plan in plans for order in plan for chain in order.holds | order.wants}
-    for module in sorted(planned):
+    planned = {file_of(chain[0]) for plan in plans for order in plan for chain in order.holds | order.wants}
+    for module in sorted(planned - {""}):
         if not os.path.exists(module):
             said.append("%s, which was recorded, isn't there any more" % module)
         elif os.stat(module).st_mtime > made:

@@ -11,7 +11,7 @@ from .folder import OF_PROVOKE, Folder
 from .happened import Happened, Stood, entry_of, read_provoked, write_provoked
 from .options import Words
 from .processes import find_command
-from .provoke_holders import LIBRARY, Holder, Preloaded
+from .provoke_holders import LIBRARY, Holder
 from .provoke_plan import PlannedOrder, foreign_words, is_cycle_of, known_places, orders_at, plan_of
 from .provoke_run import Outcome, Run, Standing, adopt_orphans
 from .provoke_table import MOST_ORDERS, Counts, Place, Table
@@ -72,9 +72,8 @@ class Tries:
                     say("finding %d has %d orders: threads are held back at the first %d of them" % (number, len(plan), MOST_ORDERS))
             else:
                 say("finding %d isn't tried: the recording has no places of its orders" % number)
-        if isinstance(self.holder, Preloaded):
-            for words in foreign_words(self.recording, find_command(self.command[0])[0] or "", traces, list(self.plans.values())):
-                say(words)
+        for words in foreign_words(self.recording, find_command(self.command[0])[0] or "", traces, list(self.plans.values())):
+            say(words)
         if not self.plans:
             return
         self.happened = read_provoked(self.recording)
@@ -171,10 +170,10 @@ def why_not(table: Table, plan: list[PlannedOrder]) -> str:
         return "the second lock of order %d is one of asyncio, whose tasks aren't held back" % aside[0]
     missed = [order for order, count in counts.items() if not count.reached]
     if missed:
-        return "no thread came to the second lock of order %d by a wait without an end" % missed[0]
+        return "no thread was seen to come to the second lock of order %d by a wait without an end" % missed[0]
     alone = [order for order, count in counts.items() if not count.under]
     if alone:
-        return "no thread came to the second lock of order %d with the first one held" % alone[0]
+        return "no thread was seen to come to the second lock of order %d with the first one held" % alone[0]
     return "its orders were never under way at once (they were reached %s times)" % " and ".join(str(count.under) for count in counts.values())
 
 
