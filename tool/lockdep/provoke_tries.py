@@ -5,6 +5,7 @@ import os
 import stat
 import sys
 from dataclasses import replace
+from typing import FrozenSet, Tuple
 
 from .findings import Finding
 from .folder import OF_PROVOKE, Folder
@@ -22,6 +23,9 @@ from .words import class_of_lock, name_in, plain_key
 HAPPENED, NOT_HAPPENED, NOTHING_TRIED = 1, 0, 2
 DEFAULT_RUNS = "10"
 OF_THE_SYSTEM = ("libc.so", "libpthread.so", "ld-linux")  # modules whose functions begin each thread
+
+
+Where = FrozenSet[Tuple[Tuple[Place, ...], Tuple[Place, ...]]]  # threads, by where each waits, and where it took what it holds
 
 
 def say(text: str) -> None:
@@ -50,6 +54,7 @@ class Tries:
         self.happened: list[dict] = []  # also in earlier calls
         self.numbers: set[int] = set()  # of what happened in this one
         self.is_standing = False
+        self.stood: dict[Where, int] = {}  # which finding threads were that stood at these places; 0: none
 
     def all(self, findings: list[tuple[int, Finding]], traces: list[str]) -> int:
         """Tries one finding after the other."""
@@ -133,6 +138,8 @@ class Tries:
     def take(self, number: int, count: int, outcome: Outcome) -> bool:
         """Says what happened. Whether no further run is needed for the finding: it happened, or a cycle that is none of those that were found."""
         found, standing = self.finding_of(number, outcome.standing or [])
+        where = frozenset((tuple(thread.waits), tuple(thread.holds[:1])) for thread in standing)
+        found = self.stood[where] = found or self.stood.get(where, 0)
         self.is_standing = True
         if found in self.numbers and not self.is_kept:
             return found == 0
