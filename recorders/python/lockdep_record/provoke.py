@@ -18,7 +18,7 @@ from itertools import count as counting_from
 from time import monotonic, sleep
 
 from . import locks, provoke_file, recording
-from .provoke_file import (ASIDE, CALLERS_OF_HELD, HELD, MOST_CALLERS, MOST_HELD, MOST_PAUSES, NOBODY, REACHED, THREAD, count, free_place,
+from .provoke_file import (ASIDE, CALLERS_OF_HELD, HELD, MOST_CALLERS, MOST_HELD, MOST_PAUSES, NOBODY, THREAD, count, free_place,
                            number_of, pauses_before, put_thread)
 from .provoke_plan import innermost, place_of, read_plan, stack_of
 from .recording import TIMED, WRITE, getframe
