@@ -52,7 +52,7 @@ impl DepthFirst {
 
     // Visits a node.
     fn enter(&mut self, node: u16) -> Result<(), AllocError> {
-        self.visited.insert(0, node);
+        self.visited.insert(0, node)?;
         self.entered.push(node)?;
         Ok(())
     }

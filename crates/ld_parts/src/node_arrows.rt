@@ -23,40 +23,42 @@ impl NodeArrows {
             forwards: BitRows::new(alloc, nodes, nodes)?,
             backwards: BitRows::new(alloc, nodes, nodes)?,
         };
-        arrows.add_dependencies(facts);
+        arrows.add_dependencies(facts)?;
         for irq in STATES {
-            arrows.add_links(facts, irq);
+            arrows.add_links(facts, irq)?;
         }
         Ok(arrows)
     }
 
-    fn add_dependencies(&mut self, facts: &Facts) {
+    fn add_dependencies(&mut self, facts: &Facts) -> Result<(), AllocError> {
         let mut n = 0;
         while let Some(number) = facts.next_dependency(n) {
             if let Fact::Dependency { from, to, .. } = Fact::of_number(facts.keys(), number) {
-                self.add(from, to);
+                self.add(from, to)?;
             }
             n = number + 1;
         }
+        Ok(())
     }
 
     // Adds the arrows to and from the node of a state.
-    fn add_links(&mut self, facts: &Facts, irq: Irq) {
+    fn add_links(&mut self, facts: &Facts, irq: Irq) -> Result<(), AllocError> {
         let node = facts.keys() + irq_number(irq) as u16;
         for key in 0..facts.keys() {
             if is_enabled(facts, irq, key) {
-                self.add(key, node);
+                self.add(key, node)?;
             }
             if is_used(facts, irq, key) {
-                self.add(node, key);
+                self.add(node, key)?;
             }
         }
+        Ok(())
     }
 
     // Adds an arrow.
-    fn add(&mut self, from: u16, to: u16) {
-        self.forwards.insert(from, to);
-        self.backwards.insert(to, from);
+    fn add(&mut self, from: u16, to: u16) -> Result<(), AllocError> {
+        self.forwards.insert(from, to)?;
+        self.backwards.insert(to, from)
     }
 }
 

@@ -49,8 +49,8 @@ pub(crate) struct KnownStep {
     to: u16,
 }
 
-// States that were met, by number, and steps between them, each in the slot of its state and event. Where a state is found, and
-// whether there are still enough known steps, are hints.
+// States that were met, by number, and steps between them, each in the slot of its state and event, or in the one beside it.
+// Where a state is found, and whether there are still enough known steps, are hints.
 #[derive(Drop)]
 pub(crate) struct KnownSteps {
     states: Vec<TaskState>,
@@ -222,9 +222,20 @@ impl KnownSteps {
     fn find(&self, from: u16, event: &Event) -> Option<u16>
         ensures { IfSome result (IsFound self.now from event.now) }
     {
-        let code = code_of(event);
-        let step = self.steps.get(slot_of(from, code))?;
-        if step.from == from && step.code == code {
+        let slot = slot_of(from, code_of(event));
+        match self.step_in(slot, from, event) {
+            None => self.step_in(beside(slot), from, event),
+            found => found,
+        }
+    }
+
+    // The same, if the step is in this slot.
+    #[inline(always)]
+    fn step_in(&self, slot: usize, from: u16, event: &Event) -> Option<u16>
+        ensures { IfSome result (IsFound self.now from event.now) }
+    {
+        let step = self.steps.get(slot)?;
+        if step.from == from && step.code == code_of(event) {
             Some(step.to)
         } else {
             None
@@ -243,15 +254,28 @@ impl KnownSteps {
         Some(number)
     }
 
-    // Keeps a step between states that have numbers.
+    // Keeps a step between states that have numbers, in its slot.
     fn keep(&mut self, from: u16, event: &Event, to: u16)
         ensures states { self.new.states ≡ self.old.states }
         ensures keeps { Keeps self.old from event.now to self.new }
     {
         let code = code_of(event);
         let slot = slot_of(from, code);
+        self.make_room(slot);
         if slot < self.steps.len() {
             self.steps[slot] = KnownStep { code, from, to };
+        }
+    }
+
+    // Keeps the step of a slot, if it has one, in the slot beside it.
+    fn make_room(&mut self, slot: usize)
+        ensures states { self.new.states ≡ self.old.states }
+        ensures known { (store : Store) → AreKnown store self.old → AreKnown store self.new }
+    {
+        let other = beside(slot);
+        let count = self.steps.len();
+        if slot < count && other < count && self.steps[slot].from != NO_STATE {
+            self.steps[other] = self.steps[slot];
         }
     }
 
@@ -304,6 +328,11 @@ impl KnownSteps {
 fn slot_of(from: u16, code: u16) -> usize {
     let spread = u32::from(code).wrapping_mul(0x9E37_79B1) >> 18;
     (spread as usize).wrapping_add(usize::from(from) * 9) % STEP_SLOTS
+}
+
+// The slot that a step is kept in if another one has its own.
+fn beside(slot: usize) -> usize {
+    slot ^ 1
 }
 
 // Each event has a code of its own.

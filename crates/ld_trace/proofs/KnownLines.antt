@@ -41,10 +41,6 @@ not-try : (b : Bool) → not b ≡ true → b ≡ false
 not-try true h = absurd (true≢false (sym h))
 not-try false h = refl
 
-pub not-false : (b : Bool) → not b ≡ false → b ≡ true
-not-false true h = refl
-not-false false h = absurd (true≢false h)
-
 has : (version : Version) (event : Event) → has_event version event ≡ true → Has version event
 has One event h = not-try (is_try event) h
 has Two event h = tt

@@ -1,6 +1,6 @@
 //! Lines that a table knows: each is the text of an event whose key the table has, and stands for that event.
 
-ghost use Rattle.std.specs.Prelude.{◌≡◌, ◌≤◌, ◌<◌, ◌+◌, [], List, All, IfOk, IfSome, IsNone, OnOk, drop, length, take};
+ghost use Rattle.std.specs.Prelude.{◌≡◌, ◌≤◌, ◌<◌, ◌+◌, ◌*◌, [], List, All, IfOk, IfSome, IsNone, IsTrue, OnOk, drop, length, take};
 ghost use Rattle.csv.specs.Writing.{writer_pending, writer_under};
 ghost use Rattle.ld_trace.specs.Events.{KeyIsBelow};
 ghost use Rattle.ld_trace.specs.Inside.KnownLines.{IsKnownLine, SeenAfter, TakesEvent, TakesKnown};
@@ -188,7 +188,7 @@ impl Lines {
         let number = self.find_hash(front.hash)?;
         let known = self.known.get(number as usize)?;
         let text = known.text.as_slice();
-        if front.count > bytes.len() || &bytes[..front.count] != text {
+        if front.count != text.len() || !begin_with(bytes, text) {
             return None;
         }
         add_event(version, &known.event, seen, events)?;
@@ -283,7 +283,7 @@ pub(crate) struct FrontLine {
 #[inline(always)]
 pub(crate) fn front_line(bytes: &[u8]) -> Option<FrontLine> {
     if bytes.len() >= SHORT
-        && let Some(count) = short_line(bytes)
+        && let Some(count) = line_end(bytes, 0, SHORT / 8)
     {
         let hash = hash_of_short(bytes, count);
         return Some(FrontLine { hash, count });
@@ -294,18 +294,22 @@ pub(crate) fn front_line(bytes: &[u8]) -> Option<FrontLine> {
 // The same for a line that is longer, or if there are few bytes.
 #[inline(never)]
 fn other_front_line(bytes: &[u8]) -> Option<FrontLine> {
-    let count = bytes.iter().take(LONGEST).position(|byte| *byte == b'\n')? + 1;
+    let count = if bytes.len() >= LONGEST {
+        line_end(bytes, SHORT / 8, LONGEST / 8)?
+    } else {
+        bytes.iter().position(|byte| *byte == b'\n')? + 1
+    };
     let hash = hash_of_line(bytes.get(..count)?);
     Some(FrontLine { hash, count })
 }
 
-// How many bytes the first line has, its newline included, if that is among the first 32.
+// How many bytes there are up to the first newline in these words, the newline included.
 #[inline(always)]
-fn short_line(bytes: &[u8]) -> Option<usize>
-    requires { SHORT ≤ length bytes.now }
-    ensures { IfSome result (λ count. (1 ≤ count) × (count ≤ SHORT)) }
+fn line_end(bytes: &[u8], first: usize, end: usize) -> Option<usize>
+    requires { 8 * end ≤ length bytes.now }
+    ensures { IfSome result (λ count. (1 ≤ count) × (count ≤ 8 * end)) }
 {
-    for place in 0..SHORT / 8 {
+    for place in first..end {
         let ends = newlines_in(word_at(bytes, place * 8));
         if ends != 0 {
             return Some(place * 8 + ends.trailing_zeros() as usize % 64 / 8 + 1);
@@ -343,14 +347,21 @@ fn hash_of_line(line: &[u8]) -> u64
     if count <= SHORT {
         return hash_of_words(line, count);
     }
-    let mut mixed = 0;
-    for place in 0..LONGEST / 8 {
-        let at = (place * 8).min(count - 8);
-        mixed = (mixed ^ word_at(line, at))
-            .wrapping_mul(MIXERS[0])
-            .rotate_left(23);
+    hash_of_long(line)
+}
+
+// The hash of a line of more than 32 bytes: that of its first ones, and then of further words.
+fn hash_of_long(line: &[u8]) -> u64
+    requires { (SHORT < length line.now) × (length line.now ≤ LONGEST) }
+{
+    let last = line.len() - 8;
+    let mut mixed = hash_of_words(line, SHORT);
+    for place in SHORT / 8..(last + 7) / 8 {
+        let word = word_at(line, place * 8).wrapping_mul(MIXERS[0]);
+        mixed = mixed.rotate_left(11).wrapping_add(word);
     }
-    mixed.wrapping_mul(MIXERS[1])
+    let word = word_at(line, last).wrapping_mul(MIXERS[1]);
+    mixed.rotate_left(11).wrapping_add(word)
 }
 
 // The hash of the first 8 to 32 bytes: of four words of them, which may overlap.
@@ -381,6 +392,34 @@ fn word_of_few(bytes: &[u8]) -> u64 {
         word = word << 8 | u64::from(*byte);
     }
     word
+}
+
+// Whether the bytes begin with a line: by four words that may overlap if it is short.
+#[inline(always)]
+fn begin_with(bytes: &[u8], line: &[u8]) -> bool
+    ensures { IsTrue result → (length line.now ≤ length bytes.now) × (take (length line.now) bytes.now ≡ line.now) }
+{
+    let count = line.len();
+    if count > bytes.len() {
+        return false;
+    }
+    if count < 8 || count > SHORT {
+        return &bytes[..count] == line;
+    }
+    let last = count - 8;
+    let second = last.min(8);
+    let front = same_word(bytes, line, 0) & same_word(bytes, line, second);
+    front & same_word(bytes, line, last - second) & same_word(bytes, line, last)
+}
+
+// Whether both have the same eight bytes at a place.
+#[inline(always)]
+fn same_word(some: &[u8], other: &[u8], at: usize) -> bool
+    requires some { at + 8 ≤ length some.now }
+    requires other { at + 8 ≤ length other.now }
+    ensures { IsTrue result → take 8 (drop at some.now) ≡ take 8 (drop at other.now) }
+{
+    some[at..at + 8].as_array::<8>() == other[at..at + 8].as_array::<8>()
 }
 
 #[inline(always)]
