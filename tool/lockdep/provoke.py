@@ -13,6 +13,7 @@ from .options import Words
 from .processes import find_command, start, status_of
 from .provoke_holders import HOLDERS, Holder
 from .provoke_load import Load, send
+from .provoke_plan import why_not_by_signal
 from .provoke_run import LOOK, parent_of
 from .provoke_tries import NOT_HAPPENED, NOTHING_TRIED, Tries, say
 from .recorders import RECORDERS, Recorder, recorder_for
@@ -43,7 +44,8 @@ def provoke(home: str, line: Words) -> int:
     found = [finding for finding in asked.findings() if not finding.is_note]
     if not found:
         say("nothing was found, so there is nothing to provoke")
-        return NOTHING_TRIED if summary_quietly(home, folder).status else NOT_HAPPENED  # (what was left out may have a finding)
+        is_lost = asked.left_out or summary_quietly(home, folder).status  # (what was left out may have a finding)
+        return NOTHING_TRIED if is_lost else NOT_HAPPENED
     findings = chosen(found, line)
     if not findings:
         return NOTHING_TRIED
@@ -193,8 +195,10 @@ def chosen(findings: list[Finding], line: Words) -> list[tuple[int, Finding]]:
 
 def why_untried(finding: Finding) -> str:
     """Why a finding isn't tried; empty if it is."""
-    if finding.type != "circle":
-        return "only cycles of locks are"
+    if finding.type != "circle" and not finding.handler:
+        return "only cycles of locks are, and what signal handlers wait for"
+    if why_not_by_signal(finding):
+        return why_not_by_signal(finding)
     if any(order.end.startswith(THREAD) for order in finding.orders):
         return "its cycle waits for a thread's end"
     return UNTRIED.get(finding.kind, "") if finding.kind else ""

@@ -5,6 +5,7 @@ import csv
 import functools
 import os
 import re
+import signal
 from dataclasses import dataclass, field
 from typing import Tuple
 
@@ -13,6 +14,8 @@ from .findings import Finding, Order
 from .places import NO_PLACE, Places, classes_in
 from .provoke_run import Standing
 from .provoke_table import Place
+from .signal_links import as_reported, records_of_marks
+from .signals import THREADS, Handler
 from .symbols import Address
 from .verdict import type_of_key
 from .words import class_of_lock, name_in, text_of
@@ -35,6 +38,7 @@ class PlannedOrder:
     end: Place | None  # the same of the second one
     holds: set[Chain] = field(default_factory=set)
     wants: set[Chain] = field(default_factory=set)
+    handler: Handler | None = None  # of a signal that comes in with the first lock held, if its handler takes the second one
 
     def key(self, key: str) -> str:
         """A key of a trace as the order has it."""
@@ -42,6 +46,8 @@ class PlannedOrder:
 
     def lines(self, number: int) -> list[str]:
         places = {("hold", chain[0]) for chain in self.holds} | {("want", chain[0]) for chain in self.wants}
+        if self.handler:
+            places.add(("signal-%d" % number_of_signal(self.handler.signal), Address(self.handler.module, self.handler.offset)))
         return ["order %d" % number] + ["%s %s %s" % (word, NO_PLACE if place.offset is None else "%x" % place.offset, place.module)
                                         for word, place in sorted(places, key=lambda pair: (pair[0], pair[1].module, pair[1].offset or 0))]
 
@@ -57,7 +63,7 @@ def known_places(folder: str) -> dict[str, Place]:
     return known
 
 
-def plan_of(finding: Finding, traces: list[str], known: dict[str, Place]) -> list[PlannedOrder]:
+def plan_of(finding: Finding, traces: list[str], known: dict[str, Place], set_of_handler: list[str]) -> list[PlannedOrder]:
     """The plan of a finding, by the orders of the single locks that make it, or if there are none by those of its types: the places of every
     record of an order, of which a finding names one."""
     inner = finding.between.finding if finding.between else None
@@ -65,7 +71,41 @@ def plan_of(finding: Finding, traces: list[str], known: dict[str, Place]) -> lis
             for order in (inner or finding).orders]
     for trace in traces:
         take_places(plan, contents(trace) or b"", Places(trace))
-    return plan
+    return plan + ([order_by_signal(inner or finding, finding.handler, inner is None, known, set_of_handler)] if finding.handler else [])
+
+
+def order_by_signal(finding: Finding, handler: Handler, is_of_types: bool, known: dict[str, Place], traces: list[str]) -> PlannedOrder:
+    """The order of the lock that is held where a signal comes in, and the one that its handler takes."""
+    order = Order(finding.keys[-1], "", finding.keys[0])
+    planned = PlannedOrder(order, is_of_types, known_of(order.start, known), known_of(order.end, known), handler=handler)
+    marks, places = records_of_marks(traces), {trace: Places(trace) for trace in traces}
+    for found, key, records_of in ((planned.holds, order.start, marks.enabled), (planned.wants, order.end, marks.used)):
+        for trace, record in [record for lock, records in records_of.items() if planned.key(as_reported(lock[0])) == key for record in records]:
+            add_place(found, places[trace], record)
+    return planned
+
+
+def number_of_signal(name: str) -> int:
+    """The number of a signal such as SIGUSR1 or SIGRTMIN+2, or 0 if this system hasn't it."""
+    plain, sign, beyond = name.partition("+")
+    number = getattr(signal, plain, None)
+    return int(number) + int(beyond or 0) if number is not None else 0
+
+
+def why_not_by_signal(finding: Finding) -> str:
+    """Why no signal can be sent for a finding with a handler; empty if one can."""
+    handler = finding.handler
+    if not handler:
+        return ""
+    if any(order.signal for order in finding.orders):
+        return "it takes two signals at once"
+    if handler.sent_to == THREADS:
+        return "%s was sent to single threads alone, and in another run it isn't known which ones these are" % handler.signal
+    if handler.offset is None and handler.file:
+        return "no signal is sent to a program in Python"
+    if handler.offset is None or not number_of_signal(handler.signal):
+        return "where the handler for %s is isn't known" % handler.signal
+    return ""
 
 
 def is_elf(program: str) -> bool:

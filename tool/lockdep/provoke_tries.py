@@ -7,8 +7,9 @@ import sys
 from dataclasses import replace
 from typing import FrozenSet, Tuple
 
+from .asking import traces_in
 from .findings import Finding
-from .folder import OF_PROVOKE, Folder
+from .folder import OF_PROVOKE, SIGNALS, Folder
 from .happened import Happened, Stood, entry_of, read_provoked, write_provoked
 from .options import Words
 from .processes import find_command
@@ -70,7 +71,7 @@ class Tries:
         """Makes the plans, and room for what the runs leave."""
         known = known_places(self.recording)
         for number, finding in findings:
-            plan = plan_of(finding, traces, known)
+            plan = plan_of(finding, traces, known, self.set_of(finding))
             if all(planned.holds and planned.wants for planned in plan):
                 self.findings[number], self.plans[number] = finding, plan
                 if len(plan) > MOST_ORDERS:
@@ -92,6 +93,10 @@ class Tries:
             say("standard input is empty in these runs; --stdin FILE gives them one")
         say("%d finding%s to provoke, each by %d runs at most; their output goes to %s" % (
             len(self.plans), "" if len(self.plans) == 1 else "s", self.runs, os.path.join(self.recording, OF_PROVOKE)))
+
+    def set_of(self, finding: Finding) -> list[str]:
+        """The traces of the handler that a finding has; none if it has none."""
+        return traces_in(os.path.join(self.recording, SIGNALS, str(finding.handler.number))) if finding.handler else []
 
     def one(self, number: int) -> None:
         """Tries one finding, and says what came of it."""

@@ -5,6 +5,7 @@
 #include <dlfcn.h>
 #include <errno.h>
 #include <pthread.h>
+#include <signal.h>
 #include <stdlib.h>
 #include <threads.h>
 #include <time.h>
@@ -81,6 +82,9 @@ static int take(void *lock, enum mode mode, on_lock try, on_lock real, int busy,
     if (took(answer))
         note_taken((uintptr_t)lock, mode, fits.holds, &stack);
     is_inside = false;
+    if (took(answer) && fits.holds)
+        send_signals(fits.holds);
+    errno = before;
     return answer;
 }
 
@@ -94,6 +98,8 @@ static int taken(void *lock, enum mode mode, int answer, uintptr_t caller) {
     uint64_t holds = look_at_call(&stack, caller).holds;
     note_taken((uintptr_t)lock, mode, holds, &stack);
     is_inside = false;
+    if (holds)
+        send_signals(holds);
     errno = before;
     return answer;
 }
@@ -135,6 +141,19 @@ static uint64_t holds_at(uintptr_t caller) {
             note_retaken(&held, holds_at(CALLER));                                                                                       \
         return answer;                                                                                                 \
     }
+
+/* A change of the mask may let a signal come in while a lock is held. */
+#define UNBLOCKING(name)                                                                                               \
+    EXPORT int name(int how, const sigset_t *set, sigset_t *old) {                                                     \
+        int answer = REAL(name)(how, set, old), before = errno;                                                        \
+        if (!is_inside && is_planned && set)                                                                           \
+            send_signals(held_orders());                                                                               \
+        errno = before;                                                                                                \
+        return answer;                                                                                                 \
+    }
+
+UNBLOCKING(pthread_sigmask)
+UNBLOCKING(sigprocmask)
 
 typedef const struct timespec *deadline;
 

@@ -69,18 +69,31 @@ static int take_loads(struct dl_phdr_info *module, size_t size, void *with) {
     return 1;
 }
 
-/* A line `hold OFFSET MODULE` or `want OFFSET MODULE`, of the order that was named last. */
+/* Where a place of a module is, 0 if the module isn't loaded. */
+static uintptr_t address_of(uintptr_t offset, const char *path) {
+    struct sought sought = {path, 0};
+    if (dl_iterate_phdr(is_sought, &sought))
+        return sought.base + offset;
+    is_incomplete = true;
+    return 0;
+}
+
+/* A line `hold OFFSET MODULE`, `want OFFSET MODULE` or `signal-NUMBER OFFSET MODULE`, with the handler's place, of the order that was named
+   last. */
 static void take_place(const char *line, unsigned order) {
     uintptr_t offset;
-    char word[8], path[PATH_MAX];
-    if (sscanf(line, "%7s %lx %4095[^\n]", word, &offset, path) != 3)
+    char word[16], path[PATH_MAX];
+    int signal;
+    if (sscanf(line, "%15s %lx %4095[^\n]", word, &offset, path) != 3)
         return;
-    struct sought sought = {path, 0};
-    if (!dl_iterate_phdr(is_sought, &sought)) {
-        is_incomplete = true;
+    uintptr_t address = address_of(offset, path);
+    if (address == 0)
+        return;
+    if (sscanf(word, "signal-%d", &signal) == 1) {
+        take_signal(order, signal, address);
         return;
     }
-    struct place *place = place_at(sought.base + offset, true);
+    struct place *place = place_at(address, true);
     if (!place)
         return;
     if (strcmp(word, "hold") == 0)

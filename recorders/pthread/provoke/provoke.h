@@ -84,10 +84,16 @@ void read_plan_again(void);
 struct fits look_at_call(struct stack *stack, uintptr_t caller);
 void look_at_stack(struct stack *stack);
 
+/* signals.c */
+void take_signal(unsigned order, int signal, uintptr_t handler);
+uint64_t orders_by_signals(void);
+void send_signals(uint64_t holds);
+
 /* threads.c */
 bool open_table(const char *path);
 bool is_known_thread(void);
 bool holds_nothing(void);
+uint64_t held_orders(void);
 void forget_other_threads(void);
 void consider(uintptr_t lock, enum mode mode, uint64_t wants, const struct stack *stack);
 void begin_wait(uintptr_t lock, enum mode mode, const struct stack *stack);

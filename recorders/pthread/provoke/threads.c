@@ -86,6 +86,14 @@ bool is_known_thread(void) {
 
 bool holds_nothing(void) { return !mine || mine->held_count == 0; }
 
+/* The orders whose first locks this thread holds. */
+uint64_t held_orders(void) {
+    uint64_t orders = 0;
+    for (uint32_t i = 0; mine && i < mine->held_count; i++)
+        orders |= mine->held[i].lock ? mine->held[i].orders : 0;
+    return orders;
+}
+
 /* In the child of a fork: its one thread holds what it held, and has a place of its own. */
 void forget_other_threads(void) {
     const struct thread *before = mine;
@@ -263,11 +271,15 @@ static void stand(long length) {
 }
 
 /* The orders, of those that are wanted here, whose first lock this thread holds. (A lock that isn't known as the first one of an order may
-   be it all the same: so a thread also stands if it holds another, but as one that is at no order.) */
+   be it all the same: so a thread also stands if it holds another, but as one that is at no order.) A handler may want the lock itself that
+   is held where its signal came in. */
 static uint64_t orders_under_way(uintptr_t lock, enum mode mode, uint64_t wants) {
     uint64_t under = 0;
-    for (uint32_t i = 0; i < mine->held_count; i++)
-        under |= (mine->held[i].lock != lock || mode == MODE_READ_BEHIND) && mine->held[i].lock ? mine->held[i].orders & wants : 0;
+    for (uint32_t i = 0; i < mine->held_count; i++) {
+        bool is_another = mine->held[i].lock != lock || mode == MODE_READ_BEHIND;
+        uint64_t fitting = is_another ? wants : wants & orders_by_signals();
+        under |= mine->held[i].lock ? mine->held[i].orders & fitting : 0;
+    }
     return under;
 }
 
@@ -281,11 +293,11 @@ static void count_reached(uint64_t wants, uint64_t under) {
 }
 
 /* Called where the second lock of some orders is asked for. If another lock is held, the thread stands here until it is in a cycle, or for
-   a pause. */
+   a pause. A handler stands only at an order by its signal. */
 void consider(uintptr_t lock, enum mode mode, uint64_t wants, const struct stack *stack) {
     uint64_t under = is_known_thread() ? orders_under_way(lock, mode, wants) : 0;
     count_reached(wants, under);
-    if (stack->is_in_handler || holds_nothing())
+    if (holds_nothing() || (stack->is_in_handler && !(under & orders_by_signals())))
         return;
     unsigned order = (unsigned)__builtin_ctzll(under ? under : wants);
     struct counts *counts = &table->counts[order];

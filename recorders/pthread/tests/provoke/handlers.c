@@ -1,0 +1,88 @@
+/* Signal handlers. That of SIGUSR1 takes table, which its thread may hold. If a file is there, whose name comes second, SIGUSR1 is blocked with
+   `blocked` before table is taken, and with `replaced` it has another handler by then, which takes nothing. With `thread` SIGUSR1 is sent to a
+   thread alone. With `unblocks` it is unblocked with table held. With `inversion` the handler of SIGUSR2 takes stats: a second thread holds
+   stats and waits for pool, and the first one holds pool where SIGUSR2 comes in. */
+#include <pthread.h>
+#include <signal.h>
+#include <stdbool.h>
+#include <string.h>
+#include <unistd.h>
+
+#define ROUNDS 10
+#define MICROSECONDS 1000
+
+static pthread_mutex_t table = PTHREAD_MUTEX_INITIALIZER, stats = PTHREAD_MUTEX_INITIALIZER, pool = PTHREAD_MUTEX_INITIALIZER;
+static volatile long rows;
+
+static void reload(int signal) {
+    rows += signal;
+    pthread_mutex_lock(&table);
+    pthread_mutex_unlock(&table);
+}
+
+static void report(int signal) {
+    rows -= signal;
+    pthread_mutex_lock(&stats);
+    pthread_mutex_unlock(&stats);
+}
+
+static void only_notes(int signal) { rows += signal; }
+
+static void insert(const sigset_t *unblocked) {
+    pthread_mutex_lock(&table);
+    rows++;
+    if (unblocked)
+        pthread_sigmask(SIG_UNBLOCK, unblocked, NULL);
+    pthread_mutex_unlock(&table);
+}
+
+static void *sums(void *unused) {
+    sigset_t all;
+    sigfillset(&all);
+    pthread_sigmask(SIG_BLOCK, &all, NULL);
+    for (int i = 0; i < ROUNDS; i++) {
+        pthread_mutex_lock(&stats);
+        pthread_mutex_lock(&pool);
+        pthread_mutex_unlock(&pool);
+        pthread_mutex_unlock(&stats);
+        usleep(MICROSECONDS);
+    }
+    return unused;
+}
+
+static void inversion(void) {
+    pthread_t thread;
+    signal(SIGUSR2, report);
+    kill(getpid(), SIGUSR2);
+    pthread_create(&thread, NULL, sums, NULL);
+    for (int i = 0; i < ROUNDS; i++) {
+        pthread_mutex_lock(&pool);
+        usleep(MICROSECONDS);
+        pthread_mutex_unlock(&pool);
+        usleep(MICROSECONDS);
+    }
+    pthread_join(thread, NULL);
+}
+
+int main(int argc, char **argv) {
+    const char *how = argc > 1 ? argv[1] : "";
+    if (strcmp(how, "inversion") == 0) {
+        inversion();
+        return 0;
+    }
+    signal(SIGUSR1, reload);
+    if (strcmp(how, "thread") == 0)
+        raise(SIGUSR1);
+    else
+        kill(getpid(), SIGUSR1);
+    bool is_there = argc > 2 && access(argv[2], F_OK) == 0, unblocks = strcmp(how, "unblocks") == 0;
+    sigset_t one;
+    sigemptyset(&one);
+    sigaddset(&one, SIGUSR1);
+    if ((strcmp(how, "blocked") == 0 && is_there) || unblocks)
+        sigprocmask(SIG_BLOCK, &one, NULL);
+    if (strcmp(how, "replaced") == 0 && is_there)
+        signal(SIGUSR1, only_notes);
+    insert(unblocks ? &one : NULL);
+    return 0;
+}
