@@ -3,7 +3,7 @@ import os
 import re
 from binascii import crc32
 
-from . import starts
+from . import sets, starts
 from .joins import STARTED as THREAD, Joins
 from .folder import finishing, losses
 from .folder import summary as summaries
@@ -27,6 +27,28 @@ class Task:
     def __init__(self, process):
         self.process, self.records, self.waits, self.has_ended, self.broken_off = process, [], False, False, []
         self.name, self.life = "", 0  # what its thread is called, and which lock it is; 0 if it isn't joined
+        self.first, self.source, self.sources, self.is_main, self.last = None, 0, [], False, 0
+        self.parts = [self]  # its traces in other states, the last written one at the end
+
+    @property
+    def source_key(self):
+        """The handler of which these are runs."""
+        return self.process.key_of_source(self.source)
+
+    @property
+    def state(self):
+        """The handlers that may come in."""
+        return [self.process.key_of_source(number) for number in self.sources]
+
+    def is_seen(self):
+        return any(part.records for part in self.parts)
+
+    def take_part(self, other):
+        """Another trace of this task is written with this one, if there is room for both."""
+        if sum(2 * len(part.records) for part in self.parts + [other]) < finishing.MOST_RECORDS:
+            self.parts = sorted(self.parts + [other], key=lambda part: part.last)
+            other.parts = []
+            self.waits = self.parts[-1].waits
 
     def is_last_timed(self):
         """Whether the last record is of a wait that gives up at a time."""
@@ -34,7 +56,7 @@ class Task:
 
     def content(self):
         """What is equal for equal traces."""
-        return tuple((self.process.key(code >> 3), code & 7) for code, _ in self.records)
+        return tuple((self.process.key(code >> 3), code & 7) for part in self.parts for code, _ in part.records)
 
 
 class Process:
@@ -44,6 +66,7 @@ class Process:
         self.number, self.names, self.pid, self.began = number, names, 0, 0
         self.classes, self.keys, self.places, self.tasks, self.counts = {}, {}, {}, {}, {}
         self.words, self.starts, self.joins = None, [], None
+        self.sources, self.runs, self.reentrant, self.lines = {}, {}, set(), 0
 
     def read(self, path):
         if os.path.exists(path + ".lost") or not os.path.getsize(path):
@@ -56,8 +79,21 @@ class Process:
                     except (ValueError, IndexError, KeyError):
                         self.counts["unwritten"] = 1
         self.joins = Joins(self)
+        self.join_parts()
+
+    def join_parts(self):
+        """Puts the traces of a task together. The main thread's are all those of tasks that handlers may come in at."""
+        for number, task in self.tasks.items():
+            first = self.tasks.get(task.first if task.first is not None else number, task)
+            first.is_main = task.is_main = first.is_main or task.first is not None
+            if first is not task:
+                first.take_part(task)
+
+    def key_of_source(self, number):
+        return self.sources[number].key if number in self.sources else None
 
     def take(self, line):
+        self.lines += 1
         kind, _, rest = line.partition(" ")
         if kind == "process":
             self.pid, self.began = map(int, rest.split()[:2])
@@ -73,6 +109,15 @@ class Process:
         elif kind == "N":
             number, _, name = rest.partition("\t")
             self.task(int(number)).name = name
+        elif kind == "H":
+            numbers, signal, name, file = rest.split("\t")
+            number, ordinal, at = map(int, numbers.split())
+            self.sources[number] = sets.Source(signal, name, file, at, ordinal)
+        elif kind == "Y":
+            number, count = map(int, rest.split())
+            self.runs[number] = count
+        elif kind == "O":
+            self.reentrant.add(int(rest))
         elif kind == "S":
             name, count = rest.split()
             self.counts[name] = int(count)
@@ -102,6 +147,7 @@ class Process:
 
     def take_record(self, kind, words):
         task = self.task(words[0])
+        task.last = self.lines
         if kind in "AR":
             task.records.append((words[1], words[2]))
         elif kind == "B":
@@ -116,6 +162,8 @@ class Process:
             task.life = words[1]
         elif kind == "I":
             task.broken_off.append(words[1:])
+        elif kind == "U":
+            task.first, task.source, task.sources, task.is_main = words[1], words[2], words[3:], True
 
     def key(self, number):
         """A lock of this process: its class, its number there, and the process. Threads write what they need concurrently, so a class
@@ -183,6 +231,7 @@ class Names:
 
     def __init__(self):
         self.classes, self.taken, self.used, self.locks, self.is_many = {}, set(), [], finishing.LockNames(), False
+        self.of_reentrant = set()  # classes of locks that can be taken again by who holds them
 
     def class_of(self, name, place, kind):
         found = self.classes.get((name, place))
@@ -208,6 +257,10 @@ class Names:
             of.is_used = True
         return of.is_used
 
+    def reentrant(self):
+        """The names of single locks that can be taken again by who holds them."""
+        return {lock for (of, _, _), lock in self.locks.names.items() if of in self.of_reentrant}
+
     def of_lock(self, key):
         """The name of a single lock."""
         of, ordinal, process = key
@@ -225,14 +278,24 @@ class Trace(finishing.Trace):
 
     def __init__(self, task, names):
         super().__init__()
-        self.task, self.names, self.lost, self.beyond_held = task, names, 0, 0
+        self.task, self.names, self.lost, self.beyond_held = task.parts[-1], names, 0, 0
         self.is_joined = task.process.joins.is_kept(task.life)
+        self.ending = set()  # acquisitions that may end by themselves, by their lines
+        self.parts, self.segments = task.parts, []  # of each part the first line, and the one after it
         self.take_life()
-        for code, place in task.records:
-            if not task.process.joins.is_left_out(code >> 3):
-                self.take_record(code, place)
-        if task.has_ended:
+        for part in task.parts:
+            self.take_part(part)
+        if self.task.has_ended:
             self.give_back(LIFE)
+
+    def take_part(self, part):
+        start = len(self.by_lock) if self.segments else 1
+        for code, place in part.records:
+            if not part.process.joins.is_left_out(code >> 3):
+                self.take_record(code, place)
+        for key, _, _ in list(reversed(self.held)) if part is not self.task else []:  # (as after an error in the recorder)
+            self.give_back(key)
+        self.segments.append((part, start, len(self.by_lock)))
 
     def take_life(self):
         """If nothing else is held, the thread has what it is itself, from its start on."""
@@ -257,6 +320,7 @@ class Trace(finishing.Trace):
         places = [text for text in process.places.get(place, "").split("\t") if text]
         lock = self.names.of_lock(key) if is_written else None
         self.take(code >> 3, key[0].name, lock, WORDS[code & 7], places, WEAK.get(code & 7, ""))
+        self.ending.update([len(self.by_lock) - 1] if code & 7 in WEAK else [])
 
 
 def began(path):
@@ -273,6 +337,7 @@ def read_all(raw):
         process = Process(len(processes) + 1, names)
         process.read(path)
         processes.append(process)
+        names.of_reentrant.update(process.classes[number].name for number in process.reentrant if number in process.classes)
     names.is_many = len([process for process in processes if process.tasks]) > 1
     return names, processes
 
@@ -281,7 +346,7 @@ def note_end(tally, trace, name):
     """Who waits for a lock at the end, and who ended with one."""
     task = trace.task
     tally.note_end(name, [of for key, of, _ in trace.held if key != LIFE], task.process.joins.is_waiting(task), task.has_ended)
-    for codes in task.broken_off:
+    for codes in [codes for part in trace.parts for codes in part.broken_off]:
         names = [task.process.key(code >> 3)[0].name for code in codes]
         tally.note("waiting", "%s waited for %s, holding %s, until that was interrupted" % (name, names[-1], ", ".join(names[:-1])))
 
@@ -302,8 +367,9 @@ def chosen(tasks, tally):
     return kept[:most]
 
 
-def write_all(folder, names, tasks, tally):
-    """Writes the traces of tasks, and the classes."""
+def write_all(folder, names, processes, tally):
+    """Writes the traces of all tasks, the sets of signals' handlers, and the classes. Returns lines of SUMMARY."""
+    tasks = chosen([task for process in processes for task in process.tasks.values() if task.is_seen()], tally)
     os.makedirs(os.path.join(folder, finishing.OBJECTS), exist_ok=True)
     named, written = [], []
     for task in tasks:
@@ -321,7 +387,9 @@ def write_all(folder, names, tasks, tally):
         written.append((name, trace))
     finishing.write_tasks(folder, named)
     finishing.write_weak(folder, written)
+    lines = sets.write_sets(folder, processes, written, names.reentrant(), tally)
     finishing.write_classes(folder, [(each.name, each.place, each.kind if each.kind in KEPT_KINDS else "made in") for each in names.used])
+    return lines
 
 
 def write_traces(raw, folder, recorder, is_chosen):
@@ -333,13 +401,13 @@ def write_traces(raw, folder, recorder, is_chosen):
         for name, count in process.counts.items():
             tally.add({"alike": "threads-alike"}.get(name, name), count)
         tally.add("still-running", finishing.is_running(process.pid))
-    write_all(folder, names, chosen([task for process in processes for task in process.tasks.values() if task.records], tally), tally)
+    of_signals = write_all(folder, names, processes, tally)
     started = [start for process in processes for start in process.starts]
     counts = tally.recorded(len(processes), len(names.used)) + tally.counts(summaries.NOTED) + why_nothing(recorder, tally, processes, names.used)
     counts += count_of("unreached-runs", unreached(processes))
     counts += count_of("pthread-runs", [start for start in started if start.kind == starts.PTHREAD], not is_chosen, {})
     counts += count_of("other-runs", [start for start in started if start.kind in OTHERS], not is_chosen)
-    return summaries.Summary(counts + tally.counts(finishing.LOSSES))
+    return summaries.Summary(counts + tally.counts(finishing.LOSSES) + of_signals)
 
 
 def why_nothing(recorder, tally, processes, used):

@@ -47,9 +47,10 @@ class Folder(driver.Folder):
 
     def drop_traces(self):
         """Takes away the traces that could be written of those that couldn't all be."""
-        for name in self.names():
+        for name in reversed(self.names()):
+            path = os.path.join(self.path, name)
             try:
-                (os.rmdir if name == "objects" else os.unlink)(os.path.join(self.path, name))
+                (os.rmdir if os.path.isdir(path) and not os.path.islink(path) else os.unlink)(path)
             except OSError:
                 pass
         try:

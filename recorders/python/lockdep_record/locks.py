@@ -10,7 +10,7 @@ import threading
 from importlib import _bootstrap
 
 from . import recording, starts
-from .recording import TIMED, TRY, WRITE, Lock as Record, break_off, failed_try, gave, getframe, grant, made_at, not_granted, took, wish
+from .recording import TIMED, TRY, WRITE, Lock as Record, break_off, failed_try, gave, getframe, grant, made_at, not_granted, took, undo, wish
 
 # How long a thread waits for a lock before that is written, in seconds. In a deadlock it waits longer.
 PATIENCE = 0.05
@@ -27,9 +27,17 @@ def keep(record, mode, release):
     try:
         took(record, mode)
     except BaseException:
-        release()
+        take_back(record, release)
         raise
     return True
+
+
+def take_back(record, release):
+    """Releases a lock that was just taken, since an error of a signal's handler came in, perhaps after that was noted."""
+    try:
+        undo(record)
+    finally:
+        release()
 
 
 def take(record, inner, blocking, timeout):
@@ -84,6 +92,13 @@ def maker(frame):
     return frame.f_back if frame is not None and frame.f_code == of_rlock else frame
 
 
+def reentrant_at(frame):
+    """The class of an RLock that is made in this frame."""
+    made = made_at(frame, "RLock")
+    made.is_reentrant = True
+    return made
+
+
 def is_own_use(frame):
     """Whether a lock is made here for `threading` itself, of which a program may load another copy, or for the import system."""
     if frame is None:
@@ -135,7 +150,7 @@ class lock(Replaced, metaclass=Kind):
             try:
                 took(self._lockdep_record, WRITE if blocking else TRY)
             except BaseException:
-                inner.release()
+                take_back(self._lockdep_record, inner.release)
                 raise
             return True
         return take(self._lockdep_record, inner, blocking, timeout)
@@ -146,7 +161,7 @@ class lock(Replaced, metaclass=Kind):
             try:
                 took(self._lockdep_record, WRITE)
             except BaseException:
-                inner.release()
+                take_back(self._lockdep_record, inner.release)
                 raise
             return True
         return wait_for(self._lockdep_record, inner.acquire, inner.release, -1)
@@ -192,7 +207,7 @@ class RLock(Replaced):
         if is_own_use(frame):
             return inner
         self = object.__new__(cls)
-        self._lockdep_inner, self._lockdep_record, self._lockdep_levels = inner, Record(made_at(frame, "RLock")), 0
+        self._lockdep_inner, self._lockdep_record, self._lockdep_levels = inner, Record(reentrant_at(frame)), 0
         return self
 
     def acquire(self, blocking=True, timeout=-1):
@@ -204,7 +219,7 @@ class RLock(Replaced):
                     took(self._lockdep_record, WRITE if blocking else TRY)
                 except BaseException:
                     self._lockdep_levels = 0
-                    inner.release()
+                    take_back(self._lockdep_record, inner.release)
                     raise
             return True
         if inner._is_owned():
@@ -221,8 +236,7 @@ class RLock(Replaced):
     def release(self):
         try:
             if self._lockdep_levels == 1 and self._lockdep_inner._is_owned():
-                self._lockdep_levels = 0
-                gave(self._lockdep_record, None)
+                self._give_last()
             elif self._lockdep_inner._is_owned():
                 self._lockdep_levels -= 1
         finally:
@@ -231,12 +245,18 @@ class RLock(Replaced):
     def __exit__(self, kind, value, trace):
         try:
             if self._lockdep_levels == 1 and self._lockdep_inner._is_owned():
-                self._lockdep_levels = 0
-                gave(self._lockdep_record, None)
+                self._give_last()
             elif self._lockdep_inner._is_owned():
                 self._lockdep_levels -= 1
         finally:
             self._lockdep_inner.release()
+
+    def _give_last(self):
+        """Its holder gives it back. Meanwhile a handler takes it again, as one that is held."""
+        try:
+            gave(self._lockdep_record, None)
+        finally:
+            self._lockdep_levels = 0
 
     def _is_owned(self):
         return self._lockdep_inner._is_owned()
@@ -250,8 +270,7 @@ class RLock(Replaced):
     def _release_save(self):
         levels = self._lockdep_levels
         if self._lockdep_inner._is_owned():
-            self._lockdep_levels = 0
-            gave(self._lockdep_record, None)
+            self._give_last()
         return levels, self._lockdep_inner._release_save()
 
     def _acquire_restore(self, state):
@@ -316,7 +335,7 @@ def replace_python_rlocks():
         make(self)
         frame = maker(getframe(0).f_back)
         if not is_own_use(frame):
-            self._lockdep_record = Record(made_at(frame, "RLock"))
+            self._lockdep_record = Record(reentrant_at(frame))
 
     def acquire(self, blocking=True, timeout=-1):
         record = vars(self).get("_lockdep_record")
@@ -674,10 +693,12 @@ def begin_locks():
 
 def begin(folder, is_fork_server):
     """Records this process from here on. Of the server that forks processes for `multiprocessing` only these are recorded."""
-    from . import green, threads
+    from . import green, handlers, threads
     recording.begin_process(folder, is_fork_server)
     begin_locks()
     threads.replace_threads()
+    if os.environ.get("LOCKDEP_SIGNALS") != "off":
+        handlers.begin()
     replace_exit()
     sys.meta_path.insert(0, Finder)
     Finder.awaited.update(green.AWAITED)

@@ -13,7 +13,7 @@ import os
 import re
 import sys
 import threading
-from _thread import allocate_lock, get_ident, get_native_id
+from _thread import get_ident, get_native_id
 from itertools import count as counting_from
 from time import monotonic, sleep
 
@@ -157,7 +157,7 @@ def running():
 def begin_in_child():
     """In a forked process the one thread holds what it held, and has room of its own in the file."""
     global paused
-    paused, recording.class_lock = 0, allocate_lock()
+    paused = 0
     provoke_file.begin_in_child()
     threads.clear()
     thread = getattr(here, "thread", None)

@@ -17,6 +17,11 @@ is opened for each write, so that the program has no open file that it doesn't k
     I task code code...                                 it waited for the last lock, with the others held, just before the process ended,
                                                         till an error broke that off
     S name count                                        what was counted so far
+    O class                                             locks of this class can be taken again by who holds them
+    H source ordinal line signal handler file           a handler of a signal, and which one of this place it is (`handlers`)
+    Y source runs                                       how often it has run so far
+    U task first source source...                       a further trace of the first task; if the first number isn't 0, a handler's runs;
+                                                        and the handlers that may come in there
     L word word...                                      the words that this process was started by, unless another one forked it
     X kind is-told reason path word word...             a program that it starts (`starts`)
 
@@ -25,7 +30,7 @@ import os
 import sys
 os.register_at_fork(after_in_child=lambda: begin_in_child())  # before that of threading
 import threading  # noqa: E402
-from _thread import allocate_lock
+from _thread import get_ident
 from collections import deque
 from itertools import count as counting
 from time import monotonic, time_ns
@@ -137,10 +142,10 @@ def visible(text):
 class Made:
     """The place where locks were made: a class."""
 
-    __slots__ = ("number", "name", "chain", "kind", "early", "rest", "ordinals")
+    __slots__ = ("number", "name", "chain", "kind", "early", "rest", "ordinals", "is_reentrant")
 
     def __init__(self, number, name, chain, kind):
-        self.number, self.name, self.chain, self.kind, self.early = number, name, chain, kind, 0
+        self.number, self.name, self.chain, self.kind, self.early, self.is_reentrant = number, name, chain, kind, 0, False
         self.rest, self.ordinals = Key(self, 0), counting(1)
 
 
@@ -157,6 +162,7 @@ class Key:
 keys = {}
 key_numbers = counting(1)
 classes = {}
+class_numbers = counting(1)
 
 
 def call_number(code, instruction):
@@ -210,13 +216,7 @@ def made_at(frame, kind):
 
 def class_in(key, make):
     """The class that the table has under a key, which is made with its number if there is none."""
-    made = classes.get(key)
-    if made is None:
-        with class_lock:
-            made = classes.get(key)
-            if made is None:
-                made = classes[key] = make(len(classes) + 1)
-    return made
+    return classes.get(key) or classes.setdefault(key, make(next(class_numbers)))  # (without a lock: a signal's handler may come in)
 
 
 def key_of(chain):
@@ -233,9 +233,6 @@ def name_of(frame, chain):
             names.append(name_at(frame))
         frame = frame.f_back
     return "~".join(names) or "unknown"
-
-
-class_lock = allocate_lock()
 
 
 class Lock:
@@ -284,24 +281,28 @@ class Way:
 
 
 class Held:
-    """A held lock: by which task, in which mode, its record; and the records and the way before its place was taken."""
+    """A held lock: by which task, in which mode, its record; and the records and the way before its place was taken. `place` is that of the
+    record, once it is in the file."""
 
-    __slots__ = ("lock", "task", "code", "record", "start", "before", "is_told")
+    __slots__ = ("lock", "task", "code", "record", "start", "before", "is_told", "place")
 
     def __init__(self, lock):
         self.lock = lock
         self.is_told = False  # for a lock that is waited for: whether the file has it
+        self.place = None, None
 
 
 class Task:
     """A thread or a task of asyncio. `base` is how many of its records are in the file already, and `fresh` how many there were
-    when it last did something new."""
+    when it last did something new. Where signals' handlers may come in is its `state`, and it has a trace for each (`parts`)."""
 
     __slots__ = ("number", "held", "way", "records", "base", "fresh", "dropped", "wish", "is_busy", "is_over", "operations",
-                 "repeats", "failed", "aside", "lent", "life")
+                 "repeats", "failed", "aside", "lent", "life", "source", "is_main", "state", "parts", "first")
 
-    def __init__(self):
+    def __init__(self, source=None):
         self.aside, self.lent, self.life = None, 0, None
+        self.source, self.is_main, self.parts, self.first = source, get_ident() == main_thread, None, 0
+        self.state = state if self.is_main else NOWHERE
         self.number, self.held, self.way, self.records = 0, [], Way(process.common), []
         self.base = self.fresh = self.operations = self.repeats = 0
         self.dropped, self.wish, self.is_busy, self.is_over, self.failed = [], None, False, False, None
@@ -328,7 +329,7 @@ def current():
     """The running task: that of asyncio, or otherwise the thread. Once greenlets are loaded, `current_of_all` takes its place."""
     if find_loop is not None:
         loop = find_loop()
-        if loop is not None:
+        if loop is not None and not (runs and is_of_run(loop)):
             running = find_task(loop)
             if running is not None:
                 try:
@@ -348,6 +349,11 @@ def current_of_all():
         return here.task if running is None else running._lockdep_guard.task
     except AttributeError:
         return begin_running(running)
+
+
+def is_of_run(loop):
+    """Whether a signal's handler is running that interrupted a task of a loop. (It may also have a loop of its own.)"""
+    return get_ident() == main_thread and bool(runs) and runs[-1].loop is loop
 
 
 def begin_running(running):
@@ -432,7 +438,7 @@ def took(lock, mode):
                 records.append((code, frame.f_code, frame.f_lasti))
             else:
                 records.append((code, chain_of(frame), None))
-            entry = lock.entry = lock.spare or spare_of(lock)
+            entry = lock.entry = (lock.spare if lock.entry is None else None) or spare_of(lock)
             entry.task, entry.code, entry.record, entry.start, entry.before = task, code, record, record, before
             held.append(entry)
             way = task.way = before.after.get(code) or before.to(code)
@@ -461,8 +467,11 @@ def took_oddly(lock, mode, task):
 
 
 def begin_again(task):
-    """The running thread or task gets another trace."""
-    begin_running(running_one())
+    """The running thread or task, or the run of a signal's handler, gets another trace."""
+    if task.source is not None and getattr(here, "task", None) is task and runs:
+        here.task = runs[-1].task = Task(task.source)
+    else:
+        begin_running(running_one())
 
 
 def begin_task(task):
@@ -476,7 +485,7 @@ def tell_life(life):
 def running_one():
     """The running task of asyncio or greenlet, or None where it is the thread's own."""
     loop = find_loop() if find_loop is not None else None
-    running = find_task(loop) if loop is not None else None
+    running = find_task(loop) if loop is not None and not (runs and is_of_run(loop)) else None
     if running is None and find_greenlet is not None:
         running = find_greenlet()
         running = running if running.parent is not None else None
@@ -490,14 +499,16 @@ def leave_out(lock, reason):
 
 
 def settle(task):
-    """Handles what happened to a task since its last operation: others released locks that it held, or a handler interrupted its
-    waiting."""
+    """Handles what happened to a task since its last operation: others released locks that it held, a handler interrupted its
+    waiting, or others may come in now."""
     if task.wish is not None:
         withdraw(task)
     while task.dropped:
         entry = task.dropped.pop()
         if entry in task.held:
             give_back(task, entry)
+    if task.is_main and task.state != state:
+        move(task)
 
 
 def see(task, way):
@@ -531,6 +542,13 @@ def gave(lock, real):
         abandon(task)
         raise
     task.is_busy = False
+
+
+def undo(lock):
+    """The running task takes back that it took a lock, unless that wasn't noted."""
+    entry = lock.entry
+    if entry is not None and not entry.task.is_busy and entry.task is current() and entry in entry.task.held:
+        gave(lock, None)
 
 
 def gave_oddly(lock, real, task):
@@ -651,7 +669,8 @@ def gave_for_another(lock, entry, real):
     """A lock is given back that another task took: its acquisition ends at that task's next operation. Of the tasks of one loop only one
     runs at a time, so with a lock of asyncio nothing can have come in between, and nothing is lost."""
     is_known = entry is not None and not entry.task.is_over
-    if entry is not LEFT_OUT and not (is_known and hasattr(real, "_lockdep_record")):
+    is_seen = is_known and (hasattr(real, "_lockdep_record") or (entry.task.is_main and getattr(getattr(here, "task", None), "source", None)))
+    if entry is not LEFT_OUT and not is_seen:
         process.counts["unseen-releases"] += 1
     if is_known:
         lock.spare = None
@@ -725,6 +744,120 @@ def failed_try(lock):
     if task.held and task.failed is lock:
         process.counts["retried-tries"] += 1
     task.failed = lock
+
+
+# ---- Signals' handlers (`handlers`). Python runs them in the main thread only.
+
+NOWHERE = frozenset()  # the state of code in which no handler may come in
+state = NOWHERE  # that of the main thread's code: the handlers that may come in
+main_thread = get_ident()
+runs = []  # of handlers, in the main thread: each within the one before
+
+
+def begin_main_thread():
+    """The running thread is the main one of a process that was just forked."""
+    global main_thread, state
+    main_thread = get_ident()
+    state = state_in_child()
+
+
+def enter_state(new):
+    """Other handlers may come in at the main thread's code from here on. What its tasks hold meanwhile has to be noted at once."""
+    global state
+    state = new
+    for task in list(process.tasks):
+        if not task.is_main or task.is_over or task.state == new:
+            continue
+        if task.is_busy or task.wish is not None:
+            task.dropped.append(None)  # the state is looked at before its next operation
+        else:
+            enter_state_of(task)
+
+
+def enter_state_of(task):
+    task.is_busy = True
+    try:
+        settle(task)
+    except BaseException:
+        abandon(task)
+        raise
+    task.is_busy = False
+
+
+def move(task):
+    """From here on a task has the trace of the present state, which begins with what it holds."""
+    kept = [(entry, place_of(task, entry)) for entry in task.held]
+    for entry, _ in reversed(kept):
+        give_back(task, entry)
+    parts = task.parts = task.parts if task.parts is not None else {}
+    if task.number:
+        write(task)  # (so that nothing of it seems to be held if the process is killed)
+    if task.number or task.records:
+        parts[task.state] = task.number, task.way, task.records, task.base, task.fresh
+        task.number, task.way, task.records, task.base, task.fresh = 0, Way(process.common), [], 0, 0
+    task.state = state
+    if state in parts:
+        task.number, task.way, task.records, task.base, task.fresh = parts.pop(state)
+    for entry, place in kept:
+        take_again(task, entry, place)
+
+
+def place_of(task, entry):
+    """The place of the record of what is held."""
+    at = entry.record - task.base
+    return task.records[at][1:] if 0 <= at < len(task.records) else entry.place
+
+
+def take_again(task, entry, place):
+    """A task holds something from here on that was taken before."""
+    entry.task, entry.before = task, task.way
+    entry.record = entry.start = task.base + len(task.records)
+    task.records.append((entry.code,) + place)
+    task.held.append(entry)
+    task.way = task.way.to(entry.code)
+    if not task.way.is_taken:
+        see(task, task.way)
+
+
+def write_parts(task):
+    """Writes what is left of a task's traces of other states."""
+    own = task.state, task.number, task.way, task.records, task.base, task.fresh
+    held, wish, task.held, task.wish = task.held, task.wish, [], None
+    for of, part in (task.parts or {}).items():
+        if part[2]:
+            task.state = of
+            task.number, task.way, task.records, task.base, task.fresh = part
+            write(task)
+    task.state, task.number, task.way, task.records, task.base, task.fresh = own
+    task.held, task.wish, task.parts = held, wish, None
+
+
+def tell_state(task):
+    """Writes what a trace is of, unless it is of code at which no handler may come in."""
+    task.first = task.first or task.number
+    if task.source is None and not task.state and task.first == task.number:
+        return
+    of = [task.source.number if task.source is not None else 0] + [source.number for source in task.state]
+    for source in list(task.state) + ([task.source] if task.source is not None else []):
+        declare_source(source)
+    put("U %d %d %s\n" % (task.number, task.first, " ".join(map(str, of))))
+
+
+def declare_source(source):
+    """Writes a handler, if the file doesn't have it."""
+    if source not in process.told:
+        put("H %d %d %d\t%s\t%s\t%s\n" % (source.number, source.ordinal, source.line, source.signal, source.name, source.file))
+        process.told[source] = True
+
+
+def run_lines():
+    """How often handlers have run. `handlers` puts its own in the place of this."""
+    return ""
+
+
+def state_in_child():
+    """So with this: which handlers may come in, in a process that was just forked."""
+    return NOWHERE
 
 
 # ---- What is waited for.
@@ -841,8 +974,8 @@ class Process:
     def __init__(self, folder, is_left_out):
         self.folder, self.tasks, self.common = folder, set(), Way(None)
         self.counts = dict.fromkeys(("reentered", "beyond-held", "full-traces", "unseen-releases", "repeats", "retried-tries",
-                                     "interrupted", "alike", "operations", "multiprocessing", "gevent", "eventlet"), 0)
-        self.told, self.written, self.like, self.task_count = {}, {}, {}, 0
+                                     "interrupted", "alike", "operations", "multiprocessing", "gevent", "eventlet", "unfollowed-handlers"), 0)
+        self.told, self.written, self.like, self.task_numbers = {}, {}, {}, counting(1)
         self.places, self.place_numbers, self.pid = {}, counting(1), os.getpid()
         self.broken_off = deque(maxlen=MOST_BROKEN_OFF)
         number = 0
@@ -902,6 +1035,9 @@ def declare(code):
             text = "C %d\t%s\t%s\t%s\n" % (made.number, visible(made.name), place, made.kind)
         put("%sK %d %d %d\n" % (text, key.number, made.number, key.ordinal))
         of.told[made] = of.told[key.number] = True  # (once it is written, since something may come in between)
+    if key.made.is_reentrant and (key.made, "O") not in of.told:
+        put("O %d\n" % key.made.number)
+        of.told[key.made, "O"] = True
 
 
 def place_number(code, at):
@@ -921,6 +1057,8 @@ def place_number(code, at):
 
 def thread_name(task):
     """What the running thread is called, if the task is that. (A thread that threading doesn't know would get an object by being asked.)"""
+    if task.source is not None:
+        return "handler of " + task.source.signal
     thread = threading._active.get(threading.get_ident()) if not task.is_over and getattr(here, "task", None) is task else None
     return visible(thread.name) if thread is not None else ""
 
@@ -928,16 +1066,19 @@ def thread_name(task):
 def write(task):
     """Writes what a task has done."""
     if not task.number:
-        process.task_count += 1
-        task.number = process.task_count
+        task.number = next(process.task_numbers)
         name = thread_name(task)
         put("N %d\t%s\n" % (task.number, name) if name else "")
+        tell_state(task)
     if task.life is not None:
         tell_life(task.life)
     lines = []
     for code, place, at in task.records:
         declare(code)
         lines.append("%s %d %d %d\n" % ("R" if code & 7 == RELEASE else "A", task.number, code, place_number(place, at)))
+    for entry in task.held:
+        if entry.record >= task.base:
+            entry.place = place_of(task, entry)
     task.base += len(task.records)
     task.records.clear()
     if task.wish is not None and not task.wish.is_told:
@@ -972,6 +1113,7 @@ def end(task):
     if task.wish is not None and task.wish in task.held:
         keep_wait(task)  # a task of asyncio that is gone while it waits
     settle(task)
+    write_parts(task)
     task.is_over = task.is_busy = True
     process.tasks.discard(task)
     if not task.number and not task.records:
@@ -1008,9 +1150,11 @@ def end_process():
             task.is_busy = True
             if task is running:
                 end(task)
-            elif task.records:
+                continue
+            write_parts(task)
+            if task.records:
                 write(task)
-    put(broken_off_lines())
+    put(broken_off_lines() + run_lines())
     process.is_off = True
 
 
@@ -1018,19 +1162,19 @@ def begin_in_child():
     """A forked process has its own file, and its thread holds what it held before."""
     if process is None:
         return
-    global class_lock
-    class_lock = allocate_lock()
     running, loaded = running_one(), {name: process.counts[name] for name in ("gevent", "eventlet")}
     guard = here if running is None else getattr(running, "_lockdep_guard", None)
     old = getattr(guard, "task", None)
+    held = held_in_child(old)
     for task in process.tasks:  # what of these runs here too begins another trace
         task.is_over = task.is_busy = True
     begin_process(process.folder)
     process.counts.update(loaded)
+    begin_main_thread()
     begin_running(running)
     task = current()
-    for entry in [entry for entry in old.held if entry is not old.wish] if old is not None else []:
-        code, new = entry.code, Held(entry.lock)
+    for entry, code in held:
+        new = Held(entry.lock)
         new.task, new.code, new.before = task, code, task.way
         new.record = new.start = len(task.records)
         if entry.lock.entry is entry:
@@ -1040,6 +1184,17 @@ def begin_in_child():
         task.way = task.way.to(code)
         task.way.is_taken = True
         task.fresh = len(task.records)
+
+
+def held_in_child(old):
+    """What the thread held that forked, with the codes. A handler that forked goes on in the child, with what it interrupted below it: then
+    what it holds itself counts as taken without waiting."""
+    if old is None:
+        return []
+    below = [run.interrupted for run in runs if run.interrupted is not None]
+    runs.clear()
+    held = [(entry, entry.code) for task in below for entry in task.held if entry is not task.wish]
+    return held + [(entry, entry.code & ~7 | TRY if below else entry.code) for entry in old.held if entry is not old.wish]
 
 
 def begin_process(folder, is_left_out=False):
