@@ -10,8 +10,8 @@
 #include <stdint.h>
 #include <string.h>
 
-/* "lockrec9", little endian. */
-#define RAW_MAGIC UINT64_C(0x396365726b636f6c)
+/* "lockreca", little endian. */
+#define RAW_MAGIC UINT64_C(0x616365726b636f6c)
 
 /* The file's size, if no limit forbids it, and the size under which a recording may well be too small. */
 #define RAW_BYTES (UINT64_C(4) << 30)
@@ -38,7 +38,7 @@
 
 #define RAW_PATH 500
 
-enum mode { MODE_WRITE, MODE_READ, MODE_REC_READ, MODE_TRY_WRITE, MODE_TRY_READ, MODE_TRY_REC_READ, MODE_RELEASE };
+enum mode { MODE_WRITE, MODE_READ, MODE_REC_READ, MODE_TRY_WRITE, MODE_TRY_READ, MODE_TRY_REC_READ, MODE_RELEASE, MODE_STATE };
 
 /* Added to the mode of an acquisition: the program says in which order locks of the class are nested, and this one comes after all of them
    that are held. And of one that comes under others: the wait for it gives up at a time; the thread itself made the lock, has held
@@ -49,7 +49,8 @@ enum mode { MODE_WRITE, MODE_READ, MODE_REC_READ, MODE_TRY_WRITE, MODE_TRY_READ,
 #define RAW_ENDED 64
 #define RAW_WEAK (RAW_TIMED | RAW_NEW | RAW_ENDED)
 
-/* One acquisition or release: the object in the low 24 bits and the mode above them, and where it happened. */
+/* One acquisition or release: the object in the low 24 bits and the mode above them, and where it happened. Of MODE_STATE it is the state that
+   the thread is in from there on, instead of an object; until then it is in none. */
 struct raw_record {
     uint32_t what;
     uint32_t place;
@@ -75,7 +76,7 @@ static inline uint64_t raw_word_offset(uint64_t word) { return word & UINT64_C(0
 /* The kinds of parts that are numbered. Each kind has its region of the file, in this order: what a program goes on to use comes first,
    where the pages are made at the start. */
 enum raw_kind { RAW_PROCESSES, RAW_PLACES, RAW_MODULES, RAW_CLASSES, RAW_OBJECTS, RAW_TAKES, RAW_FILES, RAW_PROGRAMS, RAW_THREADS, RAW_LOOKS,
-                RAW_TEXTS, RAW_BREACHES, RAW_LIVES, RAW_KINDS };
+                RAW_TEXTS, RAW_BREACHES, RAW_LIVES, RAW_SOURCES, RAW_RUNS, RAW_STATES, RAW_KINDS };
 
 struct raw_process {
     uint32_t id; /* the system's number of it; written last */
@@ -145,6 +146,7 @@ struct raw_object {
     uint64_t offset;  /* in the file; of a lock that is in none and is taken as one of a subclass, its object without that */
     uint32_t file;    /* of a lock that processes share; else 0 */
     uint32_t is_signal; /* it is a semaphore that isn't used as a lock: nothing of it goes into the traces */
+    uint32_t is_narrow; /* a handler took it, and it knows its owner: it is taken a moment before it knows that */
 };
 
 /* The ordinal of an object that processes share. It has no other one. */
@@ -214,6 +216,31 @@ struct raw_life {
     uint64_t known; /* how many of these there were when the call of a start had returned, or when a join was called */
 };
 
+/* A source of interrupts: a signal with a handler of it. */
+struct raw_source {
+    uint32_t signal;    /* written last */
+    uint32_t continued; /* how often a run of it went on with what it interrupted, as one that a fault brings does */
+    uint64_t handler;   /* as a word */
+};
+
+/* The runs of a source in one thread of the system's. */
+enum raw_sent { SENT_TO_PROCESS = 1, SENT_TO_THREAD = 2 };
+struct raw_run {
+    uint32_t source; /* written last */
+    uint32_t process;
+    uint32_t system_thread; /* as in raw_thread */
+    uint32_t start;         /* as in raw_thread */
+    uint64_t count;
+    uint32_t sent; /* of enum raw_sent: to whom */
+};
+
+/* Which sources may interrupt: those of signals that are unblocked and have a handler. */
+#define RAW_SIGNALS 64
+struct raw_state {
+    uint32_t is_ready;
+    uint16_t sources[RAW_SIGNALS]; /* of each signal, from the first one on; 0: it doesn't interrupt */
+};
+
 /* What was left out of a thread's records, and how often. */
 struct raw_left_out {
     uint64_t releases;  /* a release of a lock that this thread wasn't seen to take */
@@ -240,6 +267,9 @@ struct raw_thread {
     uint64_t self; /* its pthread_t */
     uint32_t joined; /* the object as which it is joined, or 0 */
     uint32_t known;  /* how many starts and joins there were when the trace began */
+    uint32_t source; /* of whose runs in a thread this is; 0: of the thread's own code */
+    uint32_t system_thread; /* by which number the thread's own code and its runs belong together */
+    uint32_t start;         /* the class as which the thread is joined; 0 if that isn't known */
     char name[RAW_CALLED];
     uint64_t chunks[RAW_CHUNKS]; /* where they begin in the file; 0 if there is none yet */
 };
@@ -266,6 +296,9 @@ struct raw_arena {
     uint64_t unknown;     /* pieces of memory for which there was no room in the recorder's table */
     uint64_t asserted;    /* how often the program said that it holds a lock */
     uint64_t unknown_annotations, refused_annotations, refused_names; /* what it said that isn't known, or can't be */
+    uint32_t system_threads; /* so many have numbers */
+    uint64_t unfollowed_handlers; /* for which there was no stub left */
+    uint64_t unknown_masks;  /* runs that met another mask than was known */
 };
 
 static inline uint32_t raw_size(enum raw_kind kind) {
@@ -273,7 +306,8 @@ static inline uint32_t raw_size(enum raw_kind kind) {
                                               sizeof(struct raw_class),   sizeof(struct raw_object), sizeof(struct raw_take),
                                               sizeof(struct raw_file),    sizeof(struct raw_program), sizeof(struct raw_thread),
                                               sizeof(struct raw_look),    sizeof(struct raw_text),  sizeof(struct raw_breach),
-                                              sizeof(struct raw_life)};
+                                              sizeof(struct raw_life),    sizeof(struct raw_source), sizeof(struct raw_run),
+                                              sizeof(struct raw_state)};
     return sizes[kind];
 }
 

@@ -207,13 +207,22 @@ const struct place *place_numbered(struct arena *a, uint32_t number) {
 
 /* ---- Records. */
 
-const struct raw_record *record_of(const struct arena *a, const struct raw_thread *t, uint64_t index) {
+static const struct raw_record *record_at(const struct arena *a, const struct raw_thread *t, uint64_t index) {
     uint32_t chunk = raw_chunk(index);
     uint64_t in = index - raw_chunk_start(chunk), from = chunk < RAW_CHUNKS ? t->chunks[chunk] : 0;
     if (!from || from > a->bytes || raw_chunk_room(chunk) * sizeof(struct raw_record) > a->bytes - from)
         return NULL;
-    const struct raw_record *r = (const struct raw_record *)((const char *)a->raw + from) + in;
-    return raw_mode(r->what) <= MODE_RELEASE && class_of(a, raw_object(r->what)) ? r : NULL;
+    return (const struct raw_record *)((const char *)a->raw + from) + in;
+}
+
+const struct raw_record *record_of(const struct arena *a, const struct raw_thread *t, uint64_t index) {
+    const struct raw_record *r = record_at(a, t, index);
+    return r && raw_mode(r->what) <= MODE_RELEASE && class_of(a, raw_object(r->what)) ? r : NULL;
+}
+
+const struct raw_record *state_record_of(const struct arena *a, const struct raw_thread *t, uint64_t index) {
+    const struct raw_record *r = record_at(a, t, index);
+    return r && raw_mode(r->what) == MODE_STATE ? r : NULL;
 }
 
 uint32_t class_of(const struct arena *a, uint32_t object) {

@@ -11,6 +11,7 @@
    FOLDER/weak                 which acquisitions are by waits that give up, of new locks, or of threads that had ended, if any are
    FOLDER/breaches             what a program did against what it says of its locks, if it did
    FOLDER/breaches.places      where, in two places for each of these
+   FOLDER/signals              what signals' handlers may interrupt, if the program has any: a set of traces for each one that took a lock
    FOLDER/SUMMARY              what was recorded, and what was left out
 
    A place is named by FRAMES callers, 3 if it isn't given. */
@@ -67,6 +68,11 @@ static uint64_t asserted(const struct raw_arena *a) { return a->asserted; }
 static uint64_t unknown_annotations(const struct raw_arena *a) { return a->unknown_annotations; }
 static uint64_t refused_annotations(const struct raw_arena *a) { return a->refused_annotations; }
 static uint64_t refused_names(const struct raw_arena *a) { return a->refused_names; }
+static uint64_t unfollowed(const struct raw_arena *a) { return a->unfollowed_handlers; }
+static uint64_t unknown_masks(const struct raw_arena *a) { return a->unknown_masks; }
+static uint64_t refused_states(const struct raw_arena *a) {
+    return a->regions[RAW_STATES].refused + a->regions[RAW_SOURCES].refused + a->regions[RAW_RUNS].refused;
+}
 static uint64_t is_small(const struct raw_arena *a) { return a->bytes < RAW_SMALL; }
 
 /* What the programs said of their locks. */
@@ -109,6 +115,12 @@ static void tell_losses(FILE *file) {
               "tries of a lock right after one that failed, with other locks held: a thread that waits so is in no trace");
     tell_loss(file, "reentered", raw->reentered,
               "calls from a signal handler that interrupted the recorder, or that one left by a jump: an order among them may be missing");
+    tell_loss(file, "unfollowed-handlers", sum_of(unfollowed),
+              "times that a signal's handler was set for which there was no room: its locks count as taken by what it interrupted");
+    tell_loss(file, "masks-unknown", sum_of(unknown_masks),
+              "runs of signals' handlers that met another mask than was known, as after a direct system call: what may be interrupted there isn't certain");
+    tell_loss(file, "unknown-signals", sum_of(refused_states),
+              "times that there was no room for which signals may interrupt: what they interrupt there isn't known");
     tell_loss(file, "unseen-releases", raw->releases,
               "releases of locks that the thread wasn't seen to take: another thread, or nobody, was seen to hold them");
     tell_loss(file, "signal-semaphores", signals(),
@@ -206,6 +218,7 @@ static void write_summary(const char *folder) {
     tell_breaches_of(file, "not-held", BREACH_OF_HOLD);
     if (sums.operations == 0)
         tell_unseen(file);
+    tell_sources(file);
     tell_annotations(file);
     tell_losses(file);
     tell_started(file);
@@ -248,6 +261,7 @@ int main(int argc, char **argv) {
     find_joins();
     name_objects();
     write_traces(argv[1], version);
+    write_sets(argv[1]);
     write_lives(argv[1]);
     find_breaches();
     write_breaches(argv[1]);

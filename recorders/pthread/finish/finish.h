@@ -81,6 +81,7 @@ struct arena {
     uint8_t *threads;    /* of its objects that are threads, as joins.c says; NULL if none is joined */
     uint32_t *traces;    /* of its threads: the numbers that these have as files; 0 of one without */
     uint32_t *processes; /* from its numbers to those of all; 0 if it locked nothing */
+    struct source **sources; /* of its sources of interrupts, what is known of each in all recordings */
 };
 
 extern struct arena *arenas;
@@ -96,6 +97,7 @@ const struct place *place_numbered(struct arena *a, uint32_t number);
 
 /* A thread's records. */
 const struct raw_record *record_of(const struct arena *a, const struct raw_thread *t, uint64_t index);
+const struct raw_record *state_record_of(const struct arena *a, const struct raw_thread *t, uint64_t index);
 uint32_t class_of(const struct arena *a, uint32_t object);
 
 /* ---- arrays.c */
@@ -216,6 +218,15 @@ bool is_told_enough(const struct content *content, uint32_t trace); /* this trac
 bool stands_for_others(uint32_t trace);
 void tell_stand_ins(FILE *file); /* lines of SUMMARY: which traces stand for how many others */
 
+/* ---- sets.c: what signals' handlers may interrupt. */
+
+struct source; /* a signal with a handler */
+
+void write_sets(const char *folder);
+bool may_interrupt(const struct source *source, const struct arena *a, const struct raw_thread *t, uint32_t state);
+void tell_sources(FILE *file); /* lines of SUMMARY */
+const char *tell_signal(char *text, size_t room, unsigned number);
+
 /* ---- traces.c */
 
 struct sums {
@@ -227,6 +238,7 @@ extern struct sums sums;
 extern char *waiting_text, *held_text; /* lines of SUMMARY */
 
 void write_traces(const char *folder, int version);
+bool write_in_set(const char *folder, const struct source *source, struct arena *a, const struct raw_thread *raw, uint32_t number, bool is_frame);
 void tell_dropped(FILE *file);
 void write_classes(const char *folder);
 void begin_places(FILE *file);

@@ -102,7 +102,7 @@ static int by_known(const void *a, const void *b) {
 
 static void take_trace(uint32_t n) {
     const struct raw_thread *t = thread_numbered(n);
-    uint32_t trace = arena->traces[n], thread = trace && t->process ? thread_at(t->process, t->self, t->known) : UNKNOWN;
+    uint32_t trace = t->source ? 0 : arena->traces[n], thread = trace && t->process ? thread_at(t->process, t->self, t->known) : UNKNOWN;
     if (thread)
         lives[thread].trace = lives[thread].trace || stands_for_others(trace) ? SEVERAL : trace;
 }

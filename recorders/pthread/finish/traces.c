@@ -48,6 +48,10 @@ struct trace {
     FILE *weak; /* lines about its weak acquisitions; NULL if it has none */
     char *weak_text;
     size_t weak_length;
+    const struct source *source; /* in whose set the trace is; NULL: it is one of all traces */
+    bool is_frame;               /* of that: it is of runs of the source */
+    bool may_interrupt;          /* the source, in what comes next */
+    bool is_told_off;            /* the trace says that it may not */
 };
 
 static bool is_try(enum mode mode) { return mode >= MODE_TRY_WRITE && mode <= MODE_TRY_REC_READ; }
@@ -90,6 +94,8 @@ void write_place(FILE *file, const struct place *place) {
 /* ---- Records. */
 
 static void write_line(FILE *file, const char *name, unsigned subclass, const char *mode) {
+    if (!file)
+        return;
     fputs(mode ? "acq," : "rel,", file);
     write_name(file, name);
     fprintf(file, ",%u%s%s\n", subclass, mode ? "," : "", mode ? mode : "");
@@ -109,6 +115,33 @@ static void write_event(struct trace *t, const struct held *h, const char *mode,
     t->events++;
 }
 
+#define ABOUT_INTERRUPTS 3 /* so many records of these may come with another one, and at the end */
+
+/* Of a set: a record about interrupts. */
+static void write_word(struct trace *t, const char *word, uint32_t place) {
+    fprintf(t->objects, "%s\n", word);
+    write_place(t->places, place ? place_numbered(t->arena, place) : NULL);
+    t->events++;
+}
+
+/* A trace says whether the source may interrupt before a lock is taken, and when it may with locks held. */
+static void tell_interrupts(struct trace *t, uint32_t place) {
+    if (!t->source || t->is_frame || t->may_interrupt != t->is_told_off)
+        return;
+    t->is_told_off = !t->may_interrupt;
+    write_word(t, t->is_told_off ? "off,hardirq" : "on,hardirq", place);
+}
+
+static void take_state(struct trace *t, const struct raw_record *r) {
+    add_content(&t->content, UINT64_C(1) << 62 | raw_object(r->what));
+    t->may_interrupt = t->source && may_interrupt(t->source, t->arena, t->raw, raw_object(r->what));
+    if (t->may_interrupt && t->written && t->events + 2 + 3 * MAX_HELD + ABOUT_INTERRUPTS <= MAX_EVENTS)
+        tell_interrupts(t, r->place);
+}
+
+/* What is left out is counted once, and not in each set again. */
+static void count(const struct trace *t, uint64_t *sum, uint64_t more) { *sum += t->source ? 0 : more; }
+
 /* Whether a place is in what a program has called by fork before and after. */
 static bool is_forking(const struct place *place) {
     for (uint32_t i = 0; i < place->count; i++)
@@ -126,9 +159,9 @@ static void drop_oldest(struct trace *t, const struct raw_record *r) {
     while (!t->held[oldest].is_written)
         oldest++;
     bool is_in_fork_call = is_forking(place_numbered(t->arena, r->place));
-    sums.in_fork += is_in_fork_call;
-    sums.deep += !is_in_fork_call;
-    dropped[t->held[oldest].key] += !is_in_fork_call;
+    count(t, &sums.in_fork, is_in_fork_call);
+    count(t, &sums.deep, !is_in_fork_call);
+    count(t, &dropped[t->held[oldest].key], !is_in_fork_call);
     t->held[oldest].is_written = false;
     t->written--;
     write_event(t, &t->held[oldest], NULL, r->place);
@@ -183,7 +216,7 @@ static const struct {
 
 static void tell_weak(struct trace *t, uint32_t what) {
     for (size_t i = 0; i < sizeof weak_kinds / sizeof *weak_kinds; i++) {
-        if (!raw_has(what, weak_kinds[i].added))
+        if (!raw_has(what, weak_kinds[i].added) || t->source)
             continue;
         if (!t->weak)
             t->weak = checked(open_memstream(&t->weak_text, &t->weak_length));
@@ -229,17 +262,19 @@ static void take(struct trace *t, const struct raw_record *r) {
         return;
     h.key = class_key_of(t->arena, h.object);
     if (is_try(mode) && t->version == 1)
-        sums.tries++;
+        count(t, &sums.tries, 1);
     else if (h.key >= MAX_KEYS)
-        sums.classes++;
-    else if (t->events + 2 + 3 * MAX_HELD > MAX_EVENTS) /* with a lock that is dropped, those set aside, and the releases at the end */
-        sums.raw.full++;
+        count(t, &sums.classes, 1);
+    else if (t->events + 2 + 3 * MAX_HELD + (t->source ? ABOUT_INTERRUPTS : 0) > MAX_EVENTS) /* with a lock that is dropped, those set aside, and the releases at the end */
+        count(t, &sums.raw.full, 1);
     else
         h.is_written = true;
     if (h.is_written && t->written == MAX_HELD)
         drop_oldest(t, r);
     if (h.is_written && is_in_order)
         set_aside(t, &h, r);
+    if (h.is_written)
+        tell_interrupts(t, r->place);
     if (h.is_written)
         write_event(t, &h, mode_words[mode], r->place);
     if (h.is_written)
@@ -321,7 +356,9 @@ static void write_records(struct trace *t) {
     if (own)
         take(t, &(struct raw_record){raw_what(own, MODE_WRITE), 0});
     for (uint64_t i = 0; i < t->raw->count; i++) {
-        const struct raw_record *r = record_of(t->arena, t->raw, i);
+        const struct raw_record *r = record_of(t->arena, t->raw, i), *state = r ? NULL : state_record_of(t->arena, t->raw, i);
+        if (state)
+            take_state(t, state);
         bool is_out = r && is_left_out(t->arena, raw_object(r->what));
         t->waits = waits_for_ever(t->raw) && !is_out && !(r && is_going_on(t->arena, raw_object(r->what)));
         if (!r || is_out)
@@ -383,9 +420,15 @@ static void close_files(struct trace *t, const struct names *n, bool is_kept) {
 /* The name of a thread that has one. */
 static void write_task(const char *folder, const struct trace *t) {
     const struct raw_process *process = part_of(t->arena, RAW_PROCESSES, t->raw->process);
-    if (!t->raw->name[0] || !process)
+    const struct raw_source *source = part_of(t->arena, RAW_SOURCES, t->raw->source);
+    char text[32];
+    if ((!t->raw->name[0] && !source) || !process)
         return;
     FILE *tasks = begun(&tasks_file, folder, "tasks");
+    if (source) {
+        fprintf(tasks, "%s.csv %u handler of %s\n", t->name, process->id, tell_signal(text, sizeof text, source->signal));
+        return;
+    }
     fprintf(tasks, "%s.csv %u ", t->name, process->id);
     for (const char *name = t->raw->name; name < t->raw->name + RAW_CALLED && *name; name++)
         putc((unsigned char)*name < ' ' ? '?' : *name, tasks);
@@ -414,6 +457,44 @@ static uint32_t write_trace(const char *folder, struct trace *t) {
     tell_last(t, n.trace);
     write_task(folder, t);
     return (uint32_t)sums.threads;
+}
+
+/* A trace of a set. Nothing is held at the end of a frame. */
+static void write_records_of_set(struct trace *t) {
+    if (t->is_frame)
+        write_word(t, "enter,hardirq", 0);
+    write_records(t);
+    while (t->is_frame && t->depth)
+        give_back(t, &(struct raw_record){raw_what(t->held[t->depth - 1].object, MODE_RELEASE), t->held[t->depth - 1].place});
+    if (t->is_frame)
+        write_word(t, "leave", 0);
+}
+
+/* Returns whether it has any event besides. */
+bool write_in_set(const char *folder, const struct source *source, struct arena *a, const struct raw_thread *raw, uint32_t number, bool is_frame) {
+    static struct trace t;
+    char path[4400], places[4500];
+    snprintf(path, sizeof path, "%s/task-%04lu.csv", folder, (unsigned long)number);
+    snprintf(places, sizeof places, "%s.places", path);
+    memset(&t, 0, sizeof t);
+    t.arena = a;
+    t.raw = raw;
+    t.version = 2;
+    t.source = source;
+    t.is_frame = is_frame;
+    t.objects = created(path);
+    t.places = created(places);
+    fputs("lockdep,2\n", t.objects);
+    begin_places(t.places);
+    write_place(t.places, NULL);
+    write_records_of_set(&t);
+    closed(t.objects, path);
+    closed(t.places, places);
+    if (t.events > (is_frame ? 2u : 0u))
+        return true;
+    unlink(path);
+    unlink(places);
+    return false;
 }
 
 static void add_left_out(const struct raw_left_out *from) {

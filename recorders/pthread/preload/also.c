@@ -35,19 +35,17 @@ struct once {
     struct once *before;
 };
 
-static EARLY_THREAD_LOCAL struct once *running;
-
 static void run_once(void) {
-    struct once *once = running;
-    running = once->before;
+    struct once *once = midst.once;
+    midst.once = once->before;
     if (once->is_recorded)
         end_wish(once->control, true, once->call);
     once->routine();
 }
 
 static void end_once(struct once *once) {
-    if (running == once)
-        running = once->before;
+    if (midst.once == once)
+        midst.once = once->before;
     if (!once->is_recorded)
         return;
     end_wish(once->control, true, once->call);
@@ -71,9 +69,9 @@ static inline void found_done(uintptr_t control, struct call call) {
             found_done((uintptr_t)control, HERE);                                                                      \
             return REAL(name)(control, routine);                                                                       \
         }                                                                                                              \
-        struct once once __attribute__((cleanup(end_once))) = {(uintptr_t)control, HERE, routine, false, running};     \
+        struct once once __attribute__((cleanup(end_once))) = {(uintptr_t)control, HERE, routine, false, midst.once};  \
         once.is_recorded = begin_wish(once.control, MODE_WRITE, KIND_RECURSIVE, once.call);                            \
-        running = &once;                                                                                               \
+        midst.once = &once;                                                                                            \
         return REAL(name)(control, run_once);                                                                          \
     }
 

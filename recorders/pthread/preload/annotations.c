@@ -56,6 +56,12 @@ static uint32_t text_numbered(const char *text, enum class_kind kind, struct cal
     return made && SWAP(slot, &number, made) ? made : number;
 }
 
+void name_lock(uintptr_t lock, const char *text, struct call call) {
+    uint32_t number = text_numbered(text, CLASS_NAMED, call);
+    if (number)
+        know_by_text(lock, CLASS_NAMED, number, call);
+}
+
 /* ---- The order of locks of one class. */
 
 struct order {
@@ -126,30 +132,27 @@ static void note_breach(struct raw_breach new, struct call call) {
 
 /* ---- How a lock is recorded that is taken. */
 
-/* What the thread says of its next acquisition of a lock; 0: of none. The lock's object tells whether that lock has ended meanwhile, as by
-   another thread; it is 0 if the lock wasn't known yet. */
-static EARLY_THREAD_LOCAL uintptr_t nested_lock;
-static EARLY_THREAD_LOCAL uint32_t next_subclass, nested_object;
-
+/* What the thread says of its next acquisition of a lock (own.h); 0: of none. The lock's object tells whether that lock has ended meanwhile, as
+   by another thread; it is 0 if the lock wasn't known yet. */
 void say_subclass(uintptr_t lock, uint32_t subclass) {
     uint32_t object = lock_object(lock);
-    nested_lock = lock;
-    next_subclass = subclass;
-    nested_object = object ? apart(lock, object) : 0;
+    midst.nested_lock = lock;
+    midst.next_subclass = subclass;
+    midst.nested_object = object ? apart(lock, object) : 0;
 }
 
 /* This thread has given the lock another object, by its name or by initialising it again. */
 void keep_nesting(uintptr_t lock) {
-    if (RARELY(nested_lock == lock))
-        nested_object = lock_object(lock);
+    if (RARELY(midst.nested_lock == lock))
+        midst.nested_object = lock_object(lock);
 }
 
 /* That acquisition of the lock is here. Returns whether it is still the same lock. */
 bool end_nesting(uintptr_t lock) {
-    if (nested_lock != lock)
+    if (midst.nested_lock != lock)
         return false;
-    nested_lock = 0;
-    return !is_single(nested_object) || lock_object(lock) == nested_object;
+    midst.nested_lock = 0;
+    return !is_single(midst.nested_object) || lock_object(lock) == midst.nested_object;
 }
 
 void forget_words(uintptr_t lock) {
@@ -160,7 +163,7 @@ void forget_words(uintptr_t lock) {
 }
 
 static uint32_t with_subclass(uintptr_t lock, uint32_t object) {
-    return end_nesting(lock) && next_subclass ? object_of_subclass(lock, object, next_subclass) : object;
+    return end_nesting(lock) && midst.next_subclass ? object_of_subclass(lock, object, midst.next_subclass) : object;
 }
 
 uint32_t subclass_held(uintptr_t lock) {
@@ -290,8 +293,8 @@ static void end_locks(uintptr_t from, unsigned long bytes, struct call call) {
         return;
     }
     end_own_holds(from, from + bytes, call);
-    if (nested_lock - from < bytes)
-        end_nesting(nested_lock);
+    if (midst.nested_lock - from < bytes)
+        end_nesting(midst.nested_lock);
     each_lock_between(from, from + bytes, note_given_out);
     drop_locks_between(from, from + bytes);
 }

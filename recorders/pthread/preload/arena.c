@@ -57,13 +57,15 @@ static const struct {
     [RAW_PROCESSES] = {1, 1 << 16, 2}, [RAW_CLASSES] = {4, 0xffff, 16},   [RAW_OBJECTS] = {2, 1 << 22, 16},
     [RAW_TAKES] = {2, 1 << 20, 16},    [RAW_THREADS] = {8, 1 << 20, 3},   [RAW_FILES] = {1, 1 << 12, 0},
     [RAW_PROGRAMS] = {1, 1 << 10, 0},  [RAW_LOOKS] = {1, 0xffff, 0},      [RAW_TEXTS] = {1, 1 << 12, 0},
-    [RAW_BREACHES] = {1, 1 << 12, 0},  [RAW_LIVES] = {1, 1 << 20, 0},
+    [RAW_BREACHES] = {1, 1 << 12, 0},  [RAW_LIVES] = {1, 1 << 20, 0},  [RAW_SOURCES] = {1, 1 << 10, 0},
+    [RAW_RUNS] = {1, 1 << 20, 0},      [RAW_STATES] = {1, 1 << 14, 0},
     [RAW_MODULES] = {10, 1 << 13, 5},  [RAW_PLACES] = {12, 1 << 20, 24},
 };
 
 /* In which order the first ones lie, and which kinds come after the first records. Places are last, since of them most are unused. */
 static const enum raw_kind order[RAW_KINDS] = {RAW_PROCESSES, RAW_THREADS, RAW_CLASSES, RAW_OBJECTS, RAW_TAKES,
-                                               RAW_FILES, RAW_PROGRAMS, RAW_LOOKS, RAW_TEXTS, RAW_BREACHES, RAW_LIVES, RAW_MODULES, RAW_PLACES};
+                                               RAW_FILES, RAW_PROGRAMS, RAW_LOOKS, RAW_TEXTS, RAW_BREACHES, RAW_LIVES,
+                                               RAW_SOURCES, RAW_RUNS, RAW_STATES, RAW_MODULES, RAW_PLACES};
 #define AFTER_RECORDS RAW_MODULES
 
 static uint64_t rounded(uint64_t n, uint64_t to) { return (n + to - 1) / to * to; }
@@ -214,6 +216,11 @@ void *take_private(size_t bytes) {
     return is_much ? private_from + private_room - used : private_from + used - bytes;
 }
 
+/* For what can be done without: it may have no more than half of the room. */
+void *take_spare(size_t bytes) {
+    return LOAD(&private_used) + LOAD(&private_used_above) + bytes <= private_room / 2 ? take_private(bytes) : NULL;
+}
+
 /* ---- The beginning. */
 
 static struct raw_arena *map_file(int file, uint64_t allowed) {
@@ -286,6 +293,7 @@ static struct raw_arena *make_file(const char *folder, uint32_t id, uint64_t all
 static uint32_t process_id(void) { return (uint32_t)SYSTEM(getpid); }
 
 static void note_process(uint32_t id, uint32_t parent) {
+    STORE(&own_id, id);
     own_process = take_part(RAW_PROCESSES);
     if (!own_process)
         return;

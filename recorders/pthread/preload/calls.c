@@ -28,22 +28,28 @@ static EARLY_THREAD_LOCAL volatile bool resolving;
 
 /* Whether the real functions can be found when they are called. Where that takes more than a look at what the libraries have, all are
    looked for at once, since the loader's lock may not be waited for later. That may call malloc, and a malloc of the program's own may
-   lock: such a call of the thread that looks them up does nothing. Others wait. */
-static bool look_up(void) {
+   lock: such a call of the thread that looks them up does nothing, nor does one by a signal's handler that interrupts it. Others wait. */
+static bool look_up_all(void) {
     if (resolving)
         return false;
+    resolving = true; /* before the state says so: a handler that comes then may not wait for what it has interrupted */
     int state = 0;
     if (SWAP(&resolve_state, &state, 1)) {
-        resolving = true;
-        if (!finds_quickly()) {
-            REALS(FIND_REAL)
-        }
-        resolving = false;
+        REALS(FIND_REAL)
         STORE(&resolve_state, 2);
-        begin_once();
     }
+    resolving = false;
     while (LOAD(&resolve_state) != 2)
         sched_yield();
+    begin_once();
+    return true;
+}
+
+static bool look_up(void) {
+    if (!finds_quickly())
+        return look_up_all();
+    STORE(&resolve_state, 2);
+    begin_once();
     return true;
 }
 
@@ -144,7 +150,7 @@ static inline bool knows_owner(const pthread_mutex_t *lock) {
 __attribute__((noinline)) static int release_unseen(int (*release)(void *), void *lock, struct call call) {
     int answer = release(lock);
     if (answer == 0)
-        released_unseen(call);
+        released_unseen((uintptr_t)lock, call);
     return answer;
 }
 

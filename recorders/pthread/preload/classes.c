@@ -1,214 +1,9 @@
-/* Places, classes and objects.
+/* Classes and objects.
 
    A class is where a lock was initialised; else what static lock it is; else where its memory was allocated, and where in that
    memory it is; else in which function's frame it lies; else where it was first taken. An object is one of the first RAW_APART of the
    class's locks that were nested with others: all others of the class are one object. */
 #include "own.h"
-
-/* ---- Places. */
-
-static struct names places;
-
-static uint64_t stack_key(const struct stack *stack) {
-    uint64_t key = mixed(stack->element) ^ stack->callers[0];
-    for (uint32_t i = 1; i < stack->count; i++)
-        key = mixed(key) ^ stack->callers[i];
-    return mixed(key);
-}
-
-static uint32_t define_place(const struct stack *stack) {
-    uint32_t number = take_part(RAW_PLACES);
-    if (!number)
-        return 0;
-    struct raw_place *place = part_of(RAW_PLACES, number);
-    for (uint32_t i = 0; i < stack->count; i++)
-        place->callers[i] = word_of(stack->callers[i]);
-    place->element = stack->element;
-    STORE(&place->count, stack->count);
-    return number;
-}
-
-/* The value of a slot, or the new one if it has none. Of two that are put at once the first counts. */
-static uint32_t settled(uint32_t *slot, uint32_t new) {
-    uint32_t there = 0;
-    return !new || SWAP(slot, &there, new) ? new : there;
-}
-
-uint32_t place_of(const struct stack *stack) {
-    uint32_t *slot = added_slot(&places, stack_key(stack));
-    if (!slot)
-        return 0;
-    uint32_t place = LOAD(slot);
-    return LIKELY(place) ? place : settled(slot, define_place(stack));
-}
-
-uint32_t place_of_caller(uintptr_t caller) {
-    struct stack stack;
-    stack.element = 0;
-    stack.count = 1;
-    stack.callers[0] = caller;
-    return place_of(&stack);
-}
-
-/* ---- Stacks that were met before, so that they aren't followed again: if all return addresses of one still stand where they were
-   found, it is the same. The sum of all of it tells a reader that comes while it is written. */
-
-#define MEMOS 1024
-#define FIRST_MEMOS 4
-
-struct memo {
-    uintptr_t caller, frame;
-    uint64_t sum;
-    uint32_t count, place;
-    uint32_t at[RAW_FRAMES];
-    uintptr_t callers[RAW_FRAMES];
-};
-
-TABLE(struct memo, memos, FIRST_MEMOS, MEMOS);
-static uint32_t memos_in_use = FIRST_MEMOS, memos_made; /* as with the rules of stacks */
-
-static uint64_t sum_start(struct call call, uint32_t count, uint32_t place) {
-    return (call.caller ^ call.frame << 16) + ((uint64_t)LOAD(&rules_epoch) << 48 ^ (uint64_t)count << 32 ^ place) + 1;
-}
-
-static bool is_same_stack(const struct memo *memo, struct call call, uint32_t most) {
-    uint32_t count = LOAD(&memo->count);
-    if (memo->caller != call.caller || memo->frame != call.frame || count == 0 || count > most ||
-        !is_in_stack(call, memo->at[count - 1]))
-        return false;
-    uint64_t sum = sum_start(call, count, memo->place);
-    for (uint32_t i = 1; i < count; i++) {
-        uint32_t at = memo->at[i];
-        if (at > memo->at[count - 1] || *(const uintptr_t *)(call.frame + (at & ~7u)) != memo->callers[i])
-            return false;
-        sum += memo->callers[i] ^ (uint64_t)at << 32;
-    }
-    return sum == LOAD(&memo->sum);
-}
-
-static void remember(struct memo *memo, const struct stack *stack, struct call call, uint32_t place) {
-    uint64_t sum = sum_start(call, stack->count, place);
-    if (RARELY(ADD(&memos_made, 1) == FIRST_MEMOS))
-        STORE(&memos_in_use, MEMOS);
-    STORE(&memo->sum, 0);
-    memo->caller = call.caller;
-    memo->frame = call.frame;
-    memo->place = place;
-    for (uint32_t i = 1; i < stack->count; i++) {
-        AS_WRITTEN;
-        memo->at[i] = stack->at[i];
-        memo->callers[i] = stack->callers[i];
-        sum += stack->callers[i] ^ (uint64_t)stack->at[i] << 32;
-    }
-    STORE(&memo->count, stack->count);
-    STORE(&memo->sum, sum);
-}
-
-static inline struct memo *memo_of(struct call call) {
-    uint64_t which = (call.caller ^ call.caller >> 10 ^ call.frame >> 3) & (__atomic_load_n(&memos_in_use, __ATOMIC_RELAXED) - 1);
-    return NTH(memos, which);
-}
-
-uint32_t place_of_call(struct call call, uint32_t most) {
-    struct memo *memo = memo_of(call);
-    if (LIKELY(is_same_stack(memo, call, most)))
-        return memo->place;
-    struct stack stack;
-    take_stack(&stack, call, most);
-    uint32_t place = place_of(&stack);
-    if (place && stack.is_bounded && stack.count > 1)
-        remember(memo, &stack, call, place);
-    return place;
-}
-
-/* ---- The place of a piece of memory. A call whose stacks vary, as in a program that interprets another one, is looked for among those
-   that were met with the same innermost callers. If these were met in many stacks they alone tell the call: to follow and keep ever new
-   stacks takes several times what malloc does. */
-
-#define PIECE_FRAMES 12
-#define INNERMOST 4 /* the callers that a name has, and an operator of C++ */
-#define MOST_STACKS 256
-#define INNER_MEMOS 4096
-#define FIRST_INNER_MEMOS 4
-
-TABLE(struct memo, inner_memos, FIRST_INNER_MEMOS, INNER_MEMOS);
-static struct names stacks_of_calls; /* how many stacks were met, by the innermost callers */
-
-/* The place of a stack, which is counted if it is new. */
-static uint32_t counted_place(const struct stack *stack, uint32_t *met) {
-    uint32_t *slot = added_slot(&places, stack_key(stack));
-    if (!slot)
-        return 0;
-    uint32_t place = LOAD(slot);
-    if (LIKELY(place))
-        return place;
-    if (met)
-        ADD(met, 1);
-    return settled(slot, define_place(stack));
-}
-
-/* The same of a stack of which the innermost callers are known. */
-static __attribute__((noinline)) uint32_t place_of_varied(struct call call, struct stack *stack, struct memo *memo, struct memo *inner) {
-    uint32_t *met = added_slot(&stacks_of_calls, stack_key(stack));
-    if (!met || LOAD(met) < MOST_STACKS)
-        take_stack(stack, call, PIECE_FRAMES);
-    uint32_t place = counted_place(stack, met);
-    if (place && stack->is_bounded && stack->count > 1) {
-        remember(memo, stack, call, place);
-        remember(inner, stack, call, place);
-    }
-    return place;
-}
-
-uint32_t place_of_piece(struct call call) {
-    struct memo *memo = memo_of(call);
-    if (LIKELY(is_same_stack(memo, call, PIECE_FRAMES)))
-        return memo->place;
-    struct stack stack;
-    take_stack(&stack, call, INNERMOST);
-    bool are_many = __atomic_load_n(&memos_in_use, __ATOMIC_RELAXED) > FIRST_MEMOS;
-    uint64_t which = (stack_key(&stack) ^ call.frame >> 4) & ((are_many ? INNER_MEMOS : FIRST_INNER_MEMOS) - 1);
-    struct memo *inner = NTH(inner_memos, which);
-    return is_same_stack(inner, call, PIECE_FRAMES) ? inner->place : place_of_varied(call, &stack, memo, inner);
-}
-
-/* By a place and the size of an element: the place of arrays. The last ones are found again in a word each: the key, and the place in its
-   lowest bits. */
-#define ARRAY_MEMOS 256
-#define ARRAY_PLACE ((UINT64_C(1) << 21) - 1) /* more than there are places */
-
-static struct names arrays;
-static uint64_t array_memos[ARRAY_MEMOS] LARGE;
-
-static __attribute__((noinline)) uint32_t place_of_new_array(struct call call, uint64_t key, uint64_t element) {
-    uint32_t *slot = added_slot(&arrays, key);
-    uint32_t place = slot ? LOAD(slot) : 0;
-    if (LIKELY(place || !slot))
-        return place;
-    struct stack stack;
-    take_stack(&stack, call, PIECE_FRAMES);
-    stack.element = element;
-    return settled(slot, place_of(&stack));
-}
-
-uint32_t place_of_array(struct call call, uint64_t element) {
-    uint32_t plain = place_of_piece(call);
-    if (!plain)
-        return 0;
-    uint64_t key = mixed(mixed(plain) ^ element), *memo = &array_memos[(key >> 32) % ARRAY_MEMOS];
-    uint64_t known = __atomic_load_n(memo, __ATOMIC_RELAXED);
-    if (LIKELY((known ^ key) <= ARRAY_PLACE && known & ARRAY_PLACE))
-        return (uint32_t)(known & ARRAY_PLACE);
-    uint32_t place = place_of_new_array(call, key, element);
-    __atomic_store_n(memo, (key & ~ARRAY_PLACE) | place, __ATOMIC_RELAXED);
-    return place;
-}
-
-static uint32_t place_here(struct call call) {
-    struct stack stack;
-    take_stack(&stack, call, RAW_FRAMES);
-    return place_of(&stack);
-}
 
 /* ---- What the library keeps of each class, in blocks that are made when they are needed. */
 
@@ -368,6 +163,12 @@ void note_given_out(uintptr_t lock) {
 static bool is_given_out(uintptr_t lock, uint32_t by) {
     const uint32_t *slot = name_slot(&given_out, mixed(lock));
     return slot && LOAD(slot) == by;
+}
+
+static uint32_t place_here(struct call call) {
+    struct stack stack;
+    take_stack(&stack, call, RAW_FRAMES);
+    return place_of(&stack);
 }
 
 static uint32_t class_by_taker(struct call call) {
@@ -620,24 +421,4 @@ uint32_t class_of_threads(uintptr_t run, struct call call) {
 uint32_t next_object(uint32_t class) {
     struct kept_of_class *kept = kept_of(class);
     return object_numbered(class, kept ? taken_ordinal(kept) : 0);
-}
-
-/* ---- A library was closed: places in it, and classes by them, are to be defined anew if the same addresses come again. */
-
-static bool is_place_gone(uint32_t number) {
-    const struct raw_place *place = part_of(RAW_PLACES, number);
-    for (uint32_t i = 0; i < place->count; i++)
-        if (is_gone(raw_word_module(place->callers[i])))
-            return true;
-    return false;
-}
-
-static void forget_gone_place(uint32_t *value) {
-    if (is_place_gone(*value))
-        STORE(value, 0);
-}
-
-void forget_places_in_closed_modules(void) {
-    each_name(&places, forget_gone_place);
-    each_name(&arrays, forget_gone_place);
 }

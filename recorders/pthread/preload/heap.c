@@ -1,8 +1,10 @@
 /* Memory: for each live piece that malloc and its like have given out, and that has room for a lock, where that was and how long
    it is. The operators `new` of C++ call malloc, so their callers are among the callers of that.
 
-   Pieces are kept by address, in lines of some slots, in levels of which each has more lines than the one before. */
+   Pieces are kept by address, in lines of some slots, in levels of which each has more lines than the one before. Of a program that
+   has many, short ones are kept in words of short.h instead. */
 #include "held.h"
+#include "short.h"
 
 #include <errno.h>
 #include <malloc.h>
@@ -73,18 +75,27 @@ static bool put_in_level(int level, uintptr_t address, uint64_t about) {
     return true;
 }
 
-static void put_piece(uintptr_t address, uint64_t about) {
-    int level = LOAD(&main_level_of_pieces);
-    if (LIKELY(put_in_level(level, address, about)))
-        return;
+/* From this level on short pieces are kept apart. */
+#define MANY_LEVEL 2
+
+/* ... of a piece whose line is full in the main level. */
+static __attribute__((noinline)) void put_in_next_level(int level, uintptr_t address, uint64_t about) {
     if (level + 1 < LEVELS && is_crowded(ADD(&overflows, 1), bits[level])) {
         STORE(&overflows, 0);
         STORE(&main_level_of_pieces, level + 1);
+        if (level + 1 == MANY_LEVEL)
+            begin_short();
     }
     while (++level < LEVELS)
         if (put_in_level(level, address, about))
             return;
     ADD(&arena->unknown, 1);
+}
+
+static inline void put_piece(uintptr_t address, uint64_t about) {
+    int level = LOAD(&main_level_of_pieces);
+    if (RARELY(!put_in_level(level, address, about)))
+        put_in_next_level(level, address, about);
 }
 
 /* Where a search goes on: in which level, as they are gone through, and in its line. */
@@ -120,7 +131,7 @@ static inline struct slot *find_in_line(struct slot *line, uintptr_t address) {
     return NULL;
 }
 
-static struct slot *find_piece(uintptr_t address) {
+static struct slot *find_slot(uintptr_t address) {
     struct slot *found = NULL;
     int main_level = LOAD(&main_level_of_pieces);
     for (int n = 0; !found && n < LEVELS; n++) {
@@ -142,7 +153,7 @@ static uint64_t part_key(int size_bits, uint64_t part) { return UINT64_C(1) << 6
 
 static int bits_of(uint64_t size) { return 63 - __builtin_clzll(size); }
 
-static void put_parts(uintptr_t start, uint64_t size) {
+static __attribute__((noinline)) void put_parts(uintptr_t start, uint64_t size) {
     int size_bits = bits_of(size);
     for (uint64_t part = start >> size_bits; part <= (start + size - 1) >> size_bits; part++)
         put_piece(part_key(size_bits, part), start);
@@ -165,20 +176,33 @@ static void take_parts_out(uintptr_t start, uint64_t size) {
 
 /* ---- Pieces that come and go. */
 
-/* `element` is that of an array, as in raw_place. */
-static inline void put_noted(void *piece, size_t size, uint64_t element, struct call call) {
-    if (RARELY(size >> MOST_BITS))
-        return;
-    uint64_t place = RARELY(element) ? place_of_array(call, element) : place_of_piece(call);
-    put_piece((uintptr_t)piece, (uint64_t)size << SIZE_SHIFT | place);
-    note_own_piece((uintptr_t)piece);
-    if (RARELY(size >= LONG_PIECE))
-        put_parts((uintptr_t)piece, size);
+static inline bool is_noted_size(size_t size) { return LIKELY(size - LEAST_LOCK < (UINT64_C(1) << MOST_BITS) - LEAST_LOCK); }
+
+/* A word that an earlier piece left, whose end wasn't seen, says nothing any more. */
+static inline void put_long(uintptr_t address, uint64_t about) {
+    uint64_t *word = short_word(address);
+    if (RARELY(word && LOAD(word)))
+        STORE(word, 0);
+    put_piece(address, about);
+    if (RARELY(about >> SIZE_SHIFT >= LONG_PIECE))
+        put_parts(address, about >> SIZE_SHIFT);
 }
 
-/* What was known of a piece, which is taken out; 0 if nothing was. */
-static uint64_t taken_piece(uintptr_t address) {
-    struct slot *slot = find_piece(address);
+static inline void put_anywhere(uintptr_t address, uint64_t about) {
+    uint64_t *word = about >> SIZE_SHIFT < SHORT_PIECE ? made_short_word(address) : NULL;
+    if (LIKELY(word))
+        STORE(word, about);
+    else
+        put_long(address, about);
+}
+
+static inline void put_noted(void *piece, size_t size, const struct asked *asked) {
+    put_anywhere((uintptr_t)piece, (uint64_t)size << SIZE_SHIFT | place_of_piece(asked));
+    note_own_piece((uintptr_t)piece);
+}
+
+static __attribute__((noinline)) uint64_t taken_from_slot(uintptr_t address) {
+    struct slot *slot = find_slot(address);
     if (!slot)
         return 0;
     uint64_t about = LOAD(&slot->about);
@@ -188,12 +212,32 @@ static uint64_t taken_piece(uintptr_t address) {
     return about;
 }
 
-void note_piece(void *piece, size_t size, uint64_t element, struct call call) { put_noted(piece, size, element, call); }
+/* What was known of a piece, which is taken out; 0 if nothing was. */
+static inline uint64_t taken_piece(uintptr_t address) {
+    uint64_t *word = short_word(address), about = word ? LOAD(word) : 0;
+    if (RARELY(!about))
+        return taken_from_slot(address);
+    STORE(word, 0);
+    return about;
+}
+
+/* Where it is written what is noted of a piece, or NULL. */
+static uint64_t *find_piece(uintptr_t address) {
+    uint64_t *word = short_word(address);
+    struct slot *slot = word && LOAD(word) ? NULL : find_slot(address);
+    return slot ? &slot->about : word && LOAD(word) ? word : NULL;
+}
+
+void note_piece(void *piece, size_t size, uint64_t element, struct call call) {
+    struct asked asked = ask_for_piece(call, element);
+    if (is_noted_size(size))
+        put_noted(piece, size, &asked);
+}
 
 /* A piece that ends where it was told to. */
 void drop_piece(uintptr_t address, size_t size) {
-    const struct slot *slot = find_piece(address);
-    if (slot && LOAD(&slot->about) >> SIZE_SHIFT <= size)
+    const uint64_t *about = find_piece(address);
+    if (about && LOAD(about) >> SIZE_SHIFT <= size)
         taken_piece(address);
 }
 
@@ -220,30 +264,34 @@ __attribute__((noinline)) static void end_locks(uintptr_t address, uint64_t abou
 
 #define ALIGNMENT 16
 
-static struct slot *piece_at(uintptr_t start, uintptr_t lock) {
-    struct slot *slot = start <= lock ? find_piece(start) : NULL;
-    return slot && lock - start < LOAD(&slot->about) >> SIZE_SHIFT ? slot : NULL;
+/* A piece in which a lock is: where it begins, and what is noted of it. */
+struct piece {
+    uintptr_t from;
+    uint64_t *about;
+};
+
+static bool is_piece_at(uintptr_t start, uintptr_t lock, struct piece *piece) {
+    *piece = (struct piece){start, start <= lock ? find_piece(start) : NULL};
+    return piece->about && lock - start < LOAD(piece->about) >> SIZE_SHIFT;
 }
 
-static struct slot *long_piece_in(uint64_t key, uintptr_t lock) {
+static bool is_in_long_piece(uint64_t key, uintptr_t lock, struct piece *piece) {
     struct search search = new_search();
-    for (struct slot *part; (part = next_slot(key, &search));) {
-        struct slot *slot = piece_at(LOAD(&part->about), lock);
-        if (slot)
-            return slot;
-    }
-    return NULL;
+    for (struct slot *part; (part = next_slot(key, &search));)
+        if (is_piece_at(LOAD(&part->about), lock, piece))
+            return true;
+    return false;
 }
 
 /* A short piece is found by going back from the lock through all addresses at which one can begin. */
-static struct slot *piece_around(uintptr_t lock) {
-    struct slot *slot = NULL;
+static bool find_piece_around(uintptr_t lock, struct piece *piece) {
     uintptr_t last = lock & ~(uintptr_t)(ALIGNMENT - 1);
-    for (uintptr_t back = 0; !slot && back < LONG_PIECE && back <= last; back += ALIGNMENT)
-        slot = piece_at(last - back, lock);
-    for (int size_bits = LONG_BITS; !slot && size_bits < MOST_BITS; size_bits++)
-        slot = long_piece_in(part_key(size_bits, lock >> size_bits), lock);
-    return slot;
+    bool is_found = false;
+    for (uintptr_t back = 0; !is_found && back < LONG_PIECE && back <= last; back += ALIGNMENT)
+        is_found = is_piece_at(last - back, lock, piece);
+    for (int size_bits = LONG_BITS; !is_found && size_bits < MOST_BITS; size_bits++)
+        is_found = is_in_long_piece(part_key(size_bits, lock >> size_bits), lock, piece);
+    return is_found;
 }
 
 /* Notes that the piece has this lock. What was noted before is returned. */
@@ -263,11 +311,11 @@ static uint64_t mark_lock(uint64_t *at, uint64_t offset) {
 
 /* Whether the lock is in a piece that is known, and where that was allocated. The piece is marked as one with locks. */
 bool find_memory(uintptr_t lock, struct memory *memory) {
-    struct slot *slot = piece_around(lock);
+    struct piece piece;
     *memory = (struct memory){0, 0, 0};
-    if (!slot)
+    if (!find_piece_around(lock, &piece))
         return false;
-    uint64_t from = LOAD(&slot->address), about = mark_lock(&slot->about, lock - from);
+    uint64_t from = piece.from, about = mark_lock(piece.about, lock - from);
     uint32_t place = (uint32_t)(about & ((UINT64_C(1) << PLACE_BITS) - 1));
     if (!place || (lock - from >= KNOWN_OF_MAPPED && is_mapped_place(place)))
         return false;
@@ -284,7 +332,9 @@ bool find_memory(uintptr_t lock, struct memory *memory) {
 REALS(DECLARE)
 RARE_REALS(KNOWN_REAL)
 
-static int resolve_state; /* 0 not begun, 1 under way, 2 done */
+static int resolve_state; /* 0 not begun, 1 under way, then DONE or HEEDED */
+enum { DONE = 2, HEEDED };
+static bool is_heeded;
 
 #define EARLY_BYTES 65536
 static char early[EARLY_BYTES] LARGE;
@@ -302,38 +352,62 @@ static bool is_early(const void *p) { return (const char *)p >= early && (const 
 
 #define FIND(name) real_##name = (__typeof__(&name))find_next(#name);
 
-static bool look_up(void) {
-    int state = 0;
-    if (SWAP(&resolve_state, &state, 1)) {
+/* Whether the real functions are known. What is to be recorded of each call comes this way too, so that other calls have nothing to do for it. */
+__attribute__((noinline)) static bool look_up(struct call call) {
+    int state = LOAD(&resolve_state);
+    if (!state && SWAP(&resolve_state, &state, 1)) {
         REALS(FIND)
         if (!finds_quickly()) {
             RARE_REALS(FIND_REAL)
         }
-        STORE(&resolve_state, 2);
+        STORE(&resolve_state, is_heeded ? HEEDED : DONE);
     }
-    return LOAD(&resolve_state) == 2;
+    if (state == HEEDED && call.frame)
+        use_allocator(call);
+    return LOAD(&resolve_state) >= DONE;
 }
 
-static inline bool resolved(void) { return LIKELY(LOAD(&resolve_state) == 2) || look_up(); }
+void heed_allocator(void) {
+    int state = DONE;
+    is_heeded = true;
+    SWAP(&resolve_state, &state, HEEDED);
+}
 
-/* The size of an array that C++ asks for, from its operator `new[]` to the malloc that this comes to. */
-EARLY_THREAD_LOCAL size_t array_asked_for;
+static inline bool resolved_for(struct call call) { return LIKELY(LOAD(&resolve_state) == DONE) || look_up(call); }
+
+#define NO_CALL ((struct call){0, 0})
+#define resolved() resolved_for(HERE)
+
+static inline uint64_t asked_element(size_t size) {
+    uint64_t element = 0;
+    if (RARELY(midst.array_asked_for)) {
+        element = midst.array_asked_for == size ? RAW_ARRAY : 0;
+        midst.array_asked_for = 0;
+    }
+    return element;
+}
 
 static inline void *noted(void *piece, size_t size, struct call call) {
-    uint64_t element = 0;
-    if (RARELY(array_asked_for)) {
-        element = array_asked_for == size ? RAW_ARRAY : 0;
-        array_asked_for = 0;
-    }
-    if (LIKELY(piece && size >= LEAST_LOCK && arena))
-        put_noted(piece, size, element, call);
+    uint64_t element = asked_element(size);
+    if (LIKELY(piece && arena))
+        note_piece(piece, size, element, call);
     return piece;
 }
 
 /* ---- malloc and its like. */
 
-EXPORT void *malloc(size_t size) {
-    return resolved() ? noted(real_malloc(size), size, HERE) : early_memory(size);
+/* All of it in one function, since programs call it more than anything else. */
+EXPORT __attribute__((flatten)) void *malloc(size_t size) {
+    if (!resolved())
+        return early_memory(size);
+    uint64_t element = asked_element(size);
+    if (RARELY(!is_noted_size(size) || !arena))
+        return real_malloc(size);
+    struct asked asked = ask_for_piece(HERE, element);
+    void *piece = real_malloc(size);
+    if (LIKELY(piece))
+        put_noted(piece, size, &asked);
+    return piece;
 }
 
 /* The size of an array's elements, or 0 if it is one object or one of bytes. */
@@ -342,8 +416,8 @@ static uint64_t element_of(size_t count, size_t size) { return count > 1 && size
 EXPORT void *calloc(size_t count, size_t size) {
     if (resolved()) {
         void *piece = real_calloc(count, size);
-        if (LIKELY(piece && count * size >= LEAST_LOCK && arena))
-            put_noted(piece, count * size, element_of(count, size), HERE);
+        if (LIKELY(piece && arena))
+            note_piece(piece, count * size, element_of(count, size), HERE);
         return piece;
     }
     return size && count > EARLY_BYTES / size ? NULL : early_memory(count * size);
@@ -352,7 +426,7 @@ EXPORT void *calloc(size_t count, size_t size) {
 static inline uint64_t taken_if_noted(void *piece) { return arena && piece ? taken_piece((uintptr_t)piece) : 0; }
 
 EXPORT void free(void *piece) {
-    if (RARELY(is_early(piece)) || !resolved())
+    if (RARELY(is_early(piece)) || !resolved_for(piece ? HERE : NO_CALL))
         return;
     uint64_t about = taken_if_noted(piece);
     if (RARELY(locks_of(about)))
@@ -376,12 +450,10 @@ static void *reallocated(void *piece, size_t size, uint64_t element, struct call
     if (made || !size)
         end_holds((uintptr_t)piece, made == piece ? size : 0, about, call.caller);
     if (!made && size && about) {
-        put_piece((uintptr_t)piece, about & ~ALL_LOCKS);
-        if (about >> SIZE_SHIFT >= LONG_PIECE)
-            put_parts((uintptr_t)piece, about >> SIZE_SHIFT);
+        put_anywhere((uintptr_t)piece, about & ~ALL_LOCKS);
     }
-    if (LIKELY(made && size >= LEAST_LOCK && arena))
-        put_noted(made, size, element, call);
+    if (LIKELY(made && arena))
+        note_piece(made, size, element, call);
     return made;
 }
 

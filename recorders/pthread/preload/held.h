@@ -33,17 +33,17 @@ struct links {
     uint32_t what[READERS];
 };
 
-/* The last time that a lock was taken on top of so many others. */
+/* The last time that a lock was taken on top of so many others, while these are held. */
 struct level {
-    uint64_t start; /* how many records there were before it */
+    uint64_t start; /* how many records there were before it; NO_LEVEL: none was taken yet */
     uint64_t hash;  /* of the locks that were held then */
 };
 
 /* What is known at one depth of nesting. */
 struct entry {
+    struct level level; /* close to what the one before has last, since both are written at once */
     struct held held;
     struct links links;
-    struct level level;
 };
 
 struct step {
@@ -63,6 +63,7 @@ struct step {
 #define MOST_STEPS 1024
 
 #define NO_LOCK UINTPTR_MAX
+#define NO_LEVEL UINT64_MAX
 
 #define PLACES 16
 #define OWN_LOCKS 16
@@ -73,6 +74,14 @@ struct step {
 struct own_piece {
     uintptr_t address;
     uint32_t handed_on;
+};
+
+/* A record of a state. */
+#define TURNS 8
+struct turn {
+    uint64_t at; /* so many records were there before */
+    uint64_t on;
+    uint32_t state;
 };
 
 /* The function of the loader's that a thread is in, or was in when it came last. */
@@ -95,16 +104,26 @@ struct thread {
     uintptr_t failed;      /* the lock of that try */
     struct loading loading;
     struct call wish; /* the call in which it waits for a lock, the outermost if a signal's handler waits too; frame 0: in none */
+    uint64_t is_turned;    /* it may be in another state than its records say, or its handlers have left it locks */
     struct raw_record *records; /* the chunk that the last record came to: it has those from one number on, and so many */
     uint64_t records_from, records_room;
     struct raw_record *chunks[RAW_CHUNKS];
     uint32_t number;   /* of its trace */
+    uint32_t source;   /* of whose runs it is; 0: it is a thread's own code */
+    uint32_t epoch;    /* of the handlers, when its state was looked at last */
+    uint32_t state;    /* which its records say */
+    uint64_t on;       /* the signals that may interrupt in that */
+    uint32_t turn_count;
+    bool has_lost_turns;
+    bool has_allocated; /* in this state, and, of a run of a handler, in this run: that is recorded once */
+    struct turn turns[TURNS]; /* the last records of a state; what was taken back may still be among them */
+    bool is_running;   /* of a source: a run of it is under way */
+    struct thread *next_run; /* of the same thread of the system's */
     uint32_t is_taken; /* some thread has this */
     uint32_t steps_room, steps_replaced;
     struct step *all_steps; /* room for so many; NULL until it is needed */
     uint64_t *seen;     /* a set of the ways in which a lock was taken under others */
     size_t seen_mask, seen_used;
-    int destructor_rounds;
     uint32_t unnoted; /* so many holds there are without an entry */
     uint32_t *held_by_trace; /* room for mending; NULL until it is needed */
     uintptr_t own_locks[OWN_LOCKS]; /* the last ones that were met first by it, in its frames or among its own variables; 0: none */
@@ -118,14 +137,57 @@ struct thread {
         uintptr_t caller;
         uint32_t epoch, place;
     } places[PLACES]; /* of callers that it met last */
-    struct entry first_entries[1 + FIRST_HELD]; /* the one before the first is of no lock */
+    struct entry first_entries[1 + FIRST_HELD + 1]; /* the one before the first is of no lock, and the last one has a level alone */
+};
+
+/* ---- Runs of signals' handlers. Each is a thread of its own in the recording, and what it has interrupted is kept meanwhile. */
+
+#define MOST_RUNS 8 /* that interrupt one another; what comes on top of so many counts as called there */
+
+struct interrupted {
+    uintptr_t frame; /* of the run's function; written last, and 0 if nothing is kept here */
+    struct thread *thread;
+    uintptr_t inside_caller, inside_frame;
+    struct midst midst;
+    uint32_t source;      /* of what runs on top of it */
+    bool is_continuation; /* that is a call that it made, as it were */
+    bool is_on_own_stack; /* that has a stack of its own */
+};
+
+/* A lock that a run has left locked: it belongs to what was interrupted. */
+#define MOST_LEFT 16
+struct left {
+    uintptr_t lock;
+    uint32_t object, level; /* which of the interrupted has it: so many runs are below that */
+    uint8_t mode, kind;
+};
+
+#define KNOWN_RUNS 8
+
+struct runs { /* of a thread of the system's */
+    uint32_t is_taken, depth;
+    uint32_t left_count;
+    struct thread *threads; /* of all sources that ran in it */
+    struct interrupted interrupted[MOST_RUNS];
+    struct {
+        uint32_t source;
+        struct raw_run *run;
+    } known[KNOWN_RUNS];
+    struct left left[MOST_LEFT];
+    struct runs *next;
 };
 
 /* What each thread looks at first. */
 struct self {
     struct thread *thread; /* NULL: none yet, or not any more */
     volatile uintptr_t inside_caller, inside_frame; /* of its call of the recorder. The frame is written last, and is 0 if it is outside. */
-    bool is_ended;
+    bool is_ended, is_mask_known;
+    bool is_changing_mask; /* by a call that is under way */
+    uint8_t destructor_rounds;
+    uint8_t waiting_level; /* one more than how many runs there were when it waits with another mask; 0: it doesn't wait so */
+    uint32_t system_thread;
+    uint64_t mask, waiting_mask; /* which signals are blocked in it, as far as known */
+    struct runs *runs; /* NULL if no handler has run in it yet */
 };
 extern EARLY_THREAD_LOCAL struct self self;
 
@@ -143,7 +205,7 @@ QUICK void go_outside(void) {
 extern uint64_t is_memo_off; /* by LOCKDEP_MEMO=off, for tests: what is recorded is the same */
 
 /* Whether there is nothing that the thread has to look at on its way. */
-QUICK bool is_settled(const struct thread *t) { return !(t->loading.lock | t->wish.frame | t->failed_under | is_memo_off); }
+QUICK bool is_settled(const struct thread *t) { return !(t->loading.lock | t->wish.frame | t->failed_under | t->is_turned | is_memo_off); }
 
 /* It grows whenever other threads may get to know what this one has made, by the locks that it releases and the threads that it starts, and
    stays as it is while the thread only takes locks and keeps them. */
@@ -184,6 +246,7 @@ QUICK bool step_on(struct thread *t, uintptr_t lock, uintptr_t from) {
     e->links = s->links;
     e->level.start = count;
     e->level.hash = before;
+    e[1].level.start = NO_LEVEL;
     __atomic_signal_fence(__ATOMIC_RELEASE);
     t->hash = s->links.hash;
     t->depth++;
@@ -230,6 +293,27 @@ QUICK bool released_again(uintptr_t lock, struct call call) {
     bool is_done = step_back(t, lock);
     go_outside();
     return is_done;
+}
+
+/* ---- runs.c, and what it needs of threads.c. */
+
+void heed_thread_end(void);
+uint32_t run_source(void);              /* whose run this thread is in; 0: in none */
+void add_run(struct thread *t);
+bool is_left_for(struct left *left);    /* the next lock that is left for what runs now */
+void leave_lock(const struct held *h);  /* to what was interrupted */
+void end_run(struct thread *t, struct call call);
+bool is_held_below(uintptr_t lock);     /* by what was interrupted */
+void drop_runs(void);                   /* the thread ends */
+uint32_t level_of_runs(void);
+struct thread **thread_at_level(uint32_t level);
+void forget_runs_of_parent(void);
+
+/* Whether the thread may be in another state than its records say. */
+QUICK void look_at_state_later(void) {
+    struct thread *t = self.thread;
+    if (t)
+        t->is_turned = on_now() != t->on || t->epoch != LOAD(&handlers_epoch) || (self.runs && self.runs->left_count);
 }
 
 #endif

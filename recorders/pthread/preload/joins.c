@@ -60,6 +60,13 @@ static void note(pthread_t thread, enum about what, uint32_t value) {
 
 uint32_t traces_so_far(void) { return is_recording() ? LOAD(&arena->regions[RAW_THREADS].used) : 0; }
 
+/* The part of a thread that has a trace; NULL for another. */
+static struct raw_thread *part_of_life(pthread_t thread) {
+    uint32_t trace = known(thread, TRACE);
+    struct raw_thread *part = trace > known(thread, BEFORE) ? part_of(RAW_THREADS, trace) : NULL;
+    return part && part->process == own_process ? part : NULL;
+}
+
 void note_start(pthread_t thread, uintptr_t run, uint32_t before, uint32_t life, struct call call) {
     if (life)
         note_life(life, LIFE_START, thread, lives_so_far());
@@ -69,23 +76,22 @@ void note_start(pthread_t thread, uintptr_t run, uint32_t before, uint32_t life,
     note(thread, CLASS, class_of_threads(run, call));
     note(thread, BEFORE, before);
     note(thread, OBJECT, 0);
+    struct raw_thread *part = part_of_life(thread);
+    if (part)
+        part->start = known(thread, CLASS);
     errno = saved;
     end_inside();
 }
 
-/* The thread's trace begins. It may be joined already: one of it and the joiner sees what the other has noted. */
+/* The thread's trace begins. It may be joined already: one of it and the joiner sees what the other has noted. So with who has started it. */
 void note_trace(struct raw_thread *part, uint32_t number) {
     part->known = lives_so_far();
     note(part->self, TRACE, number);
     part->joined = known(part->self, OBJECT);
+    part->start = known(part->self, CLASS);
 }
 
-/* The part of a thread that has a trace; NULL for another. */
-static struct raw_thread *part_of_life(pthread_t thread) {
-    uint32_t trace = known(thread, TRACE);
-    struct raw_thread *part = trace > known(thread, BEFORE) ? part_of(RAW_THREADS, trace) : NULL;
-    return part && part->process == own_process ? part : NULL;
-}
+uint32_t start_of_this_thread(void) { return known(this_thread(), CLASS); }
 
 static EARLY_THREAD_LOCAL uint32_t unused_object; /* of a thread that took no lock */
 

@@ -5,7 +5,8 @@
    - No lock is taken. What threads share is changed by single atomic operations, so a signal handler that jumps away, a fork, or
      a thread that dies leaves nothing locked. If a jump leaves the recorder itself, the thread's next call mends its records.
    - No memory is taken from malloc. The library's own is among its variables, and in one mapping that is made at the start.
-   - A signal handler that interrupts the recorder and takes a lock is passed through and counted.
+   - A signal handler is recorded as a thread of its own, so it may interrupt the recorder anywhere. Without signals (runs.c) one that
+     interrupts it and takes a lock is passed through and counted.
    - errno is left as it was. */
 #ifndef LOCKDEP_OWN_H
 #define LOCKDEP_OWN_H
@@ -16,10 +17,12 @@
 #include "../raw.h"
 
 #include <pthread.h>
+#include <signal.h>
 #include <stdbool.h>
 #include <stddef.h>
 #include <stdint.h>
 #include <time.h>
+#include <ucontext.h>
 
 #define CALLER ((uintptr_t)__builtin_return_address(0))
 #define FRAME ((uintptr_t)__builtin_frame_address(0))
@@ -97,6 +100,7 @@ static inline void *part_of(enum raw_kind kind, uint32_t number) {
 }
 struct raw_record *take_chunk(uint32_t chunk);
 void *take_private(size_t bytes); /* zeroed memory that is never given back, or NULL */
+void *take_spare(size_t bytes); /* the same, for what can be done without */
 
 
 /* ---- tables.c */
@@ -117,7 +121,7 @@ static inline uint64_t block_line(uint64_t block, uint32_t line_bits) {
 /* Where in its line of eight slots something is looked for first: no two pieces that malloc gives out of one block have the same. */
 static inline uint64_t own_way(uint64_t address) { return address >> (BLOCK_BITS - 3) & 7; }
 
-#define NAMES_LEVELS 6
+#define NAMES_LEVELS 4
 struct names; /* from a number, the lowest bit of which doesn't matter, to a number, for what is defined once */
 struct names_line;
 struct names {
@@ -125,6 +129,11 @@ struct names {
 };
 uint32_t *name_slot(struct names *names, uint64_t key);  /* the value of a key that is there, or NULL */
 uint32_t *added_slot(struct names *names, uint64_t key); /* the same, with value 0 if it wasn't there; NULL: no room */
+/* The value of a slot, or the new one if it has none. Of two that are put at once the first counts. */
+static inline uint32_t settled(uint32_t *slot, uint32_t new) {
+    uint32_t there = 0;
+    return !new || SWAP(slot, &there, new) ? new : there;
+}
 void each_name(struct names *names, void (*visit)(uint32_t *value));
 
 /* New entries go to one level, the main one, and to the next ones only if their line is full there. When that has happened often enough
@@ -190,7 +199,8 @@ uint32_t take_spans(struct span *spans, struct call call, uint32_t most);
 bool span_around(struct call call, uintptr_t address, struct span *span);
 void forget_rules(void);
 extern uint32_t rules_epoch; /* changes when a library is closed */
-bool is_in_stack(struct call call, uint32_t from_frame);
+uint64_t stack_above(struct call call); /* the bytes of the stack from the call's frame on; 0 if that isn't known */
+uintptr_t outer_caller(struct call call, uint64_t stack_bytes); /* of the function that made the call; 0 if that isn't known at once */
 bool has_returned(struct call call, struct call earlier, uintptr_t function); /* which was called there, further up on the stack */
 bool is_left(struct call call, struct call earlier); /* a jump has left that call of a function of ours */
 bool has_word(uintptr_t address, uint32_t word);
@@ -205,7 +215,7 @@ bool is_below_end(uintptr_t lock, struct call call);
 
 /* ---- heap.c */
 
-extern EARLY_THREAD_LOCAL size_t array_asked_for;
+void heed_allocator(void); /* its calls are to be recorded as those of a lock */
 void note_piece(void *piece, size_t size, uint64_t element, struct call call);
 void drop_piece(uintptr_t address, size_t size);
 struct memory { /* the piece that a lock is in */
@@ -256,13 +266,24 @@ bool is_asked(int *known, const char *what); /* by LOCKDEP_ALSO */
 void begin_name(struct raw_thread *part);
 void forget_name(pthread_t thread);
 
-/* ---- classes.c */
+/* ---- places.c */
 
 uint32_t place_of(const struct stack *stack);
 uint32_t place_of_caller(uintptr_t caller);
 uint32_t place_of_call(struct call call, uint32_t most);
-uint32_t place_of_piece(struct call call);
-uint32_t place_of_array(struct call call, uint64_t element);
+struct memo;
+struct asked { /* a call, what it makes, where its place is looked for, and how much of the stack there is */
+    struct call call;
+    uint64_t element; /* of an array, as in raw_place */
+    uint64_t stack_bytes;
+    struct memo *memos;
+};
+struct asked ask_for_piece(struct call call, uint64_t element); /* before the piece is there */
+uint32_t place_of_piece(const struct asked *asked);
+void forget_places_in_closed_modules(void);
+
+/* ---- classes.c */
+
 uint32_t object_of_lock(uintptr_t lock, struct call call); /* makes one of a new lock; 0: no room */
 uint32_t apart(uintptr_t lock, uint32_t object); /* an object of its own for a nested lock, or the same */
 uint32_t apart_early(uintptr_t lock, uint32_t object);
@@ -284,7 +305,6 @@ void note_given_out(uintptr_t lock);
 uint32_t object_of_subclass(uintptr_t lock, uint32_t object, uint32_t subclass);
 void know_by_file(uintptr_t lock, uint32_t file, uint64_t offset);
 void forget_own_lock(uintptr_t lock); /* whose thread has ended */
-void forget_places_in_closed_modules(void);
 
 /* ---- looks.c */
 
@@ -316,10 +336,11 @@ bool end_wish(uintptr_t lock, bool is_taken, struct call call);
 bool wish_for_end(uintptr_t thread, uint32_t object, uint8_t mode, struct call call); /* inside the recorder; end_wish is to follow */
 void pass_end(uintptr_t thread, uint32_t object, uint8_t mode, struct call call); /* inside the recorder */
 bool has_trace(void);
+void pass_lock(uintptr_t lock, uint8_t mode, struct call call); /* inside the recorder: it is taken and given back */
 void note_handing_on(void); /* by what isn't seen otherwise: what this thread has made isn't new any more */
 void releasing(uintptr_t lock, struct call call);
 bool releasing_own(uintptr_t lock, struct call call);
-void released_unseen(struct call call);
+void released_unseen(uintptr_t lock, struct call call);
 void leave_out(uintptr_t semaphore, struct call call);
 void initialised(uintptr_t lock, struct call call);
 void destroyed(uintptr_t lock, struct call call);
@@ -330,6 +351,7 @@ void note_waits_at_exit(void);
 void tried(uintptr_t lock, bool has_failed, struct call call);
 bool is_held_once(uintptr_t lock);
 bool is_any_held(void);
+void turned(struct call call); /* a signal was blocked or unblocked, or has got or lost its handler */
 void note_own_lock(uintptr_t lock);
 void enter_loader(uintptr_t loader, uintptr_t function, struct call call);
 void change_era(void);
@@ -344,8 +366,62 @@ bool nth_held(uint32_t n, struct held_lock *held); /* of this thread, the newest
 void end_own_holds(uintptr_t from, uintptr_t to, struct call call); /* inside the recorder */
 uint32_t held_object(uintptr_t lock); /* as which this thread holds it; 0 if it doesn't */
 
+/* ---- states.c */
+
+extern uint64_t handled;       /* the signals that have a handler, as a mask */
+extern uint32_t handlers_epoch; /* changes with it, and with which handlers these are; 0: none was ever installed */
+QUICK bool is_following(void) { return __atomic_load_n(&handlers_epoch, __ATOMIC_RELAXED) != 0; }
+QUICK uint64_t bit_of(int number) { return UINT64_C(1) << (number - 1); }
+void install(int number, uint32_t source); /* 0: none */
+uint32_t installed_source(int number);
+uint32_t source_of(int number, uintptr_t handler, struct call call);
+uint32_t state_now(uint64_t *on);               /* of this thread, as it runs now */
+uint64_t on_now(void);                          /* the signals that have a handler and are unblocked */
+void know_mask(void);
+struct raw_run *run_of(uint32_t source);        /* of the runs of a source in this thread, or NULL */
+uint32_t own_system_thread(void);
+
+/* ---- masks.c */
+
+void set_mask(uint64_t mask, struct call call);
+
+/* ---- runs.c: of signals' handlers. */
+
+/* What a thread is in the midst of, besides what threads.c has. A signal's handler begins with nothing of it. */
+struct midst {
+    size_t array_asked_for; /* the size of an array that C++ asks for, from its operator `new[]` to the malloc that this comes to */
+    struct once *once;      /* the routine that is about to run once */
+    uintptr_t nested_lock;  /* what it says of its next acquisition of a lock (annotations.c) */
+    uint32_t next_subclass, nested_object;
+};
+extern EARLY_THREAD_LOCAL struct midst midst;
+
+#ifdef __x86_64__
+#define MOST_STUBS 512
+#else
+#define MOST_STUBS 64
+#endif
+struct action { /* what a stub stands for; all of it stays as it is once the handler is there */
+    uintptr_t handler; /* written last */
+    uint64_t mask;
+    int flags;
+    int number;
+    uint32_t source;
+};
+extern struct action actions[MOST_STUBS];
+uintptr_t stub_numbered(uint32_t n);
+int number_of_stub(uintptr_t address); /* -1 if it is none */
+extern uint32_t own_id; /* the system's number of this process */
+extern uint64_t thread_timers; /* the signals that timers send to one thread */
+void leave_for(const ucontext_t *to, struct call call); /* the thread goes on there */
+
+/* ---- library.c: what the C library locks inside, if that is wanted. */
+
+void use_allocator(struct call call);
+
 /* ---- joins.c */
 
+uint32_t start_of_this_thread(void);
 uint32_t traces_so_far(void);
 uint32_t begin_start(void);
 void note_start(pthread_t thread, uintptr_t run, uint32_t before, uint32_t life, struct call call);
@@ -355,6 +431,7 @@ bool is_first_thread(void);
 /* ---- annotations.c */
 
 extern uint32_t is_anything_said; /* about how locks are to be recorded */
+void name_lock(uintptr_t lock, const char *text, struct call call); /* inside the recorder */
 uint32_t object_as_said(uintptr_t lock, uint32_t object, uint8_t *mode, enum kind kind, struct call call); /* 0 if it isn't recorded */
 bool is_ignored(uintptr_t lock);
 bool count_ignored(uintptr_t lock); /* if it is */

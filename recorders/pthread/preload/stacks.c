@@ -378,7 +378,31 @@ static uintptr_t stack_end(uintptr_t sp) {
     return end ? end : sp + LARGEST_FRAME;
 }
 
-bool is_in_stack(struct call call, uint32_t from_frame) { return call.frame + from_frame < known_stack_end(call.frame); }
+uint64_t stack_above(struct call call) {
+    uintptr_t end = known_stack_end(call.frame);
+    return end ? end - call.frame : 0;
+}
+
+/* Where the return address behind the first one is, by the first: a word has its 48 bits, and how far away the other one is, in words; 0 if
+   that isn't a constant. It is only a hint, so nothing tells that a library was closed. */
+#define OUTER 512
+#define OUTER_BITS 16
+static uint64_t outer[OUTER];
+
+static __attribute__((noinline)) uint64_t new_outer(uintptr_t caller, uint64_t *word) {
+    struct rule rule = rule_of(caller);
+    uint64_t words = rule.base == BASE_SP && rule.offset > 0 ? (uint64_t)rule.offset / 8 + 1 : 0;
+    *word = caller << OUTER_BITS | (words >> OUTER_BITS ? 0 : words);
+    return *word;
+}
+
+uintptr_t outer_caller(struct call call, uint64_t stack_bytes) {
+    uint64_t *at = &outer[(call.caller ^ call.caller >> 9) % OUTER], word = __atomic_load_n(at, __ATOMIC_RELAXED);
+    if (RARELY(word >> OUTER_BITS != call.caller))
+        word = new_outer(call.caller, at);
+    uint64_t behind = (word & ((1 << OUTER_BITS) - 1)) * 8;
+    return LIKELY(behind && behind < stack_bytes) ? word_at(call.frame + behind) : 0;
+}
 
 static bool is_near(const struct frame *f, uintptr_t address) {
     return address >= f->sp && address <= f->limit && (address & 7) == 0;
@@ -536,9 +560,14 @@ void take_stack(struct stack *stack, struct call call, uint32_t most) {
     }
 }
 
-bool is_in_stack(struct call call, uint32_t from_frame) {
-    (void)call, (void)from_frame;
-    return false;
+uint64_t stack_above(struct call call) {
+    (void)call;
+    return 0;
+}
+
+uintptr_t outer_caller(struct call call, uint64_t stack_bytes) {
+    (void)call, (void)stack_bytes;
+    return 0;
 }
 
 uintptr_t followed_to(struct call call, uintptr_t most) {

@@ -12,7 +12,7 @@ struct names_line {
     } slots[NAMES_WAYS];
 };
 
-static const uint32_t names_bits[NAMES_LEVELS] = {2, 5, 9, 12, 15, 18}; /* of the number of lines */
+static const uint32_t names_bits[NAMES_LEVELS] = {2, 7, 13, 18}; /* of the number of lines */
 
 static struct names_line *names_level(struct names *names, int level, bool make) {
     struct names_line *lines = LOAD(&names->levels[level]);

@@ -40,15 +40,40 @@ static struct thread *unused_thread(void) {
     return t;
 }
 
-static bool begin_trace(struct thread *t) {
+/* Of what joins and names know a thread by, a run has nothing. */
+static void begin_raw(struct thread *t, uint32_t number, uint32_t source) {
+    t->raw = part_of(RAW_THREADS, number);
+    t->raw->process = own_process;
+    t->raw->system_thread = own_system_thread();
+    t->raw->source = source;
+    t->number = number;
+    if (!source) {
+        begin_name(t->raw);
+        note_trace(t->raw, number);
+    } else
+        t->raw->start = start_of_this_thread();
+}
+
+static void begin_in_no_state(struct thread *t, uint32_t source) {
+    t->source = source;
+    t->is_running = source != 0;
+    t->is_turned = is_following();
+    t->epoch = 0;
+    t->state = 0;
+    t->on = 0;
+    t->turn_count = 0;
+    t->has_lost_turns = false;
+    t->has_allocated = false;
+    t->entries[-1].links = (struct links){.hash = 0};
+    t->entries[0].level.start = NO_LEVEL;
+}
+
+static bool begin_trace(struct thread *t, uint32_t source) {
     uint32_t number = take_part(RAW_THREADS);
     if (!number)
         return false;
-    t->raw = part_of(RAW_THREADS, number);
-    t->raw->process = own_process;
-    t->number = number;
-    begin_name(t->raw);
-    note_trace(t->raw, number);
+    begin_raw(t, number, source);
+    begin_in_no_state(t, source);
     for (int i = 0; i < RAW_CHUNKS; i++) {
         AS_WRITTEN;
         t->chunks[i] = NULL;
@@ -69,7 +94,6 @@ static bool begin_trace(struct thread *t) {
     t->loading.lock = 0;
     t->wish.frame = 0;
     t->unnoted = 0;
-    t->destructor_rounds = 0;
     t->era = LOAD(era);
     t->steps = &no_step;
     t->steps_mask = 0;
@@ -77,18 +101,32 @@ static bool begin_trace(struct thread *t) {
     return true;
 }
 
-static struct thread *make_thread(void) {
+#define QUICK_KEYS 32 /* for so many the C library has room in each thread; for more it allocates some, which a handler may not do */
+
+void heed_thread_end(void) {
+    if (has_thread_end && thread_end < QUICK_KEYS)
+        set_value(thread_end, &self);
+}
+
+static struct thread *new_thread(uint32_t source) {
     struct thread *t = unused_thread();
-    if (!t || !begin_trace(t)) {
+    if (!t || !begin_trace(t, source)) {
         if (t)
             STORE(&t->is_taken, 0);
         ADD(&arena->no_thread, 1);
         return NULL;
     }
-    self.thread = t;
+    if (source)
+        add_run(t);
     if (has_thread_end)
-        set_value(thread_end, t);
+        set_value(thread_end, &self);
     return t;
+}
+
+/* For what runs now: the thread's own code, or a run of a handler. */
+static struct thread *make_thread(void) {
+    self.thread = new_thread(run_source());
+    return self.thread;
 }
 
 /* In the same memory other locks come to lie. */
@@ -110,22 +148,34 @@ void note_own_lock(uintptr_t lock) {
 static void end_loading(struct thread *t);
 static void withdraw_all(struct thread *t, uintptr_t caller);
 
-/* Other destructors of the thread may still lock, so the last round of them is waited for. */
-static void at_thread_end(void *value) {
-    struct thread *t = value;
-    if (t != self.thread)
-        return;
-    if (++t->destructor_rounds < PTHREAD_DESTRUCTOR_ITERATIONS) {
-        set_value(thread_end, t);
-        return;
-    }
+static void end_own_thread(struct thread *t) {
     end_loading(t);
     withdraw_all(t, CALLER);
     forget_own_locks(t);
-    self.is_ended = true;
     self.thread = NULL;
     STORE(&t->raw->ended, 1);
     STORE(&t->is_taken, 0);
+}
+
+static void end_threads_of_runs(void) {
+    for (struct thread *t = self.runs ? self.runs->threads : NULL, *next; t; t = next) {
+        next = t->next_run;
+        forget_own_locks(t);
+        STORE(&t->is_taken, 0);
+    }
+    drop_runs();
+}
+
+/* Other destructors of the thread may still lock, so the last round of them is waited for. */
+static void at_thread_end(void *value) {
+    if (++self.destructor_rounds < PTHREAD_DESTRUCTOR_ITERATIONS) {
+        set_value(thread_end, value);
+        return;
+    }
+    self.is_ended = true;
+    if (self.thread)
+        end_own_thread(self.thread);
+    end_threads_of_runs();
 }
 
 /* ---- Inside the recorder. A signal's handler that comes meanwhile isn't recorded, unless a jump has left the call of before. */
@@ -228,15 +278,6 @@ static void put_record(struct thread *t, uint32_t what, uint32_t place) {
     t->raw->count++;
 }
 
-/* Takes back the records from `start` on, if they repeat what was done before. */
-static bool take_back(struct thread *t, uint64_t start) {
-    if (start < t->fresh_end)
-        return false;
-    t->raw->left_out.repeated += t->raw->count - start;
-    t->raw->count = start;
-    return true;
-}
-
 /* ---- What is held, and the ways in which a lock was taken. */
 
 static inline uint64_t hash_with(uint64_t hash, uint32_t what) { return mixed(hash * UINT64_C(0x100000001b3) + what + 1); }
@@ -245,7 +286,7 @@ static inline void rehash(struct thread *t, uint32_t from, uint32_t depth) {
     for (struct entry *e = &t->entries[from]; e < &t->entries[depth]; e++) {
         for (enum reader reader = 0; reader < READERS; reader++)
             e->links.hashes[reader] = hash_with(e[-1].links.hashes[reader], e->links.what[reader]);
-        e->links.hash = e->links.hashes[BY_OBJECTS] ^ mixed(e->links.hashes[BY_CLASSES]);
+        e->links.hash = e->links.hashes[BY_OBJECTS] ^ mixed(e->links.hashes[BY_CLASSES]) ^ t->entries[-1].links.hash;
     }
 }
 
@@ -336,6 +377,118 @@ static uint32_t cached_place(struct thread *t, uintptr_t caller) {
     return place;
 }
 
+/* ---- States: which sources may interrupt. What is known of an acquisition is that too, so it is part of the hash of what is held. A record says
+   from where on a thread is in a state. It is written before the next lock is taken, or, if locks are held, as soon as a signal is unblocked. */
+
+#define NO_STATE UINT32_MAX /* it isn't known which one the records say */
+
+static inline uint64_t hash_of_state(uint32_t state) { return state ? mixed(state) : 0; }
+
+static void set_state(struct thread *t, uint32_t state, uint64_t on) {
+    t->state = state;
+    t->on = on;
+    t->has_allocated = false;
+    t->entries[-1].links.hash = hash_of_state(state);
+    rehash(t, 0, t->depth);
+}
+
+/* The newest record of a state, or NULL. Those that were taken back are forgotten here. */
+static struct turn *newest_turn(struct thread *t) {
+    for (; t->turn_count; t->turn_count--) {
+        struct turn *turn = &t->turns[t->turn_count - 1];
+        if (turn->at < t->raw->count && record_at(t, turn->at)->what == raw_what(turn->state, MODE_STATE))
+            return turn;
+    }
+    return NULL;
+}
+
+static void add_turn(struct thread *t, uint64_t at, uint32_t state, uint64_t on) {
+    newest_turn(t);
+    if (t->turn_count == TURNS) {
+        memmove(t->turns, t->turns + 1, (TURNS - 1) * sizeof *t->turns);
+        t->turn_count--;
+        t->has_lost_turns = true;
+    }
+    t->turns[t->turn_count++] = (struct turn){at, on, state};
+}
+
+/* The state that the records say after so many of them. */
+static struct turn turn_before(struct thread *t, uint64_t count) {
+    newest_turn(t);
+    for (uint32_t i = t->turn_count; i-- > 0;)
+        if (t->turns[i].at < count)
+            return t->turns[i];
+    return (struct turn){.state = t->has_lost_turns ? NO_STATE : 0};
+}
+
+static void go_back_to(struct thread *t, uint64_t count) {
+    struct turn turn = turn_before(t, count);
+    t->raw->count = count;
+    if (turn.state == t->state)
+        return;
+    set_state(t, turn.state, turn.on);
+    t->epoch = 0;
+    t->is_turned = 1;
+}
+
+/* Whether the thread holds now what it held when it took the last lock on top of that. Then all since then is taken back, unless something of it
+   was new; the state may be another one, which is written again when that matters. */
+static bool is_back(struct thread *t) {
+    const struct level *last = &t->entries[t->depth].level;
+    if (last->start > t->raw->count || last->start < t->fresh_end)
+        return false;
+    uint32_t state = turn_before(t, last->start).state;
+    if (state == NO_STATE || (last->hash ^ hash_of_state(state)) != (hash_of(t, t->depth) ^ hash_of_state(t->state)))
+        return false;
+    t->raw->left_out.repeated += t->raw->count - last->start;
+    go_back_to(t, last->start);
+    return true;
+}
+
+/* Nothing came of the newest record, if that is of a state: it is as if the thread hadn't been in it. */
+static void undo_turn(struct thread *t) {
+    const struct turn *turn = newest_turn(t);
+    if (!turn || turn->at + 1 != t->raw->count || turn->at < t->fresh_end)
+        return;
+    t->entries[t->depth].level.start = NO_LEVEL;
+    go_back_to(t, t->raw->count - 1);
+}
+
+static uint32_t place_of_acquisition(struct thread *t, struct call call, bool is_new);
+
+#define OF_STATE UINT64_C(0x5bd1e9955bd1e995) /* tells what is held in a state from the way in which the newest of it was taken */
+
+static void write_state(struct thread *t, struct call call) {
+    if (t->raw->count >= RAW_LIMIT || !make_room(t)) {
+        t->raw->left_out.no_room++;
+        return;
+    }
+    bool is_new = t->depth && see(t, way_of(hash_of(t, t->depth) ^ OF_STATE));
+    add_turn(t, t->raw->count, t->state, t->on);
+    put_record(t, raw_what(t->state, MODE_STATE), place_of_acquisition(t, call, is_new));
+    if (is_new)
+        t->fresh_end = t->raw->count;
+}
+
+__attribute__((noinline)) static void turn(struct thread *t, struct call call) {
+    uint64_t on;
+    uint32_t state = state_now(&on);
+    if (state != t->state)
+        is_back(t);
+    if (state != t->state)
+        undo_turn(t);
+    t->is_turned = 0;
+    t->epoch = LOAD(&handlers_epoch);
+    t->on = on;
+    if (state == t->state)
+        return;
+    set_state(t, state, on);
+    write_state(t, call);
+}
+
+/* Whether something may interrupt that couldn't when the state was looked at last. */
+static bool is_turned_on(const struct thread *t) { return on_now() & ~t->on || t->epoch != LOAD(&handlers_epoch); }
+
 /* ---- Releases. */
 
 static void release_at(struct thread *t, uint32_t i, uintptr_t caller) {
@@ -346,8 +499,7 @@ static void release_at(struct thread *t, uint32_t i, uintptr_t caller) {
         t->entries[i].held = t->entries[i + 1].held;
     pop_links(t, &gone);
     t->depth--;
-    const struct level *last = &t->entries[t->depth].level;
-    if (was_newest && hash_of(t, t->depth) == last->hash && take_back(t, last->start))
+    if (was_newest && is_back(t))
         return;
     if (gone.is_written && make_room(t))
         put_record(t, raw_what(object_of(&gone), MODE_RELEASE), cached_place(t, caller));
@@ -379,6 +531,7 @@ static bool is_held_signal(const struct held *h) { return h->kind == KIND_COUNTE
 
 __attribute__((noinline)) static void drop_released(struct thread *t, uintptr_t caller) {
     t->era = LOAD(era);
+    t->is_turned |= t->epoch != LOAD(&handlers_epoch);
     for (uint32_t i = t->depth; i-- > 0;)
         if (is_held_signal(&t->entries[i].held) || is_released_by_other(&t->entries[i].held))
             release_at(t, i, caller);
@@ -406,7 +559,7 @@ void change_era(void) {
 
 /* Somebody releases a lock that this thread wasn't seen to take: it may be one that another thread holds. */
 static void release_others(struct thread *t, uintptr_t lock) {
-    t->raw->left_out.releases++;
+    t->raw->left_out.releases += !is_held_below(lock);
     uint32_t *released = added_slot(&released_by_others, lock);
     if (!released)
         return;
@@ -438,10 +591,22 @@ __attribute__((noinline)) static void end_what_is_left(struct thread *t, struct 
         end_left_wishes(t, call);
 }
 
+static void look_at_turn(struct thread *t, struct call call);
+static void turn(struct thread *t, struct call call);
+
 static inline void settle(struct thread *t, struct call call) {
     if (RARELY(t->loading.lock | t->wish.frame))
         end_what_is_left(t, call);
     look_at_others(t, call.caller);
+    if (RARELY(t->is_turned))
+        look_at_turn(t, call);
+}
+
+/* The same before something is taken. */
+static inline void settle_to_take(struct thread *t, struct call call) {
+    settle(t, call);
+    if (RARELY(t->is_turned))
+        turn(t, call);
 }
 
 void note_handing_on(void) {
@@ -496,13 +661,16 @@ bool releasing_own(uintptr_t lock, struct call call) {
     return is_seen;
 }
 
-/* A lock was released that this thread took, and wasn't seen to take. */
-void released_unseen(struct call call) {
+/* A lock was released that this thread took, and wasn't seen to take; or a handler has released what the code has that it interrupted. */
+void released_unseen(uintptr_t lock, struct call call) {
     struct thread *t = enter(call);
     if (!t)
         return;
     t->raw->calls++;
-    t->raw->left_out.releases++;
+    if (is_held_below(lock))
+        release_others(t, lock);
+    else
+        t->raw->left_out.releases++;
     leave();
 }
 
@@ -522,6 +690,13 @@ void leave_out(uintptr_t semaphore, struct call call) {
 
 /* ---- Acquisitions. */
 
+/* Of a lock that a handler takes: whether it knows its owner. */
+static void note_if_narrow(uintptr_t lock, uint32_t object, enum kind kind) {
+    int basic = kind == KIND_MUTEX ? ((const pthread_mutex_t *)lock)->__data.__kind & MUTEX_KIND_BITS : 0;
+    if (kind == KIND_RECURSIVE || basic == PTHREAD_MUTEX_RECURSIVE_NP || basic == PTHREAD_MUTEX_ERRORCHECK_NP)
+        STORE(&((struct raw_object *)part_of(RAW_OBJECTS, object))->is_narrow, 1);
+}
+
 /* A held lock is nested now: it becomes an object of its own, and so do its record and the ways that it is part of. */
 static void tell_apart(struct thread *t, uint32_t i) {
     struct held *h = &t->entries[i].held;
@@ -529,6 +704,8 @@ static void tell_apart(struct thread *t, uint32_t i) {
     if (object == before)
         return;
     h->what[BY_OBJECTS] = raw_what(object, h->what[BY_OBJECTS] >> RAW_OBJECT_BITS);
+    if (t->source)
+        note_if_narrow(h->lock, object, (enum kind)h->kind);
     if (h->is_written)
         record_at(t, h->record)->what = what_written(h);
     uint32_t at = newest_of(t, BY_OBJECTS, before);
@@ -573,12 +750,15 @@ static void push_held(struct thread *t, uintptr_t lock, uint32_t object, uint8_t
     }
     if (raw_plain(mode) < MODE_TRY_WRITE && t->failed != lock) /* else it may be std::lock, which takes what it is given in any order */
         look_at_taker(class_of(object), call);
+    if (RARELY(t->source))
+        note_if_narrow(lock, object, kind);
     uint8_t weak = mode & RAW_WEAK;
     mode ^= weak;
     uint32_t what[READERS] = {raw_what(object, mode), raw_what(class_of(object), mode)};
     uint64_t start = t->raw->count;
     struct entry *e = &t->entries[t->depth];
     e->level = (struct level){.start = start, .hash = hash_of(t, t->depth)};
+    e[1].level.start = NO_LEVEL;
     e->held = (struct held){.lock = lock, .record = start, .fresh_before = t->fresh_end, .what = {what[0], what[1]},
                             .released = releases_so_far(lock), .kind = (uint8_t)kind, .is_wish = is_wish, .weak = weak};
     memcpy(e->links.what, what, sizeof what);
@@ -593,14 +773,15 @@ static void push_held(struct thread *t, uintptr_t lock, uint32_t object, uint8_t
 
 /* More entries. False if there are as many as there may be, or if there is no memory. */
 __attribute__((noinline)) static bool add_entries(struct thread *t) {
-    struct entry *all = t->room < RAW_HELD ? take_private((1 + RAW_HELD) * sizeof *all) : NULL;
+    struct entry *all = t->room < RAW_HELD ? take_private((1 + RAW_HELD + 1) * sizeof *all) : NULL;
     if (!all)
         return false;
     for (uint32_t i = 0; i < t->depth; i++) {
         AS_WRITTEN;
         all[1 + i] = t->entries[i];
     }
-    all[0].held.lock = NO_LOCK;
+    all[0] = t->entries[-1];
+    all[1 + t->depth].level = t->entries[t->depth].level;
     t->entries = all + 1;
     t->room = RAW_HELD;
     return true;
@@ -765,7 +946,7 @@ static void note_step(struct thread *t, uintptr_t from, uintptr_t caller) {
 
 static void take_lock(struct thread *t, uintptr_t lock, uint8_t mode, enum kind kind, struct call call) {
     t->raw->calls++;
-    settle(t, call);
+    settle_to_take(t, call);
     uint32_t again = kind != KIND_COUNTED && t->depth ? find_held(t, lock) : RAW_HELD;
     if (RARELY(again != RAW_HELD) && take_again(t, again, mode, kind, call.caller))
         return;
@@ -825,7 +1006,7 @@ bool begin_wish(uintptr_t lock, uint8_t mode, enum kind kind, struct call call) 
     struct thread *t = enter(call);
     if (!t)
         return false;
-    settle(t, call);
+    settle_to_take(t, call);
     enum raw_waits waits = waits_by(mode);
     t->raw->calls++;
     uint32_t object = object_to_hold(t, lock, &mode, kind, call);
@@ -840,7 +1021,7 @@ bool begin_wish(uintptr_t lock, uint8_t mode, enum kind kind, struct call call) 
 
 /* Whether there is room for a thread that ends among what is held. */
 static bool has_room_for_end(struct thread *t, struct call call) {
-    settle(t, call);
+    settle_to_take(t, call);
     return t->depth < RAW_HELD && has_entry_left(t);
 }
 
@@ -861,6 +1042,16 @@ void pass_end(uintptr_t thread, uint32_t object, uint8_t mode, struct call call)
     if (!has_room_for_end(t, call) || !object)
         return;
     push_held(t, thread, object, mode_of_end(t, mode), KIND_THREAD, call, false);
+    release_at(t, t->depth - 1, call.caller);
+}
+
+void pass_lock(uintptr_t lock, uint8_t mode, struct call call) {
+    struct thread *t = self.thread;
+    settle_to_take(t, call);
+    uint32_t object = t->depth < RAW_HELD && has_entry_left(t) ? object_of_lock(lock, call) : 0;
+    if (!object)
+        return;
+    push_held(t, lock, object, mode, KIND_SPIN, call, false);
     release_at(t, t->depth - 1, call.caller);
 }
 
@@ -960,6 +1151,8 @@ static uint32_t read_held(struct thread *t, uint32_t *objects) {
     uint32_t depth = 0;
     for (uint64_t i = 0; i < t->raw->count; i++) {
         uint32_t what = record_at(t, i)->what, at = depth;
+        if (raw_mode(what) == MODE_STATE)
+            continue;
         bool is_release = raw_mode(what) == MODE_RELEASE;
         while (is_release && at > 0 && objects[at - 1] != raw_object(what))
             at--;
@@ -997,6 +1190,51 @@ static void mend(struct thread *t, struct call call) {
         put_record(t, raw_what(t->held_by_trace[depth], MODE_RELEASE), cached_place(t, call.caller));
     if (t->held_by_trace)
         hold_again(t, call);
+}
+
+/* ---- What a change of the state, or the end of a handler's run, brings. */
+
+/* Inside the recorder, on the way of a thread that is turned: locks that its handlers have left are held by it from now on, by tries, since
+   nobody waited for them here. */
+__attribute__((noinline)) static void look_at_turn(struct thread *t, struct call call) {
+    struct left left;
+    while (is_left_for(&left) && t->depth < RAW_HELD && has_entry_left(t)) {
+        turn(t, call);
+        push_held(t, left.lock, left.object, left.mode, (enum kind)left.kind, call, false);
+        t->is_turned = 1;
+    }
+    if (t->depth && is_turned_on(t))
+        turn(t, call);
+}
+
+void turned(struct call call) {
+    struct thread *t = self.thread;
+    if (!t)
+        return;
+    look_at_state_later();
+    if (t->is_turned && t->depth && is_turned_on(t) && enter(call)) {
+        turn(t, call);
+        leave();
+    }
+}
+
+/* A run is over, on the thread that it was recorded as. What it has left locked belongs to what it has interrupted. */
+void end_run(struct thread *t, struct call call) {
+    bool was_inside = self.inside_frame != 0;
+    t->is_running = false;
+    if (!*era || !(t->depth | t->wish.frame | t->loading.lock | was_inside))
+        return;
+    go_inside(call);
+    if (was_inside)
+        mend(t, call);
+    end_loading(t);
+    withdraw_all(t, call.caller);
+    while (t->depth) {
+        leave_lock(&t->entries[t->depth - 1].held);
+        t->entries[t->depth - 1].held.depth = 0;
+        release_at(t, t->depth - 1, call.caller);
+    }
+    end_inside();
 }
 
 /* A lock was tried. One that is tried again and again, with others held all the time, is waited for in another way. Who gives those
@@ -1129,26 +1367,50 @@ static void take_over(struct thread *t, const struct held *h) {
     t->entries[t->depth - 1].held.depth = h->depth;
 }
 
-/* Takes again what its thread held before the fork. */
-static void begin_in_child(struct thread *old) {
+/* A trace anew, in which the thread takes again what it held before the fork. If a handler has forked, what that has interrupted goes on in
+   the child as well. */
+static bool begin_anew(struct thread *t) {
     static struct held held[RAW_HELD] LARGE;
-    uint32_t depth = old->depth, unnoted = old->unnoted;
-    struct loading loading = old->loading;
+    uint32_t depth = t->depth, unnoted = t->unnoted;
+    struct loading loading = t->loading;
     for (uint32_t i = 0; i < depth; i++)
-        held[i] = old->entries[i].held;
-    begin_inside(HERE);
-    for (struct thread *t = threads; t; t = t->next) {
-        if (t != old)
-            forget_own_locks(t);
-        t->is_taken = 0;
+        held[i] = t->entries[i].held;
+    if (!begin_trace(t, t->source)) {
+        ADD(&arena->no_thread, 1);
+        return false;
     }
-    self.thread = NULL;
-    struct thread *t = make_thread();
-    for (uint32_t i = 0; t && i < depth; i++)
+    if (t->is_turned)
+        turn(t, HERE);
+    for (uint32_t i = 0; i < depth; i++)
         take_over(t, &held[i]);
-    if (t) {
-        t->loading = loading;
-        t->unnoted = unnoted;
+    t->loading = loading;
+    t->unnoted = unnoted;
+    t->hash = hash_of(t, t->depth);
+    return true;
+}
+
+static bool goes_on_in_child(const struct thread *t) {
+    for (uint32_t level = 0; level <= level_of_runs(); level++)
+        if (*thread_at_level(level) == t)
+            return true;
+    return false;
+}
+
+static void begin_in_child(void) {
+    begin_inside(HERE);
+    self.system_thread = 0;
+    forget_runs_of_parent();
+    for (struct thread *t = threads; t; t = t->next)
+        if (!goes_on_in_child(t)) {
+            forget_own_locks(t);
+            t->is_taken = 0;
+        }
+    for (uint32_t level = 0; level <= level_of_runs(); level++) {
+        struct thread **at = thread_at_level(level);
+        if (*at && !begin_anew(*at))
+            *at = NULL;
+        if (*at && (*at)->source)
+            add_run(*at);
     }
     end_inside();
 }
@@ -1156,8 +1418,8 @@ static void begin_in_child(struct thread *old) {
 void begin_threads(void) {
     const char *memo = variable("LOCKDEP_MEMO");
     is_memo_off = memo && is_same_text(memo, "off");
-    if (self.thread)
-        begin_in_child(self.thread);
+    if (self.thread || self.runs)
+        begin_in_child();
     else
         has_thread_end = has_thread_end || pthread_key_create(&thread_end, at_thread_end) == 0;
 }

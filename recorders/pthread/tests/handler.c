@@ -1,4 +1,4 @@
-/* A signal handler that locks is part of the thread that it interrupts. */
+/* A signal handler that locks is a thread of its own in the recording. */
 #include "common.h"
 static pthread_mutex_t a = PTHREAD_MUTEX_INITIALIZER, b = PTHREAD_MUTEX_INITIALIZER;
 

@@ -1,4 +1,5 @@
-/* A jump out of a function that has taken a lock: it is held until it is released. A handler jumps out of a signal, too. */
+/* A jump out of a function that has taken a lock: it is held until it is released. A handler jumps out of a signal, too: the lock that it has taken
+   belongs to what it has interrupted then. */
 #include "common.h"
 #include <setjmp.h>
 #include <signal.h>

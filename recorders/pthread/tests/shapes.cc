@@ -1,6 +1,7 @@
 /* Locks in shapes of all kinds, each taken once, in the order in which their names are printed. A `*` stands for any
  * text. */
 #include "shapes.h"
+#include <atomic>
 #include <array>
 #include <cstdio>
 #include <cstdlib>
@@ -499,17 +500,34 @@ int main() {
     EXPECT("main:loc");
     std::mutex loc;
     lock_ref(loc);
+    // A thread that is joined has a class too, which is made when it was started.
+    std::atomic<bool> is_started{false};
+    auto await_start = [&] {
+        while (!is_started)
+            std::this_thread::yield();
+    };
+    auto join = [&](std::thread thread) {
+        is_started = true;
+        thread.join();
+        is_started = false;
+    };
+    EXPECT("a thread");
     EXPECT("shapes.cc:Plain::m");
     Plain onstack;
-    std::thread([&] { onstack.work(); }).join();
+    join(std::thread([&] {
+        await_start();
+        onstack.work();
+    }));
+    EXPECT("a thread");
     EXPECT("main:cap");
     std::mutex cap;
     int n = 0;
     auto f = [&] {
+        await_start();
         Guard g(cap);
         n++;
     };
-    std::thread(f).join();
+    join(std::thread(f));
     EXPECT("shapes.cc:Plain::m");
     auto sp = std::make_shared<Plain>();
     std::function<void()> fn = [sp] { Guard g(sp->m); };

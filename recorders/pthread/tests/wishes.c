@@ -1,5 +1,5 @@
 /* Locks that are waited for in vain, by each call that can: nothing of them is left, however often. A handler that locks meanwhile
-   is recorded. A lock that is waited for and taken is one acquisition. */
+   is recorded as a thread of its own. A lock that is waited for and taken is one acquisition. */
 #include "common.h"
 #include "asleep.h"
 static pthread_mutex_t a = PTHREAD_MUTEX_INITIALIZER, b = PTHREAD_MUTEX_INITIALIZER, taken = PTHREAD_MUTEX_INITIALIZER,

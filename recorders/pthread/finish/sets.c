@@ -1,0 +1,323 @@
+/* Signals' handlers as interrupts. For each source, a signal with a handler, of which a run waited for a lock there is a set of traces,
+   FOLDER/signals/N: the runs of the source are hardirqs, and hardirqs are on in a thread while the source may interrupt it. What other sources
+   do is a task, as what a thread's own code does. Only doubles and inversions are looked for there. */
+#include "finish.h"
+
+#include <errno.h>
+#include <string.h>
+#include <sys/stat.h>
+
+#define MOST_SETS 32
+
+struct source {
+    unsigned signal;
+    uint64_t handler;       /* as a word */
+    uint64_t runs, continued;
+    bool is_sent_to_process; /* else to threads alone */
+    bool is_of_locking;      /* its program takes locks */
+    uint32_t number;         /* of its set; 0: it has none */
+    int *taken;              /* the single locks that its runs waited for */
+    size_t taken_count;
+    int *narrow; /* those of them that know their owner */
+    size_t narrow_count;
+};
+
+static struct source **sources;
+static size_t source_count;
+static uint32_t set_count, sets_beyond;
+
+/* ---- What is called how. */
+
+static const char *const words[] = {NULL,     "HUP",    "INT",  "QUIT", "ILL",  "TRAP", "ABRT", "BUS",    "FPE",  "KILL", "USR1",
+                                      "SEGV",   "USR2",   "PIPE", "ALRM", "TERM", "STKFLT", "CHLD", "CONT", "STOP", "TSTP", "TTIN",
+                                      "TTOU",   "URG",    "XCPU", "XFSZ", "VTALRM", "PROF", "WINCH", "IO",  "PWR",  "SYS"};
+#define FIRST_REAL_TIME 34 /* of the C library's */
+
+const char *tell_signal(char *text, size_t room, unsigned number) {
+    if (number && number < sizeof words / sizeof *words)
+        snprintf(text, room, "SIG%s", words[number]);
+    else if (number > FIRST_REAL_TIME)
+        snprintf(text, room, "SIGRTMIN+%u", number - FIRST_REAL_TIME);
+    else
+        snprintf(text, room, number == FIRST_REAL_TIME ? "SIGRTMIN" : "SIG%u", number);
+    return text;
+}
+
+static bool is_somewhere(const struct source *s) { return s->handler != UINT64_MAX; }
+
+/* The name of the handler, or NULL if it has none. */
+static const char *name_of(const struct source *s) {
+    const struct symbol *symbol = is_somewhere(s) ? symbol_at(raw_word_module(s->handler), raw_word_offset(s->handler), SYMBOL_CODE) : NULL;
+    return symbol && symbol->value == raw_word_offset(s->handler) ? symbol->name : NULL;
+}
+
+/* ---- The sources of all recordings: the same handler of a signal is one. */
+
+static struct source *source_like(unsigned signal, uint64_t handler) {
+    for (size_t i = 0; i < source_count; i++)
+        if (sources[i]->signal == signal && sources[i]->handler == handler && handler != UINT64_MAX)
+            return sources[i];
+    struct source *new = checked(calloc(1, sizeof *new));
+    new->signal = signal;
+    new->handler = handler;
+    PUSH(sources, source_count, new);
+    return new;
+}
+
+static bool takes_locks(const struct arena *a) {
+    for (uint32_t n = 1; n <= count_of(a, RAW_THREADS); n++)
+        if (((const struct raw_thread *)part_of(a, RAW_THREADS, n))->calls)
+            return true;
+    return false;
+}
+
+static void read_sources(struct arena *a) {
+    uint32_t count = count_of(a, RAW_SOURCES);
+    bool is_locking = takes_locks(a);
+    a->sources = checked(calloc(count + 1, sizeof *a->sources));
+    for (uint32_t n = 1; n <= count; n++) {
+        const struct raw_source *raw = part_of(a, RAW_SOURCES, n);
+        if (!raw->signal)
+            continue;
+        a->sources[n] = source_like(raw->signal, told_word(a, raw->handler));
+        a->sources[n]->continued += raw->continued;
+        a->sources[n]->is_of_locking |= is_locking;
+    }
+}
+
+static struct source *source_numbered(const struct arena *a, uint32_t n) {
+    return n && n <= count_of(a, RAW_SOURCES) && a->sources ? a->sources[n] : NULL;
+}
+
+static void read_runs(const struct arena *a) {
+    for (uint32_t n = 1; n <= count_of(a, RAW_RUNS); n++) {
+        const struct raw_run *run = part_of(a, RAW_RUNS, n);
+        struct source *source = source_numbered(a, run->source);
+        if (!source)
+            continue;
+        source->runs += run->count;
+        source->is_sent_to_process |= (run->sent & SENT_TO_PROCESS) != 0;
+    }
+}
+
+/* ---- What the runs take. */
+
+static void add_once(int **list, size_t *count, int value) {
+    for (size_t i = 0; i < *count; i++)
+        if ((*list)[i] == value)
+            return;
+    PUSH(*list, *count, value);
+}
+
+static void read_taken(struct arena *a, const struct raw_thread *t, struct source *source) {
+    for (uint64_t i = 0; i < t->count; i++) {
+        const struct raw_record *r = record_of(a, t, i);
+        if (!r || raw_mode(r->what) >= MODE_TRY_WRITE || is_left_out(a, raw_object(r->what)))
+            continue;
+        const struct raw_object *object = part_of(a, RAW_OBJECTS, raw_object(r->what));
+        int key = key_of_object(a, t->process, raw_object(r->what));
+        add_once(&source->taken, &source->taken_count, key);
+        if (object->is_narrow)
+            add_once(&source->narrow, &source->narrow_count, key);
+    }
+}
+
+static void read_all_taken(struct arena *a) {
+    for (uint32_t n = 1; n <= count_of(a, RAW_THREADS); n++) {
+        const struct raw_thread *t = part_of(a, RAW_THREADS, n);
+        struct source *source = source_numbered(a, t->source);
+        if (t->is_ready && source)
+            read_taken(a, t, source);
+    }
+}
+
+static void number_sets(void) {
+    for (size_t i = 0; i < source_count; i++) {
+        if (!sources[i]->taken_count)
+            continue;
+        if (set_count < MOST_SETS)
+            sources[i]->number = ++set_count;
+        else
+            sets_beyond++;
+    }
+}
+
+/* ---- Whom a source interrupts. The system gives a signal that is sent to the process to any thread. If it was only ever sent to threads, those
+   count that it was sent to, and those that run the same function. */
+
+static bool is_sent_to(const struct source *source, const struct arena *a, const struct raw_thread *t) {
+    for (uint32_t n = 1; n <= count_of(a, RAW_RUNS); n++) {
+        const struct raw_run *run = part_of(a, RAW_RUNS, n);
+        bool is_alike = run->system_thread == t->system_thread || (t->start && run->start == t->start);
+        if (is_alike && source_numbered(a, run->source) == source)
+            return true;
+    }
+    return false;
+}
+
+bool may_interrupt(const struct source *source, const struct arena *a, const struct raw_thread *t, uint32_t state) {
+    const struct raw_state *s = part_of(a, RAW_STATES, state);
+    bool is_on = s && s->is_ready && source_numbered(a, s->sources[source->signal - 1]) == source;
+    return is_on && (source->is_sent_to_process || is_sent_to(source, a, t));
+}
+
+/* Of a run of a source: whether the source may interrupt it itself. */
+static bool may_interrupt_any(const struct source *source, const struct arena *a, const struct raw_thread *t) {
+    for (uint64_t i = 0; i < t->count; i++) {
+        const struct raw_record *r = state_record_of(a, t, i);
+        if (r && may_interrupt(source, a, t, raw_object(r->what)))
+            return true;
+    }
+    return false;
+}
+
+/* ---- The sets. A trace has the number that it has among all traces. Runs that their own source may interrupt are in a set twice. */
+
+static void make_folder(const char *path) {
+    if (mkdir(path, 0777) != 0 && errno != EEXIST)
+        refuse_file("can't be made", path);
+}
+
+static void write_in(const char *folder, const struct source *source, struct arena *a, uint32_t n, uint32_t *more) {
+    const struct raw_thread *t = part_of(a, RAW_THREADS, n);
+    bool is_run = t->source && source_numbered(a, t->source) == source;
+    if (!a->traces[n])
+        return;
+    write_in_set(folder, source, a, t, a->traces[n], is_run);
+    if (is_run && may_interrupt_any(source, a, t))
+        *more += write_in_set(folder, source, a, t, (uint32_t)sums.threads + *more + 1, false);
+}
+
+static bool has_source(const struct arena *a, const struct source *source) {
+    for (uint32_t n = 1; n <= count_of(a, RAW_SOURCES); n++)
+        if (a->sources[n] == source)
+            return true;
+    return false;
+}
+
+static bool shares_locks(const struct arena *a) {
+    for (uint32_t n = 1; n <= count_of(a, RAW_OBJECTS); n++)
+        if (((const struct raw_object *)part_of(a, RAW_OBJECTS, n))->ordinal == RAW_SHARED)
+            return true;
+    return false;
+}
+
+/* Programs that neither have the handler nor share a lock say nothing of it. */
+static void write_set(const char *folder, const struct source *source) {
+    char path[4300];
+    uint32_t more = 0;
+    snprintf(path, sizeof path, "%s/%u", folder, source->number);
+    make_folder(path);
+    for (size_t i = 0; i < arena_count; i++) {
+        struct arena *a = &arenas[i];
+        bool is_part = has_source(a, source) || shares_locks(a);
+        for (uint32_t n = 1; is_part && n <= count_of(a, RAW_THREADS); n++)
+            write_in(path, source, a, n, &more);
+    }
+}
+
+/* ---- The lists: of the sources that have a set, and of the handlers that never ran. */
+
+static void write_text(FILE *file, const char *text) {
+    putc('"', file);
+    for (; *text; text++) {
+        unsigned char c = (unsigned char)*text;
+        if (c == '"' || c == '\\')
+            fprintf(file, "\\%c", c);
+        else if (c < ' ')
+            fprintf(file, "\\u%04x", c);
+        else
+            putc(c, file);
+    }
+    putc('"', file);
+}
+
+static void write_about(FILE *file, const struct source *s) {
+    char text[32];
+    const char *name = name_of(s);
+    fprintf(file, "\"signal\": \"%s\", \"handler\": ", tell_signal(text, sizeof text, s->signal));
+    if (name)
+        write_text(file, name);
+    else
+        fputs("null", file);
+    fputs(", \"module\": ", file);
+    if (is_somewhere(s))
+        write_text(file, modules[raw_word_module(s->handler)].path);
+    else
+        fputs("null", file);
+    fprintf(file, ", \"offset\": \"0x%lx\", \"file\": null, \"line\": null", is_somewhere(s) ? (unsigned long)raw_word_offset(s->handler) : 0);
+}
+
+static void write_source(FILE *file, const struct source *s) {
+    char object[MAX_OBJECT_NAME + 1];
+    fprintf(file, "{\"number\": %u, ", s->number);
+    write_about(file, s);
+    fprintf(file, ", \"runs\": %lu, \"sent_to\": \"%s\", \"takes\": %lu, \"narrow\": [", (unsigned long)s->runs,
+            s->is_sent_to_process ? "process" : "threads", (unsigned long)s->taken_count);
+    for (size_t i = 0; i < s->narrow_count; i++) {
+        tell_object(object, sizeof object, s->narrow[i]);
+        fputs(i ? ", " : "", file);
+        write_text(file, object);
+    }
+    fputs("]}", file);
+}
+
+static void write_never(FILE *file, const struct source *s) {
+    putc('{', file);
+    write_about(file, s);
+    putc('}', file);
+}
+
+static bool has_set(const struct source *s) { return s->number != 0; }
+static bool never_ran(const struct source *s) { return !s->runs && !s->continued && s->is_of_locking; }
+
+static void write_list(const char *folder, const char *name, bool (*is_one)(const struct source *), void (*write)(FILE *, const struct source *)) {
+    char path[4300];
+    snprintf(path, sizeof path, "%s/%s", folder, name);
+    FILE *file = created(path);
+    bool is_first = true;
+    putc('[', file);
+    for (size_t i = 0; i < source_count; i++) {
+        if (!is_one(sources[i]))
+            continue;
+        fputs(is_first ? "\n" : ",\n", file);
+        write(file, sources[i]);
+        is_first = false;
+    }
+    fputs(is_first ? "]\n" : "\n]\n", file);
+    closed(file, path);
+}
+
+/* Nothing is written of programs without handlers. */
+void write_sets(const char *folder) {
+    char path[4200];
+    snprintf(path, sizeof path, "%s/signals", folder);
+    for (size_t i = 0; i < arena_count; i++) {
+        read_sources(&arenas[i]);
+        read_runs(&arenas[i]);
+        read_all_taken(&arenas[i]);
+    }
+    number_sets();
+    if (!source_count)
+        return;
+    make_folder(path);
+    for (size_t i = 0; i < source_count; i++)
+        if (has_set(sources[i]))
+            write_set(path, sources[i]);
+    write_list(path, "sources.json", has_set, write_source);
+    write_list(path, "never.json", never_ran, write_never);
+}
+
+void tell_sources(FILE *file) {
+    char text[32];
+    for (size_t i = 0; i < source_count; i++) {
+        const struct source *s = sources[i];
+        const char *name = name_of(s);
+        if (s->runs)
+            fprintf(file, "signal %s %s runs %lu takes %lu sent-to %s\n", tell_signal(text, sizeof text, s->signal), name ? name : "-",
+                    (unsigned long)s->runs, (unsigned long)s->taken_count, s->is_sent_to_process ? "process" : "threads");
+    }
+    if (sets_beyond)
+        fprintf(file, "handlers-beyond-sets %u\n  handlers that took locks, beyond the first %d: what they interrupt wasn't looked at\n", sets_beyond,
+                MOST_SETS);
+}

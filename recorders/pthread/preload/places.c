@@ -1,0 +1,317 @@
+/* Places: the callers of a call. Each has a number, by which classes and pieces of memory say where they come from. */
+#include "own.h"
+
+static struct names places;
+
+static uint64_t stack_key(const struct stack *stack) {
+    uint64_t key = mixed(stack->element) ^ stack->callers[0];
+    for (uint32_t i = 1; i < stack->count; i++)
+        key = mixed(key) ^ stack->callers[i];
+    return mixed(key);
+}
+
+static uint32_t define_place(const struct stack *stack) {
+    uint32_t number = take_part(RAW_PLACES);
+    if (!number)
+        return 0;
+    struct raw_place *place = part_of(RAW_PLACES, number);
+    for (uint32_t i = 0; i < stack->count; i++)
+        place->callers[i] = word_of(stack->callers[i]);
+    place->element = stack->element;
+    STORE(&place->count, stack->count);
+    return number;
+}
+
+uint32_t place_of(const struct stack *stack) {
+    uint32_t *slot = added_slot(&places, stack_key(stack));
+    if (!slot)
+        return 0;
+    uint32_t place = LOAD(slot);
+    return LIKELY(place) ? place : settled(slot, define_place(stack));
+}
+
+uint32_t place_of_caller(uintptr_t caller) {
+    struct stack stack;
+    stack.element = 0;
+    stack.count = 1;
+    stack.callers[0] = caller;
+    return place_of(&stack);
+}
+
+/* ---- Stacks that were met before, so that they aren't followed again: if all return addresses of one still stand where they were
+   found, it is the same. One sum tells that of all of them, and tells a reader that comes while it is written. A memo is a line of the
+   processor's. */
+
+#define MEMOS 16384
+#define FIRST_MEMOS 4
+#define MEMO_WAYS 4
+#define WORD 8
+
+#define PIECE_FRAMES 12 /* of a piece of memory */
+#define FEW_FRAMES 6
+
+struct memo {
+    uintptr_t frame; /* of the call: a stack of the program's own making may end closely above another one */
+    uint64_t sum;
+    uint32_t place;
+    uint16_t count, last; /* of `at`: how many, and the farthest */
+    uint16_t at[RAW_FRAMES]; /* in words; after the last one again where the first one is */
+} __attribute__((aligned(64)));
+
+TABLE(struct memo, memos, FIRST_MEMOS, MEMOS);
+static uint32_t memos_in_use = FIRST_MEMOS, memos_made; /* as with the rules of stacks */
+
+static bool are_many_memos(void) { return __atomic_load_n(&memos_in_use, __ATOMIC_RELAXED) > FIRST_MEMOS; }
+
+/* What a caller counts for, by how far out it is: odd numbers that have nothing to do with each other. */
+static const uint64_t weights[RAW_FRAMES] = {
+    0x1d52490575ffc53d, 0xe2a214e8bbe9c675, 0x186c39e8c7bb69f7, 0xf3aa3897fcf4c6b7, 0x64d4748ca3c77ebf, 0x5c22c46963e968fd,
+    0x8c656018eee38dc1, 0xb2609a0bdd2b7551, 0x3b9be05d0e8e2329, 0x5bd0f521be84762b, 0xa4e0689e1888df21, 0x7ea3ef27e2e90529,
+    0x7b81e5e0309e6043, 0x5c3981a844ab26d9, 0x99ba695ab78d8387, 0x2bcc0d1cd5a93145,
+};
+
+static inline uint64_t rotated(uint64_t element) { return element << 21 | element >> 43; }
+
+static uint64_t sum_start(uint32_t count, uint32_t place, uint64_t element) {
+    return ((uint64_t)LOAD(&rules_epoch) << 48 ^ (uint64_t)count << 32 ^ place ^ rotated(element)) + 1;
+}
+
+/* Of the words where the memo has a caller. They lie in the stack, whatever another thread writes to the memo meanwhile. */
+QUICK uint64_t sum_of(const struct memo *memo, uintptr_t frame, uint32_t last, uint32_t count) {
+    uint64_t sum = 0;
+    _Pragma("GCC unroll 16") for (uint32_t i = 0; i < count; i++) {
+        uint32_t at = __atomic_load_n(&memo->at[i], __ATOMIC_RELAXED);
+        sum += weights[i] * ((const uintptr_t *)frame)[at < last ? at : last];
+    }
+    return sum;
+}
+
+/* A memo has one of three numbers of words, so that each is gone through without a loop. */
+static inline uint32_t summed(uint32_t count) {
+    return count <= FEW_FRAMES ? FEW_FRAMES : count <= PIECE_FRAMES ? PIECE_FRAMES : RAW_FRAMES;
+}
+
+QUICK uint64_t sum_there(const struct memo *memo, uintptr_t frame, uint32_t last, uint32_t count) {
+    if (count <= FEW_FRAMES)
+        return sum_of(memo, frame, last, FEW_FRAMES);
+    return LIKELY(count <= PIECE_FRAMES) ? sum_of(memo, frame, last, PIECE_FRAMES) : sum_of(memo, frame, last, RAW_FRAMES);
+}
+
+/* The place of the call if its stack is the memo's, of no more than so many callers; else 0. Where its callers were once, with the same
+   frame, there is memory. */
+static inline uint32_t place_in(const struct memo *memo, const struct asked *asked, uint32_t most) {
+    uint32_t count = __atomic_load_n(&memo->count, __ATOMIC_RELAXED), last = __atomic_load_n(&memo->last, __ATOMIC_RELAXED);
+    uint32_t place = __atomic_load_n(&memo->place, __ATOMIC_RELAXED);
+    if (__atomic_load_n(&memo->frame, __ATOMIC_RELAXED) != asked->call.frame || count > most || last * WORD >= asked->stack_bytes)
+        return 0;
+    uint64_t sum = sum_there(memo, asked->call.frame, last, count) + sum_start(count, place, asked->element);
+    return sum == LOAD(&memo->sum) ? place : 0;
+}
+
+static void write_memo(struct memo *memo, uintptr_t frame, const struct stack *stack, uint64_t element, uint32_t place) {
+    uint64_t sum = sum_start(stack->count, place, element);
+    STORE(&memo->frame, 0);
+    STORE(&memo->sum, 0);
+    for (uint32_t i = 0; i < summed(stack->count); i++) {
+        uint32_t which = i < stack->count ? i : 0;
+        AS_WRITTEN;
+        memo->at[i] = (uint16_t)(stack->at[which] / WORD);
+        sum += weights[i] * stack->callers[which];
+    }
+    memo->place = place;
+    memo->last = (uint16_t)(stack->at[stack->count - 1] / WORD);
+    STORE(&memo->count, (uint16_t)stack->count);
+    STORE(&memo->frame, frame);
+    STORE(&memo->sum, sum);
+}
+
+/* The last ones that were met are kept, the last one first. */
+static void make_first(struct memo *memos, uint32_t which) {
+    struct memo first = memos[which];
+    for (uint32_t i = which; i > 0; i--) {
+        AS_WRITTEN;
+        memos[i] = memos[i - 1];
+    }
+    memos[0] = first;
+}
+
+/* A stack that is spread out too far isn't kept. */
+static void remember(const struct asked *asked, const struct stack *stack, uint32_t place) {
+    if (!place || !stack->is_bounded || stack->count == 1 || stack->at[stack->count - 1] / WORD - 1 >= UINT16_MAX)
+        return;
+    if (RARELY(ADD(&memos_made, 1) == FIRST_MEMOS))
+        STORE(&memos_in_use, MEMOS);
+    make_first(asked->memos, MEMO_WAYS - 1);
+    write_memo(asked->memos, asked->call.frame, stack, asked->element, place);
+}
+
+/* What tells a call from others. The operators of C++ all call malloc from one place, so the caller behind it counts as well. */
+static inline uint64_t site_key(struct call call, uintptr_t outer, uint64_t element) {
+    return (call.caller ^ outer << 17 ^ rotated(element) ^ (uint64_t)LOAD(&rules_epoch) << 48) * weights[0];
+}
+
+static inline struct memo *memos_of(uint64_t site, uintptr_t frame) {
+    uint64_t which = (site ^ frame * weights[1]) >> 40 & (__atomic_load_n(&memos_in_use, __ATOMIC_RELAXED) - MEMO_WAYS);
+    return NTH(memos, which);
+}
+
+static struct asked ask(struct call call) {
+    uint64_t stack_bytes = stack_above(call);
+    struct memo *memos_of_call = memos_of(site_key(call, outer_caller(call, stack_bytes), 0), call.frame);
+    return (struct asked){.call = call, .stack_bytes = stack_bytes, .memos = memos_of_call};
+}
+
+/* ... in one of the memos behind the first one. */
+static uint32_t remembered_before(const struct asked *asked, uint32_t most) {
+    for (uint32_t i = 1; i < MEMO_WAYS; i++) {
+        uint32_t place = place_in(asked->memos + i, asked, most);
+        if (place) {
+            make_first(asked->memos, i);
+            return place;
+        }
+    }
+    return 0;
+}
+
+uint32_t place_of_call(struct call call, uint32_t most) {
+    struct asked asked = ask(call);
+    uint32_t place = place_in(asked.memos, &asked, most);
+    if (!place)
+        place = remembered_before(&asked, most);
+    if (LIKELY(place))
+        return place;
+    struct stack stack;
+    take_stack(&stack, call, most);
+    place = place_of(&stack);
+    remember(&asked, &stack, place);
+    return place;
+}
+
+/* ---- Places that were met, each in a word: its key, and the place in the lowest bits. */
+
+#define PLACE_MASK ((UINT64_C(1) << 21) - 1) /* more than there are places */
+
+static inline uint32_t place_at(const uint64_t *word, uint64_t key) {
+    uint64_t known = __atomic_load_n(word, __ATOMIC_RELAXED);
+    return (known ^ key) <= PLACE_MASK ? (uint32_t)(known & PLACE_MASK) : 0;
+}
+
+static inline void put_place_at(uint64_t *word, uint64_t key, uint32_t place) {
+    __atomic_store_n(word, (key & ~PLACE_MASK) | place, __ATOMIC_RELAXED);
+}
+
+/* ---- The place of a piece of memory. A call whose stacks vary, as in a program that interprets another one, may have been met with the
+   same innermost callers. If these were met in many stacks they alone tell the call: to follow and keep ever new stacks takes several times
+   what malloc does. */
+
+#define INNERMOST 4 /* the callers that a name has, and an operator of C++ */
+#define MOST_STACKS 256
+#define MET_STACKS 65536
+
+static struct names stacks_of_calls; /* how many stacks were met, by the innermost callers */
+static uint64_t met_stacks[MET_STACKS] LARGE;
+
+static uint64_t *met_stack(uint64_t key) { return &met_stacks[(key >> 32) % MET_STACKS]; }
+
+/* The place of a stack, which is counted if it is new. */
+static uint32_t counted_place(const struct stack *stack, uint32_t *met) {
+    uint32_t *slot = added_slot(&places, stack_key(stack));
+    if (!slot)
+        return 0;
+    uint32_t place = LOAD(slot);
+    if (LIKELY(place))
+        return place;
+    if (met)
+        ADD(met, 1);
+    return settled(slot, define_place(stack));
+}
+
+/* ... of a stack that isn't among those that were met last. */
+static __attribute__((noinline)) uint32_t place_of_varied(struct call call, struct stack *stack, uint64_t inner) {
+    uint32_t *met = added_slot(&stacks_of_calls, inner);
+    if (met && LOAD(met) >= MOST_STACKS)
+        take_stack(stack, call, INNERMOST);
+    return counted_place(stack, met);
+}
+
+/* By a place and the size of an element: the place of arrays. */
+static struct names arrays;
+
+static uint32_t place_of_array(uint32_t plain, struct stack *stack, uint64_t element) {
+    uint32_t *slot = plain ? added_slot(&arrays, mixed(mixed(plain) ^ element)) : NULL;
+    uint32_t place = slot ? LOAD(slot) : 0;
+    if (LIKELY(place || !slot))
+        return place;
+    stack->element = element;
+    place = settled(slot, place_of(stack));
+    stack->element = 0;
+    return place;
+}
+
+/* Of a stack that wasn't met in a memo. Of the innermost callers alone there is another key. */
+static uint32_t place_of_stack(const struct asked *asked, struct stack *stack) {
+    uint64_t salt = mixed(LOAD(&rules_epoch)) ^ mixed(asked->element), inner = stack_key(stack), few = ~(inner ^ salt);
+    uint32_t place = place_at(met_stack(few), few);
+    if (place)
+        return place;
+    take_stack(stack, asked->call, PIECE_FRAMES);
+    uint64_t all = stack_key(stack) ^ salt;
+    place = place_at(met_stack(all), all);
+    if (place)
+        return place;
+    uint32_t count = stack->count;
+    place = place_of_varied(asked->call, stack, inner);
+    if (asked->element)
+        place = place_of_array(place, stack, asked->element);
+    uint64_t key = stack->count < count ? few : all;
+    if (place && are_many_memos())
+        put_place_at(met_stack(key), key, place);
+    return place;
+}
+
+/* ... of a call whose stack isn't the first memo's. */
+static __attribute__((noinline)) uint32_t place_of_followed(const struct asked *asked) {
+    uint32_t place = remembered_before(asked, PIECE_FRAMES);
+    if (LIKELY(place))
+        return place;
+    struct stack stack;
+    take_stack(&stack, asked->call, INNERMOST);
+    place = place_of_stack(asked, &stack);
+    remember(asked, &stack, place);
+    return place;
+}
+
+/* What is looked for is in the processor's cache by the time that the piece is there. */
+struct asked ask_for_piece(struct call call, uint64_t element) {
+    struct asked asked = {.call = call, .element = element, .stack_bytes = stack_above(call)};
+    uintptr_t outer = outer_caller(call, asked.stack_bytes);
+    uint64_t key = site_key(call, outer, element);
+    asked.memos = memos_of(key, call.frame);
+    __builtin_prefetch(asked.memos);
+    return asked;
+}
+
+uint32_t place_of_piece(const struct asked *asked) {
+    uint32_t known = place_in(asked->memos, asked, PIECE_FRAMES);
+    return LIKELY(known) ? known : place_of_followed(asked);
+}
+
+/* ---- A library was closed: places in it are to be defined anew if the same addresses come again. */
+
+static bool is_place_gone(uint32_t number) {
+    const struct raw_place *place = part_of(RAW_PLACES, number);
+    for (uint32_t i = 0; i < place->count; i++)
+        if (is_gone(raw_word_module(place->callers[i])))
+            return true;
+    return false;
+}
+
+static void forget_gone_place(uint32_t *value) {
+    if (is_place_gone(*value))
+        STORE(value, 0);
+}
+
+void forget_places_in_closed_modules(void) {
+    each_name(&places, forget_gone_place);
+    each_name(&arrays, forget_gone_place);
+}
