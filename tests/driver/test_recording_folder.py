@@ -10,10 +10,12 @@ from lockdep.saying import Refusal, typed
 
 class Names(unittest.TestCase):
     def test_names_that_a_recording_makes(self):
-        for name in ("classes", "SUMMARY", "summary.json", "raw.tar.gz", "objects", "task-0001.csv", "objects/task-12345.csv.places"):
+        for name in ("classes", "SUMMARY", "summary.json", "raw.tar.gz", "objects", "task-0001.csv", "objects/task-12345.csv.places",
+                     "signals", "signals/sources.json", "signals/never.json", "signals/12", "signals/12/task-0001.csv", "signals/1/task-0001.csv.places"):
             self.assertTrue(is_made(name), name)
         for name in ("raw", "task-.csv", "task-1.txt", "task-1x.csv", "task-0001.csv.places.places", "objects/classes", "notes", "task-notes.csv",
-                     "task-\u0661.csv"):
+                     "task-\u0661.csv", "signals/notes", "signals/x/task-0001.csv", "signals/1/notes", "signals/task-0001.csv", "signals/1/2",
+                     "x/signals/1/task-0001.csv"):
             self.assertFalse(is_made(name), name)
 
     def test_a_path_that_looks_like_an_option(self):
@@ -73,6 +75,16 @@ class Preparing(unittest.TestCase):
         self.write("RECORDED", "".join(line + "\n" for line in (FIRST_LINE, "classes", "objects", "objects/task-0001.csv", "notes", "../traces/notes")))
         self.prepared()
         self.assertEqual(sorted(os.listdir(self.path)), ["RECORDED", "notes", "raw"])
+
+    def test_the_traces_of_signal_handlers_are_listed_and_replaced(self):
+        made = ("signals", "signals/1", "signals/1/task-0001.csv", "signals/1/task-0001.csv.places", "signals/never.json", "signals/sources.json")
+        for name in made[2:] + ("signals/2/task-0001.csv", "signals/2/notes"):
+            self.write(name)
+        folder = Folder(self.path)
+        self.assertEqual(folder.names(), sorted(made + ("signals/2", "signals/2/task-0001.csv")))
+        self.write("RECORDED", "".join(line + "\n" for line in [FIRST_LINE] + folder.names()))
+        self.prepared()
+        self.assertEqual([names for _, _, names in os.walk(os.path.join(self.path, "signals"))], [[], ["notes"]])
 
     def test_a_recording_whose_traces_were_not_made_stays(self):
         for mark in ("settings", "python", "java"):

@@ -22,7 +22,7 @@ class CommandLines(unittest.TestCase):
 
     def test_refusals(self):
         for words in (["--nosuch"], ["-o"], ["-o", "--"], ["--frames", "17"], ["--frames=01"], ["--recorder", "perl"], ["--quiet=yes"], ["-"],
-                      ["--known", "-"], ["--write-known", "-"], ["--accept-left-out", "threads"], ["--error-exitcode", "256"], ["--known="]):
+                      ["--signals", "some"], ["--signals="], ["--known", "-"], ["--write-known", "-"], ["--accept-left-out", "threads"], ["--error-exitcode", "256"], ["--known="]):
             self.assertRaises(Refusal, parse, COMMANDS["run"], words)
 
     def test_what_is_written_may_go_to_standard_output(self):

@@ -2,14 +2,14 @@
 
 _lockdep_options() {
     case $1 in
-        run) echo -o --recorder --frames --known --write-known --strict-known --html --sarif --junit --json --accept-left-out --quiet --error-exitcode --confirmed-only --help ;;
+        run) echo -o --recorder --frames --signals --known --write-known --strict-known --html --sarif --junit --json --accept-left-out --quiet --error-exitcode --confirmed-only --help ;;
         provoke) echo -o --from --recorder --runs --pause --finding --keep --core --while --stdin --help ;;
         check) echo --workers --many --help ;;
         explain) echo --workers --many --json --locks --confirmed-only --help ;;
         graph) echo --workers --many --findings --help ;;
         condense) echo --workers --help ;;
         chains) echo --help ;;
-        record) echo -o --recorder --frames --no-wait --version-1 --finish --summary --accept-left-out --help ;;
+        record) echo -o --recorder --frames --signals --no-wait --version-1 --finish --summary --accept-left-out --help ;;
         confirm) echo --strict --html --sarif --junit --json --help ;;
         where) echo --help ;;
         diff) echo --help ;;
@@ -41,7 +41,7 @@ _lockdep() {
                         place=$((place + 1))
                         break
                         ;;
-                    -o | --recorder | --frames | --known | --write-known | --html | --sarif | --junit | --json | --accept-left-out | --error-exitcode | --from | --runs | --pause | --finding | --while | --stdin | --finish | --summary)
+                    -o | --recorder | --frames | --signals | --known | --write-known | --html | --sarif | --junit | --json | --accept-left-out | --error-exitcode | --from | --runs | --pause | --finding | --while | --stdin | --finish | --summary)
                         place=$((place + 1))
                         ;;
                     = | -*) ;;
@@ -62,6 +62,7 @@ _lockdep() {
         -o) mapfile -t COMPREPLY < <(compgen "$kind" -- "$word") ;;
         --recorder) mapfile -t COMPREPLY < <(compgen -W 'pthread python java rust embed' -- "$word") ;;
         --frames) mapfile -t COMPREPLY < <(compgen -W '1 2 3 4 6 8 12 16' -- "$word") ;;
+        --signals) mapfile -t COMPREPLY < <(compgen -W 'off locks all' -- "$word") ;;
         --known | --write-known | --stdin | --confirmed) mapfile -t COMPREPLY < <(compgen -f -- "$word") ;;
         --html | --sarif | --junit | --json) mapfile -t COMPREPLY < <(compgen -W 'files' -- "$word") ;;
         --accept-left-out | --error-exitcode | --runs | --pause | --finding | --while | --left-out | --waiting) ;;

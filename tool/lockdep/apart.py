@@ -7,7 +7,7 @@ import itertools
 import os
 
 from .findings import Finding, Order
-from .folder import LIVES, OBJECTS
+from .folder import LIVES, OBJECTS, is_in_signals
 
 TYPE_CHECKING = False
 if TYPE_CHECKING:
@@ -62,7 +62,10 @@ def lives_in(folder: str) -> Lives:
 def folder_of(trace: str) -> str:
     """The folder of a trace's recording."""
     folder = os.path.dirname(trace)
-    return os.path.dirname(folder) if os.path.basename(folder) == OBJECTS else folder
+    above = os.path.dirname(folder)
+    if is_in_signals(folder):
+        return os.path.dirname(above)
+    return above if os.path.basename(folder) == OBJECTS else folder
 
 
 def thread_of(trace: str) -> str:

@@ -10,7 +10,8 @@ from .breaches import Breach
 from .findings import Event, Finding
 from .forms import COUNT, Found
 from .happened import Happened
-from .symbols import Frame
+from .signals import Handler, Signals
+from .symbols import Frame, Symbols
 from .threads import name_of
 from .words import text_of, visible
 
@@ -70,18 +71,32 @@ def locks_of(finding: Finding, found: Found) -> list[dict]:
 
 
 def finding_json(finding: Finding, found: Found) -> dict:
-    said = with_places(finding.json, found)
+    said: dict = dict(with_places(finding.json, found))
     said["known"] = finding in found.known
     said["level"] = found.level(finding)
     said["verdict"] = (found.remarks(finding) or [""])[-1]
     said["remarks"] = found.remarks(finding)
     said["locks"] = locks_of(finding, found)
+    if finding.handler:
+        said.update(handler_json(finding.handler, found.sources.symbols), sent_to=finding.handler.sent_to, narrow=finding.is_narrow)
     apart = threads_apart(finding, found.recorded)
     if apart:
         said["threads_apart"] = list(apart)
     if finding.happened:
         said["happened"] = happened_json(finding.happened)
     return said
+
+
+def handler_json(handler: Handler, symbols: Symbols) -> dict:
+    """A signal and its handler. What isn't known is null."""
+    frame = handler.frame(symbols)
+    return {"signal": handler.signal, "handler": {"name": frame.function or None, "file": frame.path or None, "line": frame.line or None}}
+
+
+def signals_json(signals: Signals) -> dict:
+    """The handlers that ran and took a lock, and those that never ran."""
+    ran = [dict(handler_json(handler, signals.symbols), runs=handler.runs, takes=handler.takes, sent_to=handler.sent_to) for handler in signals.ran]
+    return {"ran": ran, "never_ran": [handler_json(handler, signals.symbols) for handler in signals.never]}
 
 
 def happened_json(happened: Happened) -> dict:
@@ -118,5 +133,7 @@ def json_of_run(found: Found) -> str:
     rest = {"blocked": [blocked_json(thread, found) for thread in found.blocked],
             "breaches": [breach_json(breach, found) for breach in found.breaches + found.known_breaches], "waiting": found.waiting,
             "left_out": visible(found.left_out), "summary": summary_json(found)}
+    if found.signals:
+        rest["signals"] = signals_json(found.signals)
     head = compact({"lockdep": VERSION, "counts": counts})
     return '%s,"findings":[\n%s],%s\n' % (head[:-1], ",\n".join(lines) + "\n" if lines else "", compact(rest)[1:])

@@ -4,8 +4,12 @@ from __future__ import annotations
 import os
 
 from .checker import REFUSED, Answer, ask
-from .folder import OBJECTS, PROVOKED, WEAK
+from .folder import OBJECTS, PROVOKED, SIGNALS, WEAK
 from .words import text_of
+
+TYPE_CHECKING = False
+if TYPE_CHECKING:
+    from .signals import Signals
 
 BY_LOCKS = ["explain", "--locks", "--json", "--many", "--"]
 BY_CLASSES = ["explain", "--json", "--many", "--"]
@@ -29,6 +33,7 @@ class Asked:
     def __init__(self, folder: str, answer: Answer, traces: list[str], reason: str = "", said: bytes = b"") -> None:
         self.folder, self.answer, self.traces, self.reason, self.said = folder, answer, traces, reason, said
         self.found: list | None = None
+        self.signals: Signals | None = None
 
     @property
     def is_refused(self) -> bool:
@@ -37,7 +42,18 @@ class Asked:
     @property
     def has_findings(self) -> bool:
         """Whether something was found, also a note of a type that is nested in itself. Without findings the list is empty."""
-        return self.answer.status == 1 or b'{"type":' in self.answer.output
+        of_signals = bool(self.signals and self.signals.findings)
+        return of_signals or self.answer.status == 1 or b'{"type":' in self.answer.output
+
+    @property
+    def left_out(self) -> list[str]:
+        """What couldn't be asked, in words."""
+        return self.signals.left_out if self.signals else []
+
+    @property
+    def why_left_out(self) -> bytes:
+        """What the checker said about that."""
+        return self.signals.said if self.signals else b""
 
     def findings(self) -> list:
         """What was found. If single locks weren't asked about, it isn't known what a finding was seen between."""
@@ -56,6 +72,9 @@ class Asked:
             from .weak import weaken
             with room_for(self.folder) as room:
                 weaken(findings, self.folder, self.traces, room)
+        for finding in self.signals.findings if self.signals else ():
+            finding.place = finding.number = len(findings) + 1
+            findings.append(finding)
         if os.path.exists(os.path.join(self.folder, PROVOKED)):
             from .happened import take_happened
             take_happened(findings, self.folder)
@@ -63,7 +82,15 @@ class Asked:
 
 
 def ask_about(folder: str) -> Asked:
-    """Asks about all traces of a recording."""
+    """Asks about all traces of a recording: those of its threads, and those of signal handlers."""
+    asked = ask_about_threads(folder)
+    if not asked.is_refused and os.path.lexists(os.path.join(folder, SIGNALS)):
+        from .signals import ask_about_signals
+        asked.signals = ask_about_signals(folder)
+    return asked
+
+
+def ask_about_threads(folder: str) -> Asked:
     objects = traces_in(os.path.join(folder, OBJECTS))
     reason, said = NO_OBJECTS, b""
     if objects:

@@ -10,7 +10,7 @@ from dataclasses import dataclass, field
 from .asking import traces_in
 from .files import contents
 from .findings import Event
-from .folder import OBJECTS
+from .folder import OBJECTS, SIGNALS
 from .sources import Sources
 from .threads import called
 from .words import name_in, plain_key, stands_for_several, text_of
@@ -175,7 +175,18 @@ def blocked_threads(folder: str, summary: str) -> list[Blocked]:
     threads = [thread_at_end(name, trace_of(folder, name), named.get(name, False)) for name in names]
     for thread in threads:
         thread.called = called(thread.name, trace_of(folder, thread.name))
+    if os.path.lexists(os.path.join(folder, SIGNALS)):
+        name_handlers([thread for thread in threads if thread.waits], folder)
     return each_once([blocked_of(thread, threads) for thread in threads if thread.waits])
+
+
+def name_handlers(threads: list[Thread], folder: str) -> None:
+    """Says of a thread if it is a run of a signal's handler."""
+    from .signals import Signals, words_of
+    signals = Signals(folder)
+    for thread in threads:
+        handler = signals.run_in(trace_of(folder, thread.name))
+        thread.called = "%s (%s)" % (thread.name, words_of(handler, signals.symbols)) if handler else thread.called
 
 
 def sources_wanted(blocked: list, sources: Sources) -> None:

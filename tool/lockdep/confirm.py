@@ -11,7 +11,7 @@ from .breaches import Breach, breaches_in
 from .checker import HOME
 from .files import STANDARD_OUTPUT, is_file, need_output, print_file
 from .findings import Finding
-from .folder import PAGE, is_made
+from .folder import PAGE, SIGNALS, is_made
 from .sources import sources_of
 from .terminal import Writer, text_stream
 from .text import Text
@@ -77,7 +77,7 @@ def check_folder(folder: str) -> None:
             raise Refusal("%s has a recording whose traces weren't made: `lockdep record --finish` of that folder makes them" % name)
         raise Refusal("%s has no recording" % name)
     for line in text_in(os.path.join(folder, LISTED)).split("\n"):
-        is_trace = line.endswith(".csv") and line.startswith(("task-", OBJECTS + "/task-"))
+        is_trace = line.endswith(".csv") and line.startswith(("task-", OBJECTS + "/task-", SIGNALS + "/"))
         if is_trace and not os.path.exists(os.path.join(folder, line)):
             raise Refusal("%s is incomplete: %s, which RECORDED lists, is missing" % (name, visible(line)))
 
@@ -103,6 +103,9 @@ def say_summary(folder: str) -> None:
 def say_refusal(asked: Asked) -> None:
     sys.stderr.buffer.write(asked.said or b"")
     sys.stderr.buffer.write(asked.answer.said if asked.is_refused else b"")
+    if asked.left_out:
+        sys.stderr.buffer.write(asked.why_left_out)
+        sys.stderr.buffer.write(os.fsencode("confirm: not checked: %s\n" % ", ".join(asked.left_out)))
     sys.stderr.flush()
 
 
@@ -135,7 +138,8 @@ def are_written(folder: str, asked: Asked, forms: dict[str, str]) -> bool:
     """Writes the forms that `run` writes of a recording. Whether all could be."""
     from .report import Recording, Report, Wishes
     from .summary import read
-    made = Report(Recording(folder, text_in(os.path.join(folder, "SUMMARY")), ", ".join(read(folder, HOME).left_out())), Wishes(**forms), asked)
+    lost = ", ".join(read(folder, HOME).left_out() + asked.left_out)
+    made = Report(Recording(folder, text_in(os.path.join(folder, "SUMMARY")), lost), Wishes(**forms), asked)
     made.sort()
     made.look_deeper()
     made.write_forms(made.wishes.forms)
@@ -169,5 +173,7 @@ def main(words: list[str]) -> int:
         return 2
     except OSError:
         raise Refusal("the text can't be written")
+    if asked.left_out:
+        return 2
     counted = [finding for finding in findings if not finding.is_note]
     return 1 if breaches or any(finding.is_confirmed or not wanted.is_strict for finding in counted) else 0

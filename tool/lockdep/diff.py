@@ -56,8 +56,8 @@ def places_of(finding: Finding, sources: Sources) -> dict[str, list[Place]]:
 
 def sides_of_folder(folder: str) -> list[Side]:
     asked = ask_about(folder)
-    if asked.is_refused:
-        sys.stderr.buffer.write(asked.answer.said)
+    if asked.is_refused or asked.left_out:
+        sys.stderr.buffer.write(asked.answer.said if asked.is_refused else asked.why_left_out)
         raise Refusal("the traces of %s were refused" % visible(folder))
     findings = [finding for finding in asked.findings() if not finding.is_note]
     sources, recorded, breaches = sources_of(findings, [folder]), Recorded(asked.traces), breaches_in(folder)

@@ -66,6 +66,9 @@ def use_line(head: str, use: Use, key: str, sources: Sources) -> Line:
 
 def occurrence_lines(finding: Finding, sources: Sources) -> list[Line]:
     """Where a finding comes from."""
+    if finding.handler:
+        from .signal_text import occurrence_lines as lines_of_signal
+        return lines_of_signal(finding, finding.handler, sources)
     lines = [order_line(order, sources) for order in finding.orders]
     if finding.type != "circle":
         lines.append(use_line("used in %s" % finding.irq, finding.used, finding.keys[0], sources))
@@ -84,6 +87,9 @@ def thread_of(event: Event | None) -> str:
 
 def task_lines(finding: Finding) -> list[Line]:
     """How it ends in a deadlock: what each task does, with its thread."""
+    if finding.handler:
+        from .signal_text import end_lines
+        return end_lines(finding)
     parts = [words + thread_of(order.event) for words, order in zip(task_words(finding), finding.orders)]
     if finding.type != "circle":
         parts = ["task 1 holds %s%s" % (finding.keys[-1], thread_of(finding.enabled.event))] + parts
@@ -115,6 +121,10 @@ def inner_lines(finding: Finding, sources: Sources) -> list[Line]:
     inner = finding.between.finding if finding.between else None
     if not inner:
         return []
+    if inner.handler:
+        is_same = (inner.used, inner.enabled) == (finding.used, finding.enabled) and all(
+            (one.event, one.since) == (other.event, other.since) for one, other in zip(inner.orders, finding.orders))
+        return [] if is_same else [line.indented(2) for line in occurrence_lines(inner, sources)]
     above = {(order.event, order.since) for order in finding.orders}
     lines = [order_line(order, sources) for order in inner.orders if (order.event, order.since) not in above]
     if inner.type != "circle" and (inner.used, inner.enabled) != (finding.used, finding.enabled):

@@ -10,6 +10,7 @@ from .words import Refusal, text_of, visible
 TYPE_CHECKING = False
 if TYPE_CHECKING:
     from .happened import Happened
+    from .signals import Handler
 
 VERSIONS = (1, 2)
 STATES = ("hardirq", "softirq")
@@ -51,6 +52,8 @@ class Order:
     since: Event | None = None
     takes: str | None = None
     event: Event | None = None
+    signal: str = ""  # that comes in while the first is held, if its handler is what takes the second
+    handler: str = ""
 
     @property
     def dependency(self) -> tuple[str, str, str]:
@@ -111,6 +114,17 @@ class Finding:
     json: dict = field(default_factory=dict)
     number: int = 0
     happened: Happened | None = None  # in a run of `lockdep provoke`
+    handler: Handler | None = None  # of a signal, if it is what comes in
+
+    @property
+    def rule(self) -> str:
+        """What SARIF and JUnit call a finding of this kind."""
+        return "signal-" + self.type if self.handler else self.type
+
+    @property
+    def state(self) -> str:
+        """What may come in: a state of interrupts, or a signal."""
+        return self.handler.signal if self.handler else self.irq
 
     @property
     def head(self) -> str:
@@ -135,6 +149,12 @@ class Finding:
     def is_confirmed(self) -> bool:
         """Whether the checker's `--confirmed-only` counts it."""
         return self.kind in (None, Kind.HAPPENED, Kind.LOCKS, Kind.UNKNOWN)
+
+    @property
+    def is_narrow(self) -> bool:
+        """Whether a signal has to come in at a narrow moment, since the lock that its handler waits for knows its owner."""
+        inner, handler = self.between.finding if self.between else None, self.handler
+        return handler is not None and self.type == "double" and any(map(handler.is_narrow, self.keys + (inner.keys if inner else [])))
 
     def edges(self) -> set[tuple[str, str, str]]:
         """The edges of the picture that belong to the finding: from, to, and label."""
@@ -167,12 +187,13 @@ def state_of(word: object) -> str:
 
 def event_of(said: dict, name: str) -> Event | None:
     """The record that an order or a use has under this name, or None if it has none."""
-    return Event(str(said["file"]), int(said[name])) if "file" in said and name in said else None
+    file = said.get("since_file") if name == "since" else None
+    return Event(str(file or said["file"]), int(said[name])) if "file" in said and name in said else None
 
 
 def order_of(said: dict) -> Order:
     return Order(str(said["from"]), str(said["kind"]), str(said["to"]), said.get("held"), event_of(said, "since"),
-                 said.get("takes"), event_of(said, "record"))
+                 said.get("takes"), event_of(said, "record"), str(said.get("signal") or ""), str(said.get("handler") or ""))
 
 
 def use_of(said: dict, irq: str) -> Use:
@@ -227,3 +248,8 @@ def by_line(findings: list[Finding]) -> dict[str, list[Finding]]:
         for line in finding.lines:
             of_lines.setdefault(line, []).append(finding)
     return of_lines
+
+
+def handlers_of(findings: list[Finding]) -> int:
+    """How often a list of known findings has to have a line: once for each handler without a name, or of one name, that the line is of."""
+    return len({(finding.handler.module, finding.handler.offset) if finding.handler else None for finding in findings})

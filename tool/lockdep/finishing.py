@@ -11,12 +11,13 @@ HEADER = "lockdep,2"
 MOST_KEYS = 8192  # names that traces may have together
 MOST_LOCKS = MOST_KEYS // 2  # of these, how many single locks have a name of their own
 MOST_TRACES = 4096
+MOST_RECORDS = 1000000  # of a trace
 MOST_NAME = 53  # bytes of a class's name, which leaves room for the number of a lock
 REST = "#rest"  # behind a class: all its locks that have no name of their own
 
 # What is counted, in the order of SUMMARY.
 LOSSES = ("unrewritten", "multiprocessing", "gevent", "eventlet", "unwritten", "full-traces", "beyond-classes", "beyond-traces", "beyond-held",
-          "retried-tries", "reentered", "interrupted", "unseen-releases", "still-running", "threads-alike", "repeats")
+          "handlers-beyond-sets", "unfollowed-handlers", "retried-tries", "reentered", "interrupted", "unseen-releases", "still-running", "threads-alike", "repeats")
 
 
 class Tally:

@@ -14,23 +14,39 @@ TASKS = "tasks"  # the file with the names of threads
 OBJECTS = "objects"  # the folder with the traces of single locks
 LIVES = "lives"  # the file that says which thread started and joined which
 WEAK = "weak"  # the file that says which acquisitions wait for a time only, or take a new lock
+SIGNALS = "signals"  # the folder with the traces of signal handlers: a folder of it for each, named by a number
+OF_SIGNALS = ("sources.json", "never.json")  # in it: the handlers that took a lock, and those that never ran
 FIRST_LINE = "a recording by lockdep made these:"
 LOCK = 9  # the open file whose lock says that a recording is under way; `run` closes it in the command
 PAGE = "report.html"  # isn't written by what records, which leaves another's alone
 PROVOKED, OF_PROVOKE = "provoked.json", "provoke"  # what `lockdep provoke` made happen, and the folder with what its runs left
-MADE = ("classes", "SUMMARY", "summary.json", PAGE, "raw.tar.gz", "objects", "classes.places", "breaches", "breaches.places", PROVOKED, OF_PROVOKE)
+MADE = ("classes", "SUMMARY", "summary.json", PAGE, "raw.tar.gz", "objects", "classes.places", "breaches", "breaches.places", PROVOKED, OF_PROVOKE,
+        TASKS, LIVES, WEAK, SIGNALS)
 MARKS = ("settings", "python", "java")  # one of these is in `raw` if it has a recording
 ELSEWHERE = "choose another folder by -o"
 
 
 def is_made(name: str) -> bool:
     """Whether a file of this name may be one that a recording made."""
-    if name in MADE or name in (TASKS, LIVES, WEAK):
-        return True
-    trace = name[len("objects/"):] if name.startswith("objects/") else name
-    trace = trace[:-len(".places")] if trace.endswith(".places") else trace
-    number = trace[len("task-"):-len(".csv")]
-    return trace == "task-%s.csv" % number and number.strip("0123456789") == "" != number
+    folder, _, inner = name.rpartition("/")
+    if folder == SIGNALS:
+        return inner in OF_SIGNALS or is_number(inner)
+    if folder in ("", "objects") or is_in_signals(folder) and folder.count("/") == 1:
+        return is_trace(inner[:-len(".places")] if inner.endswith(".places") else inner) or name in MADE
+    return False
+
+
+def is_trace(name: str) -> bool:
+    return name.startswith("task-") and name.endswith(".csv") and is_number(name[len("task-"):-len(".csv")])
+
+
+def is_number(text: str) -> bool:
+    return text.strip("0123456789") == "" != text
+
+
+def is_in_signals(folder: str) -> bool:
+    """Whether a folder has the traces of one signal handler of a recording: FOLDER/signals/N."""
+    return is_number(os.path.basename(folder)) and os.path.basename(os.path.dirname(folder)) == SIGNALS
 
 
 def fault(error: OSError, path: str) -> str:
@@ -113,9 +129,16 @@ class Folder:
             found = os.listdir(self.path)
         except OSError:
             return []
-        if "objects" in found and os.path.isdir(os.path.join(self.path, "objects")):
-            found += ["objects/" + name for name in os.listdir(os.path.join(self.path, "objects"))]
+        for folder in ("objects", SIGNALS):
+            found += self.inside(folder) if folder in found else []
+        for folder in [name for name in found if is_in_signals(name)]:
+            found += self.inside(folder)
         return sorted(name for name in found if is_made(name))
+
+    def inside(self, folder: str) -> list[str]:
+        """What is in a folder of this one, by names that begin with the folder's."""
+        path = os.path.join(self.path, folder)
+        return ["%s/%s" % (folder, name) for name in os.listdir(path)] if os.path.isdir(path) else []
 
     def mark(self) -> str | None:
         """The mark of a recording whose traces weren't made, or can be made again."""
@@ -187,17 +210,15 @@ class Folder:
 
     def remove_earlier(self) -> None:
         """Removes what the list says that an earlier recording made, and only what a recording can have made."""
-        listed = self.listed()[1:]
+        listed = [name for name in self.listed()[1:] if is_made(name)]
+        folders = [name for name in listed if name in ("objects", SIGNALS) or is_in_signals(name)]
         for name in listed:
-            if is_made(name) and name not in ("objects", OF_PROVOKE):
+            if name not in folders and name != OF_PROVOKE:
                 remove(os.path.join(self.path, name))
         if OF_PROVOKE in listed:
             remove_tree(os.path.join(self.path, OF_PROVOKE))
-        if "objects" in listed:
-            try:
-                os.rmdir(os.path.join(self.path, "objects"))
-            except OSError:
-                pass
+        for name in sorted(folders, reverse=True):  # (what is inside another one comes before it)
+            remove_folder(os.path.join(self.path, name))
         self.write_list([])
 
 
@@ -205,6 +226,14 @@ def remove(path: str) -> None:
     try:
         os.unlink(path)
     except FileNotFoundError:
+        pass
+
+
+def remove_folder(path: str) -> None:
+    """Removes a folder, unless something is in it."""
+    try:
+        os.rmdir(path)
+    except OSError:
         pass
 
 

@@ -19,6 +19,7 @@ from .words import name_in
 
 if TYPE_CHECKING:
     from .report import Report
+    from .signals import Signals
 
 WAITING = re.compile(r"^  (task-\d+ waits for .*)$", re.MULTILINE)
 COUNT = re.compile(r"^([a-z][a-z -]*) (\d+)$", re.MULTILINE)
@@ -45,6 +46,7 @@ class Found:
     known_blocked: int = 0
     breaches: list[Breach] = field(default_factory=list)
     known_breaches: list[Breach] = field(default_factory=list)
+    signals: Signals | None = None  # if the recording has any
 
     @classmethod
     def of_run(cls, report: Report) -> Found:
@@ -52,10 +54,10 @@ class Found:
         files = [trace for trace in report.asked.traces]
         waiting = WAITING.findall(recording.summary)
         if result is None:
-            return cls([], [], Sources(), Recorded(files), files, recording.lost, waiting, summary=recording.summary)
+            return cls([], [], Sources(), Recorded(files), files, recording.lost, waiting, summary=recording.summary, signals=report.asked.signals)
         return cls(result.new, result.known, report.sources, report.recorded, files, recording.lost, waiting, report.blocked,
                    recording.summary, known_blocked=result.known_blocked, breaches=report.breaches,
-                   known_breaches=result.known_breaches)
+                   known_breaches=result.known_breaches, signals=report.asked.signals)
 
     @property
     def findings(self) -> list[Finding]:

@@ -7,6 +7,7 @@ from typing import Tuple
 from .findings import Finding
 
 Dependency = Tuple[str, str, str]
+Key = Tuple[Dependency, object]  # an order, and a signal's handler if the findings have one
 
 
 @dataclass
@@ -17,12 +18,12 @@ class Group:
     shared: str = ""
 
 
-def holders_of(findings: list[Finding]) -> dict[Dependency, list[Finding]]:
-    """For each order the findings that have it."""
-    holders: dict[Dependency, list[Finding]] = {}
+def holders_of(findings: list[Finding]) -> dict[Key, list[Finding]]:
+    """For each order the findings that have it. Those of a signal's handler are none of others."""
+    holders: dict[Key, list[Finding]] = {}
     for finding in findings:
         for dependency in dict.fromkeys(order.dependency for order in finding.orders):
-            holders.setdefault(dependency, []).append(finding)
+            holders.setdefault((dependency, finding.handler), []).append(finding)
     return holders
 
 
@@ -30,10 +31,10 @@ def groups_of(findings: list[Finding]) -> list[Group]:
     """The groups, each where its first finding stands. The order that most findings have makes the first group, and so on with
     those that are left."""
     holders, groups, left = holders_of(findings), [], {finding.number for finding in findings}
-    for dependency in sorted(holders, key=lambda dependency: -len(holders[dependency])):
-        members = [finding for finding in holders[dependency] if finding.number in left]
+    for key in sorted(holders, key=lambda key: -len(holders[key])):
+        members = [finding for finding in holders[key] if finding.number in left]
         if len(members) > 1:
-            groups.append(Group(members, " ".join(dependency)))
+            groups.append(Group(members, " ".join(key[0])))
             left -= {finding.number for finding in members}
     groups += [Group([finding]) for finding in findings if finding.number in left]
     place = {finding.number: number for number, finding in enumerate(findings)}

@@ -7,20 +7,20 @@ from .blocked import Blocked
 from .breaches import Breach
 from .findings import Finding
 from .forms import Found, moment
-from .steps import Step, sentence, steps_of, words_of
+from .steps import Step, sentence, steps_of, task_name, words_of
 from .symbols import place_words
 from .words import escaped
 
 
-def step_words(step: Step) -> str:
-    return "task %d: %s (%s: record %d)" % (step.task + 1, words_of(step), step.event.file, step.event.record)
+def step_words(finding: Finding, step: Step) -> str:
+    return "%s: %s (%s: record %d)" % (task_name(finding, step.task + 1), words_of(step), step.event.file, step.event.record)
 
 
-def step_line(step: Step, found: Found) -> str:
+def step_line(finding: Finding, step: Step, found: Found) -> str:
     if not step.event:
-        return "  task %d: %s" % (step.task + 1, words_of(step))
+        return "  %s: %s" % (task_name(finding, step.task + 1), words_of(step))
     place = place_words(found.sources.frames(step.event))
-    return "  %s%s" % (step_words(step), ", " + place if place else "")
+    return "  %s%s" % (step_words(finding, step), ", " + place if place else "")
 
 
 def failed_case(kind: str, name: str, message: str, lines: list[str]) -> str:
@@ -32,9 +32,9 @@ def failed_case(kind: str, name: str, message: str, lines: list[str]) -> str:
 
 def finding_case(finding: Finding, found: Found) -> str:
     """A failed case: the sentence, and each step with its place."""
-    lines = [sentence(finding)] + [step_line(step, found) for step in steps_of(finding)] + found.remarks(finding)
+    lines = [sentence(finding)] + [step_line(finding, step, found) for step in steps_of(finding)] + found.remarks(finding)
     lines += finding.happened.lines() if finding.happened else []
-    return failed_case(finding.type, finding.head, sentence(finding), lines)
+    return failed_case(finding.rule, finding.head, sentence(finding), lines)
 
 
 def blocked_case(thread: Blocked | Breach, found: Found) -> str:

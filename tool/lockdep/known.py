@@ -3,15 +3,17 @@ list can't hide a finding of locks that are made elsewhere now, or one with a st
 from __future__ import annotations
 
 import re
+from collections import Counter
 from dataclasses import dataclass, field
 
 from .blocked import Blocked
 from .breaches import Breach
 from .cplusplus import without_parameters
-from .findings import Finding, by_line, report_lines
+from .findings import Finding, by_line, handlers_of, report_lines
 from .sources import Sources, keys_of
 from .stale import Judge
 from .suppressions import EXCUSED, KINDS, TEXT, VERDICT, Entry, entries_of, pattern_text, today
+from .symbols import Frame
 from .taking_part import TakingPart
 from .where_made import Place, place_now
 from .words import class_of_lock, name_in, type_of_class
@@ -53,7 +55,10 @@ def classes_of(keys: list[str], sources: Sources) -> list[tuple[str, ...]]:
 
 def frames_of(events: list, sources: Sources) -> list[tuple[str, str]]:
     """The function and the path of each caller of some records, with and without the function's parameters."""
-    frames = [frame for event in events for frame in sources.frames(event)]
+    return names_of([frame for event in events for frame in sources.frames(event)])
+
+
+def names_of(frames: list[Frame]) -> list[tuple[str, str]]:
     return list(dict.fromkeys([(frame.function, frame.path) for frame in frames] +
                               [(without_parameters(frame.function), frame.path) for frame in frames]))
 
@@ -62,7 +67,10 @@ def fits_finding(entry: Entry, finding: Finding, sources: Sources) -> bool:
     if not entry.is_pattern or entry.type != finding.type:
         return False
     keys = keys_of(finding)[:len(finding.keys) + 2 * len(finding.orders)]
-    return entry.hides(finding.type, classes_of(keys, sources), frames_of(finding.events(), sources))
+    frames, handler = frames_of(finding.events(), sources), finding.handler
+    if not handler:
+        return entry.hides(finding.type, classes_of(keys, sources), frames)
+    return entry.hides(finding.type, classes_of(keys, sources), frames + names_of([handler.frame(sources.symbols)]), handler.signal)
 
 
 def fits_blocked(entry: Entry, thread: Blocked | Breach, sources: Sources) -> bool:
@@ -139,14 +147,16 @@ def is_comment_of_entry(line: str) -> bool:
 def list_of(findings: list[Finding], old: str, sources: Sources, traces: list[str] = (), breaches: list[Breach] = ()) -> str:
     """A list of all findings, with a pattern for each breach. In an existing one comments and patterns stay, and entries that weren't found
     are removed."""
-    found, kept, listed = report_lines(findings), [], set()
+    found, kept = report_lines(findings), []
+    listed: Counter[str] = Counter()
+    of_lines = by_line(findings)
     comments = Comments(findings, TakingPart(sources, list(traces)))
     entries = {entry.number: entry for entry in entries_of(old, "")}
     patterns = [entry for entry in entries.values() if entry.is_pattern and not entry.is_expired(today())]
     hidden = {line for finding in findings if any(fits_finding(entry, finding, sources) for entry in patterns) for line in finding.lines}
     for number, line in enumerate(old.split("\n")[:-1] if old.endswith("\n") else old.split("\n") if old else [], 1):
         entry = entries.get(number)
-        if entry and not entry.is_pattern and entry.line not in found or is_comment_of_entry(line):
+        if entry and not entry.is_pattern and entry.line not in of_lines or is_comment_of_entry(line):
             continue
         kept.append(line)
         listed.update([entry.line] if entry else [])
@@ -154,8 +164,8 @@ def list_of(findings: list[Finding], old: str, sources: Sources, traces: list[st
     if not old:
         kept.append(FIRST_LINE)
     for line in found:
-        if line not in listed and line not in hidden:
-            kept += [line] + comments.of(line)
+        missing = 0 if line in hidden else handlers_of(of_lines[line]) - listed[line]
+        kept += ([line] + comments.of(line)) * missing
     kept += dict.fromkeys(pattern_of(breach, sources) for breach in breaches
                           if not any(fits_blocked(entry, breach, sources) for entry in patterns))
     return "".join(line + "\n" for line in kept)

@@ -114,6 +114,13 @@ COUNTS: dict[str, tuple[str, ...]] = {  # several sentences if recorders count d
                       "threads beyond 4,096 traces: nothing of them was recorded"),
     "fork-handlers": ("acquisitions by handlers of fork with 48 locks held already, as an allocator takes all of its own: an order among "
                       "these may be missing",),
+    "handlers-beyond-sets": ("handlers that took locks, beyond the first 32: what they interrupt wasn't looked at",),
+    "unfollowed-handlers": ("times that a signal's handler was set for which there was no room: its locks count as taken by what it interrupted",
+                            "runs of signal handlers beyond the first 64 of a process: the locks that they took count as taken by what they "
+                            "interrupted"),
+    "masks-unknown": ("runs of signals' handlers that met another mask than was known, as after a direct system call: what may be interrupted there "
+                      "isn't certain",),
+    "unknown-signals": ("times that there was no room for which signals may interrupt: what they interrupt there isn't known",),
     "beyond-held": ("acquisitions with 48 locks held already" + AN_ORDER, "acquisitions with 48 locks held already"),
     "tries": ("try acquisitions, which version 1 of the format can't say: orders that begin with one are missing",),
     "retried-tries": ("tries of a lock right after one that failed, with other locks held: a thread that waits so is in no trace",),
@@ -177,11 +184,12 @@ NOTES: dict[str, tuple[str, ...]] = {
 }
 RECORDED = ("processes", "threads", "operations", "events", "classes")
 BREACHES = ("out-of-order", "not-held")  # findings of the recorder's own
+OF_A_HANDLER = "signal "  # begins a line about a signal's handler, which may end with a number
 UNLOST = RECORDED + BREACHES + tuple(NOTES) + ("objects", "calls seen", "repeats left out", "waiting", "at-exit", "held-at-end", "small-files")
 
 # Which of several sentences a recorder means, if it isn't the first.
 SENTENCES = {
-    "python": {"reentered": 1, "threads-alike": 1},
+    "python": {"reentered": 1, "unfollowed-handlers": 1, "threads-alike": 1},
     "java": {"reentered": 1, "threads-alike": 1},
     "rust": {"beyond-traces": 1, "reentered": 2, "unseen-releases": 1, "threads-alike": 2},
     "embed": {"lost-threads": 1, "beyond-held": 1, "unseen-releases": 2, "threads-alike": 3},

@@ -18,6 +18,7 @@ OUTPUT = Kind("a file", "FILE", completed="files")  # or `-`, standard output af
 RECORDER, CODE = Kind("a name", "NAME", completed=" ".join(RECORDERS)), Kind("the code of a count", "CODE")
 FRAMES = Kind("a number from 1 to 16", "N", 16, "1 2 3 4 6 8 12 16")
 STATUS = Kind("a number from 1 to 255", "N", 255)
+SIGNALS = Kind("off, locks or all", "WHAT", completed="off locks all")
 RUNS, PAUSE = Kind("a number from 1 to 999", "N", 999), Kind("a number of milliseconds from 1 to 999", "MS", 999)
 FINDING, SHELL = Kind("a number from 1 to 999", "N", 999), Kind("a command of the shell", "COMMAND")
 
@@ -42,6 +43,13 @@ ACCEPT = Option(
     "Don't count this as left out: the code of a count in SUMMARY, as unreached-runs. It is named all the same. The option may be given several "
     "times")
 
+WITH_SIGNALS = Option(
+    "--signals", SIGNALS, "what is recorded of signal handlers",
+    "What is recorded of signal handlers: nothing (`off`), the locks that they take (`locks`), or also their calls of malloc and free, which take a "
+    "lock inside the C library (`all`) [default: locks]",
+    "A lock that a handler takes, and that other code takes while the signal may come in, is found as a double or an inversion. Only the recorders "
+    "of pthreads and of Python have this option; for a Python program `all` is the same as `locks`.")
+
 RUN = Command("run", "record a command, check its traces, and explain what was found", "Records a command, checks its traces, and explains what was found",
               ("[OPTIONS] -- COMMAND...",), "command", [
     Option("-o", FOLDER, "where the recording is kept", "Where the recording is kept [default: lockdep-traces]",
@@ -58,13 +66,15 @@ RUN = Command("run", "record a command, check its traces, and explain what was f
            "that starts Java, such as a build."),
     Option("--frames", FRAMES, "by how many callers a lock class is named", "By how many callers a lock class is named, from 1 to 16 [default: 3]",
            "Only the recorder of pthreads has this option."),
+    WITH_SIGNALS,
     Option("--known", FILE, "findings that are known",
            "Findings that are known, as lines of a report, or patterns such as `cycle class:NAME`: left out of the text and the status. FILE may be "
            "empty, /dev/null, or a pipe",
            "The lines are those of a report that begin with `circle`, `double` or `inversion`, patterns, blank lines, and comments that begin with `#`. "
            "They are counted, and those that no longer occur are named. A pattern is `cycle`, `double`, `inversion`, `blocked`, `order` or `hold`, and then words "
-           "`class:NAME`, `function:NAME` and `file:PATH`, in which `*` and `?` stand for any characters. It fits a finding of which each lock is of "
-           "one of these classes, and of which a record comes from such a function in such a file; what isn't given is any. An entry may end with "
+           "`class:NAME`, `function:NAME`, `file:PATH` and `signal:NAME`, in which `*` and `?` stand for any characters. It fits a finding of which each "
+           "lock is of one of these classes, of which a record comes from such a function in such a file, and in which such a signal comes in; what "
+           "isn't given is any. An entry may end with "
            "`# reason` and `until 2027-03-01`: after that day it hides nothing. A reason with `until` and no date at its end is refused. Of a pipe 100,000 "
            "bytes are taken. An entry names locks as the report does. The names of static locks are symbols, and stay. Those of locks that a call initialises, or that lie in objects from the heap, have "
            "an offset in the code of a function, as `main+0x13.m0`: after an edit of that function a known finding may look new. An entry is stale if "
@@ -99,8 +109,9 @@ RECORD = Command("record", "record a command", "Runs a command, records the lock
            "Where the traces go [default: traces]. Those of an earlier recording are replaced; a file that no recording made is never touched"),
     Option("--recorder", RECORDER, "what records the command",
            "Record by the recorder of " + NAMES + " [default: " + PTHREAD.name + "]. If it is named, programs in Python, Java and Go, and those "
-           "with lockdep_record.h, don't count as left out by that of pthread. The next three options are those of pthread alone"),
+           "with lockdep_record.h, don't count as left out by that of pthread. The next four options are those of pthread alone"),
     Option("--frames", FRAMES, "by how many callers a lock class is named", "By how many callers a lock class is named, from 1 to 16 [default: 3]"),
+    WITH_SIGNALS,
     Option("--no-wait", None, "do not wait for what is left in the background",
            "Make the traces when the command ends, without waiting for what it left in the background"),
     Option("--version-1", None, "write version 1 of the format",
@@ -190,6 +201,8 @@ def checked(command: Command, option: Option, value: str) -> str:
     if kind is FILE and value == "-":
         raise Refusal("%s takes a file, and not `-`; ./- is a file of that name" % option.name)
     if kind.most and not is_number(value, kind.most):
+        raise Refusal("%s takes %s, and not '%s'" % (option.name, kind.words, value))
+    if kind is SIGNALS and value not in kind.completed.split():
         raise Refusal("%s takes %s, and not '%s'" % (option.name, kind.words, value))
     if kind is RECORDER and value not in RECORDERS:
         raise Refusal("%s takes %s, and not '%s'" % (option.name, NAMES, value))

@@ -11,7 +11,7 @@ from .findings import Finding
 from .forms import HANG, Found, moment
 from .page_finding import blocked_html, breach_html, finding_html
 from .picture import picture_of
-from .words import counted, escaped, text_of
+from .words import as_sentence, counted, escaped, text_of
 
 STYLE = os.path.join(HOME, "tool", "lockdep", "page.css")
 
@@ -20,8 +20,12 @@ LEGEND = """<details class="soft"><summary>How to read a line</summary>
 <p><code>A/0 EN B/0</code>: a task takes a lock of class B, subclass 0, while it holds one of class A. The first letter
 says how A is held: E by a writer, S by a reader. The second says how B is taken: R by a recursive reader, who waits only
 for writers; N by a writer or another reader. A circle is a cycle of such orders, and ends with the lock that it begins
-with.</p></details>
+with.</p>%s</details>
 """
+LEGEND_OF_SIGNALS = """
+<p><code>double SIGNAL:HANDLER A/0</code>: the handler of that signal takes a lock of class A, and other code holds it
+with the signal unblocked. <code>inversion SIGNAL:HANDLER A/0 B/0</code>: it takes A, under which B is taken, and other
+code holds B with the signal unblocked.</p>"""
 LEGEND_OF_PICTURE = """<p class="soft">Point at a line, and its edges light up. A dashed edge goes from a lock that
 is held with interrupts on to one that is taken in an interrupt. In braces are a lock’s marks for hardirqs, hardirqs as
 a reader, softirqs, and softirqs as a reader: <code>+</code> it is held with them on, <code>-</code> it is taken in one,
@@ -55,13 +59,15 @@ def title_of(found: Found) -> str:
 
 
 def warnings_html(found: Found) -> str:
-    """What was left out, and who waited at the end."""
+    """What was left out, who waited at the end, and which signal handlers weren't seen."""
     said = ""
     if found.left_out:
         said += '<p class="warning">Not all was checked. Left out: %s.</p>\n' % escaped(found.left_out)
     if found.waiting:
         lines = "".join("<li>%s</li>\n" % escaped(line) for line in found.waiting)
         said += '<p class="warning">%s</p>\n<ul class="list">\n%s</ul>\n' % (HANG, lines)
+    for line in found.signals.lines() if found.signals else ():
+        said += '<p class="note">%s</p>\n' % escaped(as_sentence(line))
     return said
 
 
@@ -75,8 +81,12 @@ def header(found: Found) -> str:
     if found.known:
         said += "<p>%s left out.</p>\n" % counted(len(found.known), "more known finding is", "more known findings are")
     if found.findings:
-        return said + finding_list(found.findings, "Findings") + LEGEND + "</header>\n"
+        return said + finding_list(found.findings, "Findings") + legend(found.findings) + "</header>\n"
     return said + "<p>This says nothing about what isn’t in the traces.</p>\n</header>\n"
+
+
+def legend(findings: list[Finding]) -> str:
+    return LEGEND % (LEGEND_OF_SIGNALS if any(finding.handler for finding in findings) else "")
 
 
 def finding_list(findings: list[Finding], label: str, last: str = "") -> str:
@@ -149,7 +159,8 @@ def groups_html(found: Found) -> Callable[[Finding], str]:
 
 def page(found: Found) -> str:
     """The whole page."""
-    drawn, reason = picture_of(found.findings, found.class_files())
+    in_picture = [finding for finding in found.findings if not finding.handler]
+    drawn, reason = picture_of(in_picture, found.class_files())
     of_group = groups_html(found)
     return """<!DOCTYPE html>
 <html lang="en">
@@ -166,6 +177,6 @@ def page(found: Found) -> str:
 %s%s</main>
 </body>
 </html>
-""" % (title_of(found), style(), lighting(found.findings) if drawn else "", header(found), needs_html(found),
+""" % (title_of(found), style(), lighting(in_picture) if drawn else "", header(found), needs_html(found),
        threads_html(found.blocked, found) + breaches_html(found) + "".join(finding_html(finding, found, of_group(finding)) for finding in found.findings) +
-       of_locks_html(found.of_locks), picture_html(found.findings, drawn, reason))
+       of_locks_html(found.of_locks), picture_html(in_picture, drawn, reason))

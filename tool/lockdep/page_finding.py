@@ -11,8 +11,9 @@ from .cplusplus import without_parameters
 from .explanation import inner_lines
 from .findings import Event, Finding
 from .forms import Found
+from .signals import words_of as words_of_handler
 from .sources import Sources, has_changed
-from .steps import Step, events_of, sentence, steps_of, task_count, words_of
+from .steps import Step, events_of, sentence, steps_of, task_count, task_name, words_of
 from .symbols import Frame, place_words
 from .threads import called
 from .words import as_sentence, escaped, name_in
@@ -44,20 +45,32 @@ def step_html(finding: Finding, step: Step, events: list[Event], sources: Source
     return said
 
 
-def task_head(steps: list[Step], task: int) -> str:
+def task_title(finding: Finding, task: int, sources: Sources) -> str:
+    """What stands above a task's column. With a signal the last one is its handler, and the first one the code that this interrupts."""
+    name = task_name(finding, task + 1)
+    if not finding.handler:
+        return name.capitalize()
+    if name == "the handler":
+        return words_of_handler(finding.handler, sources.symbols)
+    return "Thread 1, which %s interrupts" % finding.state if task == 0 else name.capitalize()
+
+
+def task_head(finding: Finding, steps: list[Step], task: int, sources: Sources) -> str:
     """The head of a task's column, with its trace if it is only one."""
-    files = {step.event.file for step in steps if step.task == task and step.event}
+    files, title = {step.event.file for step in steps if step.task == task and step.event}, escaped(task_title(finding, task, sources))
     if len(files) != 1:
-        return '<th scope="col">Task %d</th>' % (task + 1)
+        return '<th scope="col">%s</th>' % title
     trace = files.pop()
-    return '<th scope="col">Task %d<br><small>%s</small></th>' % (task + 1, escaped(called(os.path.basename(trace), trace)))
+    name = os.path.join(*trace.split("/")[-3:]) if finding.handler else os.path.basename(trace)  # (below `signals`, a set has traces of its own)
+    return '<th scope="col">%s<br><small>%s</small></th>' % (title, escaped(called(name, trace)))
 
 
 def task_rows(finding: Finding, steps: list[Step], sources: Sources) -> str:
     rows, events, tasks = "", events_of(steps), task_count(steps)
+    titles = [escaped(task_title(finding, task, sources)) for task in range(tasks)]
     for number, step in enumerate(steps, 1):
         said = step_html(finding, step, events, sources)
-        cells = "".join('<td data-task="Task %d">%s</td>' % (task + 1, said if task == step.task else "") for task in range(tasks))
+        cells = "".join('<td data-task="%s">%s</td>' % (titles[task], said if task == step.task else "") for task in range(tasks))
         rows += '<tr><td class="time">%d</td>%s</tr>\n' % (number, cells)
     return rows
 
@@ -65,7 +78,7 @@ def task_rows(finding: Finding, steps: list[Step], sources: Sources) -> str:
 def task_table(finding: Finding, steps: list[Step], sources: Sources) -> str:
     """The tasks side by side: a column for each, with time running downwards."""
     tasks = task_count(steps)
-    heads = "".join(task_head(steps, task) for task in range(tasks))
+    heads = "".join(task_head(finding, steps, task, sources) for task in range(tasks))
     return """<div class="scroll" tabindex="0" role="region" aria-label="What the tasks of finding %d do">
 <table class="tasks" style="min-width: %drem">
 <thead><tr><th class="time" scope="col" aria-label="Time">↓</th>%s</tr></thead>

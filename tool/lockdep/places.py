@@ -12,7 +12,7 @@ from typing import BinaryIO
 
 from .files import contents, is_file
 from .findings import Event
-from .folder import OBJECTS
+from .folder import OBJECTS, is_in_signals
 from .symbols import PLACE, Address
 from .words import bytes_of, text_of
 
@@ -159,9 +159,11 @@ def made_of(line: str) -> Made | None:
 
 
 def folders_of(trace: str) -> list[str]:
-    """The folders that may have the classes of a trace: its own, and for a trace of single locks the one above."""
+    """The folders that may have the classes of a trace: its own, and for a trace of single locks the recording's."""
     folder = os.path.dirname(trace)
     above = os.path.dirname(folder)
+    if is_in_signals(folder):
+        return [folder, os.path.dirname(above)]
     return [folder, above] if os.path.basename(folder) == OBJECTS else [folder]
 
 

@@ -25,6 +25,7 @@ class Recorder:
     sees = ""  # the same in words, for the help
     when = ""  # when it is the default
     is_in_process = False  # whether the program writes its records itself, so that nothing is preloaded
+    sees_handlers = True  # whether it records what signal handlers do, as `--signals` says
     finisher: str | None = None  # what makes the traces, below recorders/, if neither this package nor `finish` of the recorder of pthreads does
     writes_traces = False  # whether the program writes the traces themselves, into the recording
     script: str | None = None  # what records by itself, below recorders/, if that isn't done by the driver
@@ -69,6 +70,7 @@ class Rust(Recorder):
     name, language, is_in_process, holder = "rust", "Rust", True, None
     sees = "for those of the crate lockdep_record"
     when = "it is a program built with that crate and --cfg lockdep, or cargo with that flag in RUSTFLAGS or its settings"
+    sees_handlers = False
 
     def recognises(self, command: str) -> bool:
         """Whether the command is a program that contains the recorder, or cargo with flags to build one."""
@@ -87,6 +89,7 @@ class Rust(Recorder):
 class Java(Recorder):
     name, language, script, holder = "java", "Java", "java/record", "java"
     sees, when = "for monitors and locks of Java", "it is java"
+    sees_handlers = False
 
     def recognises(self, command: str) -> bool:
         return command.rpartition("/")[2] == "java"
@@ -101,6 +104,7 @@ class Embed(Recorder):
     name, language, is_in_process, writes_traces, holder = "embed", "lockdep_record.h", True, True, None
     sees = "for a program with lockdep_record.h that writes to the folder LOCKDEP_TRACES"
     when = "it is a program with that header and that name"
+    sees_handlers = False
 
     def recognises(self, command: str) -> bool:
         """Whether the command is a program with the code of lockdep_record.h, perhaps in a library, that writes its traces to the folder that it is

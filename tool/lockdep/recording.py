@@ -19,6 +19,7 @@ if TYPE_CHECKING:
     from .summary import Summary
 
 WISHES = ("sem", "flockfile", "flock")  # of LOCKDEP_ALSO
+OF_SIGNALS, SIGNALS = "LOCKDEP_SIGNALS", ("off", "locks", "all")  # what is recorded of signal handlers: `locks`, if it isn't set
 MUSL = b"/ld-musl"  # in the head of a program whose loader would end it because of what is preloaded
 HEAD = 4096
 STAGE = ".lockdep-recorder"  # links to the recorder, if LD_PRELOAD can't name where it is
@@ -28,9 +29,10 @@ ASAN = "verify_asan_link_order"  # without it, a program with gcc's address sani
 class Wishes:
     """What the command line asks for."""
 
-    def __init__(self, folder: str, recorder: Recorder, is_named: bool, frames: str = "", version: str = "2", is_waiting: bool = True) -> None:
+    def __init__(self, folder: str, recorder: Recorder, is_named: bool, frames: str = "", version: str = "2", is_waiting: bool = True,
+                 signals: str = "") -> None:
         self.folder, self.recorder, self.is_named = checked(folder), recorder, is_named
-        self.frames, self.version, self.is_waiting = frames, version, is_waiting
+        self.frames, self.version, self.is_waiting, self.signals = frames, version, is_waiting, signals
 
 
 class Settings:
@@ -65,6 +67,7 @@ def begin(home: str, wishes: Wishes, command: list[str], then: str) -> None:
     recorder = wishes.recorder
     if recorder.name == "pthread":
         look_at_wishes()
+    pass_on_signals(recorder, wishes.signals)
     out = recorder_folder(home)
     program, status = find_command(command[0])
     if program is None:
@@ -89,11 +92,19 @@ def with_asan_after(environment: dict[str, str]) -> dict[str, str]:
     return environment if ASAN in options else dict(environment, ASAN_OPTIONS=":".join(filter(None, [options, ASAN + "=0"])))
 
 
+def pass_on_signals(recorder: Recorder, signals: str) -> None:
+    """Tells a recorder what is wanted of signal handlers. If nothing was asked for, the command's environment stays as it is."""
+    if recorder.sees_handlers and signals:
+        os.environ[OF_SIGNALS] = signals
+
+
 def look_at_wishes() -> None:
-    """Refuses what LOCKDEP_ALSO asks for and no recorder knows."""
+    """Refuses what LOCKDEP_ALSO and LOCKDEP_SIGNALS ask for and no recorder knows."""
     for word in os.environ.get("LOCKDEP_ALSO", "").split(","):
         if word and word not in WISHES:
             raise Refusal("LOCKDEP_ALSO takes sem, flockfile and flock, separated by commas, and not '%s'" % word)
+    if os.environ.get(OF_SIGNALS, "") not in SIGNALS + ("",):
+        raise Refusal("%s takes off, locks or all, and not '%s'" % (OF_SIGNALS, os.environ[OF_SIGNALS]))
 
 
 def keep_wrappers(raw: str) -> None:

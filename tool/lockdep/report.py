@@ -319,6 +319,9 @@ def report(recording: Recording, wishes: Wishes) -> Report:
     made = Report(recording, wishes, asked)
     if asked.is_refused:
         return made
+    if asked.left_out:
+        complain(asked.why_left_out)
+        recording.lost = ", ".join(([recording.lost] if recording.lost else []) + asked.left_out)
     made.sort()
     made.look_deeper()
     made.write_files()

@@ -37,9 +37,11 @@ def run(home: str, line: Words) -> int:
     then = os.path.join(home, "tool", "recording", "record")
     if recorder.script:
         words = "--either" if line.has("--recorder") else "--command"
+        recording.pass_on_signals(recorder, line.last("--signals"))
         become([sys.executable, os.path.join(home, "recorders", recorder.script), "-o", folder, "--then", then, words] + line.rest, os.environ)
     look_at_recorder(home)
-    recording.begin(home, recording.Wishes(folder, recorder, line.has("--recorder"), line.last("--frames")), line.rest, then)
+    recording.begin(home, recording.Wishes(folder, recorder, line.has("--recorder"), line.last("--frames"),
+                                            signals=line.last("--signals")), line.rest, then)
     return 0
 
 
@@ -50,6 +52,8 @@ def choose(home: str, line: Words) -> Recorder:
     recorder = RECORDERS[line.last("--recorder")] if line.has("--recorder") else recorders.recorder_for(line.rest[0])
     if recorder.name != "pthread" and line.has("--frames"):
         raise Refusal("--frames belongs to the recorder of pthreads, and this is a program for that of " + recorder.language)
+    if not recorder.sees_handlers and line.has("--signals"):
+        raise Refusal("--signals belongs to the recorders of pthreads and of Python, and this is a program for that of " + recorder.language)
     if recorder.script and not os.path.exists(os.path.join(home, "recorders", recorder.script)):
         raise Refusal("the recorder of %s is missing here: it was left out when the tool was installed" % recorder.language, NOT_BUILT)
     return recorder

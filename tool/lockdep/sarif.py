@@ -15,7 +15,7 @@ from .forms import HANG, Found
 from .happened import Happened, Stood
 from .junit import step_words
 from .sources import Sources
-from .steps import Step, sentence, steps_of, task_count
+from .steps import Step, sentence, steps_of, task_count, task_name
 from .symbols import Frame
 from .words import as_sentence, bytes_of, text_of, visible
 
@@ -51,6 +51,18 @@ RULES = {
         "The program says by LOCKDEP_ASSERT_HELD that the thread holds this lock, which it didn't.",
         "Take the lock before, or call the function only with it held."),
 }
+SIGNAL_RULES = {
+    "signal-double": (
+        "A signal handler takes a lock that is held where the signal may come in",
+        "The signal can come in at the thread that holds the lock, and its handler then waits for the thread that it interrupted.",
+        "Block the signal wherever the lock is taken outside of the handler, or let the handler only set a flag or write to a pipe."),
+    "signal-inversion": (
+        "A signal handler takes a lock under which another one is taken that is held where the signal may come in",
+        "The signal can come in at the thread that holds the one lock, and its handler waits for the other one, whose holder waits for the first.",
+        "Block the signal wherever the first lock is taken, don't take it under the other one, or let the handler only set a flag or write to a "
+        "pipe."),
+}  # which a log without such findings doesn't have
+ALL_RULES = {**RULES, **SIGNAL_RULES}
 
 
 def sarif_text(text: str) -> str:
@@ -82,15 +94,15 @@ def location(event: Event, words: str, sources: Sources) -> dict:
     return found
 
 
-def step_location(step: Step, sources: Sources) -> dict:
-    return location(step.event, step_words(step), sources)
+def step_location(finding: Finding, step: Step, sources: Sources) -> dict:
+    return location(step.event, step_words(finding, step), sources)
 
 
-def thread_flow(steps: list[Step], task: int, sources: Sources) -> dict:
+def thread_flow(finding: Finding, steps: list[Step], task: int, sources: Sources) -> dict:
     """What one task does. The order of execution is that of all tasks together."""
-    locations = [{"location": step_location(step, sources), "executionOrder": number}
+    locations = [{"location": step_location(finding, step, sources), "executionOrder": number}
                  for number, step in enumerate(steps, 1) if step.task == task and step.event]
-    return {"id": "task %d" % (task + 1), "locations": locations}
+    return {"id": task_name(finding, task + 1), "locations": locations}
 
 
 def fingerprint(lines: list[str]) -> str:
@@ -98,26 +110,27 @@ def fingerprint(lines: list[str]) -> str:
     return hashlib.sha256(bytes_of("\n".join(sorted(lines)))).hexdigest()
 
 
-def add_steps(result: dict, all_steps: list[Step], sources: Sources) -> None:
-    """Where a finding is, and what each task does."""
+def add_steps(result: dict, finding: Finding, sources: Sources) -> None:
+    """Where a finding is, and what each task does: where the first task waits, or a signal's handler."""
+    all_steps = steps_of(finding)
     steps = [step for step in all_steps if step.event]
     waits = [step for step in steps if step.verb == "waits"] or steps
     if steps:
-        flows = [thread_flow(all_steps, task, sources) for task in range(task_count(all_steps))]
-        result["locations"] = [step_location(waits[0], sources)]
-        result["relatedLocations"] = [dict(step_location(step, sources), id=number) for number, step in enumerate(steps, 1)]
+        flows = [thread_flow(finding, all_steps, task, sources) for task in range(task_count(all_steps))]
+        result["locations"] = [step_location(finding, waits[-1 if finding.handler else 0], sources)]
+        result["relatedLocations"] = [dict(step_location(finding, step, sources), id=number) for number, step in enumerate(steps, 1)]
         result["codeFlows"] = [{"threadFlows": [flow for flow in flows if flow["locations"]]}]
 
 
 def finding_result(finding: Finding, found: Found) -> dict:
     sentences = [finding.head + ".", sentence(finding)] + [as_sentence(remark) for remark in found.remarks(finding)]
-    result = {"ruleId": finding.type, "level": found.level(finding), "message": {"text": sarif_text(" ".join(sentences))},
+    result = {"ruleId": finding.rule, "level": found.level(finding), "message": {"text": sarif_text(" ".join(sentences))},
               "partialFingerprints": {"lockdepLines/v1": fingerprint(finding.lines)}}
-    if finding.type in RULES:
-        result["ruleIndex"] = list(RULES).index(finding.type)
+    if finding.rule in ALL_RULES:
+        result["ruleIndex"] = list(ALL_RULES).index(finding.rule)
     if finding in found.known:
         result["suppressions"] = [{"kind": "external", "status": "accepted"}]
-    add_steps(result, steps_of(finding), found.sources)
+    add_steps(result, finding, found.sources)
     if finding.happened:
         result["stacks"] = [stack for thread in finding.happened.threads for stack in stacks_of(thread, finding.happened)]
     return result
@@ -152,7 +165,7 @@ def blocked_result(thread: Blocked | Breach, found: Found) -> dict:
 
 
 def sarif_rule(name: str) -> dict:
-    short, full, hint = RULES[name]
+    short, full, hint = ALL_RULES[name]
     return {"id": name, "shortDescription": {"text": short}, "fullDescription": {"text": full}, "help": {"text": hint},
             "defaultConfiguration": {"level": "error"}}
 
@@ -162,15 +175,17 @@ def invocation_of(found: Found) -> dict:
     warnings = ["Not all was checked. Left out: %s." % found.left_out] if found.left_out else []
     if found.waiting:
         warnings.append("%s %s." % (HANG, "; ".join(found.waiting)))
-    if warnings:
-        invocation["toolExecutionNotifications"] = [
-            {"level": "warning", "message": {"text": sarif_text(text)}} for text in warnings]
+    notes = [as_sentence(line) for line in found.signals.lines()] if found.signals else []
+    if warnings or notes:
+        invocation["toolExecutionNotifications"] = [{"level": level, "message": {"text": sarif_text(text)}} for level, texts in (
+            ("warning", warnings), ("note", notes)) for text in texts]
     return invocation
 
 
 def sarif(found: Found) -> str:
     """The log: one line for each result, as for each finding in the JSON. Known findings are suppressed ones."""
-    driver = {"name": "lockdep", "version": visible(version().rpartition(" ")[2]), "rules": [sarif_rule(name) for name in RULES]}
+    rules = ALL_RULES if any(finding.handler for finding in found.new + found.known) else RULES
+    driver = {"name": "lockdep", "version": visible(version().rpartition(" ")[2]), "rules": [sarif_rule(name) for name in rules]}
     here = "file://" + quote(os.getcwdb().rstrip(b"/") + b"/", safe="/")
     run = {"tool": {"driver": driver}, "invocations": [invocation_of(found)], "columnKind": "utf16CodeUnits",
            "originalUriBaseIds": {"%SRCROOT%": {"uri": here}}}

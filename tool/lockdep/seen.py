@@ -5,6 +5,7 @@ import os
 
 from . import losses
 from .advice import ADVICE
+from .folder import SIGNALS as SIGNALS_FOLDER
 from .losses import counted
 from .saying import say
 from .summary import Summary
@@ -38,13 +39,15 @@ def say_what_was_seen(folder: str, summary: Summary, ended: int | None = None, i
     if summary.number("library-only") and "library-only" not in accepted:
         say_library_only(summary)
         return NOTHING
-    if not summary.operations() or has_only_signals(summary) or (not is_all_own and whose_locks(folder, summary) != "some"):
+    is_seen = summary.operations() and not has_only_signals(summary) and (is_all_own or whose_locks(folder, summary) == "some")
+    if not is_seen and not has_handlers(folder):
         say_nothing_seen(summary, reasons, ended)
         return NOTHING
     if summary.number("refused-processes"):
         say("a program wasn't reached, %sit:" % SAYS_NOTHING)
         say_reasons(summary, ["no-file"])
         return NOTHING
+    say_handlers(folder)
     say_files(summary, "semaphore-files", SEMAPHORES)
     say_files(summary, "futex-files", FUTEXES)
     if summary.number("signal-semaphores"):
@@ -154,6 +157,22 @@ def say_of_traces(summary: Summary) -> None:
     if summary.number("unread-files"):
         count = summary.find("unread-files")
         say_lines("only files named task-0001.csv and so on are read, beside the other traces; these aren't:", count.listed(summary.home) if count else [])
+
+
+def has_handlers(folder: str) -> bool:
+    """Whether a signal handler took something: a lock, or one inside the C library, as by malloc, in a program that may take no other."""
+    if not os.path.lexists(os.path.join(folder, SIGNALS_FOLDER)):
+        return False
+    from .signals import Signals
+    return bool(Signals(folder).ran)
+
+
+def say_handlers(folder: str) -> None:
+    """Which signal handlers never ran, and which signals were sent to single threads alone."""
+    if os.path.lexists(os.path.join(folder, SIGNALS_FOLDER)):
+        from .signals import Signals
+        for line in Signals(folder).lines():
+            say(line)
 
 
 def say_of_python(summary: Summary) -> None:

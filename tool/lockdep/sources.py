@@ -10,7 +10,7 @@ from .files import contents
 from .findings import Event, Finding
 from .places import Made, Places, classes_in, folders_of, key_of_record, record_lines
 from .symbols import Frame, Symbols, place_words, without_wrappers
-from .words import bytes_of, class_of_lock, name_in, text_of, type_of_class
+from .words import bytes_of, class_of_lock, is_of_library, name_in, text_of, type_of_class
 
 AROUND = 5  # how many source lines are shown above a record's line, and below it
 MOST_OF_SOURCE = 1 << 23  # bytes
@@ -61,7 +61,7 @@ class Sources:
         if folder not in self.read_folders:
             found = classes_in(folder)
             self.read_folders[folder] = found is not None
-            for made in found or []:
+            for made in [made for made in found or [] if not is_of_library(made.name)]:  # (those are made nowhere)
                 self.classes[made.name] = made
                 self.types.setdefault(type_of_class(made.name), []).append(made)
         return self.read_folders[folder]
@@ -168,5 +168,7 @@ def sources_of(findings: list[Finding], folders: Iterable[str] = ()) -> Sources:
         sources.read_classes(folder)
     keys = [key for finding in findings for key in keys_of(finding)] + [sources.key_at(event) for event in events]
     sources.want_names(name_in(key) for key in keys if key)
+    for handler in dict.fromkeys(finding.handler for finding in findings if finding.handler):
+        handler.want(sources.symbols)
     sources.ask()
     return sources

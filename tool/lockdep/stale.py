@@ -4,8 +4,9 @@ from __future__ import annotations
 
 import os
 import re
+from collections import Counter
 
-from .findings import Finding, by_line
+from .findings import Finding, by_line, handlers_of
 from .places import Made
 from .suppressions import EXCUSED, KINDS, Entry, today
 from .taking_part import TakingPart
@@ -25,19 +26,21 @@ class Judge:
         self.stale: list[str] = []
         self.moved: list[str] = []
         self.findings = by_line(findings)
+        self.listed: Counter[str] = Counter()
 
     def is_expired(self, entry: Entry) -> bool:
         return entry.is_expired(self.date)
 
     def fresh(self, entries: list[Entry]) -> list[Entry]:
         """The entries that may hide something. What makes others stale is noted."""
+        self.listed = Counter(entry.line for entry in entries if not self.is_expired(entry))
         fresh = [entry for entry in entries if self.is_fresh(entry)]
         self.moved = list(dict.fromkeys(self.moved))
         return fresh
 
     def is_fresh(self, entry: Entry) -> bool:
         reasons = ["it was meant until %s" % entry.until] if self.is_expired(entry) else []
-        more = self.other_places(entry) + self.stronger(entry) if entry.line in self.findings else []
+        more = self.other_places(entry) + self.stronger(entry) + self.more_handlers(entry) if entry.line in self.findings else []
         if reasons or more:
             self.stale.append("line %d, `%s`: %s, so that entry hides nothing; %s" % (
                 entry.number, entry.text, "; ".join(reasons + more), CHANGE if reasons else RENEW))
@@ -90,6 +93,13 @@ class Judge:
             said += ["%s (%s, and now %s:%s)" % (made.name, one.source, os.path.basename(other.file), other.line)
                      for one, other in callers if one.line and one.line != other.line][:1]
         return said
+
+    # ---- Handlers of signals.
+
+    def more_handlers(self, entry: Entry) -> list[str]:
+        """That more handlers of a signal have this line than the list has it, so that it isn't known which of them it means."""
+        now, listed = handlers_of(self.findings[entry.line]), self.listed[entry.line]
+        return ["%d handlers have this line, and the list has it %s" % (now, "once" if listed == 1 else "%d times" % listed)] if now > listed > 0 else []
 
     # ---- Verdicts.
 

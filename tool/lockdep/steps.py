@@ -4,12 +4,13 @@ from __future__ import annotations
 from dataclasses import dataclass
 from typing import Callable
 
-from .findings import Event, Finding
+from .findings import STATES, Event, Finding
 
 # How a lock is taken, for modes other than a writer's.
 MODES = {"r": " as a reader", "rr": " as a recursive reader", "tw": " by a try", "tr": " as a reader, by a try",
          "trr": " as a recursive reader, by a try"}
 THREAD = "thread:"  # before the function of a thread, in the name of the lock that it has from its start to its end
+ORDER_BY = ", where %s comes in, whose handler"  # between what a thread holds and what a signal's handler waits for there
 VERBS = {"takes": "takes", "waits": "waits for"}
 TYPES = ("circle", "double", "inversion")
 
@@ -18,7 +19,8 @@ Shown = Callable[[str], str]  # the form of a key
 
 @dataclass(frozen=True)
 class Step:
-    """What a task does at one point: `verb` is takes, waits, opens (turns interrupts on) or enters (an interrupt comes in)."""
+    """What a task does at one point: `verb` is takes, waits, opens (turns interrupts on) or enters (an interrupt comes in). `irq` is a state of
+    interrupts, or a signal."""
 
     task: int
     verb: str
@@ -26,6 +28,10 @@ class Step:
     mode: str | None = None
     irq: str = ""
     event: Event | None = None
+
+    @property
+    def is_signal(self) -> bool:
+        return bool(self.irq) and self.irq not in STATES
 
 
 def awaited(key: str, shown: Shown = str) -> str:
@@ -36,16 +42,16 @@ def awaited(key: str, shown: Shown = str) -> str:
 def words_of(step: Step, shown: Shown = str) -> str:
     """What a step does, in words."""
     if step.verb in VERBS:
-        state = " with %ss on" % step.irq if step.irq else ""
+        state = (" with %s unblocked" if step.is_signal else " with %ss on") % step.irq if step.irq else ""
         key = awaited(step.key, shown) if step.verb == "waits" else shown(step.key)
         return "%s %s%s%s" % (VERBS[step.verb], key, MODES.get(step.mode or "", ""), state)
     if step.verb == "opens":
-        return "turns %ss on" % step.irq
-    return "a %s comes in" % step.irq
+        return ("unblocks %s" if step.is_signal else "turns %ss on") % step.irq
+    return ("%s comes in" if step.is_signal else "a %s comes in") % step.irq
 
 
 def steps_of(finding: Finding) -> list[Step]:
-    """What the tasks do, in order of time. For an unknown type it is empty."""
+    """What the tasks do, in order of time. For an unknown type it is empty. A signal's handler is told as a task of its own, the last one."""
     if finding.type not in TYPES:
         return []
     first = 0 if finding.type == "circle" else 1
@@ -53,8 +59,9 @@ def steps_of(finding: Finding) -> list[Step]:
     steps += [Step(place, "takes", order.start, order.held, "", order.since) for place, order in enumerate(finding.orders, first)]
     steps += [Step(place, "waits", order.end, order.takes, "", order.event) for place, order in enumerate(finding.orders, first)]
     if first:
-        steps.append(Step(0, "enters", irq=finding.irq))
-        steps.append(Step(0, "waits", finding.keys[0], finding.used.takes, "", finding.used.event))
+        comes_in = first + len(finding.orders) if finding.handler else 0
+        steps.append(Step(comes_in, "enters", irq=finding.state))
+        steps.append(Step(comes_in, "waits", finding.keys[0], finding.used.takes, "", finding.used.event))
     return steps
 
 
@@ -62,8 +69,8 @@ def enabled_steps(finding: Finding) -> list[Step]:
     """How the first task comes to hold a lock with interrupts on: it takes it so, or turns them on afterwards."""
     use, key = finding.enabled, finding.keys[-1]
     if use.takes is not None or use.since is None:
-        return [Step(0, "takes", key, use.takes, finding.irq, use.event)]
-    return [Step(0, "takes", key, use.held, "", use.since), Step(0, "opens", irq=use.turns_on, event=use.event)]
+        return [Step(0, "takes", key, use.takes, finding.state, use.event)]
+    return [Step(0, "takes", key, use.held, "", use.since), Step(0, "opens", irq=finding.state if finding.handler else use.turns_on, event=use.event)]
 
 
 def task_count(steps: list[Step]) -> int:
@@ -78,8 +85,15 @@ def events_of(steps: list[Step]) -> list[Event]:
 def task_words(finding: Finding, shown: Shown = str) -> list[str]:
     """What each task of the walk holds and waits for."""
     first = 1 if finding.type == "circle" else 2
-    return ["task %d holds %s and waits for %s" % (place, shown(order.start), awaited(order.end, shown))
-            for place, order in enumerate(finding.orders, first)]
+    return ["%s holds %s%s waits for %s" % (task_name(finding, place), shown(order.start), ORDER_BY % order.signal if order.signal else " and",
+                                            awaited(order.end, shown)) for place, order in enumerate(finding.orders, first)]
+
+
+def task_name(finding: Finding, number: int) -> str:
+    """What a task is called: with a signal the tasks are threads, and the last one is the handler."""
+    if not finding.handler:
+        return "task %d" % number
+    return "the handler" if number == 2 + len(finding.orders) else "thread %d" % number
 
 
 def sentence(finding: Finding, shown: Shown = str) -> str:
@@ -89,11 +103,20 @@ def sentence(finding: Finding, shown: Shown = str) -> str:
     parts = task_words(finding, shown)
     if finding.type == "circle":
         return circle_sentence(parts)
+    if finding.handler:
+        return signal_sentence(finding, parts, shown)
     held = "Task 1 holds %s with %ss on" % (shown(finding.keys[-1]), finding.irq)
     comes = "a %s comes in at task 1 and waits for %s" % (finding.irq, shown(finding.keys[0]))
     if finding.type == "double":
         return "%s, and %s, which is given back only when the %s has ended." % (held, comes, finding.irq)
     return "%s, %s, and %s, so none of them goes on." % (held, ", ".join(parts), comes)
+
+
+def signal_sentence(finding: Finding, parts: list[str], shown: Shown) -> str:
+    """The sentence of a finding with a signal, made of those of its threads."""
+    parts = ["thread 1 holds %s with %s unblocked" % (shown(finding.keys[-1]), finding.state)] + parts
+    end = "which is given back only when the handler has ended" if finding.type == "double" else "so none of them goes on"
+    return "T%s, and %s comes in at thread 1, whose handler waits for %s, %s." % (", ".join(parts)[1:], finding.state, shown(finding.keys[0]), end)
 
 
 def circle_sentence(parts: list[str]) -> str:

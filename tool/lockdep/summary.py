@@ -32,7 +32,7 @@ class Count:
 
     def lost(self) -> str | None:
         """What was left out, if this is a count of it that isn't 0."""
-        if not self.number or self.code in losses.UNLOST:
+        if not self.number or self.code in losses.UNLOST or self.code.startswith(losses.OF_A_HANDLER):
             return None
         if self.words is None:
             code = self.code

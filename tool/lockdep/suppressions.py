@@ -15,9 +15,10 @@ from .findings import Kind
 from .where_made import Place, place_of
 from .words import Refusal, visible
 
-LINE = re.compile(r"(circle \S+/[0-7] [ES][RN]|double (hardirq|softirq)|inversion (hardirq|softirq) \S+/[0-7]) \S+/[0-7]")
-PATTERN = re.compile(r"(cycle|circle|double|inversion|blocked|order|hold)((?: +(?:class|function|file):\S+)+)")
-FIELD = re.compile(r"(class|function|file):(\S+)")
+STATE = r"(?:hardirq|softirq|SIG[A-Z0-9]+(?:[+-][0-9]+)?:\S*)"  # what comes in: an interrupt, or a signal with its handler
+LINE = re.compile(r"(circle \S+/[0-7] [ES][RN]|double %s|inversion %s \S+/[0-7]) \S+/[0-7]" % (STATE, STATE))
+PATTERN = re.compile(r"(cycle|circle|double|inversion|blocked|order|hold)((?: +(?:class|function|file|signal):\S+)+)")
+FIELD = re.compile(r"(class|function|file|signal):(\S+)")
 UNTIL = re.compile(r"\buntil\b", re.IGNORECASE)
 DATE = re.compile(r"\buntil (\d{4}-\d{2}-\d{2})\s*$", re.IGNORECASE)
 PLACE = re.compile(r"#   ([^ ]+): (made in|any object of|the class object of|\S+) (.+)")
@@ -82,13 +83,13 @@ class Entry:
         them isn't known, it may."""
         return None in (self.kind, kind) or strength(kind) >= strength(self.kind)
 
-    def hides(self, type: str, classes: list[tuple[str, ...]], frames: list[tuple[str, str]]) -> bool:
+    def hides(self, type: str, classes: list[tuple[str, ...]], frames: list[tuple[str, str]], signal: str = "") -> bool:
         """Whether a pattern fits a finding: each of its classes, by one of its names, fits one of the pattern's, if that names any;
-        and a record of the finding comes from such a function and file, if it names these."""
-        if self.type != type:
+        and a record of the finding comes from such a function and file, and its signal is such a one, if it names these."""
+        of_classes, functions, files, signals = ([pattern for name, pattern in self.fields if name == wanted]
+                                                 for wanted in ("class", "function", "file", "signal"))
+        if self.type != type or signals and not fits_one(signal, signals):
             return False
-        of_classes, functions, files = ([pattern for name, pattern in self.fields if name == wanted]
-                                        for wanted in ("class", "function", "file"))
         if of_classes and not all(any(fits_one(name, of_classes) for name in names) for names in classes):
             return False
         if not functions and not files:

@@ -221,5 +221,9 @@ def remarks_of(finding: Finding, recorded: Recorded) -> list[str]:
 
 
 def said_of(finding: Finding, recorded: Recorded) -> list[str]:
-    """What was seen of a finding: which of its threads never ran at the same time, and then the verdict."""
-    return [words for words in (apart_words(finding, recorded), verdict_of(finding, recorded)) if words]
+    """What was seen of a finding: what is known of its signal, which of its threads never ran at the same time, and then the verdict."""
+    of_signal: list[str] = []
+    if finding.handler:
+        from .signal_text import remarks_of_signal
+        of_signal = remarks_of_signal(finding, finding.handler)
+    return of_signal + [words for words in (apart_words(finding, recorded), verdict_of(finding, recorded)) if words]

@@ -8,19 +8,22 @@ import sys
 
 from .apart import folder_of
 from .checker import HOME, answer_of
-from .files import STANDARD_OUTPUT, is_file, print_file, same_file, text_named, write_form
+from .files import STANDARD_OUTPUT, complain, is_file, print_file, same_file, text_named, write_form
 from .findings import Finding, findings_of
+from .folder import SIGNALS
 from .forms import Found, text_of_form
 from .happened import take_happened
 from .known import sort
 from .sources import sources_of
 from .suppressions import WHAT, entries_of
 from .verdict import Recorded, by_importance
-from .words import Refusal, counted, visible
+from .words import Refusal, bytes_of, counted, visible
 
 # The options that take a value, with the name of the value.
 OPTIONS = {"-o": "page", "--sarif": "sarif", "--junit": "junit", "--json": "json", "--known": "known",
            "--left-out": "left_out", "--waiting": "waiting", "--confirmed": "confirmed"}
+NOT_SHOWN = "lockdep: %s also has traces of signal handlers, which `view` doesn't look at: `lockdep confirm` of that folder does, with --html, --sarif, " \
+    "--junit and --json\n"
 FORMS = {"page": "-o", "sarif": "--sarif", "junit": "--junit", "json": "--json"}
 ORDER = ("json", "sarif", "junit", "page")  # in which forms are made
 
@@ -149,9 +152,12 @@ def found_in(given: dict[str, str], files: list[str]) -> Found:
 
 def with_happened(findings: list[Finding], files: list[str]) -> list[Finding]:
     """The findings, those first that `lockdep provoke` made happen, if all traces are of one recording in which it did."""
-    folders = set(map(folder_of, files))
+    folders = sorted(set(map(folder_of, files)))
     if len(folders) == 1:
-        take_happened(findings, folders.pop())
+        take_happened(findings, folders[0])
+    for folder in folders:
+        if os.path.isdir(os.path.join(folder, SIGNALS)):
+            complain(bytes_of(NOT_SHOWN % visible(os.path.join(folder, ""))))
     return by_importance(findings)
 
 

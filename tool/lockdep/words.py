@@ -87,3 +87,10 @@ def stands_for_several(name: str) -> bool:
 
 def reason_of(error: OSError) -> str:
     return error.strerror or str(error)
+
+
+LIBRARY = "libc:"  # begins the name of a lock inside the C library
+
+
+def is_of_library(key: str) -> bool:
+    return key.startswith(LIBRARY)
