@@ -53,7 +53,6 @@ struct step {
     uintptr_t from;  /* where it was taken, and how */
     const uint64_t *slot; /* of the table of locks */
     uint64_t word;        /* that is there as long as the lock is that object */
-    const uint8_t *looks; /* that are left at its class */
     uint64_t era;
     struct raw_record record;
     uint64_t missed; /* the key of the step that was looked for here last, and wasn't here */
@@ -95,7 +94,8 @@ struct thread {
     struct raw_thread *raw;
     uint64_t era;       /* when it looked at others last */
     uint64_t fresh_end; /* after the last record of something new */
-    uint64_t hash; /* of the locks that are held; it holds while the thread is outside of the recorder */
+    uint64_t hash; /* of the locks that are held; it holds while the thread is outside of the recorder, as the next one does */
+    uint64_t is_unsettled; /* there is something that the thread has to look at on its way */
     struct entry *entries;
     uint32_t depth, room; /* so many locks are held, and so many entries there are: those here, or RAW_HELD when these weren't enough */
     struct step *steps;   /* a table of those that were taken again and again; &no_step if there are none yet */
@@ -104,7 +104,6 @@ struct thread {
     uintptr_t failed;      /* the lock of that try */
     struct loading loading;
     struct call wish; /* the call in which it waits for a lock, the outermost if a signal's handler waits too; frame 0: in none */
-    uint64_t is_turned;    /* it may be in another state than its records say, or its handlers have left it locks */
     struct raw_record *records; /* the chunk that the last record came to: it has those from one number on, and so many */
     uint64_t records_from, records_room;
     struct raw_record *chunks[RAW_CHUNKS];
@@ -114,6 +113,7 @@ struct thread {
     uint32_t state;    /* which its records say */
     uint64_t on;       /* the signals that may interrupt in that */
     uint32_t turn_count;
+    bool is_turned; /* it may be in another state than its records say, or its handlers have left it locks */
     bool has_lost_turns;
     bool has_allocated; /* in this state, and, of a run of a handler, in this run: that is recorded once */
     struct turn turns[TURNS]; /* the last records of a state; what was taken back may still be among them */
@@ -139,6 +139,8 @@ struct thread {
     } places[PLACES]; /* of callers that it met last */
     struct entry first_entries[1 + FIRST_HELD + 1]; /* the one before the first is of no lock, and the last one has a level alone */
 };
+/* What is written when the first lock is taken lies in one line of the processor's. */
+_Static_assert((offsetof(struct thread, first_entries) + sizeof(struct entry)) % 64 == 0, "the first lock's entry begins a line");
 
 /* ---- Runs of signals' handlers. Each is a thread of its own in the recording, and what it has interrupted is kept meanwhile. */
 
@@ -204,8 +206,10 @@ QUICK void go_outside(void) {
 
 extern uint64_t is_memo_off; /* by LOCKDEP_MEMO=off, for tests: what is recorded is the same */
 
-/* Whether there is nothing that the thread has to look at on its way. */
-QUICK bool is_settled(const struct thread *t) { return !(t->loading.lock | t->wish.frame | t->failed_under | t->is_turned | is_memo_off); }
+/* Is done whenever something of this may have changed. */
+QUICK void note_unsettled(struct thread *t) {
+    t->is_unsettled = t->loading.lock | t->wish.frame | t->failed_under | t->is_turned | is_memo_off;
+}
 
 /* It grows whenever other threads may get to know what this one has made, by the locks that it releases and the threads that it starts, and
    stays as it is while the thread only takes locks and keeps them. */
@@ -233,8 +237,7 @@ QUICK bool step_on(struct thread *t, uintptr_t lock, uintptr_t from) {
     struct raw_thread *raw = t->raw;
     uint64_t before = t->hash;
     const struct step *s = step_at(t, step_key(before, lock, from));
-    if (!is_settled(t) || s->held.lock != lock || s->from != from || s->before != before || s->era != LOAD(era) ||
-        LOAD(s->slot) != s->word || *s->looks)
+    if (t->is_unsettled || s->held.lock != lock || s->from != from || s->before != before || s->era != LOAD(era) || LOAD(s->slot) != s->word)
         return false;
     uint64_t count = raw->count, nth = count - t->records_from;
     if (nth >= t->records_room)
@@ -246,7 +249,6 @@ QUICK bool step_on(struct thread *t, uintptr_t lock, uintptr_t from) {
     e->links = s->links;
     e->level.start = count;
     e->level.hash = before;
-    e[1].level.start = NO_LEVEL;
     __atomic_signal_fence(__ATOMIC_RELEASE);
     t->hash = s->links.hash;
     t->depth++;
@@ -262,7 +264,7 @@ QUICK bool step_on(struct thread *t, uintptr_t lock, uintptr_t from) {
 QUICK bool step_back(struct thread *t, uintptr_t lock) {
     const struct entry *e = &t->entries[t->depth] - 1;
     uint64_t start = e->level.start;
-    if (!is_settled(t) || e->held.lock != lock || e->held.depth | (e->held.weak & RAW_NEW) || start < t->fresh_end ||
+    if (t->is_unsettled || e->held.lock != lock || e->held.depth | (e->held.weak & RAW_NEW) || start < t->fresh_end ||
         e->level.hash != e[-1].links.hash || t->era != LOAD(era) || memcmp(e->held.what, e->links.what, sizeof e->held.what) != 0)
         return false;
     struct raw_thread *raw = t->raw;
@@ -312,8 +314,10 @@ void forget_runs_of_parent(void);
 /* Whether the thread may be in another state than its records say. */
 QUICK void look_at_state_later(void) {
     struct thread *t = self.thread;
-    if (t)
-        t->is_turned = on_now() != t->on || t->epoch != LOAD(&handlers_epoch) || (self.runs && self.runs->left_count);
+    if (!t)
+        return;
+    t->is_turned = on_now() != t->on || t->epoch != LOAD(&handlers_epoch) || (self.runs && self.runs->left_count);
+    note_unsettled(t);
 }
 
 #endif

@@ -210,9 +210,14 @@ bool begin_inside(struct call call) {
 /* Of the oldest so many that are held. */
 static inline uint64_t hash_of(const struct thread *t, uint32_t depth) { return (&t->entries[depth] - 1)->links.hash; }
 
+static void settle_outside(struct thread *t) {
+    t->hash = hash_of(t, t->depth);
+    note_unsettled(t);
+}
+
 void end_inside(void) {
     if (self.thread)
-        self.thread->hash = hash_of(self.thread, self.thread->depth);
+        settle_outside(self.thread);
     go_outside();
 }
 
@@ -435,7 +440,8 @@ static void go_back_to(struct thread *t, uint64_t count) {
    was new; the state may be another one, which is written again when that matters. */
 static bool is_back(struct thread *t) {
     const struct level *last = &t->entries[t->depth].level;
-    if (last->start > t->raw->count || last->start < t->fresh_end)
+    const struct held *newest = &(&t->entries[t->depth] - 1)->held;
+    if (last->start > t->raw->count || last->start < t->fresh_end || last->start < newest->record + newest->is_written)
         return false;
     uint32_t state = turn_before(t, last->start).state;
     if (state == NO_STATE || (last->hash ^ hash_of_state(state)) != (hash_of(t, t->depth) ^ hash_of_state(t->state)))
@@ -923,7 +929,6 @@ static void write_step(struct step *s, const struct thread *t, uintptr_t from, c
     s->before = e->level.hash;
     s->slot = slot;
     s->word = word;
-    s->looks = looks_left_at(raw_object(e->held.what[BY_CLASSES]));
     s->era = t->era;
     s->record = (struct raw_record){what_written(&e->held), place};
     __atomic_signal_fence(__ATOMIC_SEQ_CST);
@@ -937,7 +942,7 @@ static void note_step(struct thread *t, uintptr_t from, uintptr_t caller) {
     if (h->record < t->fresh_end || !h->is_written || h->kind == KIND_COUNTED || h->weak & RAW_NEW)
         return;
     struct step *s = place_of_step(t, step_key(hash_of(t, t->depth - 1), h->lock, from));
-    if (!s || !is_lasting(object_of(h), t->depth > 1) || !are_single(t))
+    if (!s || *looks_left_at(raw_object(h->what[BY_CLASSES])) || !is_lasting(object_of(h), t->depth > 1) || !are_single(t))
         return;
     const uint64_t *slot = lock_slot(h->lock, object_of(h), &word);
     if (slot)
@@ -1385,7 +1390,7 @@ static bool begin_anew(struct thread *t) {
         take_over(t, &held[i]);
     t->loading = loading;
     t->unnoted = unnoted;
-    t->hash = hash_of(t, t->depth);
+    settle_outside(t);
     return true;
 }
 
