@@ -3,18 +3,15 @@ from __future__ import annotations
 
 import os
 import signal
-import sys
-import time
 
 from .asking import ask_about
 from .findings import Finding, Kind
-from .folder import checked, fault
+from .folder import fault
 from .options import Words
-from .processes import find_command, start, status_of
+from .processes import find_command
 from .provoke_holders import HOLDERS, Holder
-from .provoke_load import Load, send
 from .provoke_plan import why_not_by_signal
-from .provoke_run import LOOK, parent_of
+from .provoke_recorded import ENDING, recorded
 from .provoke_tries import NOT_HAPPENED, NOTHING_TRIED, Tries, say
 from .recorders import RECORDERS, Recorder, recorder_for
 from .recording import summary_quietly
@@ -24,7 +21,6 @@ from .steps import THREAD
 
 LONGER = 10  # how many times as long as the recorded run another one may take
 LEAST_LIMIT = 30.0  # seconds
-ENDING = (signal.SIGINT, signal.SIGTERM, signal.SIGHUP)  # signals that end this command
 UNTRIED = {Kind.TYPES: "no class of locks takes part both ways", Kind.TIMED: "its cycle needs a wait that gives up",
            Kind.EITHER: "its cycle needs a wait that gives up, or a lock that was new",
            Kind.ANY: "its cycle needs a wait that gives up, a thread that had ended, or a lock that was new"}
@@ -111,72 +107,6 @@ def holder_of(recorder: Recorder, home: str) -> Holder:
     if recorder.holder is None:
         raise Refusal("`provoke` holds back threads of pthreads, Python and Java, and this is a command for the recorder of " + recorder.language)
     return HOLDERS[recorder.holder](home)
-
-
-def recorded(home: str, folder: str, recorder: Recorder, holder: Holder, line: Words) -> float:
-    """Records the command, with another one beside it if that is wished, and returns how many seconds it took. A signal ends the recorded
-    run: the terminal's Ctrl-C comes to it too, and others are passed on."""
-    began, before = time.monotonic(), made_at(folder)
-    recording = start(recording_words(home, folder, recorder, line))
-    for number in ENDING:
-        if signal.getsignal(number) is not signal.SIG_IGN:
-            signal.signal(number, lambda number, frame: send(recording, number) if number != signal.SIGINT else None)
-    status = end_of_recording(recording, folder, line.last("--while"), holder)
-    if made_at(folder) in (0, before):
-        raise Refusal("nothing was recorded: the recorder ended with status %d" % status)
-    return time.monotonic() - began
-
-
-def recording_words(home: str, folder: str, recorder: Recorder, line: Words) -> list[str]:
-    """What records the command."""
-    is_named, recorders = line.has("--recorder"), os.path.join(home, "recorders")
-    if recorder.script:
-        return [sys.executable, os.path.join(recorders, recorder.script), "-o", checked(folder), "--either" if is_named else "--command", *line.rest]
-    return [os.path.join(recorders, "pthread", "record"), *(["--recorder", recorder.name] if is_named else []), "-o", folder, "--", *line.rest]
-
-
-def made_at(folder: str) -> int:
-    """When the recording in a folder was made, in nanoseconds; 0 if there is none."""
-    try:
-        return os.stat(os.path.join(folder, "SUMMARY")).st_mtime_ns
-    except OSError:
-        return 0
-
-
-def end_of_recording(recorder: int, folder: str, beside: str, holder: Holder) -> int:
-    """Waits until the recorder has ended, and returns its status. A program that doesn't end by SIGTERM may be one that stands still: it is
-    killed, which leaves its recording."""
-    load, raw = Load(beside, 2), os.path.join(folder, "raw")
-    ended, status = 0, 0
-    recorded: list[int] = []
-    while beside and not ended:
-        load.step(any(holder.takes_locks(os.path.join(raw, name)) for name in listed(raw)), recorder)
-        if load.told and not recorded:
-            recorded = descendants(recorder)
-        if load.is_overdue():
-            for process in set(recorded) & set(descendants(recorder)):
-                send(process, signal.SIGKILL)
-        time.sleep(LOOK)
-        ended, status = os.waitpid(recorder, os.WNOHANG)
-    load.end()
-    return status if ended else status_of(recorder)
-
-
-def descendants(process: int) -> list[int]:
-    """What a process has started, and what that has, as long as these are there."""
-    parents = {int(name): parent_of(int(name)) for name in os.listdir("/proc") if name.isdigit()}
-    found, new = [], [process]
-    while new:
-        new = [child for child, parent in parents.items() if parent in new]
-        found += new
-    return found
-
-
-def listed(folder: str) -> list[str]:
-    try:
-        return os.listdir(folder)
-    except OSError:
-        return []
 
 
 def chosen(findings: list[Finding], line: Words) -> list[tuple[int, Finding]]:

@@ -1,6 +1,10 @@
-/** Threads that begin one after the other, so that in a plain run each has done its work before the next one begins. */
+/**
+ * Threads that begin one after the other. In a run that is recorded each has done its work before the next one begins, however busy the machine is;
+ * in the runs of `provoke`, which hold threads back, they begin by the time.
+ */
 final class Apart {
     private static final int MILLISECONDS = 150;
+    private static volatile int ended;
 
     private Apart() {
     }
@@ -22,10 +26,16 @@ final class Apart {
 
     private static void begin(int number, Work work) {
         try {
-            Thread.sleep(MILLISECONDS * number);
+            await(number);
             work.run();
         } catch (InterruptedException interrupted) {
             System.out.println("interrupted");
         }
+        ended = number + 1;
+    }
+
+    private static void await(int number) throws InterruptedException {
+        if (System.getenv("LOCKDEP_PROVOKE_PLAN") != null) Thread.sleep(MILLISECONDS * number);
+        else while (ended < number) Thread.sleep(1);
     }
 }

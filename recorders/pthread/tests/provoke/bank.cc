@@ -1,11 +1,9 @@
 // Two accounts of a bank on the heap, between which money goes both ways.
-#include <chrono>
+#include "turns.h"
+
 #include <memory>
 #include <mutex>
 #include <thread>
-
-constexpr int rounds = 3;
-constexpr std::chrono::milliseconds turn(40); // from one thread to the other
 
 struct Account {
     std::mutex lock;
@@ -24,18 +22,18 @@ static void transfer(Account &from, Account &to) {
     to.balance++;
 }
 
-static void repeat(Account &from, Account &to) {
-    for (int i = 0; i < rounds; i++) {
+static void repeat(int thread, Account &from, Account &to) {
+    for (int i = 0; i < ROUNDS; i++) {
+        await_turn(2 * i + thread, 2);
         transfer(from, to);
-        std::this_thread::sleep_for(2 * turn);
+        end_turn(2 * i + thread);
     }
 }
 
 int main() {
     auto bank = std::make_unique<Bank>();
-    std::thread one([&] { repeat(bank->savings, bank->credit); });
-    std::this_thread::sleep_for(turn);
-    std::thread two([&] { repeat(bank->credit, bank->savings); });
+    std::thread one([&] { repeat(0, bank->savings, bank->credit); });
+    std::thread two([&] { repeat(1, bank->credit, bank->savings); });
     one.join();
     two.join();
 }

@@ -1,33 +1,30 @@
 /* Two mutexes of C11 in both orders. */
-#include <threads.h>
-#include <time.h>
+#include "turns.h"
 
-#define ROUNDS 3
-#define MICROSECONDS 40000 /* from a turn to that of the other thread */
+#include <threads.h>
 
 static mtx_t a, b;
 
-static void sleep_for(long microseconds) { thrd_sleep(&(struct timespec){0, microseconds * 1000}, NULL); }
-
 static int first(void *with) {
     for (int i = 0; i < ROUNDS; i++) {
+        await_turn(2 * i, 2);
         mtx_lock(&a);
         mtx_lock(&b);
         mtx_unlock(&b);
         mtx_unlock(&a);
-        sleep_for(2 * MICROSECONDS);
+        end_turn(2 * i);
     }
     return with != NULL;
 }
 
 static int second(void *with) {
-    sleep_for(MICROSECONDS);
     for (int i = 0; i < ROUNDS; i++) {
+        await_turn(2 * i + 1, 2);
         mtx_lock(&b);
         mtx_lock(&a);
         mtx_unlock(&a);
         mtx_unlock(&b);
-        sleep_for(2 * MICROSECONDS);
+        end_turn(2 * i + 1);
     }
     return with != NULL;
 }

@@ -9,8 +9,10 @@ static bool is_filled;
 
 static void first(void) {
     pthread_mutex_lock(&queue);
-    while (!is_filled)
+    while (!is_filled) {
+        end_turn(0); /* it goes on in the next one */
         pthread_cond_wait(&filled, &queue);
+    }
     pthread_mutex_lock(&journal);
     pthread_mutex_unlock(&journal);
     pthread_mutex_unlock(&queue);

@@ -51,6 +51,18 @@ static void gated(void (*orders)(void)) {
 static void first(void) { gated(in_order); }
 static void second(void) { gated(the_other_way); }
 
+static void *only_first(void *with) {
+    for (int i = 0; i < ROUNDS; i++)
+        first();
+    return with;
+}
+
+static void *only_second(void *with) {
+    for (int i = 0; i < ROUNDS; i++)
+        second();
+    return with;
+}
+
 static void run_in_turn(void *(*runs)(void *with)) {
     pthread_t thread;
     pthread_create(&thread, NULL, runs, NULL);
@@ -69,8 +81,8 @@ int main(int count, char **words) {
     is_timed = strcmp(way, "timed") == 0;
     other = strcmp(way, "classes") == 0;
     if (strcmp(way, "in-turn") == 0) {
-        run_in_turn(in_first);
-        run_in_turn(in_second);
+        run_in_turn(only_first);
+        run_in_turn(only_second);
     } else {
         run_both();
     }

@@ -1,39 +1,38 @@
-/* Two threads that take two mutexes in both orders, in turn, by the time that it is. With `child` a child of a fork does so, and
-   with `leave` the first thread ends before the two. */
+/* Two threads that take two mutexes in both orders, in turn. With `child` a child of a fork does so, and with `leave` the first thread ends
+   before the two. */
+#include "turns.h"
+
 #include <pthread.h>
 #include <stdbool.h>
 #include <stdio.h>
 #include <string.h>
 #include <sys/wait.h>
-#include <unistd.h>
-
-#define ROUNDS 3
-#define MICROSECONDS 40000 /* from one thread's turn to the other's */
 
 static pthread_mutex_t accounts = PTHREAD_MUTEX_INITIALIZER, journal = PTHREAD_MUTEX_INITIALIZER;
 static long balance;
 
 static void *pay(void *with) {
     for (int i = 0; i < ROUNDS; i++) {
+        await_turn(2 * i, 2);
         pthread_mutex_lock(&accounts);
         pthread_mutex_lock(&journal);
         balance++;
         pthread_mutex_unlock(&journal);
         pthread_mutex_unlock(&accounts);
-        usleep(2 * MICROSECONDS);
+        end_turn(2 * i);
     }
     return with;
 }
 
 static void *audit(void *with) {
-    usleep(MICROSECONDS);
     for (int i = 0; i < ROUNDS; i++) {
+        await_turn(2 * i + 1, 2);
         pthread_mutex_lock(&journal);
         pthread_mutex_lock(&accounts);
         balance--;
         pthread_mutex_unlock(&accounts);
         pthread_mutex_unlock(&journal);
-        usleep(2 * MICROSECONDS);
+        end_turn(2 * i + 1);
     }
     return with;
 }

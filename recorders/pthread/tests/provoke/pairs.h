@@ -1,26 +1,25 @@
-/* Two threads that do something in turn, by the time that it is, so that plain runs end, however busy the machine is. */
-#include <pthread.h>
-#include <unistd.h>
+/* Two threads that do something in turn. */
+#include "turns.h"
 
-#define ROUNDS 3
-#define MICROSECONDS 40000 /* from a turn to that of the other thread */
+#include <pthread.h>
 
 static void first(void);
 static void second(void);
 
 static void *in_first(void *with) {
     for (int i = 0; i < ROUNDS; i++) {
+        await_turn(2 * i, 2);
         first();
-        usleep(2 * MICROSECONDS);
+        end_turn(2 * i);
     }
     return with;
 }
 
 static void *in_second(void *with) {
-    usleep(MICROSECONDS);
     for (int i = 0; i < ROUNDS; i++) {
+        await_turn(2 * i + 1, 2);
         second();
-        usleep(2 * MICROSECONDS);
+        end_turn(2 * i + 1);
     }
     return with;
 }

@@ -2,7 +2,8 @@
 import concurrent.futures
 import logging
 import threading
-import time
+
+from pairs import APART, wait_until
 
 state = threading.Lock()
 
@@ -24,7 +25,7 @@ def report():
 
 
 def change():
-    time.sleep(0.1)
+    wait_until(lambda: log.handlers[0].count, APART)
     with state:
         logging.getLogger("counted").handlers[0].acquire()
         log.handlers[0].release()
