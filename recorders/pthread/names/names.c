@@ -146,14 +146,16 @@ static void name_program(const char *arena, const char *names) {
 #define MOST_SECONDS 60                 /* of one process of the reader */
 #define MOST_MEMORY (UINT64_C(4) << 30) /* bytes, without the files that are mapped */
 
-/* Of the arenas from one on. A pipe has the number of the one that is read, so that one that ends the reader is passed over. */
+#define NOBODY (-1)
+
+/* Of the arenas from one on. A pipe, or nobody, has the number of the one that is read, so that one that ends the reader is passed over. */
 static void read_from(char **arenas, size_t count, size_t from, int told) {
     const struct rlimit memory = {MOST_MEMORY, MOST_MEMORY}, none = {0, 0}, seconds = {MOST_SECONDS, MOST_SECONDS};
     setrlimit(RLIMIT_DATA, &memory);
     setrlimit(RLIMIT_CORE, &none);
     setrlimit(RLIMIT_CPU, &seconds);
     for (size_t i = from; i < count; i++) {
-        if (write(told, &i, sizeof i) != sizeof i)
+        if (told != NOBODY && write(told, &i, sizeof i) != sizeof i)
             _exit(2);
         name_program(arenas[i], written("%.*s.names", (int)(strlen(arenas[i]) - strlen(".arena")), arenas[i]));
     }
@@ -197,7 +199,10 @@ int main(int argc, char **argv) {
     for (int i = 0; i < found; i++)
         if (is_unnamed_arena(raw, entries[i]->d_name))
             PUSH(arenas, count, written("%s/%s", raw, entries[i]->d_name));
-    for (size_t from = 0; from < count;)
+    for (size_t from = 0; from < count;) {
+        if (count - from == 1) /* nothing comes after it, so it is read here */
+            read_from(arenas, count, from, NOBODY);
         from = read_aside(arenas, count, from);
+    }
     return 0;
 }
