@@ -7,7 +7,7 @@ _lockdep_options() {
         check) echo --workers --many --help ;;
         explain) echo --workers --many --json --locks --confirmed-only --help ;;
         graph) echo --workers --many --findings --help ;;
-        condense) echo --workers --help ;;
+        condense) echo --workers --many --help ;;
         chains) echo --help ;;
         record) echo -o --recorder --frames --signals --no-wait --version-1 --finish --summary --accept-left-out --help ;;
         confirm) echo --strict --html --sarif --junit --json --help ;;

@@ -63,6 +63,7 @@ complete -c lockdep -n '__lockdep_in graph' -l workers -x -d 'How many workers c
 complete -c lockdep -n '__lockdep_in graph' -l many -d 'Take up to 8192 lock keys'
 complete -c lockdep -n '__lockdep_in graph' -l findings -d 'Show only what is part of a finding'
 complete -c lockdep -n '__lockdep_in condense' -l workers -x -d 'How many workers check the traces, from 1 to 64'
+complete -c lockdep -n '__lockdep_in condense' -l many -d 'Take up to 8192 lock keys'
 complete -c lockdep -n '__lockdep_in record' -s o -x -a '(__fish_complete_directories)' -d 'Where the traces go'
 complete -c lockdep -n '__lockdep_in record' -l recorder -x -a 'pthread python java rust embed' -d 'What records the command'
 complete -c lockdep -n '__lockdep_in record' -l frames -x -d 'By how many callers a lock class is named'

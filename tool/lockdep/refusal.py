@@ -120,7 +120,7 @@ def has_flag(flag: str, words: list[str]) -> bool:
 def case_of_many(words: list[str]) -> str | None:
     """What there is room for depends on the command."""
     command = words[0] if words else ""
-    if command in ("condense", "chains"):
+    if command == "chains":
         return command
     return "locks" if asks_of_locks(words) else "many" if has_flag("--many", words) else None
 

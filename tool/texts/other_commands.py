@@ -22,7 +22,7 @@ ALL = (
         Option("--confirmed-only", None, "status 1 only for what was seen between locks", "")]),
     command("graph", "write the lock order as a graph in the DOT language", "files", [
         WORKERS, MANY, Option("--findings", None, "show only what is part of a finding", "")]),
-    command("condense", "write one trace that says what all of them say", "files", [WORKERS]),
+    command("condense", "write one trace that says what all of them say", "files", [WORKERS, MANY]),
     command("chains", "list the acquisitions of a trace", "file", []),
     RECORD,
     command("confirm", "explain what was found in a recording, and what was seen between single locks", "folder", [

@@ -18,3 +18,4 @@ run_code_of TooTangled = codes "M1 TooTangled"
 abbrev pub condense_code_of : CondenseFault → List ℕ
 condense_code_of D.Unequal = codes "E1 Unequal"
 condense_code_of D.Memory = codes "E2 Memory"
+condense_code_of D.TooLong = codes "E3 TooLong"

@@ -10,12 +10,15 @@ use thiserror::Error;
 #[derive(Clone, Copy, PartialEq, Eq, Debug, Error)]
 pub enum CondenseFault {
     /// E1: the trace that was made doesn't have exactly the facts, for example because a key of theirs isn't in the
-    /// order, or because it would have more than 1,000,000 events.
+    /// order.
     #[error("the condensed trace does not have the same facts")]
     Unequal,
     /// E2: memory was refused.
     #[error("out of memory")]
     Memory,
+    /// E3: the trace would have more than 1,000,000 events.
+    #[error("the condensed trace would have more than 1,000,000 events")]
+    TooLong,
 }
 
 impl CondenseFault {
@@ -26,6 +29,7 @@ impl CondenseFault {
         match self {
             CondenseFault::Unequal => "E1 Unequal",
             CondenseFault::Memory => "E2 Memory",
+            CondenseFault::TooLong => "E3 TooLong",
         }
     }
 }

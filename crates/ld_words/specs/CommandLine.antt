@@ -55,9 +55,9 @@ explain_shape = (with_rule (with_rule (with_rule (with_rule (many_app (codes "ex
 abbrev pub graph_shape : Shape
 graph_shape = (with_rule (with_rule (many_app (codes "graph")) (flag_rule (codes "findings"))) files_rule).top
 
--- `condense [--workers N] [FILE...]`
+-- `condense [--workers N] [--many] [FILE...]`
 abbrev pub condense_shape : Shape
-condense_shape = (with_rule (with_rule (new_app (codes "condense")) workers_rule) files_rule).top
+condense_shape = (with_rule (many_app (codes "condense")) files_rule).top
 
 -- `chains [FILE]`
 abbrev pub chains_shape : Shape
@@ -88,7 +88,7 @@ abbrev pub subcommand_word : Line → Text
 subcommand_word (Check workers many files) = codes "check"
 subcommand_word (Explain workers many json locks confirmed_only files) = codes "explain"
 subcommand_word (Graph workers many findings files) = codes "graph"
-subcommand_word (Condense workers files) = codes "condense"
+subcommand_word (Condense workers many files) = codes "condense"
 subcommand_word (Chains file) = codes "chains"
 
 -- the arguments of the subcommand say this
@@ -102,7 +102,8 @@ ReadsLine rows (Explain workers many json locks confirmed_only files) =
 ReadsLine rows (Graph workers many findings files) =
     ReadsCheck rows workers (map (λ file. file.now) files.items) × ReadsFlag (codes "many") rows many
     × ReadsFlag (codes "findings") rows findings
-ReadsLine rows (Condense workers files) = ReadsCheck rows workers (map (λ file. file.now) files.items)
+ReadsLine rows (Condense workers many files) =
+    ReadsCheck rows workers (map (λ file. file.now) files.items) × ReadsFlag (codes "many") rows many
 ReadsLine rows (Chains file) = option_map (λ word. word.now) file ≡ first_of (codes "FILE") rows
 
 -- a subcommand's name and arguments ask for this

@@ -49,6 +49,7 @@ pub enum Line<'a> {
     /// One trace that has exactly their facts.
     Condense {
         workers: u16,
+        many: bool,
         files: Vec<&'a str>,
     },
     /// The chains of the trace in this file, or of the one on standard input if no file is named.
@@ -112,14 +113,19 @@ fn file_argument<'a>(alloc: Global) -> Arg<'a>
     )
 }
 
-// The subcommand of this name, with the options of those that may take many keys.
-fn many_command<'a>(alloc: Global, name: &'a str, about: &'a str) -> Result<Command<'a>, AllocError>
+// The subcommand of this name, with the options of those that may take many keys, and the last line of its help.
+fn many_command<'a>(
+    alloc: Global,
+    name: &'a str,
+    about: &'a str,
+    last: &'a str,
+) -> Result<Command<'a>, AllocError>
     ensures app { IfOk result (λ command. app_of command ≡ many_app name.now) }
     ensures local { IfOk result (λ command. (out-Command command).has_globals ≡ false) }
 {
     Command::new(alloc, name)
         .about(about)
-        .after_help(FINDS)
+        .after_help(last)
         .arg(workers_option(alloc))?
         .arg(flag(alloc, "many", "Take up to 8192 lock keys instead of 256"))
 }
@@ -133,6 +139,7 @@ fn check_command<'a>(alloc: Global) -> Result<Command<'a>, AllocError>
         alloc,
         "check",
         "Report the lock order of traces, and which of it can deadlock",
+        FINDS,
     )?
     .arg(files_argument(alloc))
 }
@@ -146,6 +153,7 @@ fn explain_command<'a>(alloc: Global) -> Result<Command<'a>, AllocError>
         alloc,
         "explain",
         "Explain each finding by the records that cause it",
+        FINDS,
     )?
     .arg(flag(alloc, "json", "Write the findings as JSON"))?
     .arg(flag(
@@ -170,6 +178,7 @@ fn graph_command<'a>(alloc: Global) -> Result<Command<'a>, AllocError>
         alloc,
         "graph",
         "Draw the lock order as a graph in the language DOT",
+        FINDS,
     )?
     .arg(flag(alloc, "findings", "Show only what is part of a finding"))?
     .arg(files_argument(alloc))
@@ -180,11 +189,13 @@ fn condense_command<'a>(alloc: Global) -> Result<Command<'a>, AllocError>
     ensures shape { IfOk result (λ command. shape_of command ≡ condense_shape) }
     ensures local { IfOk result (λ command. (out-Command command).has_globals ≡ false) }
 {
-    Command::new(alloc, "condense")
-        .about("Write one small trace with the lock order and usage of all traces")
-        .after_help(WRITES)
-        .arg(workers_option(alloc))?
-        .arg(files_argument(alloc))
+    many_command(
+        alloc,
+        "condense",
+        "Write one small trace with the lock order and usage of all traces",
+        WRITES,
+    )?
+    .arg(files_argument(alloc))
 }
 
 // The command lines of the chains.
@@ -239,25 +250,6 @@ fn files_of<'a>(alloc: Global, found: &ArgMatches<'a>) -> Result<Vec<&'a str>, A
     Ok(files)
 }
 
-// The number of workers and the files that the words of a subcommand give.
-fn workers_and_files<'a>(
-    alloc: Global,
-    found: &ArgMatches<'a>,
-) -> Result<(u16, Vec<&'a str>), LineFault>
-    ensures ok { IfOk result (λ read. ReadsCheck (rows_of (found_of found.now)) read.0
-        (map (λ file. file.now) read.1.items)) }
-    ensures no_help { IfErr result (λ fault. (words : List (List ℕ)) → IsLineFault words fault) }
-{
-    // There is always a number: the option has a default. P1 would be untrue of words that `clap` has taken.
-    let Some(workers) = found.get_one::<u16>("workers") else {
-        return Err(LineFault::Memory);
-    };
-    match files_of(alloc, found) {
-        Ok(files) => Ok((workers, files)),
-        Err(_) => Err(LineFault::Memory),
-    }
-}
-
 // What the words of a subcommand give that may take many keys: the number of workers, whether there may be many keys,
 // and the files.
 fn many_words<'a>(
@@ -269,8 +261,14 @@ fn many_words<'a>(
     ensures many { IfOk result (λ read. ReadsFlag (codes "many") (rows_of (found_of found.now)) read.1) }
     ensures no_help { IfErr result (λ fault. (words : List (List ℕ)) → IsLineFault words fault) }
 {
-    let (workers, files) = workers_and_files(alloc, found)?;
-    Ok((workers, found.get_flag("many"), files))
+    // There is always a number: the option has a default. P1 would be untrue of words that `clap` has taken.
+    let Some(workers) = found.get_one::<u16>("workers") else {
+        return Err(LineFault::Memory);
+    };
+    match files_of(alloc, found) {
+        Ok(files) => Ok((workers, found.get_flag("many"), files)),
+        Err(_) => Err(LineFault::Memory),
+    }
 }
 
 // What the words of a subcommand ask for.
@@ -308,8 +306,12 @@ fn line_of<'a>(alloc: Global, matches: &ArgMatches<'a>) -> Result<Line<'a>, Line
         });
     }
     if let Some(found) = matches.subcommand_matches("condense") {
-        let (workers, files) = workers_and_files(alloc, found)?;
-        return Ok(Line::Condense { workers, files });
+        let (workers, many, files) = many_words(alloc, found)?;
+        return Ok(Line::Condense {
+            workers,
+            many,
+            files,
+        });
     }
     // There is no other subcommand.
     let Some(found) = matches.subcommand_matches("chains") else {
@@ -335,7 +337,7 @@ fn fault_of(error: clap::Error) -> LineFault
 /// What the command line asks for. The words begin with the program's name, and are read as `clap` defines it: `check
 /// [--workers N] [--many] [FILE...]`, with N a whole number from 0 to 65,535 and 4 if it isn't given, `explain
 /// [--workers N] [--many] [--json] [--locks] [--confirmed-only] [FILE...]`, `graph [--workers N] [--many] [--findings] [FILE...]`, `condense
-/// [--workers N] [FILE...]` and `chains [FILE]`.
+/// [--workers N] [--many] [FILE...]` and `chains [FILE]`.
 ///
 /// Refusals: `Help` if help or the version is asked for, `Memory` if memory is refused, and `Refused` for every other
 /// line that isn't accepted [this project's own].

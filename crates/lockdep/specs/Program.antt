@@ -58,8 +58,8 @@ asked_by (Explain workers many as_json locks confirmed_only files) =
     explanation_asked many as_json (locks || confirmed_only) confirmed_only workers (map (λ file. file.now) files.items)
 asked_by (Graph workers many findings files) = let named = map (λ file. file.now) files.items in
     output_of (record { output = picture findings; many = many; workers = workers; files = named })
-asked_by (Condense workers files) = let named = map (λ file. file.now) files.items in
-    output_of (record { output = condensed; many = false; workers = workers; files = named })
+asked_by (Condense workers many files) = let named = map (λ file. file.now) files.items in
+    output_of (record { output = condensed; many = many; workers = workers; files = named })
 asked_by (Chains file) = chains_of (option_map (λ word. word.now) file)
 
 -- What is done.

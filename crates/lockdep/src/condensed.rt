@@ -14,8 +14,8 @@ use std::io::Write;
 /// Writes one trace that has exactly the settled facts, with the keys in the order of their names: the same facts and
 /// names give the same text.
 ///
-/// Refusals: `Condensing` with E1 if the trace that was made doesn't have exactly the facts, and with E2 if memory runs
-/// out for it; `Out` with O3 if memory runs out for the order of the keys or the text, and with O1 and O2 if writing
+/// Refusals: `Condensing` with E1 if the trace that was made doesn't have exactly the facts, with E2 if memory runs out
+/// for it, and with E3 if it would have more than 1,000,000 events; `Out` with O3 if memory runs out for the order of the keys or the text, and with O1 and O2 if writing
 /// failed. Nothing was written unless it is O1 or O2 [this project's own].
 pub(crate) fn write_condensed<W: Write>(
     alloc: Global,

@@ -70,9 +70,11 @@ pub(crate) fn request_of<'l, 'a>(line: &'l Line<'a>) -> Request<'l, 'a>
             };
             output_request(output, *many, *workers, files.as_slice())
         }
-        Line::Condense { workers, files } => {
-            output_request(Output::Condensed, false, *workers, files.as_slice())
-        }
+        Line::Condense {
+            workers,
+            many,
+            files,
+        } => output_request(Output::Condensed, *many, *workers, files.as_slice()),
         Line::Chains { file } => Request::Chains(*file),
     }
 }

@@ -124,7 +124,8 @@ impl Session {
     /// Refusals, in this order: `Run` with N1 if `workers` isn't 1 to 64, with N2 if there are more than 4,096 traces, and with
     /// N4 if the run is out of memory; `Step` with the first trace that isn't well formed, the record of its first event that
     /// isn't allowed, and why; `Run` with N3 if the workers don't agree on the facts; `Condensing` with E2 if memory runs out for
-    /// a condensed trace, and with E1 if it doesn't have exactly the facts, which no test has met; `Out` if writing failed. With
+    /// a condensed trace, with E3 if it would have more than 1,000,000 events, and with E1 if it doesn't have exactly the facts,
+    /// which no test has met; `Out` if writing failed. With
     /// more than 256 keys no chain is recorded, and instead of N3 there is M1 if the keys can't be split into parts of at most 256,
     /// or N4 again if memory is refused for the parts. Nothing was written in any of these cases, nor with O3, which means that memory ran out for the text; with O1 and O2 exactly
     /// a beginning of the text was [this project's own].

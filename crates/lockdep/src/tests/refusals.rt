@@ -102,6 +102,10 @@ static LINES: [(Refusal<'_>, &str); 13] = [
         "lockdep: E1 Unequal\n",
     ),
     (
+        Refusal::Condensing(CondenseFault::TooLong),
+        "lockdep: E3 TooLong\n",
+    ),
+    (
         Refusal::Condensing(CondenseFault::Memory),
         "lockdep: E2 Memory\n",
     ),

@@ -315,6 +315,7 @@ fn have_codes(codes: &[(RunFault, &str)]) -> bool {
 #[test]
 fn the_codes_of_faults(rt: HostRuntime) {
     let board = BoardFault::Seats.code() == "C1 Seats" && BoardFault::Memory.code() == "C2 Memory";
-    let condense = CondenseFault::Unequal.code() == "E1 Unequal";
+    let condense = CondenseFault::Unequal.code() == "E1 Unequal"
+        && CondenseFault::TooLong.code() == "E3 TooLong";
     assert!(rt; have_codes(&CODES) && board && condense);
 }
