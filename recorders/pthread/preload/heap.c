@@ -362,9 +362,10 @@ __attribute__((noinline)) static bool look_up(struct call call) {
         }
         STORE(&resolve_state, is_heeded ? HEEDED : DONE);
     }
+    state = LOAD(&resolve_state);
     if (state == HEEDED && call.frame)
         use_allocator(call);
-    return LOAD(&resolve_state) >= DONE;
+    return state >= DONE;
 }
 
 void heed_allocator(void) {
