@@ -200,6 +200,17 @@ static bool is_of_ranges(int command) {
     return command == F_SETLK || command == F_SETLKW || command == F_OFD_SETLK || command == F_OFD_SETLKW;
 }
 
+/* Whether it says which signal a file sends, or to whom. */
+static bool is_of_signals(int command) { return command == F_SETSIG || command == F_SETOWN || command == F_SETOWN_EX; }
+
+static void note_owner_of(int descriptor) {
+    struct f_owner_ex owner;
+    int saved = errno, number = REAL(fcntl)(descriptor, F_GETSIG);
+    if (number >= 0 && REAL(fcntl)(descriptor, F_GETOWN_EX, &owner) == 0 && owner.pid)
+        note_owner(number, owner.type == F_OWNER_TID);
+    errno = saved;
+}
+
 /* What comes after the command is at most a pointer. */
 #define CONTROLLING(name)                                                                                              \
     EXPORT int name(int descriptor, int command, ...) {                                                                \
@@ -209,7 +220,10 @@ static bool is_of_ranges(int command) {
         va_end(more);                                                                                                  \
         if (RARELY(is_of_ranges(command) && with && FILES))                                                            \
             return set_range(descriptor, command, with, HERE);                                                         \
-        return REAL(fcntl)(descriptor, command, with);                                                                 \
+        int answer = REAL(fcntl)(descriptor, command, with);                                                           \
+        if (RARELY(is_of_signals(command)) && answer == 0 && is_recording())                                           \
+            note_owner_of(descriptor);                                                                                 \
+        return answer;                                                                                                 \
     }
 
 CONTROLLING(fcntl)

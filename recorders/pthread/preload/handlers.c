@@ -11,7 +11,9 @@
 
 #pragma GCC diagnostic ignored "-Wdeprecated-declarations"
 
-#define REALS(X) X(sigaction) X(signal) X(bsd_signal) X(ssignal) X(sysv_signal) X(sigset) X(sigignore) X(siginterrupt) X(timer_create)
+#define REALS(X)                                                                                                       \
+    X(sigaction) X(signal) X(bsd_signal) X(ssignal) X(sysv_signal) X(sigset) X(sigignore) X(siginterrupt) X(timer_create) \
+    X(sigqueue) X(pthread_sigqueue)
 __sighandler_t bsd_signal(int number, __sighandler_t handler);
 __sighandler_t sysv_signal(int number, __sighandler_t handler);
 REALS(KNOWN_REAL)
@@ -211,18 +213,46 @@ EXPORT __sighandler_t sigset(int number, __sighandler_t handler) {
     return sigismember(&before, number) ? SIG_HOLD : was;
 }
 
-/* ---- Timers, of which the signal says only that it comes from one. */
+/* ---- Who sends signals that say only what they come from: a timer, a queue, or a file. */
 
-uint64_t thread_timers;
+struct sender senders[SENDERS];
+
+static void note_sent(uint64_t *to, int number) {
+    if (number >= 1 && number <= RAW_SIGNALS && !(LOAD(to) & bit_of(number)))
+        __atomic_fetch_or(to, bit_of(number), __ATOMIC_ACQ_REL);
+}
 
 #ifndef SIGEV_THREAD_ID
 #define SIGEV_THREAD_ID 4
 #endif
 
+static void note_timer(const struct sigevent *event) {
+    if (!event || event->sigev_notify == SIGEV_SIGNAL)
+        note_sent(&senders[TIMERS].to_processes, event ? event->sigev_signo : SIGALRM);
+    else if (event->sigev_notify == SIGEV_THREAD_ID)
+        note_sent(&senders[TIMERS].to_threads, event->sigev_signo);
+}
+
 EXPORT int timer_create(clockid_t clock, struct sigevent *event, timer_t *timer) {
-    int number = event && event->sigev_notify == SIGEV_THREAD_ID ? event->sigev_signo : 0;
     int answer = REAL(timer_create)(clock, event, timer);
-    if (answer == 0 && number >= 1 && number <= RAW_SIGNALS)
-        __atomic_fetch_or(&thread_timers, bit_of(number), __ATOMIC_ACQ_REL);
+    if (answer == 0)
+        note_timer(event);
     return answer;
+}
+
+EXPORT int sigqueue(pid_t process, int number, const union sigval value) {
+    note_sent(&senders[QUEUES].to_processes, number);
+    return REAL(sigqueue)(process, number, value);
+}
+
+EXPORT int pthread_sigqueue(pthread_t thread, int number, const union sigval value) {
+    note_sent(&senders[QUEUES].to_threads, number);
+    return REAL(pthread_sigqueue)(thread, number, value);
+}
+
+/* A file sends SIGIO, unless F_SETSIG has given it another one, and a socket SIGURG as well. */
+void note_owner(int number, bool is_thread) {
+    uint64_t *to = is_thread ? &senders[OWNED_FILES].to_threads : &senders[OWNED_FILES].to_processes;
+    note_sent(to, number ? number : SIGIO);
+    note_sent(to, SIGURG);
 }

@@ -412,7 +412,12 @@ extern struct action actions[MOST_STUBS];
 uintptr_t stub_numbered(uint32_t n);
 int number_of_stub(uintptr_t address); /* -1 if it is none */
 extern uint32_t own_id; /* the system's number of this process */
-extern uint64_t thread_timers; /* the signals that timers send to one thread */
+struct sender { /* the signals that the program has it send to one thread, and to a process */
+    uint64_t to_threads, to_processes;
+};
+enum { TIMERS, QUEUES, OWNED_FILES, SENDERS };
+extern struct sender senders[SENDERS];
+void note_owner(int number, bool is_thread); /* of a file, which sends the signal; 0: the one that files send otherwise */
 void leave_for(const ucontext_t *to, struct call call); /* the thread goes on there */
 
 /* ---- library.c: what the C library locks inside, if that is wanted. */

@@ -132,9 +132,19 @@ static bool is_continuation(int number, const siginfo_t *info) {
     }
 }
 
+/* What has sent a signal that doesn't say to whom; NULL if that was another process, or a call that sends to the process. */
+static const struct sender *sender_of(const siginfo_t *info) {
+    if (info->si_code == SI_TIMER)
+        return &senders[TIMERS];
+    if (info->si_code == SI_QUEUE)
+        return (uint32_t)info->si_pid == LOAD(&own_id) ? &senders[QUEUES] : NULL;
+    return info->si_code > 0 ? &senders[OWNED_FILES] : NULL;
+}
+
 /* Who may have sent a signal to a thread may have sent it to the process otherwise, unless it is always done so. */
 static uint32_t sent_to(int number, const siginfo_t *info) {
-    bool is_to_thread = info->si_code == SI_TKILL || (info->si_code == SI_TIMER && LOAD(&thread_timers) & bit_of(number));
+    const struct sender *by = sender_of(info);
+    bool is_to_thread = info->si_code == SI_TKILL || (by && LOAD(&by->to_threads) & ~LOAD(&by->to_processes) & bit_of(number));
     return is_to_thread ? SENT_TO_THREAD : SENT_TO_PROCESS;
 }
 
