@@ -140,13 +140,17 @@ struct raw_look {
     unsigned char stack[RAW_LOOK_STACK];
 };
 
+/* What a lock knows of who has it: a mutex its owner, if it is recursive or checked for errors, and a read-write lock its writer. It knows that a
+   moment after it is taken, and not any more a moment before it is released. */
+enum raw_knows { KNOWS_NOTHING, KNOWS_OWNER, KNOWS_WRITER };
+
 struct raw_object {
     uint32_t class;   /* written last */
     uint32_t ordinal; /* among the objects of the class that are told apart, from 1; 0 for all the others together */
     uint64_t offset;  /* in the file; of a lock that is in none and is taken as one of a subclass, its object without that */
     uint32_t file;    /* of a lock that processes share; else 0 */
     uint32_t is_signal; /* it is a semaphore that isn't used as a lock: nothing of it goes into the traces */
-    uint32_t is_narrow; /* a handler took it, and it knows its owner: it is taken a moment before it knows that */
+    uint32_t knows;   /* an enum raw_knows, of a lock that a handler took */
 };
 
 /* The ordinal of an object that processes share. It has no other one. */

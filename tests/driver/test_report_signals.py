@@ -45,6 +45,8 @@ DOUBLE = """double SIGUSR1:on_usr1 table/0
   to mend it: block SIGUSR1 around table, or let the handler only set a flag or write to a pipe
   seen between locks: table
 """
+EDEADLK = "  a thread that holds table for writing gets EDEADLK of glibc when it asks for it again, unless the signal comes in between taking it and " \
+    "noting the writer, or between clearing the writer and releasing it: a handler that ignores that releases the writer's lock"
 INVERSION = """inversion SIGALRM:on_alarm stats/0 pool/0
     stats: static server.c:4
     pool: static server.c:5
@@ -166,8 +168,8 @@ class Told(OfHandlers):
     def test_a_lock_that_knows_its_owner(self):
         self.handlers(dict(USR1, narrow=["table"]))
         self.set_of(1, TABLE, IN_USR1)
-        self.assertIn("  in a narrow moment: table knows its owner, so the handler waits only if SIGUSR1 comes in after it is taken and before its "
-                      "owner is noted", self.confirmed()[1].split("\n"))
+        self.assertIn("  in a narrow moment: table knows its owner, so the handler waits only if SIGUSR1 comes in between taking it and noting the "
+                      "owner, or between clearing the owner and releasing it", self.confirmed()[1].split("\n"))
         self.assertIs(json.loads(self.form("json"))["findings"][0]["narrow"], True)
 
     def test_a_lock_of_the_c_library(self):
@@ -196,8 +198,34 @@ double SIGTERM: libc:malloc/0
         self.set_of(1, TABLE, [("enter,hardirq", ""), ("acq,table,0,rr", "server.c:12 on_usr1"), ("rel,table,0", ""), ("leave", "")])
         lines = self.confirmed()[1].split("\n")
         self.assertIn("  on_usr1, the handler for SIGUSR1, takes table as a recursive reader: on_usr1 at server.c:12", lines)
-        self.assertIn("  a thread that holds table for writing gets EDEADLK of glibc when it asks to read: a handler that ignores that releases the "
-                      "writer's lock", lines)
+        self.assertIn(EDEADLK, lines)
+
+    def test_a_handler_that_writes_what_its_thread_writes(self):
+        self.handlers(dict(USR1, rwlocks=["table"]))
+        self.set_of(1, TABLE, IN_USR1)
+        self.assertIn(EDEADLK, self.confirmed()[1].split("\n"))
+
+    def test_a_handler_that_writes_what_its_thread_reads(self):
+        self.handlers(dict(USR1, rwlocks=["table"]))
+        self.set_of(1, [("acq,table,0,rr", "server.c:41 insert"), ("rel,table,0", "")], IN_USR1)
+        text = self.confirmed()[1]
+        self.assertIn("  taken with SIGUSR1 unblocked: insert at server.c:41 takes it as a recursive reader\n", text)
+        self.assertNotIn("EDEADLK", text)
+
+    def test_a_reader_behind_a_waiting_writer(self):
+        self.handlers(dict(USR1, rwlocks=["table"], queued=["table"]))
+        self.set_of(1, [("acq,table,0,r", "server.c:41 insert"), ("rel,table,0", "")], IN_USR1)
+        lines = self.confirmed()[1].split("\n")
+        self.assertIn("  on_usr1, the handler for SIGUSR1, takes table as a reader: reload at server.c:12 < on_usr1 at server.c:31", lines)
+        self.assertIn("  a reader of table waits behind a waiting writer, so the handler waits if another thread waits to write", lines)
+        self.assertEqual(json.loads(self.form("json"))["findings"][0]["used"]["takes"], "r")
+
+    def test_a_reader_behind_a_waiting_writer_that_hangs_is_named(self):
+        self.handlers(dict(USR1, rwlocks=["table"], queued=["table"]))
+        run = (("acq,table,0,r", "server.c:12 reload"),)
+        self.threads(TABLE, run)
+        self.set_of(1, TABLE, (("enter,hardirq", ""), ("acq,table,0,w", "server.c:12 reload"), ("rel,table,0", ""), ("leave", "")))
+        self.assertEqual(Signals(self.folder).run_in(os.path.join(self.folder, "task-0002.csv")).name, "on_usr1")
 
     def test_without_places_a_record_is_named(self):
         self.handlers(dict(USR1, file=None, line=None))
@@ -259,7 +287,7 @@ double SIGTERM: libc:malloc/0
 
     def test_a_recording_without_handlers_has_none_of_this(self):
         for form in ("json", "sarif", "junit", "html"):
-            self.assertNotIn("signal", self.form(form).rpartition("</style>")[2], form)
+            self.assertNotIn("signal", self.form(form).rpartition("</style>")[2].replace(os.getcwd(), ""), form)
 
 
     def test_view_says_that_it_doesnt_look_at_them(self):

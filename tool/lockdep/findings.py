@@ -9,6 +9,7 @@ from .words import Refusal, text_of, visible
 
 TYPE_CHECKING = False
 if TYPE_CHECKING:
+    from typing import Callable
     from .happened import Happened
     from .signals import Handler
 
@@ -153,8 +154,12 @@ class Finding:
     @property
     def is_narrow(self) -> bool:
         """Whether a signal has to come in at a narrow moment, since the lock that its handler waits for knows its owner."""
-        inner, handler = self.between.finding if self.between else None, self.handler
-        return handler is not None and self.type == "double" and any(map(handler.is_narrow, self.keys + (inner.keys if inner else [])))
+        return self.handler is not None and self.type == "double" and self.is_about(self.handler.is_narrow)
+
+    def is_about(self, kind: Callable[[str], bool]) -> bool:
+        """Whether a lock of the finding, or of the one between single locks, is of this kind."""
+        inner = self.between.finding if self.between else None
+        return any(map(kind, self.keys + (inner.keys if inner else [])))
 
     def edges(self) -> set[tuple[str, str, str]]:
         """The edges of the picture that belong to the finding: from, to, and label."""

@@ -16,7 +16,10 @@ CALLS = {"malloc": "malloc, free or the like", "stdout": "stdio on stdout", "std
          "timezone": "localtime, mktime or the like", "random": "random or rand", "environment": "setenv or the like",
          "users": "getpwnam or the like", "resolver": "getaddrinfo or the like"}
 DAMAGED = {"malloc": ", or the heap is damaged"}
-EDEADLK = "a thread that holds %s for writing gets EDEADLK of glibc when it asks to read: a handler that ignores that releases the writer's lock"
+NARROW = "between taking it and noting the {0}, or between clearing the {0} and releasing it"
+EDEADLK = "a thread that holds %s for writing gets EDEADLK of glibc when it asks for it again, unless the signal comes in " + NARROW.format("writer") + \
+    ": a handler that ignores that releases the writer's lock"
+QUEUED = "a reader of %s waits behind a waiting writer, so the handler waits if another thread waits to write"
 ONLY_A_FLAG = "let the handler only set a flag or write to a pipe"
 
 
@@ -123,11 +126,19 @@ def remarks_of_signal(finding: Finding, handler: Handler) -> list[str]:
         "the process: any thread may get it"
     remarks = ["%s was sent to %s" % (signal, to)]
     if finding.is_narrow:
-        remarks.append("in a narrow moment: %s knows its owner, so the handler waits only if %s comes in after it is taken and before its owner "
-                       "is noted" % (plain_key(finding.keys[0]), signal))
-    if finding.type == "double" and finding.used.takes in ("r", "rr"):
-        remarks.append(EDEADLK % plain_key(finding.keys[0]))
+        remarks.append("in a narrow moment: %s knows its owner, so the handler waits only if %s comes in %s" % (
+            plain_key(finding.keys[0]), signal, NARROW.format("owner")))
+    if finding.type == "double":
+        remarks += remarks_of_rwlock(finding, handler)
     return remarks + ["to mend it: " + mending_words(finding)]
+
+
+def remarks_of_rwlock(finding: Finding, handler: Handler) -> list[str]:
+    """What follows if the lock is a read-write lock, by how the interrupted thread has it."""
+    key, mode = finding.keys[0], finding.enabled.takes or finding.enabled.held
+    if mode == "w" and (finding.is_about(handler.is_rwlock) or finding.used.takes in ("r", "rr")):
+        return [EDEADLK % plain_key(key)]
+    return [QUEUED % plain_key(key)] if mode == "r" and finding.is_about(handler.is_queued) else []
 
 
 def mending_words(finding: Finding) -> str:

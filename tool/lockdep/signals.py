@@ -23,6 +23,7 @@ if TYPE_CHECKING:
     from concurrent.futures import Executor
 
 SIGNAL = re.compile("SIG[A-Z0-9]+([+-][0-9]+)?")
+QUEUED = re.compile("(?<=,[0-7]),r$")
 OFFSET = re.compile("0x[0-9a-fA-F]{1,16}")
 PROCESS, THREADS = "process", "threads"  # to what a signal was sent
 TO_THREADS = "%s was sent to single threads alone, so code of other threads isn't checked against it"
@@ -33,7 +34,8 @@ MOST_AT_ONCE = 64
 @dataclass(frozen=True)
 class Handler:
     """A handler of a signal: its symbol, if it has one, and where it begins; and of one that took a lock the number of its set of traces, how often it
-    ran, how many locks it took, to what the signal was sent, and the locks that wait for ever only in a narrow moment."""
+    ran, how many locks it took, to what the signal was sent, the locks that know their owner, for which it waits only in a narrow moment, the read-write
+    locks, and those of them that it only takes as a reader who queues behind waiting writers."""
 
     signal: str
     name: str = ""
@@ -46,6 +48,8 @@ class Handler:
     takes: int = 0
     sent_to: str = PROCESS
     narrow: tuple[str, ...] = ()
+    rwlocks: tuple[str, ...] = ()
+    queued: tuple[str, ...] = ()
     is_in_one_thread: bool = False  # whether it runs in one thread of a process alone, as all handlers of Python
 
     @property
@@ -60,9 +64,15 @@ class Handler:
         return Address(self.module, self.offset + 1) if self.module and self.offset is not None else None
 
     def is_narrow(self, key: str) -> bool:
-        """Whether a lock makes it wait only if it comes in between taking that lock and noting who took it."""
-        name = name_in(key)
-        return name in self.narrow or class_of_lock(name) in self.narrow
+        """Whether a lock makes it wait only if it comes in while that lock is taken and doesn't know its owner."""
+        return is_among(key, self.narrow)
+
+    def is_rwlock(self, key: str) -> bool:
+        return is_among(key, self.rwlocks)
+
+    def is_queued(self, key: str) -> bool:
+        """Whether it takes a lock as a reader who waits behind a waiting writer. In its set it takes that as a writer."""
+        return is_among(key, self.queued)
 
     def want(self, symbols: Symbols) -> None:
         """Gathers where it is, unless the recording says that."""
@@ -79,6 +89,12 @@ class Handler:
             return Frame(self.name, "", 0, address)
         is_mangled = self.name.startswith("_Z") and found[0].function
         return replace(found[0], function=self.name if self.name and not is_mangled else found[0].function, address=address)
+
+
+def is_among(key: str, names: tuple[str, ...]) -> bool:
+    """Whether the lock of a key, or its class, is among these."""
+    name = name_in(key)
+    return name in names or class_of_lock(name) in names
 
 
 # ---- The files.
@@ -112,6 +128,10 @@ def list_of(said: object) -> list:
     return said
 
 
+def names_of(said: dict, name: str) -> tuple[str, ...]:
+    return tuple(map(str, said.get(name) or []))
+
+
 def handler_of(said: dict) -> Handler:
     signal, sent_to = text_of(said, "signal"), text_of(said, "sent_to") or PROCESS
     if not SIGNAL.fullmatch(signal):
@@ -119,8 +139,8 @@ def handler_of(said: dict) -> Handler:
     if sent_to not in (PROCESS, THREADS):
         raise ValueError("sent to %s" % sent_to)
     return Handler(signal, text_of(said, "handler"), text_of(said, "module"), offset_of(said), text_of(said, "file"), number_of(said, "line"),
-                   number_of(said, "number"), number_of(said, "runs"), number_of(said, "takes"), sent_to, tuple(map(str, said.get("narrow") or [])),
-                   said.get("one_thread") is True)
+                   number_of(said, "number"), number_of(said, "runs"), number_of(said, "takes"), sent_to, names_of(said, "narrow"),
+                   names_of(said, "rwlocks"), names_of(said, "queued"), said.get("one_thread") is True)
 
 
 def handlers_in(folder: str, name: str) -> list[Handler]:
@@ -231,9 +251,10 @@ class Signals:
 
 
 def records_of(trace: str) -> list[tuple[str, list[Address]]]:
-    """The acquisitions and releases of a trace, with their callers."""
+    """The acquisitions and releases of a trace, with their callers. A reader who queues behind writers is one of these in a set."""
     places = Places(trace)
-    return [(line, places.callers(record)) for record, line in enumerate(text_in(trace).split("\n"), 1) if line.startswith(("acq,", "rel,"))]
+    return [(QUEUED.sub(",w", line), places.callers(record)) for record, line in enumerate(text_in(trace).split("\n"), 1)
+            if line.startswith(("acq,", "rel,"))]
 
 
 def is_run(trace: str) -> bool:
@@ -260,6 +281,9 @@ def findings_about(handler: Handler, answer: Answer) -> list[Finding]:
 def take_handler(finding: Finding, handler: Handler) -> None:
     """Makes a finding one of a signal, also between single locks."""
     finding.handler = handler
+    if finding.used.takes == "w" and finding.is_about(handler.is_queued):
+        finding.used = replace(finding.used, takes="r")
+        finding.json["used"]["takes"] = "r"
     finding.lines = [with_state(line, handler) for line in finding.lines]
     finding.json["lines"] = finding.lines
     if finding.between and finding.between.finding:

@@ -223,6 +223,7 @@ void tell_stand_ins(FILE *file); /* lines of SUMMARY: which traces stand for how
 struct source; /* a signal with a handler */
 
 void write_sets(const char *folder);
+bool is_queued(const struct arena *a, uint32_t object, enum mode mode); /* as a reader of a read-write lock behind a waiting writer */
 bool may_interrupt(const struct source *source, const struct arena *a, const struct raw_thread *t, uint32_t state);
 void tell_sources(FILE *file); /* lines of SUMMARY */
 const char *tell_signal(char *text, size_t room, unsigned number);

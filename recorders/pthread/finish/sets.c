@@ -9,6 +9,11 @@
 
 #define MOST_SETS 32
 
+struct locks {
+    int *keys;
+    size_t count;
+};
+
 struct source {
     unsigned signal;
     uint64_t handler;       /* as a word */
@@ -16,10 +21,11 @@ struct source {
     bool is_sent_to_process; /* else to threads alone */
     bool is_of_locking;      /* its program takes locks */
     uint32_t number;         /* of its set; 0: it has none */
-    int *taken;              /* the single locks that its runs waited for */
-    size_t taken_count;
-    int *narrow; /* those of them that know their owner */
-    size_t narrow_count;
+    struct locks taken;      /* the single locks that its runs waited for */
+    struct locks narrow;     /* those of them that know their owner */
+    struct locks rwlocks;    /* those that know their writer */
+    struct locks queued;     /* those that it takes as a reader who doesn't pass waiting writers */
+    struct locks written;    /* those that it takes otherwise */
 };
 
 static struct source **sources;
@@ -102,11 +108,30 @@ static void read_runs(const struct arena *a) {
 
 /* ---- What the runs take. */
 
-static void add_once(int **list, size_t *count, int value) {
-    for (size_t i = 0; i < *count; i++)
-        if ((*list)[i] == value)
-            return;
-    PUSH(*list, *count, value);
+static bool has_lock(const struct locks *locks, int key) {
+    for (size_t i = 0; i < locks->count; i++)
+        if (locks->keys[i] == key)
+            return true;
+    return false;
+}
+
+static void add_once(struct locks *locks, int key) {
+    if (!has_lock(locks, key))
+        PUSH(locks->keys, locks->count, key);
+}
+
+static enum raw_knows what_it_knows(const struct arena *a, uint32_t object) { return ((const struct raw_object *)part_of(a, RAW_OBJECTS, object))->knows; }
+
+bool is_queued(const struct arena *a, uint32_t object, enum mode mode) { return mode == MODE_READ && what_it_knows(a, object) == KNOWS_WRITER; }
+
+static void add_taken(const struct arena *a, struct source *source, uint32_t object, enum mode mode, int key) {
+    enum raw_knows knows = what_it_knows(a, object);
+    add_once(&source->taken, key);
+    if (knows == KNOWS_OWNER)
+        add_once(&source->narrow, key);
+    if (knows == KNOWS_WRITER)
+        add_once(&source->rwlocks, key);
+    add_once(is_queued(a, object, mode) ? &source->queued : &source->written, key);
 }
 
 static void read_taken(struct arena *a, const struct raw_thread *t, struct source *source) {
@@ -114,11 +139,7 @@ static void read_taken(struct arena *a, const struct raw_thread *t, struct sourc
         const struct raw_record *r = record_of(a, t, i);
         if (!r || raw_mode(r->what) >= MODE_TRY_WRITE || is_left_out(a, raw_object(r->what)))
             continue;
-        const struct raw_object *object = part_of(a, RAW_OBJECTS, raw_object(r->what));
-        int key = key_of_object(a, t->process, raw_object(r->what));
-        add_once(&source->taken, &source->taken_count, key);
-        if (object->is_narrow)
-            add_once(&source->narrow, &source->narrow_count, key);
+        add_taken(a, source, raw_object(r->what), raw_mode(r->what), key_of_object(a, t->process, raw_object(r->what)));
     }
 }
 
@@ -133,7 +154,7 @@ static void read_all_taken(struct arena *a) {
 
 static void number_sets(void) {
     for (size_t i = 0; i < source_count; i++) {
-        if (!sources[i]->taken_count)
+        if (!sources[i]->taken.count)
             continue;
         if (set_count < MOST_SETS)
             sources[i]->number = ++set_count;
@@ -248,18 +269,31 @@ static void write_about(FILE *file, const struct source *s) {
     fprintf(file, ", \"offset\": \"0x%lx\", \"file\": null, \"line\": null", is_somewhere(s) ? (unsigned long)raw_word_offset(s->handler) : 0);
 }
 
-static void write_source(FILE *file, const struct source *s) {
+/* The names of locks, but for some of them. */
+static void write_locks(FILE *file, const char *what, const struct locks *locks, const struct locks *but) {
     char object[MAX_OBJECT_NAME + 1];
+    const char *before = "";
+    fprintf(file, ", \"%s\": [", what);
+    for (size_t i = 0; i < locks->count; i++) {
+        if (but && has_lock(but, locks->keys[i]))
+            continue;
+        tell_object(object, sizeof object, locks->keys[i]);
+        fputs(before, file);
+        write_text(file, object);
+        before = ", ";
+    }
+    putc(']', file);
+}
+
+static void write_source(FILE *file, const struct source *s) {
     fprintf(file, "{\"number\": %u, ", s->number);
     write_about(file, s);
-    fprintf(file, ", \"runs\": %lu, \"sent_to\": \"%s\", \"takes\": %lu, \"narrow\": [", (unsigned long)s->runs,
-            s->is_sent_to_process ? "process" : "threads", (unsigned long)s->taken_count);
-    for (size_t i = 0; i < s->narrow_count; i++) {
-        tell_object(object, sizeof object, s->narrow[i]);
-        fputs(i ? ", " : "", file);
-        write_text(file, object);
-    }
-    fputs("]}", file);
+    fprintf(file, ", \"runs\": %lu, \"sent_to\": \"%s\", \"takes\": %lu", (unsigned long)s->runs,
+            s->is_sent_to_process ? "process" : "threads", (unsigned long)s->taken.count);
+    write_locks(file, "narrow", &s->narrow, NULL);
+    write_locks(file, "rwlocks", &s->rwlocks, NULL);
+    write_locks(file, "queued", &s->queued, &s->written);
+    putc('}', file);
 }
 
 static void write_never(FILE *file, const struct source *s) {
@@ -315,7 +349,7 @@ void tell_sources(FILE *file) {
         const char *name = name_of(s);
         if (s->runs)
             fprintf(file, "signal %s %s runs %lu takes %lu sent-to %s\n", tell_signal(text, sizeof text, s->signal), name ? name : "-",
-                    (unsigned long)s->runs, (unsigned long)s->taken_count, s->is_sent_to_process ? "process" : "threads");
+                    (unsigned long)s->runs, (unsigned long)s->taken.count, s->is_sent_to_process ? "process" : "threads");
     }
     if (sets_beyond)
         fprintf(file, "handlers-beyond-sets %u\n  handlers that took locks, beyond the first %d: what they interrupt wasn't looked at\n", sets_beyond,

@@ -254,6 +254,12 @@ static void write_weak(const char *folder, struct trace *t, bool is_kept) {
     free(t->weak_text);
 }
 
+/* A reader that doesn't pass waiting writers waits behind one even if its own thread reads. Only a writer's acquisition in an interrupt says that:
+   such a lock has no other readers, so nothing else follows from it. */
+static const char *mode_word(const struct trace *t, const struct held *h) {
+    return mode_words[t->is_frame && is_queued(t->arena, h->object, h->mode) ? MODE_WRITE : h->mode];
+}
+
 static void take(struct trace *t, const struct raw_record *r) {
     enum mode mode = raw_mode(r->what);
     bool is_in_order = raw_has(r->what, RAW_IN_ORDER) && t->version > 1;
@@ -276,7 +282,7 @@ static void take(struct trace *t, const struct raw_record *r) {
     if (h.is_written)
         tell_interrupts(t, r->place);
     if (h.is_written)
-        write_event(t, &h, mode_words[mode], r->place);
+        write_event(t, &h, mode_word(t, &h), r->place);
     if (h.is_written)
         tell_weak(t, r->what);
     if (h.is_written && is_in_order)

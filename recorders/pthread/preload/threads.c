@@ -696,11 +696,12 @@ void leave_out(uintptr_t semaphore, struct call call) {
 
 /* ---- Acquisitions. */
 
-/* Of a lock that a handler takes: whether it knows its owner. */
-static void note_if_narrow(uintptr_t lock, uint32_t object, enum kind kind) {
+/* Of a lock that a handler takes. */
+static void note_what_it_knows(uintptr_t lock, uint32_t object, enum kind kind) {
     int basic = kind == KIND_MUTEX ? ((const pthread_mutex_t *)lock)->__data.__kind & MUTEX_KIND_BITS : 0;
-    if (kind == KIND_RECURSIVE || basic == PTHREAD_MUTEX_RECURSIVE_NP || basic == PTHREAD_MUTEX_ERRORCHECK_NP)
-        STORE(&((struct raw_object *)part_of(RAW_OBJECTS, object))->is_narrow, 1);
+    bool knows_owner = kind == KIND_RECURSIVE || basic == PTHREAD_MUTEX_RECURSIVE_NP || basic == PTHREAD_MUTEX_ERRORCHECK_NP;
+    if (knows_owner || kind == KIND_RWLOCK)
+        STORE(&((struct raw_object *)part_of(RAW_OBJECTS, object))->knows, knows_owner ? KNOWS_OWNER : KNOWS_WRITER);
 }
 
 /* A held lock is nested now: it becomes an object of its own, and so do its record and the ways that it is part of. */
@@ -711,7 +712,7 @@ static void tell_apart(struct thread *t, uint32_t i) {
         return;
     h->what[BY_OBJECTS] = raw_what(object, h->what[BY_OBJECTS] >> RAW_OBJECT_BITS);
     if (t->source)
-        note_if_narrow(h->lock, object, (enum kind)h->kind);
+        note_what_it_knows(h->lock, object, (enum kind)h->kind);
     if (h->is_written)
         record_at(t, h->record)->what = what_written(h);
     uint32_t at = newest_of(t, BY_OBJECTS, before);
@@ -757,7 +758,7 @@ static void push_held(struct thread *t, uintptr_t lock, uint32_t object, uint8_t
     if (raw_plain(mode) < MODE_TRY_WRITE && t->failed != lock) /* else it may be std::lock, which takes what it is given in any order */
         look_at_taker(class_of(object), call);
     if (RARELY(t->source))
-        note_if_narrow(lock, object, kind);
+        note_what_it_knows(lock, object, kind);
     uint8_t weak = mode & RAW_WEAK;
     mode ^= weak;
     uint32_t what[READERS] = {raw_what(object, mode), raw_what(class_of(object), mode)};
