@@ -42,12 +42,14 @@ enum mode { MODE_WRITE, MODE_READ, MODE_REC_READ, MODE_TRY_WRITE, MODE_TRY_READ,
 
 /* Added to the mode of an acquisition: the program says in which order locks of the class are nested, and this one comes after all of them
    that are held. And of one that comes under others: the wait for it gives up at a time; the thread itself made the lock, has held
-   others ever since, and no other thread has come to it; it is a thread that had ended. */
+   others ever since, and no other thread has come to it; it is a thread that had ended; it is a routine that had run once, for which the thread would
+   have waited a little earlier. */
 #define RAW_IN_ORDER 8
 #define RAW_TIMED 16
 #define RAW_NEW 32
 #define RAW_ENDED 64
-#define RAW_WEAK (RAW_TIMED | RAW_NEW | RAW_ENDED)
+#define RAW_DONE 128
+#define RAW_WEAK (RAW_TIMED | RAW_NEW | RAW_ENDED | RAW_DONE)
 
 /* One acquisition or release: the object in the low 24 bits and the mode above them, and where it happened. Of MODE_STATE it is the state that
    the thread is in from there on, instead of an object; until then it is in none. */

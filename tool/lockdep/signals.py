@@ -14,6 +14,7 @@ from .findings import Finding, findings_of
 from .folder import OF_SIGNALS, SIGNALS
 from .places import Places
 from .room import room_for
+from .signal_joins import without_own_joins
 from .signal_links import Links, links_of, marks_of
 from .symbols import Address, Frame, Symbols
 from .words import Refusal, class_of_lock, is_hidden, name_in, visible
@@ -187,7 +188,7 @@ class Signals:
         found: list[Finding] = []
         for handler, answer in zip(self.ran, answers):
             if answer.status < REFUSED:
-                found += findings_about(handler, answer)
+                found += without_own_joins(findings_about(handler, answer), self.traces_of(handler))
             else:
                 self.refused.append(handler)
                 self.said += answer.said

@@ -1,5 +1,5 @@
-/* Threads that are waited for. Each is a lock, which is written only if it can be part of a cycle: if the thread is joined with a lock held, or
-   by a thread of which that is true, and if it takes a lock itself, or joins a thread that does. */
+/* Threads that are waited for. Each is a lock, which is written only if it can be part of a cycle: if the thread is joined with a lock held, by a
+   thread of which that is true, or by a signal's handler, and if it takes a lock itself, or joins a thread that does. */
 #include "finish.h"
 
 enum { REACHED = 1, USEFUL = 2, KEPT = REACHED | USEFUL };
@@ -34,7 +34,7 @@ static bool add(uint8_t *flags, uint8_t new) {
 /* What a thread's records say of itself and of those that it joins. Returns whether that is news. */
 static bool go_through(struct arena *a, const struct raw_thread *t) {
     uint8_t none = 0, *own = t->joined && is_thread(a, t->joined) ? &a->threads[t->joined] : &none;
-    int64_t held = *own & REACHED ? 1 : 0;
+    int64_t held = *own & REACHED || t->source ? 1 : 0;
     bool is_news = false;
     for (uint64_t i = 0; i < t->count; i++) {
         const struct raw_record *r = record_of(a, t, i);

@@ -115,7 +115,7 @@ static void write_event(struct trace *t, const struct held *h, const char *mode,
     t->events++;
 }
 
-#define ABOUT_INTERRUPTS 3 /* so many records of these may come with another one, and at the end */
+#define ABOUT_INTERRUPTS 4 /* so many records of these may come with another one, and at the end */
 
 /* Of a set: a record about interrupts. */
 static void write_word(struct trace *t, const char *word, uint32_t place) {
@@ -130,6 +130,14 @@ static void tell_interrupts(struct trace *t, uint32_t place) {
         return;
     t->is_told_off = !t->may_interrupt;
     write_word(t, t->is_told_off ? "off,hardirq" : "on,hardirq", place);
+}
+
+/* Before a lock is taken. A routine that had run holds nothing that a handler would wait for. */
+static void tell_interrupts_of(struct trace *t, const struct raw_record *r) {
+    bool may_interrupt = t->may_interrupt;
+    t->may_interrupt = may_interrupt && !raw_has(r->what, RAW_DONE);
+    tell_interrupts(t, r->place);
+    t->may_interrupt = may_interrupt;
 }
 
 static void take_state(struct trace *t, const struct raw_record *r) {
@@ -280,7 +288,7 @@ static void take(struct trace *t, const struct raw_record *r) {
     if (h.is_written && is_in_order)
         set_aside(t, &h, r);
     if (h.is_written)
-        tell_interrupts(t, r->place);
+        tell_interrupts_of(t, r);
     if (h.is_written)
         write_event(t, &h, mode_word(t, &h), r->place);
     if (h.is_written)

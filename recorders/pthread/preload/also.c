@@ -1,5 +1,5 @@
 /* What isn't a lock by name: routines that run once, the loader, and, if LOCKDEP_ALSO asks for them, semaphores and streams. */
-#include "own.h"
+#include "held.h"
 
 #include <dlfcn.h>
 #include <errno.h>
@@ -23,7 +23,7 @@ FIND_AT_START(REALS)
 
 /* ---- Routines that run once. Who runs one holds the control meanwhile, and who comes then waits for it. Who finds that it has run
    would have waited for it a little earlier, with all locks that it holds: so it takes and releases the control too. With no lock held that
-   is in no order, and nothing is recorded. */
+   is in no order, and nothing is recorded, but in a signal's handler, which may come in while the routine runs. */
 
 #define IS_DONE 2 /* the bit of glibc's control that says so */
 
@@ -53,9 +53,9 @@ static void end_once(struct once *once) {
 }
 
 static inline void found_done(uintptr_t control, struct call call) {
-    if (LIKELY(!is_any_held()))
+    if (LIKELY(!is_any_held() && !run_source()))
         return;
-    acquired(control, MODE_WRITE, KIND_RECURSIVE, call);
+    acquired(control, MODE_WRITE | RAW_DONE, KIND_RECURSIVE, call);
     releasing(control, call);
 }
 

@@ -130,7 +130,7 @@ struct thread {
     uint32_t own_lock_count; /* so many there were, with those that aren't here any more */
     struct own_piece own_pieces[OWN_PIECES]; /* the last ones that it allocated with something held */
     uint32_t own_piece_count;
-    bool is_started;     /* by another thread, which may wait for its end */
+    bool is_started;     /* by another thread, which may wait for its end, or by a signal, which has interrupted what may hold something */
     uint32_t handed_more; /* what handed_on has besides what can be told from its calls */
     struct thread *next;
     struct {

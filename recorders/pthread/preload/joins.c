@@ -1,6 +1,6 @@
 /* Threads that are waited for. A thread is a lock that it holds from its start to its end, and that whoever joins it takes and gives back
    at once. `finish` puts into the traces what of this can matter. */
-#include "own.h"
+#include "held.h"
 
 #include <errno.h>
 #include <pthread.h>
@@ -116,9 +116,9 @@ __attribute__((constructor)) static void note_first_thread(void) { first_thread 
 /* Whether this is the thread that the program began with, for which no other waits. */
 bool is_first_thread(void) { return this_thread() == first_thread; }
 
-/* Whether it can matter that this thread joins another one: it holds something, or may be joined itself. That it was started
-   may not be noted yet, if who started it had to wait for a processor. */
-static bool matters(void) { return is_any_held() || !is_first_thread(); }
+/* Whether it can matter that this thread joins another one: it holds something, may be joined itself, or has interrupted what may hold something.
+   That it was started may not be noted yet, if who started it had to wait for a processor. */
+static bool matters(void) { return is_any_held() || !is_first_thread() || run_source(); }
 
 /* ---- Whether the thread had ended. Who joins it may have known that it takes no lock any more, as after it says under a lock that it is done:
    it is then about to end, and is waited for here so often. */
@@ -141,9 +141,9 @@ static bool had_ended(pthread_t thread) {
     return part && LOAD(&part->ended) && LOAD(&part->calls) == calls;
 }
 
-/* Whether it is recorded that the thread is waited for. Nothing is, if this one has no trace: then it holds nothing. */
+/* Whether it is recorded that the thread is waited for. Nothing is, if this one has no trace and runs no handler: then it holds nothing. */
 static bool begin_join(pthread_t thread, uint8_t weak, struct call call) {
-    if (!is_recording() || !has_trace() || !matters() || !enter_recorder(call))
+    if (!is_recording() || !(has_trace() || run_source()) || !matters() || !enter_recorder(call))
         return false;
     uint32_t object = object_of(thread);
     bool is_wish = object && wish_for_end((uintptr_t)thread, object, MODE_WRITE | weak, call);

@@ -89,7 +89,7 @@ static bool begin_trace(struct thread *t, uint32_t source) {
     t->failed = 0;
     t->failed_under = 0;
     t->own_piece_count = 0;
-    t->is_started = !is_first_thread();
+    t->is_started = source || !is_first_thread();
     t->handed_more = 0;
     t->loading.lock = 0;
     t->wish.frame = 0;
