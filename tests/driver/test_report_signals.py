@@ -188,6 +188,18 @@ double SIGTERM: libc:malloc/0
   seen between locks: libc:malloc
 """)
 
+    def test_a_wait_of_the_handler_that_gives_up(self):
+        self.both()
+        self.write("signals/1/weak", "task-0002.csv 3 timed\n")
+        seen_in = {finding.type: finding.kind for finding in self.findings()}
+        self.assertEqual(seen_in, {"double": Kind.TIMED, "inversion": Kind.LOCKS})
+        self.assertIn("\n  seen only by timed waits: table\n", self.confirmed()[1])
+
+    def test_a_wait_of_other_code_that_gives_up(self):
+        self.both()
+        self.write("signals/1/weak", "task-0001.csv 2 timed\n")
+        self.assertEqual({finding.kind for finding in self.findings()}, {Kind.LOCKS})
+
     def test_readers_and_tries_are_named(self):
         self.handlers(USR1)
         self.set_of(1, [("acq,table,0,r", "server.c:41 insert"), ("rel,table,0", "")], IN_USR1)

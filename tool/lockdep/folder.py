@@ -31,8 +31,9 @@ def is_made(name: str) -> bool:
     folder, _, inner = name.rpartition("/")
     if folder == SIGNALS:
         return inner in OF_SIGNALS or is_number(inner)
-    if folder in ("", "objects") or is_in_signals(folder) and folder.count("/") == 1:
-        return is_trace(inner[:-len(".places")] if inner.endswith(".places") else inner) or name in MADE
+    is_of_signal = is_in_signals(folder) and folder.count("/") == 1
+    if folder in ("", "objects") or is_of_signal:
+        return is_trace(inner[:-len(".places")] if inner.endswith(".places") else inner) or name in MADE or is_of_signal and inner == WEAK
     return False
 
 

@@ -11,12 +11,13 @@ from .asking import BY_LOCKS, text_in, traces_in
 from .checker import REFUSED, Answer, ask
 from .files import is_file
 from .findings import Finding, findings_of
-from .folder import OF_SIGNALS, SIGNALS
+from .folder import OF_SIGNALS, SIGNALS, WEAK
 from .places import Places
 from .room import room_for
 from .signal_joins import without_own_joins
 from .signal_links import Links, links_of, marks_of
 from .symbols import Address, Frame, Symbols
+from .weak import weaken
 from .words import Refusal, class_of_lock, is_hidden, name_in, visible
 
 TYPE_CHECKING = False
@@ -182,17 +183,29 @@ class Signals:
     def ask(self) -> None:
         """Asks the checker about all sets, several at once."""
         from concurrent.futures import ThreadPoolExecutor
+        found: list[Finding] = []
         with ThreadPoolExecutor(min(MOST_AT_ONCE, os.cpu_count() or 1)) as pool, room_for(os.path.dirname(self.folder)) as room:
             links = self.links(pool, room) if len(self.ran) > 1 else [None] * len(self.ran)
             answers = list(pool.map(self.answer_about, self.ran, links))
-        found: list[Finding] = []
-        for handler, answer in zip(self.ran, answers):
-            if answer.status < REFUSED:
-                found += without_own_joins(findings_about(handler, answer), self.traces_of(handler))
-            else:
-                self.refused.append(handler)
-                self.said += answer.said
+            for handler, added, answer in zip(self.ran, links, answers):
+                if answer.status < REFUSED:
+                    found += self.findings_about(handler, added, answer, room)
+                else:
+                    self.refused.append(handler)
+                    self.said += answer.said
         self.findings = [finding for type in ("double", "inversion") for finding in found if finding.type == type]
+
+    def findings_about(self, handler: Handler, links: Links | None, answer: Answer, room: str) -> list[Finding]:
+        """The doubles and inversions of a handler's set. Its circles are in the threads' own traces too."""
+        found, traces = findings_of(answer.output), self.traces_of(handler)
+        of_set, again = os.path.join(self.folder, str(handler.number)), os.path.join(room, str(handler.number))
+        if found and os.path.lexists(os.path.join(of_set, WEAK)):
+            os.mkdir(again)
+            weaken(found, of_set, traces + ([links.path] if links else []), again)
+        found = without_own_joins([finding for finding in found if finding.type != "circle"], traces)
+        for finding in found:
+            take_handler(finding, handler)
+        return found
 
     def links(self, pool: Executor, room: str) -> list[Links | None]:
         """What other signals add to the set of each handler: orders in other threads. (Of a signal's handlers only one is installed at a time.)"""
@@ -269,14 +282,6 @@ def words_of(handler: Handler, symbols: Symbols) -> str:
     if frame.function:
         return "%s, the handler for %s" % (visible(frame.function), handler.signal)
     return "the handler for %s%s" % (handler.signal, " at %s" % visible(frame.words) if frame.words else "")
-
-
-def findings_about(handler: Handler, answer: Answer) -> list[Finding]:
-    """The doubles and inversions of a handler's set. Its circles are in the threads' own traces too."""
-    found = [finding for finding in findings_of(answer.output) if finding.type != "circle"]
-    for finding in found:
-        take_handler(finding, handler)
-    return found
 
 
 def take_handler(finding: Finding, handler: Handler) -> None:

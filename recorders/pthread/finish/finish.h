@@ -240,6 +240,7 @@ extern char *waiting_text, *held_text; /* lines of SUMMARY */
 
 void write_traces(const char *folder, int version);
 bool write_in_set(const char *folder, const struct source *source, struct arena *a, const struct raw_thread *raw, uint32_t number, bool is_frame);
+void end_set(void);
 void tell_dropped(FILE *file);
 void write_classes(const char *folder);
 void begin_places(FILE *file);

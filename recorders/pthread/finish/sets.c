@@ -235,6 +235,7 @@ static void write_set(const char *folder, const struct source *source) {
         for (uint32_t n = 1; is_part && n <= count_of(a, RAW_THREADS); n++)
             write_in(path, source, a, n, &more);
     }
+    end_set();
 }
 
 /* ---- The lists: of the sources that have a set, and of the handlers that never ran. */

@@ -224,7 +224,7 @@ static const struct {
 
 static void tell_weak(struct trace *t, uint32_t what) {
     for (size_t i = 0; i < sizeof weak_kinds / sizeof *weak_kinds; i++) {
-        if (!raw_has(what, weak_kinds[i].added) || t->source)
+        if (!raw_has(what, weak_kinds[i].added))
             continue;
         if (!t->weak)
             t->weak = checked(open_memstream(&t->weak_text, &t->weak_length));
@@ -249,6 +249,7 @@ static FILE *begun(struct late_file *late, const char *folder, const char *name)
 static void end_file(struct late_file *late) {
     if (late->file)
         closed(late->file, late->path);
+    late->file = NULL;
 }
 
 static struct late_file weak_file, tasks_file;
@@ -487,10 +488,12 @@ static void write_records_of_set(struct trace *t) {
 /* Returns whether it has any event besides. */
 bool write_in_set(const char *folder, const struct source *source, struct arena *a, const struct raw_thread *raw, uint32_t number, bool is_frame) {
     static struct trace t;
-    char path[4400], places[4500];
-    snprintf(path, sizeof path, "%s/task-%04lu.csv", folder, (unsigned long)number);
+    char name[32], path[4400], places[4500];
+    snprintf(name, sizeof name, "task-%04lu", (unsigned long)number);
+    snprintf(path, sizeof path, "%s/%s.csv", folder, name);
     snprintf(places, sizeof places, "%s.places", path);
     memset(&t, 0, sizeof t);
+    t.name = name;
     t.arena = a;
     t.raw = raw;
     t.version = 2;
@@ -504,12 +507,16 @@ bool write_in_set(const char *folder, const struct source *source, struct arena 
     write_records_of_set(&t);
     closed(t.objects, path);
     closed(t.places, places);
-    if (t.events > (is_frame ? 2u : 0u))
-        return true;
-    unlink(path);
-    unlink(places);
-    return false;
+    bool is_kept = t.events > (is_frame ? 2u : 0u);
+    write_weak(folder, &t, is_kept);
+    if (!is_kept) {
+        unlink(path);
+        unlink(places);
+    }
+    return is_kept;
 }
+
+void end_set(void) { end_file(&weak_file); }
 
 static void add_left_out(const struct raw_left_out *from) {
     sums.raw.releases += from->releases;
