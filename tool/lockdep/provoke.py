@@ -126,7 +126,7 @@ def chosen(findings: list[Finding], line: Words) -> list[tuple[int, Finding]]:
 def why_untried(finding: Finding) -> str:
     """Why a finding isn't tried; empty if it is."""
     if finding.type != "circle" and not finding.handler:
-        return "only cycles of locks are, and what signal handlers wait for"
+        return "only cycles of locks and findings of signal handlers are tried"
     if why_not_by_signal(finding):
         return why_not_by_signal(finding)
     if any(order.end.startswith(THREAD) for order in finding.orders):

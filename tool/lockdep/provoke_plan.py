@@ -98,13 +98,13 @@ def why_not_by_signal(finding: Finding) -> str:
     if not handler:
         return ""
     if any(order.signal for order in finding.orders):
-        return "it takes two signals at once"
+        return "it needs two signals at once, and only one is sent at a time"
     if handler.sent_to == THREADS:
-        return "%s was sent to single threads alone, and in another run it isn't known which ones these are" % handler.signal
+        return "%s was only sent to certain threads, and which threads these are in another run isn't known" % handler.signal
     if handler.offset is None and handler.file:
-        return "no signal is sent to a program in Python"
+        return "no signals are sent to programs in Python"
     if handler.offset is None or not number_of_signal(handler.signal):
-        return "where the handler for %s is isn't known" % handler.signal
+        return "the address of the handler for %s isn't known" % handler.signal
     return ""
 
 

@@ -19,7 +19,7 @@ from .provoke_run import Outcome, Run, Standing, adopt_orphans
 from .provoke_table import MOST_ORDERS, Counts, Place, Table
 from .saying import write_error
 from .symbols import Address
-from .words import class_of_lock, name_in, plain_key
+from .words import class_of_lock, counted, name_in, plain_key
 
 HAPPENED, NOT_HAPPENED, NOTHING_TRIED = 1, 0, 2
 DEFAULT_RUNS = "10"
@@ -182,11 +182,23 @@ def why_not(table: Table, plan: list[PlannedOrder]) -> str:
         return "the second lock of order %d is one of asyncio, whose tasks aren't held back" % aside[0]
     missed = [order for order, count in counts.items() if not count.reached]
     if missed:
-        return "no thread was seen to come to the second lock of order %d by a wait without an end" % missed[0]
+        return "%s by a wait without an end" % never_came(missed[0], plan)
     alone = [order for order, count in counts.items() if not count.under]
     if alone:
-        return "no thread was seen to come to the second lock of order %d with the first one held" % alone[0]
+        first = plan[alone[0] - 1]
+        return never_came(alone[0], plan) + (" in a thread that held %s" % classes_of(first)[0] if first.handler else " with the first one held")
+    if len(plan) == 1 and plan[0].handler:
+        return "the handler for %s waited for %s %s, and went on each time" % (
+            plan[0].handler.signal, classes_of(plan[0])[1], counted(counts[1].under, "time"))
     return "its orders were never under way at once (they were reached %s times)" % " and ".join(str(count.under) for count in counts.values())
+
+
+def never_came(order: int, plan: list[PlannedOrder]) -> str:
+    """That nobody came to the second lock of an order: for that of a signal this is the lock that its handler takes."""
+    planned = plan[order - 1]
+    if planned.handler:
+        return "the handler for %s was never seen to come to %s" % (planned.handler.signal, classes_of(planned)[1])
+    return "no thread was seen to come to the second lock of order %d" % order
 
 
 # ---- What a person reads.

@@ -51,10 +51,14 @@ const char *tell_signal(char *text, size_t room, unsigned number) {
 
 static bool is_somewhere(const struct source *s) { return s->handler != UINT64_MAX; }
 
-/* The name of the handler, or NULL if it has none. */
+/* The name of the handler, as names of classes have it, or NULL if it has none. */
 static const char *name_of(const struct source *s) {
+    static char name[LONGEST_NAME];
     const struct symbol *symbol = is_somewhere(s) ? symbol_at(raw_word_module(s->handler), raw_word_offset(s->handler), SYMBOL_CODE) : NULL;
-    return symbol && symbol->value == raw_word_offset(s->handler) ? symbol->name : NULL;
+    if (!symbol || symbol->value != raw_word_offset(s->handler))
+        return NULL;
+    tell_symbol(name, sizeof name, symbol->name);
+    return name;
 }
 
 /* ---- The sources of all recordings: the same handler of a signal is one. */

@@ -57,8 +57,11 @@ static int stub_for(struct action *new, struct call call) {
     for (uint32_t i = 0; i < MOST_STUBS; i++) {
         struct action *a = &actions[i];
         uintptr_t there = LOAD(&a->handler);
-        if (there == new->handler && is_same(a, new))
+        if (there == new->handler && is_same(a, new)) {
+            if (RARELY(is_source_gone(LOAD(&a->source))))
+                STORE(&a->source, source_of(new->number, new->handler, call));
             return (int)i;
+        }
         if (there || !SWAP(&a->handler, &there, CLAIMED))
             continue;
         a->mask = new->mask;

@@ -375,6 +375,7 @@ QUICK uint64_t bit_of(int number) { return UINT64_C(1) << (number - 1); }
 void install(int number, uint32_t source); /* 0: none */
 uint32_t installed_source(int number);
 uint32_t source_of(int number, uintptr_t handler, struct call call);
+bool is_source_gone(uint32_t source);
 uint32_t state_now(uint64_t *on);               /* of this thread, as it runs now */
 uint64_t on_now(void);                          /* the signals that have a handler and are unblocked */
 void know_mask(void);
@@ -401,7 +402,7 @@ extern EARLY_THREAD_LOCAL struct midst midst;
 #else
 #define MOST_STUBS 64
 #endif
-struct action { /* what a stub stands for; all of it stays as it is once the handler is there */
+struct action { /* what a stub stands for; all of it stays as it is once the handler is there, but for the source of one that is gone */
     uintptr_t handler; /* written last */
     uint64_t mask;
     int flags;

@@ -40,15 +40,21 @@ static uint32_t define_source(int number, uintptr_t handler) {
     return made;
 }
 
+/* Whether the handler was in a library that is closed: another one may lie at its address. */
+bool is_source_gone(uint32_t source) {
+    const struct raw_source *s = source ? part_of(RAW_SOURCES, source) : NULL;
+    return s && raw_word_module(s->handler) != RAW_NOWHERE && is_gone(raw_word_module(s->handler));
+}
+
 uint32_t source_of(int number, uintptr_t handler, struct call call) {
     if (!begin_inside(call))
         return 0;
-    uint32_t *slot = added_slot(&sources, mixed(handler) + (uint64_t)number * 2), none = 0;
-    uint32_t source = slot ? LOAD(slot) : 0;
-    if (slot && !source) {
+    uint32_t *slot = added_slot(&sources, mixed(handler) + (uint64_t)number * 2);
+    uint32_t there = slot ? LOAD(slot) : 0, source = there;
+    if (slot && (!there || is_source_gone(there))) {
         source = define_source(number, handler);
-        if (source && !SWAP(slot, &none, source))
-            source = none;
+        if (source && !SWAP(slot, &there, source))
+            source = there;
     }
     end_inside();
     return source;
