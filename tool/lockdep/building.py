@@ -7,7 +7,7 @@ from .processes import output_of
 from .saying import Refusal
 
 # What is built from what, below recorders/pthread, besides the script `build` and raw.h.
-SOURCES = {"preload.so": "preload", "provoke.so": "provoke", "finish": "finish", "run": "run.c", "look": "look.c", "names": "names"}
+SOURCES = {"preload.so": "preload", "provoke.so": "provoke", "library.so": "library", "finish": "finish", "run": "run.c", "look": "look.c", "names": "names"}
 WITHOUT_LIBDW = "no-libdw"  # is there if `names` was built without libdw
 LIBDW = ("/usr/include/elfutils/libdw.h", "/usr/local/include/elfutils/libdw.h")
 UNNAMEABLE = " :$"  # LD_PRELOAD takes these for separators, or for the beginning of something else

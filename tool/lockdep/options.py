@@ -45,8 +45,8 @@ ACCEPT = Option(
 
 WITH_SIGNALS = Option(
     "--signals", SIGNALS, "what is recorded of signal handlers",
-    "What is recorded of signal handlers: nothing (`off`), the locks that they take (`locks`), or also their calls of malloc and free, which take a "
-    "lock inside the C library (`all`) [default: locks]",
+    "What is recorded of signal handlers: nothing (`off`), the locks that they take (`locks`), or also their calls of malloc, printf, localtime and the "
+    "like, which take a lock inside the C library (`all`) [default: locks]",
     "A lock that a handler takes, and that other code takes while the signal may come in, is found as a double or an inversion. Only the recorders "
     "of pthreads and of Python have this option; for a Python program `all` is the same as `locks`.")
 

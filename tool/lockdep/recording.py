@@ -19,7 +19,8 @@ if TYPE_CHECKING:
     from .summary import Summary
 
 WISHES = ("sem", "flockfile", "flock")  # of LOCKDEP_ALSO
-OF_SIGNALS, SIGNALS = "LOCKDEP_SIGNALS", ("off", "locks", "all")  # what is recorded of signal handlers: `locks`, if it isn't set
+ALL = "all"
+OF_SIGNALS, SIGNALS = "LOCKDEP_SIGNALS", ("off", "locks", ALL)  # what is recorded of signal handlers: `locks`, if it isn't set
 MUSL = b"/ld-musl"  # in the head of a program whose loader would end it because of what is preloaded
 HEAD = 4096
 STAGE = ".lockdep-recorder"  # links to the recorder, if LD_PRELOAD can't name where it is
@@ -77,7 +78,7 @@ def begin(home: str, wishes: Wishes, command: list[str], then: str) -> None:
     folder.put("settings", Settings(wishes.version, wishes.frames, program, recorder.name, "yes" if wishes.is_named else "",
                                     os.environ.get("LOCKDEP_ALSO", "")).text())
     keep_wrappers(folder.raw)
-    preload = "" if recorder.is_in_process or is_of_musl(program) else os.path.join(preloadable(home, out, folder), "preload.so")
+    preload = "" if recorder.is_in_process or is_of_musl(program) else preloaded(preloadable(home, out, folder))
     environment = with_asan_after(dict(os.environ, **recorder.environment(wishes.folder, folder.raw, preload)))
     folder.keep_lock()
     # (a process that is left in the background by a program that records itself has its say up to then)
@@ -90,6 +91,12 @@ def with_asan_after(environment: dict[str, str]) -> dict[str, str]:
     """An environment in which programs with gcc's address sanitizer start after a library that is preloaded."""
     options = environment.get("ASAN_OPTIONS", "")
     return environment if ASAN in options else dict(environment, ASAN_OPTIONS=":".join(filter(None, [options, ASAN + "=0"])))
+
+
+def preloaded(out: str) -> str:
+    """What is preloaded: the recorder, and before it, if all of signal handlers is wanted, what tells it of calls of the C library."""
+    names = (["library.so"] if os.environ.get(OF_SIGNALS) == ALL else []) + ["preload.so"]
+    return ":".join(os.path.join(out, name) for name in names)
 
 
 def pass_on_signals(recorder: Recorder, signals: str) -> None:

@@ -15,7 +15,8 @@ from .words import LIBRARY, is_of_library, name_in, plain_key
 CALLS = {"malloc": "malloc, free or the like", "stdout": "stdio on stdout", "stderr": "stdio on stderr", "stream": "stdio on a stream", "syslog": "syslog",
          "timezone": "localtime, mktime or the like", "random": "random or rand", "environment": "setenv or the like",
          "users": "getpwnam or the like", "resolver": "getaddrinfo or the like"}
-DAMAGED = {"malloc": ", or the heap is damaged"}
+MIXED_UP = ", or what is written gets mixed up"
+DAMAGED = {"malloc": ", or the heap is damaged", "stdout": MIXED_UP, "stderr": MIXED_UP, "stream": MIXED_UP}
 NARROW = "between taking it and noting the {0}, or between clearing the {0} and releasing it"
 EDEADLK = "a thread that holds %s for writing gets EDEADLK of glibc when it asks for it again, unless the signal comes in " + NARROW.format("writer") + \
     ": a handler that ignores that releases the writer's lock"

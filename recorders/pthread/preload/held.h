@@ -83,6 +83,8 @@ struct turn {
     uint32_t state;
 };
 
+#define MOST_USED 8 /* (as many as fill a line of the processor's) */
+
 /* The function of the loader's that a thread is in, or was in when it came last. */
 struct loading {
     uintptr_t lock; /* the loader's; 0: in none */
@@ -116,6 +118,8 @@ struct thread {
     bool is_turned; /* it may be in another state than its records say, or its handlers have left it locks */
     bool has_lost_turns;
     bool has_allocated; /* in this state, and, of a run of a handler, in this run: that is recorded once */
+    uint8_t used_count;
+    uintptr_t used[MOST_USED]; /* the other locks inside the C library that it has used, in the same state and run; all are forgotten when there are more */
     struct turn turns[TURNS]; /* the last records of a state; what was taken back may still be among them */
     bool is_running;   /* of a source: a run of it is under way */
     struct thread *next_run; /* of the same thread of the system's */
@@ -295,6 +299,13 @@ QUICK bool released_again(uintptr_t lock, struct call call) {
     bool is_done = step_back(t, lock);
     go_outside();
     return is_done;
+}
+
+/* ---- library.c */
+
+static inline void forget_uses(struct thread *t) {
+    t->has_allocated = false;
+    t->used_count = 0;
 }
 
 /* ---- runs.c, and what it needs of threads.c. */

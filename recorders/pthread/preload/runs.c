@@ -75,7 +75,7 @@ static struct thread *idle_run(struct runs *r, uint32_t source) {
     for (struct thread *t = r->threads; t; t = t->next_run)
         if (t->source == source && !t->is_running) {
             t->is_running = true;
-            t->has_allocated = false;
+            forget_uses(t);
             return t;
         }
     return NULL;

@@ -63,7 +63,7 @@ static void begin_in_no_state(struct thread *t, uint32_t source) {
     t->on = 0;
     t->turn_count = 0;
     t->has_lost_turns = false;
-    t->has_allocated = false;
+    forget_uses(t);
     t->entries[-1].links = (struct links){.hash = 0};
     t->entries[0].level.start = NO_LEVEL;
 }
@@ -392,7 +392,7 @@ static inline uint64_t hash_of_state(uint32_t state) { return state ? mixed(stat
 static void set_state(struct thread *t, uint32_t state, uint64_t on) {
     t->state = state;
     t->on = on;
-    t->has_allocated = false;
+    forget_uses(t);
     t->entries[-1].links.hash = hash_of_state(state);
     rehash(t, 0, t->depth);
 }
@@ -1051,13 +1051,13 @@ void pass_end(uintptr_t thread, uint32_t object, uint8_t mode, struct call call)
     release_at(t, t->depth - 1, call.caller);
 }
 
-void pass_lock(uintptr_t lock, uint8_t mode, struct call call) {
+void pass_lock(uintptr_t lock, uint8_t mode, enum kind kind, struct call call) {
     struct thread *t = self.thread;
     settle_to_take(t, call);
     uint32_t object = t->depth < RAW_HELD && has_entry_left(t) ? object_of_lock(lock, call) : 0;
     if (!object)
         return;
-    push_held(t, lock, object, mode, KIND_SPIN, call, false);
+    push_held(t, lock, object, mode, kind, call, false);
     release_at(t, t->depth - 1, call.caller);
 }
 
