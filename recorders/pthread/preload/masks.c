@@ -1,5 +1,6 @@
 /* Which signals are blocked in a thread. What a call unblocks is noted before it, since the signal may come in meanwhile, and what it blocks
-   after it. Each call asks the system for what was blocked before, so what wasn't seen is known again then. */
+   after it. A call that unblocks, or that tells the program what was blocked before, asks the system for that, so what wasn't seen is known again
+   then. To ask takes a sixth of such a call's time, so one that only blocks doesn't. */
 #include "held.h"
 
 #include <errno.h>
@@ -52,13 +53,11 @@ __attribute__((noinline)) static int change_mask(masking *real, int how, const s
     self.is_changing_mask = true;
     if (set)
         set_mask(known & mask_after(how, known, new), call);
-    sigset_t *to = old ? old : &mine;
-    bool is_whole = set && how == SIG_SETMASK; /* then what was before doesn't matter */
-    int answer = real(how, set, is_whole ? old : to);
-    if (answer != 0)
-        set_mask(known, call);
-    else
-        set_mask(is_whole ? new : set ? mask_after(how, word_of_set(to), new) : word_of_set(to), call);
+    bool is_asking = old || !set || how == SIG_UNBLOCK; /* (if all of it is set, what was before doesn't matter) */
+    sigset_t *to = old ? old : is_asking ? &mine : NULL;
+    int answer = real(how, set, to);
+    uint64_t before = answer == 0 && is_asking ? word_of_set(to) : known;
+    set_mask(answer == 0 && set ? mask_after(how, before, new) : before, call);
     self.is_changing_mask = false;
     return answer;
 }
