@@ -11,7 +11,7 @@ from lockdep.saying import Refusal, typed
 class Names(unittest.TestCase):
     def test_names_that_a_recording_makes(self):
         for name in ("classes", "SUMMARY", "summary.json", "raw.tar.gz", "objects", "task-0001.csv", "objects/task-12345.csv.places",
-                     "signals", "signals/sources.json", "signals/never.json", "signals/12", "signals/12/task-0001.csv", "signals/1/task-0001.csv.places",
+                     "signals", "signals/sources.json", "signals/never.json", "signals/threads", "signals/12", "signals/12/task-0001.csv", "signals/1/task-0001.csv.places",
                      "signals/1/weak"):
             self.assertTrue(is_made(name), name)
         for name in ("raw", "task-.csv", "task-1.txt", "task-1x.csv", "task-0001.csv.places.places", "objects/classes", "notes", "task-notes.csv",

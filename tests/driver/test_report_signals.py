@@ -139,6 +139,41 @@ class Told(OfHandlers):
         self.assertIn("  SIGUSR1 is unblocked with table held: flush at server.c:44; table was taken: flush at server.c:43", lines)
         self.assertIn("  to mend it: keep SIGUSR1 blocked until table is released, or let the handler only set a flag or write to a pipe", lines)
 
+    def test_an_order_that_the_handler_itself_takes(self):
+        self.handlers(USR1)
+        run = [("enter,hardirq", ""), ("acq,table,0,w", "server.c:12 on_usr1"), ("acq,pool,0,w", "server.c:13 on_usr1"), ("rel,pool,0", ""),
+               ("rel,table,0", ""), ("leave", "")]
+        self.set_of(1, POOL, run)
+        text = self.confirmed()[1]
+        self.assertIn("inversion SIGUSR1:on_usr1 table/0 pool/0\n", text)
+        self.assertIn("\n  one thread is enough: it holds pool when SIGUSR1 comes in, and the handler takes table and then waits for pool\n", text)
+
+    def test_an_order_that_other_code_takes(self):
+        self.both()
+        self.assertNotIn("one thread is enough", self.confirmed()[1])
+
+    def circle_with_a_run(self, third=()):
+        """The thread takes table and then pool, and a run of a handler pool and then table."""
+        there = ("acq,table,0,w", "server.c:41 insert"), ("acq,pool,0,w", "server.c:42 insert"), ("rel,pool,0", ""), ("rel,table,0", "")
+        back = ("acq,pool,0,w", "server.c:12 on_usr1"), ("acq,table,0,w", "server.c:13 on_usr1"), ("rel,table,0", ""), ("rel,pool,0", "")
+        self.threads(there, back, *third)
+        self.handlers(USR1)
+        self.write("signals/threads", "task-0001.csv 1\ntask-0002.csv 1\ntask-0003.csv 2\n")
+        self.set_of(1, (("off,hardirq", ""),) + there, (("enter,hardirq", ""),) + back + (("leave", ""),))
+        return [line for line in self.confirmed()[1].split("\n") if line.startswith("  seen between locks: pool, table")]
+
+    def test_a_run_of_a_handler_is_of_its_thread(self):
+        self.assertEqual(self.circle_with_a_run(), ["  seen between locks: pool, table, by one thread"])
+
+    def test_a_run_of_a_handler_and_another_thread(self):
+        third = ("acq,pool,0,w", "server.c:50 other"), ("acq,table,0,w", "server.c:51 other"), ("rel,table,0", ""), ("rel,pool,0", "")
+        self.assertEqual(self.circle_with_a_run([third]), ["  seen between locks: pool, table, by 2 threads"])
+
+    def test_without_the_numbers_of_threads_each_trace_is_one(self):
+        self.circle_with_a_run()
+        os.remove(os.path.join(self.folder, "signals/threads"))
+        self.assertIn("\n  seen between locks: pool, table, by 2 threads\n", self.confirmed()[1])
+
     def two_at_once(self, takes="acq,pool,0,w"):
         """One thread takes pool, where the handler that takes table comes in, and another one table, where the handler that takes pool does."""
         off = (("off,hardirq", ""),)
@@ -187,6 +222,25 @@ double SIGTERM: libc:malloc/0
   to mend it: let the handler only set a flag or write to a pipe
   seen between locks: libc:malloc
 """)
+
+    def inside_pool(self, *records, tries="acq,pool,0,tw", **about):
+        """A handler that takes table inside pool, for which it tries; other code has these records. The notes of the finding."""
+        self.handlers(dict(USR1, **about))
+        self.set_of(1, [(record, "server.c:41 insert") for record in records],
+                    [(record, "server.c:12 on_usr1") for record in ("enter,hardirq", tries, "acq,table,0,w", "rel,table,0", "rel,pool,0", "leave")])
+        return [note for finding in self.findings() if finding.keys == ["table/0"] for note in finding.notes]
+
+    def test_a_gate_for_which_the_handler_tries(self):
+        inside = "acq,pool,0,w", "acq,table,0,w", "rel,table,0", "rel,pool,0"
+        note = ["always inside pool, for which the handler only tries: where other code holds pool, it goes on without it"]
+        self.assertEqual(self.inside_pool(*inside), note)
+        self.assertEqual(self.inside_pool(*inside, narrow=["pool"]), [])
+        self.assertEqual(self.inside_pool(*inside, tries="acq,pool,0,w"), [])
+        self.assertEqual(self.inside_pool(*inside, "acq,table,0,w", "rel,table,0"), [])
+        self.assertEqual(self.inside_pool("acq,pool,0,rr", *inside[1:]), [])
+        self.assertEqual(self.inside_pool("acq,pool,0,w", "acq,table,0,w", "rel,pool,0", "rel,table,0"), [])
+        self.assertEqual(self.inside_pool(*inside, "off,hardirq", "acq,table,0,w", "rel,table,0"), note)
+        self.assertEqual(self.inside_pool(*inside, "off,hardirq", "acq,table,0,w", "on,hardirq", "rel,table,0"), [])
 
     def test_a_wait_of_the_handler_that_gives_up(self):
         self.both()

@@ -12,7 +12,7 @@ from .files import contents
 from .findings import Event
 from .folder import OBJECTS, SIGNALS
 from .sources import Sources
-from .threads import called
+from .threads import called, number_of as thread_number
 from .words import name_in, plain_key, stands_for_several, text_of
 
 AT_END = re.compile(r"^  (task-\d+) (waits for|ended holding) ", re.MULTILINE)
@@ -32,12 +32,14 @@ class Held:
 
 @dataclass
 class Thread:
-    """A thread at the end: what it waits for, if it does, what it holds, and what it is called if it has a name."""
+    """A thread at the end: what it waits for, if it does, what it holds, what it is called if it has a name, and the run of a signal's handler in it
+    that waits, if it doesn't itself."""
 
     name: str
     waits: Held | None
     held: list[Held] = field(default_factory=list)
     called: str = ""
+    interrupted_by: Thread | None = None
 
 
 @dataclass
@@ -76,6 +78,7 @@ class Blocked:
         for thread, held in self.holders:
             said += ", which %s holds since record %d" % (thread.called or thread.name, held.event.record)
             said += " while it waits for %s" % plain_key(thread.waits.key) if thread.waits else ""
+            said += ", interrupted by %s" % thread.interrupted_by.name if thread.interrupted_by else ""
         return said + (": these threads stand still" if self.is_cycle else "")
 
 
@@ -140,14 +143,14 @@ def holder_of(lock: Held, threads: list[Thread], but: Thread) -> tuple[Thread, H
 
 
 def blocked_of(thread: Thread, threads: list[Thread]) -> Blocked:
-    """Follows a thread to who holds what it waits for, and on, until nobody is known or a thread comes again."""
+    """Follows a thread to who holds what it waits for, or to the handler that it waits for, and on, until nobody is known or a thread comes again."""
     blocked, passed, at = Blocked(thread), [thread], thread
     while at.waits:
         holder = holder_of(at.waits, threads, at)
         if not holder:
             break
         blocked.holders.append(holder)
-        at = holder[0]
+        at = holder[0].interrupted_by or holder[0]
         if at in passed:
             blocked.is_cycle = at is thread
             break
@@ -177,6 +180,7 @@ def blocked_threads(folder: str, summary: str) -> list[Blocked]:
         thread.called = called(thread.name, trace_of(folder, thread.name))
     if os.path.lexists(os.path.join(folder, SIGNALS)):
         name_handlers([thread for thread in threads if thread.waits], folder)
+        note_interrupted(threads, folder)
     return each_once([blocked_of(thread, threads) for thread in threads if thread.waits])
 
 
@@ -187,6 +191,14 @@ def name_handlers(threads: list[Thread], folder: str) -> None:
     for thread in threads:
         handler = signals.run_in(trace_of(folder, thread.name))
         thread.called = "%s (%s)" % (thread.name, words_of(handler, signals.symbols)) if handler else thread.called
+
+
+def note_interrupted(threads: list[Thread], folder: str) -> None:
+    """Notes which threads go on only when a run of a handler in them has ended."""
+    waiting = {thread_number(trace_of(folder, thread.name)): thread for thread in threads if thread.waits}
+    for thread in threads:
+        number = thread_number(trace_of(folder, thread.name))
+        thread.interrupted_by = waiting.get(number) if number and not thread.waits else None
 
 
 def sources_wanted(blocked: list, sources: Sources) -> None:

@@ -16,6 +16,7 @@ LIVES = "lives"  # the file that says which thread started and joined which
 WEAK = "weak"  # the file that says which acquisitions wait for a time only, or take a new lock
 SIGNALS = "signals"  # the folder with the traces of signal handlers: a folder of it for each, named by a number
 OF_SIGNALS = ("sources.json", "never.json")  # in it: the handlers that took a lock, and those that never ran
+NUMBERS = "threads"  # in it: of each trace of the recording a number of its thread; a thread and the runs of handlers in it have one
 FIRST_LINE = "a recording by lockdep made these:"
 LOCK = 9  # the open file whose lock says that a recording is under way; `run` closes it in the command
 PAGE = "report.html"  # isn't written by what records, which leaves another's alone
@@ -30,7 +31,7 @@ def is_made(name: str) -> bool:
     """Whether a file of this name may be one that a recording made."""
     folder, _, inner = name.rpartition("/")
     if folder == SIGNALS:
-        return inner in OF_SIGNALS or is_number(inner)
+        return inner in OF_SIGNALS + (NUMBERS,) or is_number(inner)
     is_of_signal = is_in_signals(folder) and folder.count("/") == 1
     if folder in ("", "objects") or is_of_signal:
         return is_trace(inner[:-len(".places")] if inner.endswith(".places") else inner) or name in MADE or is_of_signal and inner == WEAK

@@ -5,7 +5,7 @@ from __future__ import annotations
 from .cplusplus import without_parameters
 from .explanation import Line
 from .findings import Event, Finding, Order
-from .signals import THREADS, Handler, words_of
+from .signals import THREADS, Handler, is_run, words_of
 from .sources import Sources
 from .steps import MODES, task_words
 from .symbols import Frame, place_words
@@ -21,6 +21,7 @@ NARROW = "between taking it and noting the {0}, or between clearing the {0} and 
 EDEADLK = "a thread that holds %s for writing gets EDEADLK of glibc when it asks for it again, unless the signal comes in " + NARROW.format("writer") + \
     ": a handler that ignores that releases the writer's lock"
 QUEUED = "a reader of %s waits behind a waiting writer, so the handler waits if another thread waits to write"
+ONE_THREAD = "  one thread is enough: it holds {0} when {1} comes in, and the handler takes {2} and then waits for {0}"
 ONLY_A_FLAG = "let the handler only set a flag or write to a pipe"
 
 
@@ -117,7 +118,13 @@ def end_lines(finding: Finding) -> list[Line]:
     if finding.type == "double":
         return [Line("  if %s comes in while a thread holds %s there, the handler waits for the thread that it interrupted" % (signal, plain_key(key)))]
     threads = ["thread 1 holds %s" % plain_key(finding.keys[-1])] + task_words(finding, plain_key)
-    return [Line("  " + ", ".join(threads)), Line("  %s comes in at thread 1, and its handler waits for %s" % (signal, plain_key(key)))]
+    lines = [Line("  " + ", ".join(threads)), Line("  %s comes in at thread 1, and its handler waits for %s" % (signal, plain_key(key)))]
+    return lines + ([Line(ONE_THREAD.format(plain_key(finding.keys[-1]), signal, plain_key(key)))] if is_order_of_handler(finding) else [])
+
+
+def is_order_of_handler(finding: Finding) -> bool:
+    """Whether the handler itself takes the one lock with the other one held."""
+    return len(finding.orders) == 1 and finding.orders[0].event is not None and not finding.orders[0].signal and is_run(finding.orders[0].event.file)
 
 
 def remarks_of_signal(finding: Finding, handler: Handler) -> list[str]:

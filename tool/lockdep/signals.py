@@ -14,6 +14,7 @@ from .findings import Finding, findings_of
 from .folder import OF_SIGNALS, SIGNALS, WEAK
 from .places import Places
 from .room import room_for
+from .signal_gates import note_gates
 from .signal_joins import without_own_joins
 from .signal_links import Links, links_of, marks_of
 from .symbols import Address, Frame, Symbols
@@ -205,6 +206,7 @@ class Signals:
         found = without_own_joins([finding for finding in found if finding.type != "circle"], traces)
         for finding in found:
             take_handler(finding, handler)
+        note_gates(found, handler, traces)
         return found
 
     def links(self, pool: Executor, room: str) -> list[Links | None]:

@@ -1,6 +1,7 @@
 """What is said of a finding about what it was seen between, and what that takes from the notes of its classes."""
 from __future__ import annotations
 
+import csv
 import os
 import re
 from typing import Iterable
@@ -8,6 +9,7 @@ from typing import Iterable
 from .apart import apart_words
 from .files import contents
 from .findings import Finding, Gate, Kind
+from .threads import number_of
 from .words import bytes_of, class_of_lock, name_in, plain_key, stands_for_several, text_of, type_of_class
 
 ACQUISITION = re.compile(rb'^acq,("(?:[^"]|"")*"|[^,\r\n]*),([0-7]),', re.MULTILINE)
@@ -64,8 +66,17 @@ class Recorded:
     def threads_of(self, traces: Iterable[str]) -> int:
         """The threads that traces are of: their own, those of traces that say the same, and those whose traces weren't written
         because of that, as far as SUMMARY says which trace each says the same as."""
-        names = {os.path.basename(other) for trace in set(traces) for other in self.alike(trace)}
-        return sum(1 + self.others_like.get(name[:-4] if name.endswith(".csv") else name, 0) for name in names)
+        others = {other for trace in set(traces) for other in self.alike(trace)}
+        names = {os.path.basename(other) for other in others}
+        like = sum(self.others_like.get(name[:-4] if name.endswith(".csv") else name, 0) for name in names)
+        return len({number_of(other) or os.path.basename(other) for other in others}) + like
+
+    def are_of_one_thread(self, inner: Finding) -> bool:
+        """Whether one thread did all of a finding, by its own code and in runs of signal handlers: no trace of another thread has an order of it."""
+        numbers = {number_of(event.file) for event in inner.own_events()}
+        pairs = {(order.start, order.end) for order in inner.orders}
+        return len(numbers) == 1 and None not in numbers and not any(
+            number_of(trace) not in numbers and has_order(trace, pairs) for trace in self.traces)
 
     def may_be_more(self, traces: Iterable[str]) -> bool:
         """Whether there may be more threads whose traces weren't written: they say the same as several that were."""
@@ -92,6 +103,20 @@ def names_in(trace: str) -> set[str]:
     """The keys that a trace takes."""
     found = set(ACQUISITION.findall(contents(trace) or b""))
     return {"%s/%s" % (unquoted(text_of(name)), text_of(sub_class)) for name, sub_class in found}
+
+
+def has_order(trace: str, pairs: set[tuple[str, str]]) -> bool:
+    """Whether a trace takes the second lock of a pair with the first one held."""
+    held: list[str] = []
+    for fields in csv.reader(text_of(contents(trace) or b"").splitlines()):
+        key = "/".join(fields[1:3])
+        if fields[:1] == ["acq"]:
+            if any((other, key) in pairs for other in held):
+                return True
+            held.append(key)
+        elif fields[:1] == ["rel"] and key in held:
+            del held[len(held) - 1 - held[::-1].index(key)]
+    return False
 
 
 def unquoted(name: str) -> str:
@@ -124,7 +149,7 @@ def thread_words(inner: Finding, recorded: Recorded) -> str:
     """By how many threads: those of the records that are shown. If no trace alone has them all, there are two at least."""
     traces = [event.file for event in inner.own_events()]
     count = recorded.threads_of(traces)
-    if inner.only and count <= 1:
+    if count <= 1 and (inner.only or recorded.are_of_one_thread(inner)):
         return "by 1 thread" if len(inner.orders) == 1 else "by one thread"
     return "by %s%d threads" % ("at least " if recorded.may_be_more(traces) else "", max(count, 2))
 

@@ -207,7 +207,7 @@ static void write_summary(const char *folder) {
     snprintf(path, sizeof path, "%s/SUMMARY", folder);
     FILE *file = created(path);
     tell(file, "processes", process_count);
-    tell(file, "threads", sums.threads + sums.alike);
+    tell(file, "threads", threads_with_events());
     tell(file, "operations", sums.operations);
     tell(file, "events", sums.events);
     tell(file, "classes", key_count < MAX_KEYS ? key_count : MAX_KEYS);

@@ -80,6 +80,7 @@ struct arena {
     int **object_keys; /* of each of its processes, and there of each object: one more than the key's number, 0 if it has none yet */
     uint8_t *threads;    /* of its objects that are threads, as joins.c says; NULL if none is joined */
     uint32_t *traces;    /* of its threads: the numbers that these have as files; 0 of one without */
+    bool *has_events;    /* of its threads: whether there is anything in their traces, which aren't all written */
     uint32_t *processes; /* from its numbers to those of all; 0 if it locked nothing */
     struct source **sources; /* of its sources of interrupts, what is known of each in all recordings */
 };
@@ -223,6 +224,7 @@ void tell_stand_ins(FILE *file); /* lines of SUMMARY: which traces stand for how
 struct source; /* a signal with a handler */
 
 void write_sets(const char *folder);
+uint64_t threads_with_events(void); /* of the system's: a thread and the runs in it are one */
 bool is_queued(const struct arena *a, uint32_t object, enum mode mode); /* as a reader of a read-write lock behind a waiting writer */
 bool may_interrupt(const struct source *source, const struct arena *a, const struct raw_thread *t, uint32_t state);
 void tell_sources(FILE *file); /* lines of SUMMARY */

@@ -22,7 +22,7 @@ struct source {
     bool is_of_locking;      /* its program takes locks */
     uint32_t number;         /* of its set; 0: it has none */
     struct locks taken;      /* the single locks that its runs waited for */
-    struct locks narrow;     /* those of them that know their owner */
+    struct locks narrow;     /* those of them, and of those that they tried for, that know their owner */
     struct locks rwlocks;    /* those that know their writer */
     struct locks queued;     /* those that it takes as a reader who doesn't pass waiting writers */
     struct locks written;    /* those that it takes otherwise */
@@ -130,9 +130,11 @@ bool is_queued(const struct arena *a, uint32_t object, enum mode mode) { return 
 
 static void add_taken(const struct arena *a, struct source *source, uint32_t object, enum mode mode, int key) {
     enum raw_knows knows = what_it_knows(a, object);
-    add_once(&source->taken, key);
     if (knows == KNOWS_OWNER)
         add_once(&source->narrow, key);
+    if (mode >= MODE_TRY_WRITE)
+        return;
+    add_once(&source->taken, key);
     if (knows == KNOWS_WRITER)
         add_once(&source->rwlocks, key);
     add_once(is_queued(a, object, mode) ? &source->queued : &source->written, key);
@@ -141,7 +143,7 @@ static void add_taken(const struct arena *a, struct source *source, uint32_t obj
 static void read_taken(struct arena *a, const struct raw_thread *t, struct source *source) {
     for (uint64_t i = 0; i < t->count; i++) {
         const struct raw_record *r = record_of(a, t, i);
-        if (!r || raw_mode(r->what) >= MODE_TRY_WRITE || is_left_out(a, raw_object(r->what)))
+        if (!r || raw_mode(r->what) >= MODE_RELEASE || is_left_out(a, raw_object(r->what)))
             continue;
         add_taken(a, source, raw_object(r->what), raw_mode(r->what), key_of_object(a, t->process, raw_object(r->what)));
     }
@@ -165,6 +167,49 @@ static void number_sets(void) {
         else
             sets_beyond++;
     }
+}
+
+/* ---- Which traces are of one thread: its own code, and the runs of handlers in it. */
+
+static uint64_t threads_of(const struct arena *a) {
+    uint64_t count = 0;
+    bool *is_counted = checked(calloc(a->raw->system_threads + 1, sizeof *is_counted));
+    for (uint32_t n = 1; n <= count_of(a, RAW_THREADS); n++) {
+        const struct raw_thread *t = part_of(a, RAW_THREADS, n);
+        bool is_new = a->has_events[n] && !is_counted[t->system_thread];
+        count += is_new;
+        is_counted[t->system_thread] |= is_new;
+    }
+    free(is_counted);
+    return count;
+}
+
+uint64_t threads_with_events(void) {
+    uint64_t count = 0;
+    for (size_t i = 0; i < arena_count; i++)
+        count += threads_of(&arenas[i]);
+    return count;
+}
+
+static void write_threads_of(FILE *file, const struct arena *a, uint64_t before) {
+    for (uint32_t n = 1; n <= count_of(a, RAW_THREADS); n++) {
+        const struct raw_thread *t = part_of(a, RAW_THREADS, n);
+        if (a->traces[n])
+            fprintf(file, "task-%04u.csv %lu\n", a->traces[n], (unsigned long)(before + t->system_thread));
+    }
+}
+
+/* Of each trace a number of its thread. */
+static void write_threads(const char *folder) {
+    char path[4300];
+    uint64_t before = 0;
+    snprintf(path, sizeof path, "%s/threads", folder);
+    FILE *file = created(path);
+    for (size_t i = 0; i < arena_count; i++) {
+        write_threads_of(file, &arenas[i], before);
+        before += arenas[i].raw->system_threads;
+    }
+    closed(file, path);
 }
 
 /* ---- Whom a source interrupts. The system gives a signal that is sent to the process to any thread. If it was only ever sent to threads, those
@@ -343,6 +388,7 @@ void write_sets(const char *folder) {
     for (size_t i = 0; i < source_count; i++)
         if (has_set(sources[i]))
             write_set(path, sources[i]);
+    write_threads(path);
     write_list(path, "sources.json", has_set, write_source);
     write_list(path, "never.json", never_ran, write_never);
 }

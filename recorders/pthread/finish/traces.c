@@ -544,6 +544,7 @@ void write_traces(const char *folder, int version) {
     expect_traces(threads);
     for (size_t i = 0; i < arena_count; i++) {
         arenas[i].traces = checked(calloc(count_of(&arenas[i], RAW_THREADS) + 1, sizeof *arenas[i].traces));
+        arenas[i].has_events = checked(calloc(count_of(&arenas[i], RAW_THREADS) + 1, sizeof *arenas[i].has_events));
         for (uint32_t n = 1; n <= count_of(&arenas[i], RAW_THREADS); n++) {
             const struct raw_thread *raw = part_of(&arenas[i], RAW_THREADS, n);
             if (!raw->is_ready)
@@ -555,6 +556,7 @@ void write_traces(const char *folder, int version) {
             t.raw = raw;
             t.version = version;
             arenas[i].traces[n] = write_trace(folder, &t);
+            arenas[i].has_events[n] = t.events != 0;
         }
     }
     end_file(&tasks_file);
